@@ -1,4 +1,4 @@
-# What a newcomer needs: `make demo`, which takes the kit alone, and `make test`, which also takes cc and Python 3.
+# What a newcomer needs: `make quick` and `make demo`, which take the kit alone, and `make test`, which also takes cc.
 SHELL := bash
 .SHELLFLAGS := -eu -o pipefail -c
 # how many crates are proved side by side
@@ -14,8 +14,8 @@ INSTALL := PREFIX='$(PREFIX)' DESTDIR='$(DESTDIR)' LIBDIR='$(LIBDIR)' tools/inst
 # the board of `make list` and `make lspci`, unless they are given one
 BOARD := crates/examples/data/main.toml
 
-.PHONY: demo list lspci has-lspci has-qemu has-firmware gate test edits build library install \
-  uninstall dist bench hostile fuzz qemu firmware page browse try clean
+.PHONY: demo list lspci has-lspci has-qemu has-firmware has-kit has-peers gate test edits build library install \
+  uninstall dist deb deb-test bench hostile fuzz qemu firmware kit corpus peers page browse outside try quick clean
 
 # Proves and builds the program, and runs a script over the demo board.
 demo: build
@@ -36,30 +36,28 @@ has-lspci:
 pciguest:
 	@$(MAKE) --no-print-directory build
 
-# The gate: what the documents say of files, which takes a moment; every proof from nothing, the must-fail
-# edits, the tests and the programs; then the proved program as its user runs it, the commands that the
-# documents print, and each growth of memory refused in turn on the main board.
+# The gate: what the documents say of files and what runs tests and proofs, which takes a moment; every proof from nothing,
+# the must-fail edits, the tests and the programs; then the proved program as its user runs it, the commands that the
+# documents print, and each growth of memory refused in turn on the main board. At the end stands how long each took.
+GATE := tests/documents.sh tests/kit.sh tests/tools.sh tests/prove.sh 'rm -rf .prove; rt ci' tests/program.sh \
+  tests/commands.sh 'python3 tests/hostile/growths.py crates/pciguest/out/pciguest --quick'
 gate:
-	tests/documents.sh
-	tests/prove.sh
-	@rm -rf .prove
-	rt ci
-	tests/program.sh
-	tests/commands.sh
-	python3 tests/hostile/growths.py crates/pciguest/out/pciguest --quick
+	@tests/parts.py $(GATE)
 
 # The gate, and then the library for C as its user links it, over what the gate left, and what is installed and packed.
-test: gate
-	tools/library --after-gate
-	@cp crates/pciguest/out/pciguest pciguest
-	tests/library.sh
-	tests/install.sh
+test:
+	@tests/parts.py $(GATE) 'tools/library --after-gate; cp crates/pciguest/out/pciguest pciguest' \
+	  tests/library.sh tests/install.sh 'tests/schema.py ./pciguest'
+
+# All that stands outside the gate, whole. A part whose packages are missing here is skipped, and they are named.
+outside: pciguest library/libpciguest.a
+	@tests/parts.py --outside hostile fuzz firmware kit peers qemu page browse bench
 
 # Wrong bodies beside those of the gate, each of which the check of its crate must refuse: all, or those of some crates,
-# as in make edits CRATES='monitor headers'. All take the better part of an hour on four cores.
+# as in make edits CRATES='monitor headers'. All are some 70 checks beyond the proofs of their crates.
 CRATES :=
 edits:
-	@tests/edits.sh $(CRATES)
+	@tests/edits.py $(CRATES)
 
 # Leaves the proved program as ./pciguest. Proved is what it stands on, and nothing else.
 build:
@@ -71,7 +69,8 @@ build:
 library:
 	@tools/library
 
-# Puts the program, the library, its header, the manual and the completion for bash below PREFIX, once they are built:
+# Puts the program, the library for C, Rust and Python, examples, manual, documents and completions below PREFIX, once they
+# are built:
 # make install PREFIX=/usr DESTDIR=package
 install:
 	@$(INSTALL)
@@ -79,9 +78,19 @@ install:
 uninstall:
 	@$(INSTALL) --remove
 
-# A tarball for those without the kit: pciguest-VERSION-x86_64-linux.tar.gz.
-dist: build library
+# A tarball for those without the kit, with the transcripts: pciguest-VERSION-x86_64-linux.tar.gz. It takes Python 3.11.
+# Where Node or Chromium is there, the page is made for it too.
+dist: build library corpus
+	@! command -v node chromium > /dev/null || $(MAKE) --no-print-directory page
 	@tools/dist
+
+# Packages for Debian, in packages; and whether they can be installed, used and removed in a root of their own. It takes
+# dpkg-deb, and the test root's rights, lintian and debootstrap too.
+deb: build library
+	@tools/deb packages
+
+deb-test: deb
+	@tests/deb.sh packages
 
 # What an access, an event of a guest and a call from C cost, in nanoseconds, on boards of 1, 4, 1003 and 1024 functions;
 # and what an audit costs, which takes Python 3.
@@ -120,13 +129,43 @@ has-qemu:
 # Debian's SeaBIOS and U-Boot, unmodified, on boards of the library; and on random trees, where each byte that they leave
 # is compared with what they leave in QEMU. Then whether that comparison notices an edited board, and the audit a SeaBIOS
 # that is broken on purpose. It takes Debian's packages, which it names where they are missing, and some minutes.
+# make firmware ROM=my.rom OPTIONS=..: a ROM of one's own in that PC, and what it leaves; tests/kit/rom.py tells the options.
+ifdef ROM
+firmware: has-firmware library/libpciguest.so.0
+	@tests/kit/rom.py $(ROM) $(OPTIONS)
+else
 firmware: has-firmware pciguest library/libpciguest.so.0
 	@tests/firmware/firmware.py ./pciguest
 	@tests/firmware/edits.py ./pciguest
 	@tests/firmware/broken.py ./pciguest
+endif
 
 has-firmware:
 	@tests/firmware/needs
+
+# The kit that tests firmware and hypervisors of others, over the library: the enumerator of examples/firmware is right on
+# many boards, and each of its mistakes is found. It takes Debian's packages, which it names where they are missing, and
+# some minutes.
+kit: has-kit library/libpciguest.so.0
+	@/usr/bin/python3 -B -m unittest discover -s tests/kit
+	@/usr/bin/python3 -B -m pytest -q -p no:cacheprovider tests/kit/strategies_test.py
+	@tests/kit/mistakes.py
+
+# Transcripts for those who test a virtual PCI of their own: corpus/.
+corpus: library/libpciguest.so.0
+	@tests/kit/corpus.py corpus
+
+# QEMU's devices on random trees: random accesses, each reply of which is as the board's or differs by a rule; and EDK2 on
+# such trees, with all that is wrong in the registers that it leaves. It takes Debian's packages, and a quarter of an hour.
+peers: has-peers library/libpciguest.so.0
+	@tests/kit/peers.py
+	@tests/kit/edk2.py
+
+has-kit:
+	@tests/kit/needs
+
+has-peers:
+	@tests/kit/needs peers
 
 library/libpciguest.a library/libpciguest.so.0:
 	@$(MAKE) --no-print-directory library
@@ -148,12 +187,18 @@ browse: page
 	@page/contrast
 	@page/browse pciguest.html page/out
 
+# The program compiled once, with checks, and asked what the tests ask: some two minutes, and nothing is proved.
+# make quick ONLY=moves.rows asks only that in whose name these words stand.
+ONLY :=
+quick:
+	@tests/quick.py $(ONLY)
+
 # The demo in about a minute: nothing is proved.
 try:
 	@echo 'This run proves nothing: it only compiles the program and runs it. `make demo` proves it first.'
 	@cd crates/pciguest && rt try -- demo < ../../examples/demo.script
 
 clean:
-	rm -rf crates/*/out page/out library/rust/target .prove pciguest pciguest.html library/libpciguest.a library/libpciguest.so.0
-	rm -f pciguest-*-x86_64-linux.tar.gz
+	rm -rf crates/*/out page/out library/rust/target .prove corpus pciguest pciguest.html library/libpciguest.a library/libpciguest.so.0
+	rm -rf packages pciguest-*-x86_64-linux.tar.gz
 	@$(MAKE) --no-print-directory -C examples/qemu clean

@@ -1,11 +1,11 @@
 #!/usr/bin/env bash
 # Checks what the documents say of files: the index of definitions is complete, each link leads somewhere, and each file
-# that is named is there, and each edit of the tests can be made. It needs no program. The last line is 'N passed, M failed'.
+# that is named is there, so each edit and test that refuses a body, and each edit of the tests can be made. It needs no program. The last line is 'N passed, M failed'.
 set -u
 cd "$(dirname "$0")/.."
 passed=0
 failed=0
-documents=(README.md CHANGELOG.md docs/*.md examples/README.md examples/audit/README.md)
+documents=(*.md docs/*.md examples/README.md examples/audit/README.md)
 index=docs/DEFINITIONS.md
 
 # holds NAME CHECK..: the check writes nothing
@@ -70,6 +70,25 @@ lost_files() {
   done
 }
 holds 'files that are not there' lost_files
+
+# ---- bodies that are refused: each row names an edit of the gate, or a test with words that stand in it
+lost_bodies() {
+  local refused=docs/PROMISES.md body by file words rows=0
+  while IFS='|' read -r _ body by _; do
+    rows=$((rows + 1))
+    grep -qE '`crates/[a-z_]+/must-fail/[^`]+\.edit`|`[^`]+` \(`' <<< "$by" || echo "$refused:$body: no edit and no test"
+    while read -r file; do
+      [ -e "$file" ] || echo "$refused:$body: $file"
+    done < <(grep -oE '`(crates|tests)/[^`]*`' <<< "$by" | tr -d '`')
+    while read -r file words; do
+      [ ! -e "$file" ] || grep -qF -- "$words" "$file" || echo "$refused:$body: '$words' in $file"
+    done < <(grep -oE '`(crates|tests)/[^`]*` \([^)]*\)' <<< "$by" | while read -r test; do
+      file=${test#'`'}; grep -oE '`[^`]*`' <<< "${test#*\(}" | tr -d '`' | sed "s#^#${file%%'`'*} #"
+    done)
+  done < <(sed -n '/^## Bodies that are refused/,$p' "$refused" | sed -n '/^|---/,$p' | tail -n +2 | grep '^|')
+  [ "$rows" -gt 0 ] || echo "$refused: no body that is refused"
+}
+holds 'bodies whose edit or test is not there' lost_bodies
 
 # ---- examples in the headings of crates: their lines stand in a test, one after the other
 strange_examples() {

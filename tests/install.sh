@@ -36,7 +36,11 @@ holds 'make install' "${installing[@]}" install
 at=$room/package/usr
 for file in bin/pciguest include/pciguest.h lib/x86_64-linux-gnu/libpciguest.a lib/x86_64-linux-gnu/libpciguest.so.0 \
   lib/x86_64-linux-gnu/libpciguest.so lib/x86_64-linux-gnu/pkgconfig/pciguest.pc share/man/man1/pciguest.1 \
-  share/man/man3/libpciguest.3 share/bash-completion/completions/pciguest share/doc/pciguest/docs/FORMATS.md; do
+  share/man/man3/libpciguest.3 share/bash-completion/completions/pciguest share/zsh/site-functions/_pciguest \
+  share/fish/vendor_completions.d/pciguest.fish share/doc/pciguest/docs/FORMATS.md share/pciguest/board.schema.json \
+  share/pciguest/rust/Cargo.toml share/pciguest/rust/src/lib.rs share/pciguest/python/pyproject.toml \
+  share/pciguest/python/pciguest/py.typed share/doc/pciguest/examples/session/session.stdout \
+  include/pciguest_ops.h bin/pciguest-firmware-test share/pciguest/python/pciguest/firmware_test.py share/pciguest/own.toml; do
   holds "$file is installed" test -e "$at/$file"
 done
 holds 'the places in pciguest.pc' same 'prefix=/usr
@@ -57,6 +61,32 @@ holds 'a board for firmware' test "$(completed pciguest firmware "${board%ain.to
 holds 'a word of a check' same '--plain' completed pciguest check --p
 holds 'a board after it' test "$(completed pciguest check --plain "${board%ain.toml}")" = "$board"
 holds 'no board of the demo' same '' completed pciguest demo "${board%ain.toml}"
+# the same of zsh and fish, where they are there; zsh's own functions are stood in for
+if command -v zsh > /dev/null; then
+  in_zsh() {
+    echo $(zsh -f -c 'file=$1; shift; words=("$@") CURRENT=$#; cd "'"$(dirname "$board")"'"
+      _describe() { local -a all=("${(@P)@[-1]}"); print -rl -- ${all%%:*}; }
+      compadd() { print -rl -- "${@[2,-1]}"; }
+      _files() { print -rl -- ${words[CURRENT]}*.toml(N); }
+      source $file' - "$at/share/zsh/site-functions/_pciguest" "$@")
+  }
+  holds 'all words in zsh' same 'audit check demo firmware list run --help' in_zsh pciguest ''
+  holds 'a board in zsh' same 'chain.toml' in_zsh pciguest list ch
+  holds 'a word of a check in zsh' same '--plain chain.toml' in_zsh pciguest check ch
+  holds 'a board after it in zsh' same 'chain.toml' in_zsh pciguest check --plain ch
+  holds 'no board of the demo in zsh' same '' in_zsh pciguest demo ch
+fi
+if command -v fish > /dev/null; then
+  in_fish() {
+    echo $(cd "$(dirname "$board")" && HOME=$room fish --no-config -c 'source $argv[1]; complete -C "$argv[2]"' \
+      "$at/share/fish/vendor_completions.d/pciguest.fish" "$1" | cut -f1)
+  }
+  holds 'all words in fish' same 'audit check demo firmware list run' in_fish 'pciguest '
+  holds 'a board in fish' same 'chain.toml' in_fish 'pciguest list ch'
+  holds 'a word of a check in fish' same '--plain' in_fish 'pciguest check -'
+  holds 'a board after it in fish' same 'chain.toml' in_fish 'pciguest check --plain ch'
+  holds 'no board of the demo in fish' same '' in_fish 'pciguest demo ch'
+fi
 
 # ---- the manual, where something that reads it is there
 if command -v mandoc > /dev/null; then
@@ -95,18 +125,27 @@ holds 'the demo' same <("$top/pciguest" demo < "$top/examples/demo.script") outs
 "$top/pciguest" list "$top/crates/examples/data/main.toml" > "$room/report"
 holds 'a report' same "$room/report" outside bin/pciguest list examples/boards/main.toml
 if command -v cc > /dev/null && command -v pkg-config > /dev/null; then
-  with() { outside sh -c "cc -O1 -Wall -Wextra -Werror -o $1 examples/device.c $2"; }
+  with() { outside sh -c "cc -O1 -Wall -Wextra -Werror -o $1 examples/c/device.c $2"; }
   holds 'the version' same "$(sed -n 's/^pciguest //p' VERSION)" outside pkg-config --modversion pciguest
   holds 'the example over the shared library is built' with shared '$(pkg-config --cflags --libs pciguest)'
-  holds 'the example over the shared library' same "$top/tests/library/device.stdout" \
-    outside env LD_LIBRARY_PATH=lib ./shared examples/device.toml
   holds 'it uses the shared library' sh -c 'readelf -dW shared | grep -q "NEEDED.*libpciguest.so.0"'
   holds 'the example over the archive is built' with static \
     '$(pkg-config --cflags pciguest) $(pkg-config --variable=libdir pciguest)/libpciguest.a'
   holds 'the example over the archive' same "$top/tests/library/device.stdout" outside ./static examples/device.toml
+  rm -f shared static
 else
   echo 'no C compiler or no pkg-config: the library of the tarball is not tried'
 fi
+if command -v cc > /dev/null && python3 -c 'import tomllib' 2> /dev/null; then
+  holds 'the enumerator is built' outside cc -O1 -Wall -Wextra -Werror -Iinclude -o enumerator examples/firmware/enumerator.c
+  holds 'a test of firmware' same '16 boards: the firmware leaves each of them ready' \
+    outside "PYTHON=$(command -v python3)" bin/pciguest-firmware-test --boards 10 -- ./enumerator
+  holds 'firmware that does nothing' sh -c '! bin/pciguest-firmware-test --save failed -- true > told && grep -q "FAILED on" told'
+else
+  echo 'no C compiler or no Python 3.11: the test of firmware in the tarball is not tried'
+fi
+holds 'what the README gives to each of its readers' "$top/tests/users.sh" "$PWD"
+[ "$(tail -n 1 "$room/told")" = '' ] || echo "from the tarball: $(tail -n 1 "$room/told")"
 
 echo "$passed passed, $failed failed"
 [ "$failed" = 0 ]

@@ -28,6 +28,7 @@ tell() {
   else
     failed=$((failed + 1))
     echo "FAILED: $1$why"
+    diff wanted.out out 2>&1 | head -n 6 | cut -c 1-200 | sed 's/^/  /'
   fi
 }
 
@@ -58,7 +59,6 @@ full() {
 # ---- demo
 script=$top/crates/pciguest/stdin
 cp "$top/crates/pciguest/stdout" wanted.out
-ends_with 'demo' demo < "$script"
 ends_with 'demo, its script in two pieces' demo < <(head -c 15 "$script"; sleep 0.2; tail -c +16 "$script")
 : > wanted.out
 ends_with 'demo, an empty script' demo < /dev/null
@@ -74,18 +74,23 @@ timeout 60 "$program" demo < long 2> err | head -c 0; status=${PIPESTATUS[0]}
 : > out; : > wanted.out; echo 'pciguest: fault 502 write failed' > wanted.err; wanted=1
 tell 'demo, its reader gone'
 
-# ---- list: the boards of the examples, each with its report or its fault
-awk '/^== / { file = NF == 2 ? $2 ".wanted" : NF == 3 ? $3 ".check" : NF == 4 ? $2 "@" $4 ".run" : NF == 5 ? $3 ".excerpts" : NF == 6 ? $2 "@" $4 ".asked" : "/dev/null"; next } { print > file }' "$top/crates/examples/stdout"
-for wanted_report in *.wanted; do
-  board=${wanted_report%.wanted}
-  fault=$(sed -n 's/^fault //p' "$wanted_report")
-  if [ -n "$fault" ]; then
-    fails_with "list $board" "$fault" list "$boards/$board" < /dev/null
-  else
-    cp "$wanted_report" wanted.out
-    ends_with "list $board" list "$boards/$board" < /dev/null
-  fi
-done
+# ---- the rows of tests/rows, and the boards, scripts, sessions and audits of the examples
+lone=$top/crates/test_lone_answers/out/test_lone_answers
+[ -x "$lone" ] || lone=
+python3 "$top/tests/cases.py" "$program" ${lone:+"$lone"} > told; status=$?
+counts='^([0-9]+) passed, ([0-9]+) failed$'
+if [[ $(tail -n 1 told) =~ $counts && $status -le 1 ]]; then
+  passed=$((passed + BASH_REMATCH[1])) failed=$((failed + BASH_REMATCH[2]))
+  head -n -1 told
+else
+  failed=$((failed + 1))
+  echo "FAILED: tests/cases.py ended with status $status"
+fi
+
+# section HEAD: what crates/examples/stdout has below it
+section() { awk -v head="== $1" '/^== / { inside = $0 == head; next } inside' "$top/crates/examples/stdout"; }
+
+# ---- list
 : > empty.toml
 printf '\377' > ff.toml
 fails_with 'list, an empty file' '102 key' list empty.toml
@@ -94,132 +99,22 @@ fails_with 'list, no such file' '702 board file' list nothing.toml
 fails_with 'list, a folder' '702 board file' list .
 fails_with 'list, an empty path' '702 board file' list ''
 full 'list' list "$boards/main.toml"
-cp main.toml.wanted wanted.out
+section main.toml > wanted.out
 ends_with 'list, without standard input' list "$boards/main.toml" <&-
 
-# ---- check: boards of the examples, each with what is said of it, and its fault after that
-for wanted_check in *.check; do
-  board=${wanted_check%.check}
-  cp "$boards/$board" "$board"
-  fault=$(sed -n 's/^fault //p' "$wanted_check")
-  grep -v '^fault ' "$wanted_check" > wanted.out
-  wanted=0
-  : > wanted.err
-  [ -z "$fault" ] || { wanted=1; echo "pciguest: fault $fault" > wanted.err; }
-  timeout 60 "$program" check "$board" > out 2> err < /dev/null; status=$?
-  tell "check $board"
-  rm "$board"
-done
+# ---- check
 fails_with 'check, no such file' '702 board file' check nothing.toml
 fails_with 'check, no board' '701 usage' check
 fails_with 'check --plain, no board' '701 usage' check --plain
 fails_with 'check --plain twice' '701 usage' check --plain --plain "$boards/main.toml"
-cp main.toml.check wanted.out
+section 'check main.toml' > wanted.out
 cp "$boards/main.toml" main.toml
 ends_with 'check --plain' check --plain main.toml
 ends_with 'check, and then --plain' check main.toml --plain
 rm main.toml
 
-# ---- check on a terminal, with the lines of the files, and --plain there; where Python 3 makes a terminal
-on_terminal() (
-  set -o pipefail
-  python3 -c 'import os, pty, sys; sys.exit(os.waitstatus_to_exitcode(pty.spawn(sys.argv[1:])))' "$@" | tr -d '\r'
-)
-if command -v python3 > /dev/null; then
-  for wanted_excerpts in *.excerpts; do
-    board=${wanted_excerpts%.excerpts}
-    cp "$boards/$board" "$board"
-    sed 's/^fault /pciguest: fault /' "$wanted_excerpts" > wanted.out
-    : > wanted.err
-    grep -q '^fault ' "$wanted_excerpts" && wanted=1 || wanted=0
-    on_terminal "$program" check "$board" > out 2> err < /dev/null; status=$?
-    tell "check $board on a terminal"
-    [ ! -f "$board.check" ] || {
-      sed 's/^fault /pciguest: fault /' "$board.check" > wanted.out
-      on_terminal "$program" check --plain "$board" > out 2> err < /dev/null; status=$?
-      tell "check --plain $board on a terminal"
-    }
-    rm "$board"
-  done
-fi
 full 'check' check "$boards/main.toml"
 full 'check, a board that is refused' check "$boards/size.toml"
-
-# ---- run: the scripts of the examples, each over its board
-for wanted_run in *.run; do
-  example=${wanted_run%@*} board=${wanted_run#*@} board=${board%.run}
-  cp "$wanted_run" wanted.out
-  ends_with "run $example over $board" run "$boards/$board" < "$boards/$example"
-done
-
-# ---- rows: the files of tests/rows
-# A section begins with '== run BOARD: TITLE' or '== firmware BOARD: TITLE' and has rows 'LINE -> REPLY', of one script; or
-# with '== list BOARD: TITLE' and has rows 'OLD | NEW | FAULT', each of a board that is refused. NEW stands in the place
-# where OLD stood first in the board's file, as it does after a row 'with OLD | NEW' for the whole section. A board lies in
-# tests/rows or among the examples; where the guests of the board are in a file BOARD.guests, lone guests answer its scripts too.
-lone=$top/crates/test_lone_answers/out/test_lone_answers
-
-# put OLD NEW FROM TO: one text in the place of another
-put() {
-  local text; text=$(< "$3")
-  [[ $text == *"$1"* ]] || { failed=$((failed + 1)); echo "FAILED: $section: no '$1' in $board"; }
-  printf '%s\n' "${text/"$1"/"$2"}" > "$4"
-}
-
-# begin 'VERB BOARD: TITLE'
-begin() {
-  verb=${1%% *} board=${1#* } section=$file:${1#*:}
-  board=${board%%:*}
-  if [ -e "$top/tests/rows/$board" ]; then cp "$top/tests/rows/$board" asked.toml; else cp "$boards/$board" asked.toml; fi
-  guests=$top/tests/rows/${board%.toml}.guests
-  : > lines; : > replies; : > lone_replies
-}
-
-# one row of a section
-take() {
-  local line=${1%% -> *} reply=${1##* -> }
-  if [[ $1 =~ ^with\ ([^|]*)\ \|\ ?([^|]*)$ ]]; then
-    put "${BASH_REMATCH[1]}" "${BASH_REMATCH[2]}" asked.toml asked.toml
-    guests=
-  elif [[ $1 =~ ^([^|]*)\ \|\ ?([^|]*)\ \|\ ([^|]*)$ ]]; then
-    put "${BASH_REMATCH[1]}" "${BASH_REMATCH[2]}" asked.toml changed.toml
-    fails_with "$section, ${BASH_REMATCH[2]}" "${BASH_REMATCH[3]}" list changed.toml < /dev/null
-  elif [[ $1 == *' -> '* ]]; then
-    echo "${line%"${line##*[! ]}"}" >> lines
-    echo "$reply" >> replies
-    # what the host reads, no lone guest answers
-    [[ $line == 'host '[cim]'r '* ]] || echo "$reply" >> lone_replies
-  else
-    failed=$((failed + 1))
-    echo "FAILED: $section: a row of no form: $1"
-  fi
-}
-
-# the end of a section
-finish() {
-  [ -s lines ] || return 0
-  cp replies wanted.out
-  ends_with "$section" "$verb" asked.toml < lines
-  if [ "$verb" = run ] && [ -x "$lone" ] && [ -n "$guests" ] && [ -e "$guests" ]; then
-    timeout 60 "$lone" "$guests" < lines > out 2> err; status=$?
-    cp lone_replies wanted.out; : > wanted.err; wanted=0
-    tell "$section, by lone guests"
-  fi
-  : > lines
-}
-
-: > lines
-for file in "$top"/tests/rows/*.rows; do
-  rows=$file file=rows/${file##*/}
-  while IFS= read -r row; do
-    case $row in
-      '' | '#'*) ;;
-      '== '*) finish; begin "${row#== }" ;;
-      *) take "$row" ;;
-    esac
-  done < "$rows"
-  finish
-done
 
 # ---- run: guests, a move, and what the host sees
 cat > run.script <<'END'
@@ -271,8 +166,6 @@ fails_with 'run, a board that does not fit' '204 memory pool' run "$boards/memor
 fails_with 'run, no such file' '702 board file' run nothing.toml < run.script
 
 # ---- firmware: its script of the examples, over a board at reset
-cp firmware.script@main.toml.asked wanted.out
-ends_with 'firmware' firmware "$boards/main.toml" < "$boards/firmware.script"
 full 'firmware' firmware "$boards/main.toml" < "$boards/firmware.script"
 printf 'host: %s\n' 0xffffffff ok ok 0x00031234 ok ok 0xffffffff ok ok ok ok 0x00000000 ok ok ok 0x00000000 > wanted.out
 ends_with 'firmware, a bridge and its window' firmware "$boards/main.toml" < "$boards/bridge.script"
@@ -286,7 +179,7 @@ fails_with 'firmware, standard input closed' '501 read failed' firmware "$boards
 
 # ---- audit: firmware's lines, answered as by firmware, and then what is wrong; what is broken on purpose stands in
 # examples/audit, and tests/commands.sh runs it
-{ cat firmware.script@main.toml.asked; echo 'audit: ok'; } > wanted.out
+{ section 'firmware.script over main.toml at reset'; echo 'audit: ok'; } > wanted.out
 ends_with 'audit' audit "$boards/main.toml" < "$boards/firmware.script"
 ends_with 'audit, its lines in two pieces' audit "$boards/main.toml" \
   < <(head -c 300 "$boards/firmware.script"; sleep 0.2; tail -c +301 "$boards/firmware.script")
@@ -372,7 +265,7 @@ fails_with 'list, the last megabyte below 2^63' '205 prefetchable pool' list hig
 sed 's/$/\r/' "$boards/main.toml" > crlf.toml
 { printf '\357\273\277'; cat "$boards/main.toml"; } > mark.toml
 for board in crlf.toml mark.toml; do
-  cp main.toml.wanted wanted.out
+  section main.toml > wanted.out
   ends_with "list, $board" list "$board"
 done
 printf '# \000\n' > nul.toml

@@ -1,12 +1,13 @@
 #!/usr/bin/env bash
-# Tries tools/prove over a small made-up repository, with a stand-in for `rt` that writes what `rt` would leave. It needs
-# no kit. The last line is 'N passed, M failed'.
+# Tries tools/prove over a small made-up repository, with a stand-in for `rt` that writes what `rt` would leave, and its
+# estimates over the crates of this one. It needs no kit. The last line is 'N passed, M failed'.
 set -u
 cd "$(dirname "$0")/.."
+top=$PWD
 room=$(mktemp -d)
 trap 'rm -rf "$room"' EXIT
 mkdir -p "$room/tools" "$room/bin" "$room/crates"
-cp tools/prove "$room/tools/"
+cp tools/prove tools/progress.py "$room/tools/"
 cd "$room" || exit 1
 passed=0
 failed=0
@@ -56,7 +57,8 @@ is_clean() { [ ! -e .prove ]; }
 prove --jobs 3 app
 holds 'all is proved' test "$status" = 0
 holds 'the last crate' has '\[4 of 4\] app \.\. proved and built in [0-9]+ s'
-holds 'an estimate of what is left' has '\[1 of 4\] low \.\. proved in [0-9]+ s; about [0-9]+ min left'
+holds 'an estimate of what is left' has '\[1 of 4\] low \.\. proved in [0-9]+ s; about [0-9]+ s left'
+holds 'a line for each crate, and one before and after them' test "$(wc -l < out)" = 6
 holds 'lower crates first' eval 'before low left && before low right && before left app && before right app'
 holds 'nothing else' test "$(wc -l < log)" = 4
 holds 'a program with its words' has 'app run --jobs [1-4] -- one two' log
@@ -111,6 +113,31 @@ prove left
 holds 'it waits for who works on a crate' test "$status" = 0
 holds 'it says so' has 'waiting for another rt in crates/low'
 wait
+
+# ---- what crates took is recorded, and the estimates go by it
+rm -r crates/*/out
+printf 'gone 9 1 9\naside 70 2 90\n' > tools/prove.times
+SLEEP=1 prove --record --jobs 1 left
+holds 'what two crates took is recorded' test "$status" = 0 -a "$(grep -cE '^(low|left) [1-9] 1 [0-9]+$' tools/prove.times)" = 2
+holds 'a row of another crate stays, and none of a crate that is gone' \
+  test "$(grep -c '^aside 70 2 90$' tools/prove.times)" = 1 -a "$(grep -vc '^#' tools/prove.times)" = 3
+printf 'low 10 - -\nright 500 - -\n' > tools/prove.times
+rm -r crates/*/out
+prove --jobs 1 right
+holds 'an estimate by what was recorded' has '\[1 of 2\] low \.\. proved in [0-9]+ s; about .* left'
+echo 'text of low again' > crates/low/src/lib.rt
+prove --record low
+holds 'what was not proved from nothing is not recorded' test "$(grep -c '^low 10 - -$' tools/prove.times)" = 1
+
+# ---- on a terminal one line is kept up to date
+rm -r crates/*/out
+SLEEP=2 python3 -c 'import os, pty, sys; sys.exit(os.WEXITSTATUS(pty.spawn(sys.argv[1:])))' \
+  tools/prove --jobs 1 app > out < /dev/null; status=$?
+holds 'one line on a terminal, between the first and the last' test "$status" = 0 -a "$(wc -l < out)" = 2
+holds 'it is written anew' grep -qE $'\r.*\\[1 of 4\\] about .* left; now (left|right) \\([0-9]+ s\\).*\r' out
+
+# ---- estimates over the crates of this repository
+holds 'estimates within a third' python3 "$top/tests/estimates.py"
 
 prove nothing
 holds 'an unknown crate' test "$status" = 2

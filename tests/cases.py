@@ -1,0 +1,317 @@
+#!/usr/bin/env python3
+"""What the program is asked, and what it has to answer: the demo, the files of tests/rows, and the boards, scripts,
+sessions and audits of the examples, with what stands beside them.
+
+    tests/cases.py PROGRAM [LONE_ANSWERS]
+
+asks all of that of a program. LONE_ANSWERS, the program of the crate test_lone_answers, is asked the scripts of those rows
+whose board has a file of guests beside it. The last line is 'N passed, M failed'. tests/program.sh asks the proved
+program so, and tests/quick.py one that was only compiled.
+
+In crates/examples/stdout a section begins with '== BOARD' (its report), '== check BOARD', '== check BOARD with excerpts'
+(on a terminal), '== SCRIPT over BOARD' or '== SCRIPT over BOARD at reset' (firmware's lines), and ends with a line
+'fault N WORDS' where the program does.
+
+In tests/rows a section begins with '== run BOARD: TITLE' or '== firmware BOARD: TITLE' and has rows 'LINE -> REPLY', of
+one script; or with '== list BOARD: TITLE' and has rows 'OLD | NEW | FAULT', each of a board that is refused. NEW stands
+in the place where OLD stood first in the board's file, as it does after a row 'with OLD | NEW' for the whole section. A
+board lies in tests/rows or among the examples.
+"""
+import dataclasses
+import os
+import pathlib
+import re
+import subprocess
+import sys
+import tempfile
+from concurrent.futures import ThreadPoolExecutor
+
+TOP = pathlib.Path(__file__).resolve().parent.parent
+ROWS, EXAMPLES = TOP / "tests/rows", TOP / "crates/examples"
+# the seconds that the program has for a case
+SECONDS = 60
+# the heads of sections in crates/examples/stdout
+FORMS = [
+    r"(?P<board>\S+)",
+    r"(?P<check>check) (?P<board>\S+)(?P<excerpts> with excerpts)?",
+    r"(?P<script>\S+) over (?P<board>\S+)(?P<reset> at reset)?",
+]
+# how the heads of those begin that no run of the program answers
+OTHERS = "regions of guests"
+# a command of examples/audit/README.md, and what it prints
+AUDIT = re.compile(
+    r"^\$ cat examples/audit/\{?([\w,]+)\}?\.script \| \./pciguest audit \S+ \| grep audit\n((?:audit: .*\n)+)", re.M)
+
+
+@dataclasses.dataclass
+class Case:
+    """One run of the program: its words, the files that they name, its standard input, and what it has to write."""
+
+    name: str
+    words: list
+    script: bytes
+    wanted: list
+    files: dict = dataclasses.field(default_factory=dict)
+    # what the program says in place of an answer, or at its end, as '107 size'
+    fault: str = ""
+    # the lines of the answer that are looked at, where those of an audit alone are
+    only: str = ""
+    on_terminal: bool = False
+    # asked of the lone guests in place of the program
+    of_lone: bool = False
+
+
+# ---- what stands beside the program
+
+def lines_of(file):
+    return file.read_text(encoding="utf-8").rstrip("\n").split("\n")
+
+
+def sections_of(file):
+    """The sections of a file: the words after '== ', and the lines below them."""
+    head, found = "", []
+    for line in [*lines_of(file), "== "]:
+        if line.startswith("== "):
+            if head:
+                yield head, found
+            head, found = line[3:], []
+        else:
+            found.append(line)
+
+
+def board_files(name, text=None):
+    """The file of a board, with this text in place of its own; none, where there is no such board."""
+    file = next((it / name for it in (ROWS, EXAMPLES / "data") if (it / name).is_file()), None)
+    return {name: file.read_bytes() if text is None else text.encode()} if file else {}
+
+
+def demo():
+    script, wanted = (TOP / "crates/pciguest/stdin", TOP / "crates/pciguest/stdout")
+    yield Case("demo", ["demo"], script.read_bytes(), lines_of(wanted))
+
+
+def without_fault(lines):
+    """The lines of an answer, and the fault at its end."""
+    if lines and lines[-1].startswith("fault "):
+        return lines[:-1], lines[-1][len("fault "):]
+    return lines, ""
+
+
+def examples():
+    """The boards and scripts of the examples, with crates/examples/stdout."""
+    sections = dict(sections_of(EXAMPLES / "stdout"))
+    for head, lines in sections.items():
+        found = next((it for it in (re.fullmatch(form, head) for form in FORMS) if it), None)
+        if found:
+            yield from example(found.groupdict(), lines, sections)
+        elif not head.startswith(OTHERS):
+            raise ValueError(f"crates/examples/stdout: a section of no form: {head}")
+
+
+def example(said, lines, sections):
+    """The cases of a section of crates/examples/stdout."""
+    board, script = said["board"], said.get("script")
+    verb = ("firmware" if said["reset"] else "run") if script else "check" if said.get("check") else "list"
+    name, given = f"{verb} {board}", b""
+    if script:
+        name, given = f"{name} < {script}", (EXAMPLES / "data" / script).read_bytes()
+    wanted, fault = without_fault(lines)
+    case = Case(name, [verb, board], given, wanted, board_files(board), fault)
+    if not said.get("excerpts"):
+        yield case
+        return
+    on_terminal = dataclasses.replace(case, name=f"{name}, on a terminal", on_terminal=True)
+    yield on_terminal
+    plain, above = ["check", "--plain", board], f"check {board}"
+    if above in sections:
+        wanted = without_fault(sections[above])[0]
+        yield dataclasses.replace(on_terminal, name=f"{name}, plain on a terminal", words=plain, wanted=wanted)
+    elif not fault.startswith("101 "):
+        # a plain check has the same lines, but for the excerpts and for the reason why a file is no TOML
+        wanted = [it for it in wanted if not re.match(r" +\d* *\|", it)]
+        yield dataclasses.replace(case, name=f"{name}, plain", words=plain, wanted=wanted)
+
+
+def session():
+    """The board that firmware numbers by hand and hands over to guests."""
+    folder = TOP / "examples/session"
+    script, board = (folder / "session.script").read_bytes(), (folder / "board.toml").read_bytes()
+    files = {"session/board.toml": board}
+    wanted = lines_of(folder / "session.stdout")
+    yield Case("firmware examples/session/board.toml < session.script", ["firmware", *files], script, wanted, files)
+
+
+def audits():
+    """The broken firmware of examples/audit, with what its README.md prints."""
+    folder = TOP / "examples/audit"
+    text, files = (folder / "README.md").read_text(encoding="utf-8"), {"audit/board.toml": (folder / "board.toml").read_bytes()}
+    found = AUDIT.findall(text)
+    if len(found) != len(list(folder.glob("*.script"))):
+        raise ValueError("examples/audit/README.md: not one command for each script")
+    for names, wanted in found:
+        scripts = [f"{it}.script" for it in names.split(",")]
+        given = b"".join((folder / it).read_bytes() for it in scripts)
+        name = f"audit examples/audit/board.toml < {' '.join(scripts)}"
+        yield Case(name, ["audit", *files], given, wanted.splitlines(), files, only="audit")
+
+
+# ---- tests/rows
+
+class Section:
+    """A section of a file of rows."""
+
+    def __init__(self, file, head, count):
+        self.title = f"rows/{file.name}: {head.partition(': ')[2]}"
+        self.verb, _, self.board = head.partition(":")[0].partition(" ")
+        self.text = board_files(self.board)[self.board].decode()
+        self.is_changed, self.asked, self.replies = False, [], []
+        # each board of a section has a folder of its own
+        self.folder, self.count = f"rows{count}", 0
+
+    def put(self, old, new):
+        """The board with one text in the place of another."""
+        if old not in self.text:
+            raise ValueError(f"{self.title}: no '{old}' in {self.board}")
+        return self.text.replace(old, new, 1)
+
+    def files(self, text):
+        self.count += 1
+        return {f"{self.folder}-{self.count}/{self.board}": text.encode()}
+
+    def take(self, row):
+        """Takes a row, and gives the cases that it is by itself."""
+        parts = [it.strip() for it in row.split("|")]
+        if row.startswith("with ") and len(parts) == 2:
+            self.text, self.is_changed = self.put(row[5:].partition("|")[0].rstrip(), parts[1]), True
+        elif len(parts) == 3:
+            files = self.files(self.put(parts[0], parts[1]))
+            name = f"{self.title}: list {self.board} with '{parts[1]}' in place of '{parts[0]}'"
+            yield Case(name, ["list", *files], b"", [], files, parts[2])
+        elif " -> " in row:
+            line, _, reply = row.rpartition(" -> ")
+            self.asked.append(line.rstrip(" "))
+            self.replies.append(reply)
+        else:
+            raise ValueError(f"{self.title}: a row of no form: {row}")
+
+    def cases(self):
+        """The script of a section, once its rows are taken."""
+        if not self.asked:
+            return
+        script, files = "".join(f"{it}\n" for it in self.asked).encode(), self.files(self.text)
+        name = f"{self.title}: {self.verb} {self.board}"
+        yield Case(name, [self.verb, *files], script, self.replies, files)
+        guests = ROWS / f"{pathlib.Path(self.board).stem}.guests"
+        if self.verb == "run" and not self.is_changed and guests.is_file():
+            # what the host reads, no lone guest answers
+            pairs = [it for it in zip(self.asked, self.replies) if not re.match(r"host [cim]r ", it[0])]
+            yield Case(f"{name}, by lone guests", [str(guests)], script, [it[1] for it in pairs], of_lone=True)
+
+
+def rows():
+    count = 0
+    for file in sorted(ROWS.glob("*.rows")):
+        for head, lines in sections_of(file):
+            count += 1
+            section = Section(file, head, count)
+            for row in lines:
+                if row and not row.startswith("#"):
+                    yield from section.take(row)
+            yield from section.cases()
+
+
+def cases():
+    return [*demo(), *rows(), *examples(), *session(), *audits()]
+
+
+# ---- what is told of an answer
+
+def asked_lines(script):
+    """The lines of a script that are answered."""
+    lines = [it.strip(b" \t\r") for it in script.split(b"\n")]
+    return [it.decode(errors="replace") for it in lines if it and not it.startswith(b"#")]
+
+
+def told(text):
+    """The lines of a fault of the program, or of anything else that it says on standard error."""
+    return " ".join(text.split("\n")).strip()[:300] or "nothing"
+
+
+def difference(case, status, out, err):
+    """What is wrong with an answer, line by line; nothing where it is as it has to be."""
+    lines = out.split("\n")
+    last = lines.pop()
+    lines = [it for it in lines + [last] * bool(last) if case.only in it]
+    wrong = []
+    asked = asked_lines(case.script)
+    for place in range(max(len(lines), len(case.wanted))):
+        pair = [it[place] if place < len(it) else None for it in (case.wanted, lines)]
+        if pair[0] != pair[1]:
+            of = f" `{asked[place]}`" if len(asked) == len(case.wanted) and place < len(asked) else ""
+            wrong.append(f"line {place + 1}{of}: " + ", ".join(
+                f"{what} {'nothing' if it is None else f'`{it}`'}" for what, it in zip(("wanted", "came"), pair)))
+    if len(wrong) > 3:
+        wrong[3:] = [f"and {len(wrong) - 3} lines more"]
+    if last and not wrong:
+        wrong.append("the last line has no line feed")
+    fault = f"pciguest: fault {case.fault}\n" if case.fault else ""
+    if (status, err) != (1 if fault else 0, fault):
+        wrong.append(f"standard error: wanted {told(fault)}, came {told(err)} with status {status}")
+    return wrong
+
+
+def tell(case, wrong):
+    print(f"FAILED: {case.name}", *(f"  {it}" for it in wrong), sep="\n", flush=True)
+
+
+# ---- a program that is there
+
+def run(program, case, room):
+    """What a program answers: its status, and what it wrote."""
+    how = {"cwd": room, "input": case.script, "stdout": subprocess.PIPE, "stderr": subprocess.PIPE, "timeout": SECONDS}
+    words = [program, *case.words]
+    if case.on_terminal:
+        # a terminal has one stream, and returns before line feeds
+        spawn = ("import os, pty, sys; it = pty.spawn(sys.argv[1:]); "
+                 "sys.exit(os.WEXITSTATUS(it) if os.WIFEXITED(it) else 128 + os.WTERMSIG(it))")
+        ran = subprocess.run([sys.executable, "-c", spawn, *words], **how)
+        out, fault, said = ran.stdout.decode(errors="replace").replace("\r", "").partition("pciguest: ")
+        return ran.returncode, out, fault + said
+    ran = subprocess.run(words, **how)
+    return ran.returncode, ran.stdout.decode(errors="replace"), ran.stderr.decode(errors="replace")
+
+
+def ask(program, case, room):
+    try:
+        return difference(case, *run(program, case, room))
+    except subprocess.TimeoutExpired:
+        return [f"it had not ended after {SECONDS} seconds"]
+
+
+def write_files(cases, room):
+    """Writes the boards of these cases below a folder."""
+    for case in cases:
+        for name, data in case.files.items():
+            file = pathlib.Path(room, name)
+            file.parent.mkdir(parents=True, exist_ok=True)
+            file.write_bytes(data)
+
+
+def main(words):
+    if not 1 <= len(words) <= 2:
+        print("usage: tests/cases.py PROGRAM [LONE_ANSWERS]", file=sys.stderr)
+        return 2
+    programs = [os.path.realpath(it) for it in words]
+    asked = [it for it in cases() if not it.of_lone or len(programs) == 2]
+    with tempfile.TemporaryDirectory() as room, ThreadPoolExecutor(os.cpu_count()) as pool:
+        write_files(asked, room)
+        answers = [pool.submit(ask, programs[it.of_lone], it, room) for it in asked]
+        wrong = [(it, answer.result()) for it, answer in zip(asked, answers) if answer.result()]
+    for it in wrong:
+        tell(*it)
+    print(f"{len(asked) - len(wrong)} passed, {len(wrong)} failed")
+    return 1 if wrong else 0
+
+
+if __name__ == "__main__":
+    sys.exit(main(sys.argv[1:]))

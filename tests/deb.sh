@@ -1,0 +1,61 @@
+#!/usr/bin/env bash
+# Judges the packages by lintian, and installs, uses and removes them in a root of their own, which debootstrap makes, or
+# which is copied from the folder that ROOT names. It runs as root. The last line is 'N passed, M failed'.
+#     tests/deb.sh FOLDER      the folder that has the packages
+set -u
+[ $# = 1 ] || { echo 'usage: tests/deb.sh FOLDER' >&2; exit 2; }
+folder=$(realpath "$1")
+cd "$(dirname "$0")/.."
+top=$PWD
+room=$(mktemp -d)
+root=$room/root
+trap 'rm -rf "$room"' EXIT
+passed=0
+failed=0
+
+# holds NAME COMMAND..: the command ends with 0
+holds() {
+  local name=$1; shift
+  if "$@" > "$room/told" 2>&1; then
+    passed=$((passed + 1))
+  else
+    failed=$((failed + 1))
+    echo "FAILED: $name"
+    head -c 3000 "$room/told"
+  fi
+}
+
+same() { diff "$1" <(shift; "$@" 2>&1); }
+packages=(libpciguest0 libpciguest-dev python3-pciguest pciguest)
+files() { local one; for one in "${packages[@]}"; do ls "$folder/${one}"_*_amd64.deb; done; }
+
+if command -v lintian > /dev/null; then
+  holds 'lintian' lintian --allow-root --fail-on error,warning $(files)
+else
+  echo 'no lintian: the packages are not judged. On Debian: apt-get install lintian'
+fi
+
+if [ -n "${ROOT-}" ]; then cp -a "$ROOT" "$root"
+else holds 'a root' debootstrap --variant=minbase --include=python3,gcc,libc6-dev,pkg-config bookworm "$root"; fi
+inside() { chroot "$root" env -i PATH=/usr/bin:/bin:/usr/sbin:/sbin HOME=/root "$@"; }
+mkdir -p "$root/packages" && cp $(files) "$root/packages/"
+cp tests/library/device.stdout examples/demo.script "$root/packages/"
+holds 'they are installed' inside sh -c 'dpkg -i /packages/*.deb'
+holds 'none is broken' inside sh -c 'test -z "$(dpkg --audit)"'
+
+"$top/pciguest" list crates/examples/data/main.toml > "$room/report"
+examples=/usr/share/doc/pciguest/examples
+holds 'the program' same "$room/report" inside pciguest list $examples/boards/main.toml
+holds 'C' inside sh -c "cc -o /tmp/device $examples/c/device.c \$(pkg-config --cflags --libs pciguest)"
+holds 'over the shared library' same tests/library/device.stdout inside /tmp/device $examples/device.toml
+holds 'Python' same tests/library/device.stdout inside python3 $examples/python/device.py $examples/device.toml
+holds 'its prompt' inside sh -c "echo a.vendor | python3 -m pciguest $examples/boards/main.toml | grep -qx 'a: 0x1234'"
+holds 'the manual' inside sh -c 'zcat /usr/share/man/man1/pciguest.1.gz | head -n 1'
+holds 'completion' inside test -e /usr/share/bash-completion/completions/pciguest -a -e /usr/share/zsh/vendor-completions/_pciguest
+
+holds 'they are removed' inside dpkg --purge pciguest python3-pciguest libpciguest-dev libpciguest0
+left() { test -z "$(find "$root/usr" "$root/etc" "$root/var/lib/dpkg/info" -name '*pciguest*' | tee /dev/stderr)"; }
+holds 'nothing of them is left' left
+
+echo "$passed passed, $failed failed"
+[ "$failed" = 0 ]

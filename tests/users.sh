@@ -1,0 +1,102 @@
+#!/usr/bin/env bash
+# Does, from the tarball and as somebody without the kit, what the README gives to each of its readers: who writes firmware,
+# a hypervisor, a driver or device, and who teaches. The last line is 'N passed, M failed'.
+#     tests/users.sh FOLDER      the folder in which the tarball was unpacked
+set -u
+[ $# = 1 ] || { echo 'usage: tests/users.sh FOLDER' >&2; exit 2; }
+here=$(realpath "$(dirname "$0")/..")
+room=$(mktemp -d)
+trap 'rm -rf "$room"' EXIT
+cp -r "$1" "$room/unpacked"
+cd "$room/unpacked" || exit 1
+passed=0
+failed=0
+
+# outside COMMAND..: without the kit, and with nothing of this repository
+outside() {
+  env -i PATH=/usr/bin:/bin HOME="$room" PKG_CONFIG_PATH="$PWD/lib/pkgconfig" \
+    PYTHONPATH="$PWD/share/pciguest/python" PYTHONDONTWRITEBYTECODE=1 "$@"
+}
+
+# holds NAME COMMAND..: the command ends with 0
+holds() {
+  local name=$1; shift
+  if "$@" > "$room/told" 2>&1; then
+    passed=$((passed + 1))
+  else
+    failed=$((failed + 1))
+    echo "FAILED: $name"
+    head -c 2000 "$room/told"
+  fi
+}
+
+same() { diff "$1" <(shift; "$@" 2>&1); }
+has() { command -v "$1" > /dev/null; }
+
+# ---- nothing of the kit is there
+holds 'no kit' outside sh -c '! command -v rt'
+
+# ---- all: what the README that was packed says is run there
+readme=share/doc/pciguest/README.md
+# saved NAME: the block under the line that says to save it so
+saved() { awk -v name="Save this as \`$1\`" 'index($0, name) { on = 1 } on && /^```/ { if (inside) exit; inside = 1; next } inside' "$readme"; }
+# shown COMMAND: what the README prints under it
+shown() { awk -v command="\$ $1" '$0 == command { on = 1; next } on && /^(```|\$ )/ { exit } on' "$readme"; }
+for name in board.toml board.script firmware.script; do saved "$name" > "$name"; done
+for command in './pciguest list board.toml' './pciguest run board.toml < board.script' \
+  './pciguest firmware board.toml < firmware.script'; do
+  shown "$command" > wanted
+  holds "the README has: $command" test -s wanted
+  holds "$command" same wanted outside sh -c "$command"
+done
+
+# ---- firmware: boards at reset, broken firmware, and a session
+audits() { cat examples/audit/set_up.script examples/audit/"$1".script | outside ./pciguest audit examples/audit/board.toml; }
+holds 'an audit of broken firmware' sh -c 'echo "$1" | grep -q "not forwarded by 2.0"' - "$(audits limit_short)"
+holds 'a session' same examples/session/session.stdout \
+  outside sh -c './pciguest firmware examples/session/board.toml < examples/session/session.script'
+
+# ---- a hypervisor: the program in C, by make and by pkg-config, and the crate for Rust
+device=$here/tests/library/device.stdout
+if has cc && has make; then
+  holds 'make -C examples/c' outside make -s -C examples/c
+  holds 'the program in C' same "$device" outside make -s -C examples/c
+  if has pkg-config; then
+    holds 'cc and pkg-config' outside sh -c 'cc -Wall -Werror -o shared examples/c/device.c $(pkg-config --cflags --libs pciguest)'
+    holds 'over the shared library' same "$device" outside env LD_LIBRARY_PATH=lib ./shared examples/device.toml
+  fi
+else
+  echo 'no C compiler or no make: the library is not tried from C'
+fi
+if cargo --version > /dev/null 2>&1; then
+  mkdir -p crate/src
+  printf '[package]\nname = "user"\nversion = "0.1.0"\nedition = "2021"\n[dependencies]\npciguest = { path = "../share/pciguest/rust" }\n' \
+    > crate/Cargo.toml
+  printf 'fn main() {\n    println!("{}", pciguest::report(std::fs::read("board.toml").unwrap()).unwrap());\n}\n' > crate/src/main.rs
+  outside ./pciguest list board.toml > wanted; echo >> wanted
+  with_cargo() { env -u PCIGUEST_LIBRARY_DIR "$@"; }
+  holds 'the crate for Rust' with_cargo cargo build --offline --quiet --manifest-path crate/Cargo.toml
+  holds 'what it reports' same wanted with_cargo cargo run --offline --quiet --manifest-path crate/Cargo.toml
+else
+  echo 'no cargo: the crate for Rust is not tried'
+fi
+
+# ---- a driver or a device, and who teaches: the module for Python, and its prompt
+if has python3; then
+  outside python3 examples/python/doorbell.py > rings
+  holds 'the device in Python' grep -qx 'driver: 2 rings, status 1' rings
+  holds 'the device model in Python' same "$device" outside python3 examples/python/device.py examples/device.toml
+  printf 'a.vendor\ntree\n' | outside python3 -m pciguest examples/boards/main.toml > answers
+  holds 'the prompt' grep -qx 'a: 0x1234' answers
+else
+  echo 'no Python 3: its module is not tried'
+fi
+holds 'the schema that boards name' test -e examples/board.schema.json
+for board in examples/*.toml examples/*/*.toml; do
+  named=$(sed -n '1s/^#:schema //p' "$board")
+  [ -z "$named" ] || holds "$board names it" test -e "$(dirname "$board")/$named"
+done
+holds 'the manual' test -s share/man/man1/pciguest.1
+
+echo "$passed passed, $failed failed"
+[ "$failed" = 0 ]
