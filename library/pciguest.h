@@ -19,8 +19,8 @@
 #include <stdint.h>
 
 /* The version of this header and of the library beside it, as a text and as a number that grows. */
-#define PCIGUEST_VERSION "0.3.0"
-#define PCIGUEST_VERSION_NUMBER 300 /* 10000 * major + 100 * minor + patch */
+#define PCIGUEST_VERSION "0.4.0"
+#define PCIGUEST_VERSION_NUMBER 400 /* 10000 * major + 100 * minor + patch */
 
 #ifdef __cplusplus
 extern "C" {
@@ -521,7 +521,8 @@ static inline uint32_t pciguest_board_write(struct pciguest_board *board, uint32
     return pciguest_raw_board_write(board, space, bus, device, function, place, width, value);
 }
 
-/* Runs one line of firmware, as `pciguest firmware` does, with its line feed or without. The reply and 902 are as for
+/* Runs one line of firmware, as `pciguest firmware` does, with its line feed or without. `host audit` and `host guests`
+ * are bad lines here: pciguest_board_audit and pciguest_board_guests do the same. The reply and 902 are as for
  * pciguest_run_line. */
 static inline uint32_t pciguest_board_run_line(struct pciguest_board *board, const char *line, size_t length,
                                                char *reply, size_t room, size_t *written)

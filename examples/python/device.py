@@ -5,7 +5,7 @@ when its driver rings (`act`). It is examples/c/device.c over the module of libr
 BOARD is examples/device.toml, whose guest `a` has this device."""
 import sys
 from dataclasses import dataclass
-from typing import Iterator, Optional, Tuple
+from typing import Optional, Tuple
 
 from pciguest import Guest, Hit, Machine, Refusal
 
@@ -23,15 +23,6 @@ class Trap:
     width: int
     written: Optional[int] = None
 
-    def pieces(self) -> Iterator[Tuple[int, int]]:
-        """How far on each lawful access begins that this one is split into, as a bridge does, and how wide it is."""
-        done = 0
-        while done < self.width:
-            fits = (size for size in (4, 2, 1) if (self.place + done) % size == 0 and self.width - done >= size)
-            size = next(fits)
-            yield done, size
-            done += size
-
 
 def find(guest: Guest, trap: Trap) -> Tuple[bool, Optional[Hit]]:
     """Whether an access hits anything here, and what. Where it doesn't, the hypervisor's own UART or RAM is meant, or
@@ -42,17 +33,14 @@ def find(guest: Guest, trap: Trap) -> Tuple[bool, Optional[Hit]]:
 
 def serve(guest: Guest, trap: Trap) -> int:
     """Serves one access, and gives what is read or written. A real bus has no refusal: a write that no one takes is lost."""
-    space = guest.io if trap.space == "io" else guest.memory
-    value = 0
-    for done, size in trap.pieces():
-        try:
-            if trap.written is None:
-                value |= space[trap.place + done:size] << 8 * done
-            else:
-                space[trap.place + done:size] = trap.written >> 8 * done & 0xFFFFFFFF
-        except Refusal:
-            value |= (1 << 8 * size) - 1 << 8 * done
-    return value if trap.written is None else trap.written
+    space = (guest.io if trap.space == "io" else guest.memory).wide
+    try:
+        if trap.written is None:
+            return space[trap.place:trap.width]
+        space[trap.place:trap.width] = trap.written
+        return trap.written
+    except Refusal:
+        return (1 << 8 * trap.width) - 1 if trap.written is None else trap.written
 
 
 def ring(guest: Guest, hit: Hit) -> None:

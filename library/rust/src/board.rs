@@ -50,6 +50,11 @@ impl Board {
     /// # Errors
     ///
     /// The number of the first check that the file fails, or of memory that is out.
+    ///
+    /// ```
+    /// let refused = pciguest::Board::new("x = 1").unwrap_err();
+    /// assert_eq!(refused.to_string(), "102 key");
+    /// ```
     pub fn new(file: impl AsRef<[u8]>) -> Result<Board, Error> {
         let file = file.as_ref();
         let mut handle = BoardHandle {
@@ -68,6 +73,17 @@ impl Board {
     ///
     /// 302: the width is not 1, 2 or 4. 301: the place is no multiple of it. 303: the offset is above 255, or the port
     /// above FFFFFFFFh. 902: the device is above 31, or the function above 7.
+    ///
+    /// ```
+    /// # const BOARD: &str = include_str!("board.toml");
+    /// use pciguest::{Board, HostAt};
+    ///
+    /// let mut board = Board::new(BOARD)?;
+    /// board.write(HostAt::Io { port: 0xcf8 }, 4, 0x8000_0800)?; // CONFIG_ADDRESS: device 1 of bus 0
+    /// assert_eq!(board.read(HostAt::Io { port: 0xcfc }, 4)?, 0x0001_1234);
+    /// assert_eq!(board.read(HostAt::Memory { address: 0xd000_0000 }, 4)?, 0xffff_ffff); // nobody
+    /// # Ok::<(), pciguest::Error>(())
+    /// ```
     pub fn read(&mut self, at: HostAt, width: u32) -> Result<u32, Error> {
         let (space, bus, device, function, place) = at.parts();
         let mut value = 0;
@@ -89,6 +105,17 @@ impl Board {
 
     /// Writes the low 1, 2 or 4 bytes of a value as firmware does; what nothing takes is dropped. A write of
     /// configuration space by number leaves 0 in CONFIG_ADDRESS. Refused as a read is.
+    ///
+    /// ```
+    /// # const BOARD: &str = include_str!("board.toml");
+    /// use pciguest::{Board, HostAt};
+    ///
+    /// let mut board = Board::new(BOARD)?;
+    /// let command = HostAt::Config { bus: 0, device: 1, function: 0, offset: 4 };
+    /// board.write(command, 2, 0xffff)?;
+    /// assert_eq!(board.read(command, 2)?, 0x0547); // what can be written of Command
+    /// # Ok::<(), pciguest::Error>(())
+    /// ```
     pub fn write(&mut self, at: HostAt, width: u32, value: u32) -> Result<(), Error> {
         let (space, bus, device, function, place) = at.parts();
         // SAFETY: no pointer but the handle is passed.
@@ -106,8 +133,9 @@ impl Board {
         })
     }
 
-    /// Runs one line of firmware, as `pciguest firmware` does, with its line feed or without. The reply is as that of
-    /// [`Machine::run_line`].
+    /// Runs one line of firmware, as `pciguest firmware` does, with its line feed or without. `host audit` and
+    /// `host guests` are bad lines here: [`audit`](Board::audit) and [`into_guests`](Board::into_guests) do the same. The
+    /// reply is as that of [`Machine::run_line`].
     ///
     /// ```
     /// # const BOARD: &str = include_str!("board.toml");

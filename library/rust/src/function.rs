@@ -140,6 +140,12 @@ impl Window {
 
 impl Machine {
     /// How many functions the board has, endpoints and bridges.
+    ///
+    /// ```
+    /// # const BOARD: &str = include_str!("board.toml");
+    /// assert_eq!(pciguest::Machine::new(BOARD)?.count()?, 1);
+    /// # Ok::<(), pciguest::Error>(())
+    /// ```
     pub fn count(&mut self) -> Result<usize, Error> {
         let mut count = 0;
         // SAFETY: `count` is a place of its own.
@@ -150,6 +156,16 @@ impl Machine {
     /// The function at an index, from 0 on, in the order of paths. Where regions and windows stand, and by which number
     /// it is reached, is told as the board's own registers have it; who has it, as it is after the last move. It changes
     /// nothing. 902: there is no such function.
+    ///
+    /// ```
+    /// # const BOARD: &str = include_str!("board.toml");
+    /// let mut machine = pciguest::Machine::new(BOARD)?;
+    /// let function = machine.function(0)?;
+    /// assert_eq!((function.bus, function.device, function.function), (0, 1, 0));
+    /// assert!(!function.is_bridge());
+    /// assert_eq!(machine.function(1).unwrap_err().to_string(), "902 argument");
+    /// # Ok::<(), pciguest::Error>(())
+    /// ```
     pub fn function(&mut self, index: usize) -> Result<Function, Error> {
         let mut told = raw::Function::default();
         // SAFETY: `told` is a place of its own.
@@ -181,6 +197,15 @@ impl Machine {
     /// # Errors
     ///
     /// 303: the slot is above 31. 601: the slot is empty. 902: there is no such guest.
+    ///
+    /// ```
+    /// # const BOARD: &str = include_str!("board.toml");
+    /// let mut machine = pciguest::Machine::new(BOARD)?;
+    /// let a = machine.guest("a")?;
+    /// assert_eq!(machine.slot_function(a, 0)?.path, "1.0");
+    /// assert_eq!(machine.slot_function(a, 1).unwrap_err().to_string(), "601 empty slot");
+    /// # Ok::<(), pciguest::Error>(())
+    /// ```
     pub fn slot_function(&mut self, guest: Guest, slot: u64) -> Result<Function, Error> {
         let mut told = raw::Function::default();
         // SAFETY: `told` is a place of its own.

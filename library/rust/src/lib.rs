@@ -2,8 +2,8 @@
 //! calls of Rust.
 //!
 //! A [`Machine`] is a board that is set up from a board file, with its guests. Each access, raise, move or line of a
-//! script is a call on it. A [`Board`] is one that firmware of one's own drives, from reset on. `docs/FORMATS.md` explains board files, lines and numbers, and `docs/LIBRARY.md` what is
-//! proved of the calls; this crate itself is tested.
+//! script is a call on it. A [`Board`] is one that firmware of one's own drives, from reset on. `docs/FORMATS.md` explains
+//! board files, lines and numbers, and `docs/LIBRARY.md` what is proved of the calls; this crate itself is tested.
 //!
 //! ```
 //! use pciguest::{At, HostAt, Machine};

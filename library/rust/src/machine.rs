@@ -69,6 +69,14 @@ impl Machine {
     }
 
     /// The guest of a name. 902: no guest has this name.
+    ///
+    /// ```
+    /// # const BOARD: &str = include_str!("board.toml");
+    /// let mut machine = pciguest::Machine::new(BOARD)?;
+    /// assert_eq!(machine.guest("a")?.index(), 0);
+    /// assert_eq!(machine.guest("nobody").unwrap_err().to_string(), "902 argument");
+    /// # Ok::<(), pciguest::Error>(())
+    /// ```
     pub fn guest(&mut self, name: &str) -> Result<Guest, Error> {
         let mut guest = 0;
         // SAFETY: `name` has as many bytes as is said, and nothing overlaps.
@@ -85,6 +93,18 @@ impl Machine {
     ///
     /// 302: the width is not 1, 2 or 4. 301: the place is no multiple of it. 303: the slot, offset or port is out of
     /// range. 902: there is no such guest.
+    ///
+    /// ```
+    /// # const BOARD: &str = include_str!("board.toml");
+    /// use pciguest::{At, Machine};
+    ///
+    /// let mut machine = Machine::new(BOARD)?;
+    /// let a = machine.guest("a")?;
+    /// assert_eq!(machine.read(a, At::Config { slot: 0, offset: 0 }, 4)?, 0x0001_1234);
+    /// assert_eq!(machine.read(a, At::Memory { address: 0x8000_0000 }, 2)?, 0xffff); // nothing answers
+    /// assert_eq!(machine.read(a, At::Io { port: 1 }, 4).unwrap_err().to_string(), "301 misaligned");
+    /// # Ok::<(), pciguest::Error>(())
+    /// ```
     pub fn read(&mut self, guest: Guest, at: At, width: u32) -> Result<u32, Error> {
         let (space, slot, place) = at.parts();
         let mut value = 0;
@@ -141,6 +161,20 @@ impl Machine {
     ///
     /// 303: the slot is above 31, or the function has no such byte. 601: the slot is empty. 902: there is no such
     /// guest, or the region is above 5.
+    ///
+    /// ```
+    /// # const BOARD: &str = include_str!("board.toml");
+    /// use pciguest::{At, Machine, Part};
+    ///
+    /// let mut machine = Machine::new(BOARD)?;
+    /// let a = machine.guest("a")?;
+    /// let status = At::Config { slot: 0, offset: 6 };
+    /// machine.raise(a, 0, Part::Config, 7, 0x08)?; // signaled target abort
+    /// assert_eq!(machine.read(a, status, 2)?, 0x0800);
+    /// machine.write(a, status, 2, 0x0800)?; // its driver clears it by writing a one
+    /// assert_eq!(machine.read(a, status, 2)?, 0);
+    /// # Ok::<(), pciguest::Error>(())
+    /// ```
     pub fn raise(
         &mut self,
         guest: Guest,
@@ -164,6 +198,18 @@ impl Machine {
 
     /// Reads 1, 2 or 4 bytes as the host: what the board shows at a physical number, port or address. It changes
     /// nothing. Refused as a read of a guest is; 902: a device above 31, or a function above 7.
+    ///
+    /// ```
+    /// # const BOARD: &str = include_str!("board.toml");
+    /// use pciguest::{HostAt, Machine};
+    ///
+    /// let mut machine = Machine::new(BOARD)?;
+    /// let identity = |device| HostAt::Config { bus: 0, device, function: 0, offset: 0 };
+    /// assert_eq!(machine.host_read(identity(1), 4)?, 0x0001_1234);
+    /// assert_eq!(machine.host_read(identity(2), 4)?, 0xffff_ffff); // nobody
+    /// assert_eq!(machine.host_read(identity(32), 4).unwrap_err().to_string(), "902 argument");
+    /// # Ok::<(), pciguest::Error>(())
+    /// ```
     pub fn host_read(&mut self, at: HostAt, width: u32) -> Result<u32, Error> {
         let (space, bus, device, function, place) = at.parts();
         let mut value = 0;
@@ -190,6 +236,18 @@ impl Machine {
     ///
     /// 303: a slot is above 31. 601: the slot that it leaves is empty. 602: the slot that it comes to is taken. 902:
     /// there is no such guest.
+    ///
+    /// ```
+    /// # const BOARD: &str = include_str!("board.toml");
+    /// use pciguest::{At, Machine};
+    ///
+    /// let mut machine = Machine::new(BOARD)?;
+    /// let a = machine.guest("a")?;
+    /// machine.move_function(a, 0, a, 7)?;
+    /// assert_eq!(machine.read(a, At::Config { slot: 7, offset: 0 }, 4)?, 0x0001_1234);
+    /// assert_eq!(machine.move_function(a, 0, a, 1).unwrap_err().to_string(), "601 empty slot");
+    /// # Ok::<(), pciguest::Error>(())
+    /// ```
     pub fn move_function(
         &mut self,
         from: Guest,
@@ -208,6 +266,19 @@ impl Machine {
     /// # Errors
     ///
     /// 303: the slot is above 31. 601: the slot is empty. 902: there is no such guest.
+    ///
+    /// ```
+    /// # const BOARD: &str = include_str!("board.toml");
+    /// use pciguest::{At, Machine};
+    ///
+    /// let mut machine = Machine::new(BOARD)?;
+    /// let a = machine.guest("a")?;
+    /// let command = At::Config { slot: 0, offset: 4 };
+    /// machine.write(a, command, 2, 2)?;
+    /// machine.reset(a, 0)?;
+    /// assert_eq!(machine.read(a, command, 2)?, 0);
+    /// # Ok::<(), pciguest::Error>(())
+    /// ```
     pub fn reset(&mut self, guest: Guest, slot: u64) -> Result<(), Error> {
         // SAFETY: no pointer but the handle is passed.
         answered(unsafe { raw::pciguest_raw_reset(&mut self.handle, guest.index(), slot) })
@@ -246,6 +317,18 @@ impl Machine {
 
     /// Takes the function in a guest's slot from this guest: the slot is then empty, and no guest has the function,
     /// which is at reset on the board, but for what guests have copies of. Refused as a reset is.
+    ///
+    /// ```
+    /// # const BOARD: &str = include_str!("board.toml");
+    /// use pciguest::{At, Machine};
+    ///
+    /// let mut machine = Machine::new(BOARD)?;
+    /// let a = machine.guest("a")?;
+    /// machine.take(a, 0)?;
+    /// assert_eq!(machine.read(a, At::Config { slot: 0, offset: 0 }, 4)?, 0xffff_ffff); // nobody
+    /// assert_eq!(machine.take(a, 0).unwrap_err().to_string(), "601 empty slot");
+    /// # Ok::<(), pciguest::Error>(())
+    /// ```
     pub fn take(&mut self, guest: Guest, slot: u64) -> Result<(), Error> {
         // SAFETY: no pointer but the handle is passed.
         answered(unsafe { raw::pciguest_raw_take(&mut self.handle, guest.index(), slot) })
@@ -259,6 +342,17 @@ impl Machine {
     ///
     /// 303: the slot is above 31, or the device has no such byte. 601: the slot is empty. 902: there is no such
     /// guest, or the region is above 5.
+    ///
+    /// ```
+    /// # const BOARD: &str = include_str!("board.toml");
+    /// use pciguest::{Machine, Part};
+    ///
+    /// let mut machine = Machine::new(BOARD)?;
+    /// let a = machine.guest("a")?;
+    /// assert_eq!(machine.device_read(a, 0, Part::Region(0), 8)?, 0);
+    /// assert_eq!(machine.device_read(a, 0, Part::Config, 4).unwrap_err().to_string(), "303 range"); // the guest's own
+    /// # Ok::<(), pciguest::Error>(())
+    /// ```
     pub fn device_read(
         &mut self,
         guest: Guest,
@@ -283,6 +377,17 @@ impl Machine {
 
     /// Writes such a byte as its device does: it takes the value, whatever a guest's writes may change of it, and
     /// what they may change of it stays. Where no register is, nothing changes. Refused as a read is.
+    ///
+    /// ```
+    /// # const BOARD: &str = include_str!("board.toml");
+    /// use pciguest::{Machine, Part};
+    ///
+    /// let mut machine = Machine::new(BOARD)?;
+    /// let a = machine.guest("a")?;
+    /// machine.device_write(a, 0, Part::Region(0), 8, 0x5a)?;
+    /// assert_eq!(machine.device_read(a, 0, Part::Region(0), 8)?, 0x5a);
+    /// # Ok::<(), pciguest::Error>(())
+    /// ```
     pub fn device_write(
         &mut self,
         guest: Guest,

@@ -10,6 +10,16 @@ pub struct Guest(usize);
 impl Guest {
     /// The guest of an index: guests stand in the order of the board file, from 0 on. A call with an index that no
     /// guest has is refused by 902.
+    ///
+    /// ```
+    /// # const BOARD: &str = include_str!("board.toml");
+    /// use pciguest::{Guest, Machine};
+    ///
+    /// let mut machine = Machine::new(BOARD)?;
+    /// assert_eq!(machine.guest("a")?, Guest::of_index(0));
+    /// assert_eq!(machine.changed(Guest::of_index(1)).unwrap_err().to_string(), "902 argument");
+    /// # Ok::<(), pciguest::Error>(())
+    /// ```
     pub fn of_index(index: usize) -> Guest {
         Guest(index)
     }

@@ -1,0 +1,24 @@
+# Completion of the words of pciguest for fish. It is installed as share/fish/vendor_completions.d/pciguest.fish.
+function __pciguest_board
+    set -l words (commandline -opc)
+    switch (count $words)
+        case 2
+            contains -- $words[2] audit check firmware list run
+        case 3
+            test "$words[2] $words[3]" = 'check --plain'
+        case '*'
+            false
+    end
+end
+
+set -l first 'test (count (commandline -opc)) = 1'
+complete -c pciguest -f
+complete -c pciguest -n $first -a audit -d 'Run firmware, and then say what is wrong in the registers of a board'
+complete -c pciguest -n $first -a check -d 'Say what is wrong with a board file, or that its board fits'
+complete -c pciguest -n $first -a demo -d 'Run a script over the demo board'
+complete -c pciguest -n $first -a firmware -d 'Run firmware over a board at reset'
+complete -c pciguest -n $first -a list -d 'Set up a board, and report it'
+complete -c pciguest -n $first -a run -d 'Run a script over a board'
+complete -c pciguest -n $first -l help -s h -d 'Print help'
+complete -c pciguest -n '__pciguest_board; and test (commandline -opc)[-1] = check' -l plain -d 'Leave the lines of the file out'
+complete -c pciguest -n __pciguest_board -a '(__fish_complete_suffix .toml)'
