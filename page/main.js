@@ -67,10 +67,10 @@ function draw() {
   addresses.draw(functions, apertures, owners, marks);
 }
 
-// Numbers the lines of the editor, and marks those of which a check tells.
-function number_lines(told) {
+// Numbers the lines of the editor, and marks those of which a check tells: what is wrong, and what it warns of.
+function number_lines(wrong, warned) {
   const lines = part.board.value.split('\n').map((_, nth) => nth + 1);
-  part.numbers.innerHTML = lines.map(line => (told.has(line) ? `<b>${line}</b>` : line)).join('\n');
+  part.numbers.innerHTML = lines.map(line => (wrong.has(line) ? `<b>${line}</b>` : warned.has(line) ? `<i>${line}</i>` : line)).join('\n');
   part.numbers.scrollTop = part.board.scrollTop;
 }
 
@@ -84,18 +84,23 @@ function go_to(line) {
   part.board.scrollTop = (line - 1) * height - part.board.clientHeight / 2;
 }
 
-// What a check says, line by line; one that names a line of the file leads there.
+// What a check says, line by line; one that names a line of the file leads there. Firmware is told no warnings: they speak of
+// what set-up makes of the file.
 function tell_check(text) {
-  const said = text.split('\n').filter(one => one !== '' && one !== 'ok');
-  const told = new Map(said.map(one => [one, Number(/^board\.toml:(\d+): /.exec(one)?.[1] ?? 0)]));
-  part.check.replaceChildren(...said.map(one => {
-    const line = told.get(one), item = document.createElement('li');
+  const told = text.split('\n').filter(one => one !== '' && one !== 'ok').map(one => {
+    const [, line, warning] = /^board\.toml:(\d+): (warning: )?/.exec(one) ?? [];
+    return { one, line: Number(line ?? 0), warns: warning !== undefined };
+  }).filter(({ warns }) => !warns || as !== 'firmware');
+  part.check.replaceChildren(...told.map(({ one, line, warns }) => {
+    const item = document.createElement('li');
     const shown = Object.assign(document.createElement(line === 0 ? 'span' : 'button'), { textContent: one });
     if (line !== 0) { shown.type = 'button'; shown.addEventListener('click', () => go_to(line)); }
+    item.classList.toggle('warns', warns);
     item.append(shown);
     return item;
   }));
-  number_lines(new Set(told.values()));
+  const lines_of = what => new Set(told.filter(({ warns }) => warns === what).map(({ line }) => line));
+  number_lines(lines_of(false), lines_of(true));
 }
 
 // A line that works on this board, if it was taken.
