@@ -1,15 +1,9 @@
 /* pciguest: a PCI board, its firmware and the monitor that gives its functions to guests.
  *
- * docs/LIBRARY.md says how to build and use the library, and what is proved of it. Every call answers 0, or the
- * number of a refusal, but for pciguest_piece and pciguest_ends_within, which only compute. A call that answers a
- * number other than 0 changed nothing and stored nothing, but for a length that tells how much room a text needs,
- * and for the text of pciguest_check.
- *
- *   101 to 112  the board file is refused           199, 299  out of memory
- *   201 to 205  the board can't be set up           301 302 303 601 602  an access, a move or a gift is refused
- *   901  the handle holds no machine, or no board   902  an argument   903  the handle holds one already
- *   904  a write was done on the board since reset
- *   206  a region of a given function is closed     207  the board doesn't pass its audit
+ * docs/LIBRARY.md says how to build and use the library, and what is proved of it. Every call answers 0, or the number of
+ * a refusal (enum pciguest_status), but for pciguest_version and pciguest_strerror, and pciguest_piece and
+ * pciguest_ends_within, which only compute. A call that answers a number other than 0 changed nothing and stored nothing,
+ * but for a length that tells how much room a text needs, and for the text of pciguest_check.
  */
 #ifndef PCIGUEST_H
 #define PCIGUEST_H
@@ -21,6 +15,12 @@
 /* The version of this header and of the library beside it, as a text and as a number that grows. */
 #define PCIGUEST_VERSION "0.4.0"
 #define PCIGUEST_VERSION_NUMBER 400 /* 10000 * major + 100 * minor + patch */
+
+/* What stands before each call that has its body here. The library has the same calls, compiled from here, under the same
+ * names, for those who load it or call it from another language. */
+#ifndef PCIGUEST_CALL
+#define PCIGUEST_CALL static inline
+#endif
 
 #ifdef __cplusplus
 extern "C" {
@@ -50,8 +50,9 @@ struct pciguest_board {
  * a memory address. */
 enum pciguest_space { PCIGUEST_CONFIG = 0, PCIGUEST_IO = 1, PCIGUEST_MEMORY = 2 };
 
-/* Where a raise goes, or a device's own access, that is not in a region: regions are told by base address register, 0 to 5. */
-enum { PCIGUEST_RAISE_CONFIG = 6 };
+/* The part of a function where a raise goes, or a device's own access, that is not in a region: regions are told by base
+ * address register, 0 to 5. */
+enum pciguest_part { PCIGUEST_RAISE_CONFIG = 6 };
 
 /* Where a region of a guest's function stands now, by the guest's own registers. It takes `size` addresses of its space
  * from `first` on, and answers there where `is_open` is 1. */
@@ -119,7 +120,61 @@ struct pciguest_function {
  * needs. */
 enum { PCIGUEST_REPLY = 48, PCIGUEST_WORDS = 20 };
 
-enum { PCIGUEST_NO_MACHINE = 901, PCIGUEST_ARGUMENT = 902, PCIGUEST_IN_USE = 903, PCIGUEST_NOT_AT_RESET = 904 };
+/* What a call answers, each with its words; docs/FORMATS.md says what each means. 101 to 112: the board file is refused.
+ * 201 to 205: the board can't be set up. 206, 207: a board or a function can't be given to guests. 301 to 303: an access or
+ * a path is refused. 601, 602: a slot is empty that must not be, or is taken. */
+enum pciguest_status {
+    PCIGUEST_OK = 0,
+    PCIGUEST_NOT_TOML = 101,          /* not TOML */
+    PCIGUEST_BAD_KEY = 102,           /* key */
+    PCIGUEST_UNKNOWN_KEY = 103,       /* unknown key */
+    PCIGUEST_BAD_NUMBER = 104,        /* number */
+    PCIGUEST_BAD_PLACE = 105,         /* place */
+    PCIGUEST_BAD_REGISTER = 106,      /* register */
+    PCIGUEST_BAD_SIZE = 107,          /* size */
+    PCIGUEST_TOO_MANY = 108,          /* too many */
+    PCIGUEST_BAD_GUEST_NAME = 109,    /* guest name */
+    PCIGUEST_BAD_SLOT = 110,          /* slot */
+    PCIGUEST_BAD_APERTURE = 111,      /* aperture */
+    PCIGUEST_BAD_CELL_MASKS = 112,    /* cell masks */
+    PCIGUEST_FILE_MEMORY = 199,       /* memory */
+    PCIGUEST_TOO_MANY_BUSES = 201,    /* buses */
+    PCIGUEST_NO_IO_WINDOW = 202,      /* no I/O window */
+    PCIGUEST_IO_POOL = 203,           /* I/O pool */
+    PCIGUEST_MEMORY_POOL = 204,       /* memory pool */
+    PCIGUEST_PREFETCHABLE_POOL = 205, /* prefetchable pool */
+    PCIGUEST_CLOSED_REGION = 206,     /* closed region */
+    PCIGUEST_NOT_IN_ORDER = 207,      /* not in order */
+    PCIGUEST_OUT_OF_MEMORY = 299,     /* memory */
+    PCIGUEST_MISALIGNED = 301,        /* misaligned */
+    PCIGUEST_BAD_WIDTH = 302,         /* width */
+    PCIGUEST_OUT_OF_RANGE = 303,      /* range */
+    PCIGUEST_EMPTY_SLOT = 601,        /* empty slot */
+    PCIGUEST_SLOT_TAKEN = 602,        /* slot taken */
+    PCIGUEST_NO_MACHINE = 901,        /* no machine */
+    PCIGUEST_ARGUMENT = 902,          /* argument */
+    PCIGUEST_IN_USE = 903,            /* in use */
+    PCIGUEST_NOT_AT_RESET = 904,      /* not at reset */
+};
+
+/* Numbers that no call answers: 401 to 403 stand in replies to lines, and the others in the program's last line. */
+enum pciguest_told {
+    PCIGUEST_BAD_LINE = 401,      /* bad line */
+    PCIGUEST_UNKNOWN_GUEST = 402, /* unknown guest */
+    PCIGUEST_LONG_LINE = 403,     /* long line */
+    PCIGUEST_READ_FAILED = 501,   /* read failed */
+    PCIGUEST_WRITE_FAILED = 502,  /* write failed */
+    PCIGUEST_USAGE = 701,         /* usage */
+    PCIGUEST_BOARD_FILE = 702,    /* board file */
+    PCIGUEST_WORD_MEMORY = 799,   /* memory */
+};
+
+/* The version of the library that is linked or loaded, as PCIGUEST_VERSION_NUMBER has that of the header. */
+uint32_t pciguest_version(void);
+
+/* The words of a number, as pciguest_words has them, as a text that ends with a 0 and stays as long as the library is
+ * loaded. A number that stands for nothing, as 0, has the empty text. */
+const char *pciguest_strerror(uint32_t number);
 
 /* The calls of the library itself. They take no null pointer, and a line without its line feed; those below, which see
  * to both, are the ones to use. */
@@ -171,7 +226,7 @@ uint32_t pciguest_raw_board_guests(struct pciguest_board *board, struct pciguest
 /* Sets up the board of a board file, given as its bytes, and gives its functions to the guests of the file.
  * 0: the machine holds the world that the file declares, before any access. Otherwise the number of the first
  * check that the file or its board fails, 199 or 299 out of memory, or 903. */
-static inline uint32_t pciguest_new(struct pciguest *machine, const void *board, size_t length)
+PCIGUEST_CALL uint32_t pciguest_new(struct pciguest *machine, const void *board, size_t length)
 {
     if (!machine || (!board && length))
         return PCIGUEST_ARGUMENT;
@@ -180,7 +235,7 @@ static inline uint32_t pciguest_new(struct pciguest *machine, const void *board,
 
 /* Frees the machine. The struct then holds none, and may be used for a new one. Where it held none, nothing
  * happens. */
-static inline void pciguest_free(struct pciguest *machine)
+PCIGUEST_CALL void pciguest_free(struct pciguest *machine)
 {
     if (machine)
         pciguest_raw_free(machine);
@@ -188,7 +243,7 @@ static inline void pciguest_free(struct pciguest *machine)
 
 /* The index of the guest of a name, as the calls below take it: guests stand in the order of the board file,
  * from 0 on. 902: no guest has this name. */
-static inline uint32_t pciguest_guest(struct pciguest *machine, const char *name, size_t length, size_t *guest)
+PCIGUEST_CALL uint32_t pciguest_guest(struct pciguest *machine, const char *name, size_t length, size_t *guest)
 {
     if (!machine || (!name && length) || !guest)
         return PCIGUEST_ARGUMENT;
@@ -200,7 +255,7 @@ static inline uint32_t pciguest_guest(struct pciguest *machine, const char *name
  * changes nothing. The slot is looked at for configuration space alone.
  * 302: the width is not 1, 2 or 4. 301: the place is no multiple of it. 303: the slot, offset or port is out of
  * range. 902: there is no such guest or space. */
-static inline uint32_t pciguest_read(struct pciguest *machine, size_t guest, uint32_t space, uint64_t slot,
+PCIGUEST_CALL uint32_t pciguest_read(struct pciguest *machine, size_t guest, uint32_t space, uint64_t slot,
                                      uint64_t place, uint32_t width, uint32_t *value)
 {
     if (!machine || !value)
@@ -209,7 +264,7 @@ static inline uint32_t pciguest_read(struct pciguest *machine, size_t guest, uin
 }
 
 /* Writes the low bytes of a value as a guest, as many as it is wide. No other guest can tell. Numbers as above. */
-static inline uint32_t pciguest_write(struct pciguest *machine, size_t guest, uint32_t space, uint64_t slot,
+PCIGUEST_CALL uint32_t pciguest_write(struct pciguest *machine, size_t guest, uint32_t space, uint64_t slot,
                                       uint64_t place, uint32_t width, uint32_t value)
 {
     if (!machine)
@@ -219,13 +274,13 @@ static inline uint32_t pciguest_write(struct pciguest *machine, size_t guest, ui
 
 /* How many bytes the first lawful piece of an access has, with that many bytes left of it from a place on: 4, 2 or 1,
  * the most that stand at a multiple of their number. */
-static inline uint32_t pciguest_piece(uint64_t place, uint32_t left)
+PCIGUEST_CALL uint32_t pciguest_piece(uint64_t place, uint32_t left)
 {
     return place % 4 == 0 && left >= 4 ? 4 : place % 2 == 0 && left >= 2 ? 2 : 1;
 }
 
 /* Whether an access of 1 to 8 bytes ends where its space does, or before. */
-static inline bool pciguest_ends_within(uint32_t space, uint64_t place, uint32_t width)
+PCIGUEST_CALL bool pciguest_ends_within(uint32_t space, uint64_t place, uint32_t width)
 {
     uint64_t last = space == PCIGUEST_CONFIG ? 0xff : space == PCIGUEST_IO ? 0xffff : UINT64_MAX;
 
@@ -236,7 +291,7 @@ static inline bool pciguest_ends_within(uint32_t space, uint64_t place, uint32_t
  * split as a bridge does, into the lawful pieces that pciguest_piece tells, in the order of addresses, and the byte at
  * the lowest address is the lowest of the value. 302: the width is not 1 to 8. 303: the slot is out of range, or the
  * access ends past its space. Other numbers as above. */
-static inline uint32_t pciguest_read_wide(struct pciguest *machine, size_t guest, uint32_t space, uint64_t slot,
+PCIGUEST_CALL uint32_t pciguest_read_wide(struct pciguest *machine, size_t guest, uint32_t space, uint64_t slot,
                                           uint64_t place, uint32_t width, uint64_t *value)
 {
     uint64_t all = 0;
@@ -245,9 +300,9 @@ static inline uint32_t pciguest_read_wide(struct pciguest *machine, size_t guest
     if (!machine || !value)
         return PCIGUEST_ARGUMENT;
     if (width < 1 || width > 8)
-        return 302;
+        return PCIGUEST_BAD_WIDTH;
     if (!pciguest_ends_within(space, place, width))
-        return 303;
+        return PCIGUEST_OUT_OF_RANGE;
     while (done < width) {
         uint32_t size = pciguest_piece(place + done, width - done), part = 0;
         uint32_t number = pciguest_read(machine, guest, space, slot, place + done, size, &part);
@@ -261,7 +316,7 @@ static inline uint32_t pciguest_read_wide(struct pciguest *machine, size_t guest
 }
 
 /* Writes so the low bytes of a value, as many as it is wide. */
-static inline uint32_t pciguest_write_wide(struct pciguest *machine, size_t guest, uint32_t space, uint64_t slot,
+PCIGUEST_CALL uint32_t pciguest_write_wide(struct pciguest *machine, size_t guest, uint32_t space, uint64_t slot,
                                            uint64_t place, uint32_t width, uint64_t value)
 {
     uint32_t done = 0;
@@ -269,9 +324,9 @@ static inline uint32_t pciguest_write_wide(struct pciguest *machine, size_t gues
     if (!machine)
         return PCIGUEST_ARGUMENT;
     if (width < 1 || width > 8)
-        return 302;
+        return PCIGUEST_BAD_WIDTH;
     if (!pciguest_ends_within(space, place, width))
-        return 303;
+        return PCIGUEST_OUT_OF_RANGE;
     while (done < width) {
         uint32_t size = pciguest_piece(place + done, width - done);
         uint32_t number = pciguest_write(machine, guest, space, slot, place + done, size, (uint32_t)(value >> 8 * done));
@@ -285,7 +340,7 @@ static inline uint32_t pciguest_write_wide(struct pciguest *machine, size_t gues
 /* Sets bits of one byte of the function in a guest's slot, as its device does. 303: the slot is above 31, or the
  * function has no such byte. 601: the slot is empty. 902: there is no such guest, or the part is above 6. A raise that
  * is refused changes nothing. */
-static inline uint32_t pciguest_raise(struct pciguest *machine, size_t guest, uint64_t slot, uint32_t part,
+PCIGUEST_CALL uint32_t pciguest_raise(struct pciguest *machine, size_t guest, uint64_t slot, uint32_t part,
                                       uint64_t offset, uint8_t mask)
 {
     if (!machine)
@@ -295,7 +350,7 @@ static inline uint32_t pciguest_raise(struct pciguest *machine, size_t guest, ui
 
 /* Reads as the host: what the board shows at a physical number, port or address. It changes nothing. Numbers as for
  * pciguest_read; 902 for a device above 31 or a function above 7 too. */
-static inline uint32_t pciguest_host_read(struct pciguest *machine, uint32_t space, uint8_t bus, uint8_t device,
+PCIGUEST_CALL uint32_t pciguest_host_read(struct pciguest *machine, uint32_t space, uint8_t bus, uint8_t device,
                                           uint8_t function, uint64_t place, uint32_t width, uint32_t *value)
 {
     if (!machine || !value)
@@ -306,7 +361,7 @@ static inline uint32_t pciguest_host_read(struct pciguest *machine, uint32_t spa
 /* Moves the function in a slot of a guest to a slot of another, or of the same. Nothing is carried over: the function
  * is then at reset. 303: a slot is above 31. 601: the slot that it leaves is empty. 602: the slot that it comes to
  * is taken. 902: there is no such guest. */
-static inline uint32_t pciguest_move(struct pciguest *machine, size_t from, uint64_t slot, size_t to, uint64_t target)
+PCIGUEST_CALL uint32_t pciguest_move(struct pciguest *machine, size_t from, uint64_t slot, size_t to, uint64_t target)
 {
     if (!machine)
         return PCIGUEST_ARGUMENT;
@@ -316,7 +371,7 @@ static inline uint32_t pciguest_move(struct pciguest *machine, size_t from, uint
 /* Resets the function in a guest's slot, where it is: nothing is carried over, as in a move. It has no line of a script;
  * two moves do the same, to an empty slot and back. 303: the slot is above 31. 601: the slot is empty. 902: there is no
  * such guest. */
-static inline uint32_t pciguest_reset(struct pciguest *machine, size_t guest, uint64_t slot)
+PCIGUEST_CALL uint32_t pciguest_reset(struct pciguest *machine, size_t guest, uint64_t slot)
 {
     if (!machine)
         return PCIGUEST_ARGUMENT;
@@ -327,7 +382,7 @@ static inline uint32_t pciguest_reset(struct pciguest *machine, size_t guest, ui
  * reset, on the board but for what guests have copies of. Its path is a text, as board files and pciguest_function have
  * it. 303: the slot is above 31, or no endpoint stands at the path. 602: a guest has the function, or the slot is taken.
  * 206: one of its regions is closed. 902: there is no such guest. No line of a script says it. */
-static inline uint32_t pciguest_give(struct pciguest *machine, const char *path, size_t length, size_t guest,
+PCIGUEST_CALL uint32_t pciguest_give(struct pciguest *machine, const char *path, size_t length, size_t guest,
                                      uint64_t slot)
 {
     if (!machine || (!path && length))
@@ -338,7 +393,7 @@ static inline uint32_t pciguest_give(struct pciguest *machine, const char *path,
 /* Takes the function in a guest's slot from this guest: the slot is then empty, and no guest has the function, which is
  * at reset on the board, but for what guests have copies of. Numbers as for pciguest_reset. No line of a
  * script says it. */
-static inline uint32_t pciguest_take(struct pciguest *machine, size_t guest, uint64_t slot)
+PCIGUEST_CALL uint32_t pciguest_take(struct pciguest *machine, size_t guest, uint64_t slot)
 {
     if (!machine)
         return PCIGUEST_ARGUMENT;
@@ -349,7 +404,7 @@ static inline uint32_t pciguest_take(struct pciguest *machine, size_t guest, uin
  * bytes of Status (06h, 07h) and the device's own registers (40h to FFh). A byte that has no register reads 0. It
  * changes nothing. 303: the slot is above 31, or the device has no such byte. 601: the slot is empty. 902: there is no
  * such guest, or the part is above 6. */
-static inline uint32_t pciguest_device_read(struct pciguest *machine, size_t guest, uint64_t slot, uint32_t part,
+PCIGUEST_CALL uint32_t pciguest_device_read(struct pciguest *machine, size_t guest, uint64_t slot, uint32_t part,
                                             uint64_t offset, uint32_t *value)
 {
     if (!machine || !value)
@@ -359,7 +414,7 @@ static inline uint32_t pciguest_device_read(struct pciguest *machine, size_t gue
 
 /* Writes such a byte as its device does: it takes the value, whatever a guest's writes may change of it, and what they
  * may change of it stays. Where no register is, nothing changes. Numbers as above. It has no line of a script. */
-static inline uint32_t pciguest_device_write(struct pciguest *machine, size_t guest, uint64_t slot, uint32_t part,
+PCIGUEST_CALL uint32_t pciguest_device_write(struct pciguest *machine, size_t guest, uint64_t slot, uint32_t part,
                                              uint64_t offset, uint8_t value)
 {
     if (!machine)
@@ -369,9 +424,10 @@ static inline uint32_t pciguest_device_write(struct pciguest *machine, size_t gu
 
 /* Where the region that begins at a base address register, 0 to 5, stands now, in the guest's own view. It takes no
  * memory and changes nothing. The answer stays until the guest writes Command or a base address register of this
- * function, or it is moved, reset or taken: while pciguest_changed tells the same, no answer for this guest changes. 303: the slot is above 31, or no region begins at this register. 601:
- * the slot is empty. 902: there is no such guest. */
-static inline uint32_t pciguest_region(struct pciguest *machine, size_t guest, uint64_t slot, uint32_t bar,
+ * function, or it is moved, reset or taken: while pciguest_changed tells the same, no answer for this guest changes.
+ * 303: the slot is above 31, or no region begins at this register. 601: the slot is empty. 902: there is no such
+ * guest. */
+PCIGUEST_CALL uint32_t pciguest_region(struct pciguest *machine, size_t guest, uint64_t slot, uint32_t bar,
                                        struct pciguest_region *region)
 {
     if (!machine || !region)
@@ -383,7 +439,7 @@ static inline uint32_t pciguest_region(struct pciguest *machine, size_t guest, u
  * of its slots so that an answer of pciguest_region for it may be another one: while the count stays, each of these
  * answers stays, for all slots and registers. Nothing else makes it grow. It is 0 in a machine that was made just now,
  * and goes on from 0 after 2^64 - 1. It takes no memory and changes nothing. 902: there is no such guest. */
-static inline uint32_t pciguest_changed(struct pciguest *machine, size_t guest, uint64_t *count)
+PCIGUEST_CALL uint32_t pciguest_changed(struct pciguest *machine, size_t guest, uint64_t *count)
 {
     if (!machine || !count)
         return PCIGUEST_ARGUMENT;
@@ -393,7 +449,7 @@ static inline uint32_t pciguest_changed(struct pciguest *machine, size_t guest, 
 /* What an access of the guest at a place hits, as pciguest_read and pciguest_write take the place: a byte of a function
  * in one of its slots, or nothing. It takes no memory and changes nothing. Every access there begins at this byte, but
  * for four bytes at port CF8h, which are the guest's own CONFIG_ADDRESS. Numbers as for a read of one byte there. */
-static inline uint32_t pciguest_locate(struct pciguest *machine, size_t guest, uint32_t space, uint64_t slot,
+PCIGUEST_CALL uint32_t pciguest_locate(struct pciguest *machine, size_t guest, uint32_t space, uint64_t slot,
                                        uint64_t place, struct pciguest_hit *hit)
 {
     if (!machine || !hit)
@@ -402,7 +458,7 @@ static inline uint32_t pciguest_locate(struct pciguest *machine, size_t guest, u
 }
 
 /* How many functions the board has, endpoints and bridges. */
-static inline uint32_t pciguest_count(struct pciguest *machine, size_t *count)
+PCIGUEST_CALL uint32_t pciguest_count(struct pciguest *machine, size_t *count)
 {
     if (!machine || !count)
         return PCIGUEST_ARGUMENT;
@@ -413,7 +469,7 @@ static inline uint32_t pciguest_count(struct pciguest *machine, size_t *count)
  * what is behind it. Where regions and windows stand, and by which number it is reached, is told as the board's own
  * registers have it, which no guest writes; who has it, as it is after the last move. It takes no memory and changes
  * nothing. 902: there is no such function. */
-static inline uint32_t pciguest_function(struct pciguest *machine, size_t index, struct pciguest_function *function)
+PCIGUEST_CALL uint32_t pciguest_function(struct pciguest *machine, size_t index, struct pciguest_function *function)
 {
     if (!machine || !function)
         return PCIGUEST_ARGUMENT;
@@ -422,7 +478,7 @@ static inline uint32_t pciguest_function(struct pciguest *machine, size_t index,
 
 /* The same of the function in a slot of a guest. 303: the slot is above 31. 601: the slot is empty. 902: there is no
  * such guest. */
-static inline uint32_t pciguest_slot(struct pciguest *machine, size_t guest, uint64_t slot,
+PCIGUEST_CALL uint32_t pciguest_slot(struct pciguest *machine, size_t guest, uint64_t slot,
                                      struct pciguest_function *function)
 {
     if (!machine || !function)
@@ -434,7 +490,7 @@ static inline uint32_t pciguest_slot(struct pciguest *machine, size_t guest, uin
  * line with its line feed, or nothing for a blank line or a comment; it has no 0 at its end, and `written` tells its
  * length. A line that is refused is answered by its reply, and the call by 0. 902: there is less room than
  * PCIGUEST_REPLY. */
-static inline uint32_t pciguest_run_line(struct pciguest *machine, const char *line, size_t length, char *reply,
+PCIGUEST_CALL uint32_t pciguest_run_line(struct pciguest *machine, const char *line, size_t length, char *reply,
                                          size_t room, size_t *written)
 {
     if (!machine || (!line && length) || !reply || !written)
@@ -446,7 +502,7 @@ static inline uint32_t pciguest_run_line(struct pciguest *machine, const char *l
 
 /* Writes the report of a board file, as `pciguest list` does, and tells its length; it has no 0 at its end. 902: there
  * is less room than that, and nothing was written; other numbers as for pciguest_new. No machine is needed. */
-static inline uint32_t pciguest_report(const void *board, size_t length, char *text, size_t room, size_t *needed)
+PCIGUEST_CALL uint32_t pciguest_report(const void *board, size_t length, char *text, size_t room, size_t *needed)
 {
     uint8_t none;
     if ((!board && length) || (!text && room) || !needed)
@@ -459,7 +515,7 @@ static inline uint32_t pciguest_report(const void *board, size_t length, char *t
  * text's length; it has no 0 at its end. 0: the board fits. 101 to 112 or 201 to 205: the file or its board is refused,
  * and the text says why. 199 or 299: out of memory, and nothing was written or told. 902: there is less room than the
  * text needs, and nothing was written. No machine is needed. */
-static inline uint32_t pciguest_check(const void *board, size_t length, char *text, size_t room, size_t *needed)
+PCIGUEST_CALL uint32_t pciguest_check(const void *board, size_t length, char *text, size_t room, size_t *needed)
 {
     uint8_t none;
     if ((!board && length) || (!text && room) || !needed)
@@ -471,7 +527,7 @@ static inline uint32_t pciguest_check(const void *board, size_t length, char *te
 /* Writes the words of a number that a call answers, or that the program or a reply tells, and tells their length; they
  * have no 0 at their end. A number that stands for nothing, as 0, has no words, and length 0. 902: there is less room
  * than the words need, and nothing was written; PCIGUEST_WORDS is always enough. No machine is needed. */
-static inline uint32_t pciguest_words(uint32_t number, char *text, size_t room, size_t *needed)
+PCIGUEST_CALL uint32_t pciguest_words(uint32_t number, char *text, size_t room, size_t *needed)
 {
     uint8_t none;
     if ((!text && room) || !needed)
@@ -483,7 +539,7 @@ static inline uint32_t pciguest_words(uint32_t number, char *text, size_t room, 
  * address is given out, and every function is off. The guests of the file are checked, and no function is given to them.
  * 0: the struct holds the board. 101 to 112: the number of the first check that the file fails. 199: out of memory. 903:
  * the struct holds a board already. */
-static inline uint32_t pciguest_board_new(struct pciguest_board *board, const void *file, size_t length)
+PCIGUEST_CALL uint32_t pciguest_board_new(struct pciguest_board *board, const void *file, size_t length)
 {
     if (!board || (!file && length))
         return PCIGUEST_ARGUMENT;
@@ -491,7 +547,7 @@ static inline uint32_t pciguest_board_new(struct pciguest_board *board, const vo
 }
 
 /* Frees the board. The struct then holds none, and may be used for a new one. Where it held none, nothing happens. */
-static inline void pciguest_board_free(struct pciguest_board *board)
+PCIGUEST_CALL void pciguest_board_free(struct pciguest_board *board)
 {
     if (board)
         pciguest_raw_board_free(board);
@@ -503,7 +559,7 @@ static inline void pciguest_board_free(struct pciguest_board *board)
  * (CF8h); else a read changes nothing.
  * 302: the width is not 1, 2 or 4 bytes. 301: the place is no multiple of it. 303: the offset is above 255, or the port
  * above FFFFFFFFh. 902: there is no such space, the device is above 31, or the function above 7. */
-static inline uint32_t pciguest_board_read(struct pciguest_board *board, uint32_t space, uint8_t bus, uint8_t device,
+PCIGUEST_CALL uint32_t pciguest_board_read(struct pciguest_board *board, uint32_t space, uint8_t bus, uint8_t device,
                                            uint8_t function, uint64_t place, uint32_t width, uint32_t *value)
 {
     if (!board || !value)
@@ -513,7 +569,7 @@ static inline uint32_t pciguest_board_read(struct pciguest_board *board, uint32_
 
 /* Writes the low bytes of a value as firmware does, as many as it is wide; what nothing takes is dropped. A write of
  * configuration space by number leaves 0 in CONFIG_ADDRESS. Numbers as above. */
-static inline uint32_t pciguest_board_write(struct pciguest_board *board, uint32_t space, uint8_t bus, uint8_t device,
+PCIGUEST_CALL uint32_t pciguest_board_write(struct pciguest_board *board, uint32_t space, uint8_t bus, uint8_t device,
                                             uint8_t function, uint64_t place, uint32_t width, uint32_t value)
 {
     if (!board)
@@ -524,7 +580,7 @@ static inline uint32_t pciguest_board_write(struct pciguest_board *board, uint32
 /* Runs one line of firmware, as `pciguest firmware` does, with its line feed or without. `host audit` and `host guests`
  * are bad lines here: pciguest_board_audit and pciguest_board_guests do the same. The reply and 902 are as for
  * pciguest_run_line. */
-static inline uint32_t pciguest_board_run_line(struct pciguest_board *board, const char *line, size_t length,
+PCIGUEST_CALL uint32_t pciguest_board_run_line(struct pciguest_board *board, const char *line, size_t length,
                                                char *reply, size_t room, size_t *written)
 {
     if (!board || (!line && length) || !reply || !written)
@@ -540,7 +596,7 @@ static inline uint32_t pciguest_board_run_line(struct pciguest_board *board, con
  * address that two answer on one bus, or a function that no cycle finds. It tells the text's length, which has no 0 at its
  * end, and how many problems there are. The board stays as it is.
  * 902: there is less room than the text needs, whose length alone is told. 299: out of memory. */
-static inline uint32_t pciguest_board_audit(struct pciguest_board *board, char *text, size_t room, size_t *needed,
+PCIGUEST_CALL uint32_t pciguest_board_audit(struct pciguest_board *board, char *text, size_t room, size_t *needed,
                                             size_t *count)
 {
     uint8_t none;
@@ -553,7 +609,7 @@ static inline uint32_t pciguest_board_audit(struct pciguest_board *board, char *
  * the guests of its file: the machine is then the one that pciguest_new makes of the file. The board stays as it is.
  * 901: there is no board. 903: the struct of the machine holds one already. 904: a write was done on the board since
  * reset. 201 to 205: the board can't be set up. 199, 299: out of memory. The first of these that holds is answered. */
-static inline uint32_t pciguest_set_up(struct pciguest_board *board, struct pciguest *machine)
+PCIGUEST_CALL uint32_t pciguest_set_up(struct pciguest_board *board, struct pciguest *machine)
 {
     if (!board || !machine)
         return PCIGUEST_ARGUMENT;
@@ -567,7 +623,7 @@ static inline uint32_t pciguest_set_up(struct pciguest_board *board, struct pcig
  * 901: there is no board. 903: the struct of the machine holds one already. 207: the audit tells a problem. 206: a region
  * of a function that is to be given is closed. 199, 299: out of memory. 901, 903 and 207 come in this order before 206;
  * pciguest_board_audit tells the problems of 207. */
-static inline uint32_t pciguest_board_guests(struct pciguest_board *board, struct pciguest *machine)
+PCIGUEST_CALL uint32_t pciguest_board_guests(struct pciguest_board *board, struct pciguest *machine)
 {
     if (!board || !machine)
         return PCIGUEST_ARGUMENT;

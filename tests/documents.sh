@@ -117,7 +117,7 @@ lacking_numbers() {
     while read -r row; do grep -qF ".It $row " man/pciguest.1 || echo "man/pciguest.1: $row"; done
 }
 lacking_calls() {
-  grep -o '^static inline [a-z0-9_ ]* pciguest_[a-z_]*' library/pciguest.h | sed 's/.* //' |
+  grep -o '^[A-Za-z][A-Za-z0-9_ *]*pciguest_[a-z_]*(' library/pciguest.h | sed 's/.*[ *]//; s/($//' | grep -v '_raw_' |
     while read -r call; do grep -q "^\.F[no] $call\( \|$\)" man/libpciguest.3 || echo "man/libpciguest.3: $call"; done
 }
 holds 'numbers that the manual lacks' lacking_numbers

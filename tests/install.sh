@@ -101,7 +101,7 @@ holds 'nothing is left but folders' test -z "$(find "$room/package" ! -type d)"
 
 # ---- what the shared library gives and takes
 if command -v nm > /dev/null && command -v readelf > /dev/null; then
-  declared() { grep -o 'pciguest_raw_[a-z_]*(' library/pciguest.h | tr -d '(' | sort -u; }
+  declared() { grep -o '^[A-Za-z][A-Za-z0-9_ *]*pciguest_[a-z_]*(' library/pciguest.h | sed 's/.*[ *]//; s/($//' | sort -u; }
   visible() { nm -D --defined-only library/libpciguest.so.0 | awk '{ print $3 }' | sort -u; }
   holds 'the calls of the header alone are visible' test "$(declared)" = "$(visible)"
   needed() { readelf -dW library/libpciguest.so.0 | awk '/NEEDED|SONAME/ { print $NF }'; }
