@@ -4,6 +4,9 @@
  * a refusal (enum pciguest_status), but for pciguest_version and pciguest_strerror, and pciguest_piece and
  * pciguest_ends_within, which only compute. A call that answers a number other than 0 changed nothing and stored nothing,
  * but for a length that tells how much room a text needs, and for the text of pciguest_check.
+ *
+ * tools/bindings reads the declarations and comments below, and writes from them library/words.c and what the modules for
+ * Rust and Python declare.
  */
 #ifndef PCIGUEST_H
 #define PCIGUEST_H

@@ -1,4 +1,4 @@
-/* The words of numbers: the comments of enum pciguest_status and enum pciguest_told. */
+/* tools/bindings writes this file from library/pciguest.h. */
 #include "pciguest.h"
 
 const char *pciguest_strerror(uint32_t number)

@@ -34,10 +34,10 @@ struct HitTold {
 }
 
 extern "C" {
-    fn pciguest_raw_new(handle: *mut Handle, board: *const u8, length: usize) -> u32;
-    fn pciguest_raw_free(handle: *mut Handle);
-    fn pciguest_raw_guest(handle: *mut Handle, name: *const u8, length: usize, guest: *mut usize) -> u32;
-    fn pciguest_raw_read(
+    fn pciguest_new(handle: *mut Handle, board: *const u8, length: usize) -> u32;
+    fn pciguest_free(handle: *mut Handle);
+    fn pciguest_guest(handle: *mut Handle, name: *const u8, length: usize, guest: *mut usize) -> u32;
+    fn pciguest_read(
         handle: *mut Handle,
         guest: usize,
         space: u32,
@@ -46,7 +46,7 @@ extern "C" {
         width: u32,
         value: *mut u32,
     ) -> u32;
-    fn pciguest_raw_write(
+    fn pciguest_write(
         handle: *mut Handle,
         guest: usize,
         space: u32,
@@ -55,8 +55,8 @@ extern "C" {
         width: u32,
         value: u32,
     ) -> u32;
-    fn pciguest_raw_raise(handle: *mut Handle, guest: usize, slot: u64, part: u32, offset: u64, mask: u8) -> u32;
-    fn pciguest_raw_device_read(
+    fn pciguest_raise(handle: *mut Handle, guest: usize, slot: u64, part: u32, offset: u64, mask: u8) -> u32;
+    fn pciguest_device_read(
         handle: *mut Handle,
         guest: usize,
         slot: u64,
@@ -64,7 +64,7 @@ extern "C" {
         offset: u64,
         value: *mut u32,
     ) -> u32;
-    fn pciguest_raw_device_write(
+    fn pciguest_device_write(
         handle: *mut Handle,
         guest: usize,
         slot: u64,
@@ -72,7 +72,7 @@ extern "C" {
         offset: u64,
         value: u8,
     ) -> u32;
-    fn pciguest_raw_host_read(
+    fn pciguest_host_read(
         handle: *mut Handle,
         space: u32,
         bus: u8,
@@ -82,9 +82,9 @@ extern "C" {
         width: u32,
         value: *mut u32,
     ) -> u32;
-    fn pciguest_raw_move(handle: *mut Handle, from: usize, slot: u64, to: usize, target: u64) -> u32;
-    fn pciguest_raw_region(handle: *mut Handle, guest: usize, slot: u64, bar: u32, region: *mut RegionTold) -> u32;
-    fn pciguest_raw_locate(
+    fn pciguest_move(handle: *mut Handle, from: usize, slot: u64, to: usize, target: u64) -> u32;
+    fn pciguest_region(handle: *mut Handle, guest: usize, slot: u64, bar: u32, region: *mut RegionTold) -> u32;
+    fn pciguest_locate(
         handle: *mut Handle,
         guest: usize,
         space: u32,
@@ -92,7 +92,7 @@ extern "C" {
         place: u64,
         hit: *mut HitTold,
     ) -> u32;
-    fn pciguest_raw_run_line(
+    fn pciguest_run_line(
         handle: *mut Handle,
         line: *const u8,
         length: usize,
@@ -100,8 +100,8 @@ extern "C" {
         room: usize,
         written: *mut usize,
     ) -> u32;
-    fn pciguest_raw_check(board: *const u8, length: usize, text: *mut u8, room: usize, needed: *mut usize) -> u32;
-    fn pciguest_raw_words(number: u32, text: *mut u8, room: usize, needed: *mut usize) -> u32;
+    fn pciguest_check(board: *const u8, length: usize, text: *mut u8, room: usize, needed: *mut usize) -> u32;
+    fn pciguest_words(number: u32, text: *mut u8, room: usize, needed: *mut usize) -> u32;
 }
 
 /// The numbers of a width, of a place that is out of range, and of a text that needs more room.
@@ -119,7 +119,7 @@ impl Fault {
         let mut words = [0; 20];
         let mut needed = 0;
         // 20 bytes are room enough for each number
-        unsafe { pciguest_raw_words(self.0, words.as_mut_ptr(), words.len(), &mut needed) };
+        unsafe { pciguest_words(self.0, words.as_mut_ptr(), words.len(), &mut needed) };
         String::from_utf8_lossy(&words[..needed]).into_owned()
     }
 }
@@ -139,7 +139,7 @@ pub fn check(board: &[u8]) -> (Vec<u8>, Result<(), Fault>) {
     loop {
         let mut needed = 0;
         let (at, room) = (text.as_mut_ptr(), text.len());
-        let number = unsafe { pciguest_raw_check(board.as_ptr(), board.len(), at, room, &mut needed) };
+        let number = unsafe { pciguest_check(board.as_ptr(), board.len(), at, room, &mut needed) };
         text.resize(needed, 0);
         if number != ARGUMENT {
             return (text, answered(number));
@@ -273,14 +273,14 @@ impl Machine {
             live: false,
             at: null_mut(),
         };
-        answered(unsafe { pciguest_raw_new(&mut handle, board.as_ptr(), board.len()) })?;
+        answered(unsafe { pciguest_new(&mut handle, board.as_ptr(), board.len()) })?;
         Ok(Machine { handle })
     }
 
     /// The index of the guest of a name.
     pub fn guest(&mut self, name: &str) -> Result<usize, Fault> {
         let mut guest = 0;
-        answered(unsafe { pciguest_raw_guest(&mut self.handle, name.as_ptr(), name.len(), &mut guest) })?;
+        answered(unsafe { pciguest_guest(&mut self.handle, name.as_ptr(), name.len(), &mut guest) })?;
         Ok(guest)
     }
 
@@ -288,14 +288,14 @@ impl Machine {
     pub fn read(&mut self, guest: usize, at: At, width: u32) -> Result<u32, Fault> {
         let (space, slot, place) = at.parts();
         let mut value = 0;
-        answered(unsafe { pciguest_raw_read(&mut self.handle, guest, space, slot, place, width, &mut value) })?;
+        answered(unsafe { pciguest_read(&mut self.handle, guest, space, slot, place, width, &mut value) })?;
         Ok(value)
     }
 
     /// Writes the low 1, 2 or 4 bytes of a value as a guest.
     pub fn write(&mut self, guest: usize, at: At, width: u32, value: u32) -> Result<(), Fault> {
         let (space, slot, place) = at.parts();
-        answered(unsafe { pciguest_raw_write(&mut self.handle, guest, space, slot, place, width, value) })
+        answered(unsafe { pciguest_write(&mut self.handle, guest, space, slot, place, width, value) })
     }
 
     /// Reads 1 to 8 bytes at any place, split as a bridge does; the byte at the lowest address is the lowest.
@@ -317,7 +317,7 @@ impl Machine {
     /// Where the region that begins at a base address register, 0 to 5, stands now, in the guest's own view.
     pub fn region(&mut self, guest: usize, slot: u64, register: u8) -> Result<Region, Fault> {
         let mut told = RegionTold::default();
-        answered(unsafe { pciguest_raw_region(&mut self.handle, guest, slot, u32::from(register), &mut told) })?;
+        answered(unsafe { pciguest_region(&mut self.handle, guest, slot, u32::from(register), &mut told) })?;
         Ok(Region {
             is_io: told.space == 1,
             first: told.first,
@@ -331,7 +331,7 @@ impl Machine {
     pub fn locate(&mut self, guest: usize, at: At) -> Result<Option<Hit>, Fault> {
         let (space, slot, place) = at.parts();
         let mut told = HitTold::default();
-        answered(unsafe { pciguest_raw_locate(&mut self.handle, guest, space, slot, place, &mut told) })?;
+        answered(unsafe { pciguest_locate(&mut self.handle, guest, space, slot, place, &mut told) })?;
         Ok((told.found == 1).then_some(Hit {
             slot: told.slot,
             part: u8::try_from(told.part)
@@ -344,21 +344,21 @@ impl Machine {
 
     /// Sets bits of one byte of the function in a guest's slot, as its device does.
     pub fn raise(&mut self, guest: usize, slot: u64, part: Part, offset: u64, mask: u8) -> Result<(), Fault> {
-        answered(unsafe { pciguest_raw_raise(&mut self.handle, guest, slot, part.number(), offset, mask) })
+        answered(unsafe { pciguest_raise(&mut self.handle, guest, slot, part.number(), offset, mask) })
     }
 
     /// Reads one byte of the function in a guest's slot, as its device does.
     pub fn device_read(&mut self, guest: usize, slot: u64, part: Part, offset: u64) -> Result<u8, Fault> {
         let mut value = 0;
         answered(unsafe {
-            pciguest_raw_device_read(&mut self.handle, guest, slot, part.number(), offset, &mut value)
+            pciguest_device_read(&mut self.handle, guest, slot, part.number(), offset, &mut value)
         })?;
         Ok(value as u8)
     }
 
     /// Writes such a byte, as its device does.
     pub fn device_write(&mut self, guest: usize, slot: u64, part: Part, offset: u64, value: u8) -> Result<(), Fault> {
-        answered(unsafe { pciguest_raw_device_write(&mut self.handle, guest, slot, part.number(), offset, value) })
+        answered(unsafe { pciguest_device_write(&mut self.handle, guest, slot, part.number(), offset, value) })
     }
 
     /// Reads 1, 2 or 4 bytes as the host.
@@ -375,24 +375,23 @@ impl Machine {
         };
         let mut value = 0;
         answered(unsafe {
-            pciguest_raw_host_read(&mut self.handle, space, bus, device, function, place, width, &mut value)
+            pciguest_host_read(&mut self.handle, space, bus, device, function, place, width, &mut value)
         })?;
         Ok(value)
     }
 
     /// Moves the function in a slot of a guest to a slot of another, or of the same. It is then at reset.
     pub fn move_function(&mut self, from: usize, slot: u64, to: usize, target: u64) -> Result<(), Fault> {
-        answered(unsafe { pciguest_raw_move(&mut self.handle, from, slot, to, target) })
+        answered(unsafe { pciguest_move(&mut self.handle, from, slot, to, target) })
     }
 
     /// Runs one line of a script, with its line feed or without, and gives its reply with one, or nothing.
     pub fn run_line(&mut self, line: &[u8]) -> Result<Vec<u8>, Fault> {
-        let line = line.strip_suffix(b"\n").unwrap_or(line);
         let mut reply = vec![0; 48];
         let mut written = 0;
         answered(unsafe {
             let (line, length) = (line.as_ptr(), line.len());
-            pciguest_raw_run_line(
+            pciguest_run_line(
                 &mut self.handle,
                 line,
                 length,
@@ -408,6 +407,6 @@ impl Machine {
 
 impl Drop for Machine {
     fn drop(&mut self) {
-        unsafe { pciguest_raw_free(&mut self.handle) }
+        unsafe { pciguest_free(&mut self.handle) }
     }
 }

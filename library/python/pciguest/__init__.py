@@ -43,6 +43,7 @@ files, lines and numbers, and docs/LIBRARY.md what is proved of the library. Thi
 """
 
 from ._board import Audit, Board
+from ._calls import VERSION
 from ._declared import Register
 from ._devices import Device
 from ._functions import Bar, Function, Window, Windows
@@ -79,4 +80,4 @@ __all__ = [
     "report",
     "words",
 ]
-__version__ = "0.4.0"
+__version__ = VERSION

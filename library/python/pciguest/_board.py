@@ -7,8 +7,9 @@ from ctypes import byref, c_size_t, c_uint32
 from pathlib import Path
 from typing import NamedTuple, Optional, Union
 
-from ._calls import CALLS, CONFIG, IO, MEMORY, BoardHandle, told
+from ._calls import CONFIG, IO, MEMORY, BoardHandle
 from ._held import Held, as_bytes
+from ._library import CALLS, told
 from ._machine import Machine
 from ._refusal import answered
 from ._spaces import Functions, Space

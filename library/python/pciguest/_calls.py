@@ -1,197 +1,350 @@
-"""The calls of library/pciguest.h, by ctypes. tests/test_header.py compares what is said here with the header."""
+"""What the header declares, by ctypes. tools/bindings writes this file from library/pciguest.h."""
 
 from __future__ import annotations
 
 import ctypes
-import operator
-import os
-from ctypes import POINTER, c_char, c_char_p, c_size_t, c_uint8, c_uint32, c_uint64
-from pathlib import Path
-from typing import Any, Callable, Dict, SupportsIndex, Tuple
+from ctypes import POINTER, c_bool, c_char, c_char_p, c_size_t, c_uint8, c_uint32, c_uint64, c_void_p
+from typing import Any, Dict, Tuple
 
-NAME = "libpciguest.so.0"
+VERSION = "0.4.0"
+VERSION_NUMBER = 400
 
-# the number of an argument that a call does not take, and of a text that needs more room
-ARGUMENT = 902
+CONFIG = 0
+IO = 1
+MEMORY = 2
 
-# the room that a reply needs, and the most that the words of a number need
+RAISE_CONFIG = 6
+
+PATH = 80
+BARS = 6
+WINDOWS = 3
+
 REPLY = 48
 WORDS = 20
 
-# spaces, and the part of a raise that goes to configuration space
-CONFIG, IO, MEMORY = 0, 1, 2
-RAISE_CONFIG = 6
+OK = 0
+NOT_TOML = 101  # not TOML
+BAD_KEY = 102  # key
+UNKNOWN_KEY = 103  # unknown key
+BAD_NUMBER = 104  # number
+BAD_PLACE = 105  # place
+BAD_REGISTER = 106  # register
+BAD_SIZE = 107  # size
+TOO_MANY = 108  # too many
+BAD_GUEST_NAME = 109  # guest name
+BAD_SLOT = 110  # slot
+BAD_APERTURE = 111  # aperture
+BAD_CELL_MASKS = 112  # cell masks
+FILE_MEMORY = 199  # memory
+TOO_MANY_BUSES = 201  # buses
+NO_IO_WINDOW = 202  # no I/O window
+IO_POOL = 203  # I/O pool
+MEMORY_POOL = 204  # memory pool
+PREFETCHABLE_POOL = 205  # prefetchable pool
+CLOSED_REGION = 206  # closed region
+NOT_IN_ORDER = 207  # not in order
+OUT_OF_MEMORY = 299  # memory
+MISALIGNED = 301  # misaligned
+BAD_WIDTH = 302  # width
+OUT_OF_RANGE = 303  # range
+EMPTY_SLOT = 601  # empty slot
+SLOT_TAKEN = 602  # slot taken
+NO_MACHINE = 901  # no machine
+ARGUMENT = 902  # argument
+IN_USE = 903  # in use
+NOT_AT_RESET = 904  # not at reset
+
+BAD_LINE = 401  # bad line
+UNKNOWN_GUEST = 402  # unknown guest
+LONG_LINE = 403  # long line
+READ_FAILED = 501  # read failed
+WRITE_FAILED = 502  # write failed
+USAGE = 701  # usage
+BOARD_FILE = 702  # board file
+WORD_MEMORY = 799  # memory
 
 
 class Handle(ctypes.Structure):
-    """The struct of the header. All bytes 0 are no machine."""
+    """What a program holds of a machine: a board that is set up, with its guests. It begins as `struct pciguest machine
+    = PCIGUEST_INIT;`, or with all bytes 0, and then holds none. Only the library looks at its fields. Two copies of one
+    struct are never both used; it may be moved, and the place that it left forgotten."""
 
-    _fields_ = [("live", ctypes.c_bool), ("at", ctypes.c_void_p)]
+    _fields_ = [
+        ("live", c_bool),
+        ("at", c_void_p),
+    ]
 
 
 class BoardHandle(ctypes.Structure):
-    """The struct of the header for a board that firmware drives. All bytes 0 are no board."""
+    """What a program holds of a board that its own firmware drives, from reset on. It begins as `struct pciguest_board
+    board = PCIGUEST_BOARD_INIT;`, or with all bytes 0, and then holds none. What is said of the struct above holds for
+    it too."""
 
-    _fields_ = [("live", ctypes.c_bool), ("at", ctypes.c_void_p)]
+    _fields_ = [
+        ("live", c_bool),
+        ("at", c_void_p),
+    ]
 
 
 class RegionTold(ctypes.Structure):
-    """What is told of a region: `space` is one of those above, and the last two are 1 or 0."""
+    """Where a region of a guest's function stands now, by the guest's own registers. It takes `size` addresses of its
+    space from `first` on, and answers there where `is_open` is 1."""
 
     _fields_ = [
         ("first", c_uint64),
         ("size", c_uint64),
+        # PCIGUEST_IO or PCIGUEST_MEMORY
         ("space", c_uint32),
+        # 1 or 0
         ("prefetchable", c_uint32),
+        # 1 or 0: whether the guest's Command opens the space
         ("is_open", c_uint32),
     ]
 
 
 class HitTold(ctypes.Structure):
-    """What is told of a hit: `found` is 1 or 0."""
+    """The byte that an access hits. The part is as for pciguest_raise: a region by its base address register, 0 to 5,
+    or PCIGUEST_RAISE_CONFIG. Where nothing is hit, all of it is 0."""
 
-    _fields_ = [("slot", c_uint64), ("offset", c_uint64), ("part", c_uint32), ("found", c_uint32)]
+    _fields_ = [
+        ("slot", c_uint64),
+        # in the region, or in configuration space
+        ("offset", c_uint64),
+        ("part", c_uint32),
+        # 1 or 0
+        ("found", c_uint32),
+    ]
 
 
 class BarTold(ctypes.Structure):
-    """What is told of a region by its register on the board: all 0 where none begins there."""
+    """The region that begins at a base address register, as the register on the board has it: `size` addresses of its
+    space from `first` on. Where none begins there, all of it is 0."""
 
     _fields_ = [
         ("first", c_uint64),
         ("size", c_uint64),
+        # PCIGUEST_IO or PCIGUEST_MEMORY
         ("space", c_uint32),
+        # 1 or 0
         ("prefetchable", c_uint32),
+        # 1 or 0: whether the next register has the high half of the address
         ("is_64_bit", c_uint32),
     ]
 
 
 class WindowTold(ctypes.Structure):
-    """What is told of a window: `is_there` is 1 or 0."""
+    """A window of a bridge, as its registers on the board have it: the addresses from `first` to `last`, both included.
+    Where the bridge has no such window, or its base is above its limit, all of it is 0."""
 
-    _fields_ = [("first", c_uint64), ("last", c_uint64), ("is_there", c_uint32)]
+    _fields_ = [
+        ("first", c_uint64),
+        ("last", c_uint64),
+        # 1 or 0
+        ("is_there", c_uint32),
+    ]
 
 
 class FunctionTold(ctypes.Structure):
-    """What is told of a function of the board: `is_bridge` and `is_given` are 1 or 0."""
+    """A function of the board as it is now."""
 
     _fields_ = [
+        # as board files write it, as "2.0/1.0"; all bytes after it are 0
         ("path", c_uint8 * 80),
+        # in bytes, without a 0
         ("path_length", c_size_t),
+        # 0 on bus 0, else the Secondary Bus Number of the bridge above
         ("bus", c_uint32),
+        # 0 to 31
         ("device", c_uint32),
+        # 0 to 7
         ("function", c_uint32),
         ("vendor_id", c_uint32),
         ("device_id", c_uint32),
         ("revision_id", c_uint32),
+        # 24 bits: base class, sub-class, programming interface
         ("class_code", c_uint32),
+        # 0 in a bridge, as is the next
         ("subsystem_vendor_id", c_uint32),
         ("subsystem_id", c_uint32),
+        # 1 or 0
         ("is_bridge", c_uint32),
+        # by register; all 0 in a bridge
         ("regions", BarTold * 6),
+        # I/O, memory, prefetchable memory; all 0 in an endpoint
         ("windows", WindowTold * 3),
+        # where is_given is 1, the guest that has it; else 0
         ("guest", c_size_t),
+        # where is_given is 1, its slot there; else 0
         ("slot", c_uint64),
+        # 1 or 0: whether a guest has it
         ("is_given", c_uint32),
     ]
 
 
-_MACHINE = POINTER(Handle)
-_BOARD = POINTER(BoardHandle)
-_ROOM = POINTER(c_char)
-_BOARD_TEXT = (c_char_p, c_size_t, _ROOM, c_size_t, POINTER(c_size_t))
-
-# what each call takes; those that free answer nothing, and all others a number
-PARAMETERS: Dict[str, Tuple[Any, ...]] = {
-    "new": (_MACHINE, c_char_p, c_size_t),
-    "free": (_MACHINE,),
-    "guest": (_MACHINE, c_char_p, c_size_t, POINTER(c_size_t)),
-    "read": (_MACHINE, c_size_t, c_uint32, c_uint64, c_uint64, c_uint32, POINTER(c_uint32)),
-    "write": (_MACHINE, c_size_t, c_uint32, c_uint64, c_uint64, c_uint32, c_uint32),
-    "raise": (_MACHINE, c_size_t, c_uint64, c_uint32, c_uint64, c_uint8),
-    "host_read": (_MACHINE, c_uint32, c_uint8, c_uint8, c_uint8, c_uint64, c_uint32, POINTER(c_uint32)),
-    "move": (_MACHINE, c_size_t, c_uint64, c_size_t, c_uint64),
-    "reset": (_MACHINE, c_size_t, c_uint64),
-    "give": (_MACHINE, c_char_p, c_size_t, c_size_t, c_uint64),
-    "take": (_MACHINE, c_size_t, c_uint64),
-    "device_read": (_MACHINE, c_size_t, c_uint64, c_uint32, c_uint64, POINTER(c_uint32)),
-    "device_write": (_MACHINE, c_size_t, c_uint64, c_uint32, c_uint64, c_uint8),
-    "region": (_MACHINE, c_size_t, c_uint64, c_uint32, POINTER(RegionTold)),
-    "changed": (_MACHINE, c_size_t, POINTER(c_uint64)),
-    "locate": (_MACHINE, c_size_t, c_uint32, c_uint64, c_uint64, POINTER(HitTold)),
-    "count": (_MACHINE, POINTER(c_size_t)),
-    "function": (_MACHINE, c_size_t, POINTER(FunctionTold)),
-    "slot": (_MACHINE, c_size_t, c_uint64, POINTER(FunctionTold)),
-    "run_line": (_MACHINE, c_char_p, c_size_t, _ROOM, c_size_t, POINTER(c_size_t)),
-    "report": _BOARD_TEXT,
-    "check": _BOARD_TEXT,
-    "words": (c_uint32, _ROOM, c_size_t, POINTER(c_size_t)),
-    "board_new": (_BOARD, c_char_p, c_size_t),
-    "board_free": (_BOARD,),
-    "board_read": (_BOARD, c_uint32, c_uint8, c_uint8, c_uint8, c_uint64, c_uint32, POINTER(c_uint32)),
-    "board_write": (_BOARD, c_uint32, c_uint8, c_uint8, c_uint8, c_uint64, c_uint32, c_uint32),
-    "board_run_line": (_BOARD, c_char_p, c_size_t, _ROOM, c_size_t, POINTER(c_size_t)),
-    "board_audit": (_BOARD, _ROOM, c_size_t, POINTER(c_size_t), POINTER(c_size_t)),
-    "set_up": (_BOARD, _MACHINE),
-    "board_guests": (_BOARD, _MACHINE),
+# what each call answers, and what it takes
+DECLARED: Dict[str, Tuple[Any, Tuple[Any, ...]]] = {
+    # The version of the library that is linked or loaded, as PCIGUEST_VERSION_NUMBER has that of the header.
+    "version": (c_uint32, ()),
+    # The words of a number, as pciguest_words has them, as a text that ends with a 0 and stays as long as the library
+    # is loaded. A number that stands for nothing, as 0, has the empty text.
+    "strerror": (c_char_p, (c_uint32,)),
+    # Sets up the board of a board file, given as its bytes, and gives its functions to the guests of the file.
+    # 0: the machine holds the world that the file declares, before any access. Otherwise the number of the first check
+    # that the file or its board fails, 199 or 299 out of memory, or 903.
+    "new": (c_uint32, (POINTER(Handle), c_char_p, c_size_t)),
+    # Frees the machine. The struct then holds none, and may be used for a new one. Where it held none, nothing happens.
+    "free": (None, (POINTER(Handle),)),
+    # The index of the guest of a name, as the calls below take it: guests stand in the order of the board file, from 0
+    # on. 902: no guest has this name.
+    "guest": (c_uint32, (POINTER(Handle), c_char_p, c_size_t, POINTER(c_size_t))),
+    # Reads as a guest, by the guest's own view: slot and offset, port, or address. What is read is what the guest's own
+    # functions answer, each a register file by itself; all ones where nothing of the guest's answers. A read changes
+    # nothing. The slot is looked at for configuration space alone.
+    # 302: the width is not 1, 2 or 4. 301: the place is no multiple of it. 303: the slot, offset or port is out of
+    # range. 902: there is no such guest or space.
+    "read": (c_uint32, (POINTER(Handle), c_size_t, c_uint32, c_uint64, c_uint64, c_uint32, POINTER(c_uint32))),
+    # Writes the low bytes of a value as a guest, as many as it is wide. No other guest can tell. Numbers as above.
+    "write": (c_uint32, (POINTER(Handle), c_size_t, c_uint32, c_uint64, c_uint64, c_uint32, c_uint32)),
+    # How many bytes the first lawful piece of an access has, with that many bytes left of it from a place on: 4, 2 or
+    # 1, the most that stand at a multiple of their number.
+    "piece": (c_uint32, (c_uint64, c_uint32)),
+    # Whether an access of 1 to 8 bytes ends where its space does, or before.
+    "ends_within": (c_bool, (c_uint32, c_uint64, c_uint32)),
+    # Reads as a guest what a processor may ask at once and a cycle of the bus can't: 1 to 8 bytes, at any place. It is
+    # split as a bridge does, into the lawful pieces that pciguest_piece tells, in the order of addresses, and the byte
+    # at the lowest address is the lowest of the value. 302: the width is not 1 to 8. 303: the slot is out of range, or
+    # the access ends past its space. Other numbers as above.
+    "read_wide": (c_uint32, (POINTER(Handle), c_size_t, c_uint32, c_uint64, c_uint64, c_uint32, POINTER(c_uint64))),
+    # Writes so the low bytes of a value, as many as it is wide.
+    "write_wide": (c_uint32, (POINTER(Handle), c_size_t, c_uint32, c_uint64, c_uint64, c_uint32, c_uint64)),
+    # Sets bits of one byte of the function in a guest's slot, as its device does. 303: the slot is above 31, or the
+    # function has no such byte. 601: the slot is empty. 902: there is no such guest, or the part is above 6. A raise
+    # that is refused changes nothing.
+    "raise": (c_uint32, (POINTER(Handle), c_size_t, c_uint64, c_uint32, c_uint64, c_uint8)),
+    # Reads as the host: what the board shows at a physical number, port or address. It changes nothing. Numbers as for
+    # pciguest_read; 902 for a device above 31 or a function above 7 too.
+    "host_read": (
+        c_uint32,
+        (POINTER(Handle), c_uint32, c_uint8, c_uint8, c_uint8, c_uint64, c_uint32, POINTER(c_uint32)),
+    ),
+    # Moves the function in a slot of a guest to a slot of another, or of the same. Nothing is carried over: the
+    # function is then at reset. 303: a slot is above 31. 601: the slot that it leaves is empty. 602: the slot that it
+    # comes to is taken. 902: there is no such guest.
+    "move": (c_uint32, (POINTER(Handle), c_size_t, c_uint64, c_size_t, c_uint64)),
+    # Resets the function in a guest's slot, where it is: nothing is carried over, as in a move. It has no line of a
+    # script; two moves do the same, to an empty slot and back. 303: the slot is above 31. 601: the slot is empty. 902:
+    # there is no such guest.
+    "reset": (c_uint32, (POINTER(Handle), c_size_t, c_uint64)),
+    # Gives a function of the board that no guest has to a guest, into an empty slot: there and on the board it is then
+    # at reset, on the board but for what guests have copies of. Its path is a text, as board files and
+    # pciguest_function have it. 303: the slot is above 31, or no endpoint stands at the path. 602: a guest has the
+    # function, or the slot is taken.
+    # 206: one of its regions is closed. 902: there is no such guest. No line of a script says it.
+    "give": (c_uint32, (POINTER(Handle), c_char_p, c_size_t, c_size_t, c_uint64)),
+    # Takes the function in a guest's slot from this guest: the slot is then empty, and no guest has the function, which
+    # is at reset on the board, but for what guests have copies of. Numbers as for pciguest_reset. No line of a script
+    # says it.
+    "take": (c_uint32, (POINTER(Handle), c_size_t, c_uint64)),
+    # Reads one byte of the function in a guest's slot, as its device does: of a region, or of configuration space the
+    # two bytes of Status (06h, 07h) and the device's own registers (40h to FFh). A byte that has no register reads 0.
+    # It changes nothing. 303: the slot is above 31, or the device has no such byte. 601: the slot is empty. 902: there
+    # is no such guest, or the part is above 6.
+    "device_read": (c_uint32, (POINTER(Handle), c_size_t, c_uint64, c_uint32, c_uint64, POINTER(c_uint32))),
+    # Writes such a byte as its device does: it takes the value, whatever a guest's writes may change of it, and what
+    # they may change of it stays. Where no register is, nothing changes. Numbers as above. It has no line of a script.
+    "device_write": (c_uint32, (POINTER(Handle), c_size_t, c_uint64, c_uint32, c_uint64, c_uint8)),
+    # Where the region that begins at a base address register, 0 to 5, stands now, in the guest's own view. It takes no
+    # memory and changes nothing. The answer stays until the guest writes Command or a base address register of this
+    # function, or it is moved, reset or taken: while pciguest_changed tells the same, no answer for this guest changes.
+    # 303: the slot is above 31, or no region begins at this register. 601: the slot is empty. 902: there is no such
+    # guest.
+    "region": (c_uint32, (POINTER(Handle), c_size_t, c_uint64, c_uint32, POINTER(RegionTold))),
+    # A count of the guest, which grows by one with each access of the guest, move, reset, gift or taking that touches
+    # one of its slots so that an answer of pciguest_region for it may be another one: while the count stays, each of
+    # these answers stays, for all slots and registers. Nothing else makes it grow. It is 0 in a machine that was made
+    # just now, and goes on from 0 after 2^64 - 1. It takes no memory and changes nothing. 902: there is no such guest.
+    "changed": (c_uint32, (POINTER(Handle), c_size_t, POINTER(c_uint64))),
+    # What an access of the guest at a place hits, as pciguest_read and pciguest_write take the place: a byte of a
+    # function in one of its slots, or nothing. It takes no memory and changes nothing. Every access there begins at
+    # this byte, but for four bytes at port CF8h, which are the guest's own CONFIG_ADDRESS. Numbers as for a read of one
+    # byte there.
+    "locate": (c_uint32, (POINTER(Handle), c_size_t, c_uint32, c_uint64, c_uint64, POINTER(HitTold))),
+    # How many functions the board has, endpoints and bridges.
+    "count": (c_uint32, (POINTER(Handle), POINTER(c_size_t))),
+    # The function at an index, from 0 to one less than pciguest_count tells, in the order of paths: a bridge stands
+    # before what is behind it. Where regions and windows stand, and by which number it is reached, is told as the
+    # board's own registers have it, which no guest writes; who has it, as it is after the last move. It takes no memory
+    # and changes nothing. 902: there is no such function.
+    "function": (c_uint32, (POINTER(Handle), c_size_t, POINTER(FunctionTold))),
+    # The same of the function in a slot of a guest. 303: the slot is above 31. 601: the slot is empty. 902: there is no
+    # such guest.
+    "slot": (c_uint32, (POINTER(Handle), c_size_t, c_uint64, POINTER(FunctionTold))),
+    # Runs one line of a script, with its line feed or without; a line feed elsewhere makes it a bad line. The reply is
+    # one line with its line feed, or nothing for a blank line or a comment; it has no 0 at its end, and `written` tells
+    # its length. A line that is refused is answered by its reply, and the call by 0. 902: there is less room than
+    # PCIGUEST_REPLY.
+    "run_line": (c_uint32, (POINTER(Handle), c_char_p, c_size_t, POINTER(c_char), c_size_t, POINTER(c_size_t))),
+    # Writes the report of a board file, as `pciguest list` does, and tells its length; it has no 0 at its end. 902:
+    # there is less room than that, and nothing was written; other numbers as for pciguest_new. No machine is needed.
+    "report": (c_uint32, (c_char_p, c_size_t, POINTER(c_char), c_size_t, POINTER(c_size_t))),
+    # Writes what is wrong with a board file, or that its board fits, as `pciguest check board.toml` does, and tells the
+    # text's length; it has no 0 at its end. 0: the board fits. 101 to 112 or 201 to 205: the file or its board is
+    # refused, and the text says why. 199 or 299: out of memory, and nothing was written or told. 902: there is less
+    # room than the text needs, and nothing was written. No machine is needed.
+    "check": (c_uint32, (c_char_p, c_size_t, POINTER(c_char), c_size_t, POINTER(c_size_t))),
+    # Writes the words of a number that a call answers, or that the program or a reply tells, and tells their length;
+    # they have no 0 at their end. A number that stands for nothing, as 0, has no words, and length 0. 902: there is
+    # less room than the words need, and nothing was written; PCIGUEST_WORDS is always enough. No machine is needed.
+    "words": (c_uint32, (c_uint32, POINTER(c_char), c_size_t, POINTER(c_size_t))),
+    # Makes the board of a board file, given as its bytes, at reset, for firmware of one's own to drive: no number and
+    # no address is given out, and every function is off. The guests of the file are checked, and no function is given
+    # to them.
+    # 0: the struct holds the board. 101 to 112: the number of the first check that the file fails. 199: out of memory.
+    # 903: the struct holds a board already.
+    "board_new": (c_uint32, (POINTER(BoardHandle), c_char_p, c_size_t)),
+    # Frees the board. The struct then holds none, and may be used for a new one. Where it held none, nothing happens.
+    "board_free": (None, (POINTER(BoardHandle),)),
+    # Reads as firmware does, in whatever state the registers are: configuration space by bus, device, function and byte
+    # offset, I/O by port, or memory by address; all ones where nothing answers. Bus, device and function are looked at
+    # for configuration space alone; by ports it is reached at CF8h and CFCh. A read there by number leaves 0 in
+    # CONFIG_ADDRESS (CF8h); else a read changes nothing.
+    # 302: the width is not 1, 2 or 4 bytes. 301: the place is no multiple of it. 303: the offset is above 255, or the
+    # port above FFFFFFFFh. 902: there is no such space, the device is above 31, or the function above 7.
+    "board_read": (
+        c_uint32,
+        (POINTER(BoardHandle), c_uint32, c_uint8, c_uint8, c_uint8, c_uint64, c_uint32, POINTER(c_uint32)),
+    ),
+    # Writes the low bytes of a value as firmware does, as many as it is wide; what nothing takes is dropped. A write of
+    # configuration space by number leaves 0 in CONFIG_ADDRESS. Numbers as above.
+    "board_write": (
+        c_uint32,
+        (POINTER(BoardHandle), c_uint32, c_uint8, c_uint8, c_uint8, c_uint64, c_uint32, c_uint32),
+    ),
+    # Runs one line of firmware, as `pciguest firmware` does, with its line feed or without. `host audit` and `host
+    # guests` are bad lines here: pciguest_board_audit and pciguest_board_guests do the same. The reply and 902 are as
+    # for pciguest_run_line.
+    "board_run_line": (
+        c_uint32,
+        (POINTER(BoardHandle), c_char_p, c_size_t, POINTER(c_char), c_size_t, POINTER(c_size_t)),
+    ),
+    # Writes what is wrong in the registers of a board as they stand, whoever wrote them: a line for each problem, and a
+    # last line `audit: ok` or `audit: N problems`. A problem is a byte of an open region that a bridge above doesn't
+    # forward, an address that two answer on one bus, or a function that no cycle finds. It tells the text's length,
+    # which has no 0 at its end, and how many problems there are. The board stays as it is.
+    # 902: there is less room than the text needs, whose length alone is told. 299: out of memory.
+    "board_audit": (c_uint32, (POINTER(BoardHandle), POINTER(c_char), c_size_t, POINTER(c_size_t), POINTER(c_size_t))),
+    # Sets up a board that is at reset as pciguest_new does, in place of firmware of one's own, and gives its functions
+    # to the guests of its file: the machine is then the one that pciguest_new makes of the file. The board stays as it
+    # is.
+    # 901: there is no board. 903: the struct of the machine holds one already. 904: a write was done on the board since
+    # reset. 201 to 205: the board can't be set up. 199, 299: out of memory. The first of these that holds is answered.
+    "set_up": (c_uint32, (POINTER(BoardHandle), POINTER(Handle))),
+    # Gives the functions of a board to the guests of its file as the board stands, whoever set it up: where its audit
+    # tells no problem and each region of their functions is open, the machine is then over this board. Each function
+    # that is given is reset first, but for what guests have copies of, and the board's CONFIG_ADDRESS is cleared. The
+    # struct of the board then holds none. Where it is refused, both structs are as they were.
+    # 901: there is no board. 903: the struct of the machine holds one already. 207: the audit tells a problem. 206: a
+    # region of a function that is to be given is closed. 199, 299: out of memory. 901, 903 and 207 come in this order
+    # before 206; pciguest_board_audit tells the problems of 207.
+    "board_guests": (c_uint32, (POINTER(BoardHandle), POINTER(Handle))),
 }
-
-
-def _place() -> str:
-    """Where the shared library is: a path, or its name alone for one that the system finds."""
-    folder = os.environ.get("PCIGUEST_LIBRARY_DIR")
-    if folder:
-        return str(Path(folder).resolve() / NAME)
-    here = Path(__file__).resolve()
-    # in the repository it stands above this module, and in a tarball, or where that was installed, in lib
-    usual = (here.parents[2] / NAME, here.parents[min(4, len(here.parents) - 1)] / "lib" / NAME)
-    return next((str(place) for place in usual if place.exists()), NAME)
-
-
-def _load() -> Dict[str, Callable[..., Any]]:
-    place = _place()
-    try:
-        library = ctypes.CDLL(place)
-    except OSError as error:
-        raise ImportError(
-            f"{error}. `make library` at the top of the repository leaves {NAME} in library/, and PCIGUEST_LIBRARY_DIR "
-            "names the folder of one that stands elsewhere"
-        ) from error
-    calls: Dict[str, Callable[..., Any]] = {}
-    for name, parameters in PARAMETERS.items():
-        call = getattr(library, "pciguest_raw_" + name)
-        call.argtypes = parameters
-        call.restype = None if name in ("free", "board_free") else c_uint32
-        calls[name] = call
-    return calls
-
-
-class _Calls(Dict[str, Callable[..., Any]]):
-    """The calls by their names. The library is loaded when the first of them is asked for."""
-
-    def __missing__(self, name: str) -> Callable[..., Any]:
-        self.update(_load())
-        return self[name]
-
-
-CALLS = _Calls()
-
-
-def number(name: str, value: SupportsIndex, bits: int) -> int:
-    """The number that a value is, if it has no more than so many bits. ctypes would drop the others."""
-    found = operator.index(value)
-    if not 0 <= found < 1 << bits:
-        raise ValueError(f"{name}: {found:#x} is not from 0 to {(1 << bits) - 1:#x}")
-    return found
-
-
-def told(room: int, call: Callable[..., int]) -> Tuple[int, str]:
-    """Calls with room for a text; where that is too little, once more with what the text needs. Gives the number that
-    the call answers, and the text."""
-    needed = c_size_t(0)
-    text = ctypes.create_string_buffer(room)
-    answer = call(text, room, ctypes.byref(needed))
-    if answer == ARGUMENT and needed.value > room:
-        room = needed.value
-        text = ctypes.create_string_buffer(room)
-        answer = call(text, room, ctypes.byref(needed))
-    return answer, text.raw[: needed.value].decode("ascii", "replace")

@@ -4,7 +4,7 @@ from __future__ import annotations
 
 from typing import TYPE_CHECKING, Any, Dict, Iterator, List, Optional, Tuple, Type
 
-from ._calls import number
+from ._library import number
 
 if TYPE_CHECKING:
     from ._devices import Device

@@ -5,8 +5,9 @@ from __future__ import annotations
 from ctypes import byref, c_uint32
 from typing import TYPE_CHECKING, Any, ClassVar, Dict, Iterator, List, NamedTuple, Optional, Tuple
 
-from ._calls import RAISE_CONFIG, number
+from ._calls import RAISE_CONFIG
 from ._declared import KINDS, Register, declared, endpoint
+from ._library import number
 
 if TYPE_CHECKING:
     from ._machine import Machine

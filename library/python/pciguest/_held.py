@@ -9,7 +9,8 @@ from ctypes import byref, c_size_t
 from types import TracebackType
 from typing import Any, Callable, Optional, Type, TypeVar, Union
 
-from ._calls import CALLS, REPLY
+from ._calls import REPLY
+from ._library import CALLS
 from ._refusal import answered
 
 Self = TypeVar("Self", bound="Held")
@@ -55,10 +56,8 @@ class Held:
         answered(answer)
 
     def _reply(self, name: str, line: Union[str, bytes]) -> Optional[str]:
-        """Runs a line by a call, which takes it without its line feed."""
+        """Runs a line by a call, which takes it with its line feed or without."""
         text = as_bytes(line)
-        if text.endswith(b"\n"):
-            text = text[:-1]
         reply, written = ctypes.create_string_buffer(REPLY), c_size_t(0)
         self._call(name, text, len(text), reply, REPLY, byref(written))
         if written.value == 0:

@@ -7,10 +7,11 @@ from ctypes import byref, c_size_t, c_uint32, c_uint64
 from pathlib import Path
 from typing import Any, Callable, Dict, Iterator, Optional, Tuple, Union
 
-from ._calls import CALLS, CONFIG, IO, MEMORY, RAISE_CONFIG, FunctionTold, Handle, HitTold, RegionTold, number
+from ._calls import CONFIG, IO, MEMORY, RAISE_CONFIG, FunctionTold, Handle, HitTold, RegionTold
 from ._devices import Device, Touch
 from ._functions import Function, function_of
 from ._held import Held, as_bytes
+from ._library import CALLS, number
 from ._lines import Access, access_of
 from ._refusal import Refusal
 from ._regions import Hit, Region

@@ -4,7 +4,8 @@ from __future__ import annotations
 
 from typing import Callable, NamedTuple, Optional, Tuple
 
-from ._calls import CALLS, WORDS, number, told
+from ._calls import WORDS
+from ._library import CALLS, number, told
 
 
 class Refusal(Exception):

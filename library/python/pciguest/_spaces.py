@@ -4,7 +4,8 @@ from __future__ import annotations
 
 from typing import Callable, Generic, Iterator, Tuple, TypeVar
 
-from ._calls import CONFIG, IO, MEMORY, number
+from ._calls import CONFIG, IO, MEMORY
+from ._library import number
 from ._refusal import Refusal
 
 # the last place of each space that an access of several pieces may touch

@@ -6,8 +6,8 @@ import re
 from contextlib import contextmanager
 from typing import Callable, Iterator, NamedTuple, Optional, Tuple, Union
 
-from ._calls import CALLS, told
 from ._held import as_bytes
+from ._library import CALLS, told
 from ._refusal import BoardRefusal, Problem, Refusal, answered
 
 # how the library calls the file in what a check says

@@ -1,80 +1,78 @@
-"""What the module says of the calls is what library/pciguest.h says."""
+"""What the module says of the calls is what library/pciguest.h says, which a C compiler judges too, and what the library
+has."""
 
+import ctypes
 import re
+import shutil
+import subprocess
 import unittest
-from ctypes import POINTER, c_char, c_char_p, c_size_t, c_uint8, c_uint32, c_uint64, c_void_p, sizeof
 
 import pciguest
 from boards import TOP
 from pciguest import _calls
+from pciguest._library import CALLS
 
 HEADER = (TOP / "library" / "pciguest.h").read_text()
-TYPES = {
-    "struct pciguest *": POINTER(_calls.Handle),
-    "struct pciguest_board *": POINTER(_calls.BoardHandle),
-    "const uint8_t *": c_char_p,
-    "uint8_t *": POINTER(c_char),
-    "uint32_t *": POINTER(c_uint32),
-    "uint64_t *": POINTER(c_uint64),
-    "size_t *": POINTER(c_size_t),
-    "struct pciguest_region *": POINTER(_calls.RegionTold),
-    "struct pciguest_hit *": POINTER(_calls.HitTold),
-    "struct pciguest_function *": POINTER(_calls.FunctionTold),
-    "struct pciguest_bar": _calls.BarTold,
-    "struct pciguest_window": _calls.WindowTold,
-    "size_t": c_size_t,
-    "uint8_t": c_uint8,
-    "uint32_t": c_uint32,
-    "uint64_t": c_uint64,
+STRUCTS = {
+    "pciguest": _calls.Handle,
+    "pciguest_board": _calls.BoardHandle,
+    "pciguest_region": _calls.RegionTold,
+    "pciguest_hit": _calls.HitTold,
+    "pciguest_bar": _calls.BarTold,
+    "pciguest_window": _calls.WindowTold,
+    "pciguest_function": _calls.FunctionTold,
 }
 
 
-def declared():
-    """The calls of the header: by name, what each answers and the types of its parameters."""
-    calls = {}
-    for answer, name, inside in re.findall(r"^(\w+) pciguest_raw_(\w+)\(([^)]*)\);", HEADER, re.MULTILINE):
-        types = [re.match(r"(.*[ *])\w+$", part.strip()).group(1).strip() for part in inside.split(",")]
-        calls[name] = answer, tuple(TYPES[each] for each in types)
-    return calls
+TYPES = {
+    None: "void",
+    ctypes.c_bool: "bool",
+    ctypes.c_char: "char",
+    ctypes.c_char_p: "const char *",
+    ctypes.c_uint8: "uint8_t",
+    ctypes.c_uint32: "uint32_t",
+    ctypes.c_uint64: "uint64_t",
+    ctypes.c_size_t: "size_t",
+    **{struct: f"struct {name}" for name, struct in STRUCTS.items()},
+}
+
+
+def in_c(kind):
+    """A type of ctypes in C. A text is bytes there, whatever the header calls it."""
+    return TYPES[kind] if kind in TYPES else TYPES[kind._type_] + " *"
+
+
+def judged():
+    """A program in C that is compiled where it finds the same sizes, offsets, numbers and types as the module has."""
+    yield HEADER.replace("const void *", "const char *")
+    for name, struct in STRUCTS.items():
+        yield f'_Static_assert(sizeof(struct {name}) == {ctypes.sizeof(struct)}, "{name}");'
+        for field, _ in struct._fields_:
+            at = getattr(struct, field)
+            for asked, told in (("offsetof(struct {}, {})", at.offset), ("sizeof(((struct {} *)0)->{})", at.size)):
+                yield f'_Static_assert({asked.format(name, field)} == {told}, "{name} {field}");'
+    for name, value in vars(_calls).items():
+        if name.isupper() and isinstance(value, int):
+            yield f'_Static_assert(PCIGUEST_{name} == {value}, "{name}");'
+    for name, (answer, parameters) in _calls.DECLARED.items():
+        given = ", ".join(in_c(kind) for kind in parameters) or "void"
+        yield f"extern {in_c(answer)} (*const like_{name})({given});"
+        yield f"{in_c(answer)} (*const like_{name})({given}) = pciguest_{name};"
 
 
 class Header(unittest.TestCase):
     def test_calls(self):
-        calls = declared()
-        self.assertEqual(len(calls), 31)
-        self.assertEqual({name: types for name, (_, types) in calls.items()}, _calls.PARAMETERS)
-        for name, (answer, types) in calls.items():
-            call = _calls.CALLS[name]
-            self.assertEqual(tuple(call.argtypes), types, name)
-            self.assertEqual(call.restype, {"void": None, "uint32_t": c_uint32}[answer], name)
+        named = re.findall(r"^[A-Za-z][\w *]* \*?pciguest_(?!raw_)(\w+)\(", HEADER, re.MULTILINE)
+        self.assertGreater(len(named), 30)
+        self.assertEqual(named, list(_calls.DECLARED))
+        for name in named:
+            self.assertEqual((CALLS[name].restype, CALLS[name].argtypes), _calls.DECLARED[name], name)
 
-    def test_numbers(self):
-        given = dict(re.findall(r"PCIGUEST_(\w+) = (\d+)", HEADER))
-        for name in ("ARGUMENT", "REPLY", "WORDS", "CONFIG", "IO", "MEMORY", "RAISE_CONFIG"):
-            self.assertEqual(int(given[name]), getattr(_calls, name), name)
-
-    def test_handle(self):
-        for name, handle in (("pciguest", _calls.Handle), ("pciguest_board", _calls.BoardHandle)):
-            struct = rf"^struct {name} \{{\n    bool live;\n    void \*at;\n\}};"
-            self.assertTrue(re.search(struct, HEADER, re.MULTILINE))
-            self.assertEqual(sizeof(handle), 2 * sizeof(c_void_p))
-            self.assertEqual(handle.at.offset, sizeof(c_void_p))
-
-    def test_structs(self):
-        given = dict(re.findall(r"PCIGUEST_(\w+) = (\d+)", HEADER))
-        structs = {
-            "region": _calls.RegionTold,
-            "hit": _calls.HitTold,
-            "bar": _calls.BarTold,
-            "window": _calls.WindowTold,
-            "function": _calls.FunctionTold,
-        }
-        for name, told in structs.items():
-            inside = re.search(r"^struct pciguest_" + name + r" \{\n(.*?)^\};", HEADER, re.MULTILINE | re.DOTALL).group(1)
-            found = re.findall(r"^    ((?:struct )?\w+) (\w+)(?:\[PCIGUEST_(\w+)\])?;", inside, re.MULTILINE)
-            fields = [(field, TYPES[kind] * int(given[room]) if room else TYPES[kind]) for kind, field, room in found]
-            self.assertEqual(fields, told._fields_, name)
-            self.assertEqual(len(fields), len(inside.splitlines()), name)
+    @unittest.skipUnless(shutil.which("cc"), "no C compiler")
+    def test_c_agrees(self):
+        words = ["cc", "-std=c11", "-Wall", "-Wextra", "-Werror", "-fsyntax-only", "-x", "c", "-"]
+        asked = subprocess.run(words, input="\n".join(judged()), capture_output=True, text=True)
+        self.assertEqual(asked.stderr, "")
 
     def test_version(self):
         version = re.search(r'^#define PCIGUEST_VERSION "(.*)"', HEADER, re.MULTILINE).group(1)
@@ -82,9 +80,13 @@ class Header(unittest.TestCase):
         for file in ("python/pyproject.toml", "rust/Cargo.toml"):
             told = re.search(r'^version = "(.*)"', (TOP / "library" / file).read_text(), re.MULTILINE).group(1)
             self.assertEqual(told, version, file)
-        number = re.search(r"^#define PCIGUEST_VERSION_NUMBER (\d+)", HEADER, re.MULTILINE).group(1)
         major, minor, patch = map(int, version.split("."))
-        self.assertEqual(int(number), 10000 * major + 100 * minor + patch)
+        self.assertEqual(_calls.VERSION_NUMBER, 10000 * major + 100 * minor + patch)
+        self.assertEqual(CALLS["version"](), _calls.VERSION_NUMBER)
+
+    def test_words(self):
+        for number in (0, 101, 301, 904, 999):
+            self.assertEqual(CALLS["strerror"](number).decode(), pciguest.words(number))
 
 
 if __name__ == "__main__":

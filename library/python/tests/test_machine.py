@@ -7,7 +7,7 @@ import unittest.mock
 
 from boards import DATA, MAIN
 from pciguest import Bar, Machine, Refusal
-from pciguest._calls import CALLS
+from pciguest._library import CALLS
 
 
 class Case(unittest.TestCase):

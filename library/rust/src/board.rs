@@ -62,7 +62,7 @@ impl Board {
             at: null_mut(),
         };
         // SAFETY: the handle holds no board, and `file` has as many bytes as is said.
-        answered(unsafe { raw::pciguest_raw_board_new(&mut handle, file.as_ptr(), file.len()) })?;
+        answered(unsafe { raw::pciguest_board_new(&mut handle, file.as_ptr(), file.len()) })?;
         Ok(Board { handle })
     }
 
@@ -89,7 +89,7 @@ impl Board {
         let mut value = 0;
         // SAFETY: `value` is a place of its own.
         answered(unsafe {
-            raw::pciguest_raw_board_read(
+            raw::pciguest_board_read(
                 &mut self.handle,
                 space,
                 bus,
@@ -120,7 +120,7 @@ impl Board {
         let (space, bus, device, function, place) = at.parts();
         // SAFETY: no pointer but the handle is passed.
         answered(unsafe {
-            raw::pciguest_raw_board_write(
+            raw::pciguest_board_write(
                 &mut self.handle,
                 space,
                 bus,
@@ -148,14 +148,7 @@ impl Board {
         reply_to(line.as_ref(), |line, length, reply, room, written| {
             // SAFETY: `line` and `reply` have as many bytes as is said, and nothing overlaps.
             unsafe {
-                raw::pciguest_raw_board_run_line(
-                    &mut self.handle,
-                    line,
-                    length,
-                    reply,
-                    room,
-                    written,
-                )
+                raw::pciguest_board_run_line(&mut self.handle, line, length, reply, room, written)
             }
         })
     }
@@ -179,7 +172,7 @@ impl Board {
         let mut problems = 0;
         // SAFETY: the text has as many bytes as is said, and nothing overlaps.
         let (number, text) = told(1024, |text, room, needed| unsafe {
-            raw::pciguest_raw_board_audit(&mut self.handle, text, room, needed, &mut problems)
+            raw::pciguest_board_audit(&mut self.handle, text, room, needed, &mut problems)
         });
         answered(number).map(|()| Audit { text, problems })
     }
@@ -205,7 +198,7 @@ impl Board {
     /// ```
     pub fn set_up(&mut self) -> Result<Machine, Error> {
         // SAFETY: the handle holds no machine, and the two handles don't overlap.
-        Machine::made_by(|machine| unsafe { raw::pciguest_raw_set_up(&mut self.handle, machine) })
+        Machine::made_by(|machine| unsafe { raw::pciguest_set_up(&mut self.handle, machine) })
     }
 
     /// The board with its functions given to the guests of its file, as it stands, whoever set it up. Each function that
@@ -235,7 +228,7 @@ impl Board {
     pub fn into_guests(mut self) -> Result<Machine, NotGiven> {
         // SAFETY: the handle holds no machine, and the two handles don't overlap.
         let made = Machine::made_by(|machine| unsafe {
-            raw::pciguest_raw_board_guests(&mut self.handle, machine)
+            raw::pciguest_board_guests(&mut self.handle, machine)
         });
         made.map_err(|error| NotGiven { board: self, error })
     }
@@ -267,7 +260,7 @@ impl std::error::Error for NotGiven {}
 impl Drop for Board {
     fn drop(&mut self) {
         // SAFETY: no call is made on the handle after this one.
-        unsafe { raw::pciguest_raw_board_free(&mut self.handle) }
+        unsafe { raw::pciguest_board_free(&mut self.handle) }
     }
 }
 

@@ -1,6 +1,6 @@
 //! Refusals: a number and its words.
 
-use crate::raw::{pciguest_raw_words, WORDS};
+use crate::raw::{pciguest_words, WORDS};
 use std::fmt;
 
 /// The number of a refusal, with the words that the program has for it.
@@ -16,8 +16,7 @@ impl Refusal {
         let mut text = [0; WORDS];
         let mut length = 0;
         // SAFETY: `text` has as many bytes as is said, and neither overlaps `length`.
-        let answer =
-            unsafe { pciguest_raw_words(number, text.as_mut_ptr(), text.len(), &mut length) };
+        let answer = unsafe { pciguest_words(number, text.as_mut_ptr(), text.len(), &mut length) };
         if answer != 0 || length > text.len() {
             length = 0;
         }

@@ -116,7 +116,7 @@ impl Ranges {
 impl Bar {
     fn of(told: &raw::Bar) -> Option<Bar> {
         (told.size != 0).then_some(Bar {
-            space: if told.space == 1 {
+            space: if told.space == raw::IO {
                 Space::Io
             } else {
                 Space::Memory
@@ -149,7 +149,7 @@ impl Machine {
     pub fn count(&mut self) -> Result<usize, Error> {
         let mut count = 0;
         // SAFETY: `count` is a place of its own.
-        answered(unsafe { raw::pciguest_raw_count(&mut self.handle, &mut count) })?;
+        answered(unsafe { raw::pciguest_count(&mut self.handle, &mut count) })?;
         Ok(count)
     }
 
@@ -169,7 +169,7 @@ impl Machine {
     pub fn function(&mut self, index: usize) -> Result<Function, Error> {
         let mut told = raw::Function::default();
         // SAFETY: `told` is a place of its own.
-        answered(unsafe { raw::pciguest_raw_function(&mut self.handle, index, &mut told) })?;
+        answered(unsafe { raw::pciguest_function(&mut self.handle, index, &mut told) })?;
         Ok(Function::of(&told))
     }
 
@@ -209,9 +209,7 @@ impl Machine {
     pub fn slot_function(&mut self, guest: Guest, slot: u64) -> Result<Function, Error> {
         let mut told = raw::Function::default();
         // SAFETY: `told` is a place of its own.
-        answered(unsafe {
-            raw::pciguest_raw_slot(&mut self.handle, guest.index(), slot, &mut told)
-        })?;
+        answered(unsafe { raw::pciguest_slot(&mut self.handle, guest.index(), slot, &mut told) })?;
         Ok(Function::of(&told))
     }
 }

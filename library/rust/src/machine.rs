@@ -53,9 +53,7 @@ impl Machine {
     pub fn new(board: impl AsRef<[u8]>) -> Result<Machine, Error> {
         let board = board.as_ref();
         // SAFETY: the handle holds no machine, and `board` has as many bytes as is said.
-        Machine::made_by(|handle| unsafe {
-            raw::pciguest_raw_new(handle, board.as_ptr(), board.len())
-        })
+        Machine::made_by(|handle| unsafe { raw::pciguest_new(handle, board.as_ptr(), board.len()) })
     }
 
     /// The machine that a call leaves in a handle that holds none.
@@ -81,7 +79,7 @@ impl Machine {
         let mut guest = 0;
         // SAFETY: `name` has as many bytes as is said, and nothing overlaps.
         answered(unsafe {
-            raw::pciguest_raw_guest(&mut self.handle, name.as_ptr(), name.len(), &mut guest)
+            raw::pciguest_guest(&mut self.handle, name.as_ptr(), name.len(), &mut guest)
         })?;
         Ok(Guest::of_index(guest))
     }
@@ -110,7 +108,7 @@ impl Machine {
         let mut value = 0;
         // SAFETY: `value` is a place of its own.
         answered(unsafe {
-            raw::pciguest_raw_read(
+            raw::pciguest_read(
                 &mut self.handle,
                 guest.index(),
                 space,
@@ -142,7 +140,7 @@ impl Machine {
         let (space, slot, place) = at.parts();
         // SAFETY: no pointer but the handle is passed.
         answered(unsafe {
-            raw::pciguest_raw_write(
+            raw::pciguest_write(
                 &mut self.handle,
                 guest.index(),
                 space,
@@ -185,7 +183,7 @@ impl Machine {
     ) -> Result<(), Error> {
         // SAFETY: no pointer but the handle is passed.
         answered(unsafe {
-            raw::pciguest_raw_raise(
+            raw::pciguest_raise(
                 &mut self.handle,
                 guest.index(),
                 slot,
@@ -215,7 +213,7 @@ impl Machine {
         let mut value = 0;
         // SAFETY: `value` is a place of its own.
         answered(unsafe {
-            raw::pciguest_raw_host_read(
+            raw::pciguest_host_read(
                 &mut self.handle,
                 space,
                 bus,
@@ -257,7 +255,7 @@ impl Machine {
     ) -> Result<(), Error> {
         // SAFETY: no pointer but the handle is passed.
         answered(unsafe {
-            raw::pciguest_raw_move(&mut self.handle, from.index(), slot, to.index(), target)
+            raw::pciguest_move(&mut self.handle, from.index(), slot, to.index(), target)
         })
     }
 
@@ -281,7 +279,7 @@ impl Machine {
     /// ```
     pub fn reset(&mut self, guest: Guest, slot: u64) -> Result<(), Error> {
         // SAFETY: no pointer but the handle is passed.
-        answered(unsafe { raw::pciguest_raw_reset(&mut self.handle, guest.index(), slot) })
+        answered(unsafe { raw::pciguest_reset(&mut self.handle, guest.index(), slot) })
     }
 
     /// Gives the function at a path, which no guest has, to a guest, into an empty slot: there and on the board it is
@@ -305,7 +303,7 @@ impl Machine {
     pub fn give(&mut self, path: &str, guest: Guest, slot: u64) -> Result<(), Error> {
         // SAFETY: `path` has as many bytes as is said, and nothing overlaps.
         answered(unsafe {
-            raw::pciguest_raw_give(
+            raw::pciguest_give(
                 &mut self.handle,
                 path.as_ptr(),
                 path.len(),
@@ -331,7 +329,7 @@ impl Machine {
     /// ```
     pub fn take(&mut self, guest: Guest, slot: u64) -> Result<(), Error> {
         // SAFETY: no pointer but the handle is passed.
-        answered(unsafe { raw::pciguest_raw_take(&mut self.handle, guest.index(), slot) })
+        answered(unsafe { raw::pciguest_take(&mut self.handle, guest.index(), slot) })
     }
 
     /// Reads one byte of the function in a guest's slot, as its device does: of a region, or of configuration space
@@ -363,7 +361,7 @@ impl Machine {
         let mut value = 0;
         // SAFETY: `value` is a place of its own.
         answered(unsafe {
-            raw::pciguest_raw_device_read(
+            raw::pciguest_device_read(
                 &mut self.handle,
                 guest.index(),
                 slot,
@@ -398,7 +396,7 @@ impl Machine {
     ) -> Result<(), Error> {
         // SAFETY: no pointer but the handle is passed.
         answered(unsafe {
-            raw::pciguest_raw_device_write(
+            raw::pciguest_device_write(
                 &mut self.handle,
                 guest.index(),
                 slot,
@@ -435,7 +433,7 @@ impl Machine {
         let mut told = raw::Region::default();
         // SAFETY: `told` is a place of its own.
         answered(unsafe {
-            raw::pciguest_raw_region(&mut self.handle, guest.index(), slot, register, &mut told)
+            raw::pciguest_region(&mut self.handle, guest.index(), slot, register, &mut told)
         })?;
         Ok(Region::of(&told))
     }
@@ -460,9 +458,7 @@ impl Machine {
     pub fn changed(&mut self, guest: Guest) -> Result<u64, Error> {
         let mut count = 0;
         // SAFETY: `count` is a place of its own.
-        answered(unsafe {
-            raw::pciguest_raw_changed(&mut self.handle, guest.index(), &mut count)
-        })?;
+        answered(unsafe { raw::pciguest_changed(&mut self.handle, guest.index(), &mut count) })?;
         Ok(count)
     }
 
@@ -489,7 +485,7 @@ impl Machine {
         let mut told = raw::Hit::default();
         // SAFETY: `told` is a place of its own.
         answered(unsafe {
-            raw::pciguest_raw_locate(
+            raw::pciguest_locate(
                 &mut self.handle,
                 guest.index(),
                 space,
@@ -516,9 +512,7 @@ impl Machine {
     pub fn run_line(&mut self, line: impl AsRef<[u8]>) -> Result<Option<String>, Error> {
         reply_to(line.as_ref(), |line, length, reply, room, written| {
             // SAFETY: `line` and `reply` have as many bytes as is said, and nothing overlaps.
-            unsafe {
-                raw::pciguest_raw_run_line(&mut self.handle, line, length, reply, room, written)
-            }
+            unsafe { raw::pciguest_run_line(&mut self.handle, line, length, reply, room, written) }
         })
     }
 }
@@ -526,7 +520,7 @@ impl Machine {
 impl Drop for Machine {
     fn drop(&mut self) {
         // SAFETY: no call is made on the handle after this one.
-        unsafe { raw::pciguest_raw_free(&mut self.handle) }
+        unsafe { raw::pciguest_free(&mut self.handle) }
     }
 }
 

@@ -1,6 +1,9 @@
 //! Where an access or a raise goes, and where regions stand.
 
-use crate::raw::{self, RAISE_CONFIG, RAISE_NOWHERE};
+use crate::raw::{self, RAISE_CONFIG};
+
+/// No part of a function: the library refuses it.
+const NO_PART: u32 = RAISE_CONFIG + 1;
 
 /// A guest of a machine, as [`Machine::guest`](crate::Machine::guest) finds it by its name. It means the guest at the
 /// same index in another machine.
@@ -56,9 +59,9 @@ impl At {
     /// Space, slot and place, as the header takes them.
     pub(crate) fn parts(self) -> (u32, u64, u64) {
         match self {
-            At::Config { slot, offset } => (0, slot, offset),
-            At::Io { port } => (1, 0, port),
-            At::Memory { address } => (2, 0, address),
+            At::Config { slot, offset } => (raw::CONFIG, slot, offset),
+            At::Io { port } => (raw::IO, 0, port),
+            At::Memory { address } => (raw::MEMORY, 0, address),
         }
     }
 }
@@ -98,9 +101,9 @@ impl HostAt {
                 device,
                 function,
                 offset,
-            } => (0, bus, device, function, offset),
-            HostAt::Io { port } => (1, 0, 0, 0, port),
-            HostAt::Memory { address } => (2, 0, 0, 0, address),
+            } => (raw::CONFIG, bus, device, function, offset),
+            HostAt::Io { port } => (raw::IO, 0, 0, 0, port),
+            HostAt::Memory { address } => (raw::MEMORY, 0, 0, 0, address),
         }
     }
 }
@@ -120,7 +123,7 @@ impl Part {
         match self {
             Part::Config => RAISE_CONFIG,
             Part::Region(register) if register < 6 => u32::from(register),
-            Part::Region(_) => RAISE_NOWHERE,
+            Part::Region(_) => NO_PART,
         }
     }
 
@@ -161,7 +164,7 @@ pub struct Region {
 impl Region {
     pub(crate) fn of(told: &raw::Region) -> Region {
         Region {
-            space: if told.space == 1 {
+            space: if told.space == raw::IO {
                 Space::Io
             } else {
                 Space::Memory

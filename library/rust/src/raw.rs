@@ -1,82 +1,205 @@
-//! What `library/pciguest.h` declares; `tests/header.rs` compares the two.
+//! What the header declares. tools/bindings writes this file from library/pciguest.h.
 
-use std::ffi::c_void;
+#![allow(dead_code)] // this crate uses not all of it
 
-/// The struct of the header. `live` false is no machine.
+use std::ffi::{c_char, c_void};
+
+pub const CONFIG: u32 = 0;
+pub const IO: u32 = 1;
+pub const MEMORY: u32 = 2;
+
+pub const RAISE_CONFIG: u32 = 6;
+
+pub const PATH: usize = 80;
+pub const BARS: usize = 6;
+pub const WINDOWS: usize = 3;
+
+pub const REPLY: usize = 48;
+pub const WORDS: usize = 20;
+
+pub const OK: u32 = 0;
+/// not TOML
+pub const NOT_TOML: u32 = 101;
+/// key
+pub const BAD_KEY: u32 = 102;
+/// unknown key
+pub const UNKNOWN_KEY: u32 = 103;
+/// number
+pub const BAD_NUMBER: u32 = 104;
+/// place
+pub const BAD_PLACE: u32 = 105;
+/// register
+pub const BAD_REGISTER: u32 = 106;
+/// size
+pub const BAD_SIZE: u32 = 107;
+/// too many
+pub const TOO_MANY: u32 = 108;
+/// guest name
+pub const BAD_GUEST_NAME: u32 = 109;
+/// slot
+pub const BAD_SLOT: u32 = 110;
+/// aperture
+pub const BAD_APERTURE: u32 = 111;
+/// cell masks
+pub const BAD_CELL_MASKS: u32 = 112;
+/// memory
+pub const FILE_MEMORY: u32 = 199;
+/// buses
+pub const TOO_MANY_BUSES: u32 = 201;
+/// no I/O window
+pub const NO_IO_WINDOW: u32 = 202;
+/// I/O pool
+pub const IO_POOL: u32 = 203;
+/// memory pool
+pub const MEMORY_POOL: u32 = 204;
+/// prefetchable pool
+pub const PREFETCHABLE_POOL: u32 = 205;
+/// closed region
+pub const CLOSED_REGION: u32 = 206;
+/// not in order
+pub const NOT_IN_ORDER: u32 = 207;
+/// memory
+pub const OUT_OF_MEMORY: u32 = 299;
+/// misaligned
+pub const MISALIGNED: u32 = 301;
+/// width
+pub const BAD_WIDTH: u32 = 302;
+/// range
+pub const OUT_OF_RANGE: u32 = 303;
+/// empty slot
+pub const EMPTY_SLOT: u32 = 601;
+/// slot taken
+pub const SLOT_TAKEN: u32 = 602;
+/// no machine
+pub const NO_MACHINE: u32 = 901;
+/// argument
+pub const ARGUMENT: u32 = 902;
+/// in use
+pub const IN_USE: u32 = 903;
+/// not at reset
+pub const NOT_AT_RESET: u32 = 904;
+
+/// bad line
+pub const BAD_LINE: u32 = 401;
+/// unknown guest
+pub const UNKNOWN_GUEST: u32 = 402;
+/// long line
+pub const LONG_LINE: u32 = 403;
+/// read failed
+pub const READ_FAILED: u32 = 501;
+/// write failed
+pub const WRITE_FAILED: u32 = 502;
+/// usage
+pub const USAGE: u32 = 701;
+/// board file
+pub const BOARD_FILE: u32 = 702;
+/// memory
+pub const WORD_MEMORY: u32 = 799;
+
+/// What a program holds of a machine: a board that is set up, with its guests. It begins as `struct pciguest machine =
+/// PCIGUEST_INIT;`, or with all bytes 0, and then holds none. Only the library looks at its fields. Two copies of one
+/// struct are never both used; it may be moved, and the place that it left forgotten.
 #[repr(C)]
 pub struct Handle {
     pub live: bool,
     pub at: *mut c_void,
 }
 
-/// The struct of the header for a board that firmware drives. `live` false is no board.
+/// What a program holds of a board that its own firmware drives, from reset on. It begins as `struct pciguest_board
+/// board = PCIGUEST_BOARD_INIT;`, or with all bytes 0, and then holds none. What is said of the struct above holds for
+/// it too.
 #[repr(C)]
 pub struct BoardHandle {
     pub live: bool,
     pub at: *mut c_void,
 }
 
-/// What is told of a region: `space` is 1 for ports and 2 for memory, and the last two are 1 or 0.
+/// Where a region of a guest's function stands now, by the guest's own registers. It takes `size` addresses of its
+/// space from `first` on, and answers there where `is_open` is 1.
 #[repr(C)]
-#[derive(Default)]
+#[derive(Clone, Copy, Default)]
 pub struct Region {
     pub first: u64,
     pub size: u64,
+    /// PCIGUEST_IO or PCIGUEST_MEMORY
     pub space: u32,
+    /// 1 or 0
     pub prefetchable: u32,
+    /// 1 or 0: whether the guest's Command opens the space
     pub is_open: u32,
 }
 
-/// What is told of a hit: `found` is 1 or 0.
+/// The byte that an access hits. The part is as for pciguest_raise: a region by its base address register, 0 to 5, or
+/// PCIGUEST_RAISE_CONFIG. Where nothing is hit, all of it is 0.
 #[repr(C)]
-#[derive(Default)]
+#[derive(Clone, Copy, Default)]
 pub struct Hit {
     pub slot: u64,
+    /// in the region, or in configuration space
     pub offset: u64,
     pub part: u32,
+    /// 1 or 0
     pub found: u32,
 }
 
-/// What is told of a region by its register on the board: `space` is 1 for ports and 2 for memory, and the last two are 1
-/// or 0. All 0 where none begins there.
+/// The region that begins at a base address register, as the register on the board has it: `size` addresses of its
+/// space from `first` on. Where none begins there, all of it is 0.
 #[repr(C)]
 #[derive(Clone, Copy, Default)]
 pub struct Bar {
     pub first: u64,
     pub size: u64,
+    /// PCIGUEST_IO or PCIGUEST_MEMORY
     pub space: u32,
+    /// 1 or 0
     pub prefetchable: u32,
+    /// 1 or 0: whether the next register has the high half of the address
     pub is_64_bit: u32,
 }
 
-/// What is told of a window: `is_there` is 1 or 0.
+/// A window of a bridge, as its registers on the board have it: the addresses from `first` to `last`, both included.
+/// Where the bridge has no such window, or its base is above its limit, all of it is 0.
 #[repr(C)]
 #[derive(Clone, Copy, Default)]
 pub struct Window {
     pub first: u64,
     pub last: u64,
+    /// 1 or 0
     pub is_there: u32,
 }
 
-/// What is told of a function of the board: `is_bridge` and `is_given` are 1 or 0.
+/// A function of the board as it is now.
 #[repr(C)]
 pub struct Function {
+    /// as board files write it, as "2.0/1.0"; all bytes after it are 0
     pub path: [u8; 80],
+    /// in bytes, without a 0
     pub path_length: usize,
+    /// 0 on bus 0, else the Secondary Bus Number of the bridge above
     pub bus: u32,
+    /// 0 to 31
     pub device: u32,
+    /// 0 to 7
     pub function: u32,
     pub vendor_id: u32,
     pub device_id: u32,
     pub revision_id: u32,
+    /// 24 bits: base class, sub-class, programming interface
     pub class_code: u32,
+    /// 0 in a bridge, as is the next
     pub subsystem_vendor_id: u32,
     pub subsystem_id: u32,
+    /// 1 or 0
     pub is_bridge: u32,
+    /// by register; all 0 in a bridge
     pub regions: [Bar; 6],
+    /// I/O, memory, prefetchable memory; all 0 in an endpoint
     pub windows: [Window; 3],
+    /// where is_given is 1, the guest that has it; else 0
     pub guest: usize,
+    /// where is_given is 1, its slot there; else 0
     pub slot: u64,
+    /// 1 or 0: whether a guest has it
     pub is_given: u32,
 }
 
@@ -104,29 +227,33 @@ impl Default for Function {
     }
 }
 
-/// The number of an argument that a call does not take, and of a text that needs more room.
-pub const ARGUMENT: u32 = 902;
-
-/// The room that a reply needs.
-pub const REPLY: usize = 48;
-
-/// The most that the words of a number need.
-pub const WORDS: usize = 20;
-
-/// A raise that goes to configuration space, and one that goes nowhere: the library refuses it.
-pub const RAISE_CONFIG: u32 = 6;
-pub const RAISE_NOWHERE: u32 = 7;
-
 extern "C" {
-    pub fn pciguest_raw_new(machine: *mut Handle, board: *const u8, length: usize) -> u32;
-    pub fn pciguest_raw_free(machine: *mut Handle);
-    pub fn pciguest_raw_guest(
+    /// The version of the library that is linked or loaded, as PCIGUEST_VERSION_NUMBER has that of the header.
+    pub fn pciguest_version() -> u32;
+    /// The words of a number, as pciguest_words has them, as a text that ends with a 0 and stays as long as the library
+    /// is loaded. A number that stands for nothing, as 0, has the empty text.
+    pub fn pciguest_strerror(number: u32) -> *const c_char;
+    /// Sets up the board of a board file, given as its bytes, and gives its functions to the guests of the file.
+    /// 0: the machine holds the world that the file declares, before any access. Otherwise the number of the first
+    /// check that the file or its board fails, 199 or 299 out of memory, or 903.
+    pub fn pciguest_new(machine: *mut Handle, board: *const u8, length: usize) -> u32;
+    /// Frees the machine. The struct then holds none, and may be used for a new one. Where it held none, nothing
+    /// happens.
+    pub fn pciguest_free(machine: *mut Handle);
+    /// The index of the guest of a name, as the calls below take it: guests stand in the order of the board file, from
+    /// 0 on. 902: no guest has this name.
+    pub fn pciguest_guest(
         machine: *mut Handle,
         name: *const u8,
         length: usize,
         guest: *mut usize,
     ) -> u32;
-    pub fn pciguest_raw_read(
+    /// Reads as a guest, by the guest's own view: slot and offset, port, or address. What is read is what the guest's
+    /// own functions answer, each a register file by itself; all ones where nothing of the guest's answers. A read
+    /// changes nothing. The slot is looked at for configuration space alone.
+    /// 302: the width is not 1, 2 or 4. 301: the place is no multiple of it. 303: the slot, offset or port is out of
+    /// range. 902: there is no such guest or space.
+    pub fn pciguest_read(
         machine: *mut Handle,
         guest: usize,
         space: u32,
@@ -135,7 +262,8 @@ extern "C" {
         width: u32,
         value: *mut u32,
     ) -> u32;
-    pub fn pciguest_raw_write(
+    /// Writes the low bytes of a value as a guest, as many as it is wide. No other guest can tell. Numbers as above.
+    pub fn pciguest_write(
         machine: *mut Handle,
         guest: usize,
         space: u32,
@@ -144,7 +272,38 @@ extern "C" {
         width: u32,
         value: u32,
     ) -> u32;
-    pub fn pciguest_raw_raise(
+    /// How many bytes the first lawful piece of an access has, with that many bytes left of it from a place on: 4, 2 or
+    /// 1, the most that stand at a multiple of their number.
+    pub fn pciguest_piece(place: u64, left: u32) -> u32;
+    /// Whether an access of 1 to 8 bytes ends where its space does, or before.
+    pub fn pciguest_ends_within(space: u32, place: u64, width: u32) -> bool;
+    /// Reads as a guest what a processor may ask at once and a cycle of the bus can't: 1 to 8 bytes, at any place. It
+    /// is split as a bridge does, into the lawful pieces that pciguest_piece tells, in the order of addresses, and the
+    /// byte at the lowest address is the lowest of the value. 302: the width is not 1 to 8. 303: the slot is out of
+    /// range, or the access ends past its space. Other numbers as above.
+    pub fn pciguest_read_wide(
+        machine: *mut Handle,
+        guest: usize,
+        space: u32,
+        slot: u64,
+        place: u64,
+        width: u32,
+        value: *mut u64,
+    ) -> u32;
+    /// Writes so the low bytes of a value, as many as it is wide.
+    pub fn pciguest_write_wide(
+        machine: *mut Handle,
+        guest: usize,
+        space: u32,
+        slot: u64,
+        place: u64,
+        width: u32,
+        value: u64,
+    ) -> u32;
+    /// Sets bits of one byte of the function in a guest's slot, as its device does. 303: the slot is above 31, or the
+    /// function has no such byte. 601: the slot is empty. 902: there is no such guest, or the part is above 6. A raise
+    /// that is refused changes nothing.
+    pub fn pciguest_raise(
         machine: *mut Handle,
         guest: usize,
         slot: u64,
@@ -152,7 +311,9 @@ extern "C" {
         offset: u64,
         mask: u8,
     ) -> u32;
-    pub fn pciguest_raw_host_read(
+    /// Reads as the host: what the board shows at a physical number, port or address. It changes nothing. Numbers as
+    /// for pciguest_read; 902 for a device above 31 or a function above 7 too.
+    pub fn pciguest_host_read(
         machine: *mut Handle,
         space: u32,
         bus: u8,
@@ -162,23 +323,41 @@ extern "C" {
         width: u32,
         value: *mut u32,
     ) -> u32;
-    pub fn pciguest_raw_move(
+    /// Moves the function in a slot of a guest to a slot of another, or of the same. Nothing is carried over: the
+    /// function is then at reset. 303: a slot is above 31. 601: the slot that it leaves is empty. 602: the slot that it
+    /// comes to is taken. 902: there is no such guest.
+    pub fn pciguest_move(
         machine: *mut Handle,
         from: usize,
         slot: u64,
         to: usize,
         target: u64,
     ) -> u32;
-    pub fn pciguest_raw_reset(machine: *mut Handle, guest: usize, slot: u64) -> u32;
-    pub fn pciguest_raw_give(
+    /// Resets the function in a guest's slot, where it is: nothing is carried over, as in a move. It has no line of a
+    /// script; two moves do the same, to an empty slot and back. 303: the slot is above 31. 601: the slot is empty.
+    /// 902: there is no such guest.
+    pub fn pciguest_reset(machine: *mut Handle, guest: usize, slot: u64) -> u32;
+    /// Gives a function of the board that no guest has to a guest, into an empty slot: there and on the board it is
+    /// then at reset, on the board but for what guests have copies of. Its path is a text, as board files and
+    /// pciguest_function have it. 303: the slot is above 31, or no endpoint stands at the path. 602: a guest has the
+    /// function, or the slot is taken.
+    /// 206: one of its regions is closed. 902: there is no such guest. No line of a script says it.
+    pub fn pciguest_give(
         machine: *mut Handle,
         path: *const u8,
         length: usize,
         guest: usize,
         slot: u64,
     ) -> u32;
-    pub fn pciguest_raw_take(machine: *mut Handle, guest: usize, slot: u64) -> u32;
-    pub fn pciguest_raw_device_read(
+    /// Takes the function in a guest's slot from this guest: the slot is then empty, and no guest has the function,
+    /// which is at reset on the board, but for what guests have copies of. Numbers as for pciguest_reset. No line of a
+    /// script says it.
+    pub fn pciguest_take(machine: *mut Handle, guest: usize, slot: u64) -> u32;
+    /// Reads one byte of the function in a guest's slot, as its device does: of a region, or of configuration space the
+    /// two bytes of Status (06h, 07h) and the device's own registers (40h to FFh). A byte that has no register reads 0.
+    /// It changes nothing. 303: the slot is above 31, or the device has no such byte. 601: the slot is empty. 902:
+    /// there is no such guest, or the part is above 6.
+    pub fn pciguest_device_read(
         machine: *mut Handle,
         guest: usize,
         slot: u64,
@@ -186,7 +365,10 @@ extern "C" {
         offset: u64,
         value: *mut u32,
     ) -> u32;
-    pub fn pciguest_raw_device_write(
+    /// Writes such a byte as its device does: it takes the value, whatever a guest's writes may change of it, and what
+    /// they may change of it stays. Where no register is, nothing changes. Numbers as above. It has no line of a
+    /// script.
+    pub fn pciguest_device_write(
         machine: *mut Handle,
         guest: usize,
         slot: u64,
@@ -194,15 +376,30 @@ extern "C" {
         offset: u64,
         value: u8,
     ) -> u32;
-    pub fn pciguest_raw_region(
+    /// Where the region that begins at a base address register, 0 to 5, stands now, in the guest's own view. It takes
+    /// no memory and changes nothing. The answer stays until the guest writes Command or a base address register of
+    /// this function, or it is moved, reset or taken: while pciguest_changed tells the same, no answer for this guest
+    /// changes.
+    /// 303: the slot is above 31, or no region begins at this register. 601: the slot is empty. 902: there is no such
+    /// guest.
+    pub fn pciguest_region(
         machine: *mut Handle,
         guest: usize,
         slot: u64,
         bar: u32,
         region: *mut Region,
     ) -> u32;
-    pub fn pciguest_raw_changed(machine: *mut Handle, guest: usize, count: *mut u64) -> u32;
-    pub fn pciguest_raw_locate(
+    /// A count of the guest, which grows by one with each access of the guest, move, reset, gift or taking that touches
+    /// one of its slots so that an answer of pciguest_region for it may be another one: while the count stays, each of
+    /// these answers stays, for all slots and registers. Nothing else makes it grow. It is 0 in a machine that was made
+    /// just now, and goes on from 0 after 2^64 - 1. It takes no memory and changes nothing. 902: there is no such
+    /// guest.
+    pub fn pciguest_changed(machine: *mut Handle, guest: usize, count: *mut u64) -> u32;
+    /// What an access of the guest at a place hits, as pciguest_read and pciguest_write take the place: a byte of a
+    /// function in one of its slots, or nothing. It takes no memory and changes nothing. Every access there begins at
+    /// this byte, but for four bytes at port CF8h, which are the guest's own CONFIG_ADDRESS. Numbers as for a read of
+    /// one byte there.
+    pub fn pciguest_locate(
         machine: *mut Handle,
         guest: usize,
         space: u32,
@@ -210,19 +407,26 @@ extern "C" {
         place: u64,
         hit: *mut Hit,
     ) -> u32;
-    pub fn pciguest_raw_count(machine: *mut Handle, count: *mut usize) -> u32;
-    pub fn pciguest_raw_function(
-        machine: *mut Handle,
-        index: usize,
-        function: *mut Function,
-    ) -> u32;
-    pub fn pciguest_raw_slot(
+    /// How many functions the board has, endpoints and bridges.
+    pub fn pciguest_count(machine: *mut Handle, count: *mut usize) -> u32;
+    /// The function at an index, from 0 to one less than pciguest_count tells, in the order of paths: a bridge stands
+    /// before what is behind it. Where regions and windows stand, and by which number it is reached, is told as the
+    /// board's own registers have it, which no guest writes; who has it, as it is after the last move. It takes no
+    /// memory and changes nothing. 902: there is no such function.
+    pub fn pciguest_function(machine: *mut Handle, index: usize, function: *mut Function) -> u32;
+    /// The same of the function in a slot of a guest. 303: the slot is above 31. 601: the slot is empty. 902: there is
+    /// no such guest.
+    pub fn pciguest_slot(
         machine: *mut Handle,
         guest: usize,
         slot: u64,
         function: *mut Function,
     ) -> u32;
-    pub fn pciguest_raw_run_line(
+    /// Runs one line of a script, with its line feed or without; a line feed elsewhere makes it a bad line. The reply
+    /// is one line with its line feed, or nothing for a blank line or a comment; it has no 0 at its end, and `written`
+    /// tells its length. A line that is refused is answered by its reply, and the call by 0. 902: there is less room
+    /// than PCIGUEST_REPLY.
+    pub fn pciguest_run_line(
         machine: *mut Handle,
         line: *const u8,
         length: usize,
@@ -230,24 +434,45 @@ extern "C" {
         room: usize,
         written: *mut usize,
     ) -> u32;
-    pub fn pciguest_raw_report(
+    /// Writes the report of a board file, as `pciguest list` does, and tells its length; it has no 0 at its end. 902:
+    /// there is less room than that, and nothing was written; other numbers as for pciguest_new. No machine is needed.
+    pub fn pciguest_report(
         board: *const u8,
         length: usize,
         text: *mut u8,
         room: usize,
         needed: *mut usize,
     ) -> u32;
-    pub fn pciguest_raw_check(
+    /// Writes what is wrong with a board file, or that its board fits, as `pciguest check board.toml` does, and tells
+    /// the text's length; it has no 0 at its end. 0: the board fits. 101 to 112 or 201 to 205: the file or its board is
+    /// refused, and the text says why. 199 or 299: out of memory, and nothing was written or told. 902: there is less
+    /// room than the text needs, and nothing was written. No machine is needed.
+    pub fn pciguest_check(
         board: *const u8,
         length: usize,
         text: *mut u8,
         room: usize,
         needed: *mut usize,
     ) -> u32;
-    pub fn pciguest_raw_words(number: u32, text: *mut u8, room: usize, needed: *mut usize) -> u32;
-    pub fn pciguest_raw_board_new(board: *mut BoardHandle, file: *const u8, length: usize) -> u32;
-    pub fn pciguest_raw_board_free(board: *mut BoardHandle);
-    pub fn pciguest_raw_board_read(
+    /// Writes the words of a number that a call answers, or that the program or a reply tells, and tells their length;
+    /// they have no 0 at their end. A number that stands for nothing, as 0, has no words, and length 0. 902: there is
+    /// less room than the words need, and nothing was written; PCIGUEST_WORDS is always enough. No machine is needed.
+    pub fn pciguest_words(number: u32, text: *mut u8, room: usize, needed: *mut usize) -> u32;
+    /// Makes the board of a board file, given as its bytes, at reset, for firmware of one's own to drive: no number and
+    /// no address is given out, and every function is off. The guests of the file are checked, and no function is given
+    /// to them.
+    /// 0: the struct holds the board. 101 to 112: the number of the first check that the file fails. 199: out of
+    /// memory. 903: the struct holds a board already.
+    pub fn pciguest_board_new(board: *mut BoardHandle, file: *const u8, length: usize) -> u32;
+    /// Frees the board. The struct then holds none, and may be used for a new one. Where it held none, nothing happens.
+    pub fn pciguest_board_free(board: *mut BoardHandle);
+    /// Reads as firmware does, in whatever state the registers are: configuration space by bus, device, function and
+    /// byte offset, I/O by port, or memory by address; all ones where nothing answers. Bus, device and function are
+    /// looked at for configuration space alone; by ports it is reached at CF8h and CFCh. A read there by number leaves
+    /// 0 in CONFIG_ADDRESS (CF8h); else a read changes nothing.
+    /// 302: the width is not 1, 2 or 4 bytes. 301: the place is no multiple of it. 303: the offset is above 255, or the
+    /// port above FFFFFFFFh. 902: there is no such space, the device is above 31, or the function above 7.
+    pub fn pciguest_board_read(
         board: *mut BoardHandle,
         space: u32,
         bus: u8,
@@ -257,7 +482,9 @@ extern "C" {
         width: u32,
         value: *mut u32,
     ) -> u32;
-    pub fn pciguest_raw_board_write(
+    /// Writes the low bytes of a value as firmware does, as many as it is wide; what nothing takes is dropped. A write
+    /// of configuration space by number leaves 0 in CONFIG_ADDRESS. Numbers as above.
+    pub fn pciguest_board_write(
         board: *mut BoardHandle,
         space: u32,
         bus: u8,
@@ -267,7 +494,10 @@ extern "C" {
         width: u32,
         value: u32,
     ) -> u32;
-    pub fn pciguest_raw_board_run_line(
+    /// Runs one line of firmware, as `pciguest firmware` does, with its line feed or without. `host audit` and `host
+    /// guests` are bad lines here: pciguest_board_audit and pciguest_board_guests do the same. The reply and 902 are as
+    /// for pciguest_run_line.
+    pub fn pciguest_board_run_line(
         board: *mut BoardHandle,
         line: *const u8,
         length: usize,
@@ -275,13 +505,31 @@ extern "C" {
         room: usize,
         written: *mut usize,
     ) -> u32;
-    pub fn pciguest_raw_board_audit(
+    /// Writes what is wrong in the registers of a board as they stand, whoever wrote them: a line for each problem, and
+    /// a last line `audit: ok` or `audit: N problems`. A problem is a byte of an open region that a bridge above
+    /// doesn't forward, an address that two answer on one bus, or a function that no cycle finds. It tells the text's
+    /// length, which has no 0 at its end, and how many problems there are. The board stays as it is.
+    /// 902: there is less room than the text needs, whose length alone is told. 299: out of memory.
+    pub fn pciguest_board_audit(
         board: *mut BoardHandle,
         text: *mut u8,
         room: usize,
         needed: *mut usize,
         count: *mut usize,
     ) -> u32;
-    pub fn pciguest_raw_set_up(board: *mut BoardHandle, machine: *mut Handle) -> u32;
-    pub fn pciguest_raw_board_guests(board: *mut BoardHandle, machine: *mut Handle) -> u32;
+    /// Sets up a board that is at reset as pciguest_new does, in place of firmware of one's own, and gives its
+    /// functions to the guests of its file: the machine is then the one that pciguest_new makes of the file. The board
+    /// stays as it is.
+    /// 901: there is no board. 903: the struct of the machine holds one already. 904: a write was done on the board
+    /// since reset. 201 to 205: the board can't be set up. 199, 299: out of memory. The first of these that holds is
+    /// answered.
+    pub fn pciguest_set_up(board: *mut BoardHandle, machine: *mut Handle) -> u32;
+    /// Gives the functions of a board to the guests of its file as the board stands, whoever set it up: where its audit
+    /// tells no problem and each region of their functions is open, the machine is then over this board. Each function
+    /// that is given is reset first, but for what guests have copies of, and the board's CONFIG_ADDRESS is cleared. The
+    /// struct of the board then holds none. Where it is refused, both structs are as they were.
+    /// 901: there is no board. 903: the struct of the machine holds one already. 207: the audit tells a problem. 206: a
+    /// region of a function that is to be given is closed. 199, 299: out of memory. 901, 903 and 207 come in this order
+    /// before 206; pciguest_board_audit tells the problems of 207.
+    pub fn pciguest_board_guests(board: *mut BoardHandle, machine: *mut Handle) -> u32;
 }

@@ -1,9 +1,7 @@
 //! What is told of a board file and of a number, for which no machine is needed; and replies to lines.
 
 use crate::error::{answered, Error};
-use crate::raw::{
-    pciguest_raw_check, pciguest_raw_report, pciguest_raw_words, ARGUMENT, REPLY, WORDS,
-};
+use crate::raw::{pciguest_check, pciguest_report, pciguest_words, ARGUMENT, REPLY, WORDS};
 
 /// What a check says of a board file.
 #[derive(Clone, Debug, PartialEq, Eq)]
@@ -29,7 +27,7 @@ pub fn report(board: impl AsRef<[u8]>) -> Result<String, Error> {
     let board = board.as_ref();
     // SAFETY: `board` has as many bytes as is said, and so has the text; nothing overlaps.
     let (number, text) = told(4096, |text, room, needed| unsafe {
-        pciguest_raw_report(board.as_ptr(), board.len(), text, room, needed)
+        pciguest_report(board.as_ptr(), board.len(), text, room, needed)
     });
     answered(number).map(|()| text)
 }
@@ -50,7 +48,7 @@ pub fn check(board: impl AsRef<[u8]>) -> Result<Check, Error> {
     let board = board.as_ref();
     // SAFETY: as for a report.
     let (number, text) = told(4096, |text, room, needed| unsafe {
-        pciguest_raw_check(board.as_ptr(), board.len(), text, room, needed)
+        pciguest_check(board.as_ptr(), board.len(), text, room, needed)
     });
     match answered(number) {
         Err(Error::Memory(refusal)) => Err(Error::Memory(refusal)),
@@ -71,7 +69,7 @@ pub fn check(board: impl AsRef<[u8]>) -> Result<Check, Error> {
 pub fn words(number: u32) -> String {
     // SAFETY: the text has as many bytes as is said, and nothing overlaps.
     told(WORDS, |text, room, needed| unsafe {
-        pciguest_raw_words(number, text, room, needed)
+        pciguest_words(number, text, room, needed)
     })
     .1
 }
@@ -93,13 +91,12 @@ pub(crate) fn told(
     (number, String::from_utf8_lossy(&text).into_owned())
 }
 
-/// Runs a line by a call, which takes it without its line feed. The reply stands without its line feed, and a blank line
-/// or a comment has none.
+/// Runs a line by a call, which takes it with its line feed or without. The reply stands without its line feed, and a
+/// blank line or a comment has none.
 pub(crate) fn reply_to(
     line: &[u8],
     call: impl FnOnce(*const u8, usize, *mut u8, usize, &mut usize) -> u32,
 ) -> Result<Option<String>, Error> {
-    let line = line.strip_suffix(b"\n").unwrap_or(line);
     let mut reply = [0; REPLY];
     let mut written = 0;
     let (at, room) = (reply.as_mut_ptr(), reply.len());

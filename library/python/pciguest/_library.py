@@ -1,0 +1,74 @@
+"""The calls of the shared library, which is found and loaded when the first is asked for; `_calls` declares them."""
+
+from __future__ import annotations
+
+import ctypes
+import operator
+import os
+from ctypes import c_size_t
+from pathlib import Path
+from typing import Any, Callable, Dict, SupportsIndex, Tuple
+
+from ._calls import ARGUMENT, DECLARED
+
+NAME = "libpciguest.so.0"
+
+
+def _place() -> str:
+    """Where the shared library is: a path, or its name alone for one that the system finds."""
+    folder = os.environ.get("PCIGUEST_LIBRARY_DIR")
+    if folder:
+        return str(Path(folder).resolve() / NAME)
+    here = Path(__file__).resolve()
+    # in the repository it stands above this module, and in a tarball, or where that was installed, in lib
+    usual = (here.parents[2] / NAME, here.parents[min(4, len(here.parents) - 1)] / "lib" / NAME)
+    return next((str(place) for place in usual if place.exists()), NAME)
+
+
+def _load() -> Dict[str, Callable[..., Any]]:
+    place = _place()
+    try:
+        library = ctypes.CDLL(place)
+    except OSError as error:
+        raise ImportError(
+            f"{error}. `make library` at the top of the repository leaves {NAME} in library/, and PCIGUEST_LIBRARY_DIR "
+            "names the folder of one that stands elsewhere"
+        ) from error
+    calls: Dict[str, Callable[..., Any]] = {}
+    for name, (answer, parameters) in DECLARED.items():
+        call = getattr(library, "pciguest_" + name)
+        call.restype, call.argtypes = answer, parameters
+        calls[name] = call
+    return calls
+
+
+class _Calls(Dict[str, Callable[..., Any]]):
+    """The calls by their names. The library is loaded when the first of them is asked for."""
+
+    def __missing__(self, name: str) -> Callable[..., Any]:
+        self.update(_load())
+        return self[name]
+
+
+CALLS = _Calls()
+
+
+def number(name: str, value: SupportsIndex, bits: int) -> int:
+    """The number that a value is, if it has no more than so many bits. ctypes would drop the others."""
+    found = operator.index(value)
+    if not 0 <= found < 1 << bits:
+        raise ValueError(f"{name}: {found:#x} is not from 0 to {(1 << bits) - 1:#x}")
+    return found
+
+
+def told(room: int, call: Callable[..., int]) -> Tuple[int, str]:
+    """Calls with room for a text; where that is too little, once more with what the text needs. Gives the number that
+    the call answers, and the text."""
+    needed = c_size_t(0)
+    text = ctypes.create_string_buffer(room)
+    answer = call(text, room, ctypes.byref(needed))
+    if answer == ARGUMENT and needed.value > room:
+        room = needed.value
+        text = ctypes.create_string_buffer(room)
+        answer = call(text, room, ctypes.byref(needed))
+    return answer, text.raw[: needed.value].decode("ascii", "replace")
