@@ -15,7 +15,7 @@ INSTALL := PREFIX='$(PREFIX)' DESTDIR='$(DESTDIR)' LIBDIR='$(LIBDIR)' tools/inst
 BOARD := crates/examples/data/main.toml
 
 .PHONY: demo list lspci has-lspci has-qemu has-firmware has-kit has-peers gate test edits build library install \
-  uninstall dist deb deb-test bench hostile fuzz qemu firmware kit corpus peers page browse outside try quick clean
+  uninstall dist deb deb-test bench bench-peers hostile fuzz qemu firmware kit corpus peers page browse outside try quick clean
 
 # Proves and builds the program, and runs a script over the demo board.
 demo: build
@@ -92,8 +92,9 @@ deb: build library
 deb-test: deb
 	@tests/deb.sh packages
 
-# What an access, an event of a guest and a call from C cost, in nanoseconds, on boards of 1, 4, 1003 and 1024 functions;
-# and what an audit costs, which takes Python 3.
+# What an access, an event of a guest and a call from C cost, in nanoseconds, on boards of 1, 4, 1003 and 1024 functions,
+# and in instructions, where valgrind is there; and what an audit costs. It takes Python 3. Two outputs are compared by
+# bench/compare OLD NEW.
 bench: build
 	@bench/boards crates/bench_accesses/out/boards
 	@$(PROVE) bench_accesses
@@ -101,7 +102,12 @@ bench: build
 	@echo; bench/audits crates/pciguest/out/pciguest crates/bench_accesses/out/boards
 	@echo; tools/library
 	@$(CC) -O2 -Ilibrary -o crates/pciguest_c/out/calls bench/calls.c library/libpciguest.a
-	@crates/pciguest_c/out/calls crates/examples/data/main.toml
+	@bench/calls crates/pciguest_c/out/calls crates/examples/data/main.toml
+
+# What a read of configuration space takes by lines of firmware, and by QEMU's qtest protocol. It takes Debian's
+# qemu-system-x86.
+bench-peers: pciguest
+	@bench/peers ./pciguest
 
 # The proved program as it is used by one who means harm: memory refused, streams that fail, odd files and
 # great sizes. It takes cc and Python 3, and some minutes.

@@ -1,6 +1,7 @@
 /* What a call from C costs, in nanoseconds: the least of nine rounds.
  *
- *     calls BOARD      a board file whose first guest has memory behind its second base address register
+ *     calls BOARD [COUNT]      a board file whose first guest has memory behind its second base address register; with a
+ *                              count, one round of so many calls of each kind, for those who count instructions
  */
 #include "pciguest.h"
 
@@ -16,17 +17,18 @@ static double now(void)
 }
 
 /* Times a call that may use `i`, the count of those before it. */
-#define COST(what, count, call)                                 \
+#define COST(what, usual, call)                                 \
     do {                                                        \
+        uint32_t count = few ? few : (usual);                   \
         double least = 1e18;                                    \
-        for (int round = 0; round < 9; round++) {               \
+        for (int round = 0; round < (few ? 1 : 9); round++) {   \
             double time = now();                                \
-            for (uint32_t i = 0; i < (count); i++)              \
+            for (uint32_t i = 0; i < count; i++)                \
                 faults += (call);                               \
-            time = (now() - time) / (count);                    \
+            time = (now() - time) / count;                      \
             least = time < least ? time : least;                \
         }                                                       \
-        printf("%-44s %8.0f\n", what, least);                   \
+        printf("%-44s %10.1f\n", what, least);                  \
     } while (0)
 
 int main(int argc, char **argv)
@@ -36,9 +38,9 @@ int main(int argc, char **argv)
     static const char asked[] = "host mr 0xc0100010 4";
     struct pciguest machine = {0}, other = {0};
     struct pciguest_board at_reset = {0}, driven = {0};
-    FILE *file = argc == 2 ? fopen(argv[1], "rb") : NULL;
-    uint32_t value = 0, faults = 0;
-    size_t length, written = 0, count = 0;
+    FILE *file = argc == 2 || argc == 3 ? fopen(argv[1], "rb") : NULL;
+    uint32_t few = argc == 3 ? (uint32_t)atoi(argv[2]) : 0, value = 0, faults = 0;
+    size_t length, written = 0, problems = 0;
     uint64_t changes = 0;
     char reply[PCIGUEST_REPLY] = {0}, text[1024] = {0};
     struct pciguest_region region = {0};
@@ -84,7 +86,7 @@ int main(int argc, char **argv)
     COST("firmware writes memory", 1000000, pciguest_board_write(&driven, PCIGUEST_MEMORY, 0, 0, 0, 0xc0100010, 4, i));
     COST("run a line of firmware that reads memory", 300000,
          pciguest_board_run_line(&driven, asked, sizeof asked - 1, reply, sizeof reply, &written));
-    COST("audit a board", 3000, pciguest_board_audit(&driven, text, sizeof text, &written, &count));
+    COST("audit a board", 3000, pciguest_board_audit(&driven, text, sizeof text, &written, &problems));
     pciguest_board_free(&driven);
     COST("new and free a board", 300, pciguest_board_new(&driven, board, length) + (pciguest_board_free(&driven), 0));
     COST("set up a board, and free the machine", 300, pciguest_set_up(&at_reset, &other) + (pciguest_free(&other), 0));

@@ -1,0 +1,49 @@
+"""The tables that `make bench` prints, which bench/compare reads; and instructions, which valgrind counts.
+
+A table begins with a line of its title and its units, and has a row for each call: its name, and a figure for each unit, or
+`-`. Two spaces or more stand between them."""
+import re
+import shutil
+import subprocess
+import sys
+import tempfile
+from pathlib import Path
+
+UNITS = ("ns", "us", "ms", "MB", "instructions", "problems")
+
+
+def figure(value):
+    """A figure as it is shown: three digits of what is below 100, and - for none."""
+    return "-" if value is None else f"{value:.1f}" if value < 99.95 and value != int(value) else f"{value:.0f}"
+
+
+def head(title, *units):
+    print(f"{title:54}" + "".join(f"  {unit:>12}" for unit in units), flush=True)
+
+
+def row(name, *figures):
+    print(f"{name:54}" + "".join(f"  {figure(value):>12}" for value in figures), flush=True)
+
+
+def missing_valgrind():
+    """Says so where instructions can't be counted."""
+    if not shutil.which("valgrind"):
+        print("valgrind is missing, so no instructions are counted. On Debian: apt-get install valgrind")
+        return True
+    return False
+
+
+def instructions(words, calls):
+    """The instructions of a call, for each span between two times that a program asks for, in which it makes so many. Calls
+    that the program makes between spans don't count. None where the program can't be counted."""
+    if not shutil.which("valgrind"):
+        return []
+    with tempfile.TemporaryDirectory() as room:
+        counted = ["valgrind", "--tool=callgrind", "--dump-before=clock_gettime*", f"--callgrind-out-file={room}/out"]
+        told = subprocess.run(counted + list(map(str, words)), stdout=subprocess.DEVNULL, stderr=subprocess.PIPE, text=True)
+        if told.returncode:
+            sys.exit(f"{words[0]} under valgrind: {told.stderr[-2000:]}")
+        dumps = sorted(Path(room).glob("out.*"), key=lambda file: int(file.suffix[1:]))
+        totals = [int(re.search(r"^totals: (\d+)", dump.read_text(), re.MULTILINE)[1]) for dump in dumps]
+    # the first dump ends at the first time, and the second, the fourth and so on at the end of a span
+    return [total / calls for total in totals[1::2]]
