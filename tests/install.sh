@@ -124,6 +124,10 @@ command -v rt > /dev/null && holds 'the line of the kit' grep -qxF "proved with 
 holds 'the demo' same <("$top/pciguest" demo < "$top/examples/demo.script") outside bin/pciguest demo < examples/demo.script
 "$top/pciguest" list "$top/crates/examples/data/main.toml" > "$room/report"
 holds 'a report' same "$room/report" outside bin/pciguest list examples/boards/main.toml
+if command -v python3 > /dev/null; then
+  told='import ctypes; n = ctypes.CDLL("lib/libpciguest.so.0").pciguest_version(); print(f"{n // 10000}.{n // 100 % 100}.{n % 100}")'
+  holds 'the version that the library tells' same "$(sed -n 's/^pciguest //p' VERSION)" outside "$(command -v python3)" -c "$told"
+fi
 if command -v cc > /dev/null && command -v pkg-config > /dev/null; then
   with() { outside sh -c "cc -O1 -Wall -Wextra -Werror -o $1 examples/c/device.c $2"; }
   holds 'the version' same "$(sed -n 's/^pciguest //p' VERSION)" outside pkg-config --modversion pciguest
