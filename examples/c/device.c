@@ -158,11 +158,7 @@ static uint8_t *bytes_of(const char *path, size_t *length)
 
 static void complain(uint32_t fault)
 {
-    char words[PCIGUEST_WORDS] = {0};
-    size_t length = 0;
-
-    (void)pciguest_words(fault, words, sizeof words, &length);
-    fprintf(stderr, "device: fault %" PRIu32 " %.*s\n", fault, (int)length, words);
+    fprintf(stderr, "device: fault %" PRIu32 " %s\n", fault, pciguest_strerror(fault));
 }
 
 int main(int argc, char **argv)

@@ -15,11 +15,7 @@ struct access {
 
 void write_refusal(FILE *file, uint32_t number)
 {
-    char words[PCIGUEST_WORDS];
-    size_t length = 0;
-
-    (void)pciguest_words(number, words, sizeof words, &length);
-    fprintf(file, "%" PRIu32 " %.*s", number, (int)length, words);
+    fprintf(file, "%" PRIu32 " %s", number, pciguest_strerror(number));
 }
 
 /* The reply of a call that answered a number, under a name, as a comment of a script. */
