@@ -172,6 +172,15 @@ class FirmwareTest(unittest.TestCase):
         self.assertEqual(failure.get("message"), "ready: 1.0 bar0 at 0x0 size 0x1000 is closed")
         self.assertIn("this board again:", failure.text)
 
+    def test_the_commands_that_run_it_again(self):
+        options = "--time 2 --shrink 0 --lines 100 --allow sizing".split()
+        for typed, begins in ((None, "python3 -m pciguest.firmware_test"), ("bin/own test", "'bin/own test'")):
+            with mock.patch.dict(os.environ, {"PCIGUEST_FIRMWARE_TEST": typed} if typed else {}):
+                told = self.run_command(["sh", "-c", "exit 3"], *options)[1]
+            words = f"{begins} --allow sizing --time 2 --lines 100 --board"
+            self.assertIn(f"\nthis board again:  {words} {self.failed} -- sh -c 'exit 3'\n", told)
+            self.assertIn(f"\nthe first one:     {words} {self.board} -- sh -c 'exit 3'\n", told)
+
     def test_words_that_cannot_be_used(self):
         self.assertEqual(self.run_command(["./no such command"])[0], 2)
         self.board.write_text("[host]\n")

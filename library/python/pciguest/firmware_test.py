@@ -9,6 +9,7 @@ the board up. docs/TESTING_YOURS.md tells more."""
 from __future__ import annotations
 
 import argparse
+import os
 import shlex
 import sys
 import time
@@ -50,9 +51,15 @@ def aperture(word: str) -> Tuple[int, int]:
         raise argparse.ArgumentTypeError(f"{word} is no range as 0x1000-0xffff") from None
 
 
+def called() -> List[str]:
+    """The words that call this test: the command pciguest-firmware-test, as it was typed, or else the module."""
+    typed = os.environ.get("PCIGUEST_FIRMWARE_TEST")
+    return [typed] if typed else ["python3", "-m", "pciguest.firmware_test"]
+
+
 def parser() -> argparse.ArgumentParser:
     words = argparse.ArgumentParser(
-        prog="python3 -m pciguest.firmware_test",
+        prog=shlex.join(called()),
         usage="%(prog)s [OPTION..] -- COMMAND [WORD..]",
         description="Runs firmware on many boards, and finds the smallest board on which it fails. Status 1 says that it "
         "fails on a board, 2 that the words or files can't be used.",
@@ -158,7 +165,7 @@ class Test:
             small, last = board.document, run
         Path(self.options.save).write_text(text_of(small))
         count, least = (counted(len(functions(each)), "function") for each in (board.document, small))
-        again = ["python3", "-m", "pciguest.firmware_test", *self.repeated()]
+        again = [*called(), *self.repeated()]
         lines = [f"FAILED on {board.name} ({count}), and on this board ({least}):", ""]
         lines += [text_of(small).rstrip(), "", *last.wrong]
         lines += [self.told_since(small, last)] if last.kind in KINDS else []
@@ -182,6 +189,8 @@ class Test:
             words += [f"--{key}", "{:#x}-{:#x}".format(*getattr(options, key))] if getattr(options, key) else []
         words += [word for kind in options.allow for word in ("--allow", kind)]
         words += ["--bridges", str(options.bridges)] if options.bridges != 6 else []
+        words += ["--time", f"{options.time:g}"] if options.time != 10 else []
+        words += ["--lines", str(options.lines)] if options.lines != 200_000 else []
         return words + (["--program", options.program] if options.program else [])
 
 
