@@ -56,6 +56,28 @@ holds 'an audit of broken firmware' sh -c 'echo "$1" | grep -q "not forwarded by
 holds 'a session' same examples/session/session.stdout \
   outside sh -c './pciguest firmware examples/session/board.toml < examples/session/session.script'
 
+# ---- firmware: an enumerator on many boards, and with each of its mistakes, by the words of TESTING_YOURS.md
+testing=share/doc/pciguest/docs/TESTING_YOURS.md
+tested() { outside env -u PYTHONPATH "$@"; }
+# typed PATTERN: the command that the page gives for the tarball
+typed() { grep -oE '`[^`]*`' "$testing" | tr -d '`' | grep -m1 -E "$1"; }
+if has cc && has make && /usr/bin/python3 -c 'import tomllib' 2> /dev/null; then
+  holds 'the enumerator is built' tested sh -c "$(typed '^cc -Iinclude .*enumerator')"
+  tested sh -c "$(typed '^bin/pciguest-firmware-test -- ./enumerator$')" > told
+  holds 'it leaves 106 boards ready' grep -qx '106 boards: the firmware leaves each of them ready' told
+  holds 'its mistakes are built' tested make -s -C examples/firmware
+  for edit in examples/firmware/mistakes/*.edit; do
+    mistake=$(basename "$edit" .edit)
+    tested bin/pciguest-firmware-test -- "examples/firmware/out/$mistake" > told
+    holds "$mistake is found" test $? = 1
+    holds "$mistake is shrunk" grep -qE 'on this board \([1-3] functions?\)' told
+    tested sh -c "$(sed -n 's/^this board again: *//p' told)" > again
+    holds "$mistake, run again" test "$(grep -E '^(audit|ready|sizing): ' told)" = "$(grep -E '^(audit|ready|sizing): ' again)"
+  done
+else
+  echo 'no C compiler, no make or no Python 3.11: no firmware is tested'
+fi
+
 # ---- a hypervisor: the program in C, by make and by pkg-config, and the crate for Rust
 device=$here/tests/library/device.stdout
 if has cc && has make; then
