@@ -50,7 +50,20 @@ holds 'C' inside sh -c "cc -o /tmp/device $examples/c/device.c \$(pkg-config --c
 holds 'over the shared library' same tests/library/device.stdout inside /tmp/device $examples/device.toml
 holds 'Python' same tests/library/device.stdout inside python3 $examples/python/device.py $examples/device.toml
 holds 'its prompt' inside sh -c "echo a.vendor | python3 -m pciguest $examples/boards/main.toml | grep -qx 'a: 0x1234'"
+firmware=$examples/firmware
+holds 'firmware' inside cc -o /tmp/enumerator $firmware/enumerator.c
+holds 'a test of firmware' same <(echo '16 boards: the firmware leaves each of them ready') \
+  inside pciguest-firmware-test --boards 10 -- /tmp/enumerator
+holds 'firmware with a mistake' inside sh -c "
+  cd /tmp && python3 $firmware/edited.py $firmware/mistakes/multifunction_bit.edit > mistake.c && cc -o mistake mistake.c
+  pciguest-firmware-test -- ./mistake > told; [ \$? = 1 ] && cat told && grep -qF 'on this board (2 functions)' told"
+holds 'a transcript' inside sh -c "
+  cd /tmp && cp $examples/boards/main.toml . && echo a cr 0 0 4 | python3 -m pciguest.transcript record run main.toml > one.rows
+  python3 -m pciguest.transcript replay one.rows | grep -qx '1 transcripts: 1 agree, 0 differ'
+  sed -i 's/-> a: 0x00011234/-> a: 0x00011235/' one.rows
+  python3 -m pciguest.transcript replay one.rows | grep -q 'PROFILE.md, section'"
 holds 'the manual' inside sh -c 'zcat /usr/share/man/man1/pciguest.1.gz | head -n 1'
+holds 'the manual of the test' inside sh -c 'zcat /usr/share/man/man1/pciguest-firmware-test.1.gz | head -n 1'
 holds 'completion' inside test -e /usr/share/bash-completion/completions/pciguest -a -e /usr/share/zsh/vendor-completions/_pciguest
 
 holds 'they are removed' inside dpkg --purge pciguest python3-pciguest libpciguest-dev libpciguest0

@@ -36,7 +36,7 @@ holds 'make install' "${installing[@]}" install
 at=$room/package/usr
 for file in bin/pciguest include/pciguest.h lib/x86_64-linux-gnu/libpciguest.a lib/x86_64-linux-gnu/libpciguest.so.0 \
   lib/x86_64-linux-gnu/libpciguest.so lib/x86_64-linux-gnu/pkgconfig/pciguest.pc share/man/man1/pciguest.1 \
-  share/man/man3/libpciguest.3 share/bash-completion/completions/pciguest share/zsh/site-functions/_pciguest \
+  share/man/man1/pciguest-firmware-test.1 share/man/man3/libpciguest.3 share/bash-completion/completions/pciguest share/zsh/site-functions/_pciguest \
   share/fish/vendor_completions.d/pciguest.fish share/doc/pciguest/docs/FORMATS.md share/pciguest/board.schema.json \
   share/pciguest/rust/Cargo.toml share/pciguest/rust/src/lib.rs share/pciguest/python/pyproject.toml \
   share/pciguest/python/pciguest/py.typed share/doc/pciguest/examples/session/session.stdout \
@@ -90,10 +90,10 @@ fi
 
 # ---- the manual, where something that reads it is there
 if command -v mandoc > /dev/null; then
-  for page in man/pciguest.1 man/libpciguest.3; do holds "$page" mandoc -T lint -W warning "$page"; done
+  for page in man/*; do holds "$page" mandoc -T lint -W warning "$page"; done
 elif command -v man > /dev/null; then
   is_clean() { [ -z "$(man --warnings -E UTF-8 -l -Tutf8 -Z "$1" 2>&1 > /dev/null | tee /dev/stderr)" ]; }
-  for page in man/pciguest.1 man/libpciguest.3; do holds "$page" is_clean "$page"; done
+  for page in man/*; do holds "$page" is_clean "$page"; done
 fi
 
 holds 'make uninstall' "${installing[@]}" uninstall

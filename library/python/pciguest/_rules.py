@@ -4,10 +4,10 @@ knows of the place."""
 from __future__ import annotations
 
 import tomllib
-from pathlib import Path
 from typing import Any, Dict, List, Optional, Tuple
 
 from ._board import Board
+from ._files import find
 from ._machine import Machine
 from ._refusal import Refusal
 
@@ -17,9 +17,7 @@ LATCH, DATA = 0xCF8, 0xCFC
 
 def table() -> Tuple[List[Row], Dict[str, Row]]:
     """The rows of registers, and those of accesses by their names."""
-    here = Path(__file__).resolve()
-    places = [here.parents[3] / "docs/own.toml", here.parents[2] / "own.toml"]
-    document = tomllib.loads(next(place for place in places if place.exists()).read_text())
+    document = tomllib.loads(find("docs/own.toml", "own.toml").read_text())
     return document["register"], {row["name"]: row for row in document["access"]}
 
 

@@ -22,6 +22,7 @@ from ._board_file import Document, functions, text_of
 from ._drawing import PARTED, PLAIN, WIDE, Apertures, RandomChoices, draw_board
 from ._child import CannotStart, Limits
 from ._driven import Library, Maker, Program, ProgramFailed
+from ._files import find
 from ._firmware_run import Firmware, Run, since
 from ._judge import KINDS
 from ._shrink import shrunk
@@ -200,10 +201,11 @@ def counted(number: int, word: str) -> str:
 
 def example_files() -> List[Path]:
     """The boards of the examples, as they stand in the repository or where they are installed."""
-    here = Path(__file__).resolve()
-    folders = [here.parents[3] / "crates/examples/data", here.parents[2] / "boards"]
-    files = [folder / f"{name}.toml" for folder in folders for name in EXAMPLES]
-    return [file for file in files if file.exists()]
+    try:
+        folder = find("crates/examples/data", "boards")
+    except FileNotFoundError:  # as where pip installed the module alone
+        return []
+    return [folder / f"{name}.toml" for name in EXAMPLES]
 
 
 def main(words: Optional[List[str]] = None, maker: Optional[Maker] = None) -> int:
