@@ -1,59 +1,76 @@
-"""Each growth of memory refused in turn: to the one growth alone, and to it and all after it.
+"""Each growth of memory refused in turn: to the one growth alone, and to it and all after it. Each has a number of its own
+that it answers, by what the program is doing then.
 
     growths.py PROGRAM [--quick]
 
 With --quick the largest board is left out."""
 import collections
-import struct
 import sys
 
 from harness import AUDIT, DATA, LARGEST, MAIN, PLACES, Room, fault_line
 
 SCRIPTS = ["guest.script", "two_guests.script", "raise.script", "host.script", "ports.script", "move.script"]
 BROKEN = ["set_up", "limit_short", "half_base", "same_secondary"]
+DEMO = str(DATA / "demo.toml")
 
 
-def counts_of(room, words, script):
-    """How many growths a run makes, and how many of them before it reads its script."""
-    counts = room.path("counts")
-    run = room.run_script(words, script, COUNTS=counts)
-    growths, before, reads, _writes = struct.unpack("4Q", open(counts, "rb").read())
-    return run, growths, before if reads else growths
+def growths_of_board(room, board):
+    """How many growths make a board at reset of the bytes of its file: those that `firmware` makes once it has read the
+    file, since without lines it does nothing more."""
+    run, counts = room.counted(["firmware", board], b"")
+    room.expect(f"firmware, {board}: ends well", run.answer() == "ok", run.answer())
+    return counts.growths - counts.until_file_read
 
 
-def refuse_each(room, name, words, script, numbers, mode, ends="ok"):
-    """Refuses each growth in turn. Each refused run answers one of `numbers` and writes nothing. Where one
-    growth alone is refused, it may also ask for less, and then end as a run to which none is refused."""
+def numbers_of(room, words, script, board, ends):
+    """The number that each growth of a run answers, in their order. While the words of the command line are taken it is
+    799, for the output that is kept back 299, while the board file is read 702, while a board is made of its bytes 199,
+    and while it is set up, told of and run 299. What is told of a file that is refused takes memory by 199."""
+    _, counts = room.counted(words, script)
+    numbers = [799] * counts.for_words + [299]
+    numbers += [702] * (counts.until_file_read - len(numbers))
+    left = counts.growths - len(numbers)
+    made = growths_of_board(room, board) if ends == "ok" else left
+    return numbers + [199] * made + [299] * (left - made)
+
+
+def tally_of(answers):
+    """Answers and how many growths gave each, as '799: 56, 199: 10'."""
+    return ", ".join(f"{answer}: {count}" for answer, count in collections.Counter(answers).items())
+
+
+def refuse_each(room, name, words, script, mode, board=MAIN, ends="ok"):
+    """Refuses each growth in turn. Each refused run answers the growth's number and writes nothing. Where one growth
+    alone is refused, the run may also ask again at once, for no more bytes, and then end as one to which none is refused."""
     table = room.write("table", b"")
     run = room.run_script(words, script, seconds=600, REFUSE_EACH=mode, TABLE=table)
     plain = room.run_script(words, script)
     room.expect(f"{name}: the last run has the whole output",
                 run.answer() == ends and plain.answer() == ends and run.out == plain.out, run.answer())
-    rows = [line.rstrip(b"\n").split(b" ", 3) for line in open(table, "rb")]
-    wanted = {fault_line(number).rstrip(b"\n"): number for number in numbers}
+    numbers = numbers_of(room, words, script, board, ends)
+    rows = [line.rstrip(b"\n").split(b" ", 4) for line in open(table, "rb")]
+    room.expect(f"{name}: each growth was refused", len(rows) == len(numbers), f"{len(rows)} of {len(numbers)}")
     end = (b"%d" % plain.status, b"%d" % len(plain.out), plain.err.rstrip(b"\n"))
-    answers = collections.Counter()
-    for growth, status, written, err in rows:
-        whole = mode == "once" and (status, written, err) == end
-        holds = whole or status == b"1" and written == b"0" and err in wanted
-        room.expect(f"{name}, growth {growth.decode()} refused {mode}", holds,
-                    f"status {status.decode()}, {written.decode()} bytes written, {err.decode()!r}")
-        answers["whole output" if whole else wanted.get(err, err.decode())] += 1
-    _, growths, _ = counts_of(room, words, script)
-    room.expect(f"{name}: each growth was refused", len(rows) == growths, f"{len(rows)} of {growths}")
-    told = ", ".join(f"{answer}: {count}" for answer, count in sorted(answers.items(), key=str))
-    print(f"| {name} | {mode} | {len(rows)} | {told} | {run.passed / 1000:.1f} |", flush=True)
+    answers = []
+    for number, (growth, asked_again, *ended) in zip(numbers, rows):
+        whole = mode == "once" and asked_again == b"1" and tuple(ended) == end
+        holds = whole or ended == [b"1", b"0", fault_line(number).rstrip(b"\n")]
+        room.expect(f"{name}, growth {growth.decode()} refused {mode}", holds, f"{ended} in place of {number}")
+        answers.append("whole output" if whole else number)
+    print(f"| {name} | {mode} | {len(rows)} | {tally_of(answers)} | {run.passed / 1000:.1f} |", flush=True)
 
 
 def same_count(room, name, words, scripts):
-    """A run makes as many growths with an empty script as with any other, all before it reads."""
-    _, empty, _ = counts_of(room, words, b"")
+    """A run makes as many growths with an empty script as with any other, all before it reads. What it reads into and what
+    it keeps its output in are of fixed size."""
+    _, empty = room.counted(words, b"")
     for script_name, script in scripts:
-        run, growths, before = counts_of(room, words, script)
+        run, counts = room.counted(words, script)
         room.expect(f"{name}, {script_name}: ends well", run.answer() == "ok", run.answer())
-        room.expect(f"{name}, {script_name}: growths", growths == empty and before == growths,
-                    f"{growths}, {before} before reading, {empty} with an empty script")
-    print(f"| {name} | {empty} growths with an empty script and with {len(scripts)} others |", flush=True)
+        before = counts.before_reading if counts.reads else counts.growths
+        room.expect(f"{name}, {script_name}: growths", counts.growths == empty.growths and before == counts.growths,
+                    f"{counts.growths}, {before} before reading, {empty.growths} with an empty script")
+    print(f"| {name} | {empty.growths} growths with an empty script and with {len(scripts)} others |", flush=True)
 
 
 def long_scripts():
@@ -65,27 +82,28 @@ def long_scripts():
     return scripts
 
 
-def main(program, largest):
+def main(program, *options):
     room = Room(program, "growths refused")
-    every = b"".join(content + b"\n" for _, content in long_scripts()[:-2])
+    largest = "--quick" not in options
+    scripts = long_scripts()
+    every = b"".join(content + b"\n" for _, content in scripts[:-2])
     broken = b"".join((AUDIT / f"{name}.script").read_bytes() for name in BROKEN)
-    memory = [199, 299, 702, 799]
     for mode in ["onward", "once"]:
-        refuse_each(room, "demo", ["demo"], (DATA / "guest.script").read_bytes(), [199, 299, 799], mode)
-        refuse_each(room, "list, main board", ["list", MAIN], b"", memory, mode)
-        refuse_each(room, "check, main board", ["check", MAIN], b"", memory, mode)
-        refuse_each(room, "check, many places", ["check", PLACES], b"", memory, mode, "105")
-        refuse_each(room, "run, main board, empty script", ["run", MAIN], b"", memory, mode)
-        refuse_each(room, "run, main board", ["run", MAIN], every, memory, mode)
-        refuse_each(room, "audit, broken", ["audit", AUDIT / "board.toml"], broken, memory, mode)
+        refuse_each(room, "demo", ["demo"], (DATA / "guest.script").read_bytes(), mode, DEMO)
+        refuse_each(room, "list, main board", ["list", MAIN], b"", mode)
+        refuse_each(room, "check, main board", ["check", MAIN], b"", mode)
+        refuse_each(room, "check, many places", ["check", PLACES], b"", mode, PLACES, "105")
+        refuse_each(room, "run, main board, empty script", ["run", MAIN], b"", mode)
+        refuse_each(room, "run, main board", ["run", MAIN], every, mode)
+        refuse_each(room, "audit, broken", ["audit", AUDIT / "board.toml"], broken, mode, AUDIT / "board.toml")
         if largest:
-            refuse_each(room, "list, largest board", ["list", LARGEST], b"", memory, mode)
-            refuse_each(room, "run, largest board", ["run", LARGEST], every, memory, mode)
-    same_count(room, "run, main board", ["run", MAIN], long_scripts())
+            refuse_each(room, "list, largest board", ["list", LARGEST], b"", mode, LARGEST)
+            refuse_each(room, "run, largest board", ["run", LARGEST], every, mode, LARGEST)
+    same_count(room, "run, main board", ["run", MAIN], scripts)
     if largest:
-        same_count(room, "run, largest board", ["run", LARGEST], long_scripts())
+        same_count(room, "run, largest board", ["run", LARGEST], scripts)
     return room.end()
 
 
 if __name__ == "__main__":
-    sys.exit(0 if main(sys.argv[1], "--quick" not in sys.argv) else 1)
+    sys.exit(0 if main(*sys.argv[1:]) else 1)

@@ -1,7 +1,9 @@
 """Runs the program and tells what it did: status, outputs, time and memory."""
 import os
+import struct
 import subprocess
 import tempfile
+from collections import namedtuple
 from pathlib import Path
 
 HERE = Path(__file__).resolve().parent
@@ -19,6 +21,11 @@ FAULTS = {
     204: "memory pool", 205: "prefetchable pool", 299: "memory", 501: "read failed",
     502: "write failed", 599: "memory", 701: "usage", 702: "board file", 799: "memory",
 }
+
+
+# Growths of memory: all that a run makes, and those while the words of the command line are taken, until the board file
+# is read and before standard input is first read; and reads of standard input and writes of standard output.
+Counts = namedtuple("Counts", "growths for_words until_file_read before_reading reads writes")
 
 
 def fault_line(number):
@@ -85,6 +92,12 @@ class Room:
         """Runs the program on a script in a file."""
         with open(self.write("script", script), "rb") as stdin:
             return self.run(words, stdin=stdin, **more)
+
+    def counted(self, words, script, **more):
+        """The same, and what it counts."""
+        counts = self.path("counts")
+        run = self.run_script(words, script, COUNTS=counts, **more)
+        return run, Counts(*struct.unpack("6Q", Path(counts).read_bytes()))
 
     def expect(self, name, holds, why=""):
         """Counts a test."""

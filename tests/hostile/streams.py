@@ -1,20 +1,11 @@
 """Each read of standard input and each write of standard output failing in turn."""
 import errno
-import struct
 import sys
 
 from harness import DATA, MAIN, Room
 
 SCRIPTS = ["two_guests.script", "move.script"]
 ERRORS = [errno.EIO, errno.EAGAIN, errno.EBADF]
-
-
-def counted(room, words, script, **environment):
-    """A run, and how many reads and writes it makes."""
-    counts = room.path("counts")
-    run = room.run_script(words, script, COUNTS=counts, **environment)
-    _growths, _before, reads, writes = struct.unpack("4Q", open(counts, "rb").read())
-    return run, reads, writes
 
 
 def lines_read(script, count):
@@ -25,40 +16,39 @@ def lines_read(script, count):
 def each_read(room, name, words, script, step):
     """Each read fails, once or from then on, or is interrupted by a signal: 501, after the output of the lines
     that were read up to their line feeds. It is not tried again."""
-    _, reads, _ = counted(room, words, script, READ_AT_MOST=step)
+    _, plain = room.counted(words, script, READ_AT_MOST=step)
     wanted = {}
-    for failing in range(1, reads + 1):
+    for failing in range(1, plain.reads + 1):
         given = lines_read(script, step * (failing - 1))
         if given not in wanted:
             wanted[given] = room.run_script(words, given).out
         for onward, error in [(0, ERRORS[failing % 3]), (0, errno.EINTR), (1, errno.EIO)]:
-            run, made, _ = counted(room, words, script, READ_AT_MOST=step, FAIL_READ=failing,
-                                   FAIL_ERROR=error, FAIL_ONWARD=onward)
+            run, made = room.counted(words, script, READ_AT_MOST=step, FAIL_READ=failing, FAIL_ERROR=error,
+                                     FAIL_ONWARD=onward)
             test = f"{name}, read {failing} of {step} bytes, error {error}"
-            room.expect(test, run.answer() == "501" and made == failing, f"{run.answer()}, {made} reads")
+            room.expect(test, run.answer() == "501" and made.reads == failing, f"{run.answer()}, {made.reads} reads")
             room.expect(f"{test}: output", run.out == wanted[given], run.out)
-    print(f"| {name} | {step} bytes a read, each of {reads} reads failing | 501, the lines read are answered |")
+    print(f"| {name} | {step} bytes a read, each of {plain.reads} reads failing | 501, the lines read are answered |")
 
 
 def each_write(room, name, words, script, step):
     """Each write fails or takes no byte, once or from then on, or is interrupted by a signal: 502, after what was
     taken until then. Nothing more is written, not even tried, though a writer that fails once would take it."""
     more = {"READ_AT_MOST": 7, "WRITE_AT_MOST": step}
-    whole, _, writes = counted(room, words, script, **more)
+    whole, plain = room.counted(words, script, **more)
     before = b""
-    for failing in range(1, writes + 1):
+    for failing in range(1, plain.writes + 1):
         outs = []
         for onward, error in [(1, errno.ENOSPC), (1, 0), (0, ERRORS[failing % 3]), (0, errno.EINTR), (0, 0)]:
-            run, _, made = counted(room, words, script, FAIL_WRITE=failing, FAIL_ERROR=error,
-                                   FAIL_ONWARD=onward, **more)
+            run, made = room.counted(words, script, FAIL_WRITE=failing, FAIL_ERROR=error, FAIL_ONWARD=onward, **more)
             room.expect(f"{name}, write {failing} of {step} bytes, error {error}",
-                        run.answer() == "502" and made == failing, f"{run.answer()}, {made} writes")
+                        run.answer() == "502" and made.writes == failing, f"{run.answer()}, {made.writes} writes")
             outs.append(run.out)
         holds = len(set(outs)) == 1 and whole.out.startswith(outs[0])
         longer = len(before) < len(outs[0]) <= len(before) + step or failing == 1 and not outs[0]
         room.expect(f"{name}, write {failing} of {step} bytes: output", holds and longer, outs)
         before = outs[0]
-    print(f"| {name} | {step} bytes a write, each of {writes} writes failing | 502, what was taken until then |")
+    print(f"| {name} | {step} bytes a write, each of {plain.writes} writes failing | 502, what was taken until then |")
 
 
 def short_calls(room, name, words, script):
