@@ -1,6 +1,6 @@
 //! Worked examples of calls of the low crates: base address registers, cells, own copies, hosts, places in a text with
 //! its excerpts, and what no board file and no script can say: claims with their paths, registers and offsets on boards
-//! that are made from declarations, and a caller of set-up.
+//! that are made from declarations, what a refused scan leaves, and a caller of set-up.
 #![tactic(auto)]
 
 #[cfg(test)]
@@ -23,3 +23,5 @@ mod hosts;
 mod own_copies;
 #[cfg(test)]
 mod places;
+#[cfg(test)]
+mod refused_scan;

@@ -1,0 +1,166 @@
+//! What a refused scan leaves: bus numbers of bridges, and nothing else, may differ from reset.
+ghost use Rattle.std.specs.Prelude.{◌<◌, IfOk};
+ghost use Rattle.model_board.specs.AtReset.{IsAtReset};
+
+use bars::{BarDecl, Kind};
+use bridge_forward::{Bus, Decl, Declared, Part, Path, lawful_places};
+use bus_scan::{Fault, scan};
+use config_bytes::Cell;
+use headers::{
+    Aperture, Apertures, BridgeDecl, EndpointDecl, EndpointValues, IoDecode, PrefDecode, Region,
+};
+use host_bridge::{Bdf, Host};
+use std::alloc::Global;
+use std::process::Abort;
+use std::test::Fail;
+
+fn bridge(path: Path) -> Result<Decl, Fail> {
+    let decl = BridgeDecl::new(0x1234, 2, 0, IoDecode::Bits32, PrefDecode::Bits64)?;
+    let function = Declared::Bridge(decl);
+    Ok(Decl { path, function })
+}
+
+/// A bridge on bus 0, another behind it, and beside that an endpoint with a region.
+fn push_branch(alloc: Global, decls: &mut Vec<Decl>, root: Part) -> Result<(), Fail> {
+    let mut behind = Path::on_root(root);
+    behind.push(Part::new(0, 0));
+    let mut beside = Path::on_root(root);
+    beside.push(Part::new(1, 0));
+    let region = Region {
+        index: 0,
+        bar: BarDecl::new(Kind::Io, 32)?,
+        block: vec![in alloc; Cell::settable(0, 0xff); 32]?,
+    };
+    let values = EndpointValues {
+        pin: 1,
+        bar: vec![in alloc; region]?,
+        ..EndpointValues::plain(alloc, 0x1234, 1, 0xff_0000)
+    };
+    decls.push(bridge(Path::on_root(root))?)?;
+    decls.push(bridge(behind)?)?;
+    decls.push(Decl {
+        path: beside,
+        function: Declared::Endpoint(EndpointDecl::new(values)?),
+    })?;
+    Ok(())
+}
+
+/// Such branches at all functions of a device.
+fn push_device(alloc: Global, decls: &mut Vec<Decl>, device: u8) -> Result<(), Fail>
+    requires { device < 16 }
+{
+    for function in 0..8u8 {
+        push_branch(alloc, decls, Part::new(device, function))?;
+    }
+    Ok(())
+}
+
+/// One bridge more than there are bus numbers: 128 on bus 0, and one behind each.
+fn host(rt: &impl Abort, alloc: Global) -> Result<Host, Fail>
+    ensures { IfOk result (λ h. IsAtReset h.state) }
+{
+    let mut decls = Vec::new(alloc);
+    for device in 0..16u8 {
+        push_device(alloc, &mut decls, device)?;
+    }
+    assert!(rt; lawful_places(&decls));
+    let io = Aperture {
+        first: 0x1000,
+        last: 0xffff,
+    };
+    let mem = Aperture {
+        first: 0xc000_0000,
+        last: 0xdfff_ffff,
+    };
+    let apertures = Apertures::new(io, mem, None)?;
+    Ok(Host::new(Bus::build(alloc, decls)?, apertures))
+}
+
+/// Two hosts, one of which was scanned.
+#[derive(Drop)]
+struct Pair {
+    scanned: Host,
+    at_reset: Host,
+}
+
+impl Pair {
+    /// What stands at an address shows the same in both, bytes 18h to 1Ah of a bridge aside.
+    fn is_alike(&mut self, rt: &impl Abort, at: Bdf, identity: u32, is_bridge: bool) {
+        assert_eq!(rt; self.scanned.config_read(at, 0, 0b1111), identity, "{at:?}");
+        for n in 0..64u8 {
+            let enables = if is_bridge && n == 6 { 0b1000 } else { 0b1111 };
+            let shown = self.scanned.config_read(at, 4 * n, enables);
+            let wanted = self.at_reset.config_read(at, 4 * n, enables);
+            assert_eq!(rt; shown, wanted, "{at:?}, word {n}");
+        }
+    }
+
+    /// Gives the bridge at an address these bus numbers, in both.
+    fn number(&mut self, at: Bdf, numbers: u32) {
+        self.scanned.config_write(at, 0x18, 0b0111, numbers);
+        self.at_reset.config_write(at, 0x18, 0b0111, numbers);
+    }
+
+    /// A bridge on bus 0, and what stands behind it while it alone leads to bus 1.
+    fn branch_is_alike(&mut self, rt: &impl Abort, root: Bdf) {
+        self.is_alike(rt, root, BRIDGE, true);
+        self.number(root, 0x0001_0100);
+        self.is_alike(rt, on_bus(1, 0, 0), BRIDGE, true);
+        self.is_alike(rt, on_bus(1, 1, 0), ENDPOINT, false);
+        self.number(root, 0);
+    }
+}
+
+/// Device and vendor of each bridge and of each endpoint.
+const BRIDGE: u32 = 0x0002_1234;
+
+const ENDPOINT: u32 = 0x0001_1234;
+
+fn on_bus(bus: u8, device: u8, function: u8) -> Bdf
+    requires device { device < 16 }
+    requires function { function < 8 }
+{
+    Bdf {
+        bus,
+        device,
+        function,
+    }
+}
+
+/// The numbers of all bridges on bus 0 are taken back.
+fn close_device(pair: &mut Pair, device: u8)
+    requires { device < 16 }
+{
+    for function in 0..8u8 {
+        pair.number(on_bus(0, device, function), 0);
+    }
+}
+
+fn device_is_alike(rt: &impl Abort, pair: &mut Pair, device: u8)
+    requires { device < 16 }
+{
+    for function in 0..8u8 {
+        pair.branch_is_alike(rt, on_bus(0, device, function));
+    }
+}
+
+/// The 256th bridge has no number: the scan is refused, and only bus numbers were written until then.
+#[test]
+fn a_refused_scan_leaves_bus_numbers_alone(rt: HostRuntime) -> Result<(), Fail> {
+    let alloc = rt.alloc();
+    let mut scanned = host(&rt, alloc)?;
+    assert!(rt; scan(alloc, &mut scanned).err() == Some(Fault::Buses));
+    let first = scanned.config_read(on_bus(0, 0, 0), 0x18, 0b1111);
+    let last = scanned.config_read(on_bus(0, 15, 7), 0x18, 0b1111);
+    assert_eq!(rt; first, 0x0002_0100);
+    assert_eq!(rt; last, 0x00ff_ff00);
+    let at_reset = host(&rt, alloc)?;
+    let mut pair = Pair { scanned, at_reset };
+    for device in 0..16u8 {
+        close_device(&mut pair, device);
+    }
+    for device in 0..16u8 {
+        device_is_alike(&rt, &mut pair, device);
+    }
+    Ok(())
+}
