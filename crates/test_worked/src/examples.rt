@@ -11,7 +11,7 @@ use std::test::Fail;
 use window_packing::set_up;
 
 /// An endpoint beside a bridge, two behind it, and two guests.
-const MAIN: &str = "[host]
+pub(crate) const MAIN: &str = "[host]
 io = [0x1000, 0xffff]
 mem = [0xc0000000, 0xdfffffff]
 pref = [0x400000000, 0x4ffffffff]

@@ -10,3 +10,7 @@ mod examples;
 mod failing_streams;
 #[cfg(test)]
 mod files;
+#[cfg(test)]
+mod pieces;
+#[cfg(test)]
+mod scripts;

@@ -1,0 +1,154 @@
+//! Scripts give the same output however few bytes a read gives.
+use crate::scripts::{Board, Example, LONG, Streams, run};
+use std::process::Abort;
+use std::test::Fail;
+
+/// Scripts over the main board, and their output.
+const SCRIPTS: [(&[u8], &[u8]); 8] = [
+    (
+        b"a cw 0 0x10 4 0xffffffff
+a cr 0 0x10 4
+host cr 00:01.0 0x10 4
+",
+        b"a: ok
+a: 0xffffffe1
+host: 0x00002001
+",
+    ),
+    (
+        b"a cw 1 0x10 4 0xffffffff
+a cr 1 0x14 4
+a cw 1 0x14 4 0xffffffff
+a cr 1 0x10 4
+a cr 1 0x14 4
+",
+        b"a: ok
+a: 0x00000000
+a: ok
+a: 0xff00000c
+a: 0xffffffff
+",
+    ),
+    (
+        b"b cr 5 0 2
+b cw 5 0 2 1
+b cr 32 0 2
+b cr 0 256 1
+b raise 5 cfg 7 0x80
+",
+        b"b: 0xffff
+b: ok
+b: refused 303 range
+b: refused 303 range
+b: refused 601 empty slot
+",
+    ),
+    (
+        b"a cw 0 4 2 2
+a cw 0 0x14 4 0xffffffff
+a mr 0xfffffffc 4
+a mr 0x100000000 4
+",
+        b"a: ok
+a: ok
+a: 0x00000000
+a: 0xffffffff
+",
+    ),
+    (
+        b"a cw 0 4 2 2
+a cw 1 4 2 2
+a cw 0 0x14 4 0x80000000
+a cw 1 0x10 4 0x80000000
+a mr 0x80000000 4
+a cw 0 4 2 0
+a mr 0x80000000 4
+",
+        b"a: ok
+a: ok
+a: ok
+a: ok
+a: 0x00000000
+a: ok
+a: 0xa5a5a5a5
+",
+    ),
+    (
+        b"a mr 1 4
+a mr 0 3
+a mr 1 3
+a cr 40 1 2
+",
+        b"a: refused 301 misaligned
+a: refused 302 width
+a: refused 302 width
+a: refused 301 misaligned
+",
+    ),
+    (
+        b"c cr 0 0 4
+host raise 0 cfg 7 1
+",
+        b"?: refused 402 unknown guest
+host: refused 401 bad line
+",
+    ),
+    (b"a cr 0 0", b"a: refused 401 bad line\n"),
+];
+
+/// With so many bytes a read, the script has its output.
+fn is_answered(rt: &(impl AllocGlobal + Abort), example: Example<'_>, given: usize) {
+    let (end, writer) = run(rt, example, Streams::of(given, 128));
+    assert_eq!(rt; end, Ok(()), "{given} bytes a read");
+    assert_eq!(rt; writer.flushed(), example.output, "{given} bytes a read");
+}
+
+fn in_pieces(rt: &(impl AllocGlobal + Abort), example: Example<'_>) {
+    is_answered(rt, example, 1);
+    is_answered(rt, example, 7);
+    is_answered(rt, example, 4096);
+}
+
+fn on_main(rt: &(impl AllocGlobal + Abort), script: &[u8], output: &[u8]) {
+    let board = Board::Main;
+    in_pieces(
+        rt,
+        Example {
+            board,
+            script,
+            output,
+        },
+    );
+}
+
+#[test]
+fn scripts_in_pieces(rt: HostRuntime) -> Result<(), Fail> {
+    in_pieces(&rt, LONG);
+    for (script, output) in SCRIPTS {
+        on_main(&rt, script, output);
+    }
+    Ok(())
+}
+
+/// A comment of 200 bytes, one of 201, and no script at all.
+#[test]
+fn comments_in_pieces(rt: HostRuntime) -> Result<(), Fail> {
+    on_main(&rt, &[b'#'; 200], b"");
+    on_main(&rt, &[b'#'; 201], b"?: refused 403 long line\n");
+    on_main(&rt, b"", b"");
+    Ok(())
+}
+
+/// Of a line of 100,000 bytes nothing is kept, and the line behind it is answered.
+#[test]
+fn a_long_line_in_pieces(rt: HostRuntime) -> Result<(), Fail> {
+    let mut script = vec![in rt.alloc(); b'x'; 100_000]?;
+    script.extend_from_slice(b"\na cr 0 0 4\n")?;
+    let example = Example {
+        board: Board::Demo,
+        script: script.as_slice(),
+        output: b"?: refused 403 long line\na: 0x00011234\n",
+    };
+    in_pieces(&rt, example);
+    Ok(())
+}
