@@ -9,8 +9,8 @@ use std::time::Instant;
 
 /// The answer of four bytes to what the first guest asks; 0 where it is no number.
 fn ask(monitor: &mut Monitor, at: At, op: Op) -> u32
-    requires { 0 < length monitor.old.guests }
-    ensures { length monitor.new.guests ≡ length monitor.old.guests }
+    requires { 0 < length monitor.old.world.guests }
+    ensures { length monitor.new.world.guests ≡ length monitor.old.world.guests }
 {
     match monitor.step(0, Access { at, width: 4, op }) {
         Reply::Value(value, _) => value,
@@ -21,8 +21,8 @@ fn ask(monitor: &mut Monitor, at: At, op: Op) -> u32
 
 /// Whether a region of memory begins at a base address register, found by writing all ones to it.
 fn is_of_memory(monitor: &mut Monitor, register: At) -> bool
-    requires { 0 < length monitor.old.guests }
-    ensures { length monitor.new.guests ≡ length monitor.old.guests }
+    requires { 0 < length monitor.old.world.guests }
+    ensures { length monitor.new.world.guests ≡ length monitor.old.world.guests }
 {
     ask(monitor, register, Op::Write(u32::MAX));
     let shown = ask(monitor, register, Op::Read);
@@ -32,8 +32,8 @@ fn is_of_memory(monitor: &mut Monitor, register: At) -> bool
 /// Puts the first region of memory of the function in a slot at an address and opens it, as a guest's
 /// driver does.
 fn open_region(monitor: &mut Monitor, slot: u64, base: u32)
-    requires { 0 < length monitor.old.guests }
-    ensures { length monitor.new.guests ≡ length monitor.old.guests }
+    requires { 0 < length monitor.old.world.guests }
+    ensures { length monitor.new.world.guests ≡ length monitor.old.world.guests }
 {
     for register in 0..6 {
         let at = At::Config {
@@ -58,9 +58,9 @@ fn base_of(slot: u8) -> u32
 
 /// Opens a region of each slot below a count, and writes into its first sixteen words.
 fn open_all(monitor: &mut Monitor, slots: u8)
-    requires guest { 0 < length monitor.old.guests }
+    requires guest { 0 < length monitor.old.world.guests }
     requires slots { slots ≤ 32 }
-    ensures { length monitor.new.guests ≡ length monitor.old.guests }
+    ensures { length monitor.new.world.guests ≡ length monitor.old.world.guests }
 {
     for slot in 0..slots {
         let base = base_of(slot);
@@ -74,8 +74,8 @@ fn open_all(monitor: &mut Monitor, slots: u8)
 
 /// The sum of reads of configuration words of the function in a slot.
 fn read_configuration(monitor: &mut Monitor, slot: u8) -> u64
-    requires { 0 < length monitor.old.guests }
-    ensures { length monitor.new.guests ≡ length monitor.old.guests }
+    requires { 0 < length monitor.old.world.guests }
+    ensures { length monitor.new.world.guests ≡ length monitor.old.world.guests }
 {
     let mut sum: u64 = 0;
     for call in 0..CALLS {
@@ -90,9 +90,9 @@ fn read_configuration(monitor: &mut Monitor, slot: u8) -> u64
 
 /// The sum of reads of memory in the region of a slot.
 fn read_memory(monitor: &mut Monitor, slot: u8) -> u64
-    requires guest { 0 < length monitor.old.guests }
+    requires guest { 0 < length monitor.old.world.guests }
     requires slot { slot < 32 }
-    ensures { length monitor.new.guests ≡ length monitor.old.guests }
+    ensures { length monitor.new.world.guests ≡ length monitor.old.world.guests }
 {
     let base = u64::from(base_of(slot));
     let mut sum: u64 = 0;
@@ -105,9 +105,9 @@ fn read_memory(monitor: &mut Monitor, slot: u8) -> u64
 
 /// Writes memory in the region of a slot, and gives the last word that was written.
 fn write_memory(monitor: &mut Monitor, slot: u8) -> u64
-    requires guest { 0 < length monitor.old.guests }
+    requires guest { 0 < length monitor.old.world.guests }
     requires slot { slot < 32 }
-    ensures { length monitor.new.guests ≡ length monitor.old.guests }
+    ensures { length monitor.new.world.guests ≡ length monitor.old.world.guests }
 {
     let base = u64::from(base_of(slot));
     for call in 0..CALLS {
@@ -124,7 +124,7 @@ pub(crate) fn measure_events(
     monitor: &mut Monitor,
     slots: u8,
 ) -> io::Result<()>
-    requires guest { 0 < length monitor.old.guests }
+    requires guest { 0 < length monitor.old.world.guests }
     requires some { 0 < slots }
     requires slots { slots ≤ 32 }
 {

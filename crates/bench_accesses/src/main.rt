@@ -56,7 +56,7 @@ fn ready_of(alloc: Global, board: &[u8]) -> Option<(Ready, Vec<GuestDecl>)>
 
 /// How many guests a monitor has.
 fn count(monitor: &Monitor) -> usize
-    ensures { result ≡ length monitor.now.guests }
+    ensures { result ≡ length monitor.now.world.guests }
 {
     monitor.names().len()
 }

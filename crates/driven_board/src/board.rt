@@ -123,7 +123,7 @@ impl Board {
     /// comes of it. Refused are the board (201 to 205) and lack of memory (199 or 299).
     pub fn set_up(&self, alloc: Global) -> Result<Monitor, Fault>
         requires { self.now.written ≡ false }
-        ensures opened { IfOk result (IsOpened self.now.file) }
+        ensures opened { IfOk result (BeginsIn (IsOpened self.now.file)) }
         ensures placement { IfErr result (OnSetUp (Breaks self.now.file)) }
         ensures accepted { IfErr result (OnFile (λ _. ⊥)) }
         ensures faults { IfErr result IsOfBoard }

@@ -1,5 +1,6 @@
 //! A board, as firmware left it, whose functions are given to the guests of its file.
 ghost use Rattle.std.specs.Prelude.{◌≡◌, IfOk, IfErr};
+ghost use Rattle.model_giving.specs.Changes.{BeginsIn};
 ghost use Rattle.driven_board.specs.Giving.{IsGiven, IsRefusalOf, number_of, of_taking};
 
 use crate::board::Board;
@@ -59,7 +60,7 @@ impl Board {
     /// a closed region of a given function (206), and lack of memory (199 or 299): then the board is given back
     /// as it was.
     pub fn give(self, alloc: Global) -> Result<Monitor, NotGiven>
-        ensures given { IfOk result (IsGiven self.file self.host) }
+        ensures given { IfOk result (BeginsIn (IsGiven self.file self.host)) }
         ensures kept { IfErr result (λ n. n.board ≡ self) }
         ensures refused { IfErr result (λ n. IsRefusalOf self.file self.host n.fault) }
     {

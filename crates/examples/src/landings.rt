@@ -40,7 +40,7 @@ const OFFSETS: [u64; 16] = [0, 1, 2, 3, 4, 6, 8, 12, 16, 31, 32, 60, 63, 64, 409
 
 /// How many guests a monitor has.
 fn guests(monitor: &Monitor) -> usize
-    ensures { result ≡ length monitor.now.guests }
+    ensures { result ≡ length monitor.now.world.guests }
 {
     monitor.names().len()
 }

@@ -3,3 +3,4 @@ pub mod Seats
 pub mod Giving
 pub mod Actions
 pub mod Counting
+pub mod Aside

@@ -7,22 +7,26 @@
 --     changes_along name w as      how many of these actions do so
 --     after_change t n      a count after an action: one more where it changes, modulo 2^64
 --     counts_after      the counts of all guests, in the order of their names
---     MachineNow, after_on_machine      a world with a count for each of 32 guests, and after an action
+--     MachineNow, after_on_machine      a world with a count for each of its guests, and after an action
 --     after_line_on_machine, after_all_on_machine      and after a line of a script, and after actions
-use Rattle.std.specs.Prelude.{◌+◌, ◌^◌, ◌%◌, ◌&&◌, ◌||◌, ℕ, Bool, false, not, List, [], ◌∷◌, if◌then◌else◌, is_some}
+--     machine_protocol      what a line of a script writes, and the machine after it, as a protocol
+--     BeginsIn P m      P of the world of a machine, whose counts are 0
+use Rattle.std.specs.Prelude.{◌≡◌, ◌+◌, ◌^◌, ◌%◌, ◌&&◌, ◌||◌, ℕ, Bool, false, not, List, [], ◌∷◌, if◌then◌else◌, is_some}
+use Rattle.std.specs.Prelude.{map}
 use Rattle.std.specs.Option.{option_map_or}
 use Rattle.std.specs.Str.{bytes_eq}
 use Rattle.model_guests.specs.Accesses.{Target, Event, access, raises}
 use Rattle.model_guests.specs.Slots.{Landing, fault_of}
 use Rattle.model_guests.specs.Text.{Text}
 use Rattle.model_guests.specs.Lone.{LoneGuest}
-use Rattle.model_guests.specs.Guests.{GuestsNow, lone_of, move_fault}
+use Rattle.model_guests.specs.Guests.{GuestNow, GuestsNow, lone_of, move_fault}
 use Rattle.model_guests.specs.Lines.{nothing, guest_event, host_read, host_move, bad, meaning}
 use Rattle.model_devices.specs.DeviceEvents.{resets, device_reads, device_writes, slot_fault}
 use Rattle.model_devices.specs.Calls.{Call, asks, at_device}
 use Rattle.model_queries.specs.Located.{located}
 use Rattle.model_queries.specs.StayLaws.{any_tells, is_write}
-use Rattle.model_guests.specs.WorldNow.{WorldNow, names_now}
+use Rattle.model_guests.specs.WorldNow.{WorldNow, names_now, line_output}
+use Rattle.model_guests.specs.LineRuns.{Protocol}
 use Rattle.model_giving.specs.Giving.{give_fault, take_fault}
 use Rattle.model_giving.specs.Actions.{Action, calls, gives, takes, after_action}
 
@@ -82,3 +86,11 @@ after_line_on_machine m line = after_on_machine m (calls (asks (meaning (names_n
 abbrev pub after_all_on_machine : MachineNow → List Action → MachineNow
 after_all_on_machine m [] = m
 after_all_on_machine m (a ∷ more) = after_all_on_machine (after_on_machine m a) more
+
+abbrev pub machine_protocol : Protocol MachineNow
+machine_protocol = record { writes = λ m line. line_output m.world line; next = after_line_on_machine }
+
+-- one for each guest
+pub record BeginsIn (P : WorldNow → Type 0) (m : MachineNow) : Type 0 where
+  pub world : P m.world
+  pub counts : m.counts ≡ map (λ (g : GuestNow). 0) m.world.guests

@@ -5,25 +5,26 @@ use Rattle.std.proofs.lemmas.Option.{slice_get_read}
 use Rattle.model_board.specs.Routing.{routing}
 use Rattle.model_guests.specs.Text.{Text}
 use Rattle.model_guests.specs.WorldNow.{WorldNow}
+use Rattle.model_giving.specs.Changes.{MachineNow}
 use Rattle.model_handoff.proofs.Keeping.{keeps_routing}
 use Rattle.host_bridge.specs.HostState.{HostState}
 use Rattle.monitor.specs.declared.guest.Guest.{Guest}
 use Rattle.monitor.specs.Keeping.{IsKept, IsSound}
-use Rattle.monitor.specs.Views.{world_shown}
+use Rattle.monitor.specs.Views.{machine_shown, world_shown}
 use Rattle.monitor.proofs.Steps.{GuestAt, guests_within, kept_nth}
 use Rattle.monitor.proofs.Shown.{is_shown, is_sound}
 
 -- ---- as it begins
 
-module _ {h : HostState} {names : List Text} {gs : List Guest} (sound : IsSound h names gs) {now : WorldNow} (view : world_shown h names gs ≡ now) where
-  pub kept_in : IsKept now h names gs
-  kept_in = subst (λ (v : WorldNow). IsKept v h names gs) view sound
+module _ {h : HostState} {names : List Text} {gs : List Guest} (sound : IsSound h names gs) {now : MachineNow} (view : machine_shown h names gs ≡ now) where
+  pub kept_in : IsKept now.world h names gs
+  kept_in = subst (λ (m : MachineNow). IsKept m.world h names gs) view sound
 
-  pub inside_guests : (i : ℕ) → i < length now.guests → i < length gs
+  pub inside_guests : (i : ℕ) → i < length now.world.guests → i < length gs
   inside_guests i inside = search (rules, guests_within, kept_in)
 
   -- the guest that code reads at an index
-  pub guest_in : (i : ℕ) {g : Guest} → i < length now.guests → g ≡ get_or gs i g → GuestAt now h names gs i g
+  pub guest_in : (i : ℕ) {g : Guest} → i < length now.world.guests → g ≡ get_or gs i g → GuestAt now.world h names gs i g
   guest_in i {g} inside is = kept_nth kept_in (slice_get_read gs (length gs) i g refl (inside_guests i inside) is)
 
 -- ---- as it ends

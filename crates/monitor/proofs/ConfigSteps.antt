@@ -1,6 +1,7 @@
 -- A read and a write of the configuration space of the function in a slot.
-use Rattle.std.proofs.Common.{◌≡◌, ℕ, ◌*◌, ◌/◌, ◌%◌, Bool, cond, List, [], Some, None, Option, slice_get, slice_set, sym, ap, ap₂, ◌∙◌, subst, get_or, length, refl, arith}
+use Rattle.std.proofs.Common.{◌≡◌, ℕ, ◌*◌, ◌/◌, ◌%◌, Bool, false, cond, List, [], Some, None, Option, slice_get, slice_set, sym, ap, ap₂, ◌∙◌, subst, get_or, length, refl, arith}
 use Rattle.std.specs.Prelude.{is_some}
+use Rattle.std.specs.Option.{option_map_or}
 use Rattle.std.proofs.lemmas.Option.{slice_get_read, slice_get_within}
 use Rattle.model_registers.specs.Registers.{config, File, read, write, all_bytes, number}
 use Rattle.model_registers.specs.ByteEnables.{lanes, enables_of, into_lanes, IsWidth}
@@ -11,6 +12,7 @@ use Rattle.model_guests.specs.Accesses.{answered, reads, writes, configuration}
 use Rattle.model_guests.specs.Slots.{Landing, landing, perform, effect, slot_at}
 use Rattle.model_guests.specs.Lone.{at_target, reply_at, after_access_at}
 use Rattle.model_guests.specs.WorldNow.{WorldNow}
+use Rattle.model_queries.specs.StayLaws.{any_tells}
 use Rattle.model_guests.specs.ChangeLaws.{with_slot_changed}
 use Rattle.model_guests.proofs.AgreedFiles.{writes_alike}
 use Rattle.model_guests.specs.AgreedBoard.{with_change_at}
@@ -22,6 +24,7 @@ use Rattle.monitor.specs.declared.guest.Held.{Held}
 use Rattle.monitor.specs.declared.guest.Guest.{Guest}
 use Rattle.monitor.specs.Keeping.{IsKept}
 use Rattle.monitor.specs.ByIndex.{lone_nth, with_lone_nth, guest_nth}
+use Rattle.monitor.specs.Counts.{changes_at}
 use Rattle.monitor.specs.Configs.{IsSeen, HoldsAt, IsHolding, WritesGuest, WritesOwn}
 use Rattle.monitor.proofs.Steps.{with_guest_at, kept_slot, GuestAt, SlotAt, with_same}
 use Rattle.monitor.proofs.Reached.{board_shows, changed_held, endpoint_held, reached_held, file_held, lawful}
@@ -68,6 +71,9 @@ module _ {w : WorldNow} {h : HostState} {names : List Text} {gs : List Guest} {i
     -- an access to the slot lands there
     lands : (off : ℕ) → landing (lone_nth w i).slots (configuration n off) ≡ Some (record { slot = n; place = config off })
     lands off = ap (λ (o : Option Function). cond (is_some o) (Some (let l : Landing = record { slot = n; place = config off } in l)) None) slot.function
+
+    pub config_changes : (off width v : ℕ) → changes_at (lone_nth w i) (writes v) width (at_target (configuration n off)) ≡ any_tells width (config off)
+    config_changes off width v = ap (λ (o : Option Landing). option_map_or (λ (l : Landing). any_tells width l.place) o false) (lands off)
 
     pub config_reads : (off width : ℕ) {value : ℕ} → value ≡ number seen.file (config off) width → answered value width ≡ reply_at (lone_nth w i) reads width (at_target (configuration n off))
     unfolding seen
@@ -117,3 +123,6 @@ module _ {w : WorldNow} {h : HostState} {names : List Text} {gs : List Guest} {i
     pub config_drops : (off width v : ℕ) → w ≡ with_lone_nth i (after_access_at (lone_nth w i) (writes v) width (at_target (configuration n off))) w
     config_drops off width v =
         sym (with_same at) ∙ ap (λ (o : Option Landing). with_lone_nth i (record (lone_nth w i) { slots = effect (writes v) width (lone_nth w i).slots o }) w) (sym (nowhere off))
+
+    pub config_quiet : (off width v : ℕ) → changes_at (lone_nth w i) (writes v) width (at_target (configuration n off)) ≡ false
+    config_quiet off width v = ap (λ (o : Option Landing). option_map_or (λ (l : Landing). any_tells width l.place) o false) (nowhere off)

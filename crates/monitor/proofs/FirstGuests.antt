@@ -1,5 +1,5 @@
 -- Slots and guests, one after the other, as they are before any of them did anything.
-use Rattle.std.proofs.Common.{◌≡◌, ◌≤◌, ◌+◌, ◌-◌, ℕ, zero, suc, List, [], ◌∷◌, ◌++◌, length, take, Option, Some, None, refl, sym, ap, ◌∙◌, subst, rules, arith}
+use Rattle.std.proofs.Common.{◌≡◌, ◌≤◌, ◌+◌, ◌-◌, ℕ, zero, suc, List, [], ◌∷◌, ◌++◌, length, take, Option, Some, None, refl, sym, ap, ap₂, ◌∙◌, subst, rules, arith}
 use Rattle.std.specs.Prelude.{map, flat_map, replicate, slice_get, IsSome}
 use Rattle.std.proofs.lemmas.List.{append-nil, append_assoc, map-append, length-map, take_all}
 use Rattle.lists.specs.Elements.{Each}
@@ -20,6 +20,7 @@ use Rattle.monitor.specs.declared.guest.Held.{Held}
 use Rattle.monitor.specs.declared.guest.Guest.{Guest}
 use Rattle.monitor.specs.Keeping.{IsSlot, AreSlots, IsGuest, AreGuests}
 use Rattle.monitor.specs.Beginnings.{AreSlotsAtFirst}
+use Rattle.monitor.specs.Counts.{counts_of}
 
 -- ---- one more
 
@@ -91,12 +92,15 @@ module _ (w : World) where
 -- over a state of the board
 module _ (now : State) (w : World) where
   abbrev pub AreFirst : List Declared → List Guest → Type 0
-  AreFirst ds gs = AreGuests now (map (λ (g : Declared). g.name) ds) (map (guest_at_first w) ds) gs
+  AreFirst ds gs = AreGuests now (map (λ (g : Declared). g.name) ds) (map (guest_at_first w) ds) gs × (counts_of gs ≡ map (λ (g : Declared). 0) ds)
 
   pub guest_pushed : (ds : List Declared) (i : ℕ) (d : Declared) (g : Guest) (gs : List Guest) → slice_get ds i ≡ Some d → AreFirst (take i ds) gs
-      → g.latch ≡ 0 → AreSlots now (guest_at_first w d).paths (guest_at_first w d).lone.slots g.slots.items → AreFirst (take (i + 1) ds) (gs ++ g ∷ [])
-  guest_pushed ds i d g gs at are latch slots =
-      subst (λ (ts : List Text). AreGuests now ts (map (guest_at_first w) (take (i + 1) ds)) (gs ++ g ∷ [])) (sym (map_push (λ (g : Declared). g.name) ds i d at))
-      (subst (λ (ws : GuestsNow). AreGuests now (map (λ (g : Declared). g.name) (take i ds) ++ d.name ∷ []) ws (gs ++ g ∷ [])) (sym (map_push (guest_at_first w) ds i d at))
-      (guests_push now (map (λ (g : Declared). g.name) (take i ds)) (map (guest_at_first w) (take i ds)) gs d.name (guest_at_first w d) g are
-      (record { name_is = refl; latch = sym latch; slots = slots })))
+      → g.latch ≡ 0 → g.changed ≡ 0 → AreSlots now (guest_at_first w d).paths (guest_at_first w d).lone.slots g.slots.items → AreFirst (take (i + 1) ds) (gs ++ g ∷ [])
+  guest_pushed ds i d g gs at are latch unchanged slots = (
+    subst (λ (ts : List Text). AreGuests now ts (map (guest_at_first w) (take (i + 1) ds)) (gs ++ g ∷ [])) (sym (map_push (λ (g : Declared). g.name) ds i d at))
+        (subst (λ (ws : GuestsNow). AreGuests now (map (λ (g : Declared). g.name) (take i ds) ++ d.name ∷ []) ws (gs ++ g ∷ [])) (sym (map_push (guest_at_first w) ds i d at))
+        (guests_push now (map (λ (g : Declared). g.name) (take i ds)) (map (guest_at_first w) (take i ds)) gs d.name (guest_at_first w d) g are.0
+        (record { name_is = refl; latch = sym latch; slots = slots }))),
+    map-append (λ (k : Guest). k.changed) gs (g ∷ []) ∙ ap₂ (λ (ns : List ℕ) (n : ℕ). ns ++ n ∷ []) are.1 unchanged
+        ∙ sym (map_push (λ (k : Declared). 0) ds i d at),
+  )

@@ -1,6 +1,6 @@
 -- The world after a gift.
-use Rattle.std.proofs.Common.{◌≡◌, ◌<◌, ℕ, List, Some, None, Option, slice_get, slice_set, refl, sym, ap, ◌∙◌, subst, arith}
-use Rattle.std.specs.Prelude.{IsSome, Result, Ok}
+use Rattle.std.proofs.Common.{◌≡◌, ◌<◌, ℕ, cond, List, Some, None, Option, slice_get, slice_set, refl, sym, ap, ◌∙◌, subst, arith}
+use Rattle.std.specs.Prelude.{is_some, IsSome, Result, Ok}
 use Rattle.model_registers.specs.Declarations.{Endpoint}
 use Rattle.model_board.specs.Paths.{Path}
 use Rattle.model_board.specs.Board.{endpoint, Board}
@@ -10,13 +10,14 @@ use Rattle.model_board.specs.State.{State}
 use Rattle.model_audit.specs.Orderly.{IsStateOfBoard}
 use Rattle.model_guests.specs.Slots.{reset_function}
 use Rattle.model_guests.specs.Text.{Text}
+use Rattle.model_guests.specs.World.{declared}
 use Rattle.model_guests.specs.Guests.{GuestNow, GuestsNow, guest_named, with_guest, with_slot_filled}
 use Rattle.model_handoff.specs.Kept.{IsLawfulOver}
 use Rattle.model_handoff.specs.ViewLaws.{with_seated_reset}
 use Rattle.model_guests.specs.WorldNow.{WorldNow, board_state}
 use Rattle.model_handoff.proofs.Keeping.{keeps_board}
 use Rattle.model_handoff.proofs.Regions.{state_stays}
-use Rattle.model_giving.specs.Giving.{Gift, with_reset_at, give_fault, after_give}
+use Rattle.model_giving.specs.Giving.{Gift, with_reset_at, give_fault, after_give, given}
 use Rattle.model_handoff.proofs.Alike.{IsAlike}
 use Rattle.model_giving.proofs.Giving.{CanGive, can_give, given_is, is_alike, board_after_gift, lawful_after_gift, shown_after_gift}
 use Rattle.model_giving.proofs.Seats.{below}
@@ -40,6 +41,9 @@ use Rattle.monitor.proofs.Exchanges.{has_nth, items_are, latch_stays}
 pub makes_gift : {w : WorldNow} {h : HostState} {names : List Text} {gs lent : List Guest} → IsKept w h names gs → {p : Path} {i n : ℕ} {r : Result Held Withheld} → lent ≡ gs
     → ((v : WorldNow) (ts : List Text) → IsKept v h ts lent → MakesGift v p i n r) → MakesGift w p i n r
 makes_gift {w} {h} {names} kept same makes = makes w names (subst (IsKept w h names) (sym same) kept)
+
+pub nothing_given : (w : WorldNow) (g : Gift) {number : ℕ} → Some number ≡ give_fault w g → w ≡ after_give w g
+nothing_given w g fault = ap (λ (o : Option ℕ). cond (is_some o) w (given g (declared (board_at w.handoff.functions) g.path) w)) fault
 
 pub board_kept : {w : WorldNow} {h : HostState} {names : List Text} {gs : List Guest} → IsKept w h names gs → IsStateOfBoard h.state.functions
 board_kept {w} kept = subst (λ (s : State). IsStateOfBoard s.functions) (sym kept.agrees) (state_stays w.handoff kept.lawful.handoff.board w.guests)

@@ -85,7 +85,7 @@ module _ {w : WorldNow} {h : HostState} {names : List Text} {gs : List Guest} {i
   the_move = move_nth w i n j m
 
   -- the checks in code are those of the definition
-  fault_is : fault_between os n ps m ≡ move_fault w.guests the_move
+  pub fault_is : fault_between os n ps m ≡ move_fault w.guests the_move
   fault_is =
       ap₂ (λ x y. cond (nat_le 32 n || nat_le 32 m) (Some 303)
       (cond (not x) (Some 601) (cond y (Some 602) None)))

@@ -13,7 +13,7 @@ use Rattle.monitor.specs.declared.guest.Guest.{Guest}
 use Rattle.monitor.specs.Keeping.{IsKept}
 use Rattle.monitor.proofs.Steps.{nth_there}
 
-nth_stands : (w : WorldNow) (i : ℕ) → i < length w.guests → slice_get w.guests i ≡ Some (guest_nth w i)
+pub nth_stands : (w : WorldNow) (i : ℕ) → i < length w.guests → slice_get w.guests i ≡ Some (guest_nth w i)
 nth_stands w i inside = let one = at_below w.guests i inside in one.1 ∙ ap Some (nth_there w i one.0 one.1)
 
 -- a guest that is set to what it is

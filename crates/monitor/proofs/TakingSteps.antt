@@ -46,7 +46,7 @@ reset_by s p d declares = ap (λ (o : Option Endpoint). option_map_or (λ (e : E
 module _ {w : WorldNow} {h : HostState} {names : List Text} {gs : List Guest} {i : ℕ} {g : Guest} (at : GuestAt w h names gs i g) (n : ℕ) where
   -- a taking that is refused
   module _ {number : ℕ} (fault : slot_fault (lone_nth w i).slots n ≡ Some number) where
-    fault_named : take_fault w (name_nth w i) n ≡ Some number
+    pub fault_named : take_fault w (name_nth w i) n ≡ Some number
     fault_named = ap (λ (l : LoneGuest). slot_fault l.slots n) (lone_named at) ∙ fault
 
     pub take_refused : refused number ≡ take_reply w (name_nth w i) n
@@ -56,7 +56,7 @@ module _ {w : WorldNow} {h : HostState} {names : List Text} {gs : List Guest} {i
     nothing_taken = sym (ap (λ (o : Option ℕ). cond (is_some o) w (taken (name_nth w i) n w)) fault_named)
 
   module _ {held : Held} (slot : SlotAt at n held) (low : n ≤ 31) where
-    may_take : take_fault w (name_nth w i) n ≡ None
+    pub may_take : take_fault w (name_nth w i) n ≡ None
     may_take = ap (λ (l : LoneGuest). slot_fault l.slots n) (lone_named at) ∙ taken_passes (lone_nth w i).slots n slot.f (low_slot low) slot.function
 
     pub take_done : done ≡ take_reply w (name_nth w i) n

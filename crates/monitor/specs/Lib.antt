@@ -1,6 +1,7 @@
 pub mod Views
 pub mod Keeping
 pub mod ByIndex
+pub mod Counts
 pub mod Landings
 pub mod Reaches
 pub mod InSlots

@@ -5,6 +5,7 @@
 --     guest_shown, guests_shown      guests as they are now
 --     handoff_shown      the handoff, as the board shows it: with all functions in slots at reset
 --     world_shown      the handoff with the guests as they are now
+--     machine_shown      the same with their counts
 use Rattle.std.specs.Prelude.{List, [], ◌∷◌, Option, None, map, option_map, slice_get}
 use Rattle.std.specs.Option.{option_map_or}
 use Rattle.arrayvec.specs.ArrayVec.{ArrayVec}
@@ -18,10 +19,12 @@ use Rattle.model_registers.specs.CopiedFiles.{with_copies}
 use Rattle.model_guests.specs.Guests.{GuestNow, GuestsNow}
 use Rattle.model_handoff.specs.ViewLaws.{with_seated_reset}
 use Rattle.model_guests.specs.WorldNow.{WorldNow}
+use Rattle.model_giving.specs.Changes.{MachineNow}
 use Rattle.bridge_forward.specs.Lending.{endpoint_nth}
 use Rattle.host_bridge.specs.HostState.{HostState}
 use Rattle.monitor.specs.declared.guest.Held.{Held}
 use Rattle.monitor.specs.declared.guest.Guest.{Guest}
+use Rattle.monitor.specs.Counts.{counts_of}
 
 abbrev pub texts : ArrayVec ArrayString → List Text
 texts names = map (λ n. n.bytes) names.items
@@ -57,3 +60,6 @@ world_shown h names gs = record {
   handoff = handoff_shown h.state (guests_shown h.state.functions names gs);
   guests = guests_shown h.state.functions names gs;
 }
+
+abbrev pub machine_shown : HostState → List Text → List Guest → MachineNow
+machine_shown h names gs = record { world = world_shown h names gs; counts = counts_of gs }

@@ -13,6 +13,7 @@ ghost use Rattle.bars.specs.Resets.{at_reset, with_no_base};
 ghost use Rattle.bridge_forward.specs.BasesNow.{bases_nth};
 ghost use Rattle.window_packing.specs.Readies.{board_below};
 ghost use Rattle.monitor.specs.Views.{texts};
+ghost use Rattle.monitor.specs.Counts.{counts_of};
 ghost use Rattle.monitor.specs.Keeping.{IsHeld, IsSlot, AreGuests};
 ghost use Rattle.monitor.specs.Beginnings.{world_on, declared_in, IsStanding, AreSlotsAtFirst};
 
@@ -99,14 +100,16 @@ pub(crate) fn guests_of(
 ) -> Result<Vec<Guest>, AllocError>
     requires board { IsStateOfBoard host.now.state.functions }
     requires lawful { HasLawfulGuests (world_on host.now decls.now) }
-    ensures { let w = world_on host.now decls.now in
+    ensures kept { let w = world_on host.now decls.now in
         IfOk result (λ v. AreGuests host.now.state (names w) (guests_at_first w) v.items) }
+    ensures counts { IfOk result (λ v. counts_of v.items ≡ map (λ (g : GuestValue). 0) decls.now) }
 {
     let mut guests = Vec::with_capacity(alloc, decls.len())?;
     for decl in decls {
         guests.push(Guest {
             latch: Latch::new(),
             slots: slots_of(alloc, host, decl.slots.as_slice())?,
+            changed: 0,
         })?;
     }
     Ok(guests)

@@ -4,8 +4,10 @@ ghost use Rattle.model_registers.specs.Registers.{config, number};
 ghost use Rattle.model_registers.specs.ByteEnables.{IsWidth};
 ghost use Rattle.accesses.specs.Refusals.{number_of};
 ghost use Rattle.monitor.specs.InSlots.{IsInSlot, IsSlotFault};
+ghost use Rattle.monitor.specs.Counts.{counts_of, counted_nth};
 ghost use Rattle.monitor.specs.Configs.{IsSeen, IsHolding, WritesOwn, HoldsAt, WritesGuest};
 
+use crate::counting::counted;
 use crate::guest::{Guest, Held};
 use accesses::Refusal;
 use config_bytes::{enables_of, lowered};
@@ -76,7 +78,7 @@ pub(crate) fn write_own(
     }
 }
 
-/// The same in a slot of a guest.
+/// The same in a slot of a guest, who is counted where this may change where its regions stand.
 pub(crate) fn write_guest(
     guests: &mut [Guest],
     guest: usize,
@@ -84,12 +86,15 @@ pub(crate) fn write_guest(
     word: u8,
     enables: u8,
     value: u32,
+    changes: bool,
 ) -> (usize, u8)
     requires holds { HoldsAt guests.old guest slot }
     requires aligned { word % 4 ≡ 0 }
-    ensures { (holds : HoldsAt guests.old guest slot)
+    ensures written { (holds : HoldsAt guests.old guest slot)
         → WritesGuest guests.old guest slot holds word enables value guests.new result }
+    ensures counts { counts_of guests.new ≡ counted_nth guest changes (counts_of guests.old) }
 {
     let guest = &mut guests[guest];
+    guest.changed = counted(guest.changed, changes);
     write_own(&mut guest.slots, slot, word, enables, value)
 }

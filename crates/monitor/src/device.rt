@@ -5,7 +5,10 @@ ghost use Rattle.model_registers.specs.DeviceBytes.{is_device_byte};
 ghost use Rattle.model_board.specs.Paths.{Path};
 ghost use Rattle.model_board.specs.State.{State};
 ghost use Rattle.model_guests.specs.Guests.{lone_of};
-ghost use Rattle.model_devices.specs.DeviceEvents.{device_answer, device_place, device_reads, device_writes, after_device};
+ghost use Rattle.model_devices.specs.DeviceEvents.{device_answer, device_place, device_reads, device_writes};
+ghost use Rattle.model_devices.specs.Calls.{at_device};
+ghost use Rattle.model_giving.specs.Actions.{calls};
+ghost use Rattle.model_giving.specs.Changes.{after_on_machine};
 ghost use Rattle.headers.specs.Places.{place_of};
 ghost use Rattle.accesses.specs.Accesses.{part_of, reply_of};
 ghost use Rattle.accesses.specs.Refusals.{number_of};
@@ -56,7 +59,7 @@ fn reached(slots: &[Option<Held>], slot: u64, place: Place, off: u64) -> Result<
 }
 
 impl<R: Route> Engine<R> {
-    ghost use Rattle.monitor.specs.Views.{texts, world_shown};
+    ghost use Rattle.monitor.specs.Views.{texts, machine_shown};
     ghost use Rattle.monitor.specs.Keeping.{IsSound};
 
     /// What a byte of a guest's function holds, as its device reads it. Or refuses it: 303 for a slot
@@ -64,11 +67,11 @@ impl<R: Route> Engine<R> {
     /// to FFh, a base address register at which no region begins or an offset that is not below the
     /// region's size. 0 where no cell stands. Nothing changes, and no memory is taken.
     pub fn device_read(&mut self, guest: usize, slot: u64, place: Place, off: u64) -> Reply
-        requires { guest < length self.old.guests }
+        requires { guest < length self.old.world.guests }
         ensures reply { let e = device_reads (device_byte slot place off) in
-            reply_of result ≡ device_answer (lone_of self.old.guests (name_nth self.old guest)) e }
+            reply_of result ≡ device_answer (lone_of self.old.world.guests (name_nth self.old.world guest)) e }
         ensures after { let e = device_reads (device_byte slot place off) in
-            self.new ≡ after_device self.old (name_nth self.old guest) e }
+            self.new ≡ after_on_machine self.old (calls (at_device (name_nth self.old.world guest) e)) }
         ensures same { self.new ≡ self.old }
         ensures shown { IsShown result }
     {
@@ -93,11 +96,11 @@ impl<R: Route> Engine<R> {
         off: u64,
         value: u8,
     ) -> Reply
-        requires { guest < length self.old.guests }
+        requires { guest < length self.old.world.guests }
         ensures reply { let e = device_writes (device_byte slot place off) value in
-            reply_of result ≡ device_answer (lone_of self.old.guests (name_nth self.old guest)) e }
+            reply_of result ≡ device_answer (lone_of self.old.world.guests (name_nth self.old.world guest)) e }
         ensures after { let e = device_writes (device_byte slot place off) value in
-            self.new ≡ after_device self.old (name_nth self.old guest) e }
+            self.new ≡ after_on_machine self.old (calls (at_device (name_nth self.old.world guest) e)) }
         ensures shown { IsShown result }
         ensures refused { IsRefusal result → self.new ≡ self.old }
     {

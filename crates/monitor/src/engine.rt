@@ -5,21 +5,26 @@ ghost use Rattle.model_registers.specs.ByteEnables.{IsWidth};
 ghost use Rattle.model_board.specs.Ports.{config_reply};
 ghost use Rattle.model_guests.specs.Accesses.{configuration, port, reads, writes};
 ghost use Rattle.model_guests.specs.Accesses as guests;
-ghost use Rattle.model_guests.specs.Lone.{answer, after_event, own_latch, at_target, destination, reply_at, after_access_at};
+ghost use Rattle.model_guests.specs.Lone.{answer, own_latch, at_target, destination, reply_at};
 ghost use Rattle.model_guests.specs.Guests.{lone_of};
 ghost use Rattle.model_guests.specs.Lines.{guest_event, host_move};
-ghost use Rattle.model_guests.specs.WorldNow.{move_reply, names_now, host_reply, after_meaning};
+ghost use Rattle.model_guests.specs.WorldNow.{move_reply, names_now, host_reply};
+ghost use Rattle.model_devices.specs.Calls.{asks};
+ghost use Rattle.model_giving.specs.Actions.{calls};
+ghost use Rattle.model_giving.specs.Changes.{after_on_machine};
 ghost use Rattle.bars.specs.Kinds.{named_space};
 ghost use Rattle.paths.specs.BusAddresses.{bus_address_of};
 ghost use Rattle.accesses.specs.Accesses.{access_of, host_access_of, op_of, part_of, reply_of};
 ghost use Rattle.accesses.specs.Replies.{IsRefusal, IsShown};
 ghost use Rattle.monitor.specs.Views.{texts};
-ghost use Rattle.monitor.specs.ByIndex.{name_nth, lone_nth, with_lone_nth};
+ghost use Rattle.monitor.specs.ByIndex.{name_nth, lone_nth};
+ghost use Rattle.monitor.specs.Counts.{after_access_nth, after_event_nth};
 ghost use Rattle.monitor.specs.Reaches.{target_in};
 ghost use Rattle.monitor.specs.Moves.{move_nth};
 ghost use Rattle.monitor.specs.Queries.{IsGuestNth};
 
 use crate::config::{function_in, held_in, number_read, write_guest};
+use crate::counting::tells_regions;
 use crate::guest::Guest;
 use crate::landing::{landing, located};
 use crate::latch::write_latch;
@@ -43,30 +48,27 @@ pub struct Engine<R: Route> {
 }
 
 impl<R: Route> Model for Engine<R> {
-    ghost use Rattle.model_guests.specs.Accesses.{configuration, port, reads, writes};
-    ghost use Rattle.model_guests.specs.Accesses as guests;
-    ghost use Rattle.model_guests.specs.Lone.{answer, after_event, own_latch, at_target, destination, reply_at, after_access_at};
-    ghost use Rattle.model_guests.specs.WorldNow.{WorldNow};
+    ghost use Rattle.model_giving.specs.Changes.{MachineNow};
 
-    ghost Value = { WorldNow };
+    ghost Value = { MachineNow };
 
-    ghost use Rattle.monitor.specs.Views.{texts, world_shown};
+    ghost use Rattle.monitor.specs.Views.{texts, machine_shown};
     ghost use Rattle.monitor.specs.Keeping.{IsSound};
 
-    ghost view = { λ e. world_shown e.host (texts e.names) e.guests.items };
+    ghost view = { λ e. machine_shown e.host (texts e.names) e.guests.items };
 
     ghost invariant = { λ e. R.fits e.route e.host × IsSound e.host (texts e.names) e.guests.items };
 }
 
 impl<R: Route> Engine<R> {
-    ghost use Rattle.monitor.specs.Views.{texts, world_shown};
+    ghost use Rattle.monitor.specs.Views.{texts, machine_shown};
     ghost use Rattle.monitor.specs.Keeping.{IsSound};
 
     /// A host whose board agrees with these guests.
     pub(crate) fn of_parts(host: Host, route: R, names: Names, guests: Vec<Guest>) -> Engine<R>
         requires fits { R.fits route host }
         requires sound { IsSound host (texts names) guests.items }
-        ensures { result ≡ world_shown host (texts names) guests.items }
+        ensures { result ≡ machine_shown host (texts names) guests.items }
     {
         Engine {
             host,
@@ -78,15 +80,15 @@ impl<R: Route> Engine<R> {
 
     /// The guests' names, in the order of the guests.
     pub fn names(&self) -> &Names
-        ensures { texts result.now ≡ names_now self.now }
+        ensures { texts result.now ≡ names_now self.now.world }
     {
         &self.names
     }
 
     /// What is kept of a guest.
     pub(crate) fn guest(&self, guest: usize) -> &Guest
-        requires { guest < length self.now.guests }
-        ensures { IsGuestNth self.now guest result.now }
+        requires { guest < length self.now.world.guests }
+        ensures { IsGuestNth self.now.world guest result.now }
     {
         &self.guests[guest]
     }
@@ -97,13 +99,13 @@ impl<R: Route> Engine<R> {
     /// are faster.
     #[inline(always)]
     fn region_access(&mut self, guest: usize, space: Space, addr: u64, width: u64, op: Op) -> Reply
-        requires there { guest < length self.old.guests }
+        requires there { guest < length self.old.world.guests }
         requires width { IsWidth width }
         requires aligned { addr % width ≡ 0 }
         ensures reply { let target = at_target (target_in (named_space space) addr) in
-            reply_of result ≡ reply_at (lone_nth self.old guest) (op_of op) width target }
+            reply_of result ≡ reply_at (lone_nth self.old.world guest) (op_of op) width target }
         ensures after { let target = at_target (target_in (named_space space) addr) in
-            self.new ≡ with_lone_nth guest (after_access_at (lone_nth self.old guest) (op_of op) width target) self.old }
+            self.new ≡ after_access_nth guest (op_of op) width target self.old }
         ensures shown { IsShown result }
         ensures served { ¬ IsRefusal result }
     {
@@ -126,11 +128,11 @@ impl<R: Route> Engine<R> {
 
     /// Reads the configuration space of the function in a slot; all ones where there is none.
     fn config_read(&mut self, guest: usize, slot: usize, off: u8, width: u64) -> Reply
-        requires there { guest < length self.old.guests }
+        requires there { guest < length self.old.world.guests }
         requires width { IsWidth width }
         requires aligned { off % width ≡ 0 }
         ensures reply { let target = at_target (configuration slot off) in
-            reply_of result ≡ reply_at (lone_nth self.old guest) reads width target }
+            reply_of result ≡ reply_at (lone_nth self.old.world guest) reads width target }
         ensures after { self.new ≡ self.old }
         ensures shown { IsShown result }
         ensures served { ¬ IsRefusal result }
@@ -141,13 +143,14 @@ impl<R: Route> Engine<R> {
         Reply::Value(number_read(&mut self.host, held, off, width), width)
     }
 
-    /// Writes the configuration space of the function in a slot. Dropped where there is none.
+    /// Writes the configuration space of the function in a slot. Dropped where there is none. Here alone an access
+    /// is counted, since nowhere else it may change where a region stands: so accesses of data pay nothing for it.
     fn config_write(&mut self, guest: usize, slot: usize, off: u8, width: u64, value: u32)
-        requires there { guest < length self.old.guests }
+        requires there { guest < length self.old.world.guests }
         requires width { IsWidth width }
         requires aligned { off % width ≡ 0 }
         ensures { let target = at_target (configuration slot off) in
-            self.new ≡ with_lone_nth guest (after_access_at (lone_nth self.old guest) (writes value) width target) self.old }
+            self.new ≡ after_access_nth guest (writes value) width target self.old }
     {
         let Some(_) = held_in(&self.guests[guest].slots, slot) else {
             return;
@@ -156,20 +159,22 @@ impl<R: Route> Engine<R> {
         let word = off / 4 * 4;
         let moved = into_lanes(from, value);
         let enables = enables_of(from, width);
-        let (index, others) = write_guest(&mut self.guests, guest, slot, word, enables, moved);
+        let changes = tells_regions(from, width);
+        let (index, others) =
+            write_guest(&mut self.guests, guest, slot, word, enables, moved, changes);
         self.host.config_write_nth(index, word, others, moved);
     }
 
     /// Reads or writes the configuration space of the function in a slot. Where there is none, a read gives
     /// all ones and a write is dropped.
     fn config_access(&mut self, guest: usize, slot: usize, off: u8, width: u64, op: Op) -> Reply
-        requires there { guest < length self.old.guests }
+        requires there { guest < length self.old.world.guests }
         requires width { IsWidth width }
         requires aligned { off % width ≡ 0 }
         ensures reply { let target = at_target (configuration slot off) in
-            reply_of result ≡ reply_at (lone_nth self.old guest) (op_of op) width target }
+            reply_of result ≡ reply_at (lone_nth self.old.world guest) (op_of op) width target }
         ensures after { let target = at_target (configuration slot off) in
-            self.new ≡ with_lone_nth guest (after_access_at (lone_nth self.old guest) (op_of op) width target) self.old }
+            self.new ≡ after_access_nth guest (op_of op) width target self.old }
         ensures shown { IsShown result }
         ensures served { ¬ IsRefusal result }
     {
@@ -184,10 +189,9 @@ impl<R: Route> Engine<R> {
 
     /// Reads or writes four bytes of a guest's own address latch.
     fn latch_access(&mut self, guest: usize, op: Op) -> Reply
-        requires { guest < length self.old.guests }
-        ensures reply { reply_of result ≡ reply_at (lone_nth self.old guest) (op_of op) 4 own_latch }
-        ensures after { self.new
-            ≡ with_lone_nth guest (after_access_at (lone_nth self.old guest) (op_of op) 4 own_latch) self.old }
+        requires { guest < length self.old.world.guests }
+        ensures reply { reply_of result ≡ reply_at (lone_nth self.old.world guest) (op_of op) 4 own_latch }
+        ensures after { self.new ≡ after_access_nth guest (op_of op) 4 own_latch self.old }
         ensures shown { IsShown result }
         ensures served { ¬ IsRefusal result }
     {
@@ -203,13 +207,13 @@ impl<R: Route> Engine<R> {
     /// Reads or writes at a port of a guest: its own address latch for 4 bytes at CF8h, the slot that the
     /// latch selects at CFCh to CFFh while it is enabled, and else the guest's regions.
     fn port_access(&mut self, guest: usize, at: u64, width: u64, op: Op) -> Reply
-        requires there { guest < length self.old.guests }
+        requires there { guest < length self.old.world.guests }
         requires width { IsWidth width }
         requires aligned { at % width ≡ 0 }
-        ensures reply { let lone = lone_nth self.old guest in
+        ensures reply { let lone = lone_nth self.old.world guest in
             reply_of result ≡ reply_at lone (op_of op) width (destination lone.latch width (port at)) }
-        ensures after { let lone = lone_nth self.old guest in
-            self.new ≡ with_lone_nth guest (after_access_at lone (op_of op) width (destination lone.latch width (port at))) self.old }
+        ensures after { let target = destination (lone_nth self.old.world guest).latch width (port at) in
+            self.new ≡ after_access_nth guest (op_of op) width target self.old }
         ensures shown { IsShown result }
         ensures served { ¬ IsRefusal result }
     {
@@ -225,10 +229,9 @@ impl<R: Route> Engine<R> {
 
     /// Answers one access of a guest by its index, as its own functions and latch alone would.
     fn access(&mut self, guest: usize, access: Access) -> Reply
-        requires { guest < length self.old.guests }
-        ensures reply { reply_of result ≡ answer (lone_nth self.old guest) (guests.access (access_of access)) }
-        ensures after { self.new
-            ≡ with_lone_nth guest (after_event (lone_nth self.old guest) (guests.access (access_of access))) self.old }
+        requires { guest < length self.old.world.guests }
+        ensures reply { reply_of result ≡ answer (lone_nth self.old.world guest) (guests.access (access_of access)) }
+        ensures after { self.new ≡ after_event_nth guest (guests.access (access_of access)) self.old }
         ensures shown { IsShown result }
         ensures refused { IsRefusal result → self.new ≡ self.old }
     {
@@ -249,11 +252,11 @@ impl<R: Route> Engine<R> {
     /// 4 bytes, else 301 for an offset, port or address that is no multiple of it, else 303 for a slot above
     /// 31, an offset above 255 or a port above FFFFFFFFh. No memory is taken.
     pub fn step(&mut self, guest: usize, access: Access) -> Reply
-        requires { guest < length self.old.guests }
+        requires { guest < length self.old.world.guests }
         ensures reply { let e = guests.access (access_of access) in
-            reply_of result ≡ answer (lone_of self.old.guests (name_nth self.old guest)) e }
+            reply_of result ≡ answer (lone_of self.old.world.guests (name_nth self.old.world guest)) e }
         ensures after { let e = guests.access (access_of access) in
-            self.new ≡ after_meaning self.old (guest_event (name_nth self.old guest) e) }
+            self.new ≡ after_on_machine self.old (calls (asks (guest_event (name_nth self.old.world guest) e))) }
         ensures shown { IsShown result }
         ensures refused { IsRefusal result → self.new ≡ self.old }
     {
@@ -263,11 +266,11 @@ impl<R: Route> Engine<R> {
 
     /// Raises bits of one cell of a function of a guest by its index, or refuses and changes nothing.
     fn raise_nth(&mut self, guest: usize, slot: u64, place: Place, off: u64, mask: u8) -> Reply
-        requires { guest < length self.old.guests }
+        requires { guest < length self.old.world.guests }
         ensures reply { let e = guests.raises (record { slot = slot; part = part_of place; offset = off; mask = mask }) in
-            reply_of result ≡ answer (lone_nth self.old guest) e }
+            reply_of result ≡ answer (lone_nth self.old.world guest) e }
         ensures after { let e = guests.raises (record { slot = slot; part = part_of place; offset = off; mask = mask }) in
-            self.new ≡ with_lone_nth guest (after_event (lone_nth self.old guest) e) self.old }
+            self.new ≡ after_event_nth guest e self.old }
         ensures shown { IsShown result }
         ensures refused { IsRefusal result → self.new ≡ self.old }
     {
@@ -288,11 +291,11 @@ impl<R: Route> Engine<R> {
     /// region's size. Where no cell stands, or one of the guest's own copies, nothing changes. No memory
     /// is taken.
     pub fn raise(&mut self, guest: usize, slot: u64, place: Place, off: u64, mask: u8) -> Reply
-        requires { guest < length self.old.guests }
+        requires { guest < length self.old.world.guests }
         ensures reply { let e = guests.raises (record { slot = slot; part = part_of place; offset = off; mask = mask }) in
-            reply_of result ≡ answer (lone_of self.old.guests (name_nth self.old guest)) e }
+            reply_of result ≡ answer (lone_of self.old.world.guests (name_nth self.old.world guest)) e }
         ensures after { let e = guests.raises (record { slot = slot; part = part_of place; offset = off; mask = mask }) in
-            self.new ≡ after_meaning self.old (guest_event (name_nth self.old guest) e) }
+            self.new ≡ after_on_machine self.old (calls (asks (guest_event (name_nth self.old.world guest) e))) }
         ensures shown { IsShown result }
         ensures refused { IsRefusal result → self.new ≡ self.old }
     {
@@ -304,10 +307,11 @@ impl<R: Route> Engine<R> {
     /// reset, and its former slot is empty. Or refuses it and changes nothing: 303 for a slot above 31, else
     /// 601 where the slot that it leaves is empty, else 602 where the slot that it comes to is taken.
     pub fn move_function(&mut self, from: usize, slot: u64, to: usize, target: u64) -> Reply
-        requires from { from < length self.old.guests }
-        requires to { to < length self.old.guests }
-        ensures reply { reply_of result ≡ move_reply self.old.guests (move_nth self.old from slot to target) }
-        ensures after { self.new ≡ after_meaning self.old (host_move (move_nth self.old from slot to target)) }
+        requires from { from < length self.old.world.guests }
+        requires to { to < length self.old.world.guests }
+        ensures reply { reply_of result ≡ move_reply self.old.world.guests (move_nth self.old.world from slot to target) }
+        ensures after { self.new
+            ≡ after_on_machine self.old (calls (asks (host_move (move_nth self.old.world from slot to target)))) }
         ensures shown { IsShown result }
         ensures refused { IsRefusal result → self.new ≡ self.old }
     {
@@ -328,7 +332,7 @@ impl<R: Route> Engine<R> {
 
     /// Answers a read by the host: what the board shows.
     pub fn host_read(&mut self, read: HostAccess) -> Reply
-        ensures reply { reply_of result ≡ host_reply self.old (host_access_of read) }
+        ensures reply { reply_of result ≡ host_reply self.old.world (host_access_of read) }
         ensures after { self.new ≡ self.old }
         ensures shown { IsShown result }
     {

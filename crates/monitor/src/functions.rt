@@ -53,7 +53,7 @@ fn function_nth(host: &Host, guests: &[Guest], index: usize) -> Option<FunctionN
 impl<R: Route> Engine<R> {
     /// How many functions the board has, bridges among them.
     pub fn count(&self) -> usize
-        ensures { result ≡ length (board_state self.now).functions }
+        ensures { result ≡ length (board_state self.now.world).functions }
     {
         let _ = &self.names;
         self.host.count()
@@ -63,7 +63,7 @@ impl<R: Route> Engine<R> {
     /// number, its identity, its regions or windows where the board's registers have them, and the guest and
     /// slot that hold it now. No memory is taken.
     pub fn function(&self, index: usize) -> Option<FunctionNow>
-        ensures { option_map function_named result ≡ function_nth (board_state self.now) self.now.guests index }
+        ensures { option_map function_named result ≡ function_nth (board_state self.now.world) self.now.world.guests index }
     {
         let _ = &self.names;
         function_nth(&self.host, &self.guests, index)
@@ -72,9 +72,9 @@ impl<R: Route> Engine<R> {
     /// The same of the function in a slot of a guest. Or refuses: 303 for a slot above 31, else 601 for an
     /// empty slot. No memory is taken.
     pub fn slot_function(&self, guest: usize, slot: u64) -> Result<FunctionNow, u16>
-        requires { guest < length self.now.guests }
+        requires { guest < length self.now.world.guests }
         ensures { result_map_both function_named (λ n. n) result
-            ≡ slot_answer (board_state self.now) self.now.guests (name_nth self.now guest) slot }
+            ≡ slot_answer (board_state self.now.world) self.now.world.guests (name_nth self.now.world guest) slot }
     {
         let _ = &self.names;
         let held = match function_in(&self.guests[guest].slots, slot) {

@@ -4,6 +4,7 @@ ghost use Rattle.model_guests.specs.World.{HasLawfulGuests};
 ghost use Rattle.model_guests.specs.WorldNow.{world_at_first, world_over};
 ghost use Rattle.model_handoff.specs.Handoffs.{IsHandoff, taken_over};
 ghost use Rattle.model_handoff.specs.Regions.{CanBeGiven};
+ghost use Rattle.model_giving.specs.Changes.{BeginsIn};
 ghost use Rattle.monitor.specs.Beginnings.{world_on, world_of};
 
 use crate::beginning::{guests_of, names_of};
@@ -28,7 +29,8 @@ impl<R: Route + Drop> Engine<R> {
         requires handoff { IsHandoff host.state }
         requires lawful { HasLawfulGuests (world_on host guests.now) }
         requires given { CanBeGiven (world_on host guests.now) host.state }
-        ensures made { let w = world_on host guests.now in IfOk result (λ e. e ≡ world_over w (taken_over w host.state)) }
+        ensures made { let w = world_on host guests.now in
+            IfOk result (BeginsIn (λ v. v ≡ world_over w (taken_over w host.state))) }
         ensures kept { IfErr result (λ h. h ≡ host) }
     {
         let Ok(kept) = guests_of(alloc, &host, guests) else {
@@ -49,7 +51,7 @@ impl<R: Route + Drop> Engine<R> {
     ) -> Result<Engine<R>, AllocError>
         requires fits { R.fits route ready.host }
         requires lawful { HasLawfulGuests (world_of ready guests.now) }
-        ensures { IfOk result (λ e. e ≡ world_at_first (world_of ready guests.now)) }
+        ensures { IfOk result (BeginsIn (λ v. v ≡ world_at_first (world_of ready guests.now))) }
     {
         let (host, _table, _plan) = ready.into_parts();
         match Engine::over_by_route(alloc, host, route, guests) {

@@ -14,9 +14,10 @@ pub(crate) struct Held {
     pub(crate) index: usize,
 }
 
-/// A guest: its address latch, and its 32 slots.
+/// A guest: its address latch, its 32 slots, and how often its regions may have come to stand elsewhere.
 #[derive(Drop)]
 pub(crate) struct Guest {
     pub(crate) latch: Latch,
     pub(crate) slots: Vec<Option<Held>>,
+    pub(crate) changed: u64,
 }

@@ -18,6 +18,7 @@ mod audited;
 mod beginning;
 mod closed;
 mod config;
+mod counting;
 mod device;
 mod engine;
 mod functions;

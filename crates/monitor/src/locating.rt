@@ -101,9 +101,9 @@ impl<R: Route> Engine<R> {
     /// latch. Or refuses, as a read of a byte there: 303 for a slot above 31, an offset above 255 or a port
     /// above FFFFFFFFh. No memory is taken.
     pub fn locate(&self, guest: usize, at: At) -> Result<Option<Hit>, Refusal>
-        requires { guest < length self.now.guests }
+        requires { guest < length self.now.world.guests }
         ensures { result_map_both (option_map hit_named) number_of result
-            ≡ location (lone_of self.now.guests (name_nth self.now guest)) (target_of at) }
+            ≡ location (lone_of self.now.world.guests (name_nth self.now.world guest)) (target_of at) }
     {
         locate_in(self.guest(guest), at)
     }

@@ -4,6 +4,7 @@ ghost use Rattle.model_guests.specs.World.{HasLawfulGuests};
 ghost use Rattle.model_guests.specs.WorldNow.{world_at_first, world_over};
 ghost use Rattle.model_handoff.specs.Handoffs.{taken_over};
 ghost use Rattle.model_handoff.specs.Regions.{CanBeGiven, first_fault};
+ghost use Rattle.model_giving.specs.Changes.{BeginsIn};
 ghost use Rattle.bus_scan.specs.declared.fault.Fault.TheVariants.{Memory};
 ghost use Rattle.monitor.specs.Audits.{IsRefusalOf};
 ghost use Rattle.monitor.specs.Passing.{HasPassed};
@@ -29,7 +30,7 @@ impl Monitor {
     /// the board is dropped.
     pub fn new(alloc: Global, ready: Ready, guests: &[GuestDecl]) -> Result<Monitor, Fault>
         requires { HasLawfulGuests (world_of ready guests.now) }
-        ensures made { IfOk result (λ m. m ≡ world_at_first (world_of ready guests.now)) }
+        ensures made { IfOk result (BeginsIn (λ v. v ≡ world_at_first (world_of ready guests.now))) }
         ensures refused { IfErr result (λ f. f ≡ Memory) }
     {
         let table = Table::build(alloc, &ready)?;
@@ -42,7 +43,7 @@ impl Monitor {
     pub fn over(alloc: Global, audited: Audited, guests: &[GuestDecl]) -> Result<Monitor, Ungiven>
         requires { HasLawfulGuests (world_on audited guests.now) }
         ensures made { let w = world_on audited guests.now in
-            IfOk result (λ m. m ≡ world_over w (taken_over w audited.state)) }
+            IfOk result (BeginsIn (λ v. v ≡ world_over w (taken_over w audited.state))) }
         ensures given { IfOk result (λ _. first_fault (world_on audited guests.now) audited.state ≡ None) }
         ensures kept { IfErr result (λ u. u.board ≡ audited) }
         ensures refused { IfErr result (λ u. IsRefusalOf (world_on audited guests.now) audited u.fault) }
@@ -67,7 +68,8 @@ impl Monitor {
         requires passed { HasPassed host }
         requires lawful { HasLawfulGuests (world_on host guests.now) }
         requires given { CanBeGiven (world_on host guests.now) host.state }
-        ensures made { let w = world_on host guests.now in IfOk result (λ m. m ≡ world_over w (taken_over w host.state)) }
+        ensures made { let w = world_on host guests.now in
+            IfOk result (BeginsIn (λ v. v ≡ world_over w (taken_over w host.state))) }
         ensures kept { IfErr result (λ u. u.board ≡ host) }
         ensures memory { IfErr result (λ u. u.fault ≡ OutOfMemory) }
     {

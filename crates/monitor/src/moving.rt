@@ -2,9 +2,11 @@
 ghost use Rattle.std.specs.Prelude.{◌≡◌, ◌<◌, Some, length, option_map, slice_get, slice_set};
 ghost use Rattle.accesses.specs.Refusals.{number_of};
 ghost use Rattle.monitor.specs.Configs.{HoldsAt};
+ghost use Rattle.monitor.specs.Counts.{counts_of, counted_both, counted_nth};
 ghost use Rattle.monitor.specs.Moves.{is_taken, fault_between, HasSlot, IsExchanged, HandsOver};
 
 use crate::config::held_in;
+use crate::counting::counted;
 use crate::guest::{Guest, Held};
 use accesses::Refusal;
 use host_bridge::Host;
@@ -47,21 +49,25 @@ fn exchange(slots: &mut [Option<Held>], slot: usize, held: Option<Held>) -> Opti
     replace(&mut slots[slot], held)
 }
 
-/// The same in a slot of a guest.
+/// The same in a slot of a guest, who is counted where this is told to change where its regions stand.
 pub(crate) fn exchange_in(
     guests: &mut [Guest],
     guest: usize,
     slot: usize,
     held: Option<Held>,
+    changes: bool,
 ) -> Option<Held>
     requires { HasSlot guests.old guest slot }
-    ensures { IsExchanged guests.old guest slot result held guests.new }
+    ensures exchanged { IsExchanged guests.old guest slot result held guests.new }
+    ensures counts { counts_of guests.new ≡ counted_nth guest changes (counts_of guests.old) }
 {
     let guest = &mut guests[guest];
+    guest.changed = counted(guest.changed, changes);
     exchange(&mut guest.slots, slot, held)
 }
 
-/// Moves a function to another slot, at reset: its own copies here, and all its other cells on the board.
+/// Moves a function to another slot, at reset: its own copies here, and all its other cells on the board. The
+/// guest that it leaves and the one to which it comes are counted, once where they are one.
 pub(crate) fn hand_over(
     host: &mut Host,
     guests: &mut [Guest],
@@ -72,12 +78,13 @@ pub(crate) fn hand_over(
 )
     requires holds { HoldsAt guests.old from slot }
     requires has { HasSlot guests.old to target }
-    ensures { HandsOver host.old guests.old from slot to target host.new guests.new }
+    ensures over { HandsOver host.old guests.old from slot to target host.new guests.new }
+    ensures counts { counts_of guests.new ≡ counted_both from to (counts_of guests.old) }
 {
-    let Some(mut held) = exchange_in(guests, from, slot, None) else {
+    let Some(mut held) = exchange_in(guests, from, slot, None, true) else {
         unreachable!()
     };
     held.own.reset();
     host.reset_nth(held.index);
-    let _empty = exchange_in(guests, to, target, Some(held));
+    let _empty = exchange_in(guests, to, target, Some(held), to != from);
 }

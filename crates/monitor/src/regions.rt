@@ -112,9 +112,9 @@ impl<R: Route> Engine<R> {
     /// a base address register, by its index. Or refuses: 303 for a slot above 31, else 601 for an empty
     /// slot, else 303 for a register at which no region begins. No memory is taken.
     pub fn region(&self, guest: usize, slot: u64, bar: u64) -> Result<RegionNow, Refusal>
-        requires { guest < length self.now.guests }
+        requires { guest < length self.now.world.guests }
         ensures { result_map_both region_named number_of result
-            ≡ region_answer (lone_of self.now.guests (name_nth self.now guest)) slot bar }
+            ≡ region_answer (lone_of self.now.world.guests (name_nth self.now.world guest)) slot bar }
     {
         region_in(self.guest(guest), slot, bar)
     }

@@ -1,7 +1,10 @@
 //! Functions that are reset where they are.
 ghost use Rattle.std.specs.Prelude.{◌≡◌, ◌<◌, length};
 ghost use Rattle.model_guests.specs.Guests.{lone_of};
-ghost use Rattle.model_devices.specs.DeviceEvents.{resets, device_answer, after_device};
+ghost use Rattle.model_devices.specs.DeviceEvents.{resets, device_answer};
+ghost use Rattle.model_devices.specs.Calls.{at_device};
+ghost use Rattle.model_giving.specs.Actions.{calls};
+ghost use Rattle.model_giving.specs.Changes.{after_on_machine};
 ghost use Rattle.accesses.specs.Accesses.{reply_of};
 ghost use Rattle.accesses.specs.Replies.{IsRefusal, IsShown};
 ghost use Rattle.monitor.specs.ByIndex.{name_nth};
@@ -13,15 +16,15 @@ use accesses::Reply;
 use host_bridge::Route;
 
 impl<R: Route> Engine<R> {
-    ghost use Rattle.monitor.specs.Views.{texts, world_shown};
+    ghost use Rattle.monitor.specs.Views.{texts, machine_shown};
     ghost use Rattle.monitor.specs.Keeping.{IsSound};
 
     /// Resets the function in a guest's slot, where it is: nothing is carried over, as in a move. Or refuses it
     /// and changes nothing: 303 for a slot above 31, else 601 for an empty slot. No memory is taken.
     pub fn reset(&mut self, guest: usize, slot: u64) -> Reply
-        requires { guest < length self.old.guests }
-        ensures reply { reply_of result ≡ device_answer (lone_of self.old.guests (name_nth self.old guest)) (resets slot) }
-        ensures after { self.new ≡ after_device self.old (name_nth self.old guest) (resets slot) }
+        requires { guest < length self.old.world.guests }
+        ensures reply { reply_of result ≡ device_answer (lone_of self.old.world.guests (name_nth self.old.world guest)) (resets slot) }
+        ensures after { self.new ≡ after_on_machine self.old (calls (at_device (name_nth self.old.world guest) (resets slot))) }
         ensures shown { IsShown result }
         ensures refused { IsRefusal result → self.new ≡ self.old }
     {

@@ -1,6 +1,8 @@
 //! Functions of the board that come to a guest from none, and leave it for none.
 ghost use Rattle.std.specs.Prelude.{◌≡◌, ◌<◌, length, IfErr};
-ghost use Rattle.model_giving.specs.Giving.{give_fault, after_give, take_reply, after_take};
+ghost use Rattle.model_giving.specs.Giving.{give_fault, take_reply};
+ghost use Rattle.model_giving.specs.Actions.{gives, takes};
+ghost use Rattle.model_giving.specs.Changes.{after_on_machine};
 ghost use Rattle.accesses.specs.Accesses.{reply_of};
 ghost use Rattle.accesses.specs.Replies.{IsRefusal, IsShown};
 ghost use Rattle.monitor.specs.ByIndex.{name_nth};
@@ -16,7 +18,7 @@ use host_bridge::Route;
 use paths::Path;
 
 impl<R: Route> Engine<R> {
-    ghost use Rattle.monitor.specs.Views.{texts, world_shown};
+    ghost use Rattle.monitor.specs.Views.{texts, machine_shown};
     ghost use Rattle.monitor.specs.Keeping.{IsSound};
 
     /// Gives the function at a path, which no guest has, to a guest, into an empty slot: there and on the board
@@ -24,9 +26,9 @@ impl<R: Route> Engine<R> {
     /// for a slot above 31, else 303 where no endpoint stands at the path, else 602 where a guest has it, else
     /// 602 for a slot that is taken, else 206 where one of its regions is closed. No memory is taken.
     pub fn give(&mut self, path: &Path, guest: usize, slot: u64) -> Result<(), Withheld>
-        requires { guest < length self.old.guests }
-        ensures reply { fault_told result ≡ give_fault self.old (gift_nth self.old path.now guest slot) }
-        ensures after { self.new ≡ after_give self.old (gift_nth self.old path.now guest slot) }
+        requires { guest < length self.old.world.guests }
+        ensures reply { fault_told result ≡ give_fault self.old.world (gift_nth self.old.world path.now guest slot) }
+        ensures after { self.new ≡ after_on_machine self.old (gives (gift_nth self.old.world path.now guest slot)) }
         ensures refused { IfErr result (λ _. self.new ≡ self.old) }
     {
         let _ = &self.names;
@@ -35,7 +37,7 @@ impl<R: Route> Engine<R> {
             Err(why) => return Err(why),
         };
         self.host.reset_nth(held.index);
-        let _empty = exchange_in(&mut self.guests, guest, slot as usize, Some(held));
+        let _empty = exchange_in(&mut self.guests, guest, slot as usize, Some(held), true);
         Ok(())
     }
 
@@ -43,9 +45,9 @@ impl<R: Route> Engine<R> {
     /// reset, but for what guests have copies of. Or refuses it and changes nothing: 303 for a slot above 31,
     /// else 601 for an empty slot. No memory is taken.
     pub fn take(&mut self, guest: usize, slot: u64) -> Reply
-        requires { guest < length self.old.guests }
-        ensures reply { reply_of result ≡ take_reply self.old (name_nth self.old guest) slot }
-        ensures after { self.new ≡ after_take self.old (name_nth self.old guest) slot }
+        requires { guest < length self.old.world.guests }
+        ensures reply { reply_of result ≡ take_reply self.old.world (name_nth self.old.world guest) slot }
+        ensures after { self.new ≡ after_on_machine self.old (takes (name_nth self.old.world guest) slot) }
         ensures shown { IsShown result }
         ensures refused { IsRefusal result → self.new ≡ self.old }
     {
@@ -55,7 +57,7 @@ impl<R: Route> Engine<R> {
             Err(why) => return Reply::Refused(why),
         };
         self.host.reset_nth(index);
-        let _taken = exchange_in(&mut self.guests, guest, slot as usize, None);
+        let _taken = exchange_in(&mut self.guests, guest, slot as usize, None, true);
         Reply::Done
     }
 }

@@ -14,7 +14,7 @@ use Rattle.model_devices.specs.Calls.{asks}
 use Rattle.model_giving.specs.Actions.{calls}
 use Rattle.model_giving.specs.Changes.{MachineNow, after_on_machine}
 use Rattle.lists.proofs.Tests.{and_false}
-use Rattle.machine.proofs.Counting.{counts_none}
+use Rattle.monitor.proofs.Counts.{counts_none}
 
 same_if : {T : Type 0} (b : Bool) (x : T) → (if b then x else x) ≡ x
 same_if true x = refl

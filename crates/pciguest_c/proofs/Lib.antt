@@ -1,7 +1,6 @@
 mod FunctionRows
 mod FaultNumbers
 mod Blocks
-mod Begun
 mod Kept
 mod Moved
 mod Options

@@ -18,19 +18,21 @@ use Rattle.std_alloc.proofs.SendSync.{lies}
 use Rattle.std_heap.specs.contracts.Global as Heap
 use Rattle.std_heap.specs.contracts.GlobalAllocator.TheImpl.{ghosts}
 use Rattle.std_heap.proofs.Global.TheLaws as heap
-use Rattle.machine.specs.contracts.machine.Machine as Machine
-use Rattle.machine.proofs.machine.Machine.TheLaws as machine
+use Rattle.claim_table.specs.contracts.table.Table as Table
+use Rattle.claim_table.specs.contracts.table.TableRoute.TheImpl as route
+use Rattle.claim_table.proofs.table.Table.TheLaws as table
+use Rattle.monitor.proofs.engine.Engine.TheLaws as engine
 use Rattle.driven_board.specs.contracts.board.Board as Board
 use Rattle.driven_board.proofs.board.Board.TheLaws as board
-use Rattle.pciguest_c.specs.Owning.{owns_if}
+use Rattle.pciguest_c.specs.Owning.{machine_row, owns_if}
 use Rattle.pciguest_c.specs.contracts.unboxed.Unboxed as Unboxed
 use Rattle.pciguest_c.proofs.unboxed.Unboxed.TheLaws as unboxed
 
 abbrev pub Ours : RattleType
-Ours = Unboxed.the_row Machine.the_row Heap.the_row ghosts
+Ours = Unboxed.the_row machine_row Heap.the_row ghosts
 
 abbrev pub ours_val : Ours.Denot → Val
-ours_val = unboxed.lowered Machine.the_row Heap.the_row ghosts machine.the_row_laws heap.the_row_laws heap.the_told
+ours_val = unboxed.lowered machine_row Heap.the_row ghosts (engine.the_row_laws Table.the_row route.ghosts table.the_row_laws) heap.the_row_laws heap.the_told
 
 abbrev pub OurBoard : RattleType
 OurBoard = Unboxed.the_row Board.the_row Heap.the_row ghosts

@@ -1,7 +1,6 @@
 pub mod Checks
 pub mod NumberWords
 pub mod Owning
-pub mod Machines
 pub mod Told
 pub mod DevicesTold
 pub mod SeatingsTold

@@ -7,7 +7,7 @@ ghost use Rattle.pciguest_c.specs.Told.{target_told, part_told};
 
 use crate::numbers::ARGUMENT;
 use accesses::{At, Names, Place};
-use machine::Machine;
+use monitor::Monitor;
 
 /// Where an access goes, if there is such a space.
 pub fn at_of(space: u32, slot: u64, place: u64) -> Option<At>
@@ -33,7 +33,7 @@ pub fn place_of(part: u32) -> Option<Place>
 }
 
 /// Refuses an index that no guest has.
-pub fn check_guest(machine: &Machine, guest: usize) -> Result<(), u32>
+pub fn check_guest(machine: &Monitor, guest: usize) -> Result<(), u32>
     ensures there { IfOk result (λ _. guest < length machine.now.world.guests) }
     ensures none { IfErr result (λ n. (n ≡ 902) × (length machine.now.world.guests ≤ guest)) }
 {
@@ -52,7 +52,7 @@ fn place_among(name: &[u8], names: &Names) -> Option<usize>
 }
 
 /// The index of the first guest of a name.
-pub fn index_named(machine: &Machine, name: &[u8]) -> Option<usize>
+pub fn index_named(machine: &Monitor, name: &[u8]) -> Option<usize>
     ensures { result ≡ position (λ n. bytes_eq n name.now) (names_now machine.now.world) }
 {
     place_among(name, machine.names())

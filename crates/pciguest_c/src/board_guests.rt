@@ -2,14 +2,14 @@
 ghost use Rattle.std.specs.Prelude.{◌≡◌, ◌≢◌, None, IfNone, IfSome, IsSome, IfOk, IfErr};
 ghost use Rattle.driven_board.specs.Giving.{IsGiven, IsRefusalOf};
 ghost use Rattle.pciguest_c.specs.Giving.{IsNumberOfRefusal};
-ghost use Rattle.pciguest_c.specs.Machines.{BeginsIn};
+ghost use Rattle.model_giving.specs.Changes.{BeginsIn};
 
 use crate::board_handle::BoardHandle;
 use crate::handle::Handle;
 use crate::numbers::{IN_USE, NO_MACHINE};
 use crate::unboxed::Unboxed;
 use driven_board::{Board, GivingFault, NotGiven};
-use machine::Machine;
+use monitor::Monitor;
 use std::alloc::Global;
 use std_alloc::room::Vacant;
 
@@ -22,7 +22,7 @@ struct NotHanded {
 
 /// Gives a board to the guests of its file. The block of the machine is taken first, and that of the board is
 /// kept until it is given, so that a board that is refused has its place again.
-fn hand_over(alloc: Global, board: Box<Board>) -> Result<Box<Machine>, NotHanded>
+fn hand_over(alloc: Global, board: Box<Board>) -> Result<Box<Monitor>, NotHanded>
     ensures given { IfOk result (λ m. BeginsIn (IsGiven board.value.file board.value.host) m.value) }
     ensures kept { IfErr result (λ n. n.board.value ≡ board.value) }
     ensures refused { IfErr result (λ n. IsRefusalOf board.value.file board.value.host n.fault) }
@@ -35,8 +35,7 @@ fn hand_over(alloc: Global, board: Box<Board>) -> Result<Box<Machine>, NotHanded
     match whole.give(alloc) {
         Ok(monitor) => {
             place.free();
-            let machine = Machine::new(monitor);
-            Ok(Unboxed::fill(room, machine).into_box())
+            Ok(Unboxed::fill(room, monitor).into_box())
         }
         Err(not_given) => {
             room.free();

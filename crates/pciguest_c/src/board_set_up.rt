@@ -2,13 +2,12 @@
 ghost use Rattle.std.specs.Prelude.{◌≡◌, ◌≢◌, ◌<◌, ◌≤◌, ◌⊎◌, true, false, Some, IfNone, IfSome, IsSome};
 ghost use Rattle.simulation.specs.Listing.{Breaks};
 ghost use Rattle.simulation.specs.Running.{IsOpened};
-ghost use Rattle.pciguest_c.specs.Machines.{BeginsIn};
+ghost use Rattle.model_giving.specs.Changes.{BeginsIn};
 
 use crate::board_handle::BoardHandle;
 use crate::handle::Handle;
 use crate::numbers::{IN_USE, MEMORY, NO_MACHINE, NOT_AT_RESET};
 use driven_board::Board;
-use machine::Machine;
 use std::alloc::Global;
 
 /// Leaves in a handle what our own set-up makes of a board.
@@ -28,16 +27,13 @@ fn set_up_into(alloc: Global, board: &Board, machine: &mut Handle) -> u32
         return NOT_AT_RESET;
     }
     match board.set_up(alloc) {
-        Ok(monitor) => {
-            let made = Machine::new(monitor);
-            match Box::new(alloc, made) {
-                Ok(made) => {
-                    *machine = Handle::of(made);
-                    0
-                }
-                Err(_) => MEMORY,
+        Ok(monitor) => match Box::new(alloc, monitor) {
+            Ok(made) => {
+                *machine = Handle::of(made);
+                0
             }
-        }
+            Err(_) => MEMORY,
+        },
         Err(fault) => u32::from(fault.number()),
     }
 }

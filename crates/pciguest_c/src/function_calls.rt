@@ -10,11 +10,11 @@ use crate::asking::check_guest;
 use crate::function_row::{FunctionRow, function_row};
 use crate::handle::Handle;
 use crate::numbers::{ARGUMENT, NO_MACHINE, put_result};
-use machine::Machine;
+use monitor::Monitor;
 use std::alloc::Global;
 
 /// Tells of the function in a slot of a guest.
-fn slot_function(machine: &Machine, guest: usize, slot: u64, told: &mut FunctionRow) -> u32
+fn slot_function(machine: &Monitor, guest: usize, slot: u64, told: &mut FunctionRow) -> u32
     ensures guest { length machine.now.world.guests ≤ guest → (result ≡ 902) × (told.new ≡ told.old) }
     ensures told { guest < length machine.now.world.guests →
         let r = slot_answer (board_state machine.now.world) machine.now.world.guests (name_nth machine.now.world guest) slot in

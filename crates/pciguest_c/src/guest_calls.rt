@@ -10,11 +10,11 @@ use crate::asking::{at_of, check_guest, index_named, place_of};
 use crate::handle::Handle;
 use crate::numbers::{ARGUMENT, number_of, put_value};
 use accesses::{Access, At, Op, Reply};
-use machine::Machine;
+use monitor::Monitor;
 use std::alloc::Global;
 
 /// Reads as a guest: nothing changes.
-fn read(machine: &mut Machine, guest: usize, at: At, width: u64) -> Reply
+fn read(machine: &mut Monitor, guest: usize, at: At, width: u64) -> Reply
     requires { guest < length machine.old.world.guests }
     ensures reply { let e = access (record { target = target_of at; width = width; op = reads }) in
         reply_of result ≡ reply_asked machine.old.world guest e }

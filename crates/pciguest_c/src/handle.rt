@@ -7,7 +7,7 @@ ghost use Rattle.model_giving.specs.Changes.{MachineNow};
 use crate::numbers::{ARGUMENT, NO_MACHINE};
 use crate::owner::Owner;
 use crate::unboxed::Unboxed;
-use machine::Machine;
+use monitor::Monitor;
 use std::alloc::Global;
 use std::mem::replace;
 
@@ -32,7 +32,7 @@ impl Handle {
     }
 
     /// A machine.
-    pub fn of(machine: Box<Machine>) -> Handle
+    pub fn of(machine: Box<Monitor>) -> Handle
         ensures { result.owner.value ≡ Some machine.value }
     {
         Handle {
@@ -58,7 +58,7 @@ impl Handle {
     }
 
     /// Takes the machine out, and leaves none.
-    pub fn take(&mut self, alloc: Global) -> Option<Box<Machine>>
+    pub fn take(&mut self, alloc: Global) -> Option<Box<Monitor>>
         ensures left { self.new.owner.value ≡ None }
         ensures machine { IfSome result (λ b. self.old.owner.value ≡ Some b.value) }
         ensures nothing { IfNone result (self.old.owner.value ≡ None) }
@@ -71,7 +71,7 @@ impl Handle {
     }
 
     /// What the machine answers, or 901 where there is none.
-    pub fn ask<T, F: FnOnce(&mut Machine) -> Result<T, u32>>(
+    pub fn ask<T, F: FnOnce(&mut Monitor) -> Result<T, u32>>(
         &mut self,
         alloc: Global,
         question: F,

@@ -14,7 +14,7 @@ use crate::asking::check_guest;
 use crate::handle::Handle;
 use crate::numbers::{ARGUMENT, NO_MACHINE, number_of, put_value};
 use accesses::{Bdf, HostAccess, HostAt};
-use machine::Machine;
+use monitor::Monitor;
 use std::alloc::Global;
 
 /// Where an access of the host goes, if there is such a space and such a physical number.
@@ -41,7 +41,7 @@ pub fn host_at(space: u32, bus: u8, device: u8, function: u8, place: u64) -> Opt
 
 /// Reads as the host.
 fn host_read(
-    machine: &mut Machine,
+    machine: &mut Monitor,
     space: u32,
     bus: u8,
     device: u8,

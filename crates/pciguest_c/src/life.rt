@@ -2,11 +2,10 @@
 ghost use Rattle.std.specs.Prelude.{◌≡◌, ◌≢◌, ◌≤◌, ◌<◌, ◌⊎◌, None, Some, IfSome, IfNone, IsSome};
 ghost use Rattle.simulation.specs.Listing.{Refuses, Breaks};
 ghost use Rattle.simulation.specs.Running.{IsOpened};
-ghost use Rattle.pciguest_c.specs.Machines.{BeginsIn};
+ghost use Rattle.model_giving.specs.Changes.{BeginsIn};
 
 use crate::handle::Handle;
 use crate::numbers::{IN_USE, MEMORY};
-use machine::Machine;
 use simulation::open;
 use std::alloc::Global;
 
@@ -26,16 +25,13 @@ pub extern "C" fn pciguest_raw_new(alloc: Global, handle: &mut Handle, board: &[
         return IN_USE;
     }
     match open(alloc, board) {
-        Ok(monitor) => {
-            let machine = Machine::new(monitor);
-            match Box::new(alloc, machine) {
-                Ok(machine) => {
-                    *handle = Handle::of(machine);
-                    0
-                }
-                Err(_) => MEMORY,
+        Ok(monitor) => match Box::new(alloc, monitor) {
+            Ok(machine) => {
+                *handle = Handle::of(machine);
+                0
             }
-        }
+            Err(_) => MEMORY,
+        },
         Err(fault) => u32::from(fault.number()),
     }
 }

@@ -5,7 +5,7 @@ ghost use Rattle.model_giving.specs.Changes.{MachineNow};
 ghost use Rattle.pciguest_c.specs.Owning.{machine_coded, owner_owns};
 
 use crate::unboxed::Unboxed;
-use machine::Machine;
+use monitor::Monitor;
 use std::alloc::Global;
 use std::marker::Model;
 use std::ptr::null_mut;
@@ -36,7 +36,7 @@ impl Owner {
     }
 
     /// A machine.
-    pub fn of(machine: Unboxed<Machine, Global>) -> Owner
+    pub fn of(machine: Unboxed<Monitor, Global>) -> Owner
         ensures { result.value ≡ Some machine.value }
     {
         let Unboxed { at, alloc } = machine;
@@ -47,13 +47,13 @@ impl Owner {
     }
 
     /// The machine.
-    pub fn into_unboxed(self) -> Unboxed<Machine, Global>
+    pub fn into_unboxed(self) -> Unboxed<Monitor, Global>
         requires { IsSome self.value }
         ensures { self.value ≡ Some result.value }
     {
         let Owner { at, alloc } = self;
         Unboxed {
-            at: at as *mut Machine,
+            at: at as *mut Monitor,
             alloc,
         }
     }

@@ -17,6 +17,7 @@ use crate::number_words::words_of;
 use crate::numbers::ARGUMENT;
 use crate::text::{check_of, report_of};
 use lines::{LONGEST_REPLY, LineText};
+use script::run_line;
 use std::alloc::Global;
 
 /// Puts a text at the front of a buffer that has room for it.
@@ -82,7 +83,7 @@ pub extern "C" fn pciguest_raw_run_line(
     let has_room = LONGEST_REPLY <= out.len();
     let answer = handle.ask(alloc, |machine| {
         if has_room {
-            Ok(machine.run_line(line))
+            Ok(run_line(machine, line))
         } else {
             Err(ARGUMENT)
         }

@@ -6,7 +6,7 @@ use Rattle.model_guests.specs.Grammar.{guest, host}
 use Rattle.model_guests.specs.Guests.{Move, lone_of}
 use Rattle.model_guests.specs.Lone.{answer}
 use Rattle.model_guests.specs.Replies.{line_text}
-use Rattle.model_guests.specs.Lines.{Meaning, guest_event, host_move}
+use Rattle.model_guests.specs.Lines.{guest_event, host_move}
 use Rattle.model_guests.specs.WorldNow.{WorldNow, move_reply, names_now, written_by, after_meaning}
 use Rattle.model_guests.proofs.Along.{names_meaning}
 use Rattle.lines.specs.Lines.{name_of}
@@ -26,37 +26,19 @@ pub move_there : (w : WorldNow) (from slot to target : ℕ) → move_nth w from 
 move_there w from slot to target =
     ap₂ (λ (a b : Text). let m : Move = record { from = a; slot = slot; to = b; target = target } in m) (name_there w from) (name_there w to)
 
--- ---- what was done
+-- ---- what was told
 
--- the world is as after this, in which no name changes
-names_after : (w new : WorldNow) (m : Meaning) → new ≡ after_meaning w m → names_now new ≡ names_now w
-names_after w new m after = ap names_now after ∙ names_meaning w.guests m
-
--- an event of a guest was answered
-pub record IsAnswered (w new : WorldNow) (g : ℕ) (e : Event) (r : Reply) : Type 0 where
-  pub after : new ≡ after_meaning w (guest_event (name_of (names_now w) g) e)
-  pub written : written_by w (guest_event (name_of (names_now w) g) e) ≡ line_text (guest (name_of (names_now new) g)) r ∷ []
-
-pub answered : (w new : WorldNow) (g : ℕ) (e : Event) (r : Reply) → new ≡ after_meaning w (guest_event (name_nth w g) e)
-    → r ≡ answer (lone_of w.guests (name_nth w g)) e → IsAnswered w new g e r
+-- of an event of a guest, after which no guest has another name
+pub answered : (w new : WorldNow) (g : ℕ) (e : Event) (r : Reply) → new ≡ after_meaning w (guest_event (name_nth w g) e) → r ≡ answer (lone_of w.guests (name_nth w g)) e
+    → written_by w (guest_event (name_of (names_now w) g) e) ≡ line_text (guest (name_of (names_now new) g)) r ∷ []
 answered w new g e r after reply =
-    let done : new ≡ after_meaning w (guest_event (name_of (names_now w) g) e) = after ∙ ap (λ (n : Text). after_meaning w (guest_event n e)) (name_there w g) in
-    record {
-      after = done;
-      written = ap₂ (λ (ns : List Text) (x : Reply). line_text (guest (name_of ns g)) x ∷ [])
-          (sym (names_after w new (guest_event (name_of (names_now w) g) e) done))
-          (ap (λ (n : Text). answer (lone_of w.guests n) e) (sym (name_there w g)) ∙ sym reply);
-    }
+    ap₂ (λ (ns : List Text) (x : Reply). line_text (guest (name_of ns g)) x ∷ [])
+    (sym (ap names_now after ∙ names_meaning w.guests (guest_event (name_nth w g) e)))
+    (ap (λ (n : Text). answer (lone_of w.guests n) e) (sym (name_there w g)) ∙ sym reply)
 
--- a move was answered
-pub record IsMoved (w new : WorldNow) (from slot to target : ℕ) (r : Reply) : Type 0 where
-  pub after : new ≡ after_meaning w (host_move (move_of w from slot to target))
-  pub written : written_by w (host_move (move_of w from slot to target)) ≡ line_text host r ∷ []
-
-pub moved : (w new : WorldNow) (from slot to target : ℕ) (r : Reply) → new ≡ after_meaning w (host_move (move_nth w from slot to target))
-    → r ≡ move_reply w.guests (move_nth w from slot to target) → IsMoved w new from slot to target r
-moved w new from slot to target r after reply = record {
-  after = after ∙ ap (λ (m : Move). after_meaning w (host_move m)) (move_there w from slot to target);
-  written = ap (λ (m : Move). line_text host (move_reply w.guests m) ∷ []) (sym (move_there w from slot to target))
-      ∙ ap (λ (x : Reply). line_text host x ∷ []) (sym reply);
-}
+-- of a move
+pub moved : (w : WorldNow) (from slot to target : ℕ) (r : Reply) → r ≡ move_reply w.guests (move_nth w from slot to target)
+    → written_by w (host_move (move_of w from slot to target)) ≡ line_text host r ∷ []
+moved w from slot to target r reply =
+    ap (λ (m : Move). line_text host (move_reply w.guests m) ∷ []) (sym (move_there w from slot to target))
+    ∙ ap (λ (x : Reply). line_text host x ∷ []) (sym reply)

@@ -1,7 +1,10 @@
 //! What a line does and writes.
 ghost use Rattle.std.specs.Prelude.{◌≡◌, ◌<◌, ◌∷◌, [], length, MatchOption, IfSome};
 ghost use Rattle.model_guests.specs.Replies.{line_text};
-ghost use Rattle.model_guests.specs.WorldNow.{names_now, written_by, after_meaning, line_output, after_line, world_protocol};
+ghost use Rattle.model_guests.specs.WorldNow.{names_now, written_by, line_output};
+ghost use Rattle.model_devices.specs.Calls.{asks};
+ghost use Rattle.model_giving.specs.Actions.{calls};
+ghost use Rattle.model_giving.specs.Changes.{after_on_machine, after_line_on_machine, machine_protocol};
 ghost use Rattle.accesses.specs.Accesses.{reply_of};
 ghost use Rattle.accesses.specs.Replies.{IsShown};
 ghost use Rattle.lines.specs.Lines.{who_of, meaning_of, GuestIs, GuestsAre};
@@ -14,11 +17,12 @@ use std::alloc::AllocError;
 /// Runs the event that a line means, and gives under whose name it is answered and with what, if it makes output.
 #[inline(always)]
 pub fn answer(monitor: &mut Monitor, what: What) -> Option<(Who, Reply)>
-    requires { GuestsAre (λ g. g < length (names_now monitor.old)) what }
-    ensures written { let written = written_by monitor.old (meaning_of (names_now monitor.old) what) in
-        MatchOption result (written ≡ []) (λ a. written ≡ line_text (who_of (names_now monitor.new) a.0) (reply_of a.1) ∷ []) }
-    ensures after { monitor.new ≡ after_meaning monitor.old (meaning_of (names_now monitor.old) what) }
-    ensures who { IfSome result (λ a. GuestIs (λ g. g < length (names_now monitor.new)) a.0) }
+    requires { GuestsAre (λ g. g < length (names_now monitor.old.world)) what }
+    ensures written { let written = written_by monitor.old.world (meaning_of (names_now monitor.old.world) what) in
+        MatchOption result (written ≡ []) (λ a. written ≡ line_text (who_of (names_now monitor.new.world) a.0) (reply_of a.1) ∷ []) }
+    ensures after { let m = meaning_of (names_now monitor.old.world) what in
+        monitor.new ≡ after_on_machine monitor.old (calls (asks m)) }
+    ensures who { IfSome result (λ a. GuestIs (λ g. g < length (names_now monitor.new.world)) a.0) }
     ensures shown { IfSome result (λ a. IsShown a.1) }
 {
     match what {
@@ -48,8 +52,8 @@ pub fn answer(monitor: &mut Monitor, what: What) -> Option<(Who, Reply)>
 #[inline(always)]
 fn push_answer(monitor: &mut Monitor, line: &[u8], text: &mut LineText)
     requires { text.old.items ≡ [] }
-    ensures text { text.new.items ≡ line_output monitor.old line.now }
-    ensures after { monitor.new ≡ after_line monitor.old line.now }
+    ensures text { text.new.items ≡ line_output monitor.old.world line.now }
+    ensures after { monitor.new ≡ after_line_on_machine monitor.old line.now }
 {
     let what = line_meaning(line, monitor.names());
     let Some((who, reply)) = answer(monitor, what) else {
@@ -61,8 +65,8 @@ fn push_answer(monitor: &mut Monitor, line: &[u8], text: &mut LineText)
 /// Runs the event of a line, and gives what the line writes: nothing, or one line with its line feed. No
 /// memory is taken.
 pub fn run_line(monitor: &mut Monitor, line: &[u8]) -> LineText
-    ensures text { result.items ≡ line_output monitor.old line.now }
-    ensures after { monitor.new ≡ after_line monitor.old line.now }
+    ensures text { result.items ≡ line_output monitor.old.world line.now }
+    ensures after { monitor.new ≡ after_line_on_machine monitor.old line.now }
 {
     let mut text = LineText::new();
     push_answer(monitor, line, &mut text);
@@ -73,7 +77,7 @@ pub fn run_line(monitor: &mut Monitor, line: &[u8]) -> LineText
 pub struct Script;
 
 impl Answers<Script> for Monitor {
-    ghost protocol = { world_protocol };
+    ghost protocol = { machine_protocol };
 
     ghost TakesMemory = { ⊥ };
 

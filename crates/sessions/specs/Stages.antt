@@ -16,7 +16,7 @@ use Rattle.sessions.specs.declared.stage.Stage.TheVariants.{Firmware, Guests, Be
 -- within a handover there is no session
 abbrev pub session_now : Stage → SessionNow
 session_now (Firmware h gs) = driven (world_on h gs.items) h.state
-session_now (Guests m) = given m
+session_now (Guests m) = given m.world
 session_now Between = given (record { handoff = record { functions = []; latch = 0 }; guests = [] })
 
 abbrev pub IsLawful : Stage → Type 0

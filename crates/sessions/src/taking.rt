@@ -4,6 +4,7 @@ ghost use Rattle.model_guests.specs.World.{HasLawfulGuests};
 ghost use Rattle.model_handoff.specs.Handoffs.{IsHandoff, taken_over};
 ghost use Rattle.model_handoff.specs.Regions.{first_fault};
 ghost use Rattle.model_guests.specs.WorldNow.{world_over};
+ghost use Rattle.model_giving.specs.Changes.{BeginsIn};
 ghost use Rattle.monitor.specs.Beginnings.{world_on};
 ghost use Rattle.sessions.specs.Takings.{IsFaultOf, of_audit, of_region};
 
@@ -55,7 +56,8 @@ pub struct NotTaken {
 pub fn take(alloc: Global, host: Host, guests: &[GuestDecl]) -> Result<Monitor, NotTaken>
     requires handoff { IsHandoff host.state }
     requires lawful { HasLawfulGuests (world_on host guests.now) }
-    ensures made { let w = world_on host guests.now in IfOk result (λ m. m ≡ world_over w (taken_over w host.state)) }
+    ensures made { let w = world_on host guests.now in
+        IfOk result (BeginsIn (λ v. v ≡ world_over w (taken_over w host.state))) }
     ensures given { IfOk result (λ _. first_fault (world_on host guests.now) host.state ≡ None) }
     ensures kept { IfErr result (λ n. n.host ≡ host) }
     ensures refused { IfErr result (λ n. IsFaultOf (world_on host guests.now) host n.fault) }

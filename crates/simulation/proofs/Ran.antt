@@ -1,12 +1,16 @@
 -- What the parts of a run over a board file say, put together.
-use Rattle.std.proofs.Common.{◌≡◌, ◌+◌, ℕ, Result, Ok, Err, refl, sym, ap, ap₂, ◌∙◌}
+use Rattle.std.proofs.Common.{◌≡◌, ◌+◌, ℕ, Option, Result, Ok, Err, refl, sym, ap, ap₂, ◌∙◌}
 use Rattle.std.specs.Prelude.{List, IsErrOf}
 use Rattle.std.specs.Result.{IsErrAnd}
 use Rattle.model_board.specs.Board.{Board}
 use Rattle.model_registers.specs.Apertures.{Apertures}
 use Rattle.model_set_up.specs.SetUp.{set_up_state}
 use Rattle.model_guests.specs.World.{Guest, World}
-use Rattle.model_guests.specs.WorldNow.{WorldNow, world_at_first}
+use Rattle.model_guests.specs.Text.{Text, lines}
+use Rattle.model_guests.specs.WorldNow.{WorldNow, world_at_first, world_protocol}
+use Rattle.model_giving.specs.Changes.{MachineNow, machine_protocol}
+use Rattle.model_giving.proofs.Aside.{stop_aside}
+use Rattle.line_runs.specs.Pieces.{IsStoppedIn}
 use Rattle.host_bridge.specs.HostState.{HostState}
 use Rattle.window_packing.specs.Readies.{ReadyBoard, board_below}
 use Rattle.board_file.specs.Meaning.{world_in}
@@ -37,6 +41,11 @@ began h r gs guests m below host given made =
     let board : world_of r guests ≡ record (world_in h guests) { guests = guests } =
     ap₂ (λ (b : Board) (a : Apertures). record { board = b; apertures = a; guests = guests }) below (ap (λ (k : HostState). k.apertures) host) in
     made ∙ ap (λ (w : World). world_at_first w) (board ∙ ap (λ (xs : List Guest). record (world_in h gs) { guests = xs }) given)
+
+-- where a run stopped, as one over the world alone
+pub stopped_aside : (m end : MachineNow) {script : Text} {old_rest new_rest old new : Option Text} → IsStoppedIn machine_protocol m script old_rest new_rest old new end
+    → IsStoppedIn world_protocol m.world script old_rest new_rest old new end.world
+stopped_aside m end {script} is = record { read = is.read; consumed = is.consumed; stop = stop_aside m end (lines script) is.stop; in_time = is.in_time }
 
 -- such a fault is the reader's, or the writer's, as that of the run is
 pub read_again : {T : Type 0} (r : Result T Fault) (e : RunFault) (old new : ℕ)

@@ -1,6 +1,7 @@
 //! A script over the board of a board file.
 ghost use Rattle.std.specs.Prelude.{◌≡◌, ◌+◌, ◌-◌, ◌^◌, ◌<◌, OnOk, IfOk, IfErr, IsErrOf};
 ghost use Rattle.std.specs.Io.KnownBytes.{IsAtEnd};
+ghost use Rattle.model_giving.specs.Changes.{BeginsIn};
 ghost use Rattle.simulation.specs.Faults.{read_faults, write_faults, OnFile, OnSetUp, IsOfBoard, IsOfRun};
 ghost use Rattle.simulation.specs.Listing.{Refuses, Breaks};
 ghost use Rattle.simulation.specs.Running.{IsOpened, IsRun, IsRunCut, IsRunStopped};
@@ -17,7 +18,7 @@ use window_packing::set_up;
 ///
 /// Refused are the file (101 to 112), its board (201 to 205), and lack of memory (199 or 299).
 pub fn open(alloc: Global, board: &[u8]) -> Result<Monitor, Fault>
-    ensures opened { IfOk result (IsOpened board.now) }
+    ensures opened { IfOk result (BeginsIn (IsOpened board.now)) }
     ensures file { IfErr result (OnFile (Refuses board.now)) }
     ensures placement { IfErr result (OnSetUp (Breaks board.now)) }
     ensures faults { IfErr result IsOfBoard }

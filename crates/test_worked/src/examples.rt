@@ -64,14 +64,14 @@ slots = [\"2.0/0.0\"]
 
 /// How many guests a monitor has.
 fn guests_of(monitor: &Monitor) -> usize
-    ensures { result ≡ length monitor.now.guests }
+    ensures { result ≡ length monitor.now.world.guests }
 {
     monitor.names().len()
 }
 
 /// The same over a walk of the board.
 fn guests_by_walk(engine: &Engine<TreeWalk>) -> usize
-    ensures { result ≡ length engine.now.guests }
+    ensures { result ≡ length engine.now.world.guests }
 {
     engine.names().len()
 }

@@ -1,4 +1,4 @@
-use Rattle.std.proofs.Common.{◌≡◌, ◌+◌, List, take, ap, sym, ◌∙◌, subst}
+use Rattle.std.proofs.Common.{◌≡◌, ◌+◌, List, take, ap, refl, sym, ◌∙◌, subst}
 use Rattle.std.specs.Prelude.{IsSome}
 use Rattle.lists.specs.Elements.{Each}
 use Rattle.model_board.specs.Paths.{Path}
@@ -26,5 +26,5 @@ loop-decl-preserved c =
     let d : Declared = c.decl-item.result in
     let slots : c.as_slice.result.now ≡ d.slots = c.as_slice.ensures.value ∙ ap (λ (g : Declared). g.slots) c.decl.view_is in
     subst (λ (gs : List Guest). AreFirst c.args.host.now.state w (take (i + 1) ds) gs) (sym c.in_ok-push.ensures.items)
-    (guest_pushed c.args.host.now.state w ds i d (record { latch = c.new.result; slots = c.in_ok-slots_of.field-0 }) c.loop-decl.guests.items (read_at ds i d c.loop-decl-test.true c.decl-item.is) c.loop-decl.invariant
-    c.new.ensures (subst (λ (ps : List Path). AreSlotsAtFirst c.args.host.now ps c.in_ok-slots_of.field-0.items) slots c.in_ok-slots_of.ensures))
+    (guest_pushed c.args.host.now.state w ds i d (record { latch = c.new.result; slots = c.in_ok-slots_of.field-0; changed = 0 }) c.loop-decl.guests.items (read_at ds i d c.loop-decl-test.true c.decl-item.is) c.loop-decl.invariant
+    c.new.ensures refl (subst (λ (ps : List Path). AreSlotsAtFirst c.args.host.now ps c.in_ok-slots_of.field-0.items) slots c.in_ok-slots_of.ensures))

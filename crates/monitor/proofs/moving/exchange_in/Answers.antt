@@ -3,14 +3,16 @@ use Rattle.std.specs.Prelude.{slice_index_or}
 use Rattle.monitor.specs.declared.guest.Guest.{Guest}
 use Rattle.monitor.specs.declared.guest.Held.{Held}
 use Rattle.std.proofs.lemmas.List.{take_at}
+use Rattle.model_giving.specs.Changes.{after_change}
 use Rattle.monitor.proofs.ConfigSteps.{same_at}
+use Rattle.monitor.proofs.Counts.{set_counted}
 use Rattle.monitor.proofs.moving.exchange_in.Goals as goal
 
 pub exchange-requires : goal.exchange-requires
 exchange-requires c = search (rules, same_at)
 
-pub returns : goal.returns
-returns c =
+pub returns-clause-exchanged : goal.returns-clause-exchanged
+returns-clause-exchanged c =
     let has = c.requires in
     let same = same_at c.args.guests.now c.args.guest has.guest c.index-guests-guest.result has.there c.index-guests-guest.is in
     let here = sym c.index-guests-guest.is ∙ same in
@@ -26,3 +28,10 @@ returns c =
       latch = ap (λ (g : Guest). g.latch) here;
       items = back ∙ c.exchange.ensures.slots ∙ ap (λ (os : List (Option Held)). slice_set os c.args.slot c.args.held) items;
     }
+
+pub returns-clause-counts : goal.returns-clause-counts
+returns-clause-counts c =
+    let has = c.requires in
+    let same = same_at c.args.guests.now c.args.guest has.guest c.index-guests-guest.result has.there c.index-guests-guest.is in
+    set_counted c.args.guests.now c.args.guest has.guest _ c.args.changes has.there
+    (c.counted-guest.ensures ∙ ap (λ (g : Guest). after_change c.args.changes g.changed) (sym c.index-guests-guest.is ∙ same))

@@ -1,4 +1,5 @@
-use Rattle.std.proofs.Common.{rules}
+use Rattle.std.proofs.Common.{◌∙◌, ◌==◌, ap, not, rules}
+use Rattle.monitor.specs.Counts.{counted_nth}
 use Rattle.monitor.proofs.Exchanges.{has_held, has_left}
 use Rattle.monitor.proofs.moving.hand_over.Goals as goal
 
@@ -6,7 +7,11 @@ pub exchange_in-requires : goal.exchange_in-requires
 exchange_in-requires c = has_held c.requires.holds
 
 pub exchange_in-empty-requires : goal.exchange_in-empty-requires
-exchange_in-empty-requires c = has_left c.exchange_in.ensures c.requires.has
+exchange_in-empty-requires c = has_left c.exchange_in.ensures.exchanged c.requires.has
 
-pub returns : goal.returns
-returns c = search rules
+pub returns-clause-over : goal.returns-clause-over
+returns-clause-over c = search rules
+
+pub returns-clause-counts : goal.returns-clause-counts
+returns-clause-counts c =
+    c.exchange_in-empty.ensures.counts ∙ ap (counted_nth c.args.to (not (c.args.to == c.args.from))) c.exchange_in.ensures.counts

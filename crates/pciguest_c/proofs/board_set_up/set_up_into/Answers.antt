@@ -2,7 +2,6 @@ use Rattle.std.proofs.Common.{arith}
 use Rattle.simulation.specs.Listing.{Breaks}
 use Rattle.pciguest_c.proofs.FaultNumbers.{is_small, accepted, broken}
 use Rattle.pciguest_c.proofs.Options.{where_none}
-use Rattle.pciguest_c.proofs.Begun.{names_apart}
 use Rattle.pciguest_c.proofs.board_set_up.set_up_into.Goals as goal
 
 pub returns-clause-placement : goal.returns-clause-placement
@@ -15,6 +14,3 @@ returns-clause-numbers c =
 
 pub returns-clause-made : goal.returns-clause-made
 returns-clause-made c = grind (arith, is_small)
-
-pub new-made-requires : goal.new-made-requires
-new-made-requires c = names_apart c.in-Ok.ensures.opened.begins c.in-Ok.ensures.opened.lawful.guests

@@ -1,7 +1,6 @@
 use Rattle.std.proofs.Common.{arith}
 use Rattle.simulation.specs.Listing.{Refuses, Breaks}
 use Rattle.pciguest_c.proofs.FaultNumbers.{is_small, refused, broken}
-use Rattle.pciguest_c.proofs.Begun.{names_apart}
 use Rattle.pciguest_c.proofs.Options.{where_none}
 use Rattle.pciguest_c.proofs.life.pciguest_raw_new.Goals as goal
 
@@ -19,6 +18,3 @@ returns-clause-numbers c =
 
 pub returns-clause-made : goal.returns-clause-made
 returns-clause-made c = grind (arith, is_small)
-
-pub new-machine-requires : goal.new-machine-requires
-new-machine-requires c = names_apart c.in-Ok.ensures.opened.begins c.in-Ok.ensures.opened.lawful.guests

@@ -9,9 +9,12 @@ returns-in_err-host-clause-file c =
 
 pub returns-clause-opened : goal.returns-clause-opened
 returns-clause-opened c = record {
-  world = world_in c.in_ok-host.host c.in_ok-host.guests.items;
-  set_up = record { declared = record { is_text = c.in_ok-host.ensures.world.0; meaning = c.in_ok-host.ensures.world.1 }; fits = c.in_ok-ready.ensures.kept };
-  lawful = c.in_ok-host.ensures.lawful;
-  begins = began c.in_ok-host.host c.in_ok-ready.ready c.in_ok-host.guests.items c.deref.result.now c.in_ok-monitor.monitor
-      c.in_ok-ready.ensures.board c.in_ok-ready.ensures.ready c.deref.ensures.value c.in_ok-monitor.ensures.made;
+  world = record {
+    world = world_in c.in_ok-host.host c.in_ok-host.guests.items;
+    set_up = record { declared = record { is_text = c.in_ok-host.ensures.world.0; meaning = c.in_ok-host.ensures.world.1 }; fits = c.in_ok-ready.ensures.kept };
+    lawful = c.in_ok-host.ensures.lawful;
+    begins = began c.in_ok-host.host c.in_ok-ready.ready c.in_ok-host.guests.items c.deref.result.now c.in_ok-monitor.monitor.world
+        c.in_ok-ready.ensures.board c.in_ok-ready.ensures.ready c.deref.ensures.value c.in_ok-monitor.ensures.made.world;
+  };
+  counts = c.in_ok-monitor.ensures.made.counts;
 }

@@ -1,5 +1,6 @@
 use Rattle.std.proofs.Common.{subst}
 use Rattle.board_file.specs.Meaning.{world_in}
+use Rattle.model_giving.specs.Changes.{BeginsIn}
 use Rattle.simulation.specs.Listing.{Declares}
 use Rattle.driven_board.specs.Boards.{BoardNow}
 use Rattle.driven_board.specs.Giving.{IsGiven}
@@ -13,5 +14,7 @@ returns-in-Ok-take-clause-given c =
     let h = c.self.inside.host in
     let made = rw c.deref-2.ensures.value at c.in-Ok-take.ensures.made in
     let none = rw c.deref-2.ensures.value at c.in-Ok-take.ensures.given in
-    subst (λ (b : BoardNow). IsGiven b.file b.host c.in-Ok-take.monitor) c.self.view_is
-    (is_given c.self.inside.file.items h c.in-Ok._at_reset c.in-Ok.guests.items c.self.invariant.0 declared c.in-Ok.ensures.lawful c.in-Ok-take.monitor made none)
+    subst (λ (b : BoardNow). BeginsIn (IsGiven b.file b.host) c.in-Ok-take.monitor) c.self.view_is (record {
+      world = is_given c.self.inside.file.items h c.in-Ok._at_reset c.in-Ok.guests.items c.self.invariant.0 declared c.in-Ok.ensures.lawful c.in-Ok-take.monitor.world made.world none;
+      counts = made.counts;
+    })

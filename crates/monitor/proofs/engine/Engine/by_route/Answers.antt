@@ -1,6 +1,8 @@
-use Rattle.std.proofs.Common.{◌≡◌, List, ap, sym, subst, rules}
+use Rattle.std.proofs.Common.{◌≡◌, ◌∙◌, List, ap, sym, subst, rules}
 use Rattle.model_set_up.specs.FunctionTable.{TableRow}
 use Rattle.model_set_up.specs.SetUpWrites.{Plan}
+use Rattle.model_guests.specs.WorldNow.{world_over}
+use Rattle.model_handoff.specs.Handoffs.{taken_over}
 use Rattle.model_handoff.specs.Regions.{CanBeGiven}
 use Rattle.host_bridge.specs.HostState.{HostState}
 use Rattle.monitor.specs.Beginnings.{world_on}
@@ -22,4 +24,11 @@ over_by_route-requires-clause-given g c =
     subst (λ (h : HostState). CanBeGiven (world_on h c.args.guests.now) h.state) (sym host) (ready_given c.args.ready c.into_parts-host.ensures.ready c.args.guests.now c.requires.lawful)
 
 pub returns-in-Ok : goal.returns-in-Ok
-returns-in-Ok g c = search (rules, ready_world)
+returns-in-Ok g c =
+    let host : c.into_parts-host.result.0 ≡ c.args.ready.host = ap (λ (x : HostState × List TableRow × Plan). x.0) c.into_parts-host.ensures.parts in
+    let made = c.in-Ok.ensures.made in
+    record {
+      world = made.world ∙ ap (λ (h : HostState). world_over (world_on h c.args.guests.now) (taken_over (world_on h c.args.guests.now) h.state)) host
+          ∙ ready_world c.args.ready c.into_parts-host.ensures.ready c.args.guests.now c.requires.lawful;
+      counts = made.counts;
+    }

@@ -1,11 +1,15 @@
 use Rattle.std.proofs.Common.{◌∙◌, ℕ, List, ap, sym, subst, arith}
 use Rattle.std.specs.Prelude.{IsSome}
 use Rattle.model_registers.specs.ByteEnables.{enables_of, into_lanes}
+use Rattle.model_registers.specs.Registers.{config}
+use Rattle.model_queries.specs.StayLaws.{any_tells}
 use Rattle.bridge_forward.specs.Lending.{endpoint_nth}
 use Rattle.host_bridge.specs.Landings.{IsReached}
 use Rattle.monitor.specs.declared.guest.Guest.{Guest}
 use Rattle.monitor.specs.Configs.{HoldsAt}
-use Rattle.monitor.proofs.ConfigSteps.{config_drops, config_written, written_lent}
+use Rattle.monitor.specs.Counts.{counted_nth}
+use Rattle.monitor.proofs.ConfigSteps.{config_changes, config_drops, config_quiet, config_written, written_lent}
+use Rattle.monitor.proofs.Machines.{accessed, counts_lent, untouched}
 use Rattle.monitor.proofs.Calls.{back_in, guest_in, inside_guests}
 use Rattle.monitor.proofs.Steps.{empty_lent, slot_lent}
 use Rattle.monitor.proofs.Exchanges.{holds_nth}
@@ -18,7 +22,8 @@ index-requires g c = omega (arith, inside_guests c.self.invariant.1 c.self.view_
 pub returns-in_default : goal.returns-in_default
 returns-in_default g c =
     let at = guest_in c.self.invariant.1 c.self.view_is c.args.guest c.requires.there c.index.ensures in
-    config_drops at c.args.slot (empty_lent at c.args.slot c.deref.ensures.value c.in_default.ensures.empty) c.args.off c.args.width c.args.value
+    let empty = empty_lent at c.args.slot c.deref.ensures.value c.in_default.ensures.empty in
+    untouched c.args.self.now c.args.guest _ _ (config_drops at c.args.slot empty c.args.off c.args.width c.args.value) (config_quiet at c.args.slot empty c.args.off c.args.width c.args.value)
 
 pub write_guest-index-requires-clause-holds : goal.write_guest-index-requires-clause-holds
 write_guest-index-requires-clause-holds g c =
@@ -29,14 +34,14 @@ pub config_write_nth-requires-clause-there : goal.config_write_nth-requires-clau
 config_write_nth-requires-clause-there g c =
     let at = guest_in c.self.invariant.1 c.self.view_is c.args.guest c.requires.there c.index.ensures in
     let slot = slot_lent at c.deref.ensures.value c.in-Some.ensures.there in
-    let written = written_lent c.deref_mut.ensures.value (holds_nth at slot) c.write_guest-index.ensures in
+    let written = written_lent c.deref_mut.ensures.value (holds_nth at slot) c.write_guest-index.ensures.written in
     subst (λ (k : ℕ). IsSome (endpoint_nth c.self.inside.host.state.functions k)) (sym written.slots.index) (endpoint_held at slot)
 
 pub config_write_nth-requires-clause-reached : goal.config_write_nth-requires-clause-reached
 config_write_nth-requires-clause-reached g c =
     let at = guest_in c.self.invariant.1 c.self.view_is c.args.guest c.requires.there c.index.ensures in
     let slot = slot_lent at c.deref.ensures.value c.in-Some.ensures.there in
-    let written = written_lent c.deref_mut.ensures.value (holds_nth at slot) c.write_guest-index.ensures in
+    let written = written_lent c.deref_mut.ensures.value (holds_nth at slot) c.write_guest-index.ensures.written in
     subst (λ (k : ℕ). IsReached c.self.inside.host.state.functions k) (sym written.slots.index) (reached_held at slot)
 
 pub invariant_of-self : goal.invariant_of-self
@@ -44,7 +49,7 @@ invariant_of-self g c =
     let e = c.self.inside in
     let at = guest_in c.self.invariant.1 c.self.view_is c.args.guest c.requires.there c.index.ensures in
     let slot = slot_lent at c.deref.ensures.value c.in-Some.ensures.there in
-    let written = written_lent c.deref_mut.ensures.value (holds_nth at slot) c.write_guest-index.ensures in
+    let written = written_lent c.deref_mut.ensures.value (holds_nth at slot) c.write_guest-index.ensures.written in
     let left = back_in e.guests.items e.guests.len (c.write_guest-index.auto.guests ∙ c.deref_mut.ensures.len)
     (config_written at slot c.args.off c.args.width c.args.value c.requires.width c.requires.aligned
     (c.enables_of-enables.ensures ∙ ap (λ x. enables_of x c.args.width) c.from-from.ensures) (c.into_lanes-moved.ensures ∙ ap (λ x. into_lanes x c.args.value) c.from-from.ensures)
@@ -56,8 +61,12 @@ returns g c =
     let e = c.self.inside in
     let at = guest_in c.self.invariant.1 c.self.view_is c.args.guest c.requires.there c.index.ensures in
     let slot = slot_lent at c.deref.ensures.value c.in-Some.ensures.there in
-    let written = written_lent c.deref_mut.ensures.value (holds_nth at slot) c.write_guest-index.ensures in
-    (back_in e.guests.items e.guests.len (c.write_guest-index.auto.guests ∙ c.deref_mut.ensures.len)
+    let written = written_lent c.deref_mut.ensures.value (holds_nth at slot) c.write_guest-index.ensures.written in
+    let count = c.write_guest-index.auto.guests ∙ c.deref_mut.ensures.len in
+    accessed c.self.invariant.1 c.self.view_is c.args.guest
+    (back_in e.guests.items e.guests.len count
     (config_written at slot c.args.off c.args.width c.args.value c.requires.width c.requires.aligned
     (c.enables_of-enables.ensures ∙ ap (λ x. enables_of x c.args.width) c.from-from.ensures) (c.into_lanes-moved.ensures ∙ ap (λ x. into_lanes x c.args.value) c.from-from.ensures)
-    written c.config_write_nth.ensures)).world
+    written c.config_write_nth.ensures))
+    (counts_lent _ (counted_nth c.args.guest c.tells_regions-changes.result) c.deref_mut.ensures.value c.write_guest-index.ensures.counts e.guests.len count)
+    (c.tells_regions-changes.ensures ∙ ap (λ x. any_tells c.args.width (config x)) c.from-from.ensures ∙ sym (config_changes at slot c.args.off c.args.width c.args.value))

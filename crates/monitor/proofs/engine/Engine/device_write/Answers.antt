@@ -1,6 +1,7 @@
-use Rattle.std.proofs.Common.{arith}
+use Rattle.std.proofs.Common.{refl, arith}
 use Rattle.monitor.specs.DeviceBytes.{device_byte}
 use Rattle.model_devices.specs.DeviceEvents.{device_writes}
+use Rattle.monitor.proofs.Machines.{happens, refused_all, stood}
 use Rattle.monitor.proofs.ResetSteps.{device_refused, nothing_changed}
 use Rattle.monitor.proofs.DeviceSteps.{device_written, endpoint_reached, refused_there, write_left}
 use Rattle.monitor.proofs.Calls.{guest_in, inside_guests}
@@ -28,7 +29,8 @@ returns-in-Ok-clause-reply g c =
 pub returns-in-Ok-clause-after : goal.returns-in-Ok-clause-after
 returns-in-Ok-clause-after g c =
     let at = guest_in c.self.invariant.1 c.self.view_is c.args.guest c.requires c.index.ensures in
-    (write_left at c.deref.ensures.value c.in-Ok.ensures.index c.args.value c.set_device_value_nth.ensures).world
+    stood c.self.invariant.1 c.self.view_is (happens c.args.self.now c.args.guest (device_writes (device_byte c.args.slot c.args.place c.args.off) c.args.value))
+    (write_left at c.deref.ensures.value c.in-Ok.ensures.index c.args.value c.set_device_value_nth.ensures) (λ x. refl)
 
 pub returns-in-Err-clause-reply : goal.returns-in-Err-clause-reply
 returns-in-Err-clause-reply g c =
@@ -38,4 +40,5 @@ returns-in-Err-clause-reply g c =
 pub returns-in-Err-clause-after : goal.returns-in-Err-clause-after
 returns-in-Err-clause-after g c =
     let at = guest_in c.self.invariant.1 c.self.view_is c.args.guest c.requires c.index.ensures in
-    nothing_changed at (device_writes (device_byte c.args.slot c.args.place c.args.off) c.args.value) (refused_there at c.deref.ensures.value c.args.slot c.args.place c.args.off c.in-Err.ensures.refused)
+    let e = device_writes (device_byte c.args.slot c.args.place c.args.off) c.args.value in
+    refused_all c.self.invariant.1 c.self.view_is (happens c.args.self.now c.args.guest e) (nothing_changed at e (refused_there at c.deref.ensures.value c.args.slot c.args.place c.args.off c.in-Err.ensures.refused)) (λ x. refl)

@@ -1,15 +1,19 @@
-use Rattle.std.proofs.Common.{◌<◌, ◌∙◌, List, length, ap, sym, subst, arith, rules}
+use Rattle.std.proofs.Common.{◌<◌, ◌∙◌, List, length, false, ap, refl, sym, subst, arith}
 use Rattle.lists.proofs.Indices.{at_below}
-use Rattle.model_guests.specs.Accesses.{answered}
-use Rattle.model_guests.specs.Lone.{own_latch, reply_at, after_access_at}
+use Rattle.model_registers.specs.ConfigAddress.{latched}
+use Rattle.model_guests.specs.Accesses.{answered, writes}
+use Rattle.model_guests.specs.Lone.{own_latch, reply_at}
 use Rattle.accesses.specs.Accesses.{op_of}
 use Rattle.config_bytes.specs.declared.op.Op.{Op}
 use Rattle.monitor.specs.declared.guest.Guest.{Guest}
-use Rattle.monitor.specs.ByIndex.{lone_nth, with_lone_nth}
+use Rattle.monitor.specs.ByIndex.{lone_nth}
+use Rattle.monitor.specs.Counts.{after_access_nth, counted_nth, counts_of}
 use Rattle.monitor.proofs.Calls.{back_in, guest_in, inside_guests, kept_in}
 use Rattle.monitor.proofs.Steps.{kept_nth}
 use Rattle.monitor.proofs.PortSteps.{latch_lent, latch_written}
-use Rattle.monitor.proofs.Named.{same_nth}
+use Rattle.monitor.proofs.Counts.{set_counted}
+use Rattle.monitor.proofs.Lands.{latch_unchanged}
+use Rattle.monitor.proofs.Machines.{accessed, counts_lent, same_machine}
 use Rattle.monitor.proofs.engine.Engine.latch_access.Goals as goal
 
 pub index-requires : goal.index-requires
@@ -22,10 +26,12 @@ write_latch-requires g c =
 pub returns-in-Read-clause-reply : goal.returns-in-Read-clause-reply
 returns-in-Read-clause-reply g c =
     let at = guest_in c.self.invariant.1 c.self.view_is c.args.guest c.requires c.index.ensures in
-    ap (λ n. answered n 4) (c.value.ensures ∙ sym at.is.latch) ∙ ap (λ (op : Op). reply_at (lone_nth c.args.self.now c.args.guest) (op_of op) 4 own_latch) (sym c.in-Read.is)
+    ap (λ n. answered n 4) (c.value.ensures ∙ sym at.is.latch) ∙ ap (λ (op : Op). reply_at (lone_nth c.args.self.now.world c.args.guest) (op_of op) 4 own_latch) (sym c.in-Read.is)
 
 pub returns-in-Read-clause-after : goal.returns-in-Read-clause-after
-returns-in-Read-clause-after g c = search (rules, same_nth)
+returns-in-Read-clause-after g c =
+    same_machine c.args.self.now c.args.guest c.requires 4 own_latch
+    ∙ ap (λ (op : Op). after_access_nth c.args.guest (op_of op) 4 own_latch c.args.self.now) (sym c.in-Read.is)
 
 pub invariant_of-self : goal.invariant_of-self
 invariant_of-self g c =
@@ -42,6 +48,10 @@ returns-in-Write-clause-after g c =
     let e = c.self.inside in
     let kept = kept_in c.self.invariant.1 c.self.view_is in
     let one = at_below e.guests.items c.args.guest (inside_guests c.self.invariant.1 c.self.view_is c.args.guest c.requires) in
-    (back_in e.guests.items e.guests.len (c.write_latch.auto.guests ∙ c.deref_mut.ensures.len)
-    (latch_written (kept_nth kept one.1) c.in-Write.value (latch_lent c.args.guest c.in-Write.value c.deref_mut.ensures.value one.1 c.write_latch.ensures))).world
-    ∙ ap (λ (op : Op). with_lone_nth c.args.guest (after_access_at (lone_nth c.args.self.now c.args.guest) (op_of op) 4 own_latch) c.args.self.now) (sym c.in-Write.is)
+    let lent = latch_lent c.args.guest c.in-Write.value c.deref_mut.ensures.value one.1 c.write_latch.ensures in
+    let count = c.write_latch.auto.guests ∙ c.deref_mut.ensures.len in
+    accessed c.self.invariant.1 c.self.view_is c.args.guest (back_in e.guests.items e.guests.len count (latch_written (kept_nth kept one.1) c.in-Write.value lent))
+    (counts_lent {ms = e.guests.items} _ (counted_nth c.args.guest false) refl
+    (ap counts_of lent ∙ set_counted e.guests.items c.args.guest one.0 (record one.0 { latch = latched c.in-Write.value }) false one.1 refl) e.guests.len count)
+    (sym (latch_unchanged (lone_nth c.args.self.now.world c.args.guest) (writes c.in-Write.value) 4))
+    ∙ ap (λ (op : Op). after_access_nth c.args.guest (op_of op) 4 own_latch c.args.self.now) (sym c.in-Write.is)

@@ -1,9 +1,17 @@
-use Rattle.std.proofs.Common.{◌∙◌, List, subst, arith, sym}
+use Rattle.std.proofs.Common.{◌∙◌, ◌&&◌, ◌||◌, ℕ, List, Option, not, ap, subst, arith, sym}
+use Rattle.std.specs.Prelude.{is_some}
+use Rattle.std.specs.Str.{bytes_eq}
+use Rattle.model_guests.specs.Lines.{host_move}
+use Rattle.model_devices.specs.Calls.{asks}
+use Rattle.model_giving.specs.Actions.{calls}
 use Rattle.monitor.specs.declared.guest.Guest.{Guest}
 use Rattle.monitor.specs.Configs.{HoldsAt}
-use Rattle.monitor.specs.Moves.{HasSlot}
+use Rattle.monitor.specs.ByIndex.{name_nth}
+use Rattle.monitor.specs.Counts.{counted_both}
+use Rattle.monitor.specs.Moves.{HasSlot, move_nth}
 use Rattle.monitor.proofs.Calls.{back_in, guest_in, inside_guests}
-use Rattle.monitor.proofs.MoveSteps.{has_moved, holds_moved, move_done, move_left, move_refused, nothing_moved}
+use Rattle.monitor.proofs.Machines.{both_grew, counts_lent, refused_all}
+use Rattle.monitor.proofs.MoveSteps.{fault_is, has_moved, holds_moved, move_done, move_left, move_refused, nothing_moved}
 use Rattle.monitor.proofs.Exchanges.{over_lent}
 use Rattle.monitor.proofs.engine.Engine.move_function.Goals as goal
 
@@ -23,7 +31,11 @@ pub returns-in-Some-clause-after : goal.returns-in-Some-clause-after
 returns-in-Some-clause-after g c =
     let from = guest_in c.self.invariant.1 c.self.view_is c.args.from c.requires.from c.index.ensures in
     let to = guest_in c.self.invariant.1 c.self.view_is c.args.to c.requires.to c.index-2.ensures in
-    nothing_moved from to c.args.slot c.args.target c.deref.ensures.value c.deref-2.ensures.value c.in-Some.ensures
+    let now = c.args.self.now in
+    refused_all c.self.invariant.1 c.self.view_is (calls (asks (host_move (move_nth now.world c.args.from c.args.slot c.args.to c.args.target))))
+    (nothing_moved from to c.args.slot c.args.target c.deref.ensures.value c.deref-2.ensures.value c.in-Some.ensures)
+    (λ x. ap (λ (o : Option ℕ). not (is_some o) && (bytes_eq (name_nth now.world c.args.from) x || bytes_eq (name_nth now.world c.args.to) x))
+    (sym (c.in-Some.ensures ∙ fault_is from to c.args.slot c.args.target c.deref.ensures.value c.deref-2.ensures.value)))
 
 pub hand_over-requires-clause-holds : goal.hand_over-requires-clause-holds
 hand_over-requires-clause-holds g c =
@@ -49,14 +61,20 @@ invariant_of-self g c =
     let from = guest_in c.self.invariant.1 c.self.view_is c.args.from c.requires.from c.index.ensures in
     let to = guest_in c.self.invariant.1 c.self.view_is c.args.to c.requires.to c.index-2.ensures in
     let left = back_in e.guests.items e.guests.len (c.hand_over.auto.guests ∙ c.deref_mut.ensures.len)
-    (move_left from to c.args.slot c.args.target c.deref.ensures.value c.deref-2.ensures.value c.in_default.ensures (over_lent c.deref_mut.ensures.value c.hand_over.ensures)) in
+    (move_left from to c.args.slot c.args.target c.deref.ensures.value c.deref-2.ensures.value c.in_default.ensures (over_lent c.deref_mut.ensures.value c.hand_over.ensures.over)) in
     (g.met.R.Route.by_routing e.route e.host c.hand_over.new.host left.routes c.self.invariant.0, left.sound)
 
 pub returns-clause-after : goal.returns-clause-after
 returns-clause-after g c =
     let e = c.self.inside in
+    let now = c.args.self.now in
     let from = guest_in c.self.invariant.1 c.self.view_is c.args.from c.requires.from c.index.ensures in
     let to = guest_in c.self.invariant.1 c.self.view_is c.args.to c.requires.to c.index-2.ensures in
-    let left = back_in e.guests.items e.guests.len (c.hand_over.auto.guests ∙ c.deref_mut.ensures.len)
-    (move_left from to c.args.slot c.args.target c.deref.ensures.value c.deref-2.ensures.value c.in_default.ensures (over_lent c.deref_mut.ensures.value c.hand_over.ensures)) in
-    left.world
+    let count = c.hand_over.auto.guests ∙ c.deref_mut.ensures.len in
+    both_grew c.self.invariant.1 c.self.view_is (calls (asks (host_move (move_nth now.world c.args.from c.args.slot c.args.to c.args.target))))
+    c.args.from c.args.to c.requires.from c.requires.to
+    (back_in e.guests.items e.guests.len count
+    (move_left from to c.args.slot c.args.target c.deref.ensures.value c.deref-2.ensures.value c.in_default.ensures (over_lent c.deref_mut.ensures.value c.hand_over.ensures.over)))
+    (counts_lent _ (counted_both c.args.from c.args.to) c.deref_mut.ensures.value c.hand_over.ensures.counts e.guests.len count)
+    (λ x. ap (λ (o : Option ℕ). not (is_some o) && (bytes_eq (name_nth now.world c.args.from) x || bytes_eq (name_nth now.world c.args.to) x))
+    (sym (c.in_default.ensures ∙ fault_is from to c.args.slot c.args.target c.deref.ensures.value c.deref-2.ensures.value)))

@@ -1,4 +1,7 @@
 use Rattle.std.proofs.Common.{rules}
+use Rattle.monitor.proofs.Machines.{begins_counted}
+use Rattle.model_handoff.specs.Handoffs.{taken_over}
+use Rattle.monitor.specs.Beginnings.{world_on}
 use Rattle.monitor.specs.Views.{texts}
 use Rattle.monitor.proofs.FirstWorlds.{routing_on, sound_at_first, shown_at_first}
 use Rattle.monitor.proofs.engine.Engine.over_by_route.Goals as goal
@@ -9,7 +12,11 @@ of_parts-requires-clause-fits g c = search (rules, routing_on)
 pub of_parts-requires-clause-sound : goal.of_parts-requires-clause-sound
 of_parts-requires-clause-sound g c =
     sound_at_first c.args.host c.args.guests.now c.requires.handoff c.requires.lawful c.requires.given c.take_over.new.host c.take_over.ensures
-    (texts c.names_of.result) c.names_of.ensures c.in-Ok.kept.items c.in-Ok.ensures
+    (texts c.names_of.result) c.names_of.ensures c.in-Ok.kept.items c.in-Ok.ensures.kept
 
 pub returns-clause-made : goal.returns-clause-made
-returns-clause-made g c = search (rules, shown_at_first)
+returns-clause-made g c =
+    let w = world_on c.args.host c.args.guests.now in
+    let shown = shown_at_first c.args.host c.args.guests.now c.requires.handoff c.requires.lawful c.requires.given c.take_over.new.host c.take_over.ensures
+    (texts c.names_of.result) c.names_of.ensures c.in-Ok.kept.items c.in-Ok.ensures.kept in
+    begins_counted w (taken_over w c.args.host.state) c.take_over.new.host (texts c.names_of.result) c.in-Ok.kept.items c.of_parts.ensures shown c.in-Ok.ensures.counts

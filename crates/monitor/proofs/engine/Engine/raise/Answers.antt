@@ -1,7 +1,8 @@
 use Rattle.std.proofs.Common.{◌∙◌, ap}
 use Rattle.model_guests.specs.Accesses as guests
-use Rattle.model_guests.specs.Lone.{LoneGuest, answer, after_event}
-use Rattle.monitor.proofs.Named.{changed_by_name, lone_by_name}
+use Rattle.model_guests.specs.Lone.{LoneGuest, answer}
+use Rattle.monitor.proofs.Machines.{by_name}
+use Rattle.monitor.proofs.Named.{lone_by_name}
 use Rattle.monitor.proofs.RaiseSteps.{raise_of}
 use Rattle.monitor.proofs.Calls.{kept_in}
 use Rattle.monitor.proofs.engine.Engine.raise.Goals as goal
@@ -12,4 +13,4 @@ returns-clause-reply g c =
 
 pub returns-clause-after : goal.returns-clause-after
 returns-clause-after g c =
-    c.raise_nth.ensures.after ∙ changed_by_name (kept_in c.self.invariant.1 c.self.view_is) c.args.guest c.requires (λ (l : LoneGuest). after_event l (guests.raises (raise_of c.args.slot c.args.place c.args.off c.args.mask)))
+    c.raise_nth.ensures.after ∙ by_name c.self.invariant.1 c.self.view_is c.args.guest c.requires (guests.raises (raise_of c.args.slot c.args.place c.args.off c.args.mask))

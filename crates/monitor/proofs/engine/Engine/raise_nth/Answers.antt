@@ -1,4 +1,5 @@
-use Rattle.std.proofs.Common.{◌∙◌, sym, arith}
+use Rattle.std.proofs.Common.{◌∙◌, false, refl, sym, arith}
+use Rattle.monitor.proofs.Machines.{accessed, untouched}
 use Rattle.monitor.proofs.RaiseSteps.{raise_of, no_place, nothing_raised, raise_done, raise_refused, raise_slot_refused, raise_written}
 use Rattle.monitor.proofs.Reached.{endpoint_held}
 use Rattle.monitor.proofs.Calls.{guest_in, inside_guests}
@@ -18,7 +19,7 @@ pub returns-in-Err-clause-after : goal.returns-in-Err-clause-after
 returns-in-Err-clause-after g c =
     let at = guest_in c.self.invariant.1 c.self.view_is c.args.guest c.requires c.index.ensures in
     let r = raise_of c.args.slot c.args.place c.args.off c.args.mask in
-    nothing_raised at r (raise_slot_refused at c.deref.ensures.value r c.in-Err.ensures.refused)
+    untouched c.args.self.now c.args.guest _ _ (nothing_raised at r (raise_slot_refused at c.deref.ensures.value r c.in-Err.ensures.refused)) refl
 
 pub returns-then-not-has_place-clause-reply : goal.returns-then-not-has_place-clause-reply
 returns-then-not-has_place-clause-reply g c =
@@ -31,8 +32,8 @@ pub returns-then-not-has_place-clause-after : goal.returns-then-not-has_place-cl
 returns-then-not-has_place-clause-after g c =
     let at = guest_in c.self.invariant.1 c.self.view_is c.args.guest c.requires c.index.ensures in
     let slot = slot_lent at c.deref.ensures.value c.in-Ok.ensures.there.there in
-    nothing_raised at (raise_of c.args.slot c.args.place c.args.off c.args.mask)
-    (no_place at slot c.in-Ok.ensures.there.low c.args.place c.args.off c.args.mask (λ s p f held. sym c.if-not-has_place.true ∙ c.has_place.ensures s p f held))
+    untouched c.args.self.now c.args.guest _ _ (nothing_raised at (raise_of c.args.slot c.args.place c.args.off c.args.mask)
+    (no_place at slot c.in-Ok.ensures.there.low c.args.place c.args.off c.args.mask (λ s p f held. sym c.if-not-has_place.true ∙ c.has_place.ensures s p f held))) refl
 
 pub raise_on_board-requires : goal.raise_on_board-requires
 raise_on_board-requires g c =
@@ -56,4 +57,5 @@ pub returns-clause-after : goal.returns-clause-after
 returns-clause-after g c =
     let at = guest_in c.self.invariant.1 c.self.view_is c.args.guest c.requires c.index.ensures in
     let slot = slot_lent at c.deref.ensures.value c.in-Ok.ensures.there.there in
-    (raise_written at slot c.in-Ok.ensures.there.low c.args.place c.args.off c.args.mask (λ s p f held. sym c.if-not-has_place.false ∙ c.has_place.ensures s p f held) c.raise_on_board.ensures).world
+    accessed c.self.invariant.1 c.self.view_is c.args.guest {t = false} {u = false}
+    (raise_written at slot c.in-Ok.ensures.there.low c.args.place c.args.off c.args.mask (λ s p f held. sym c.if-not-has_place.false ∙ c.has_place.ensures s p f held) c.raise_on_board.ensures) refl refl

@@ -1,15 +1,18 @@
-use Rattle.std.proofs.Common.{◌∙◌, ap, sym, arith, rules}
-use Rattle.model_guests.specs.Lone.{at_target, reply_at, after_access_at}
+use Rattle.std.proofs.Common.{◌∙◌, false, ap, refl, sym, arith, rules}
+use Rattle.model_guests.specs.Accesses.{writes}
+use Rattle.model_guests.specs.Lone.{at_target, reply_at}
 use Rattle.bars.specs.Kinds.{named_space}
 use Rattle.host_bridge.specs.HostState.{HostState}
 use Rattle.accesses.specs.Accesses.{op_of}
 use Rattle.config_bytes.specs.declared.op.Op.{Op}
-use Rattle.monitor.specs.Views.{texts, world_shown}
-use Rattle.monitor.specs.ByIndex.{lone_nth, with_lone_nth}
+use Rattle.monitor.specs.Views.{machine_shown, texts}
+use Rattle.monitor.specs.ByIndex.{lone_nth}
+use Rattle.monitor.specs.Counts.{after_access_nth}
 use Rattle.monitor.specs.Reaches.{target_in}
 use Rattle.monitor.proofs.RegionSteps.{after_nowhere, holds_landed, landing_at, region_written, reply_nowhere, reply_read}
 use Rattle.monitor.proofs.Calls.{guest_in, inside_guests}
-use Rattle.monitor.proofs.Steps.{with_same}
+use Rattle.monitor.proofs.Lands.{region_unchanged}
+use Rattle.monitor.proofs.Machines.{accessed, same_machine, untouched}
 use Rattle.monitor.proofs.engine.Engine.region_access.Goals as goal
 
 pub index-requires : goal.index-requires
@@ -23,7 +26,8 @@ returns-in_default-clause-reply g c =
 pub returns-in_default-clause-after : goal.returns-in_default-clause-after
 returns-in_default-clause-after g c =
     let at = guest_in c.self.invariant.1 c.self.view_is c.args.guest c.requires.there c.index.ensures in
-    after_nowhere at (named_space c.args.space) c.args.addr c.deref.ensures.value c.in_default.ensures.landing (op_of c.args.op) c.args.width
+    untouched c.args.self.now c.args.guest _ _ (after_nowhere at (named_space c.args.space) c.args.addr c.deref.ensures.value c.in_default.ensures.landing (op_of c.args.op) c.args.width)
+    (region_unchanged (lone_nth c.args.self.now.world c.args.guest) (op_of c.args.op) c.args.width (named_space c.args.space) c.args.addr)
 
 pub located-at-requires : goal.located-at-requires
 located-at-requires g c = search (rules, guest_in, holds_landed)
@@ -42,14 +46,15 @@ pub returns-in-Read-clause-reply : goal.returns-in-Read-clause-reply
 returns-in-Read-clause-reply g c =
     let at = guest_in c.self.invariant.1 c.self.view_is c.args.guest c.requires.there c.index.ensures in
     reply_read at (named_space c.args.space) c.args.addr c.deref.ensures.value c.in-Some.ensures.there c.deref-2.ensures.value c.located-at.ensures c.args.width c.in-Some.ensures.landing c.region_read-value.ensures.value
-    ∙ ap (λ (op : Op). reply_at (lone_nth c.args.self.now c.args.guest) (op_of op) c.args.width (at_target (target_in (named_space c.args.space) c.args.addr))) (sym c.in-Read.is)
+    ∙ ap (λ (op : Op). reply_at (lone_nth c.args.self.now.world c.args.guest) (op_of op) c.args.width (at_target (target_in (named_space c.args.space) c.args.addr))) (sym c.in-Read.is)
 
 pub returns-in-Read-clause-after : goal.returns-in-Read-clause-after
 returns-in-Read-clause-after g c =
-    let at = guest_in c.self.invariant.1 c.self.view_is c.args.guest c.requires.there c.index.ensures in
     let e = c.self.inside in
-    ap (λ (h : HostState). world_shown h (texts e.names) e.guests.items) c.region_read-value.ensures.after ∙ c.self.view_is ∙ sym (with_same at)
-    ∙ ap (λ (op : Op). with_lone_nth c.args.guest (after_access_at (lone_nth c.args.self.now c.args.guest) (op_of op) c.args.width (at_target (target_in (named_space c.args.space) c.args.addr))) c.args.self.now) (sym c.in-Read.is)
+    let d = at_target (target_in (named_space c.args.space) c.args.addr) in
+    ap (λ (h : HostState). machine_shown h (texts e.names) e.guests.items) c.region_read-value.ensures.after ∙ c.self.view_is
+    ∙ same_machine c.args.self.now c.args.guest c.requires.there c.args.width d
+    ∙ ap (λ (op : Op). after_access_nth c.args.guest (op_of op) c.args.width d c.args.self.now) (sym c.in-Read.is)
 
 pub invariant_of-self-in-Write : goal.invariant_of-self-in-Write
 invariant_of-self-in-Write g c =
@@ -60,5 +65,8 @@ invariant_of-self-in-Write g c =
 pub returns-in-Write-clause-after : goal.returns-in-Write-clause-after
 returns-in-Write-clause-after g c =
     let at = guest_in c.self.invariant.1 c.self.view_is c.args.guest c.requires.there c.index.ensures in
-    let left = region_written at (named_space c.args.space) c.args.addr c.deref.ensures.value c.in-Some.ensures.there c.deref-2.ensures.value c.located-at.ensures c.args.width c.in-Some.ensures.landing c.in-Write.value c.region_write.ensures in
-    left.world ∙ ap (λ (op : Op). with_lone_nth c.args.guest (after_access_at (lone_nth c.args.self.now c.args.guest) (op_of op) c.args.width (at_target (target_in (named_space c.args.space) c.args.addr))) c.args.self.now) (sym c.in-Write.is)
+    let d = at_target (target_in (named_space c.args.space) c.args.addr) in
+    accessed c.self.invariant.1 c.self.view_is c.args.guest {t = false}
+    (region_written at (named_space c.args.space) c.args.addr c.deref.ensures.value c.in-Some.ensures.there c.deref-2.ensures.value c.located-at.ensures c.args.width c.in-Some.ensures.landing c.in-Write.value c.region_write.ensures) refl
+    (sym (region_unchanged (lone_nth c.args.self.now.world c.args.guest) (writes c.in-Write.value) c.args.width (named_space c.args.space) c.args.addr))
+    ∙ ap (λ (op : Op). after_access_nth c.args.guest (op_of op) c.args.width d c.args.self.now) (sym c.in-Write.is)

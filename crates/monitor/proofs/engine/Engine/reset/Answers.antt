@@ -1,10 +1,14 @@
 use Rattle.std.proofs.Common.{◌∙◌, List, sym, subst, arith}
 use Rattle.model_devices.specs.DeviceEvents.{resets}
 use Rattle.monitor.specs.declared.guest.Guest.{Guest}
+use Rattle.monitor.specs.ByIndex.{name_nth}
 use Rattle.monitor.specs.Configs.{HoldsAt}
+use Rattle.monitor.specs.Counts.{counted_both, counts_of}
 use Rattle.monitor.specs.Moves.{HasSlot}
 use Rattle.monitor.proofs.Calls.{back_in, guest_in, inside_guests}
 use Rattle.monitor.proofs.ResetSteps.{device_refused, nothing_changed, reset_done, reset_left}
+use Rattle.monitor.proofs.Machines.{both_one, counts_lent, grew, happens, is_counted, not_counted, refused_all}
+use Rattle.monitor.proofs.TakingSteps.{fault_named, may_take}
 use Rattle.monitor.proofs.Steps.{fault_lent, slot_lent}
 use Rattle.monitor.proofs.Exchanges.{has_nth, holds_nth, over_lent}
 use Rattle.monitor.proofs.engine.Engine.reset.Goals as goal
@@ -20,7 +24,10 @@ returns-in-Err-clause-reply g c =
 pub returns-in-Err-clause-after : goal.returns-in-Err-clause-after
 returns-in-Err-clause-after g c =
     let at = guest_in c.self.invariant.1 c.self.view_is c.args.guest c.requires c.index.ensures in
-    nothing_changed at (resets c.args.slot) (fault_lent at c.args.slot c.deref.ensures.value c.in-Err.ensures.refused)
+    let now = c.args.self.now in
+    let fault = fault_lent at c.args.slot c.deref.ensures.value c.in-Err.ensures.refused in
+    refused_all c.self.invariant.1 c.self.view_is (happens now c.args.guest (resets c.args.slot))
+    (nothing_changed at (resets c.args.slot) fault) (not_counted (name_nth now.world c.args.guest) (fault_named at c.args.slot fault))
 
 pub hand_over-requires-clause-holds : goal.hand_over-requires-clause-holds
 hand_over-requires-clause-holds g c =
@@ -43,14 +50,17 @@ invariant_of-self g c =
     let at = guest_in c.self.invariant.1 c.self.view_is c.args.guest c.requires c.index.ensures in
     let slot = slot_lent at c.deref.ensures.value c.in-Ok.ensures.there.there in
     let left = back_in e.guests.items e.guests.len (c.hand_over.auto.guests ∙ c.deref_mut.ensures.len)
-    (reset_left at slot c.in-Ok.ensures.there.low (over_lent c.deref_mut.ensures.value c.hand_over.ensures)) in
+    (reset_left at slot c.in-Ok.ensures.there.low (over_lent c.deref_mut.ensures.value c.hand_over.ensures.over)) in
     (g.met.R.Route.by_routing e.route e.host c.hand_over.new.host left.routes c.self.invariant.0, left.sound)
 
 pub returns-in-Ok-clause-after : goal.returns-in-Ok-clause-after
 returns-in-Ok-clause-after g c =
     let e = c.self.inside in
+    let now = c.args.self.now in
     let at = guest_in c.self.invariant.1 c.self.view_is c.args.guest c.requires c.index.ensures in
     let slot = slot_lent at c.deref.ensures.value c.in-Ok.ensures.there.there in
-    let left = back_in e.guests.items e.guests.len (c.hand_over.auto.guests ∙ c.deref_mut.ensures.len)
-    (reset_left at slot c.in-Ok.ensures.there.low (over_lent c.deref_mut.ensures.value c.hand_over.ensures)) in
-    left.world
+    let count = c.hand_over.auto.guests ∙ c.deref_mut.ensures.len in
+    grew c.self.invariant.1 c.self.view_is (happens now c.args.guest (resets c.args.slot)) c.args.guest c.requires
+    (back_in e.guests.items e.guests.len count (reset_left at slot c.in-Ok.ensures.there.low (over_lent c.deref_mut.ensures.value c.hand_over.ensures.over)))
+    (counts_lent _ (counted_both c.args.guest c.args.guest) c.deref_mut.ensures.value c.hand_over.ensures.counts e.guests.len count ∙ both_one c.args.guest (counts_of e.guests.items))
+    (is_counted (name_nth now.world c.args.guest) (may_take at c.args.slot slot c.in-Ok.ensures.there.low))

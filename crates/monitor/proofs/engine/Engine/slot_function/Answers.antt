@@ -19,9 +19,9 @@ function_nth-requires-clause-board g c = board_kept (kept_in c.self.invariant.1 
 pub returns-in-Some : goal.returns-in-Some
 returns-in-Some g c =
     let at = guest_in c.self.invariant.1 c.self.view_is c.args.guest c.requires c.index.ensures in
-    slot_told at c.deref.ensures.value c.args.slot c.in-Ok.ensures.there (c.in-Some.ensures c.args.self.now.guests (λ p is. ap (seat_kept c.in-Ok.held.now.index 0) c.deref-2.ensures.value ∙ seats_told at.kept c.in-Ok.held.now.index p is))
+    slot_told at c.deref.ensures.value c.args.slot c.in-Ok.ensures.there (c.in-Some.ensures c.args.self.now.world.guests (λ p is. ap (seat_kept c.in-Ok.held.now.index 0) c.deref-2.ensures.value ∙ seats_told at.kept c.in-Ok.held.now.index p is))
 
 pub returns-in-None : goal.returns-in-None
 returns-in-None g c =
     let at = guest_in c.self.invariant.1 c.self.view_is c.args.guest c.requires c.index.ensures in
-    slot_told at c.deref.ensures.value c.args.slot c.in-Ok.ensures.there (c.in-None.ensures c.args.self.now.guests (λ p is. ap (seat_kept c.in-Ok.held.now.index 0) c.deref-2.ensures.value ∙ seats_told at.kept c.in-Ok.held.now.index p is))
+    slot_told at c.deref.ensures.value c.args.slot c.in-Ok.ensures.there (c.in-None.ensures c.args.self.now.world.guests (λ p is. ap (seat_kept c.in-Ok.held.now.index 0) c.deref-2.ensures.value ∙ seats_told at.kept c.in-Ok.held.now.index p is))

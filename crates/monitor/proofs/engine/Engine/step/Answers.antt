@@ -1,8 +1,9 @@
 use Rattle.std.proofs.Common.{◌∙◌, ap}
 use Rattle.model_guests.specs.Accesses as guests
-use Rattle.model_guests.specs.Lone.{LoneGuest, answer, after_event}
+use Rattle.model_guests.specs.Lone.{LoneGuest, answer}
 use Rattle.accesses.specs.Accesses.{access_of}
-use Rattle.monitor.proofs.Named.{changed_by_name, lone_by_name}
+use Rattle.monitor.proofs.Machines.{by_name}
+use Rattle.monitor.proofs.Named.{lone_by_name}
 use Rattle.monitor.proofs.Calls.{kept_in}
 use Rattle.monitor.proofs.engine.Engine.step.Goals as goal
 
@@ -12,4 +13,4 @@ returns-clause-reply g c =
 
 pub returns-clause-after : goal.returns-clause-after
 returns-clause-after g c =
-    c.access.ensures.after ∙ changed_by_name (kept_in c.self.invariant.1 c.self.view_is) c.args.guest c.requires (λ (l : LoneGuest). after_event l (guests.access (access_of c.args.access)))
+    c.access.ensures.after ∙ by_name c.self.invariant.1 c.self.view_is c.args.guest c.requires (guests.access (access_of c.args.access))

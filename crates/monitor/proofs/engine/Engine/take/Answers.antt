@@ -1,7 +1,11 @@
-use Rattle.std.proofs.Common.{◌∙◌, List, sym, subst, arith}
+use Rattle.std.proofs.Common.{◌∙◌, List, true, sym, subst, arith}
+use Rattle.model_giving.specs.Actions.{takes}
 use Rattle.monitor.specs.declared.guest.Guest.{Guest}
+use Rattle.monitor.specs.ByIndex.{name_nth}
+use Rattle.monitor.specs.Counts.{counted_nth}
 use Rattle.monitor.specs.Moves.{HasSlot}
-use Rattle.monitor.proofs.TakingSteps.{nothing_taken, take_done, take_left, take_refused}
+use Rattle.monitor.proofs.Machines.{counts_lent, grew, is_counted, not_counted, refused_all}
+use Rattle.monitor.proofs.TakingSteps.{fault_named, may_take, nothing_taken, take_done, take_left, take_refused}
 use Rattle.monitor.proofs.Calls.{back_in, guest_in, inside_guests}
 use Rattle.monitor.proofs.Exchanges.{exchange_lent, has_nth}
 use Rattle.monitor.proofs.Steps.{fault_lent, slot_lent}
@@ -18,7 +22,10 @@ returns-in-Err-clause-reply g c =
 pub returns-in-Err-clause-after : goal.returns-in-Err-clause-after
 returns-in-Err-clause-after g c =
     let at = guest_in c.self.invariant.1 c.self.view_is c.args.guest c.requires c.index.ensures in
-    nothing_taken at c.args.slot (fault_lent at c.args.slot c.deref.ensures.value c.in-Err.ensures.refused)
+    let now = c.args.self.now in
+    let fault = fault_lent at c.args.slot c.deref.ensures.value c.in-Err.ensures.refused in
+    refused_all c.self.invariant.1 c.self.view_is (takes (name_nth now.world c.args.guest) c.args.slot)
+    (nothing_taken at c.args.slot fault) (not_counted (name_nth now.world c.args.guest) (fault_named at c.args.slot fault))
 
 pub exchange_in-taken-requires : goal.exchange_in-taken-requires
 exchange_in-taken-requires g c =
@@ -36,14 +43,18 @@ invariant_of-self g c =
     let at = guest_in c.self.invariant.1 c.self.view_is c.args.guest c.requires c.index.ensures in
     let slot = slot_lent at c.deref.ensures.value c.in-Ok.ensures.there.there in
     let left = back_in e.guests.items e.guests.len (c.exchange_in-taken.auto.guests ∙ c.deref_mut.ensures.len)
-    (take_left at c.args.slot slot c.in-Ok.ensures.there.low (exchange_lent c.deref_mut.ensures.value c.exchange_in-taken.ensures) c.reset_nth.ensures) in
+    (take_left at c.args.slot slot c.in-Ok.ensures.there.low (exchange_lent c.deref_mut.ensures.value c.exchange_in-taken.ensures.exchanged) c.reset_nth.ensures) in
     (g.met.R.Route.by_routing e.route e.host c.reset_nth.new.self left.routes c.self.invariant.0, left.sound)
 
 pub returns-clause-after : goal.returns-clause-after
 returns-clause-after g c =
     let e = c.self.inside in
+    let now = c.args.self.now in
     let at = guest_in c.self.invariant.1 c.self.view_is c.args.guest c.requires c.index.ensures in
     let slot = slot_lent at c.deref.ensures.value c.in-Ok.ensures.there.there in
-    let left = back_in e.guests.items e.guests.len (c.exchange_in-taken.auto.guests ∙ c.deref_mut.ensures.len)
-    (take_left at c.args.slot slot c.in-Ok.ensures.there.low (exchange_lent c.deref_mut.ensures.value c.exchange_in-taken.ensures) c.reset_nth.ensures) in
-    left.world
+    let count = c.exchange_in-taken.auto.guests ∙ c.deref_mut.ensures.len in
+    grew c.self.invariant.1 c.self.view_is (takes (name_nth now.world c.args.guest) c.args.slot) c.args.guest c.requires
+    (back_in e.guests.items e.guests.len count
+    (take_left at c.args.slot slot c.in-Ok.ensures.there.low (exchange_lent c.deref_mut.ensures.value c.exchange_in-taken.ensures.exchanged) c.reset_nth.ensures))
+    (counts_lent _ (counted_nth c.args.guest true) c.deref_mut.ensures.value c.exchange_in-taken.ensures.counts e.guests.len count)
+    (is_counted (name_nth now.world c.args.guest) (may_take at c.args.slot slot c.in-Ok.ensures.there.low))

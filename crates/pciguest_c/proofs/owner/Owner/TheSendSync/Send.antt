@@ -4,13 +4,16 @@ use denote.Struct.Owning.{shape, fields, to}
 use denote.Param.Send.{IsSend, AllSend, owning_send, struct_send, sendable}
 use Rattle.std_alloc.proofs.SendSync.{quiet}
 use Rattle.std_heap.proofs.Global.TheSendSync as handle
-use Rattle.machine.specs.contracts.machine.Machine as Machine
-use Rattle.machine.proofs.machine.Machine.TheSendSync.{the_send as machine_send}
+use Rattle.claim_table.specs.contracts.table.Table as Table
+use Rattle.claim_table.specs.contracts.table.TableRoute.TheImpl as route
+use Rattle.claim_table.proofs.table.Table.TheSendSync.{the_send as table_send}
+use Rattle.monitor.proofs.engine.Engine.TheSendSync.{the_send as engine_send}
+use Rattle.pciguest_c.specs.Owning.{machine_row}
 use Rattle.pciguest_c.proofs.Moved.{keyless}
 use Rattle.pciguest_c.specs.contracts.owner.Owner.{the_row, the_type}
 
 pub send : IsSend the_row
 send =
     let all : AllSend (fields the_type) = (search sendable, (handle.the_field_send, tt)) in
-    owning_send the_type all (λ d. keyless Machine.the_row machine_send d.alloc d.at d.value)
+    owning_send the_type all (λ d. keyless machine_row (engine_send Table.the_row route.ghosts table_send) d.alloc d.at d.value)
     (λ k. quiet (to the_type) (exits_of k (fields the_type)) ((struct_send (shape the_type) all).leaving k))

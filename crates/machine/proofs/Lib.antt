@@ -1,4 +1,0 @@
-pub mod Lands
-pub mod Counting
-pub mod Steps
-pub mod Uncounted
