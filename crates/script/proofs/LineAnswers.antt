@@ -1,18 +1,22 @@
 -- What is answered of what a line means.
-use Rattle.std.proofs.Common.{◌≡◌, ℕ, List, [], ◌∷◌, sym, ap, ap₂, ◌∙◌}
+use Rattle.std.proofs.Common.{◌≡◌, ℕ, Bool, true, false, cond, List, [], ◌∷◌, refl, sym, ap, ap₂, ◌∙◌}
 use Rattle.model_guests.specs.Accesses.{Event, Reply}
-use Rattle.model_guests.specs.Text.{Text}
-use Rattle.model_guests.specs.Grammar.{guest, host}
-use Rattle.model_guests.specs.Guests.{Move, lone_of}
+use Rattle.model_guests.specs.Text.{Text, words}
+use Rattle.model_guests.specs.Grammar.{guest, host, is_long, nobody}
+use Rattle.model_guests.specs.Guests.{GuestsNow, Move, lone_of}
 use Rattle.model_guests.specs.Lone.{answer}
 use Rattle.model_guests.specs.Replies.{line_text}
-use Rattle.model_guests.specs.Lines.{guest_event, host_move}
-use Rattle.model_guests.specs.WorldNow.{WorldNow, move_reply, names_now, written_by, after_meaning}
+use Rattle.model_guests.specs.Lines.{Meaning, bad, guest_event, host_move, meaning_of_words}
+use Rattle.model_guests.specs.WorldNow.{WorldNow, guests_after, move_reply, names_now, written_by, after_meaning}
+use Rattle.model_devices.specs.Calls.{asks}
+use Rattle.model_giving.specs.Actions.{calls}
+use Rattle.model_giving.specs.Changes.{MachineNow, after_line_on_machine, after_on_machine, moves_by_call}
 use Rattle.model_guests.proofs.Along.{names_meaning}
 use Rattle.lines.specs.Lines.{name_of}
 use Rattle.lines.proofs.GuestNames.{name_of-now}
 use Rattle.monitor.specs.ByIndex.{name_nth}
 use Rattle.monitor.specs.Moves.{move_nth}
+use Rattle.monitor.proofs.Counts.{counts_none}
 
 -- ---- guests by their places
 
@@ -42,3 +46,15 @@ pub moved : (w : WorldNow) (from slot to target : ℕ) (r : Reply) → r ≡ mov
 moved w from slot to target r reply =
     ap (λ (m : Move). line_text host (move_reply w.guests m) ∷ []) (sym (move_there w from slot to target))
     ∙ ap (λ (x : Reply). line_text host x ∷ []) (sym reply)
+
+-- ---- what does nothing
+
+pub nothing_done : (m : MachineNow) (x : Meaning) → guests_after m.world.guests x ≡ m.world.guests → ((n : Text) → moves_by_call n m.world.guests (asks x) ≡ false) → m ≡ after_on_machine m (calls (asks x))
+nothing_done m x same none =
+    ap₂ (λ (gs : GuestsNow) (ns : List ℕ). let n : MachineNow = record { world = record m.world { guests = gs }; counts = ns } in n) (sym same)
+    (sym (counts_none (λ n. moves_by_call n m.world.guests (asks x)) none (names_now m.world) m.counts))
+
+pub long_done : (m : MachineNow) (line : Text) → is_long line ≡ true → m ≡ after_line_on_machine m line
+long_done m line long =
+    nothing_done m (bad nobody 403) refl (λ n. refl)
+    ∙ ap (λ (t : Bool). after_on_machine m (calls (asks (cond t (bad nobody 403) (meaning_of_words (names_now m.world) (words line)))))) (sym long)

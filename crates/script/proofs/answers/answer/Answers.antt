@@ -1,19 +1,32 @@
-use Rattle.std.proofs.Common.{◌≡◌, ◌∙◌, [], ◌∷◌, ap, sym, subst}
+use Rattle.std.proofs.Common.{◌≡◌, ◌∙◌, [], ◌∷◌, ap, refl, sym, subst}
 use Rattle.model_guests.specs.Accesses.{access, raises}
 use Rattle.model_guests.specs.Grammar.{guest, host}
 use Rattle.model_guests.specs.Replies.{line_text}
 use Rattle.model_guests.specs.Guests.{Move}
-use Rattle.model_guests.specs.Lines.{guest_event, host_move}
+use Rattle.model_guests.specs.Lines.{bad, guest_event, host_move, host_read, nothing}
 use Rattle.model_guests.specs.Text.{Text}
 use Rattle.model_guests.specs.WorldNow.{names_now, written_by}
 use Rattle.model_devices.specs.Calls.{asks}
 use Rattle.model_giving.specs.Actions.{calls}
 use Rattle.model_giving.specs.Changes.{MachineNow, after_on_machine}
-use Rattle.accesses.specs.Accesses.{access_of, part_of, reply_of}
-use Rattle.lines.specs.Lines.{name_of, meaning_of}
+use Rattle.accesses.specs.Accesses.{access_of, host_access_of, part_of, reply_of}
+use Rattle.accesses.specs.Refusals.{number_of}
+use Rattle.lines.specs.Lines.{name_of, meaning_of, who_of}
 use Rattle.lines.specs.declared.line.What.{What}
-use Rattle.script.proofs.LineAnswers.{answered, moved, move_there, name_there}
+use Rattle.script.proofs.LineAnswers.{answered, moved, move_there, name_there, nothing_done}
 use Rattle.script.proofs.answers.answer.Goals as goal
+
+pub returns-in-Nothing-clause-after : goal.returns-in-Nothing-clause-after
+returns-in-Nothing-clause-after c = rw c.in-Nothing.is (nothing_done c.args.monitor.now nothing refl (λ n. refl))
+
+pub returns-in-Host-clause-after : goal.returns-in-Host-clause-after
+returns-in-Host-clause-after c =
+    rw c.in-Host.is (c.host_read-told.ensures.after ∙ nothing_done c.args.monitor.now (host_read (host_access_of c.in-Host.read)) refl (λ n. refl))
+
+pub returns-in-Bad-clause-after : goal.returns-in-Bad-clause-after
+returns-in-Bad-clause-after c =
+    let m = c.args.monitor.now in
+    rw c.in-Bad.is (nothing_done m (bad (who_of (names_now m.world) c.in-Bad.who) (number_of c.in-Bad.why)) refl (λ n. refl))
 
 pub returns-in-Guest-clause-written : goal.returns-in-Guest-clause-written
 returns-in-Guest-clause-written c =
