@@ -2,12 +2,12 @@
 --     counts_none      where no name passes, no count grows
 --     counted_one, counted_two      the counts of a guest by its index, or of two
 --     set_counted      guests of whom one has another count
-use Rattle.std.proofs.Common.{◌≡◌, ◌≢◌, ◌<◌, ◌+◌, ℕ, zero, suc, Bool, true, false, not, ◌&&◌, ◌||◌, ◌==◌, cond, List, [], ◌∷◌, Some, Option, slice_get, slice_set, length, refl, sym, ap, ap₂, ◌∙◌, subst, arith}
+use Rattle.std.proofs.Common.{◌≡◌, ◌≢◌, ◌<◌, ℕ, zero, suc, Bool, true, false, not, ◌&&◌, ◌||◌, ◌==◌, List, [], ◌∷◌, Some, Option, slice_get, slice_set, refl, sym, ap, ap₂, ◌∙◌, subst, arith}
 use Rattle.std.specs.Prelude.{IsFalse, nat_lt, unwrap_or}
 use Rattle.std.specs.Str.{bytes_eq}
 use Rattle.std.proofs.lemmas.Bool.Decides.{nat_tests}
 use Rattle.lists.specs.Elements.{Each, EachPair}
-use Rattle.lists.proofs.Indices.{at_below, each_at, map_at, map_set, pair_at, set_same}
+use Rattle.lists.proofs.Indices.{each_at, map_at, map_set, pair_at, set_same}
 use Rattle.lists.proofs.Tests.{and_true, and_false}
 use Rattle.model_guests.specs.Text.{Text}
 use Rattle.model_guests.specs.Guests.{GuestNow, GuestsNow}

@@ -5,7 +5,7 @@
 --     changes_at g op w d      a write of the guest lands on a byte of Command or of a base address register
 --     after_nth i g t m      guest i holds this, and is counted where it changes
 --     after_access_nth, after_event_nth      the machine after an access that isn't refused, or an event, of guest i
-use Rattle.std.specs.Prelude.{ℕ, ◌+◌, ◌%◌, ◌^◌, ◌==◌, Bool, true, false, not, List, map, slice_get, slice_set}
+use Rattle.std.specs.Prelude.{ℕ, ◌==◌, Bool, true, false, not, List, map, slice_get, slice_set}
 use Rattle.std.specs.Prelude.{if◌then◌else◌, unwrap_or}
 use Rattle.std.specs.Option.{option_map_or}
 use Rattle.model_guests.specs.Accesses.{Event, Op, reads, writes}

@@ -79,7 +79,7 @@ pub(crate) fn write_own(
 }
 
 /// The same in a slot of a guest, who is counted where this may change where its regions stand.
-pub(crate) fn write_guest(
+pub(crate) fn write_in(
     guests: &mut [Guest],
     guest: usize,
     slot: usize,

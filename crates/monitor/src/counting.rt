@@ -22,7 +22,11 @@ pub(crate) fn tells_regions(offset: u64, width: u64) -> bool
 pub(crate) fn counted(count: u64, changes: bool) -> u64
     ensures { result ≡ after_change changes count }
 {
-    if changes { count.wrapping_add(1) } else { count }
+    if changes {
+        count.wrapping_add(1)
+    } else {
+        count
+    }
 }
 
 impl<R: Route> Engine<R> {

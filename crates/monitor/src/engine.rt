@@ -23,7 +23,7 @@ ghost use Rattle.monitor.specs.Reaches.{target_in};
 ghost use Rattle.monitor.specs.Moves.{move_nth};
 ghost use Rattle.monitor.specs.Queries.{IsGuestNth};
 
-use crate::config::{function_in, held_in, number_read, write_guest};
+use crate::config::{function_in, held_in, number_read, write_in};
 use crate::counting::tells_regions;
 use crate::guest::Guest;
 use crate::landing::{landing, located};
@@ -143,8 +143,8 @@ impl<R: Route> Engine<R> {
         Reply::Value(number_read(&mut self.host, held, off, width), width)
     }
 
-    /// Writes the configuration space of the function in a slot. Dropped where there is none. Here alone an access
-    /// is counted, since nowhere else it may change where a region stands: so accesses of data pay nothing for it.
+    /// Writes the configuration space of the function in a slot. Dropped where there is none. Here alone an
+    /// access is counted, since no other one changes where a region stands: accesses of data pay nothing for it.
     fn config_write(&mut self, guest: usize, slot: usize, off: u8, width: u64, value: u32)
         requires there { guest < length self.old.world.guests }
         requires width { IsWidth width }
@@ -159,9 +159,8 @@ impl<R: Route> Engine<R> {
         let word = off / 4 * 4;
         let moved = into_lanes(from, value);
         let enables = enables_of(from, width);
-        let changes = tells_regions(from, width);
-        let (index, others) =
-            write_guest(&mut self.guests, guest, slot, word, enables, moved, changes);
+        let tells = tells_regions(from, width);
+        let (index, others) = write_in(&mut self.guests, guest, slot, word, enables, moved, tells);
         self.host.config_write_nth(index, word, others, moved);
     }
 

@@ -5,7 +5,7 @@ use Rattle.std.proofs.lemmas.List.{take_at}
 use Rattle.model_giving.specs.Changes.{after_change}
 use Rattle.monitor.proofs.ConfigSteps.{guest_written, same_at}
 use Rattle.monitor.proofs.Counts.{set_counted}
-use Rattle.monitor.proofs.config.write_guest.Goals as goal
+use Rattle.monitor.proofs.config.write_in.Goals as goal
 
 pub write_own-requires-clause-holds : goal.write_own-requires-clause-holds
 write_own-requires-clause-holds c = search (rules, same_at)
