@@ -1,5 +1,5 @@
 -- A run of a script over a machine is one over its world: the counts stand beside it.
-use Rattle.std.proofs.Common.{◌≡◌, ◌++◌, List, [], ◌∷◌, Option, refl, sym, ap, ◌∙◌, subst, take}
+use Rattle.std.proofs.Common.{◌≡◌, ◌++◌, List, [], ◌∷◌, Option, refl, ap, ◌∙◌, subst, take}
 use Rattle.std.specs.Io.{StartsWith}
 use Rattle.std.specs.Io.KnownBytes.{Appends}
 use Rattle.model_guests.specs.Text.{Text}
@@ -11,14 +11,14 @@ pub output_aside : (m : MachineNow) (ls : List Text) → output machine_protocol
 output_aside m [] = refl
 output_aside m (line ∷ more) = ap (λ (t : Text). line_output m.world line ++ t) (output_aside (after_line_on_machine m line) more)
 
-after_aside : (m : MachineNow) (ls : List Text) → (after_lines machine_protocol m ls).world ≡ after_lines world_protocol m.world ls
+pub after_aside : (m : MachineNow) (ls : List Text) → (after_lines machine_protocol m ls).world ≡ after_lines world_protocol m.world ls
 after_aside m [] = refl
 after_aside m (line ∷ more) = after_aside (after_line_on_machine m line) more
 
-events_aside : (m end : MachineNow) (ls : List Text) → end ≡ after_lines machine_protocol m ls → end.world ≡ after_lines world_protocol m.world ls
+pub events_aside : (m end : MachineNow) (ls : List Text) → end ≡ after_lines machine_protocol m ls → end.world ≡ after_lines world_protocol m.world ls
 events_aside m end ls events = ap (λ (n : MachineNow). n.world) events ∙ after_aside m ls
 
-first_aside : (m : MachineNow) (ls : List Text) → first_output machine_protocol m ls ≡ first_output world_protocol m.world ls
+pub first_aside : (m : MachineNow) (ls : List Text) → first_output machine_protocol m ls ≡ first_output world_protocol m.world ls
 first_aside m [] = refl
 first_aside m (line ∷ more) = refl
 
@@ -34,7 +34,7 @@ cut_aside m end {old_rest} {new_rest} {old} {new} cut = record {
   events = events_aside m end cut.whole cut.events;
 }
 
-pub stop_aside : (m end : MachineNow) (ls : List Text) {old new : Option Text} → IsStopped machine_protocol m ls old new end
+abbrev pub stop_aside : (m end : MachineNow) (ls : List Text) {old new : Option Text} → IsStopped machine_protocol m ls old new end
     → IsStopped world_protocol m.world ls old new end.world
 stop_aside m end ls {old} {new} stop = record {
   whole = stop.whole;

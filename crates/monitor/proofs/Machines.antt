@@ -2,6 +2,7 @@
 --     untouched, same_machine      where nothing changes
 --     accessed      after an access that a guest is counted for, or isn't
 --     by_name      after an event of a guest by its index
+--     refused_all, read_after      after an action that is refused, or one that reads
 --     stood, grew, both_grew      after an action that counts nobody, one guest, or two
 use Rattle.std.proofs.Common.{◌≡◌, ◌<◌, ℕ, Bool, true, false, not, ◌&&◌, ◌||◌, ◌==◌, cond, List, [], ◌∷◌, drop, take, length, map, ◌++◌, Some, None, Option, refl, sym, ap, ap₂, ◌∙◌, arith}
 use Rattle.std.specs.Prelude.{is_some}
@@ -16,9 +17,10 @@ use Rattle.model_guests.specs.Text.{Text}
 use Rattle.model_guests.specs.Lines.{guest_event}
 use Rattle.model_guests.specs.Lone.{LoneGuest, Destination, after_event, changed_by}
 use Rattle.model_guests.specs.World.{Guest as Declared, World}
-use Rattle.model_guests.specs.Guests.{GuestNow, guest_at_first}
+use Rattle.model_guests.specs.Guests.{GuestNow, GuestsNow, guest_at_first}
 use Rattle.model_guests.specs.WorldNow.{WorldNow, names_now, world_over}
-use Rattle.model_devices.specs.DeviceEvents.{DeviceEvent}
+use Rattle.model_devices.specs.DeviceEvents.{DeviceByte, DeviceEvent, device_reads}
+use Rattle.model_devices.proofs.Bytes.{reads_leave_guests}
 use Rattle.model_devices.specs.Calls.{asks, at_device}
 use Rattle.model_queries.specs.StayLaws.{is_write}
 use Rattle.model_giving.specs.Actions.{Action, calls, after_action}
@@ -61,6 +63,14 @@ not_counted name is x = ap (λ (o : Option ℕ). bytes_eq name x && not (is_some
 
 pub is_counted : (name : Text) {fault : Option ℕ} → fault ≡ None → (x : Text) → (bytes_eq name x && not (is_some fault)) ≡ (bytes_eq name x && true)
 is_counted name is x = ap (λ (o : Option ℕ). bytes_eq name x && not (is_some o)) is
+
+-- an action that changes nothing
+pub refused_all : (m : MachineNow) (a : Action) → m.world ≡ after_action m.world a → ((x : Text) → changes x m.world a ≡ false) → m ≡ after_on_machine m a
+refused_all m a same none = ap₂ machine same (sym (counts_none (λ x. changes x m.world a) none (names_now m.world) m.counts))
+
+pub read_after : (m : MachineNow) (i : ℕ) (d : DeviceByte) → m ≡ after_on_machine m (happens m i (device_reads d))
+read_after m i d =
+    refused_all m (happens m i (device_reads d)) (ap (λ (gs : GuestsNow). record m.world { guests = gs }) (sym (reads_leave_guests (name_nth m.world i) d m.world.guests))) (λ x. refl)
 
 -- ---- the counts of guests
 
@@ -106,9 +116,6 @@ module _ {h : HostState} {names : List Text} {gs : List Guest} (sound : IsSound 
     ended : {new : HostState} {back : List Guest} → Leaves (after_action now.world a) h new names back → counts_of back ≡ counts_where (λ x. changes x now.world a) (names_now now.world) (counts_of gs)
         → machine_shown new names back ≡ after_on_machine now a
     ended left counts = ap₂ machine left.world (counts ∙ ap (counts_where (λ x. changes x now.world a) (names_now now.world)) counts_now)
-
-    pub refused_all : now.world ≡ after_action now.world a → ((x : Text) → changes x now.world a ≡ false) → now ≡ after_on_machine now a
-    refused_all same none = ap₂ machine same (sym (counts_none (λ x. changes x now.world a) none (names_now now.world) now.counts))
 
     pub stood : {new : HostState} → Leaves (after_action now.world a) h new names gs → ((x : Text) → changes x now.world a ≡ false) → machine_shown new names gs ≡ after_on_machine now a
     stood left none = ended left (sym (counts_none (λ x. changes x now.world a) none (names_now now.world) (counts_of gs)))

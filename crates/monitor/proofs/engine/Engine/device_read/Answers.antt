@@ -1,14 +1,11 @@
-use Rattle.std.proofs.Common.{◌∙◌, ap, refl, sym, arith}
-use Rattle.model_guests.specs.Guests.{GuestsNow}
+use Rattle.std.proofs.Common.{◌∙◌, ap, arith}
 use Rattle.monitor.specs.DeviceBytes.{device_byte}
 use Rattle.model_devices.specs.DeviceEvents.{device_reads}
-use Rattle.model_devices.proofs.Bytes.{reads_leave_guests}
 use Rattle.monitor.proofs.DeviceSteps.{device_read, endpoint_reached, refused_there}
 use Rattle.host_bridge.specs.HostState.{HostState}
-use Rattle.monitor.specs.ByIndex.{name_nth}
 use Rattle.monitor.specs.Views.{machine_shown, texts}
-use Rattle.monitor.proofs.Machines.{happens, refused_all}
-use Rattle.monitor.proofs.ResetSteps.{device_refused, nothing_changed}
+use Rattle.monitor.proofs.Machines.{read_after}
+use Rattle.monitor.proofs.ResetSteps.{device_refused}
 use Rattle.monitor.proofs.Calls.{guest_in, inside_guests}
 use Rattle.monitor.proofs.engine.Engine.device_read.Goals as goal
 
@@ -28,11 +25,8 @@ returns-in-Ok-clause-reply g c =
 pub returns-in-Ok-clause-after : goal.returns-in-Ok-clause-after
 returns-in-Ok-clause-after g c =
     let e = c.self.inside in
-    let now = c.args.self.now in
-    let d = device_byte c.args.slot c.args.place c.args.off in
     ap (λ (h : HostState). machine_shown h (texts e.names) e.guests.items) c.device_value_nth-value.ensures.after ∙ c.self.view_is
-    ∙ refused_all c.self.invariant.1 c.self.view_is (happens now c.args.guest (device_reads d))
-    (ap (λ (gs : GuestsNow). record now.world { guests = gs }) (sym (reads_leave_guests (name_nth now.world c.args.guest) d now.world.guests))) (λ x. refl)
+    ∙ read_after c.args.self.now c.args.guest (device_byte c.args.slot c.args.place c.args.off)
 
 pub returns-in-Err-clause-reply : goal.returns-in-Err-clause-reply
 returns-in-Err-clause-reply g c =
@@ -40,8 +34,4 @@ returns-in-Err-clause-reply g c =
     device_refused at (device_reads (device_byte c.args.slot c.args.place c.args.off)) (refused_there at c.deref.ensures.value c.args.slot c.args.place c.args.off c.in-Err.ensures.refused)
 
 pub returns-in-Err-clause-after : goal.returns-in-Err-clause-after
-returns-in-Err-clause-after g c =
-    let at = guest_in c.self.invariant.1 c.self.view_is c.args.guest c.requires c.index.ensures in
-    let e = device_reads (device_byte c.args.slot c.args.place c.args.off) in
-    refused_all c.self.invariant.1 c.self.view_is (happens c.args.self.now c.args.guest e)
-    (nothing_changed at e (refused_there at c.deref.ensures.value c.args.slot c.args.place c.args.off c.in-Err.ensures.refused)) (λ x. refl)
+returns-in-Err-clause-after g c = read_after c.args.self.now c.args.guest (device_byte c.args.slot c.args.place c.args.off)

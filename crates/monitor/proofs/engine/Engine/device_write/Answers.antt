@@ -41,4 +41,4 @@ pub returns-in-Err-clause-after : goal.returns-in-Err-clause-after
 returns-in-Err-clause-after g c =
     let at = guest_in c.self.invariant.1 c.self.view_is c.args.guest c.requires c.index.ensures in
     let e = device_writes (device_byte c.args.slot c.args.place c.args.off) c.args.value in
-    refused_all c.self.invariant.1 c.self.view_is (happens c.args.self.now c.args.guest e) (nothing_changed at e (refused_there at c.deref.ensures.value c.args.slot c.args.place c.args.off c.in-Err.ensures.refused)) (λ x. refl)
+    refused_all c.args.self.now (happens c.args.self.now c.args.guest e) (nothing_changed at e (refused_there at c.deref.ensures.value c.args.slot c.args.place c.args.off c.in-Err.ensures.refused)) (λ x. refl)

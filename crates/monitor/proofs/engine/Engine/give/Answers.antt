@@ -40,7 +40,7 @@ returns-in-Err-clause-after g c =
     let now = c.args.self.now in
     let gift = gift_nth now.world c.args.path.now c.args.guest c.args.slot in
     let fault = (makes_gift (kept_in c.self.invariant.1 c.self.view_is) c.deref.ensures.value c.in-Err.ensures).fault in
-    refused_all c.self.invariant.1 c.self.view_is (gives gift) (nothing_given now.world gift fault) (not_counted (name_nth now.world c.args.guest) (sym fault))
+    refused_all c.args.self.now (gives gift) (nothing_given now.world gift fault) (not_counted (name_nth now.world c.args.guest) (sym fault))
 
 pub returns-clause-after : goal.returns-clause-after
 returns-clause-after g c =

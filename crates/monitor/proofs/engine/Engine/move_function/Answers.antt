@@ -32,7 +32,7 @@ returns-in-Some-clause-after g c =
     let from = guest_in c.self.invariant.1 c.self.view_is c.args.from c.requires.from c.index.ensures in
     let to = guest_in c.self.invariant.1 c.self.view_is c.args.to c.requires.to c.index-2.ensures in
     let now = c.args.self.now in
-    refused_all c.self.invariant.1 c.self.view_is (calls (asks (host_move (move_nth now.world c.args.from c.args.slot c.args.to c.args.target))))
+    refused_all c.args.self.now (calls (asks (host_move (move_nth now.world c.args.from c.args.slot c.args.to c.args.target))))
     (nothing_moved from to c.args.slot c.args.target c.deref.ensures.value c.deref-2.ensures.value c.in-Some.ensures)
     (λ x. ap (λ (o : Option ℕ). not (is_some o) && (bytes_eq (name_nth now.world c.args.from) x || bytes_eq (name_nth now.world c.args.to) x))
     (sym (c.in-Some.ensures ∙ fault_is from to c.args.slot c.args.target c.deref.ensures.value c.deref-2.ensures.value)))

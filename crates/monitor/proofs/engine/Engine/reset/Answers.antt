@@ -26,7 +26,7 @@ returns-in-Err-clause-after g c =
     let at = guest_in c.self.invariant.1 c.self.view_is c.args.guest c.requires c.index.ensures in
     let now = c.args.self.now in
     let fault = fault_lent at c.args.slot c.deref.ensures.value c.in-Err.ensures.refused in
-    refused_all c.self.invariant.1 c.self.view_is (happens now c.args.guest (resets c.args.slot))
+    refused_all c.args.self.now (happens now c.args.guest (resets c.args.slot))
     (nothing_changed at (resets c.args.slot) fault) (not_counted (name_nth now.world c.args.guest) (fault_named at c.args.slot fault))
 
 pub hand_over-requires-clause-holds : goal.hand_over-requires-clause-holds

@@ -24,7 +24,7 @@ returns-in-Err-clause-after g c =
     let at = guest_in c.self.invariant.1 c.self.view_is c.args.guest c.requires c.index.ensures in
     let now = c.args.self.now in
     let fault = fault_lent at c.args.slot c.deref.ensures.value c.in-Err.ensures.refused in
-    refused_all c.self.invariant.1 c.self.view_is (takes (name_nth now.world c.args.guest) c.args.slot)
+    refused_all c.args.self.now (takes (name_nth now.world c.args.guest) c.args.slot)
     (nothing_taken at c.args.slot fault) (not_counted (name_nth now.world c.args.guest) (fault_named at c.args.slot fault))
 
 pub exchange_in-taken-requires : goal.exchange_in-taken-requires
