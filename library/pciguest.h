@@ -624,7 +624,7 @@ PCIGUEST_CALL uint32_t pciguest_set_up(struct pciguest_board *board, struct pcig
  * is reset first, but for what guests have copies of, and the board's CONFIG_ADDRESS is cleared. The struct of the board
  * then holds none. Where it is refused, both structs are as they were.
  * 901: there is no board. 903: the struct of the machine holds one already. 207: the audit tells a problem. 206: a region
- * of a function that is to be given is closed. 199, 299: out of memory. 901, 903 and 207 come in this order before 206;
+ * of a function that is to be given is closed. 299: out of memory. 901, 903 and 207 come in this order before 206;
  * pciguest_board_audit tells the problems of 207. */
 PCIGUEST_CALL uint32_t pciguest_board_guests(struct pciguest_board *board, struct pciguest *machine)
 {

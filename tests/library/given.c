@@ -90,12 +90,12 @@ static void given(struct pciguest_board *board, struct pciguest *machine)
         calls_left = count + 1;
         fault = pciguest_board_guests(board, machine);
         calls_left = -1;
-        if (fault != 0 && fault != 199)
+        if (fault != 0)
             IS(fault, 299);
         IS(machine->live, fault == 0);
         IS(board->live, fault != 0);
     }
-    IS(count > 50, 1);
+    IS(count > 20, 1);
     IS(pciguest_board_guests(board, machine), 901);
     IS(pciguest_board_read(board, PCIGUEST_IO, 0, 0, 0, 0, 1, &value), 901);
 }

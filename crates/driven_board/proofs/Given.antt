@@ -1,9 +1,6 @@
 -- The guests of a file over a board that was given: lawful, alone with what they have, and as after set-up.
---     world_here      a board of a file, with the guests of the file, has the world that the file declares
---     is_given      what is made over it
+--     is_given, is_refused      what is made over the world of a file, and what is told where nothing is made
 use Rattle.std.proofs.Common.{◌≡◌, List, None, refl, sym, ap, ap₂, ◌∙◌, subst}
-use Rattle.model_registers.specs.Apertures.{Apertures}
-use Rattle.model_board.specs.Board.{Board}
 use Rattle.model_guests.specs.Text.{Text, lines}
 use Rattle.model_guests.specs.Guests.{guests_at_first}
 use Rattle.model_guests.specs.World.{Guest, World, HasLawfulNames, IsLawfulWorld}
@@ -19,36 +16,33 @@ use Rattle.model_handoff.proofs.Alike.{taken_lawful}
 use Rattle.model_handoff.proofs.Kept.{lawful_along}
 use Rattle.model_handoff.proofs.Served.{fault_decides}
 use Rattle.host_bridge.specs.HostState.{HostState}
-use Rattle.board_file.specs.Meaning.{world_in}
 use Rattle.monitor.specs.Beginnings.{world_on}
-use Rattle.simulation.specs.Listing.{Declares}
+use Rattle.monitor.specs.Handovers.{IsFaultOf}
+use Rattle.monitor.specs.declared.handover.HandoverFault.{HandoverFault}
+use Rattle.monitor.specs.declared.handover.HandoverFault.TheVariants.{NotInOrder, Closed, Memory}
 use Rattle.driven_board.specs.Boards.{IsBoardOf}
-use Rattle.driven_board.specs.Giving.{IsGiven}
+use Rattle.driven_board.specs.Giving.{IsGiven, IsRefusalOf}
 use Rattle.driven_board.specs.Isolation.{AreAlike, GivenIsolated, GivenAlike, GivenAsSetUp, GivenStays}
 use Rattle.driven_board.proofs.Declared.{same_world}
 
--- ---- the world of the file
+-- ---- what is made over the world of the file, and what is told where nothing is
 
-module _ (file : Text) (h k : HostState) (ds : List Guest) (of : IsBoardOf file h) (declared : Declares file (world_in k ds)) where
-  read_again : world_in k ds ≡ of.world
-  read_again = same_world file (world_in k ds) of.world declared of.declared
+module _ (file : Text) (h : HostState) (gs : List Guest) (of : IsBoardOf file h gs) where
+  pub is_given : (m : WorldNow) → m ≡ world_over (world_on h gs) (taken_over (world_on h gs) h.state) → first_fault (world_on h gs) h.state ≡ None → IsGiven file h m
+  is_given m made none = record {
+    world = world_on h gs;
+    declared = of.declared;
+    lawful = of.lawful;
+    board = refl;
+    handoff = of.handoff;
+    can = (fault_decides (world_on h gs) h.state).0 none;
+    begins = made;
+  }
 
-  pub world_here : world_on h ds ≡ world_in k ds
-  world_here =
-      ap₂ (λ (b : Board) (a : Apertures). let w : World = record { board = b; apertures = a; guests = ds } in w)
-      (of.board ∙ sym (ap (λ (w : World). w.board) read_again)) (of.apertures ∙ sym (ap (λ (w : World). w.apertures) read_again))
-
-  module _ (lawful : IsLawfulWorld (world_in k ds)) where
-    pub is_given : (m : WorldNow) → m ≡ world_over (world_on h ds) (taken_over (world_on h ds) h.state) → first_fault (world_on h ds) h.state ≡ None → IsGiven file h m
-    is_given m made none = record {
-      world = world_on h ds;
-      declared = subst (Declares file) (sym world_here) declared;
-      lawful = subst IsLawfulWorld (sym world_here) lawful;
-      board = refl;
-      handoff = of.handoff;
-      can = (fault_decides (world_on h ds) h.state).0 none;
-      begins = made;
-    }
+  pub is_refused : (f : HandoverFault) → IsFaultOf (world_on h gs) h f → IsRefusalOf file h f
+  is_refused (NotInOrder p) first = (world_on h gs, of.declared, first)
+  is_refused (Closed r) first = (world_on h gs, of.declared, first)
+  is_refused Memory first = tt
 
 -- ---- what guests see
 

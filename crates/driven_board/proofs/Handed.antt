@@ -1,37 +1,35 @@
 -- Whatever firmware does, the board stays the one of its file, in a state that may be handed over.
---     reset_of, asked_of, line_of      a board at reset, and a board after an access and after a line
-use Rattle.std.proofs.Common.{◌≡◌, true, false, List, [], ◌∷◌, refl, ◌∙◌}
-use Rattle.model_board.specs.AtReset.{IsAtReset}
+--     alike_of      in any other state of the board that may be handed over
+--     asked_of, line_of      after an access, and after a line
+use Rattle.std.proofs.Common.{◌≡◌, true, false, List, [], ◌∷◌, sym, ap, subst}
+use Rattle.model_board.specs.AtReset.{board_at}
+use Rattle.model_board.specs.Board.{Board}
+use Rattle.model_board.specs.State.{State}
 use Rattle.model_guests.specs.Text.{Text}
-use Rattle.model_guests.specs.World.{Guest}
+use Rattle.model_guests.specs.World.{Guest, World, IsLawfulWorld}
 use Rattle.model_firmware.specs.FirmwareLines.{after_line}
 use Rattle.model_firmware.specs.HostAccesses.{HostAccess, after_access}
 use Rattle.model_handoff.specs.Sessions.{IsHandoffAlike}
-use Rattle.model_handoff.proofs.Sessions.{reset_is_handoff, access_leaves, lines_leave}
+use Rattle.model_handoff.proofs.Sessions.{access_leaves, lines_leave}
 use Rattle.host_bridge.specs.HostState.{HostState}
-use Rattle.board_file.specs.Meaning.{world_in}
 use Rattle.firmware.specs.Hosts.{after_asked, host_protocol}
 use Rattle.simulation.specs.Listing.{Declares}
 use Rattle.driven_board.specs.Boards.{IsBoardOf}
 
-pub reset_of : (file : Text) (h : HostState) (gs : List Guest) → Declares file (world_in h gs) → IsAtReset h.state → IsBoardOf file h
-reset_of file h gs declared reset = record {
-  world = world_in h gs;
-  declared = declared;
-  board = refl;
-  apertures = refl;
-  handoff = reset_is_handoff h.state reset;
-}
+abbrev world : HostState → List Guest → Board → World
+world h gs b = record { board = b; apertures = h.apertures; guests = gs }
 
-pub asked_of : (file : Text) (h : HostState) (a : HostAccess) → IsBoardOf file h → IsBoardOf file (after_asked h a)
-asked_of file h a was =
-    let kept : IsHandoffAlike h.state (after_access h.state a) = access_leaves h.state was.handoff a in
-    record { world = was.world; declared = was.declared; board = kept.board ∙ was.board; apertures = was.apertures; handoff = kept.handoff }
+pub alike_of : (file : Text) (h : HostState) (gs : List Guest) (s : State) → IsBoardOf file h gs → IsHandoffAlike h.state s
+    → IsBoardOf file (record h { state = s }) gs
+alike_of file h gs s was kept =
+    let same : world h gs (board_at h.state.functions) ≡ world h gs (board_at s.functions) = ap (world h gs) (sym kept.board) in
+    record { declared = subst (Declares file) same was.declared; lawful = subst IsLawfulWorld same was.lawful; handoff = kept.handoff }
 
-pub line_of : (file : Text) (h : HostState) (line : Text) → IsBoardOf file h → IsBoardOf file (host_protocol.next h line)
-line_of file h line was =
-    let kept : IsHandoffAlike h.state (after_line h.state line) = lines_leave h.state was.handoff (line ∷ []) in
-    record { world = was.world; declared = was.declared; board = kept.board ∙ was.board; apertures = was.apertures; handoff = kept.handoff }
+pub asked_of : (file : Text) (h : HostState) (gs : List Guest) (a : HostAccess) → IsBoardOf file h gs → IsBoardOf file (after_asked h a) gs
+asked_of file h gs a was = alike_of file h gs (after_access h.state a) was (access_leaves h.state was.handoff a)
+
+pub line_of : (file : Text) (h : HostState) (gs : List Guest) (line : Text) → IsBoardOf file h gs → IsBoardOf file (host_protocol.next h line) gs
+line_of file h gs line was = alike_of file h gs (after_line h.state line) was (lines_leave h.state was.handoff (line ∷ []))
 
 -- ---- a board that was written isn't said to be at reset
 

@@ -15,13 +15,16 @@ ghost use Rattle.simulation.specs.Faults.{OnFile, OnSetUp, IsOfBoard};
 ghost use Rattle.simulation.specs.Listing.{Refuses, Breaks};
 ghost use Rattle.simulation.specs.Running.{IsOpened};
 ghost use Rattle.driven_board.specs.Boards.{IsResetBoard, after_read, after_write, after_line};
+ghost use Rattle.driven_board.specs.Giving.{IsGiven, IsRefusalOf};
 
+use accesses::GuestDecl;
 use audit_text::problems_text;
 use board_audit::problems;
 use board_file::{BoardFault, read_board};
 use firmware::{Host, HostAccess, Reply};
 use lines::LineText;
-use simulation::{Fault, Monitor};
+use monitor::{Monitor, Refused};
+use simulation::Fault;
 use std::alloc::{AllocError, Global};
 use std::marker::Model;
 
@@ -35,13 +38,14 @@ pub struct Audit {
     pub problems: usize,
 }
 
-/// The board that a board file declares, from reset on, with the bytes of the file. Whether a write was
-/// done since reset is kept, so that our own set-up runs on a board at reset alone.
+/// The board that a board file declares, from reset on, with the bytes and the guests of the file. Whether a
+/// write was done since reset is kept, so that our own set-up runs on a board at reset alone.
 #[derive(Drop)]
 pub struct Board {
-    pub(crate) file: Vec<u8>,
-    pub(crate) host: Host,
-    pub(crate) written: bool,
+    file: Vec<u8>,
+    host: Host,
+    guests: Vec<GuestDecl>,
+    written: bool,
 }
 
 impl Model for Board {
@@ -52,25 +56,27 @@ impl Model for Board {
 
     ghost view = { λ b. record { file = b.file.items; host = b.host; written = b.written } };
 
-    ghost invariant = { λ b. IsBoardOf b.file.items b.host × (b.written ≡ false → IsResetBoard b.file.items b.host) };
+    ghost invariant = { λ b. IsBoardOf b.file.items b.host b.guests.items
+        × (b.written ≡ false → IsResetBoard b.file.items b.host) };
 }
 
 impl Board {
-    /// The board of a board file, at reset. The guests of the file are checked, and no function is given to
-    /// them. Refused are the file (101 to 112) and lack of memory (199).
+    /// The board of a board file, at reset. The guests of the file are checked and kept, and no function is
+    /// given to them. Refused are the file (101 to 112) and lack of memory (199).
     pub fn open(alloc: Global, file: &[u8]) -> Result<Board, BoardFault>
         ensures file { IfOk result (λ b. b.file ≡ file.now) }
         ensures untouched { IfOk result (λ b. b.written ≡ false) }
         ensures reset { IfOk result (λ b. IsResetBoard file.now b.host) }
         ensures refused { IfErr result (λ f. f ≢ Memory → Refuses file.now (file_number f)) }
     {
-        let (host, _guests) = read_board(alloc, file)?;
+        let (host, guests) = read_board(alloc, file)?;
         let Ok(kept) = Vec::from_slice(alloc, file) else {
             return Err(BoardFault::Memory);
         };
         Ok(Board {
             file: kept,
             host,
+            guests,
             written: false,
         })
     }
@@ -129,6 +135,36 @@ impl Board {
         ensures faults { IfErr result IsOfBoard }
     {
         simulation::open(alloc, &self.file)
+    }
+
+    /// Gives the functions of this board to the guests of its file, as the board stands, whoever set it up.
+    /// Each given function is reset first, but for what guests have copies of, and the address latch is
+    /// cleared. Refused are a problem that the audit tells (207), a closed region of a given function (206),
+    /// and lack of memory (299): then the board is given back as it was.
+    pub fn hand_over(self, alloc: Global) -> Result<Monitor, Refused<Board>>
+        ensures given { IfOk result (BeginsIn (IsGiven self.file self.host)) }
+        ensures kept { IfErr result (λ r. r.board ≡ self) }
+        ensures refused { IfErr result (λ r. IsRefusalOf self.file self.host r.fault) }
+    {
+        let Board {
+            file,
+            host,
+            guests,
+            written,
+        } = self;
+        match Monitor::hand_over(alloc, host, &guests) {
+            Ok(monitor) => Ok(monitor),
+            Err(refused) => {
+                let Refused { board: host, fault } = refused;
+                let board = Board {
+                    file,
+                    host,
+                    guests,
+                    written,
+                };
+                Err(Refused { board, fault })
+            }
+        }
     }
 
     /// All that is wrong in the registers as they stand, whoever wrote them. Nothing changes, also where memory

@@ -3,11 +3,9 @@
 #![tactic(auto)]
 
 mod board;
-mod giving;
 mod isolation;
 
 pub use board::{Audit, Board};
 pub use firmware::{HostAccess, Reply};
-pub use giving::{GivingFault, NotGiven};
 pub use isolation::guests_alike;
-pub use simulation::Monitor;
+pub use monitor::{HandoverFault, Monitor, Refused};

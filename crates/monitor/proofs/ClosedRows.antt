@@ -1,8 +1,8 @@
 -- The first closed region of given functions, row by row.
-use Rattle.std.proofs.Common.{◌≡◌, ℕ, suc, ◌+◌, ◌<◌, add-one, Bool, true, false, ◌||◌, cond, not, List, [], ◌∷◌, ◌++◌, length, drop, get_or, Some, None, Result, Ok, Err, refl, sym, ap, ◌∙◌, arith}
+use Rattle.std.proofs.Common.{◌≡◌, ℕ, suc, ◌+◌, ◌<◌, add-one, Bool, true, false, ◌||◌, cond, not, List, [], ◌∷◌, ◌++◌, length, drop, get_or, None, refl, sym, ap, ◌∙◌, arith}
 use Rattle.std.proofs.Math.Seq.{drop-cons}
 use Rattle.std.proofs.lemmas.List.Elements.{filter-append}
-use Rattle.std.specs.Prelude.{map, flat_map, filter, slice_get, IfOk}
+use Rattle.std.specs.Prelude.{map, flat_map, filter, slice_get}
 use Rattle.std.specs.List.{list_any}
 use Rattle.lists.specs.Elements.{Each, first_of_two}
 use Rattle.lists.proofs.EachLemmas.{each_of_map, each_filter}
@@ -10,16 +10,11 @@ use Rattle.model_registers.specs.EndpointTable.{BaseAddress}
 use Rattle.model_registers.specs.Decoding.{opens_space}
 use Rattle.model_board.specs.Paths.{Path, path_eq}
 use Rattle.model_board.specs.Routing.{Ranges, regions, windows, RoutingRow}
-use Rattle.model_board.specs.State.{State}
 use Rattle.model_set_up.specs.PlacedRegions.{PlacedRegion}
 use Rattle.model_audit.specs.OpenRegions.{region_now, closed_of, closed_regions}
-use Rattle.model_audit.specs.Problems.{Problem}
-use Rattle.model_audit.specs.Witnesses.{IsInOrder}
-use Rattle.model_audit.proofs.Witnesses.{problems_decide}
-use Rattle.model_guests.specs.World.{Guest, World}
-use Rattle.model_handoff.specs.Regions.{closed_region, first_problem, first_closed, closed_given, first_fault, CanBeGiven}
+use Rattle.model_guests.specs.World.{Guest}
 use Rattle.model_handoff.proofs.First.{any_append}
-use Rattle.monitor.specs.Passing.{closed_if_given, is_among, first_closed_at}
+use Rattle.monitor.specs.Handovers.{closed_if_given, is_among, first_closed_at}
 
 dropped : {A : Type 0} (xs : List A) (i : ℕ) (x : A) → i < length xs → x ≡ get_or xs i x → drop i xs ≡ x ∷ drop (i + 1) xs
 dropped xs i x h e = rw (add-one, drop-cons xs i x) (ap (λ y. y ∷ drop (suc i) xs) (sym e))
@@ -76,29 +71,3 @@ module _ (ps : List Path) where
   -- the rows from an index on
   pub row_step : (rows : List RoutingRow) (i : ℕ) (r : RoutingRow) → i < length rows → r ≡ get_or rows i r → first_closed_at ps (drop i rows) ≡ first_of_two (closed_if_given ps r) (first_closed_at ps (drop (i + 1) rows))
   row_step rows i r h e = ap (first_closed_at ps) (dropped rows i r h e) ∙ one_row r (drop (i + 1) rows)
-
--- ---- the first fault
-
-pub none_listed : {A : Type 0} (xs : List A) → slice_get xs 0 ≡ None → xs ≡ []
-none_listed [] e = refl
-none_listed (x ∷ xs) e = cc
-
-module _ (w : World) (s : State) (order : IsInOrder s.functions) where
-  fault_is : first_fault w s ≡ first_closed (closed_given w s)
-  fault_is = ap (λ (ps : List Problem). first_of_two (first_problem ps) (first_closed (closed_given w s))) ((problems_decide s.functions).1 order)
-
-  pub closed_first : (q : PlacedRegion) → slice_get (closed_given w s) 0 ≡ Some q → first_fault w s ≡ Some (closed_region q)
-  closed_first q e = grind (arith, fault_is)
-
-  module _ (none : slice_get (closed_given w s) 0 ≡ None) where
-    pub no_fault : first_fault w s ≡ None
-    no_fault = fault_is ∙ ap first_closed (none_listed (closed_given w s) none)
-
-    pub can_be_given : CanBeGiven w s
-    can_be_given = record { order = order; none_closed = none_listed (closed_given w s) none }
-
--- ---- what is so whatever came of it
-
-pub where_ok : {A E P : Type 0} (r : Result A E) → P → IfOk r (λ x. P)
-where_ok (Ok x) p = p
-where_ok (Err e) p = tt

@@ -11,7 +11,6 @@ pub mod Raises
 pub mod DeviceBytes
 pub mod Beginnings
 pub mod Queries
-pub mod Passing
-pub mod Audits
+pub mod Handovers
 pub mod FunctionsTold
 pub mod Seatings

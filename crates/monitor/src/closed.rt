@@ -8,9 +8,8 @@ ghost use Rattle.model_guests.specs.World.{Guest as GuestValue};
 ghost use Rattle.model_audit.specs.OpenRegions.{region_now, closed_of};
 ghost use Rattle.bars.specs.Kinds.{named_space};
 ghost use Rattle.bridge_forward.specs.RoutingRows.{base_of};
-ghost use Rattle.monitor.specs.Passing.{HasPassed, closed_if_given, first_closed_at};
+ghost use Rattle.monitor.specs.Handovers.{closed_if_given, first_closed_at};
 
-use crate::audited::Audited;
 use accesses::GuestDecl;
 use bars::Space;
 use bridge_forward::{Ranges, RoutingRegion, RoutingRow};
@@ -34,37 +33,6 @@ impl Model for ClosedRegion {
     ghost Value = { PlacedRegion };
 
     ghost view = { λ r. region_now r.path (base_of r.region) };
-}
-
-/// Why functions of a board that passed its audit are not given to guests: the first closed region of
-/// theirs (206), or lack of memory (299).
-#[derive(Drop)]
-pub enum RegionFault {
-    Closed(ClosedRegion),
-    Memory,
-}
-
-/// A board whose functions are not given to guests, as it was.
-#[derive(Drop)]
-pub struct Ungiven {
-    pub board: Audited,
-    pub fault: RegionFault,
-}
-
-impl Ungiven {
-    ghost use Rattle.monitor.specs.declared.closed.RegionFault.TheVariants.{Memory};
-
-    /// A board that passed its audit, where memory is out.
-    pub(crate) fn out_of_memory(host: Host) -> Ungiven
-        requires { HasPassed host }
-        ensures board { result.board ≡ host }
-        ensures fault { result.fault ≡ Memory }
-    {
-        Ungiven {
-            board: Audited::as_it_was(host),
-            fault: RegionFault::Memory,
-        }
-    }
 }
 
 /// Whether the word of the Command register opens a space.
@@ -145,13 +113,12 @@ fn first_closed_in(rows: &[RoutingRow], decls: &[GuestDecl]) -> Option<ClosedReg
 /// The same, of the board as it stands.
 pub(crate) fn first_closed(
     alloc: Global,
-    audited: &Audited,
+    host: &Host,
     decls: &[GuestDecl],
 ) -> Result<Option<ClosedRegion>, AllocError>
-    ensures passed { HasPassed audited.now }
-    ensures first { let ps = flat_map (λ (g : GuestValue). g.slots) decls.now in
-        IfOk result (λ r. r ≡ first_closed_at ps (routing audited.now.state.functions)) }
+    ensures { let ps = flat_map (λ (g : GuestValue). g.slots) decls.now in
+        IfOk result (λ r. r ≡ first_closed_at ps (routing host.now.state.functions)) }
 {
-    let rows = audited.host().routing(alloc)?;
+    let rows = host.routing(alloc)?;
     Ok(first_closed_in(&rows, decls))
 }

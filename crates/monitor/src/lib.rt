@@ -14,7 +14,6 @@
 //! ```
 #![tactic(auto)]
 
-mod audited;
 mod beginning;
 mod closed;
 mod config;
@@ -25,6 +24,7 @@ mod functions;
 mod gift;
 mod giving;
 mod guest;
+mod handover;
 mod landing;
 mod latch;
 mod locating;
@@ -41,12 +41,12 @@ mod withheld;
 pub use accesses::{
     Access, At, Bdf, GuestDecl, HostAccess, HostAt, Names, Op, Place, Refusal, Reply,
 };
-pub use audited::{AuditFault, Audited, Unfit};
 pub use bars::Space;
 pub use board_audit::Problem;
-pub use closed::{ClosedRegion, RegionFault, Ungiven};
+pub use closed::ClosedRegion;
 pub use engine::Engine;
 pub use functions::FunctionNow;
+pub use handover::{HandoverFault, Refused, handover_words};
 pub use locating::Hit;
 pub use monitor::Monitor;
 pub use regions::RegionNow;

@@ -2,18 +2,15 @@
 ghost use Rattle.std.specs.Prelude.{◌≡◌, IfOk, IfErr, None};
 ghost use Rattle.model_guests.specs.World.{HasLawfulGuests};
 ghost use Rattle.model_guests.specs.WorldNow.{world_at_first, world_over};
-ghost use Rattle.model_handoff.specs.Handoffs.{taken_over};
+ghost use Rattle.model_handoff.specs.Handoffs.{IsHandoff, taken_over};
 ghost use Rattle.model_handoff.specs.Regions.{CanBeGiven, first_fault};
 ghost use Rattle.model_giving.specs.Changes.{BeginsIn};
 ghost use Rattle.bus_scan.specs.declared.fault.Fault.TheVariants.{Memory};
-ghost use Rattle.monitor.specs.Audits.{IsRefusalOf};
-ghost use Rattle.monitor.specs.Passing.{HasPassed};
-ghost use Rattle.monitor.specs.declared.closed.RegionFault.TheVariants.{Memory as OutOfMemory};
 ghost use Rattle.monitor.specs.Beginnings.{world_on, world_of};
+ghost use Rattle.monitor.specs.Handovers.{IsFaultOf};
 
-use crate::audited::Audited;
-use crate::closed::{RegionFault, Ungiven, first_closed};
 use crate::engine::Engine;
+use crate::handover::{HandoverFault, Refused, first_fault};
 use accesses::GuestDecl;
 use bus_scan::Fault;
 use claim_table::Table;
@@ -37,48 +34,48 @@ impl Monitor {
         Ok(Engine::by_route(alloc, ready, table, guests)?)
     }
 
-    /// Gives functions of a board that passed its audit to guests, whoever set it up. Each of them is reset
-    /// first, but for what guests have copies of, and the address latch is cleared. Refused are a closed
-    /// region of theirs (206) and lack of memory (299); the board is then given back as it was.
-    pub fn over(alloc: Global, audited: Audited, guests: &[GuestDecl]) -> Result<Monitor, Ungiven>
-        requires { HasLawfulGuests (world_on audited guests.now) }
-        ensures made { let w = world_on audited guests.now in
-            IfOk result (BeginsIn (λ v. v ≡ world_over w (taken_over w audited.state))) }
-        ensures given { IfOk result (λ _. first_fault (world_on audited guests.now) audited.state ≡ None) }
-        ensures kept { IfErr result (λ u. u.board ≡ audited) }
-        ensures refused { IfErr result (λ u. IsRefusalOf (world_on audited guests.now) audited u.fault) }
+    /// Hands a board over to guests, whoever set it up, if its audit tells no problem and no region of theirs
+    /// is closed. Each given function is reset first, but for what guests have copies of, and the address
+    /// latch is cleared. Refused are a problem that the audit tells (207), a closed region of a given function
+    /// (206) and lack of memory (299): then the board is given back as it was.
+    pub fn hand_over(
+        alloc: Global,
+        host: Host,
+        guests: &[GuestDecl],
+    ) -> Result<Monitor, Refused<Host>>
+        requires handoff { IsHandoff host.state }
+        requires lawful { HasLawfulGuests (world_on host guests.now) }
+        ensures made { let w = world_on host guests.now in
+            IfOk result (BeginsIn (λ v. v ≡ world_over w (taken_over w host.state))) }
+        ensures given { IfOk result (λ _. first_fault (world_on host guests.now) host.state ≡ None) }
+        ensures kept { IfErr result (λ r. r.board ≡ host) }
+        ensures refused { IfErr result (λ r. IsFaultOf (world_on host guests.now) host r.fault) }
     {
-        match first_closed(alloc, &audited, guests) {
-            Ok(first) => match first {
-                Some(region) => {
-                    let fault = RegionFault::Closed(region);
-                    Err(Ungiven {
-                        board: audited,
-                        fault,
-                    })
-                }
-                None => Monitor::over_open(alloc, audited.into_host(), guests),
-            },
-            Err(_) => Err(Ungiven::out_of_memory(audited.into_host())),
+        let mut board = host;
+        if let Some(fault) = first_fault(alloc, &mut board, guests) {
+            return Err(Refused { board, fault });
+        }
+        match Monitor::over_open(alloc, board, guests) {
+            Ok(monitor) => Ok(monitor),
+            Err(board) => {
+                let fault = HandoverFault::Memory;
+                Err(Refused { board, fault })
+            }
         }
     }
 
-    /// The same of a board that passed, where no region of a given function is closed.
-    fn over_open(alloc: Global, host: Host, guests: &[GuestDecl]) -> Result<Monitor, Ungiven>
-        requires passed { HasPassed host }
+    /// The same of a board in order, where no region of a given function is closed.
+    fn over_open(alloc: Global, host: Host, guests: &[GuestDecl]) -> Result<Monitor, Host>
+        requires handoff { IsHandoff host.state }
         requires lawful { HasLawfulGuests (world_on host guests.now) }
         requires given { CanBeGiven (world_on host guests.now) host.state }
         ensures made { let w = world_on host guests.now in
             IfOk result (BeginsIn (λ v. v ≡ world_over w (taken_over w host.state))) }
-        ensures kept { IfErr result (λ u. u.board ≡ host) }
-        ensures memory { IfErr result (λ u. u.fault ≡ OutOfMemory) }
+        ensures kept { IfErr result (λ h. h ≡ host) }
     {
         let Ok(table) = Table::of_open_regions(alloc, &host) else {
-            return Err(Ungiven::out_of_memory(host));
+            return Err(host);
         };
-        match Engine::over_by_route(alloc, host, table, guests) {
-            Ok(monitor) => Ok(monitor),
-            Err(host) => Err(Ungiven::out_of_memory(host)),
-        }
+        Engine::over_by_route(alloc, host, table, guests)
     }
 }

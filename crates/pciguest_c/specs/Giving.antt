@@ -3,8 +3,9 @@
 use Rattle.std.specs.Prelude.{◌≡◌, ℕ}
 use Rattle.model_guests.specs.Text.{Text}
 use Rattle.host_bridge.specs.HostState.{HostState}
-use Rattle.driven_board.specs.declared.giving.GivingFault.{GivingFault}
-use Rattle.driven_board.specs.Giving.{IsRefusalOf, number_of}
+use Rattle.monitor.specs.declared.handover.HandoverFault.{HandoverFault}
+use Rattle.monitor.specs.Handovers.{number_of}
+use Rattle.driven_board.specs.Giving.{IsRefusalOf}
 
 abbrev pub IsNumberOfRefusal : Text → HostState → ℕ → Type 0
-IsNumberOfRefusal file h n = (f : GivingFault) × (number_of f ≡ n) × IsRefusalOf file h f
+IsNumberOfRefusal file h n = (f : HandoverFault) × (number_of f ≡ n) × IsRefusalOf file h f

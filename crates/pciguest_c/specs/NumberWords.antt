@@ -1,20 +1,19 @@
 -- The words of numbers.
---     own_words n      those of the numbers that only calls from C answer
+--     own_words n      those of the numbers that only calls from C answer, or a handover does
 --     words_of_number n      those of a refusal in a reply, of a fault, or of such a call; none of other numbers
-use Rattle.std.specs.Prelude.{ℕ, [], ◌==◌, if◌then◌else◌, codes}
+use Rattle.std.specs.Prelude.{ℕ, ◌==◌, if◌then◌else◌, codes}
 use Rattle.std.specs.Option.{option_map_or}
 use Rattle.model_guests.specs.Text.{Text}
 use Rattle.model_guests.specs.Replies.{refusal_words}
 use Rattle.accesses.specs.Refusals.{number_of, refusal_numbered}
+use Rattle.monitor.specs.Handovers.{handover_words}
 use Rattle.simulation.specs.Faults.{words_of, fault_numbered}
 
 abbrev pub own_words : ℕ → Text
 own_words n =
-    if n == 206 then codes "closed region"
-    else (if n == 207 then codes "not in order"
-    else (if n == 901 then codes "no machine"
+    if n == 901 then codes "no machine"
     else (if n == 902 then codes "argument"
-    else (if n == 903 then codes "in use" else (if n == 904 then codes "not at reset" else [])))))
+    else (if n == 903 then codes "in use" else (if n == 904 then codes "not at reset" else handover_words n)))
 
 abbrev pub words_of_number : ℕ → Text
 words_of_number n =

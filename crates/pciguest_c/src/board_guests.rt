@@ -8,40 +8,33 @@ use crate::board_handle::BoardHandle;
 use crate::handle::Handle;
 use crate::numbers::{IN_USE, NO_MACHINE};
 use crate::unboxed::Unboxed;
-use driven_board::{Board, GivingFault, NotGiven};
+use driven_board::{Board, HandoverFault, Refused};
 use monitor::Monitor;
 use std::alloc::Global;
 use std_alloc::room::Vacant;
 
-/// A board that is not given to guests, as it was.
-#[derive(Drop)]
-struct NotHanded {
-    board: Box<Board>,
-    fault: GivingFault,
-}
-
-/// Gives a board to the guests of its file. The block of the machine is taken first, and that of the board is
-/// kept until it is given, so that a board that is refused has its place again.
-fn hand_over(alloc: Global, board: Box<Board>) -> Result<Box<Monitor>, NotHanded>
+/// Hands a board over to the guests of its file. The block of the machine is taken first, and that of the board
+/// is kept until it is handed over, so that a board that is refused has its place again.
+fn hand_over(alloc: Global, board: Box<Board>) -> Result<Box<Monitor>, Refused<Box<Board>>>
     ensures given { IfOk result (λ m. BeginsIn (IsGiven board.value.file board.value.host) m.value) }
-    ensures kept { IfErr result (λ n. n.board.value ≡ board.value) }
-    ensures refused { IfErr result (λ n. IsRefusalOf board.value.file board.value.host n.fault) }
+    ensures kept { IfErr result (λ r. r.board.value ≡ board.value) }
+    ensures refused { IfErr result (λ r. IsRefusalOf board.value.file board.value.host r.fault) }
 {
     let Ok(room) = Vacant::take(alloc) else {
-        let fault = GivingFault::Memory;
-        return Err(NotHanded { board, fault });
+        let fault = HandoverFault::Memory;
+        return Err(Refused { board, fault });
     };
     let (whole, place) = Unboxed::of(board).empty();
-    match whole.give(alloc) {
+    match whole.hand_over(alloc) {
         Ok(monitor) => {
             place.free();
             Ok(Unboxed::fill(room, monitor).into_box())
         }
-        Err(not_given) => {
+        Err(refused) => {
             room.free();
-            let NotGiven { board, fault } = not_given;
+            let Refused { board, fault } = refused;
             let board = Unboxed::fill(place, board).into_box();
-            Err(NotHanded { board, fault })
+            Err(Refused { board, fault })
         }
     }
 }
@@ -49,7 +42,7 @@ fn hand_over(alloc: Global, board: Box<Board>) -> Result<Box<Monitor>, NotHanded
 /// Gives the functions of a board to the guests of its file, as the board stands, whoever set it up, and leaves
 /// the machine in its handle. The board is then taken: its handle holds none. A refusal is 901 where there is no
 /// board, 903 where the handle of the machine holds one already, 207 for a problem that the audit tells, 206 for
-/// a closed region of a given function, or out of memory (199 or 299). Then both handles are as they were.
+/// a closed region of a given function, or 299 for want of memory. Then both handles are as they were.
 #[unsafe(no_mangle)]
 pub extern "C" fn pciguest_raw_board_guests(
     alloc: Global,
@@ -78,8 +71,8 @@ pub extern "C" fn pciguest_raw_board_guests(
             *machine = Handle::of(made);
             0
         }
-        Err(not_handed) => {
-            let NotHanded { board, fault } = not_handed;
+        Err(refused) => {
+            let Refused { board, fault } = refused;
             *handle = BoardHandle::of(board);
             u32::from(fault.number())
         }

@@ -5,6 +5,7 @@ ghost use Rattle.accesses.specs.Refusals.{number_of};
 ghost use Rattle.pciguest_c.specs.NumberWords.{own_words, words_of_number};
 
 use accesses::Refusal;
+use monitor::handover_words;
 use simulation::Fault;
 
 /// The bytes of `refused 301 `, which stand before the words of a refusal.
@@ -17,18 +18,16 @@ fn refusal_words(why: Refusal) -> &'static [u8]
     &why.text()[BEFORE_WORDS..]
 }
 
-/// The words of a number that only calls from C answer.
+/// The words of a number that only calls from C answer, or a handover does.
 fn own_words(number: u32) -> &'static [u8]
     ensures { result.now ≡ own_words number }
 {
     match number {
-        206 => b"closed region",
-        207 => b"not in order",
         901 => b"no machine",
         902 => b"argument",
         903 => b"in use",
         904 => b"not at reset",
-        _ => b"",
+        _ => handover_words(number).as_bytes(),
     }
 }
 

@@ -1,1 +1,2 @@
 pub mod DrivenBoards
+pub mod Refusals

@@ -1,2 +1,2 @@
 pub mod Stages
-pub mod Takings
+pub mod Tellings

@@ -6,10 +6,8 @@ mod answers;
 mod asking;
 mod running;
 mod stage;
-mod taking;
 mod telling;
 
 pub use answers::{Session, SessionLines};
 pub use line_runs::RunFault;
 pub use running::run;
-pub use taking::{NotTaken, TakingFault, take};

@@ -5,12 +5,11 @@ ghost use Rattle.model_sessions.specs.Sessions.{is_handover, session_output, aft
 ghost use Rattle.line_runs.specs.Pieces.{with_more};
 ghost use Rattle.sessions.specs.Stages.{session_now, IsLawful, IsDriven};
 
-use crate::taking::{NotTaken, take};
 use crate::telling::handover_refusal;
 use accesses::{GuestDecl, Reply};
 use host_bridge::Host;
 use lines::{LineText, push_named};
-use monitor::Monitor;
+use monitor::{Monitor, Refused};
 use std::alloc::{AllocError, Global};
 use std::mem;
 
@@ -44,15 +43,15 @@ pub(crate) fn hand_over(
     let Stage::Firmware(host, guests) = mem::replace(stage, Stage::Between) else {
         unreachable!()
     };
-    match take(alloc, host, &guests) {
+    match Monitor::hand_over(alloc, host, &guests) {
         Ok(monitor) => {
             *stage = Stage::Guests(monitor);
             push_named(text, b"host", Reply::Done);
             Ok(None)
         }
-        Err(not_taken) => {
-            let NotTaken { host, fault } = not_taken;
-            *stage = Stage::Firmware(host, guests);
+        Err(refused) => {
+            let Refused { board, fault } = refused;
+            *stage = Stage::Firmware(board, guests);
             let told = handover_refusal(alloc, &fault)?;
             Ok(Some(told))
         }

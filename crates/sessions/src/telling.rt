@@ -1,14 +1,12 @@
 //! What a session writes where it doesn't hand its board over.
-ghost use Rattle.std.specs.Prelude.{◌≡◌, ◌++◌, Some, OnOk, IfOk, IsSome, string_bytes};
-ghost use Rattle.model_handoff.specs.Regions.{in_disorder, closed_region};
-ghost use Rattle.model_sessions.specs.Sessions.{closed_text, handover_output};
-ghost use Rattle.board_audit.specs.Told.{problem_of};
+ghost use Rattle.std.specs.Prelude.{◌≡◌, ◌++◌, OnOk, IfOk, IfSome, IsSome, string_bytes};
+ghost use Rattle.model_sessions.specs.Sessions.{closed_text, refused_line, handover_output};
 ghost use Rattle.report.specs.Found.{ended};
-ghost use Rattle.sessions.specs.Takings.{fault_told};
+ghost use Rattle.monitor.specs.Handovers.{number_of, words_of, handoff_fault};
+ghost use Rattle.sessions.specs.Tellings.{cause_text};
 
-use crate::taking::TakingFault;
 use audit_text::push_problem;
-use monitor::{ClosedRegion, Problem};
+use monitor::{ClosedRegion, HandoverFault};
 use report::push_path;
 use std::alloc::{AllocError, Global};
 
@@ -22,34 +20,36 @@ fn push_closed(text: &mut String, closed: &ClosedRegion) -> Result<(), AllocErro
     writeln!(text, " bar{index}")
 }
 
-/// What is written of a problem.
-fn disorder_text(alloc: Global, problem: &Problem) -> Result<String, AllocError>
-    ensures { IfOk result (λ t. string_bytes t ≡ handover_output (Some (in_disorder (problem_of problem.now)))) }
+/// Appends the line of what stands in the way of a handover, unless memory does.
+fn push_cause(text: &mut String, fault: &HandoverFault) -> Result<(), AllocError>
+    ensures line { OnOk result (IfSome (handoff_fault fault.now) (λ told.
+        string_bytes text.new ≡ string_bytes text.old ++ ended (cause_text told))) }
+    ensures told { OnOk result (IsSome (handoff_fault fault.now)) }
 {
-    let mut text = String::new(alloc);
-    push_problem(&mut text, problem)?;
-    text.push_str("host: refused 207 not in order\n")?;
-    Ok(text)
+    match fault {
+        HandoverFault::NotInOrder(problem) => push_problem(text, problem),
+        HandoverFault::Closed(closed) => push_closed(text, closed),
+        HandoverFault::Memory => Err(AllocError),
+    }
 }
 
-/// What is written of a closed region.
-fn region_text(alloc: Global, closed: &ClosedRegion) -> Result<String, AllocError>
-    ensures { IfOk result (λ t. string_bytes t ≡ handover_output (Some (closed_region closed.now))) }
+/// Appends the line of a refusal.
+fn push_refusal(text: &mut String, fault: &HandoverFault) -> Result<(), AllocError>
+    ensures { OnOk result (string_bytes text.new
+        ≡ string_bytes text.old ++ ended (refused_line (number_of fault.now) (words_of fault.now))) }
 {
-    let mut text = String::new(alloc);
-    push_closed(&mut text, closed)?;
-    text.push_str("host: refused 206 closed region\n")?;
-    Ok(text)
+    let number = fault.number();
+    let words = fault.words();
+    writeln!(text, "host: refused {number} {words}")
 }
 
 /// What is written of a fault, unless memory is out.
-pub(crate) fn handover_refusal(alloc: Global, fault: &TakingFault) -> Result<String, AllocError>
-    ensures text { IfOk result (λ t. string_bytes t ≡ handover_output (fault_told fault.now)) }
-    ensures told { IfOk result (λ _. IsSome (fault_told fault.now)) }
+pub(crate) fn handover_refusal(alloc: Global, fault: &HandoverFault) -> Result<String, AllocError>
+    ensures text { IfOk result (λ t. string_bytes t ≡ handover_output (handoff_fault fault.now)) }
+    ensures told { IfOk result (λ _. IsSome (handoff_fault fault.now)) }
 {
-    match fault {
-        TakingFault::NotInOrder(problem) => disorder_text(alloc, problem),
-        TakingFault::Closed(closed) => region_text(alloc, closed),
-        TakingFault::Memory => Err(AllocError),
-    }
+    let mut text = String::new(alloc);
+    push_cause(&mut text, fault)?;
+    push_refusal(&mut text, fault)?;
+    Ok(text)
 }

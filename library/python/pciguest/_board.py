@@ -114,7 +114,7 @@ class Board(Held):
         """The board with its functions given to the guests of its file, as it stands, whoever set it up. Each function
         that is given is reset first, but for what guests have copies of. The board is then the machine's: each call of
         it is refused by 901. Where it is refused, the board stays as it is: 207, its audit tells a problem; 206, a
-        region of a function that is to be given is closed; 199 or 299, memory is out.
+        region of a function that is to be given is closed; 299, memory is out.
 
         >>> board = Board(BOARD)
         >>> board.config[0, 2, 0][0x18:4] = 0x00010100  # the bridge's buses: 0 above it, 1 behind it

@@ -207,7 +207,7 @@ impl Board {
     /// # Errors
     ///
     /// The board comes back as it was, with why: 207, its [audit](Board::audit) tells a problem; 206, a region of a
-    /// function that is to be given is closed; or memory is out.
+    /// function that is to be given is closed; or 299, memory is out.
     ///
     /// ```
     /// # const BOARD: &str = include_str!("board.toml");

@@ -11,7 +11,7 @@ use Rattle.driven_board.proofs.board.Board.read.Goals as goal
 
 pub invariant_of-self : goal.invariant_of-self
 invariant_of-self c = (
-  subst (IsBoardOf c.self.inside.file.items) (sym c.read.ensures.after) (asked_of c.self.inside.file.items c.self.inside.host (host_asked c.args.from reads) c.self.invariant.0),
+  subst (λ (k : HostState). IsBoardOf c.self.inside.file.items k c.self.inside.guests.items) (sym c.read.ensures.after) (asked_of c.self.inside.file.items c.self.inside.host c.self.inside.guests.items (host_asked c.args.from reads) c.self.invariant.0),
   λ untouched.
       let h = c.self.inside.host in
       let was = c.self.invariant.1 untouched in

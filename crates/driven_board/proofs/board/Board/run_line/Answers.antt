@@ -9,13 +9,13 @@ use Rattle.driven_board.proofs.board.Board.run_line.Goals as goal
 
 pub invariant_of-self : goal.invariant_of-self
 invariant_of-self c = (
-  subst (IsBoardOf c.self.inside.file.items) (sym c.run_line-text.ensures.after) (line_of c.self.inside.file.items c.self.inside.host c.args.line.now c.self.invariant.0),
+  subst (λ (k : HostState). IsBoardOf c.self.inside.file.items k c.self.inside.guests.items) (sym c.run_line-text.ensures.after) (line_of c.self.inside.file.items c.self.inside.host c.self.inside.guests.items c.args.line.now c.self.invariant.0),
   never (IsResetBoard c.self.inside.file.items c.run_line-text.new.host),
 )
 
 pub invariant_of-self-else-eq : goal.invariant_of-self-else-eq
 invariant_of-self-else-eq c = (
-  subst (IsBoardOf c.self.inside.file.items) (sym c.run_line-text.ensures.after) (line_of c.self.inside.file.items c.self.inside.host c.args.line.now c.self.invariant.0),
+  subst (λ (k : HostState). IsBoardOf c.self.inside.file.items k c.self.inside.guests.items) (sym c.run_line-text.ensures.after) (line_of c.self.inside.file.items c.self.inside.host c.self.inside.guests.items c.args.line.now c.self.invariant.0),
   λ untouched.
       let h = c.self.inside.host in
       let was = c.self.invariant.1 untouched in

@@ -13,13 +13,13 @@ use Rattle.driven_board.proofs.board.Board.write.Goals as goal
 
 pub invariant_of-self : goal.invariant_of-self
 invariant_of-self c = (
-  subst (IsBoardOf c.self.inside.file.items) (sym c.write-reply.ensures.after) (asked_of c.self.inside.file.items c.self.inside.host (host_asked c.args.to (writes c.args.value)) c.self.invariant.0),
+  subst (λ (k : HostState). IsBoardOf c.self.inside.file.items k c.self.inside.guests.items) (sym c.write-reply.ensures.after) (asked_of c.self.inside.file.items c.self.inside.host c.self.inside.guests.items (host_asked c.args.to (writes c.args.value)) c.self.invariant.0),
   never (IsResetBoard c.self.inside.file.items c.write-reply.new.host),
 )
 
 pub invariant_of-self-else-matches : goal.invariant_of-self-else-matches
 invariant_of-self-else-matches c = (
-  subst (IsBoardOf c.self.inside.file.items) (sym c.write-reply.ensures.after) (asked_of c.self.inside.file.items c.self.inside.host (host_asked c.args.to (writes c.args.value)) c.self.invariant.0),
+  subst (λ (k : HostState). IsBoardOf c.self.inside.file.items k c.self.inside.guests.items) (sym c.write-reply.ensures.after) (asked_of c.self.inside.file.items c.self.inside.host c.self.inside.guests.items (host_asked c.args.to (writes c.args.value)) c.self.invariant.0),
   λ untouched.
       let h = c.self.inside.host in
       let was = c.self.invariant.1 untouched in

@@ -1,0 +1,98 @@
+//! Why a board is not handed over to guests, and what is looked at before it is.
+ghost use Rattle.std.specs.Prelude.{◌≡◌, None, IfOk, IfNone, IfSome, map, option_map, slice_get};
+ghost use Rattle.model_audit.specs.Problems.{problems};
+ghost use Rattle.model_handoff.specs.Regions.{first_fault};
+ghost use Rattle.board_audit.specs.Told.{problem_of};
+ghost use Rattle.monitor.specs.Beginnings.{world_on};
+ghost use Rattle.monitor.specs.Handovers.{number_of, handover_words, words_of, IsFaultOf};
+
+use crate::closed::{ClosedRegion, first_closed};
+use accesses::GuestDecl;
+use board_audit::{Problem, problems};
+use host_bridge::Host;
+use std::alloc::{AllocError, Global};
+
+/// Why functions of a board are not given to guests: the first problem that its audit tells, else the first
+/// closed region of a given function, or lack of memory.
+#[derive(Drop)]
+pub enum HandoverFault {
+    NotInOrder(Problem),
+    Closed(ClosedRegion),
+    Memory,
+}
+
+/// The words of a fault's number, of which there are none where it stands for no fault.
+pub fn handover_words(number: u32) -> &'static str
+    ensures { result.now ≡ handover_words number }
+{
+    match number {
+        206 => "closed region",
+        207 => "not in order",
+        299 => "memory",
+        _ => "",
+    }
+}
+
+impl HandoverFault {
+    /// The number of the refusal.
+    pub fn number(&self) -> u16
+        ensures { result ≡ number_of self.now }
+    {
+        match self {
+            HandoverFault::NotInOrder(_) => 207,
+            HandoverFault::Closed(_) => 206,
+            HandoverFault::Memory => 299,
+        }
+    }
+
+    /// Its words.
+    pub fn words(&self) -> &'static str
+        ensures { result.now ≡ words_of self.now }
+    {
+        handover_words(u32::from(self.number()))
+    }
+}
+
+/// A board that is not handed over, as it was.
+#[derive(Drop)]
+pub struct Refused<B> {
+    pub board: B,
+    pub fault: HandoverFault,
+}
+
+/// The first of the problems that an audit tells.
+fn first_problem(alloc: Global, host: &mut Host) -> Result<Option<Problem>, AllocError>
+    ensures kept { host.new ≡ host.old }
+    ensures first { IfOk result (λ p. option_map problem_of p ≡ slice_get (problems host.old.state.functions) 0) }
+{
+    let mut told = problems(alloc, host)?;
+    if told.is_empty() {
+        return Ok(None);
+    }
+    Ok(Some(told.remove(0)))
+}
+
+/// The first fault of a board as it stands, which stays so.
+pub(crate) fn first_fault(
+    alloc: Global,
+    host: &mut Host,
+    guests: &[GuestDecl],
+) -> Option<HandoverFault>
+    ensures kept { host.new ≡ host.old }
+    ensures fault { IfSome result (IsFaultOf (world_on host.old guests.now) host.old) }
+    ensures none { IfNone result (first_fault (world_on host.old guests.now) host.old.state ≡ None) }
+{
+    let Ok(first) = first_problem(alloc, host) else {
+        return Some(HandoverFault::Memory);
+    };
+    if let Some(problem) = first {
+        return Some(HandoverFault::NotInOrder(problem));
+    }
+    let Ok(closed) = first_closed(alloc, host, guests) else {
+        return Some(HandoverFault::Memory);
+    };
+    match closed {
+        Some(region) => Some(HandoverFault::Closed(region)),
+        None => None,
+    }
+}
