@@ -24,7 +24,8 @@ use Rattle.board_file.specs.declared.entry.Entry.{Entry}
 use Rattle.board_file.specs.declared.finding.Problem.{Problem}
 use Rattle.board_file.specs.RuleFaults.{fault_of}
 use Rattle.board_file.specs.Problems.{Found}
-use Rattle.board_check.specs.Keys.{level_of, table_at, key_keeps}
+use Rattle.board_file.specs.Tables.{level_of, table_at}
+use Rattle.board_check.specs.Keys.{key_keeps}
 use Rattle.board_check.specs.Problems.{keys_in, of_field, of_fields, of_member, of_members, is_wrong, AddsWrong}
 
 pub range_more : {X : Type 0} (f : ℕ → X) (n : ℕ) → map f (range_with_len 0 (n + 1)) ≡ map f (range_with_len 0 n) ++ f n ∷ []

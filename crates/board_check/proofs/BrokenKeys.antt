@@ -15,7 +15,7 @@ use Rattle.board_file.specs.declared.schema.Check.{Check}
 use Rattle.board_file.specs.declared.schema.Check.TheVariants.{Types}
 use Rattle.board_file.specs.declared.entry.Entry.{Entry}
 use Rattle.board_file.specs.declared.entry.Entry.TheVariants as entry
-use Rattle.board_check.specs.Keys.{table_in, table_at, level_of}
+use Rattle.board_file.specs.Tables.{table_in, table_at, level_of}
 use Rattle.board_check.specs.Problems.{entries_of}
 use Rattle.board_check.proofs.Members.{file_in, host_in, endpoint_in, bar_in, config_in, bridge_in, guest_in}
 use Rattle.board_check.proofs.Blames.{Blame}

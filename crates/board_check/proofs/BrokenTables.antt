@@ -18,7 +18,8 @@ use Rattle.board_file.specs.declared.schema.Check.TheVariants.{Types, Keys}
 use Rattle.board_file.specs.declared.entry.Entry.{Entry}
 use Rattle.board_file.specs.declared.rule.Rule.{Rule}
 use Rattle.board_file.specs.declared.rule.Rule.TheVariants as rule
-use Rattle.board_check.specs.Keys.{table_at, level_of, needs, is_needed, form_holds, table_keeps, key_keeps}
+use Rattle.board_file.specs.Tables.{table_at, level_of}
+use Rattle.board_check.specs.Keys.{needs, is_needed, form_holds, table_keeps, key_keeps}
 use Rattle.board_file.specs.Problems.{Found}
 use Rattle.board_check.specs.Problems.{entries_of, keys_in, of_field, of_member, asked}
 use Rattle.board_check.proofs.Blames.{found, Blame}

@@ -20,7 +20,8 @@ use Rattle.board_file.specs.declared.entry.Entry.{Entry}
 use Rattle.board_file.specs.declared.entry.Entry.TheVariants as entry
 use Rattle.board_file.specs.declared.rule.Rule.{Rule}
 use Rattle.board_file.specs.declared.rule.Rule.TheVariants as rule
-use Rattle.board_check.specs.Keys.{table_in, needs, is_needed, form_holds, table_keeps, key_keeps}
+use Rattle.board_file.specs.Tables.{table_in}
+use Rattle.board_check.specs.Keys.{needs, is_needed, form_holds, table_keeps, key_keeps}
 
 -- ---- values that are there
 

@@ -8,7 +8,4 @@ pub mod Refusals
 pub mod SortedDocuments
 pub mod KeyBreaks
 pub mod Asked
-pub mod Pushed
 pub mod Clear
-pub mod Takers
-pub mod ToldCauses

@@ -1,11 +1,10 @@
 -- A file that is refused has a problem of the fault for which it is, and one with a problem of a fault fails its check.
-use Rattle.std.proofs.Common.{◌≡◌, ◌≢◌, ℕ, Bool, true, false, ◌&&◌, ◌||◌, ◌==◌, not, List, [], ◌∷◌, Option, Some, Err, refl, sym, ap, subst, ◌∙◌, arith}
+use Rattle.std.proofs.Common.{◌≡◌, ◌≢◌, ℕ, Bool, true, false, ◌&&◌, ◌==◌, not, List, [], ◌∷◌, Option, Some, Err, refl, sym, ap, subst, ◌∙◌, arith}
 use Rattle.std.specs.Prelude.{filter}
 use Rattle.std.specs.List.{flat_map}
 use Rattle.std.specs.Option.{option_map_or}
-use Rattle.std.proofs.lemmas.Bool.{and_parts, not-true, eqb-true, eq-eqb}
+use Rattle.std.proofs.lemmas.Bool.{and_parts, not-true, eqb-true}
 use Rattle.toml.specs.Data.{Members}
-use Rattle.lists.specs.Elements.{IsIn}
 use Rattle.model_registers.specs.DeclarationRules.{first_broken}
 use Rattle.board_file.specs.declared.schema.Level.{Level}
 use Rattle.board_file.specs.declared.schema.Level.TheVariants as level
@@ -23,31 +22,15 @@ use Rattle.board_file.specs.Problems.{Found, problems_in, holds}
 use Rattle.board_file.specs.Meaning.{rules, checks, unless, world_of}
 use Rattle.board_file.proofs.Tests.{none}
 use Rattle.board_file.proofs.NoProblems.{no_problems}
-use Rattle.board_check.specs.Keys.{level_of, table_at, key_keeps}
+use Rattle.board_file.proofs.FirstBroken.{at_number, broken_at, from_number, alone}
+use Rattle.board_file.specs.Tables.{level_of, table_at}
+use Rattle.board_check.specs.Keys.{key_keeps}
 use Rattle.board_check.specs.Problems.{entries_of, asked, is_wrong, key_problems, problems_of}
 use Rattle.board_check.specs.ProblemLaws.{RefusalsHaveProblems, RefusedDocumentsHaveProblems, ProblemsBreakChecks}
 use Rattle.board_check.proofs.Blames.{some_problem}
 use Rattle.board_check.proofs.BrokenKeys.{broken_tables}
 use Rattle.board_check.proofs.KeyBreaks.{key_breaks}
 use Rattle.board_check.proofs.SortedDocuments.{document_sorted}
-
--- ---- checks of a number
-
--- all checks of this number hold
-abbrev pub at_number : ℕ → List (ℕ × Bool) → Bool
-at_number n [] = true
-at_number n ((m, b) ∷ more) = (not (m == n) || b) && at_number n more
-
-pub broken_at : (n : ℕ) (cs : List (ℕ × Bool)) → first_broken cs ≡ Some n → at_number n cs ≡ false
-broken_at n [] h = cc
-broken_at n ((m, b) ∷ more) h = grind (arith, eq-eqb, broken_at n more)
-
-from_number : (n : ℕ) (cs : List (ℕ × Bool)) → at_number n cs ≡ false → IsIn (n, false) cs
-from_number n [] h = cc
-from_number n ((m, b) ∷ more) h = grind (arith, eqb-true, from_number n more)
-
-pub alone : (b : Bool) → (b && true) ≡ false → b ≡ false
-alone b h = grind arith
 
 -- ---- what a file says
 

@@ -19,7 +19,8 @@ use Rattle.board_file.specs.declared.rule.Rule.TheVariants as rule
 use Rattle.board_file.specs.declared.entry.Entry.{Entry}
 use Rattle.board_file.specs.declared.entry.Entry.TheVariants as entry
 use Rattle.board_file.specs.declared.finding.Problem.{Problem}
-use Rattle.board_check.specs.Keys.{level_of, table_at, key_keeps}
+use Rattle.board_file.specs.Tables.{level_of, table_at}
+use Rattle.board_check.specs.Keys.{key_keeps}
 
 -- ---- the entries of a file
 

@@ -10,7 +10,7 @@ use Rattle.board_file.specs.declared.rule.Rule.{Rule}
 use Rattle.board_file.specs.declared.rule.Rule.TheVariants as rule
 use Rattle.board_file.specs.declared.entry.Entry.{Entry}
 use Rattle.board_file.specs.declared.entry.Entry.TheVariants as entry
-use Rattle.board_check.specs.Keys.{owner_of}
+use Rattle.board_file.specs.Tables.{owner_of}
 
 -- the kind of an entry with its indices
 abbrev pub numbers_of : Entry → ℕ × ℕ × ℕ

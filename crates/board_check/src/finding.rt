@@ -5,11 +5,11 @@ ghost use Rattle.board_file.specs.Entries as said;
 ghost use Rattle.board_file.specs.Problems.{found_of};
 ghost use Rattle.board_check.specs.Problems.{with_endpoint, with_guest, entries_of, of_fields, of_members, asked, key_problems, problems_of, AddsWrong};
 
-use crate::keys::{key_keeps, level_of, table_at};
-use crate::source::Source;
+use crate::keys::key_keeps;
 use board_file::entries::{EndpointEntry, FileEntries, GuestEntry};
 use board_file::keys::fields;
-use board_file::{BoardFault, Entry, Problem, Rule};
+use board_file::tables::{level_of, table_at};
+use board_file::{BoardFault, Entry, Problem, Rule, Source};
 use std::alloc::{AllocError, Global};
 use toml::Table;
 

@@ -1,5 +1,4 @@
 //! Laws of problems and refusals.
-ghost use Rattle.board_check.specs.CauseLaws.{CausesAreTold};
 ghost use Rattle.board_check.specs.ProblemLaws.{ProblemsBreakChecks, RefusalsHaveProblems, RefusedDocumentsHaveProblems};
 
 /// A file that is refused has an entry that breaks a rule of the fault.
@@ -11,10 +10,4 @@ pub fn refusals_have_problems()
 /// A file that keeps a check has no problem of that fault.
 pub fn problems_break_checks()
     ensures { ProblemsBreakChecks }
-{}
-
-/// Of each problem that is told of registers that are used twice (106) or of cell masks (112) something is said
-/// beyond the words of its rule.
-pub fn causes_are_told()
-    ensures { CausesAreTold }
 {}

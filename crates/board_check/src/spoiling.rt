@@ -4,7 +4,7 @@ ghost use Rattle.std.specs.List.{list_all};
 ghost use Rattle.board_file.specs.Problems.{found_of};
 ghost use Rattle.board_check.specs.Spoiling.{numbers_of, is_same, is_at, in_endpoint, holds_entry, is_of_form, hides, is_of_keys, hides_lists, asks_functions, hides_functions, asks_guests, hides_guests, asks_parts, is_beside, hides_others, spoils, spoils_none, is_known_rule, is_clear};
 
-use crate::keys::owner_of;
+use board_file::tables::owner_of;
 use board_file::{Entry, Problem, Rule};
 
 /// The kind of an entry with its indices.

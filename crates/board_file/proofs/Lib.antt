@@ -9,3 +9,5 @@ pub mod LawfulWorld
 pub mod NextEntry
 pub mod Tests
 pub mod NoProblems
+pub mod FirstBroken
+pub mod Searches

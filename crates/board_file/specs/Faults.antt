@@ -1,6 +1,7 @@
 -- Why a board file is refused.
 --     number_of      the number of a fault
-use Rattle.std.specs.Prelude.{ℕ}
+--     fault_words      what is said of it
+use Rattle.std.specs.Prelude.{ℕ, List, codes}
 use Rattle.board_file.specs.declared.fault.BoardFault.{BoardFault}
 use Rattle.board_file.specs.declared.fault.BoardFault.TheVariants.{NotToml, Key, UnknownKey, Number, Place, Register, Size, TooMany, GuestName, Slot, Aperture, CellMasks, Memory}
 
@@ -18,3 +19,18 @@ number_of Slot = 110
 number_of Aperture = 111
 number_of CellMasks = 112
 number_of Memory = 199
+
+abbrev pub fault_words : BoardFault → List ℕ
+fault_words NotToml = codes "not TOML"
+fault_words Key = codes "key"
+fault_words UnknownKey = codes "unknown key"
+fault_words Number = codes "number"
+fault_words TooMany = codes "too many"
+fault_words Place = codes "place"
+fault_words Register = codes "register"
+fault_words Size = codes "size"
+fault_words GuestName = codes "guest name"
+fault_words Slot = codes "slot"
+fault_words Aperture = codes "aperture"
+fault_words CellMasks = codes "cell masks"
+fault_words Memory = codes "memory"

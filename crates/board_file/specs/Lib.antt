@@ -9,5 +9,7 @@ pub mod Judged
 pub mod EntryRules
 pub mod RuleFaults
 pub mod Problems
+pub mod Tables
 pub mod Faults
 pub mod Meaning
+pub mod Sources

@@ -1,8 +1,7 @@
-//! Reading a board file.
-ghost use Rattle.std.specs.Prelude.{◌≡◌, ◌≢◌, ◌++◌, ◌⊎◌, IsTrue, IfOk, IfErr, IsUtf8, map, Ok, Err, true, false};
+//! The board of a table.
+ghost use Rattle.std.specs.Prelude.{◌≡◌, ◌≢◌, ◌++◌, ◌⊎◌, IsTrue, IfOk, IfErr, map, Ok, Err, true, false};
 ghost use Rattle.std.specs.List.{list_all};
 ghost use Rattle.toml.specs.View.{table_view};
-ghost use Rattle.toml.specs.Parse.{parse_document};
 ghost use Rattle.lists.specs.Elements.{Each};
 ghost use Rattle.model_board.specs.AtReset.{IsAtReset, reset_state};
 ghost use Rattle.model_board.specs.Board.{IsBoard};
@@ -10,20 +9,21 @@ ghost use Rattle.model_board.specs.Lawful.{HasLawfulDecls};
 ghost use Rattle.model_board.specs.Places.{board_of};
 ghost use Rattle.model_guests.specs.World.{IsLawfulWorld};
 ghost use Rattle.board_file.specs.Blocks.{Gives};
-ghost use Rattle.board_file.specs.Entries.{file};
+ghost use Rattle.board_file.specs.Entries as entries;
 ghost use Rattle.board_file.specs.Functions as said;
+ghost use Rattle.board_file.specs.Functions.{standings};
 ghost use Rattle.board_file.specs.Judged.{IsJudged, is_declarable, IsShortGuest};
 ghost use Rattle.board_file.specs.Rules.{is_lawful_bridge, masks_hold};
-ghost use Rattle.board_file.specs.Meaning.{world_in, world_of, meaning, document_meaning};
+ghost use Rattle.board_file.specs.Meaning.{world_in, world_of, meaning};
 ghost use Rattle.board_file.specs.Faults.{number_of};
-ghost use Rattle.board_file.specs.declared.fault.BoardFault.TheVariants.{NotToml, Memory, CellMasks};
+ghost use Rattle.board_file.specs.declared.fault.BoardFault.TheVariants.{Memory, CellMasks};
 
 use crate::apertures::apertures;
 use crate::building::{bridge, endpoint, guest};
 use crate::entries::{BridgeEntry, EndpointEntry, FileEntries, GuestEntry};
 use crate::fault::BoardFault;
 use crate::judging::{first_fault, form_fault};
-use crate::reading::read_entries;
+use crate::places::FunctionPath;
 use accesses::GuestDecl;
 use bridge_forward::{Bus, Decl, Declared};
 use headers::Apertures;
@@ -121,39 +121,25 @@ fn build(alloc: Global, file: &FileEntries<'_>) -> Result<(Host, Vec<GuestDecl>)
     Ok((host, guests))
 }
 
-/// The host at reset and the guests of a table.
-fn read_table(alloc: Global, table: &Table) -> Result<(Host, Vec<GuestDecl>), BoardFault>
+/// The host at reset and the guests of a table, by what it says.
+pub(crate) fn read_table(
+    alloc: Global,
+    table: &Table,
+    file: &FileEntries<'_>,
+    functions: &[FunctionPath],
+) -> Result<(Host, Vec<GuestDecl>), BoardFault>
+    requires entries { file.now ≡ entries.file (table_view table.now) }
+    requires places { functions.now ≡ standings file.now }
     ensures world { IfOk result (λ r. meaning (table_view table.now) ≡ Ok (world_in r.0 r.1.items)) }
     ensures reset { IfOk result (λ r. IsAtReset r.0.state) }
     ensures lawful { IfOk result (λ r. IsLawfulWorld (world_in r.0 r.1.items)) }
     ensures refused { IfErr result (λ e. e ≢ Memory → meaning (table_view table.now) ≡ Err (number_of e)) }
 {
-    let file = read_entries(alloc, table)?;
     if let Some(fault) = form_fault(table) {
         return Err(fault);
     }
-    match first_fault(alloc, &file)? {
+    match first_fault(alloc, file, functions)? {
         Some(fault) => Err(fault),
-        None => build(alloc, &file),
-    }
-}
-
-/// The host bridge over the board that a file declares, at reset and with address latch 0, and the
-/// guests in the order of the file. A file that fails a check is refused with the first check that
-/// fails over the whole file, in the order 101, 102, 103, 104, 108, 105, 106, 107, 109, 110, 111,
-/// 112; bytes that are not UTF-8 are no TOML. Out of memory is answered at any point.
-pub fn read_board(alloc: Global, bytes: &[u8]) -> Result<(Host, Vec<GuestDecl>), BoardFault>
-    ensures world { IfOk result (λ r.
-        IsUtf8 bytes.now × (document_meaning (parse_document bytes.now) ≡ Ok (world_in r.0 r.1.items))) }
-    ensures reset { IfOk result (λ r. IsAtReset r.0.state) }
-    ensures lawful { IfOk result (λ r. IsLawfulWorld (world_in r.0 r.1.items)) }
-    ensures refused { IfErr result (λ e.
-        e ≢ Memory → IsUtf8 bytes.now → document_meaning (parse_document bytes.now) ≡ Err (number_of e)) }
-    ensures not_text { IfErr result (λ e. e ≢ Memory → ¬ IsUtf8 bytes.now → e ≡ NotToml) }
-{
-    match toml::table_from_slice(alloc, bytes) {
-        Ok(table) => read_table(alloc, &table),
-        Err(e) if e.is_memory() => Err(BoardFault::Memory),
-        Err(_) => Err(BoardFault::NotToml),
+        None => build(alloc, file),
     }
 }

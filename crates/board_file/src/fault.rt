@@ -1,6 +1,6 @@
 //! Why a board file is refused.
 ghost use Rattle.std.specs.Prelude.{◌≡◌};
-ghost use Rattle.board_file.specs.Faults.{number_of};
+ghost use Rattle.board_file.specs.Faults.{number_of, fault_words};
 ghost use Rattle.board_file.specs.declared.fault.BoardFault.TheVariants.{Memory};
 
 use std::alloc::{AllocError, AllocFailed};
@@ -69,6 +69,27 @@ impl BoardFault {
             BoardFault::Aperture => 111,
             BoardFault::CellMasks => 112,
             BoardFault::Memory => 199,
+        }
+    }
+
+    /// What is said of the fault, beside its number.
+    pub fn words(self) -> &'static str
+        ensures { result.now ≡ fault_words self }
+    {
+        match self {
+            BoardFault::NotToml => "not TOML",
+            BoardFault::Key => "key",
+            BoardFault::UnknownKey => "unknown key",
+            BoardFault::Number => "number",
+            BoardFault::TooMany => "too many",
+            BoardFault::Place => "place",
+            BoardFault::Register => "register",
+            BoardFault::Size => "size",
+            BoardFault::GuestName => "guest name",
+            BoardFault::Slot => "slot",
+            BoardFault::Aperture => "aperture",
+            BoardFault::CellMasks => "cell masks",
+            BoardFault::Memory => "memory",
         }
     }
 }

@@ -11,7 +11,7 @@ ghost use Rattle.board_file.specs.Problems.{holds};
 use crate::entries::FileEntries;
 use crate::fault::BoardFault;
 use crate::finding::problems;
-use crate::places::{FunctionPath, function_paths};
+use crate::places::FunctionPath;
 use crate::schema::{Check, Level, table_passes};
 use std::alloc::{AllocError, Global};
 use toml::Table;
@@ -48,33 +48,34 @@ fn holds(
 pub(crate) fn first_fault(
     alloc: Global,
     file: &FileEntries<'_>,
+    functions: &[FunctionPath],
 ) -> Result<Option<BoardFault>, AllocError>
+    requires { functions.now ≡ standings file.now }
     ensures { IfOk result (λ found.
         MatchOption found (IsJudged file.now) (λ e. first_broken (rules file.now) ≡ Some (number_of e))) }
 {
-    let functions = function_paths(alloc, file)?;
-    if !holds(alloc, file, &functions, BoardFault::Number)? {
+    if !holds(alloc, file, functions, BoardFault::Number)? {
         return Ok(Some(BoardFault::Number));
     }
-    if !holds(alloc, file, &functions, BoardFault::TooMany)? {
+    if !holds(alloc, file, functions, BoardFault::TooMany)? {
         return Ok(Some(BoardFault::TooMany));
     }
-    if !holds(alloc, file, &functions, BoardFault::Place)? {
+    if !holds(alloc, file, functions, BoardFault::Place)? {
         return Ok(Some(BoardFault::Place));
     }
-    if !holds(alloc, file, &functions, BoardFault::Register)? {
+    if !holds(alloc, file, functions, BoardFault::Register)? {
         return Ok(Some(BoardFault::Register));
     }
-    if !holds(alloc, file, &functions, BoardFault::Size)? {
+    if !holds(alloc, file, functions, BoardFault::Size)? {
         return Ok(Some(BoardFault::Size));
     }
-    if !holds(alloc, file, &functions, BoardFault::GuestName)? {
+    if !holds(alloc, file, functions, BoardFault::GuestName)? {
         return Ok(Some(BoardFault::GuestName));
     }
-    if !holds(alloc, file, &functions, BoardFault::Slot)? {
+    if !holds(alloc, file, functions, BoardFault::Slot)? {
         return Ok(Some(BoardFault::Slot));
     }
-    if !holds(alloc, file, &functions, BoardFault::Aperture)? {
+    if !holds(alloc, file, functions, BoardFault::Aperture)? {
         return Ok(Some(BoardFault::Aperture));
     }
     Ok(None)

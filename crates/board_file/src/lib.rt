@@ -23,10 +23,12 @@ mod regions;
 mod rule;
 pub mod schema;
 mod slots;
+mod source;
+pub mod tables;
 mod texts;
 
-pub use board::read_board;
 pub use entry::Entry;
 pub use fault::BoardFault;
 pub use finding::{Problem, problems};
 pub use rule::Rule;
+pub use source::{Source, read_board};

@@ -20,9 +20,8 @@ use Rattle.board_file.specs.Entries.{Bar, Bridge, Endpoint, File}
 use Rattle.board_file.specs.Functions.{endpoint_row, bridge_row, rows}
 use Rattle.board_file.specs.PathTexts.{path_at}
 use Rattle.board_fit.specs.ReasonLaws.{ReasonsAreTold}
-use Rattle.board_check.proofs.Refusals.{alone, broken_at}
-use Rattle.board_check.proofs.Takers.{position_none}
-use Rattle.board_check.proofs.ToldCauses.{not_empty, both_empty}
+use Rattle.board_file.proofs.FirstBroken.{alone, broken_at}
+use Rattle.board_file.proofs.Searches.{position_none, not_empty, both_empty}
 use Rattle.board_fit.specs.Reaches.{all_above}
 use Rattle.board_fit.specs.Misfits.{is_io, is_closed, closes, first_closed, closed_region, closed_bars, closed_in, closed_regions, bridge_too_many}
 use Rattle.board_fit.proofs.PoolsOfRegions.{by_file}

@@ -15,7 +15,7 @@ use Rattle.board_file.specs.Entries.{file}
 use Rattle.window_packing.specs.declared.pool.Pool.{Pool}
 use Rattle.window_packing.specs.declared.uses.PoolUse.{PoolUse}
 use Rattle.window_packing.specs.Plans.{named_pool}
-use Rattle.board_check.specs.declared.style.Style.{Style}
+use Rattle.diagnostics.specs.declared.style.Style.{Style}
 use Rattle.board_fit.specs.declared.pool_region.PoolRegion.{PoolRegion}
 use Rattle.board_fit.specs.declared.remark.Remark.{Remark}
 use Rattle.board_fit.specs.declared.remark.Remark.TheVariants as remark

@@ -14,17 +14,15 @@ use Rattle.model_registers.specs.Apertures.{Apertures}
 use Rattle.model_board.specs.Board.{Board}
 use Rattle.bus_scan.specs.declared.fault.Fault.{Fault}
 use Rattle.board_file.specs.Entries.{file}
-use Rattle.board_check.specs.Lines.{IsPlaceOf, line_at}
-use Rattle.board_check.specs.Texts.{line_text, below_text}
-use Rattle.board_check.specs.declared.style.Style.{Style}
-use Rattle.board_check.specs.declared.style.Style.TheVariants.{Plain, WithExcerpts}
+use Rattle.diagnostics.specs.EntryPlaces.{IsPlaceOf, line_at, entry_of as other_entry}
+use Rattle.diagnostics.specs.Texts.{line_text, below_text}
+use Rattle.diagnostics.specs.declared.style.Style.{Style}
+use Rattle.diagnostics.specs.declared.style.Style.TheVariants.{Plain, WithExcerpts}
 use Rattle.board_fit.specs.declared.remark.Remark.{Remark}
 use Rattle.board_fit.specs.declared.located.Located.{Located}
 use Rattle.board_fit.specs.Warnings.{warnings}
 use Rattle.board_fit.specs.Texts.{entry_of, key_of, label_of, other_of, other_key, said_text}
 use Rattle.board_fit.specs.Misfits.{reasons}
-use Rattle.board_check.specs.declared.lines.Other.{Other}
-use Rattle.board_file.specs.declared.entry.Entry.{Entry}
 
 abbrev pub remark_text : List ℕ → Members → Located → List ℕ
 remark_text name ms l =
@@ -39,9 +37,6 @@ told_text WithExcerpts name ms bytes l = remark_text name ms l ++ below_remark_t
 
 abbrev pub remark_of : Located → Remark
 remark_of l = l.remark
-
-abbrev pub other_entry : Other → Entry
-other_entry o = o.entry
 
 pub record IsLocated (text : List ℕ) (ms : Members) (l : Located) : Type 0 where
   pub place : IfSome l.place (IsPlaceOf text ms (entry_of l.remark) (key_of l.remark))

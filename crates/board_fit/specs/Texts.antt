@@ -11,9 +11,8 @@ use Rattle.toml.specs.Data.{Members}
 use Rattle.model_guests.specs.Report.{hexadecimal}
 use Rattle.board_file.specs.declared.entry.Entry.{Entry}
 use Rattle.board_file.specs.declared.entry.Entry.TheVariants as entry
-use Rattle.board_check.specs.Texts.{place_text}
-use Rattle.board_check.specs.Causes.{other_text}
-use Rattle.board_check.specs.declared.lines.Other.{Other}
+use Rattle.diagnostics.specs.Texts.{place_text, other_text}
+use Rattle.diagnostics.specs.declared.entry_places.Other.{Other}
 use Rattle.window_packing.specs.declared.pool.Pool.{Pool}
 use Rattle.window_packing.specs.declared.pool.Pool.TheVariants.{Io, Mem, Pref}
 use Rattle.board_fit.specs.declared.remark.Remark.{Remark}

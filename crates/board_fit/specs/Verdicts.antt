@@ -11,7 +11,7 @@ use Rattle.model_set_up.specs.SetUpWrites.{set_up_rules}
 use Rattle.model_guests.specs.Text.{Text}
 use Rattle.bus_scan.specs.Faults.{number_of}
 use Rattle.bus_scan.specs.declared.fault.Fault.{Fault}
-use Rattle.board_check.specs.declared.style.Style.{Style}
+use Rattle.diagnostics.specs.declared.style.Style.{Style}
 use Rattle.board_fit.specs.declared.shortage.Shortage.{Shortage}
 use Rattle.board_fit.specs.Fitting.{fit_text}
 use Rattle.board_fit.specs.Shortages.{shortage_of, refusal_line}

@@ -2,10 +2,9 @@
 ghost use Rattle.std.specs.Prelude.{◌≡◌, ◌++◌, IfOk, OnOk, map, string_bytes};
 ghost use Rattle.toml.specs.View.{table_view};
 ghost use Rattle.model_board.specs.Board.{Board};
-ghost use Rattle.board_file.specs.Entries.{file};
 ghost use Rattle.window_packing.specs.Plans.{named_pool};
 ghost use Rattle.window_packing.specs.Uses.{told_use};
-ghost use Rattle.board_fit.specs.PoolRegions.{pool_regions};
+ghost use Rattle.board_file.specs.Sources.{IsRead};
 ghost use Rattle.board_fit.specs.Costs.{large_region, large_regions, gaps, number_line, gaps_text, least_text, aperture_text, AreCostsBy, AreCosts};
 ghost use Rattle.board_fit.specs.Telling.{AreTold};
 ghost use Rattle.board_fit.specs.Shortages.{IsNeedOf};
@@ -19,11 +18,10 @@ use crate::pool_regions::pool_regions;
 use crate::remark::Remark;
 use crate::shortage::{Shortage, push_number};
 use crate::telling::told_text;
-use board_check::Telling;
-use board_file::reading::read_entries;
+use board_file::Source;
+use diagnostics::Telling;
 use headers::{Aperture, Apertures};
 use std::alloc::{AllocError, Global};
-use toml::Table;
 use window_packing::{Pool, PoolUse};
 
 /// Regions of a pool, as remarks.
@@ -140,33 +138,34 @@ fn push_aperture(
 fn regions_text(
     alloc: Global,
     telling: &Telling<'_>,
-    document: &Table,
+    source: &Source<'_>,
     pool: Pool,
     regions: &[PoolRegion],
 ) -> Result<String, AllocError>
-    ensures { let t = telling.now in IfOk result (λ text.
-        AreTold t.style t.name.now t.bytes.now (table_view document.now) (large_regions regions.now pool)
+    ensures { let t = telling.now in let s = source.now in IfOk result (λ text.
+        AreTold t.style t.name.now s.bytes.now (table_view s.document.now) (large_regions regions.now pool)
         (string_bytes text)) }
 {
     let remarks = large_regions(alloc, pool, regions)?;
-    told_text(alloc, telling, document, &remarks)
+    told_text(alloc, telling, source, &remarks)
 }
 
 /// What is told of a pool that doesn't fit, by its regions.
 fn costs_by(
     alloc: Global,
     telling: &Telling<'_>,
-    document: &Table,
+    source: &Source<'_>,
     regions: &[PoolRegion],
     pool: Pool,
     needed: Option<PoolUse>,
     apertures: &Apertures,
 ) -> Result<String, AllocError>
-    ensures { let t = telling.now in IfOk result (λ text. (b : Board) → needed ≡ told_use b apertures.now (named_pool pool)
-        → AreCostsBy t.style t.name.now t.bytes.now (table_view document.now) regions.now b apertures.now pool needed
+    ensures { let t = telling.now in let s = source.now in IfOk result (λ text. (b : Board)
+        → needed ≡ told_use b apertures.now (named_pool pool)
+        → AreCostsBy t.style t.name.now s.bytes.now (table_view s.document.now) regions.now b apertures.now pool needed
         (string_bytes text)) }
 {
-    let mut text = regions_text(alloc, telling, document, pool, regions)?;
+    let mut text = regions_text(alloc, telling, source, pool, regions)?;
     push_gaps(&mut text, telling.name, needed, regions)?;
     let present = aperture_of(apertures, pool);
     let least = least_aperture(pool, needed, apertures);
@@ -174,55 +173,47 @@ fn costs_by(
     Ok(text)
 }
 
-/// The same, of a document.
-fn document_costs(
-    alloc: Global,
-    telling: &Telling<'_>,
-    document: &Table,
-    pool: Pool,
-    needed: Option<PoolUse>,
-    apertures: &Apertures,
-) -> Result<String, AllocError>
-    ensures { let t = telling.now in IfOk result (λ text. (b : Board) → needed ≡ told_use b apertures.now (named_pool pool)
-        → AreCostsBy t.style t.name.now t.bytes.now (table_view document.now)
-        (pool_regions (file (table_view document.now)) apertures.now pool) b apertures.now pool needed (string_bytes text)) }
-{
-    let file = read_entries(alloc, document)?;
-    let regions = pool_regions(alloc, pool, &file, apertures)?;
-    costs_by(alloc, telling, document, &regions, pool, needed, apertures)
-}
-
-/// The same, of the document that the bytes are.
+/// The same, of the regions of the file.
 fn pool_costs(
     alloc: Global,
     telling: &Telling<'_>,
+    source: &Source<'_>,
     pool: Pool,
     needed: Option<PoolUse>,
     apertures: &Apertures,
 ) -> Result<String, AllocError>
-    ensures { let t = telling.now in IfOk result (λ text. (b : Board) → needed ≡ told_use b apertures.now (named_pool pool)
-        → AreCosts t.style t.name.now t.bytes.now b apertures.now pool needed (string_bytes text)) }
+    requires { IsRead source.now }
+    ensures { let t = telling.now in IfOk result (λ text. (b : Board)
+        → needed ≡ told_use b apertures.now (named_pool pool)
+        → AreCosts t.style t.name.now source.now.bytes.now b apertures.now pool needed (string_bytes text)) }
 {
-    match toml::table_from_slice(alloc, telling.bytes) {
-        Ok(document) => document_costs(alloc, telling, &document, pool, needed, apertures),
-        Err(_) => Err(AllocError),
-    }
+    let regions = pool_regions(alloc, pool, &source.file, apertures)?;
+    costs_by(alloc, telling, source, &regions, pool, needed, apertures)
 }
 
 /// What is told of the pool that doesn't fit its aperture, where the fault is that: its five largest regions in
 /// the file, the largest first; what gaps cost; and the least aperture in which it fits, from the first address
-/// of its own on. It fails where memory is out, and where the bytes are no document.
+/// of its own on. It fails where memory is out.
 pub(crate) fn costs_text(
     alloc: Global,
     telling: &Telling<'_>,
+    source: &Source<'_>,
     shortage: Option<Shortage>,
     apertures: &Apertures,
 ) -> Result<String, AllocError>
+    requires { IsRead source.now }
     ensures { let t = telling.now in IfOk result (λ text. (b : Board) → IsNeedOf b apertures.now shortage
-        → AreCostsOf t.style t.name.now t.bytes.now b apertures.now shortage (string_bytes text)) }
+        → AreCostsOf t.style t.name.now source.now.bytes.now b apertures.now shortage (string_bytes text)) }
 {
     match shortage {
-        Some(shortage) => pool_costs(alloc, telling, shortage.pool, shortage.needed, apertures),
+        Some(shortage) => pool_costs(
+            alloc,
+            telling,
+            source,
+            shortage.pool,
+            shortage.needed,
+            apertures,
+        ),
         None => Ok(String::new(alloc)),
     }
 }

@@ -9,6 +9,7 @@ ghost use Rattle.bus_scan.specs.Faults.{number_of};
 ghost use Rattle.bus_scan.specs.SizedTables.{IsTableOf};
 ghost use Rattle.bus_scan.specs.declared.fault.Fault.TheVariants.{Memory};
 ghost use Rattle.window_packing.specs.Readies.{board_below};
+ghost use Rattle.board_file.specs.Sources.{IsRead};
 ghost use Rattle.board_fit.specs.Shortages.{IsNeedOf};
 ghost use Rattle.board_fit.specs.Verdicts.{IsFitText, IsMisfit, IsMisfitText, IsVerdict};
 
@@ -16,8 +17,9 @@ use crate::costs::costs_text;
 use crate::fitting::fit_text;
 use crate::shortage::{Shortage, find_shortage, refusal_line};
 use crate::telling::{reasons_text, warnings_text};
-use board_check::{Style, Telling};
+use board_file::Source;
 use bus_scan::{Fault, FunctionTable};
+use diagnostics::{Style, Telling};
 use headers::Apertures;
 use host_bridge::Host;
 use std::alloc::{AllocError, Global};
@@ -34,16 +36,19 @@ pub struct Verdict {
 fn accept(
     alloc: Global,
     telling: &Telling<'_>,
+    source: &Source<'_>,
     table: &FunctionTable,
     apertures: &Apertures,
 ) -> Result<Verdict, AllocError>
-    requires { IsTableOf (board_in table.now) table.now }
+    requires read { IsRead source.now }
+    requires table { IsTableOf (board_in table.now) table.now }
     ensures fault { IfOk result (λ v. v.fault ≡ None) }
-    ensures text { let t = telling.now in IfOk result (λ v. (b : Board) → IsTableOf b table.now
-        → IsFitText t.style t.name.now t.bytes.now b apertures.now (string_bytes v.text)) }
+    ensures text { let t = telling.now in let bytes = source.now.bytes.now in
+        IfOk result (λ v. (b : Board) → IsTableOf b table.now
+        → IsFitText t.style t.name.now bytes b apertures.now (string_bytes v.text)) }
 {
     let mut text = fit_text(alloc, table, apertures)?;
-    let warnings = warnings_text(alloc, telling, table, apertures)?;
+    let warnings = warnings_text(alloc, telling, source, table, apertures)?;
     text.push_str(warnings.as_str())?;
     Ok(Verdict { text, fault: None })
 }
@@ -53,22 +58,25 @@ fn accept(
 fn decline(
     alloc: Global,
     telling: &Telling<'_>,
+    source: &Source<'_>,
     apertures: &Apertures,
     shortage: Option<Shortage>,
     fault: Fault,
 ) -> Result<Verdict, AllocError>
+    requires { IsRead source.now }
     ensures known { IfOk result (λ v. fault ≢ Memory) }
     ensures fault { IfOk result (λ v. v.fault ≡ Some fault) }
-    ensures text { let t = telling.now in IfOk result (λ v. (b : Board) → IsNeedOf b apertures.now shortage
-        → IsMisfit t.style t.name.now t.bytes.now b apertures.now shortage fault (string_bytes v.text)) }
+    ensures text { let t = telling.now in let bytes = source.now.bytes.now in
+        IfOk result (λ v. (b : Board) → IsNeedOf b apertures.now shortage
+        → IsMisfit t.style t.name.now bytes b apertures.now shortage fault (string_bytes v.text)) }
 {
     if fault == Fault::Memory {
         return Err(AllocError);
     }
     let mut text = refusal_line(alloc, telling.name, shortage, fault)?;
-    let reasons = reasons_text(alloc, telling, fault)?;
+    let reasons = reasons_text(alloc, telling, source, fault)?;
     text.push_str(reasons.as_str())?;
-    let costs = costs_text(alloc, telling, shortage, apertures)?;
+    let costs = costs_text(alloc, telling, source, shortage, apertures)?;
     text.push_str(costs.as_str())?;
     Ok(Verdict {
         text,
@@ -80,18 +88,21 @@ fn decline(
 fn reject(
     alloc: Global,
     telling: &Telling<'_>,
+    source: &Source<'_>,
     table: &FunctionTable,
     apertures: &Apertures,
     fault: Fault,
 ) -> Result<Verdict, AllocError>
-    requires { IsTableOf (board_in table.now) table.now }
+    requires read { IsRead source.now }
+    requires table { IsTableOf (board_in table.now) table.now }
     ensures known { IfOk result (λ v. fault ≢ Memory) }
     ensures fault { IfOk result (λ v. v.fault ≡ Some fault) }
-    ensures text { let t = telling.now in IfOk result (λ v. (b : Board) → IsTableOf b table.now
-        → IsMisfitText t.style t.name.now t.bytes.now b apertures.now fault (string_bytes v.text)) }
+    ensures text { let t = telling.now in let bytes = source.now.bytes.now in
+        IfOk result (λ v. (b : Board) → IsTableOf b table.now
+        → IsMisfitText t.style t.name.now bytes b apertures.now fault (string_bytes v.text)) }
 {
     let shortage = find_shortage(alloc, table, apertures, fault)?;
-    decline(alloc, telling, apertures, shortage, fault)
+    decline(alloc, telling, source, apertures, shortage, fault)
 }
 
 /// Whether a board with this table can be set up.
@@ -110,42 +121,46 @@ fn can_be_placed(alloc: Global, table: &FunctionTable, apertures: &Apertures) ->
 fn fit(
     alloc: Global,
     telling: &Telling<'_>,
+    source: &Source<'_>,
     table: &FunctionTable,
     apertures: &Apertures,
 ) -> Result<Verdict, AllocError>
-    requires { IsTableOf (board_in table.now) table.now }
+    requires read { IsRead source.now }
+    requires table { IsTableOf (board_in table.now) table.now }
     ensures known { IfOk result (λ v. v.fault ≢ Some Memory) }
-    ensures verdict { let t = telling.now in IfOk result (λ v. (b : Board) → IsTableOf b table.now
-        → IsVerdict t.style t.name.now t.bytes.now b apertures.now v.fault (string_bytes v.text)) }
+    ensures verdict { let t = telling.now in let bytes = source.now.bytes.now in
+        IfOk result (λ v. (b : Board) → IsTableOf b table.now
+        → IsVerdict t.style t.name.now bytes b apertures.now v.fault (string_bytes v.text)) }
 {
     match can_be_placed(alloc, table, apertures) {
-        Ok(()) => accept(alloc, telling, table, apertures),
-        Err(fault) => reject(alloc, telling, table, apertures, fault),
+        Ok(()) => accept(alloc, telling, source, table, apertures),
+        Err(fault) => reject(alloc, telling, source, table, apertures, fault),
     }
 }
 
-/// What is said of the board of a host at reset, which a file with these bytes declares: how much of each
+/// What is said of the board of a host at reset, which the file declares: how much of each
 /// aperture its pools take, and what may be a mistake in the file; or why it can't be set up, with the
 /// entries of the file that are why, and of a pool that doesn't fit its five largest regions, what gaps cost
 /// and the least aperture that fits. `name` is what the file is called. With excerpts the line of the file
-/// stands below what is said of an entry. It fails where memory is out, and where the bytes are no document.
+/// stands below what is said of an entry. It fails where memory is out.
 pub fn judge(
     alloc: Global,
     style: Style,
     name: &str,
-    bytes: &[u8],
+    source: &Source<'_>,
     host: Host,
 ) -> Result<Verdict, AllocError>
-    requires { IsAtReset host.state }
+    requires read { IsRead source.now }
+    requires reset { IsAtReset host.state }
     ensures known { IfOk result (λ v. v.fault ≢ Some Memory) }
-    ensures verdict { IfOk result (λ v.
-        IsVerdict style name.now bytes.now (board_below host) host.apertures v.fault (string_bytes v.text)) }
+    ensures verdict { let bytes = source.now.bytes.now in IfOk result (λ v.
+        IsVerdict style name.now bytes (board_below host) host.apertures v.fault (string_bytes v.text)) }
 {
-    let telling = Telling { style, name, bytes };
+    let telling = Telling { style, name };
     let apertures = host.apertures();
     let mut host = host;
     match enumerate(alloc, &mut host) {
-        Ok(table) => fit(alloc, &telling, &table, &apertures),
-        Err(fault) => decline(alloc, &telling, &apertures, None, fault),
+        Ok(table) => fit(alloc, &telling, source, &table, &apertures),
+        Err(fault) => decline(alloc, &telling, source, &apertures, None, fault),
     }
 }

@@ -5,9 +5,8 @@ ghost use Rattle.lists.specs.Elements.{Each};
 ghost use Rattle.board_fit.specs.Telling.{remark_of, IsLocated};
 
 use crate::remark::Remark;
-use board_check::{Other, place_of, with_place};
+use diagnostics::{Other, Place, Places, place_of, with_place};
 use std::alloc::{AllocError, Global};
-use value_places::{Place, Places};
 
 /// A remark, and its place, where that is known and was confirmed; with the other entry that it names.
 #[derive(Clone, Copy, Debug)]

@@ -7,7 +7,10 @@ ghost use Rattle.board_fit.specs.Telling.{remark_text, told_text};
 
 use crate::located::Located;
 use crate::remark::Remark;
-use board_check::{Other, Style, Telling, line_at, push_below, push_line, push_other, push_place};
+use board_file::Source;
+use diagnostics::{
+    Other, Style, Telling, line_at, push_below, push_line_number, push_other, push_place,
+};
 use std::alloc::{AllocError, Global};
 use toml::Table;
 
@@ -57,7 +60,7 @@ fn push_remark(
         ≡ string_bytes text.old ++ remark_text name.now (table_view document.now) located.now) }
 {
     text.push_str(name)?;
-    push_line(text, line_at(located.place))?;
+    push_line_number(text, line_at(located.place))?;
     text.push_str(": ")?;
     text.push_str(located.remark.label())?;
     push_said(text, document, located.remark, located.other)
@@ -68,21 +71,21 @@ fn push_told(
     alloc: Global,
     text: &mut String,
     telling: &Telling<'_>,
-    document: &Table,
+    source: &Source<'_>,
     located: &Located,
 ) -> Result<(), AllocError>
     ensures { OnOk result (string_bytes text.new ≡ string_bytes text.old
-        ++ told_text telling.now.style telling.now.name.now (table_view document.now) telling.now.bytes.now located.now) }
+        ++ told_text telling.now.style telling.now.name.now (table_view source.now.document.now) source.now.bytes.now located.now) }
 {
-    push_remark(text, telling.name, document, located)?;
+    push_remark(text, telling.name, source.document, located)?;
     let remark = located.remark;
     match telling.style {
         Style::Plain => Ok(()),
         Style::WithExcerpts => push_below(
             alloc,
             text,
-            telling.bytes,
-            document,
+            source.bytes,
+            source.document,
             remark.entry(),
             remark.key(),
             located.place,
@@ -95,15 +98,15 @@ pub(crate) fn push_remarks(
     alloc: Global,
     text: &mut String,
     telling: &Telling<'_>,
-    document: &Table,
+    source: &Source<'_>,
     located: &[Located],
 ) -> Result<(), AllocError>
     ensures { OnOk result (string_bytes text.new ≡ string_bytes text.old
-        ++ flat_map (told_text telling.now.style telling.now.name.now (table_view document.now) telling.now.bytes.now)
+        ++ flat_map (told_text telling.now.style telling.now.name.now (table_view source.now.document.now) source.now.bytes.now)
         located.now) }
 {
     'remarks: for one in located {
-        push_told(alloc, text, telling, document, one)?;
+        push_told(alloc, text, telling, source, one)?;
     }
     Ok(())
 }

@@ -4,6 +4,7 @@ ghost use Rattle.std.specs.Bool.{OnTrue};
 ghost use Rattle.model_guests.specs.Accesses.{reads, writes};
 ghost use Rattle.model_audit.specs.AuditText.{audit};
 ghost use Rattle.model_audit.specs.Problems.{problems};
+ghost use Rattle.model_giving.specs.Changes.{BeginsIn};
 ghost use Rattle.model_firmware.specs.HostAccesses.{answer};
 ghost use Rattle.model_firmware.specs.FirmwareLines.{line_output};
 ghost use Rattle.accesses.specs.Accesses.{reply_of};

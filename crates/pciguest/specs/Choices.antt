@@ -5,8 +5,8 @@
 use Rattle.std.specs.Prelude.{◌≡◌, ℕ, Bool, false, not, ◌&&◌, List, [], Option, Some, codes, unwrap_or, if◌then◌else◌}
 use Rattle.std.specs.Option.{option_map_or}
 use Rattle.std.specs.Str.{bytes_eq}
-use Rattle.board_check.specs.declared.style.Style.{Style}
-use Rattle.board_check.specs.declared.style.Style.TheVariants.{Plain, WithExcerpts}
+use Rattle.diagnostics.specs.declared.style.Style.{Style}
+use Rattle.diagnostics.specs.declared.style.Style.TheVariants.{Plain, WithExcerpts}
 use Rattle.pciguest.specs.Words.{subcommand, board, plain}
 use Rattle.simulation.specs.declared.choice.Choice.{Choice}
 use Rattle.simulation.specs.declared.choice.Choice.TheVariants as choice

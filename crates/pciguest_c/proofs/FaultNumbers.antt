@@ -14,7 +14,7 @@ use Rattle.board_file.specs.Faults as board_file
 use Rattle.bus_scan.specs.declared.fault.Fault.{Fault as SetUpFault}
 use Rattle.bus_scan.specs.declared.fault.Fault.TheVariants as set_up
 use Rattle.bus_scan.specs.Faults as bus_scan
-use Rattle.board_check.specs.declared.style.Style.{Style}
+use Rattle.diagnostics.specs.declared.style.Style.{Style}
 use Rattle.simulation.specs.declared.fault.Fault.{Fault}
 use Rattle.simulation.specs.declared.fault.Fault.TheVariants.{File, SetUp}
 use Rattle.simulation.specs.Faults.{number_of, IsOfBoard, IsOutOfMemory, OnFile, OnSetUp}

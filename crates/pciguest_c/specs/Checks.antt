@@ -6,7 +6,7 @@ use Rattle.std.specs.Option.{option_map_or}
 use Rattle.model_guests.specs.Text.{Text}
 use Rattle.simulation.specs.declared.fault.Fault.{Fault}
 use Rattle.simulation.specs.Faults.{number_of}
-use Rattle.board_check.specs.declared.style.Style.TheVariants.{Plain}
+use Rattle.diagnostics.specs.declared.style.Style.TheVariants.{Plain}
 use Rattle.simulation.specs.Checking.{IsCheckText}
 
 abbrev pub board_name : Text

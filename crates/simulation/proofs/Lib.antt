@@ -3,3 +3,4 @@ mod Begun
 mod Audited
 mod Listed
 pub mod Ran
+pub mod Accepted

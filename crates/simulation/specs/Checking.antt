@@ -13,8 +13,8 @@ use Rattle.board_file.specs.declared.fault.BoardFault.TheVariants as file
 use Rattle.board_file.specs.Faults as board_file
 use Rattle.bus_scan.specs.declared.fault.Fault.{Fault as SetUpFault}
 use Rattle.bus_scan.specs.declared.fault.Fault.TheVariants as set_up
-use Rattle.board_check.specs.declared.style.Style.{Style}
-use Rattle.board_check.specs.Telling.{IsRefusalText}
+use Rattle.diagnostics.specs.declared.style.Style.{Style}
+use Rattle.board_refusal.specs.Telling.{IsRefusalText}
 use Rattle.board_fit.specs.Verdicts.{IsVerdict}
 use Rattle.simulation.specs.declared.fault.Fault.{Fault}
 use Rattle.simulation.specs.declared.fault.Fault.TheVariants.{File, SetUp}

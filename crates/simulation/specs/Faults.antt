@@ -14,7 +14,6 @@ use Rattle.board_file.specs.declared.fault.BoardFault.TheVariants as file
 use Rattle.board_file.specs.Faults as board_file
 use Rattle.bus_scan.specs.declared.fault.Fault.TheVariants as set_up
 use Rattle.bus_scan.specs.Faults as bus_scan
-use Rattle.board_check.specs.Rules.{fault_words}
 use Rattle.board_fit.specs.Shortages.{set_up_words}
 use Rattle.line_runs.specs.declared.running.RunFault.TheVariants as run
 use Rattle.line_runs.specs.declared.running.RunFault.{RunFault}
@@ -43,7 +42,7 @@ abbrev pub fault_numbered : ℕ → Option Fault
 fault_numbered n = find (λ f. number_of f == n) all_faults
 
 abbrev pub words_of : Fault → List ℕ
-words_of (File b) = fault_words b
+words_of (File b) = board_file.fault_words b
 words_of (SetUp s) = set_up_words s
 words_of Read = codes "read failed"
 words_of Write = codes "write failed"

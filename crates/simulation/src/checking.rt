@@ -1,19 +1,29 @@
 //! What is wrong with a board file, or that nothing is.
-ghost use Rattle.std.specs.Prelude.{◌≡◌, ◌≢◌, ◌+◌, ◌-◌, ◌^◌, ◌<◌, Some, None, Err, OnOk, IfOk, IfErr, IsErrOf, IsUtf8, string_bytes};
+ghost use Rattle.std.specs.Prelude.{◌≡◌, ◌≢◌, ◌+◌, ◌-◌, ◌^◌, ◌<◌, Some, None, List, Ok, Err, OnOk, IfOk, IfErr, IsErrOf, IsUtf8, option_map, string_bytes};
+ghost use Rattle.toml.specs.Errors.{IsWithin};
 ghost use Rattle.toml.specs.Parse.{parse_document};
-ghost use Rattle.board_file.specs.Meaning.{document_meaning};
+ghost use Rattle.toml.specs.View.{table_view};
+ghost use Rattle.model_board.specs.AtReset.{IsAtReset};
+ghost use Rattle.model_guests.specs.World.{Guest};
+ghost use Rattle.board_file.specs.Meaning.{world_in, meaning};
+ghost use Rattle.board_file.specs.Sources.{IsRead};
 ghost use Rattle.board_file.specs.Faults as of_file;
-ghost use Rattle.board_file.specs.declared.fault.BoardFault.TheVariants.{NotToml, Memory};
+ghost use Rattle.board_file.specs.declared.fault.BoardFault.TheVariants.{Memory};
 ghost use Rattle.simulation.specs.Faults.{write_faults, IsOfList, IsOutOfMemory, IsRefusal};
+ghost use Rattle.simulation.specs.declared.fault.Fault.TheVariants.{SetUp};
 ghost use Rattle.simulation.specs.Checking.{IsCheckText, IsChecked, IsCheckedInPart};
 
 use crate::choice::print;
 use crate::fault::Fault;
-use board_check::{Style, refusal_text};
-use board_file::{BoardFault, read_board};
+use board_file::{BoardFault, Source};
 use board_fit::judge;
+use board_refusal::{refusal_text, unread_text};
+use diagnostics::Style;
+use host_bridge::Host;
 use std::alloc::Global;
 use streams::Writer;
+use toml::Table;
+use toml::de::Error;
 
 /// What is said of a board file, and the fault of the file or its board, if there is one.
 #[derive(Drop)]
@@ -22,28 +32,119 @@ pub struct Checked {
     pub fault: Option<Fault>,
 }
 
-/// Of a file that is refused: what is wrong with it.
-fn refuse(
+/// Of bytes that are no document: where and why they were given up.
+fn refuse_bytes(
     alloc: Global,
     style: Style,
     name: &str,
     board: &[u8],
+    error: &Error,
+) -> Result<Checked, Fault>
+    requires within { IsWithin board.now error.now }
+    requires no_document { IsUtf8 board.now → parse_document board.now ≡ None }
+    ensures told { IfOk result (λ c. IsCheckText style name.now board.now c.fault (string_bytes c.text)) }
+    ensures memory { IfErr result IsOutOfMemory }
+{
+    match unread_text(alloc, style, name, board, error) {
+        Ok(text) => Ok(Checked {
+            text,
+            fault: Some(Fault::File(BoardFault::NotToml)),
+        }),
+        Err(_) => Err(Fault::File(BoardFault::Memory)),
+    }
+}
+
+/// Of a document that is refused: what is wrong with it.
+fn refuse(
+    alloc: Global,
+    style: Style,
+    name: &str,
+    source: &Source<'_>,
     fault: BoardFault,
 ) -> Result<Checked, Fault>
-    requires refused { fault ≢ Memory → IsUtf8 board.now
-        → document_meaning (parse_document board.now) ≡ Err (of_file.number_of fault) }
-    requires not_text { fault ≢ Memory → ¬ IsUtf8 board.now → fault ≡ NotToml }
-    ensures told { IfOk result (λ c. IsCheckText style name.now board.now c.fault (string_bytes c.text)) }
+    requires read { IsRead source.now }
+    requires refused { fault ≢ Memory
+        → meaning (table_view source.now.document.now) ≡ Err (of_file.number_of fault) }
+    ensures told { let board = source.now.bytes.now in
+        IfOk result (λ c. IsCheckText style name.now board c.fault (string_bytes c.text)) }
     ensures memory { IfErr result IsOutOfMemory }
 {
     if fault == BoardFault::Memory {
         return Err(Fault::File(fault));
     }
-    match refusal_text(alloc, style, name, board, fault) {
+    match refusal_text(alloc, style, name, source, fault) {
         Ok(text) => Ok(Checked {
             text,
             fault: Some(Fault::File(fault)),
         }),
+        Err(_) => Err(Fault::File(BoardFault::Memory)),
+    }
+}
+
+/// The fault of a board, as one of the program.
+fn of_board(fault: Option<bus_scan::Fault>) -> Option<Fault>
+    ensures { result ≡ option_map SetUp fault }
+{
+    fault.map(Fault::SetUp)
+}
+
+/// Of a document that is accepted: what is said of its board.
+fn accept(
+    alloc: Global,
+    style: Style,
+    name: &str,
+    source: &Source<'_>,
+    host: Host,
+) -> Result<Checked, Fault>
+    requires read { IsRead source.now }
+    requires declared { (gs : List Guest) × (meaning (table_view source.now.document.now) ≡ Ok (world_in host gs)) }
+    requires reset { IsAtReset host.state }
+    ensures told { let board = source.now.bytes.now in
+        IfOk result (λ c. IsCheckText style name.now board c.fault (string_bytes c.text)) }
+    ensures memory { IfErr result IsOutOfMemory }
+{
+    match judge(alloc, style, name, source, host) {
+        Ok(verdict) => Ok(Checked {
+            text: verdict.text,
+            fault: of_board(verdict.fault),
+        }),
+        Err(_) => Err(Fault::SetUp(bus_scan::Fault::Memory)),
+    }
+}
+
+/// Of a document: what is wrong with it, or what is said of its board.
+fn check_source(
+    alloc: Global,
+    style: Style,
+    name: &str,
+    source: &Source<'_>,
+) -> Result<Checked, Fault>
+    requires { IsRead source.now }
+    ensures told { let board = source.now.bytes.now in
+        IfOk result (λ c. IsCheckText style name.now board c.fault (string_bytes c.text)) }
+    ensures memory { IfErr result IsOutOfMemory }
+{
+    match source.world(alloc) {
+        Ok((host, _)) => accept(alloc, style, name, source, host),
+        Err(fault) => refuse(alloc, style, name, source, fault),
+    }
+}
+
+/// The same, of the document that was read from the bytes of a file.
+fn check_document(
+    alloc: Global,
+    style: Style,
+    name: &str,
+    board: &[u8],
+    document: &Table,
+) -> Result<Checked, Fault>
+    requires is_text { IsUtf8 board.now }
+    requires parsed { parse_document board.now ≡ Some (table_view document.now) }
+    ensures told { IfOk result (λ c. IsCheckText style name.now board.now c.fault (string_bytes c.text)) }
+    ensures memory { IfErr result IsOutOfMemory }
+{
+    match Source::new(alloc, board, document) {
+        Ok(source) => check_source(alloc, style, name, &source),
         Err(_) => Err(Fault::File(BoardFault::Memory)),
     }
 }
@@ -56,16 +157,10 @@ pub fn check_text(alloc: Global, style: Style, name: &str, board: &[u8]) -> Resu
     ensures told { IfOk result (λ c. IsCheckText style name.now board.now c.fault (string_bytes c.text)) }
     ensures memory { IfErr result IsOutOfMemory }
 {
-    let host = match read_board(alloc, board) {
-        Ok((host, _)) => host,
-        Err(fault) => return refuse(alloc, style, name, board, fault),
-    };
-    match judge(alloc, style, name, board, host) {
-        Ok(verdict) => Ok(Checked {
-            text: verdict.text,
-            fault: verdict.fault.map(Fault::SetUp),
-        }),
-        Err(_) => Err(Fault::SetUp(bus_scan::Fault::Memory)),
+    match toml::table_from_slice(alloc, board) {
+        Ok(document) => check_document(alloc, style, name, board, &document),
+        Err(e) if e.is_memory() => Err(Fault::File(BoardFault::Memory)),
+        Err(e) => refuse_bytes(alloc, style, name, board, &e),
     }
 }
 

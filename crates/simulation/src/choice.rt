@@ -14,7 +14,7 @@ use crate::files::board_bytes;
 use crate::listing::list;
 use crate::running::whole;
 use crate::session::drive;
-use board_check::Style;
+use diagnostics::Style;
 use std::alloc::Global;
 use std::rt::Files;
 use streams::{Reader, Writer, write_and_flush};

@@ -3,7 +3,6 @@ ghost use Rattle.std.specs.Prelude.{◌≡◌};
 ghost use Rattle.simulation.specs.Faults.{number_of, words_of, of_run};
 ghost use Rattle.simulation.specs.declared.fault.Fault.TheVariants.{File, SetUp};
 
-use board_check::fault_words;
 use board_file::BoardFault;
 use board_fit::set_up_words;
 use script::RunFault;
@@ -57,7 +56,7 @@ impl Fault {
         ensures { result.now ≡ words_of self }
     {
         match self {
-            Fault::File(fault) => fault_words(fault),
+            Fault::File(fault) => fault.words(),
             Fault::SetUp(fault) => set_up_words(fault),
             Fault::Read => "read failed",
             Fault::Write => "write failed",

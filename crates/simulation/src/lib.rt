@@ -18,10 +18,10 @@ mod session;
 mod standard_streams;
 
 pub use auditing::audit;
-pub use board_check::Style;
 pub use checking::{Checked, check, check_text};
 pub use choice::{Choice, perform};
 pub use demonstration::demo;
+pub use diagnostics::Style;
 pub use fault::Fault;
 pub use fault_lines::fault_line;
 pub use files::board_bytes;

@@ -1,5 +1,4 @@
-use excerpts::{push_excerpt, push_line};
-use value_places::{Place, line_of};
+use diagnostics::{Place, line_of, push_excerpt, push_line};
 
 /// The excerpt of the part from one offset to another, or the empty text.
 fn excerpt(rt: &HostRuntime, text: &str, start: usize, end: usize) -> String {

@@ -1,5 +1,5 @@
-use value_places::Places;
-use value_places::Step::{self, Index, Key};
+use diagnostics::Places;
+use diagnostics::Step::{self, Index, Key};
 
 /// The line of the value at the end of a way, or 0.
 fn line(rt: &HostRuntime, text: &str, way: &[Step<'_>]) -> usize {

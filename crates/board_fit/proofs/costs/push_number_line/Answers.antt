@@ -1,5 +1,5 @@
 use Rattle.std.proofs.Common.{arith}
-use Rattle.board_check.proofs.Pushed.{pushed_three}
+use Rattle.diagnostics.proofs.Pushed.{pushed_three}
 use Rattle.board_fit.proofs.Fitted.{on_pushed}
 use Rattle.board_fit.proofs.costs.push_number_line.Goals as goal
 

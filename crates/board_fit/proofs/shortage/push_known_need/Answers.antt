@@ -1,5 +1,5 @@
 use Rattle.std.proofs.lemmas.Result.{on_ok_weaker}
-use Rattle.board_check.proofs.Pushed.{pushed_three}
+use Rattle.diagnostics.proofs.Pushed.{pushed_three}
 use Rattle.board_fit.proofs.shortage.push_known_need.Goals as goal
 
 pub returns : goal.returns

@@ -6,5 +6,5 @@ use Rattle.board_fit.proofs.texts.push_remarks.Given as goal
 
 abbrev pub invariant-remarks : goal.invariant-remarks
 invariant-remarks l =
-    string_bytes l.text ++ flat_map (told_text l.telling.style l.telling.name.now (table_view l.document) l.telling.bytes.now) (drop l.one-index l.located)
-    ≡ string_bytes l.initial.text ++ flat_map (told_text l.telling.style l.telling.name.now (table_view l.document) l.telling.bytes.now) l.located
+    let told_in = told_text l.telling.style l.telling.name.now (table_view l.source.document.now) l.source.bytes.now in
+    string_bytes l.text ++ flat_map told_in (drop l.one-index l.located) ≡ string_bytes l.initial.text ++ flat_map told_in l.located

@@ -1,5 +1,5 @@
 use Rattle.std.proofs.Common.{string_bytes}
-use Rattle.board_check.specs.declared.style.Style.TheVariants.{Plain}
+use Rattle.diagnostics.specs.declared.style.Style.TheVariants.{Plain}
 use Rattle.pciguest_c.specs.Checks.{board_name}
 use Rattle.pciguest_c.proofs.FaultNumbers.{known, out_of_memory}
 use Rattle.pciguest_c.proofs.text.check_of.Goals as goal

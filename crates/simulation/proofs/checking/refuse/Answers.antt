@@ -1,6 +1,6 @@
-use Rattle.std.proofs.Common.{◌≡◌, ◌≢◌, true, false, sym, ◌∙◌}
+use Rattle.std.proofs.Common.{◌≡◌, ◌≢◌, inr, true, false, sym, ap, ◌∙◌}
 use Rattle.board_file.specs.declared.fault.BoardFault.TheVariants.{Memory}
-use Rattle.simulation.proofs.Listed.{refused_by}
+use Rattle.board_file.specs.Meaning.{document_meaning}
 use Rattle.simulation.proofs.checking.refuse.Goals as goal
 
 pub returns-in-Ok-clause-told : goal.returns-in-Ok-clause-told
@@ -11,6 +11,9 @@ returns-in-Ok-clause-told c =
     cc
     in record {
       known = known;
-      refuses = refused_by c.args.board.now c.args.fault c.requires.refused c.requires.not_text known;
-      told = c.in-Ok.ensures;
+      refuses = record {
+        no_text = λ no. absurd (no c.requires.read.is_text);
+        meaning = λ yes. ap document_meaning c.requires.read.parsed ∙ c.requires.refused known;
+      };
+      told = inr c.in-Ok.ensures;
     }

@@ -1,9 +1,0 @@
-use Rattle.std.proofs.Common.{arith}
-use Rattle.std.proofs.lemmas.Grind.{common_steps}
-use Rattle.headers.proofs.Units.{ends_unit}
-use Rattle.board_check.proofs.aperture_causes.has_units.Goals as goal
-
-pub returns-then-aperture-unit-eq0 : goal.returns-then-aperture-unit-eq0
-returns-then-aperture-unit-eq0 c =
-    let ends = ends_unit c.aperture.inside.last c.args.unit c.requires in
-    grind (arith, common_steps)

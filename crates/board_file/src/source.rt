@@ -1,0 +1,102 @@
+//! A document with what it says, and the reading of a board file.
+ghost use Rattle.std.specs.Prelude.{◌≡◌, ◌≢◌, IfOk, IfErr, IsUtf8, Ok, Err};
+ghost use Rattle.toml.specs.View.{table_view};
+ghost use Rattle.toml.specs.Parse.{parse_document};
+ghost use Rattle.model_board.specs.AtReset.{IsAtReset};
+ghost use Rattle.model_guests.specs.World.{IsLawfulWorld};
+ghost use Rattle.board_file.specs.Entries as said;
+ghost use Rattle.board_file.specs.Functions.{standings};
+ghost use Rattle.board_file.specs.Meaning.{world_in, meaning, document_meaning};
+ghost use Rattle.board_file.specs.Faults.{number_of};
+ghost use Rattle.board_file.specs.declared.fault.BoardFault.TheVariants.{NotToml, Memory};
+
+use crate::board::read_table;
+use crate::entries::FileEntries;
+use crate::fault::BoardFault;
+use crate::places::{FunctionPath, function_paths};
+use crate::reading::read_entries;
+use accesses::GuestDecl;
+use host_bridge::Host;
+use std::alloc::{AllocError, Global};
+use toml::Table;
+
+/// A document with what it says, whether it is refused or not, beside the bytes of its file.
+#[derive(Drop)]
+pub struct Source<'a> {
+    /// The bytes of the file.
+    pub bytes: &'a [u8],
+    pub document: &'a Table,
+    pub file: FileEntries<'a>,
+    /// Where its functions stand.
+    pub functions: Vec<FunctionPath>,
+    ghost entries: { file ≡ said.file (table_view document.now) },
+    ghost places: { functions.items ≡ standings file },
+}
+
+impl<'a> Source<'a> {
+    /// What a document says, beside the bytes of its file. It fails only where memory is out.
+    pub fn new(
+        alloc: Global,
+        bytes: &'a [u8],
+        document: &'a Table,
+    ) -> Result<Source<'a>, AllocError>
+        ensures bytes { IfOk result (λ s. s.bytes.now ≡ bytes.now) }
+        ensures document { IfOk result (λ s. s.document.now ≡ document.now) }
+    {
+        let file = read_entries(alloc, document)?;
+        let functions = function_paths(alloc, &file)?;
+        Ok(Source {
+            bytes,
+            document,
+            file,
+            functions,
+        })
+    }
+
+    /// The host and the guests that the document declares, or its refusal, as [`read_board`] answers them.
+    pub fn world(&self, alloc: Global) -> Result<(Host, Vec<GuestDecl>), BoardFault>
+        ensures world { let ms = table_view self.now.document.now in
+            IfOk result (λ r. meaning ms ≡ Ok (world_in r.0 r.1.items)) }
+        ensures reset { IfOk result (λ r. IsAtReset r.0.state) }
+        ensures lawful { IfOk result (λ r. IsLawfulWorld (world_in r.0 r.1.items)) }
+        ensures refused { let ms = table_view self.now.document.now in
+            IfErr result (λ e. e ≢ Memory → meaning ms ≡ Err (number_of e)) }
+    {
+        read_table(alloc, self.document, &self.file, &self.functions)
+    }
+}
+
+/// The host and the guests of a document.
+fn read_document(
+    alloc: Global,
+    bytes: &[u8],
+    document: &Table,
+) -> Result<(Host, Vec<GuestDecl>), BoardFault>
+    ensures world { IfOk result (λ r. meaning (table_view document.now) ≡ Ok (world_in r.0 r.1.items)) }
+    ensures reset { IfOk result (λ r. IsAtReset r.0.state) }
+    ensures lawful { IfOk result (λ r. IsLawfulWorld (world_in r.0 r.1.items)) }
+    ensures refused { IfErr result (λ e. e ≢ Memory → meaning (table_view document.now) ≡ Err (number_of e)) }
+{
+    let source = Source::new(alloc, bytes, document)?;
+    source.world(alloc)
+}
+
+/// The host bridge over the board that a file declares, at reset and with address latch 0, and the
+/// guests in the order of the file. A file that fails a check is refused with the first check that
+/// fails over the whole file, in the order 101, 102, 103, 104, 108, 105, 106, 107, 109, 110, 111,
+/// 112; bytes that are not UTF-8 are no TOML. Out of memory is answered at any point.
+pub fn read_board(alloc: Global, bytes: &[u8]) -> Result<(Host, Vec<GuestDecl>), BoardFault>
+    ensures world { IfOk result (λ r.
+        IsUtf8 bytes.now × (document_meaning (parse_document bytes.now) ≡ Ok (world_in r.0 r.1.items))) }
+    ensures reset { IfOk result (λ r. IsAtReset r.0.state) }
+    ensures lawful { IfOk result (λ r. IsLawfulWorld (world_in r.0 r.1.items)) }
+    ensures refused { IfErr result (λ e.
+        e ≢ Memory → IsUtf8 bytes.now → document_meaning (parse_document bytes.now) ≡ Err (number_of e)) }
+    ensures not_text { IfErr result (λ e. e ≢ Memory → ¬ IsUtf8 bytes.now → e ≡ NotToml) }
+{
+    match toml::table_from_slice(alloc, bytes) {
+        Ok(document) => read_document(alloc, bytes, &document),
+        Err(e) if e.is_memory() => Err(BoardFault::Memory),
+        Err(_) => Err(BoardFault::NotToml),
+    }
+}

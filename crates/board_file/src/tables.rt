@@ -1,0 +1,146 @@
+//! The tables of entries in a document.
+ghost use Rattle.std.specs.Prelude.{◌≡◌, codes, option_map, option_and_then};
+ghost use Rattle.toml.specs.Data.{get_member, at, as_table, as_str};
+ghost use Rattle.toml.specs.View.{view, table_view};
+ghost use Rattle.board_file.specs.Tables.{table_in, table_at, value_at, owner_of, owner_key, level_of};
+
+use crate::entry::Entry;
+use crate::reading::value_at as member;
+use crate::schema::Level;
+use toml::Table;
+use toml::value::Value;
+
+/// The table at an index of a list.
+fn table_of(list: &Value, index: usize) -> Option<&Table>
+    ensures { option_map (λ t. table_view t.now) result ≡ option_and_then as_table (at index (view list.now)) }
+{
+    match list.get(index) {
+        Some(item) => item.as_table(),
+        None => None,
+    }
+}
+
+/// The table at an index of the list at a key.
+fn table_in<'v>(table: &'v Table, key: &str, index: usize) -> Option<&'v Table>
+    ensures { option_map (λ t. table_view t.now) result ≡ table_in key.now index (table_view table.now) }
+{
+    match member(table, key) {
+        Some(list) => table_of(list, index),
+        None => None,
+    }
+}
+
+/// The table at an index of the list at a key of a table of `endpoint`.
+fn table_in_endpoint<'v>(
+    table: &'v Table,
+    endpoint: usize,
+    key: &str,
+    index: usize,
+) -> Option<&'v Table>
+    ensures { option_map (λ t. table_view t.now) result
+        ≡ option_and_then (table_in key.now index) (table_in (codes "endpoint") endpoint (table_view table.now)) }
+{
+    match table_in(table, "endpoint", endpoint) {
+        Some(inner) => table_in(inner, key, index),
+        None => None,
+    }
+}
+
+/// The table `host`.
+fn host(table: &Table) -> Option<&Table>
+    ensures { option_map (λ t. table_view t.now) result ≡ table_at (table_view table.now) Entry.Host }
+{
+    match member(table, "host") {
+        Some(host) => host.as_table(),
+        None => None,
+    }
+}
+
+/// The table of an entry.
+pub fn table_at(table: &Table, entry: Entry) -> Option<&Table>
+    ensures { option_map (λ t. table_view t.now) result ≡ table_at (table_view table.now) entry }
+{
+    match entry {
+        Entry::File => Some(table),
+        Entry::Host => host(table),
+        Entry::Endpoint(i) => table_in(table, "endpoint", i),
+        Entry::Bar(i, j) => table_in_endpoint(table, i, "bar", j),
+        Entry::Config(i, j) => table_in_endpoint(table, i, "config", j),
+        Entry::Bridge(i) => table_in(table, "bridge", i),
+        Entry::Guest(i) => table_in(table, "guest", i),
+        Entry::Slot(_, _) => None,
+    }
+}
+
+/// The value at a key of a table that may be there.
+fn member_of<'v>(table: Option<&'v Table>, key: &str) -> Option<&'v Value>
+    ensures { option_map (λ v. view v.now) result
+        ≡ option_and_then (get_member key.now) (option_map (λ t. table_view t.now) table.entry) }
+{
+    match table {
+        Some(table) => member(table, key),
+        None => None,
+    }
+}
+
+/// The value at a key of an entry. A slot is its value itself.
+pub fn value_at<'v>(document: &'v Table, entry: Entry, key: &str) -> Option<&'v Value>
+    ensures { option_map (λ v. view v.now) result ≡ value_at (table_view document.now) entry key.now }
+{
+    match entry {
+        Entry::Slot(i, j) => match member_of(table_at(document, Entry::Guest(i)), "slots") {
+            Some(slots) => slots.get(j),
+            None => None,
+        },
+        _ => member_of(table_at(document, entry), key),
+    }
+}
+
+/// The function or guest that an entry belongs to.
+pub fn owner_of(entry: Entry) -> Entry
+    ensures { result ≡ owner_of entry }
+{
+    match entry {
+        Entry::Bar(i, _) | Entry::Config(i, _) => Entry::Endpoint(i),
+        Entry::Slot(i, _) => Entry::Guest(i),
+        _ => entry,
+    }
+}
+
+/// The key of the path or name of what an entry belongs to.
+fn owner_key(entry: Entry) -> Option<&'static str>
+    ensures { option_map (λ k. k.now) result ≡ owner_key entry }
+{
+    match entry {
+        Entry::File | Entry::Host => None,
+        Entry::Guest(_) | Entry::Slot(_, _) => Some("name"),
+        _ => Some("at"),
+    }
+}
+
+/// The path of the function, or the name of the guest, that an entry belongs to, as it was read.
+pub fn owner_name(document: &Table, entry: Entry) -> Option<&str>
+    ensures { option_map (λ s. s.now) result
+        ≡ option_and_then as_str
+        (option_and_then (value_at (table_view document.now) (owner_of entry)) (owner_key entry)) }
+{
+    let key = owner_key(entry)?;
+    let value = value_at(document, owner_of(entry), key)?;
+    value.as_str()
+}
+
+/// The kind of table that an entry has to be.
+pub fn level_of(entry: Entry) -> Option<Level>
+    ensures { result ≡ level_of entry }
+{
+    match entry {
+        Entry::File => Some(Level::Top),
+        Entry::Host => Some(Level::Host),
+        Entry::Endpoint(_) => Some(Level::Endpoint),
+        Entry::Bar(_, _) => Some(Level::Bar),
+        Entry::Config(_, _) => Some(Level::Config),
+        Entry::Bridge(_) => Some(Level::Bridge),
+        Entry::Guest(_) => Some(Level::Guest),
+        Entry::Slot(_, _) => None,
+    }
+}

@@ -1,6 +1,0 @@
-use Rattle.std.proofs.Common.{arith}
-use Rattle.std.proofs.lemmas.Result.{IfOk-weaker}
-use Rattle.board_fit.proofs.telling.document_warnings.Goals as goal
-
-pub returns : goal.returns
-returns c = grind (arith, IfOk-weaker)

@@ -1,0 +1,2 @@
+pub mod Takers
+pub mod ToldCauses

@@ -1,0 +1,238 @@
+-- Of each problem of registers and of cell masks something is said beyond the words of its rule.
+use Rattle.std.proofs.Common.{◌≡◌, ◌≢◌, ◌⊎◌, inl, inr, ℕ, suc, ◌+◌, Bool, true, false, ◌||◌, not, List, [], ◌∷◌, ◌++◌, take, map, Option, Some, None, option_map, refl, sym, ap, subst, arith}
+use Rattle.std.specs.Prelude.{filter, slice_get, nat_abs}
+use Rattle.std.specs.List.{flat_map, list_all, enumerate_from}
+use Rattle.std.proofs.lemmas.Bool.{eqb-true}
+use Rattle.lists.specs.Elements.{IsIn}
+use Rattle.lists.proofs.Members.{front_or_back, from_flat_map, from_filter, all_in}
+use Rattle.toml.specs.Data.{Members}
+use Rattle.model_registers.specs.DeclarationRules.{has_own_registers}
+use Rattle.board_file.specs.Entries.{Patterns, Bar, Config, Endpoint, Bridge, Guest, File, file}
+use Rattle.board_file.specs.Functions.{region}
+use Rattle.board_file.specs.Blocks.{is_block}
+use Rattle.board_file.specs.Faults.{number_of}
+use Rattle.board_file.specs.RuleFaults.{fault_of, key_of}
+use Rattle.board_file.specs.EntryRules.{file_rules, host_rules, endpoint_rules, has_indices, bar_rules, config_rules, are_apart, bridge_rules, guest_rules, slot_rules}
+use Rattle.board_file.specs.Problems.{Found, unless_kept, broken, of_bar, of_config, of_endpoint, of_bridge, of_slot, of_guest, problems_in}
+use Rattle.board_file.specs.declared.fault.BoardFault.{BoardFault}
+use Rattle.board_file.specs.declared.fault.BoardFault.TheVariants as fault
+use Rattle.board_file.specs.declared.rule.Rule.{Rule}
+use Rattle.board_file.specs.declared.rule.Rule.TheVariants as rule
+use Rattle.board_file.specs.declared.entry.Entry.{Entry}
+use Rattle.board_file.specs.declared.entry.Entry.TheVariants as entry
+use Rattle.diagnostics.specs.declared.entry_places.Other.{Other}
+use Rattle.board_refusal.specs.declared.told.Told.{Told}
+use Rattle.board_check.specs.Problems.{is_wrong, problems_of, key_problems}
+use Rattle.board_check.specs.Spoiling.{is_clear}
+use Rattle.board_check.specs.AllProblems.{with_check, all_from, later_checks}
+use Rattle.board_refusal.specs.PatternCauses.{keyed_text, masks_text}
+use Rattle.board_refusal.specs.RegisterCauses.{taker_of}
+use Rattle.board_refusal.specs.Others.{other_of}
+use Rattle.board_refusal.specs.Causes.{own_text, beside_text, cause_text}
+use Rattle.board_refusal.specs.Telling.{found_in, IsTold}
+use Rattle.board_refusal.specs.CauseLaws.{needs_cause, CausesAreTold}
+use Rattle.board_file.proofs.Searches.{no_position, not_empty, both_empty}
+use Rattle.board_refusal.proofs.Takers.{no_takers}
+
+-- ---- texts
+
+-- where nothing is said of another entry there is none
+none_beside : (t o : Option Other) → beside_text t o ≡ [] → (t ≡ None) × (o ≡ None)
+none_beside t o e = grind arith
+
+keyed : (key words : List ℕ) → keyed_text key words ≢ []
+keyed key words e = not_empty 58 (32 ∷ (key ++ words)) e
+
+masks_said : (n : ℕ) (p : Patterns) → masks_text n p ≢ []
+masks_said n p = grind (arith, keyed)
+
+-- ---- why something is said
+
+-- of the entry itself, of a region that has no registers, or of an earlier entry
+data Reason (f : File) (e : Entry) (r : Rule) : Type 0 where
+  by_itself : ((k : List ℕ) → own_text f e r k ≢ []) → Reason f e r
+  by_region : taker_of f e r ≢ None → Reason f e r
+  by_earlier : other_of f e r ≢ None → Reason f e r
+
+is_said : (text : List ℕ) (ms : Members) (t : Told) → Reason (file ms) t.problem.entry t.problem.rule → IsTold text ms (file ms) t → cause_text (file ms) t ≢ []
+is_said text ms t r told e = grind (arith, both_empty, none_beside)
+
+abbrev Caused : File → Found → Type 0
+Caused f x = needs_cause x.rule ≡ true → Reason f x.entry x.rule
+
+abbrev AllCaused : File → List Found → Type 0
+AllCaused f xs = (x : Found) → IsIn x xs → Caused f x
+
+both : (f : File) (xs ys : List Found) → AllCaused f xs → AllCaused f ys → AllCaused f (xs ++ ys)
+both f xs ys first second x m = elim (front_or_back x xs ys m) [ inl h ↦ first x h | inr h ↦ second x h ]
+
+of_all : {A : Type 0} (f : File) (g : A → List Found) (items : List A) → ((a : A) → IsIn a items → AllCaused f (g a)) → AllCaused f (flat_map g items)
+of_all f g items each x m = let found = from_flat_map g x items m in each found.0 found.1 x found.2
+
+-- ---- lists of rules
+
+abbrev at_rule : Entry → Rule → Found
+at_rule e r = record { entry = e; rule = r; key = key_of r }
+
+from_broken : (x : Found) (e : Entry) (rules : List (Rule × Bool)) → IsIn x (broken e rules) → (r : Rule) × IsIn {A = Rule × Bool} (r, false) rules × (x ≡ at_rule e r)
+from_broken x e rules m = let found = from_flat_map (unless_kept e) x rules m in by_kept found.0.0 found.0.1 found.1 found.2
+  where
+    by_kept : (r : Rule) (kept : Bool) → IsIn {A = Rule × Bool} (r, kept) rules → IsIn x (unless_kept e (r, kept)) → (s : Rule) × IsIn {A = Rule × Bool} (s, false) rules × (x ≡ at_rule e s)
+    by_kept r true there h = absurd h
+    by_kept r false there (inl same) = (r, there, same)
+    by_kept r false there (inr wrong) = absurd wrong
+
+-- each rule that is broken has a reason
+each_rule : (f : File) (e : Entry) (rules : List (Rule × Bool)) → ((r : Rule) → IsIn {A = Rule × Bool} (r, false) rules → Reason f e r) → AllCaused f (broken e rules)
+each_rule f e rules reasons x m need = grind (arith, from_broken)
+
+-- rules whose words say all
+abbrev says_all : Rule × Bool → Bool
+says_all rule = not (needs_cause rule.0)
+
+no_cause : (f : File) (e : Entry) (rules : List (Rule × Bool)) → list_all says_all rules ≡ true → AllCaused f (broken e rules)
+no_cause f e rules h x m need = grind (arith, from_broken, all_in)
+
+-- the rule of a list of one, where it is broken
+alone : (r s : Rule) (kept : Bool) → IsIn {A = Rule × Bool} (r, false) ((s, kept) ∷ []) → (r ≡ s) × (kept ≡ false)
+alone r s kept m = grind arith
+
+-- an entry of a list by its number
+numbered : {A : Type 0} (i : ℕ) (x : A) (from : ℕ) (xs : List A) → IsIn (i, x) (enumerate_from from xs) → (k : ℕ) × (i ≡ from + k) × (slice_get xs k ≡ Some x)
+numbered i x from [] m = absurd m
+numbered i x from (y ∷ ys) (inl e) = (0, grind arith, grind arith)
+numbered i x from (y ∷ ys) (inr m) = let (k, at, is) = numbered i x (from + 1) ys m in (suc k, omega arith, is)
+
+at_number : {A : Type 0} (i : ℕ) (x : A) (xs : List A) → IsIn (i, x) (enumerate_from 0 xs) → slice_get xs i ≡ Some x
+at_number i x xs m = let at = numbered i x 0 xs m in grind arith
+
+none_mapped : {A B : Type 0} (g : A → B) (o : Option A) → option_map g o ≡ None → o ≡ None
+none_mapped g o h = grind arith
+
+-- ---- entry by entry
+
+module _ (f : File) (i : ℕ) (e : Endpoint) (at : slice_get f.endpoints i ≡ Some e) where
+  -- some region has no registers of its own
+  a_taker : (not (has_indices e) || has_own_registers (map region e.bars)) ≡ false → taker_of f (entry.Endpoint i) rule.OwnRegisters ≢ None
+  a_taker broken none = grind (arith, no_takers)
+
+  endpoint_caused : (fault : BoardFault) → AllCaused f (broken (entry.Endpoint i) (endpoint_rules fault f i e))
+  endpoint_caused fault.Register =
+      each_rule f (entry.Endpoint i) (endpoint_rules fault.Register f i e)
+      (λ r there. let it = alone r rule.OwnRegisters (not (has_indices e) || has_own_registers (map region e.bars)) there in
+      subst (Reason f (entry.Endpoint i)) (sym it.0) (by_region (a_taker it.1)))
+  endpoint_caused fault = no_cause f (entry.Endpoint i) (endpoint_rules fault f i e) refl
+
+  bar_masks_caused : (j : ℕ) (b : Bar) → slice_get e.bars j ≡ Some b → AllCaused f (broken (entry.Bar i j) (bar_rules fault.CellMasks b))
+  bar_masks_caused j b there =
+      each_rule f (entry.Bar i j) (bar_rules fault.CellMasks b)
+      (λ r m. subst (Reason f (entry.Bar i j)) (sym (alone r rule.BarMasks (is_block (nat_abs b.block) b.patterns) m).0) (by_itself patterns))
+    where
+      patterns : (k : List ℕ) → own_text f (entry.Bar i j) rule.BarMasks k ≢ []
+      patterns k h = grind (arith, masks_said)
+
+  bar_caused : (fault : BoardFault) (j : ℕ) (b : Bar) → slice_get e.bars j ≡ Some b → AllCaused f (broken (entry.Bar i j) (bar_rules fault b))
+  bar_caused fault.CellMasks j b there = bar_masks_caused j b there
+  bar_caused fault j b there = no_cause f (entry.Bar i j) (bar_rules fault b) refl
+
+  config_masks_caused : (j : ℕ) (c : Config) → slice_get e.configs j ≡ Some c → AllCaused f (broken (entry.Config i j) (config_rules fault.CellMasks e.configs j c))
+  config_masks_caused j c there = each_rule f (entry.Config i j) (config_rules fault.CellMasks e.configs j c) reasons
+    where
+      patterns : (k : List ℕ) → own_text f (entry.Config i j) rule.ConfigMasks k ≢ []
+      patterns k h = grind (arith, masks_said)
+
+      an_earlier : list_all (λ d. are_apart d c) (take j e.configs) ≡ false → other_of f (entry.Config i j) rule.OwnOffsets ≢ None
+      an_earlier meets none = grind (arith, no_position, none_mapped)
+
+      reasons : (r : Rule) → IsIn {A = Rule × Bool} (r, false) (config_rules fault.CellMasks e.configs j c) → Reason f (entry.Config i j) r
+      reasons r (inl same) = subst (Reason f (entry.Config i j)) (sym (ap (λ (p : Rule × Bool). p.0) same)) (by_itself patterns)
+      reasons r (inr last) =
+          let it = alone r rule.OwnOffsets (list_all (λ d. are_apart d c) (take j e.configs)) last in
+          subst (Reason f (entry.Config i j)) (sym it.0) (by_earlier (an_earlier it.1))
+
+  config_caused : (fault : BoardFault) (j : ℕ) (c : Config) → slice_get e.configs j ≡ Some c → AllCaused f (broken (entry.Config i j) (config_rules fault e.configs j c))
+  config_caused fault.CellMasks j c there = config_masks_caused j c there
+  config_caused fault j c there = no_cause f (entry.Config i j) (config_rules fault e.configs j c) refl
+
+-- ---- all entries
+
+module _ (f : File) where
+  file_says : (fault : BoardFault) → list_all says_all (file_rules fault f) ≡ true
+  file_says fault.TooMany = refl
+  file_says _ = refl
+
+  host_says : (fault : BoardFault) → list_all says_all (host_rules fault f) ≡ true
+  host_says fault.Aperture = refl
+  host_says _ = refl
+
+  bridge_says : (fault : BoardFault) (i : ℕ) (b : Bridge) → list_all says_all (bridge_rules fault f i b) ≡ true
+  bridge_says fault.Number i b = refl
+  bridge_says _ i b = refl
+
+  guest_says : (fault : BoardFault) (i : ℕ) (g : Guest) → list_all says_all (guest_rules fault f i g) ≡ true
+  guest_says fault.TooMany i g = refl
+  guest_says _ i g = refl
+
+  slot_says : (fault : BoardFault) (i : ℕ) (own : List (List ℕ)) (j : ℕ) (t : List ℕ) → list_all says_all (slot_rules fault f i own j t) ≡ true
+  slot_says fault.Slot i own j t = refl
+  slot_says _ i own j t = refl
+
+  of_endpoint_caused : (fault : BoardFault) (i : ℕ) (e : Endpoint) → IsIn (i, e) (enumerate_from 0 f.endpoints) → AllCaused f (of_endpoint fault f (i, e))
+  of_endpoint_caused fault i e there =
+      let at = at_number i e f.endpoints there in
+      let own = broken (entry.Endpoint i) (endpoint_rules fault f i e) in
+      let bars = flat_map (of_bar fault i) (enumerate_from 0 e.bars) in
+      both f (own ++ bars) (flat_map (of_config fault i e.configs) (enumerate_from 0 e.configs))
+      (both f own bars (endpoint_caused f i e at fault)
+      (of_all f (of_bar fault i) (enumerate_from 0 e.bars) (λ b m. bar_caused f i e at fault b.0 b.1 (at_number b.0 b.1 e.bars m))))
+      (of_all f (of_config fault i e.configs) (enumerate_from 0 e.configs) (λ c m. config_caused f i e at fault c.0 c.1 (at_number c.0 c.1 e.configs m)))
+
+  of_guest_caused : (fault : BoardFault) (i : ℕ) (g : Guest) → AllCaused f (of_guest fault f (i, g))
+  of_guest_caused fault i g =
+      both f (broken (entry.Guest i) (guest_rules fault f i g)) (flat_map (of_slot fault f i g.slots) (enumerate_from 0 g.slots))
+      (no_cause f (entry.Guest i) (guest_rules fault f i g) (guest_says fault i g))
+      (of_all f (of_slot fault f i g.slots) (enumerate_from 0 g.slots)
+      (λ s m. no_cause f (entry.Slot i s.0) (slot_rules fault f i g.slots s.0 s.1) (slot_says fault i g.slots s.0 s.1)))
+
+  in_file_caused : (fault : BoardFault) → AllCaused f (problems_in f fault)
+  in_file_caused fault =
+      let whole = broken entry.File (file_rules fault f) in let host = broken entry.Host (host_rules fault f) in
+      let endpoints = flat_map (of_endpoint fault f) (enumerate_from 0 f.endpoints) in
+      let bridges = flat_map (of_bridge fault f) (enumerate_from 0 f.bridges) in
+      both f (whole ++ host ++ endpoints ++ bridges) (flat_map (of_guest fault f) (enumerate_from 0 f.guests))
+      (both f (whole ++ host ++ endpoints) bridges
+      (both f (whole ++ host) endpoints
+      (both f whole host (no_cause f entry.File (file_rules fault f) (file_says fault)) (no_cause f entry.Host (host_rules fault f) (host_says fault)))
+      (of_all f (of_endpoint fault f) (enumerate_from 0 f.endpoints) (λ e m. of_endpoint_caused fault e.0 e.1 m)))
+      (of_all f (of_bridge fault f) (enumerate_from 0 f.bridges) (λ b m. no_cause f (entry.Bridge b.0) (bridge_rules fault f b.0 b.1) (bridge_says fault b.0 b.1))))
+      (of_all f (of_guest fault f) (enumerate_from 0 f.guests) (λ g m. of_guest_caused fault g.0 g.1))
+
+-- ---- all problems
+
+-- rules of keys are none of these
+not_of_keys : (r : Rule) (n : ℕ) → (n ≡ 102) ⊎ (n ≡ 103) → number_of (fault_of r) ≡ n → needs_cause r ≡ false
+not_of_keys rule.OwnRegisters n h e = let is : 106 ≡ n = e in absurd (elim h [ inl k ↦ omega arith | inr k ↦ omega arith ])
+not_of_keys rule.BarMasks n h e = let is : 112 ≡ n = e in absurd (elim h [ inl k ↦ omega arith | inr k ↦ omega arith ])
+not_of_keys rule.ConfigMasks n h e = let is : 112 ≡ n = e in absurd (elim h [ inl k ↦ omega arith | inr k ↦ omega arith ])
+not_of_keys rule.OwnOffsets n h e = let is : 112 ≡ n = e in absurd (elim h [ inl k ↦ omega arith | inr k ↦ omega arith ])
+not_of_keys _ n h e = refl
+
+keys_caused : (ms : Members) (fault : BoardFault) (x : Found) → (number_of fault ≡ 102) ⊎ (number_of fault ≡ 103) → IsIn x (key_problems ms fault) → Caused (file ms) x
+unfolding is_wrong
+keys_caused ms fault x keys m need = grind (arith, from_filter, eqb-true, not_of_keys)
+
+problem_caused : (ms : Members) (fault : BoardFault) (x : Found) → IsIn x (problems_of ms fault) → Caused (file ms) x
+problem_caused ms fault.Key x m = keys_caused ms fault.Key x (inl refl) m
+problem_caused ms fault.UnknownKey x m = keys_caused ms fault.UnknownKey x (inr refl) m
+problem_caused ms fault x m = in_file_caused (file ms) fault x m
+
+later_caused : (ms : Members) (earlier : List Found) (faults : List BoardFault) → AllCaused (file ms) earlier → AllCaused (file ms) (all_from ms earlier faults)
+later_caused ms earlier [] before = before
+later_caused ms earlier (fault ∷ faults) before =
+    later_caused ms (with_check ms earlier fault) faults
+    (both (file ms) earlier (filter (is_clear earlier) (problems_of ms fault)) before
+    (λ x m. problem_caused ms fault x (from_filter (is_clear earlier) x (problems_of ms fault) m).0))
+
+pub causes_are_told : CausesAreTold
+causes_are_told text ms fault t m need told =
+    is_said text ms t (later_caused ms (problems_of ms fault) (later_checks fault) (problem_caused ms fault) (found_in t) m need) told

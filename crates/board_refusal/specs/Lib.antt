@@ -1,0 +1,13 @@
+pub mod Rules
+pub mod Said
+pub mod KeyCauses
+pub mod SizeCauses
+pub mod ApertureCauses
+pub mod PathCauses
+pub mod PatternCauses
+pub mod RegisterCauses
+pub mod Others
+pub mod Causes
+pub mod Texts
+pub mod Telling
+pub mod CauseLaws

@@ -1,0 +1,150 @@
+//! What is said of a problem beyond the words of its rule.
+ghost use Rattle.std.specs.Prelude.{◌≡◌, ◌++◌, [], OnOk, string_bytes};
+ghost use Rattle.std.specs.Option.{option_map_or};
+ghost use Rattle.board_file.specs.Functions.{standings};
+ghost use Rattle.board_refusal.specs.Causes.{patterns_text, path_cause_text, own_text, met_text, taker_text, beside_text, cause_text};
+ghost use Rattle.board_refusal.specs.Said.{bar_of};
+ghost use Rattle.board_refusal.specs.SizeCauses.{bar_text};
+
+use crate::aperture_causes::{io_words, mem_words, pref_words};
+use crate::key_causes::{push_asked, push_known};
+use crate::path_causes::{push_bridge, push_path_form, push_slot, push_zero};
+use crate::pattern_causes::{push_bar_masks, push_config_masks};
+use crate::said::{at_of, bar_of, config_of};
+use crate::size_causes::push_bar;
+use crate::told::Told;
+use board_file::entries::FileEntries;
+use board_file::places::FunctionPath;
+use board_file::tables::level_of;
+use board_file::{Entry, Problem, Rule};
+use diagnostics::{Other, push_named, push_other};
+use std::alloc::{AllocError, Global};
+
+/// Appends what is wrong with the size of the region of an entry.
+fn push_size(text: &mut String, file: &FileEntries<'_>, entry: Entry) -> Result<(), AllocError>
+    ensures { OnOk result (string_bytes text.new
+        ≡ string_bytes text.old ++ option_map_or bar_text (bar_of file.now entry) []) }
+{
+    match bar_of(file, entry) {
+        Some(bar) => push_bar(text, bar),
+        None => Ok(()),
+    }
+}
+
+/// Appends what is wrong with the patterns of the region or the block of an entry.
+fn push_patterns(text: &mut String, file: &FileEntries<'_>, entry: Entry) -> Result<(), AllocError>
+    ensures { OnOk result (string_bytes text.new ≡ string_bytes text.old ++ patterns_text file.now entry) }
+{
+    if let Some(bar) = bar_of(file, entry) {
+        return push_bar_masks(text, bar);
+    }
+    match config_of(file, entry) {
+        Some(config) => push_config_masks(text, config),
+        None => Ok(()),
+    }
+}
+
+/// Appends what is wrong with the path of a function or a slot.
+fn push_path(
+    alloc: Global,
+    text: &mut String,
+    file: &FileEntries<'_>,
+    functions: &[FunctionPath],
+    problem: &Problem<'_>,
+) -> Result<(), AllocError>
+    requires { functions.now ≡ standings file.now }
+    ensures { let p = problem.now in OnOk result (string_bytes text.new
+        ≡ string_bytes text.old ++ path_cause_text file.now p.entry p.rule) }
+{
+    let Some(at) = at_of(file, problem.entry) else {
+        return Ok(());
+    };
+    match problem.rule {
+        Rule::Path => push_path_form(alloc, text, at),
+        Rule::BehindBridge => push_bridge(text, functions, at),
+        Rule::FunctionZero => push_zero(text, at),
+        Rule::NamesEndpoint => push_slot(alloc, text, functions, at),
+        _ => Ok(()),
+    }
+}
+
+/// Appends what is said of an entry that breaks a rule at a key.
+fn push_own(
+    alloc: Global,
+    text: &mut String,
+    file: &FileEntries<'_>,
+    functions: &[FunctionPath],
+    problem: &Problem<'_>,
+) -> Result<(), AllocError>
+    requires { functions.now ≡ standings file.now }
+    ensures { let p = problem.now in OnOk result (string_bytes text.new
+        ≡ string_bytes text.old ++ own_text file.now p.entry p.rule p.key.now) }
+{
+    let level = level_of(problem.entry);
+    match problem.rule {
+        Rule::Known => push_known(alloc, text, level, problem.key),
+        Rule::Form => push_asked(text, level, problem.key),
+        Rule::Size => push_size(text, file, problem.entry),
+        Rule::BarMasks | Rule::ConfigMasks => push_patterns(text, file, problem.entry),
+        Rule::IoAperture => text.push_str(io_words(file.io)),
+        Rule::MemAperture => text.push_str(mem_words(file.mem)),
+        Rule::PrefAperture => text.push_str(pref_words(file.mem, file.pref)),
+        Rule::Path | Rule::BehindBridge | Rule::FunctionZero | Rule::NamesEndpoint => {
+            push_path(alloc, text, file, functions, problem)
+        }
+        _ => Ok(()),
+    }
+}
+
+/// Appends why a region has no registers of its own.
+fn push_met(text: &mut String, met: Option<Other>) -> Result<(), AllocError>
+    ensures { OnOk result (string_bytes text.new ≡ string_bytes text.old ++ met_text met) }
+{
+    match met {
+        Some(met) => {
+            text.push_str(" takes a register of ")?;
+            push_named(text, met)
+        }
+        None => text.push_str(
+            " is of a 64-bit kind, which takes two registers, and begins at the last",
+        ),
+    }
+}
+
+/// Appends the region that has no registers of its own, and why.
+fn push_taker(text: &mut String, taker: Other, met: Option<Other>) -> Result<(), AllocError>
+    ensures { OnOk result (string_bytes text.new ≡ string_bytes text.old ++ taker_text taker met) }
+{
+    text.push_str(": ")?;
+    push_named(text, taker)?;
+    push_met(text, met)
+}
+
+/// Appends what other entries have to do with a problem.
+fn push_beside(
+    text: &mut String,
+    taker: Option<Other>,
+    other: Option<Other>,
+) -> Result<(), AllocError>
+    ensures { OnOk result (string_bytes text.new ≡ string_bytes text.old ++ beside_text taker other) }
+{
+    match taker {
+        Some(taker) => push_taker(text, taker, other),
+        None => push_other(text, other),
+    }
+}
+
+/// Appends what is said of a problem beyond the words of its rule.
+pub(crate) fn push_cause(
+    alloc: Global,
+    text: &mut String,
+    file: &FileEntries<'_>,
+    functions: &[FunctionPath],
+    told: &Told<'_>,
+) -> Result<(), AllocError>
+    requires { functions.now ≡ standings file.now }
+    ensures { OnOk result (string_bytes text.new ≡ string_bytes text.old ++ cause_text file.now told.now) }
+{
+    push_own(alloc, text, file, functions, &told.problem)?;
+    push_beside(text, told.taker, told.other)
+}

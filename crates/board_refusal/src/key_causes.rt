@@ -1,0 +1,166 @@
+//! What is said of a key that its table doesn't have, and of a value that its key doesn't ask for.
+ghost use Rattle.std.specs.Prelude.{◌≡◌, ◌<◌, ◌++◌, map, flat_map, IfOk, OnOk, option_map, string_bytes};
+ghost use Rattle.board_file.specs.Schema.{fields, field_of};
+ghost use Rattle.board_refusal.specs.KeyCauses.{distance, is_off, first_off, nearest, with_comma, keys_text, all_text, meant_text, known_text, form_text, asked_form, asked_text};
+
+use board_file::keys::fields;
+use board_file::schema::{Field, Form, Level, Words, form_at};
+use std::alloc::{AllocError, Global};
+use strsim::levenshtein;
+
+/// Whether the key of a table has so many letters at least twice, and so many changed make it of the word.
+fn is_off(alloc: Global, letters: usize, word: &str, key: &str) -> Result<bool, AllocError>
+    requires { letters < 3 }
+    ensures { IfOk result (λ b. b ≡ is_off letters word.now key.now) }
+{
+    if key.len() < 2 * letters {
+        return Ok(false);
+    }
+    let distance = levenshtein(alloc, word, key)?;
+    Ok(distance <= letters)
+}
+
+/// The first key that is no more than so many letters off.
+fn first_off(
+    alloc: Global,
+    letters: usize,
+    word: &str,
+    fields: &'static [Field],
+) -> Result<Option<&'static str>, AllocError>
+    requires { letters < 3 }
+    ensures { IfOk result (λ found.
+        option_map (λ k. k.now) found ≡ first_off letters word.now (map field_of fields.now)) }
+{
+    'search: for field in fields {
+        if is_off(alloc, letters, word, field.key)? {
+            return Ok(Some(field.key));
+        }
+    }
+    Ok(None)
+}
+
+/// The key that may be meant.
+fn nearest(
+    alloc: Global,
+    word: &str,
+    fields: &'static [Field],
+) -> Result<Option<&'static str>, AllocError>
+    ensures { IfOk result (λ found. option_map (λ k. k.now) found ≡ nearest word.now (map field_of fields.now)) }
+{
+    match first_off(alloc, 1, word, fields)? {
+        Some(key) => Ok(Some(key)),
+        None => first_off(alloc, 2, word, fields),
+    }
+}
+
+/// Appends keys, each after a comma.
+fn push_more(text: &mut String, fields: &[Field]) -> Result<(), AllocError>
+    ensures { OnOk result (string_bytes text.new
+        ≡ string_bytes text.old ++ flat_map with_comma (map field_of fields.now)) }
+{
+    'fields: for field in fields {
+        text.push_str(", ")?;
+        text.push_str(field.key)?;
+    }
+    Ok(())
+}
+
+/// Appends keys with commas between them.
+fn push_keys(text: &mut String, fields: &[Field]) -> Result<(), AllocError>
+    ensures { OnOk result (string_bytes text.new ≡ string_bytes text.old ++ keys_text (map field_of fields.now)) }
+{
+    match fields {
+        [] => Ok(()),
+        [first, rest @ ..] => {
+            text.push_str(first.key)?;
+            push_more(text, rest)
+        }
+    }
+}
+
+/// Appends all keys that there are.
+fn push_all(text: &mut String, fields: &[Field]) -> Result<(), AllocError>
+    ensures { OnOk result (string_bytes text.new ≡ string_bytes text.old ++ all_text (map field_of fields.now)) }
+{
+    text.push_str(", which has ")?;
+    push_keys(text, fields)
+}
+
+/// Appends the key that may be meant, or all keys that there are.
+fn push_meant(
+    text: &mut String,
+    fields: &[Field],
+    meant: Option<&'static str>,
+) -> Result<(), AllocError>
+    ensures { OnOk result (string_bytes text.new ≡ string_bytes text.old
+        ++ meant_text (map field_of fields.now) (option_map (λ k. k.now) meant.entry)) }
+{
+    match meant {
+        Some(key) => {
+            text.push_str(": is ")?;
+            text.push_str(key)?;
+            text.push_str(" meant?")
+        }
+        None => push_all(text, fields),
+    }
+}
+
+/// Appends what may be meant by a key that a table of the level doesn't have.
+pub(crate) fn push_known(
+    alloc: Global,
+    text: &mut String,
+    level: Option<Level>,
+    key: &str,
+) -> Result<(), AllocError>
+    ensures { OnOk result (string_bytes text.new ≡ string_bytes text.old ++ known_text level key.now) }
+{
+    let Some(level) = level else {
+        return Ok(());
+    };
+    let fields = fields(level);
+    let meant = nearest(alloc, key, fields)?;
+    push_meant(text, fields, meant)
+}
+
+/// What to write for a value of the form.
+fn form_words(form: Form) -> &'static str
+    ensures { result.now ≡ form_text form }
+{
+    match form {
+        Form::Integer => ": write an integer, as 16 or 0x10, without quotes",
+        Form::Text => ": write a text in quotes",
+        Form::Word(Words::RegionKind) => {
+            ": write one of io, mem32, mem32p, mem64, mem64p in quotes"
+        }
+        Form::Word(Words::IoDecode) => ": write one of none, 16, 32 in quotes",
+        Form::Word(Words::PrefDecode) => ": write one of none, 32, 64 in quotes",
+        Form::Pair => ": write two integers in brackets, as [0x1000, 0xffff]",
+        Form::Texts => ": write texts in brackets, each in quotes",
+        Form::Table(_) => ": write a table, its header in brackets",
+        Form::Tables(_) => ": write tables, each header in double brackets",
+    }
+}
+
+/// What stands at a key of a table of the level.
+fn asked_form(level: Option<Level>, key: &str) -> Option<Form>
+    ensures { result ≡ asked_form level key.now }
+{
+    match level {
+        Some(level) => form_at(level, key),
+        None => None,
+    }
+}
+
+/// Appends what to write at a key of a table of the level.
+pub(crate) fn push_asked(
+    text: &mut String,
+    level: Option<Level>,
+    key: &str,
+) -> Result<(), AllocError>
+    ensures { OnOk result (string_bytes text.new ≡ string_bytes text.old ++ asked_text level key.now) }
+{
+    match asked_form(level, key) {
+        Some(form) => text.push_str(form_words(form)),
+        None => Ok(()),
+    }
+}

@@ -1,0 +1,20 @@
+//! What is told of a board file that is refused: a line for each entry that breaks its first failing check, or a
+//! later one that waits for none of these, with its line in the file, and why.
+#![tactic(auto)]
+
+mod aperture_causes;
+mod causes;
+mod key_causes;
+pub mod laws;
+mod others;
+mod path_causes;
+mod pattern_causes;
+mod register_causes;
+mod said;
+mod size_causes;
+mod telling;
+mod texts;
+mod told;
+mod words;
+
+pub use telling::{refusal_text, unread_text};

@@ -1,0 +1,176 @@
+//! What is said of the path of a function.
+ghost use Rattle.std.specs.Prelude.{◌≡◌, ◌<◌, ◌≤◌, ◌++◌, codes, length, map, take, IfOk, IfSome, OnOk, option_map, string_bytes};
+ghost use Rattle.board_file.specs.PathTexts.{path_at};
+ghost use Rattle.diagnostics.specs.Shown.{shown_byte};
+ghost use Rattle.board_refusal.specs.PathCauses.{without_bus, unpadded, meant_path, meant_text, path_form_text, is_gap, first_gap, gap_text, bridge_text, zero_text, slot_text};
+
+use board_file::path_text::{PathText, path_of};
+use board_file::places::{FunctionPath, has_bridge};
+use diagnostics::push_shown;
+use paths::{Part, Path};
+use std::alloc::{AllocError, Global};
+
+/// The text without the number of bus 0.
+fn without_bus(text: &[u8]) -> &[u8]
+    ensures { result.now ≡ without_bus text.now }
+{
+    match text {
+        [b'0', b'0', b':', rest @ ..] => rest,
+        _ => text,
+    }
+}
+
+/// The path that is meant by a device of two digits, the first of them 0.
+fn unpadded(alloc: Global, text: &[u8]) -> Result<Option<Vec<u8>>, AllocError>
+    ensures { IfOk result (λ found. option_map (λ v. v.items) found ≡ unpadded text.now) }
+{
+    match text {
+        [b'0', d @ b'0'..=b'9', b'.', f @ b'0'..=b'7'] => Ok(Some(vec![in alloc; *d, b'.', *f]?)),
+        [b'0', d @ b'a'..=b'f', b'.', f @ b'0'..=b'7'] => {
+            Ok(Some(vec![in alloc; b'1', *d - b'1', b'.', *f]?))
+        }
+        _ => Ok(None),
+    }
+}
+
+/// The path that may be meant by a text.
+fn meant_path(alloc: Global, text: &[u8]) -> Result<Option<Vec<u8>>, AllocError>
+    ensures { IfOk result (λ found. option_map (λ v. v.items) found ≡ meant_path text.now) }
+{
+    let short = without_bus(text);
+    if path_of(short).is_none() {
+        return unpadded(alloc, short);
+    }
+    let mut path = Vec::new(alloc);
+    path.extend_from_slice(short)?;
+    Ok(Some(path))
+}
+
+/// Appends the path that may be meant, or what a path is.
+fn push_meant(text: &mut String, meant: Option<&[u8]>) -> Result<(), AllocError>
+    ensures { OnOk result (string_bytes text.new
+        ≡ string_bytes text.old ++ meant_text (option_map (λ p. p.now) meant.entry)) }
+{
+    match meant {
+        Some(path) => {
+            text.push_str(": is ")?;
+            push_shown(text, path)?;
+            text.push_str(" meant?")
+        }
+        None => text.push_str(
+            ": write parts of device and function, as 2.0/1.0: devices are 0 to 15, functions 0 to 7, without leading zeros",
+        ),
+    }
+}
+
+/// Appends what may be meant by a text that is no path.
+pub(crate) fn push_path_form(
+    alloc: Global,
+    text: &mut String,
+    at: &PathText<'_>,
+) -> Result<(), AllocError>
+    ensures { OnOk result (string_bytes text.new ≡ string_bytes text.old ++ path_form_text at.now) }
+{
+    match meant_path(alloc, at.text().as_bytes())? {
+        Some(path) => push_meant(text, Some(&path)),
+        None => push_meant(text, None),
+    }
+}
+
+/// The path that a text is, or 0.0.
+fn path_at(text: &[u8]) -> Path
+    ensures { result ≡ path_at text.now }
+{
+    match path_of(text) {
+        Some(path) => path,
+        None => Path::on_root(Part::new(0, 0)),
+    }
+}
+
+/// Whether so many bytes of the text end before a slash, and no bridge stands there.
+fn is_gap(functions: &[FunctionPath], at: &[u8], count: usize) -> bool
+    ensures { result ≡ is_gap functions.now at.now count }
+{
+    match at.get(count) {
+        Some(b'/') => !has_bridge(functions, &path_at(&at[..count])),
+        _ => false,
+    }
+}
+
+/// How many bytes of the text are the first beginning where no bridge stands.
+fn first_gap(functions: &[FunctionPath], at: &[u8]) -> Option<usize>
+    ensures value { result ≡ first_gap functions.now at.now }
+    ensures within { IfSome result (λ n. n < length at.now) }
+{
+    (0..at.len()).position(|count| is_gap(functions, at, count))
+}
+
+/// Appends so many bytes as they are shown.
+fn push_front(text: &mut String, bytes: &[u8], count: usize) -> Result<(), AllocError>
+    requires { count ≤ length bytes.now }
+    ensures { OnOk result (string_bytes text.new ≡ string_bytes text.old ++ map shown_byte (take count bytes.now)) }
+{
+    push_shown(text, &bytes[..count])
+}
+
+/// Appends the path at which no bridge stands.
+fn push_gap(text: &mut String, at: &[u8], count: usize) -> Result<(), AllocError>
+    requires { count ≤ length at.now }
+    ensures { OnOk result (string_bytes text.new ≡ string_bytes text.old ++ gap_text at.now count) }
+{
+    text.push_str(": no bridge at ")?;
+    push_front(text, at, count)
+}
+
+/// Appends the first beginning of a path at which no bridge stands.
+pub(crate) fn push_bridge(
+    text: &mut String,
+    functions: &[FunctionPath],
+    at: &PathText<'_>,
+) -> Result<(), AllocError>
+    ensures { OnOk result (string_bytes text.new ≡ string_bytes text.old ++ bridge_text functions.now at.now) }
+{
+    let bytes = at.text().as_bytes();
+    match first_gap(functions, bytes) {
+        Some(count) => push_gap(text, bytes, count),
+        None => Ok(()),
+    }
+}
+
+/// Appends so many bytes of a path, with function 0 after them.
+fn push_function_zero(text: &mut String, at: &[u8], count: usize) -> Result<(), AllocError>
+    requires { count ≤ length at.now }
+    ensures { OnOk result (string_bytes text.new
+        ≡ string_bytes text.old ++ (codes ": no function at " ++ (map shown_byte (take count at.now) ++ codes "0"))) }
+{
+    text.push_str(": no function at ")?;
+    push_front(text, at, count)?;
+    push_shown(text, b"0")
+}
+
+/// Appends function 0 of the device.
+pub(crate) fn push_zero(text: &mut String, at: &PathText<'_>) -> Result<(), AllocError>
+    ensures { OnOk result (string_bytes text.new ≡ string_bytes text.old ++ zero_text at.now) }
+{
+    let bytes = at.text().as_bytes();
+    push_function_zero(text, bytes, bytes.len().saturating_sub(1))
+}
+
+/// Appends what stands at a path that is no endpoint's, or what may be meant by a text that is no path.
+pub(crate) fn push_slot(
+    alloc: Global,
+    text: &mut String,
+    functions: &[FunctionPath],
+    at: &PathText<'_>,
+) -> Result<(), AllocError>
+    ensures { OnOk result (string_bytes text.new ≡ string_bytes text.old ++ slot_text functions.now at.now) }
+{
+    let bytes = at.text().as_bytes();
+    if path_of(bytes).is_none() {
+        return push_path_form(alloc, text, at);
+    }
+    if has_bridge(functions, &path_at(bytes)) {
+        return text.push_str(": a bridge is there");
+    }
+    text.push_str(": no function is there")
+}

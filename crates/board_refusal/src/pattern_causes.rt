@@ -1,0 +1,128 @@
+//! What is said of patterns that are not lawful.
+ghost use Rattle.std.specs.Prelude.{◌≡◌, ◌++◌, OnOk, option_map, string_bytes};
+ghost use Rattle.board_refusal.specs.PatternCauses.{begins_with_0x, is_digit, are_digits, has_whole_bytes, has_room, pattern_parts, pattern_words, keyed_text, masks_text, bar_masks_text, config_masks_text};
+ghost use Rattle.board_refusal.specs.ApertureCauses.{first_words};
+
+use crate::aperture_causes::first_words;
+use board_file::entries::{BarEntry, ConfigEntry, PatternTexts};
+use std::alloc::AllocError;
+
+/// Whether the text begins as a number of a board file may.
+#[tactic(auto, unfolding(crate::specs::PatternCauses::begins_with_0x))]
+fn begins_with_0x(text: &[u8]) -> bool
+    ensures { result ≡ begins_with_0x text.now }
+{
+    match text {
+        [b'0', b'x', ..] => true,
+        _ => false,
+    }
+}
+
+/// Whether the byte is a hexadecimal digit.
+fn is_digit(byte: u8) -> bool
+    ensures { result ≡ is_digit byte }
+{
+    (48 <= byte && byte <= 57) || (65 <= byte && byte <= 70) || (97 <= byte && byte <= 102)
+}
+
+/// Whether all bytes are such digits.
+#[tactic(auto, unfolding(crate::specs::PatternCauses::are_digits))]
+fn are_digits(text: &[u8]) -> bool
+    ensures { result ≡ are_digits text.now }
+{
+    text.iter().all(|byte| is_digit(*byte))
+}
+
+/// Whether each byte has both of its digits.
+#[tactic(auto, unfolding(crate::specs::PatternCauses::has_whole_bytes))]
+fn has_whole_bytes(text: &[u8]) -> bool
+    ensures { result ≡ has_whole_bytes text.now }
+{
+    text.len() % 2 == 0
+}
+
+/// Whether the block is as long as the pattern.
+#[tactic(auto, unfolding(crate::specs::PatternCauses::has_room))]
+fn has_room(len: u64, text: &[u8]) -> bool
+    ensures { result ≡ has_room len text.now }
+{
+    text.len() as u64 / 2 <= len
+}
+
+/// The first that the text of a pattern breaks of what is asked of it.
+fn text_words(len: u64, text: &[u8]) -> &'static str
+    ensures { result.now ≡ first_words (pattern_parts len text.now) }
+{
+    first_words(&[
+        (
+            " begins with 0x, write the digits alone",
+            !begins_with_0x(text),
+        ),
+        (
+            " has a character that is no hexadecimal digit",
+            are_digits(text),
+        ),
+        (
+            " has an odd number of digits, a byte has two",
+            has_whole_bytes(text),
+        ),
+        (" is empty", 0 < text.len()),
+        (" has bytes, and block is missing or 0", 0 < len),
+        (" has more bytes than block", has_room(len, text)),
+    ])
+}
+
+/// The same of a pattern, where it is given.
+fn pattern_words(len: u64, text: Option<&str>) -> &'static str
+    ensures { result.now ≡ pattern_words len (option_map (λ s. s.now) text.entry) }
+{
+    match text {
+        Some(text) => text_words(len, text.as_bytes()),
+        None => "",
+    }
+}
+
+/// Appends what is said of the pattern at a key.
+fn push_keyed(text: &mut String, key: &str, words: &str) -> Result<(), AllocError>
+    ensures { OnOk result (string_bytes text.new ≡ string_bytes text.old ++ keyed_text key.now words.now) }
+{
+    text.push_str(": ")?;
+    text.push_str(key)?;
+    text.push_str(words)
+}
+
+/// Appends what is said of the patterns of a block.
+fn push_masks(text: &mut String, len: u64, patterns: &PatternTexts<'_>) -> Result<(), AllocError>
+    ensures { OnOk result (string_bytes text.new ≡ string_bytes text.old ++ masks_text len patterns.now) }
+{
+    let reset = pattern_words(len, patterns.reset);
+    if reset.len() != 0 {
+        return push_keyed(text, "reset", reset);
+    }
+    let rw = pattern_words(len, patterns.rw);
+    if rw.len() != 0 {
+        return push_keyed(text, "rw", rw);
+    }
+    let w1c = pattern_words(len, patterns.w1c);
+    if w1c.len() != 0 {
+        return push_keyed(text, "w1c", w1c);
+    }
+    text.push_str(": a bit is in both rw and w1c")
+}
+
+/// Appends what is wrong with the patterns of a region.
+pub(crate) fn push_bar_masks(text: &mut String, bar: &BarEntry<'_>) -> Result<(), AllocError>
+    ensures { OnOk result (string_bytes text.new ≡ string_bytes text.old ++ bar_masks_text bar.now) }
+{
+    push_masks(text, bar.block.unsigned_abs(), &bar.patterns)
+}
+
+/// Appends what is wrong with the patterns of a block of own registers.
+pub(crate) fn push_config_masks(
+    text: &mut String,
+    config: &ConfigEntry<'_>,
+) -> Result<(), AllocError>
+    ensures { OnOk result (string_bytes text.new ≡ string_bytes text.old ++ config_masks_text config.now) }
+{
+    push_masks(text, config.block.unsigned_abs(), &config.patterns)
+}

@@ -1,0 +1,17 @@
+-- A place that its mark confirms.
+use Rattle.std.proofs.Common.{◌≡◌, ℕ, true, List, Some, option_map, ap, ◌∙◌}
+use Rattle.std.proofs.Math.Logic.{∥∥₁_elim}
+use Rattle.std.proofs.Props.{props}
+use Rattle.toml.specs.Data.{Members, table}
+use Rattle.toml.specs.Parse.{parse_document}
+use Rattle.diagnostics.specs.declared.steps.Step.{Step}
+use Rattle.diagnostics.specs.declared.scanning.Extent.{Extent}
+use Rattle.diagnostics.specs.Marks.{with_marks, is_mark}
+use Rattle.diagnostics.specs.Ways.{value_at}
+
+pub is_mark_in : (text : List ℕ) (way : List Step) (start : ℕ) (places : List Extent) (m : Members)
+    → ∥ parse_document (with_marks text 0 places) ≡ Some m ∥₁ → is_mark start (value_at way (table m)) ≡ true
+    → option_map (λ after. is_mark start (value_at way (table after))) (parse_document (with_marks text 0 places)) ≡ Some true
+is_mark_in text way start places m parsed marked =
+    ∥∥₁_elim parsed (Prim.hlevel props)
+    (λ e. ap (option_map (λ (after : Members). is_mark start (value_at way (table after)))) e ∙ ap Some marked)

@@ -1,0 +1,7 @@
+pub mod Items
+pub mod InOrder
+pub mod Confirmed
+pub mod LongerWays
+pub mod LaterLines
+pub mod Ends
+pub mod Pushed

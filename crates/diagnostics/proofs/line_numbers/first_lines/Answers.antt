@@ -1,0 +1,11 @@
+use Rattle.std.proofs.Common.{arith}
+use Rattle.std.proofs.lemmas.Grind.{common_steps}
+use Rattle.diagnostics.proofs.InOrder.{front_at, from_earlier}
+use Rattle.diagnostics.proofs.LaterLines.{later_line, one_more_line}
+use Rattle.diagnostics.proofs.line_numbers.first_lines.Goals as goal
+
+pub slice_bounds-line_feeds-end : goal.slice_bounds-line_feeds-end
+slice_bounds-line_feeds-end c = grind (arith, common_steps, front_at)
+
+pub places-preserved : goal.places-preserved
+places-preserved c = grind (arith, common_steps, front_at, later_line, from_earlier, one_more_line)

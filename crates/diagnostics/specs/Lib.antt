@@ -1,0 +1,11 @@
+pub mod LineNumbers
+pub mod Ways
+pub mod Marks
+pub mod Shapes
+pub mod Places
+pub mod LineParts
+pub mod Characters
+pub mod Excerpts
+pub mod Shown
+pub mod EntryPlaces
+pub mod Texts

@@ -1,0 +1,50 @@
+-- The place of a value in the text of a document.
+--     IsMarked      with its mark in each of these places the text is a document of the same shape
+--     Stands places start end      one of the places begins and ends there
+--     IsPlace      a place of these with its line; with its mark there the value at the end of the way, which was
+--                  another, is the mark
+--     GoesOn way longer      the longer way begins with the way
+--     IsPlaceWithin      the place of a value at the end of a way, or of one inside that value
+use Rattle.std.specs.Prelude.{◌≡◌, ℕ, true, false, List, ◌++◌, length, Some, option_map}
+use Rattle.std.specs.List.{slice_get}
+use Rattle.toml.specs.Data.{table, Members}
+use Rattle.toml.specs.Parse.{parse_document}
+use Rattle.diagnostics.specs.declared.steps.Step.{Step}
+use Rattle.diagnostics.specs.declared.scanning.Extent.{Extent}
+use Rattle.diagnostics.specs.declared.place.Place.{Place}
+use Rattle.diagnostics.specs.LineNumbers.{line_of}
+use Rattle.diagnostics.specs.Marks.{are_in_order, with_marks, is_mark}
+use Rattle.diagnostics.specs.Shapes.{members_have_one_shape}
+use Rattle.diagnostics.specs.Ways.{value_at}
+
+pub record IsMarked (text : List ℕ) (before : Members) (places : List Extent) : Type 0 where
+  pub in_order : are_in_order 0 (length text) places ≡ true
+  pub alike : option_map (members_have_one_shape before) (parse_document (with_marks text 0 places)) ≡ Some true
+
+pub record Stands (places : List Extent) (start end : ℕ) : Type 0 where
+  pub index : ℕ
+  pub place : Extent
+  pub found : slice_get places index ≡ Some place
+  pub is_start : place.start ≡ start
+  pub is_end : place.end ≡ end
+
+pub record IsPlace (text : List ℕ) (before : Members) (way : List Step) (p : Place) : Type 0 where
+  pub places : List Extent
+  pub is_marked : IsMarked text before places
+  pub stands : Stands places p.start p.end
+  pub is_line : p.line ≡ line_of p.start text
+  pub is_mark_now :
+      option_map (λ after. is_mark p.start (value_at way (table after))) (parse_document (with_marks text 0 places))
+      ≡ Some true
+  pub was_other : is_mark p.start (value_at way (table before)) ≡ false
+
+-- ---- a place inside a value
+
+pub record GoesOn (way longer : List Step) : Type 0 where
+  pub rest : List Step
+  pub is_longer : longer ≡ way ++ rest
+
+pub record IsPlaceWithin (text : List ℕ) (before : Members) (way : List Step) (p : Place) : Type 0 where
+  pub longer : List Step
+  pub goes_on : GoesOn way longer
+  pub is_place : IsPlace text before longer p

@@ -1,0 +1,145 @@
+//! Places that were confirmed: with a mark there, the value that is meant is the mark.
+ghost use Rattle.std.specs.Prelude.{◌≡◌, IfOk, IfSome, List, Some, length, map, ℕ};
+ghost use Rattle.std.specs.Option.{ForSome};
+ghost use Rattle.toml.specs.Parse.{parse_document};
+ghost use Rattle.toml.specs.View.{table_view};
+ghost use Rattle.diagnostics.specs.LineNumbers.{line_of, first_line};
+ghost use Rattle.diagnostics.specs.Marks.{with_marks};
+ghost use Rattle.diagnostics.specs.Places.{IsMarked, Stands, IsPlace, IsPlaceWithin};
+
+use crate::descent::push_descent;
+use crate::line_numbers::first_lines;
+use crate::marking::{are_in_order, is_mark, marked_start, with_marks};
+use crate::place::Place;
+use crate::scanning::{Extent, scalars};
+use crate::shapes::members_have_one_shape;
+use crate::steps::{Step, value_at};
+use std::alloc::{AllocError, Global};
+use toml::Table;
+
+/// The document with its mark in each place, and the numbers of the lines in which the places begin.
+#[derive(Drop)]
+struct Marked {
+    table: Table,
+    lines: Vec<usize>,
+}
+
+/// Where the values of a document stand in its text.
+#[derive(Drop)]
+pub struct Places<'a> {
+    /// The text.
+    pub text: &'a [u8],
+    /// The document that the text is.
+    pub document: &'a Table,
+    places: Vec<Extent>,
+    /// The document with its mark in each place, if it has one shape with the document.
+    marked: Option<Marked>,
+    ghost confirmed: { ForSome marked (λ m. IsMarked text.now (table_view document.now) places.items
+        × ∥ parse_document (with_marks text.now 0 places.items) ≡ Some (table_view m.table) ∥₁
+        × m.lines.items ≡ map (first_line text.now) places.items) },
+}
+
+/// The document with its mark in each place, if it is one of the same shape.
+fn marked_document(
+    alloc: Global,
+    text: &[u8],
+    document: &Table,
+    places: &[Extent],
+) -> Result<Option<Marked>, AllocError>
+    ensures { IfOk result (λ found. IfSome found (λ m. IsMarked text.now (table_view document.now) places.now
+        × (parse_document (with_marks text.now 0 places.now) ≡ Some (table_view m.table))
+        × (m.lines.items ≡ map (first_line text.now) places.now))) }
+{
+    if !are_in_order(text.len(), places) {
+        return Ok(None);
+    }
+    let bytes = with_marks(alloc, text, places)?;
+    match toml::table_from_slice(alloc, &bytes) {
+        Ok(table) if members_have_one_shape(document, &table) => {
+            let lines = first_lines(alloc, text, places)?;
+            Ok(Some(Marked { table, lines }))
+        }
+        Err(e) if e.is_memory() => Err(AllocError),
+        _ => Ok(None),
+    }
+}
+
+/// The line and the end of the place that begins there, if one does, by the lines in which they begin.
+fn line_and_end(places: &[Extent], lines: &[usize], start: usize) -> Option<(usize, usize)>
+    requires { length lines.now ≡ length places.now }
+    ensures line { IfSome result (λ p.
+        (text : List ℕ) → lines.now ≡ map (first_line text) places.now → p.0 ≡ line_of start text) }
+    ensures stands { IfSome result (λ p. Stands places.now start p.1) }
+{
+    match places.binary_search_by_key(&start, |place| place.start) {
+        Ok(i) => {
+            if places[i].start == start {
+                Some((lines[i], places[i].end))
+            } else {
+                None
+            }
+        }
+        Err(_) => None,
+    }
+}
+
+impl<'a> Places<'a> {
+    /// The places of the scalars of a document. None are known where they could not be confirmed.
+    pub fn new(alloc: Global, text: &'a [u8], document: &'a Table) -> Result<Self, AllocError>
+        ensures text { IfOk result (λ p. p.text.now ≡ text.now) }
+        ensures document { IfOk result (λ p. p.document.now ≡ document.now) }
+    {
+        let places = scalars(alloc, text)?;
+        let marked = marked_document(alloc, text, document, &places)?;
+        Ok(Places {
+            text,
+            document,
+            places,
+            marked,
+        })
+    }
+
+    /// The place of the scalar at the end of the way, where it is known.
+    pub fn place(&self, way: &[Step<'_>]) -> Option<Place>
+        ensures { IfSome result (IsPlace self.now.text.now (table_view self.now.document.now) way.now) }
+    {
+        if way.is_empty() {
+            return None;
+        }
+        let Some(marked) = &self.marked else {
+            return None;
+        };
+        let value = value_at(way, &marked.table)?;
+        let start = marked_start(value)?;
+        let known = line_and_end(&self.places, &marked.lines, start)?;
+        if is_mark(start, Some(value)) && !is_mark(start, value_at(way, self.document)) {
+            return Some(Place {
+                line: known.0,
+                start,
+                end: known.1,
+            });
+        }
+        None
+    }
+
+    /// The place of the scalar at the end of the way, or of the first one inside the value there,
+    /// where it is known.
+    pub fn place_within(&self, alloc: Global, way: &[Step<'_>]) -> Result<Option<Place>, AllocError>
+        ensures { IfOk result (λ found.
+            IfSome found (IsPlaceWithin self.now.text.now (table_view self.now.document.now) way.now)) }
+    {
+        if way.is_empty() {
+            return Ok(None);
+        }
+        let Some(marked) = &self.marked else {
+            return Ok(None);
+        };
+        let Some(value) = value_at(way, &marked.table) else {
+            return Ok(None);
+        };
+        let mut longer = Vec::new(alloc);
+        longer.extend_from_slice(way)?;
+        push_descent(&mut longer, value)?;
+        Ok(self.place(&longer))
+    }
+}

@@ -1,0 +1,86 @@
+//! From a value down to the first scalar inside it: the one that stands first in the text.
+ghost use Rattle.std.specs.Prelude.{OnOk};
+ghost use Rattle.diagnostics.specs.Places.{GoesOn};
+
+use crate::marking::marked_start;
+use crate::steps::Step;
+use std::alloc::AllocError;
+use toml::Table;
+use toml::value::Value;
+
+/// The earlier of two places, where one is known.
+fn earlier(one: Option<usize>, other: Option<usize>) -> Option<usize> {
+    match (one, other) {
+        (Some(one), Some(other)) => Some(one.min(other)),
+        _ => one.or(other),
+    }
+}
+
+/// Where the first mark inside a value stands, if there is one.
+#[cycle(starts)]
+fn start_in(marked: &Value) -> Option<usize> {
+    match marked {
+        Value::Array(items) => start_in_items(items.as_slice()),
+        Value::Table(table) => start_in_table(table),
+        scalar => marked_start(scalar),
+    }
+}
+
+#[cycle(starts)]
+fn start_in_items(items: &[Value]) -> Option<usize> {
+    for item in items {
+        let start = start_in(item);
+        if start.is_some() {
+            return start;
+        }
+    }
+    None
+}
+
+#[cycle(starts)]
+fn start_in_table(table: &Table) -> Option<usize> {
+    let mut first = None;
+    for (_, inner) in table.iter() {
+        first = earlier(first, start_in(inner));
+    }
+    first
+}
+
+/// Appends the steps from a value with marks to the first scalar inside it, if there is one.
+#[cycle(descent)]
+pub(crate) fn push_descent<'v>(way: &mut Vec<Step<'v>>, marked: &'v Value) -> Result<(), AllocError>
+    ensures { OnOk result (GoesOn way.old.items way.new.items) }
+{
+    match marked {
+        Value::Array(items) => push_in_items(way, items.as_slice()),
+        Value::Table(table) => push_in_table(way, table),
+        _ => Ok(()),
+    }
+}
+
+#[cycle(descent)]
+fn push_in_items<'v>(way: &mut Vec<Step<'v>>, items: &'v [Value]) -> Result<(), AllocError>
+    ensures { OnOk result (GoesOn way.old.items way.new.items) }
+{
+    'items: for (index, inner) in items.iter().enumerate() {
+        if start_in(inner).is_some() {
+            way.push(Step::Index(index))?;
+            return push_descent(way, inner);
+        }
+    }
+    Ok(())
+}
+
+#[cycle(descent)]
+fn push_in_table<'v>(way: &mut Vec<Step<'v>>, table: &'v Table) -> Result<(), AllocError>
+    ensures { OnOk result (GoesOn way.old.items way.new.items) }
+{
+    let first = start_in_table(table);
+    'members: for (key, inner) in table.iter() {
+        if first.is_some() && start_in(inner) == first {
+            way.push(Step::Key(key.as_str()))?;
+            return push_descent(way, inner);
+        }
+    }
+    Ok(())
+}

@@ -1,0 +1,107 @@
+//! The places of entries, with their lines.
+ghost use Rattle.std.specs.Prelude.{◌≡◌, IfOk, IfSome, map, option_map};
+ghost use Rattle.toml.specs.View.{table_view};
+ghost use Rattle.diagnostics.specs.EntryPlaces.{turn, way_of, way_to, line_at, entry_of, IsPlaceOf};
+
+use crate::confirmation::Places;
+use crate::place::Place;
+use crate::steps::Step;
+use board_file::Entry;
+use board_file::tables::value_at;
+use std::alloc::{AllocError, Global};
+
+/// An entry that is told of beside that of the problem, as an earlier one that has what another asks for itself,
+/// and its place, where that is known and was confirmed.
+#[derive(Clone, Copy, Debug)]
+pub struct Other {
+    pub entry: Entry,
+    pub place: Option<Place>,
+}
+
+/// The line of a place, where that is known.
+pub fn line_at(place: Option<Place>) -> Option<usize>
+    ensures { result ≡ line_at place }
+{
+    match place {
+        Some(place) => Some(place.line),
+        None => None,
+    }
+}
+
+/// The way to an entry.
+fn way_of<'k>(alloc: Global, entry: Entry) -> Result<Vec<Step<'k>>, AllocError>
+    ensures { IfOk result (λ v. map turn v.items ≡ way_of entry) }
+{
+    let endpoint = Step::Key("endpoint");
+    let bar = Step::Key("bar");
+    let config = Step::Key("config");
+    let guest = Step::Key("guest");
+    let slots = Step::Key("slots");
+    match entry {
+        Entry::File => Ok(Vec::new(alloc)),
+        Entry::Host => Ok(vec![in alloc; Step::Key("host")]?),
+        Entry::Endpoint(i) => Ok(vec![in alloc; endpoint, Step::Index(i)]?),
+        Entry::Bar(i, j) => Ok(vec![in alloc; endpoint, Step::Index(i), bar, Step::Index(j)]?),
+        Entry::Config(i, j) => Ok(vec![in alloc;
+            endpoint,
+            Step::Index(i),
+            config,
+            Step::Index(j),
+        ]?),
+        Entry::Bridge(i) => Ok(vec![in alloc; Step::Key("bridge"), Step::Index(i)]?),
+        Entry::Guest(i) => Ok(vec![in alloc; guest, Step::Index(i)]?),
+        Entry::Slot(i, j) => Ok(vec![in alloc; guest, Step::Index(i), slots, Step::Index(j)]?),
+    }
+}
+
+/// The way to the value at a key of an entry.
+fn way_to<'k>(alloc: Global, entry: Entry, key: &'k str) -> Result<Vec<Step<'k>>, AllocError>
+    ensures { IfOk result (λ v. map turn v.items ≡ way_to entry key.now) }
+{
+    let mut way = way_of(alloc, entry)?;
+    match entry {
+        Entry::Slot(_, _) => {}
+        _ => way.push(Step::Key(key))?,
+    }
+    Ok(way)
+}
+
+/// The place of the value at a key of an entry, or where there is none of a value of the entry,
+/// where that is known and was confirmed.
+pub fn place_of(
+    alloc: Global,
+    places: &Places<'_>,
+    entry: Entry,
+    key: &str,
+) -> Result<Option<Place>, AllocError>
+    ensures { IfOk result (λ found.
+        IfSome found (IsPlaceOf places.now.text.now (table_view places.now.document.now) entry key.now)) }
+{
+    if value_at(places.document, entry, key).is_some() {
+        let way = way_to(alloc, entry, key)?;
+        places.place_within(alloc, &way)
+    } else {
+        let way = way_of(alloc, entry)?;
+        places.place_within(alloc, &way)
+    }
+}
+
+/// Another entry that is told of at a key, with its place.
+pub fn with_place(
+    alloc: Global,
+    places: &Places<'_>,
+    entry: Option<Entry>,
+    key: &str,
+) -> Result<Option<Other>, AllocError>
+    ensures entry { IfOk result (λ o. option_map entry_of o ≡ entry) }
+    ensures place { IfOk result (λ o. IfSome o (λ o. IfSome o.place
+        (IsPlaceOf places.now.text.now (table_view places.now.document.now) o.entry key.now))) }
+{
+    match entry {
+        Some(entry) => {
+            let place = place_of(alloc, places, entry, key)?;
+            Ok(Some(Other { entry, place }))
+        }
+        None => Ok(None),
+    }
+}

@@ -1,0 +1,42 @@
+//! Lines of a text.
+ghost use Rattle.std.specs.Prelude.{◌≡◌, ◌≤◌, IfOk, IsTrue, length, map, count_by, ◌==◌};
+ghost use Rattle.diagnostics.specs.LineNumbers.{is_line_feed, line_of, first_line};
+ghost use Rattle.diagnostics.specs.Marks.{are_in_order};
+
+use crate::scanning::Extent;
+use std::alloc::{AllocError, Global};
+
+/// How many line feeds a text has.
+fn line_feeds(text: &[u8]) -> usize
+    ensures { result ≡ count_by is_line_feed text.now }
+{
+    text.iter().filter(|byte| **byte == b'\n').count()
+}
+
+/// The number of the line in which an offset lies, the first line being 1.
+pub fn line_of(offset: usize, text: &[u8]) -> usize
+    requires { offset ≤ length text.now }
+    ensures { result ≡ line_of offset text.now }
+{
+    1 + line_feeds(&text[..offset])
+}
+
+/// The numbers of the lines in which these places begin. The text is read once.
+pub(crate) fn first_lines(
+    alloc: Global,
+    text: &[u8],
+    places: &[Extent],
+) -> Result<Vec<usize>, AllocError>
+    requires { IsTrue (are_in_order 0 (length text.now) places.now) }
+    ensures { IfOk result (λ v. v.items ≡ map (first_line text.now) places.now) }
+{
+    let mut lines = Vec::new(alloc);
+    let mut line = 1;
+    let mut from = 0;
+    'places: for place in places {
+        line += line_feeds(&text[from..place.start]);
+        lines.push(line)?;
+        from = place.start;
+    }
+    Ok(lines)
+}

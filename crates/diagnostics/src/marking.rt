@@ -1,0 +1,78 @@
+//! Texts with marks in place of values.
+ghost use Rattle.std.specs.Prelude.{◌≡◌, ◌++◌, IfOk, OnOk, IsTrue, length, option_map};
+ghost use Rattle.toml.specs.View.{view};
+ghost use Rattle.diagnostics.specs.Marks.{are_in_order, mark, quoted, with_marks, is_mark};
+
+use crate::scanning::Extent;
+use itoa::Buffer;
+use std::alloc::{AllocError, Global};
+use toml::value::Value;
+
+/// Whether the places lie in a text of this length, each after the one before.
+pub(crate) fn are_in_order(len: usize, places: &[Extent]) -> bool
+    ensures { result ≡ are_in_order 0 len places.now }
+{
+    let mut from = 0;
+    'places: for place in places {
+        if place.start < from || place.end <= place.start {
+            return false;
+        }
+        from = place.end;
+    }
+    from <= len
+}
+
+/// Appends the mark of a place, as a text of TOML.
+fn push_mark(bytes: &mut Vec<u8>, start: usize) -> Result<(), AllocError>
+    ensures { OnOk result (bytes.new.items ≡ bytes.old.items ++ quoted (mark start)) }
+{
+    let mut buffer = Buffer::new();
+    bytes.extend_from_slice(b"\"@")?;
+    bytes.extend_from_slice(buffer.format(start).as_bytes())?;
+    bytes.extend_from_slice(b"\"")?;
+    Ok(())
+}
+
+/// The text with its mark in each of these places.
+pub(crate) fn with_marks(
+    alloc: Global,
+    text: &[u8],
+    places: &[Extent],
+) -> Result<Vec<u8>, AllocError>
+    requires { IsTrue (are_in_order 0 (length text.now) places.now) }
+    ensures { IfOk result (λ v. v.items ≡ with_marks text.now 0 places.now) }
+{
+    let mut bytes = Vec::new(alloc);
+    let mut from = 0;
+    'places: for place in places {
+        bytes.extend_from_slice(&text[from..place.start])?;
+        push_mark(&mut bytes, place.start)?;
+        from = place.end;
+    }
+    bytes.extend_from_slice(&text[from..])?;
+    Ok(bytes)
+}
+
+/// Whether the value is the mark of a place.
+pub(crate) fn is_mark(start: usize, value: Option<&Value>) -> bool
+    ensures { result ≡ is_mark start (option_map (λ v. view v.now) value.entry) }
+{
+    match value {
+        Some(Value::String(text)) => {
+            let mut buffer = Buffer::new();
+            match text.as_bytes() {
+                [b'@', digits @ ..] => digits == buffer.format(start).as_bytes(),
+                _ => false,
+            }
+        }
+        _ => false,
+    }
+}
+
+/// Where the place of a mark begins, if the value is one.
+pub(crate) fn marked_start(value: &Value) -> Option<usize> {
+    match value {
+        Value::String(text) => text.as_str().strip_prefix("@")?.parse::<usize>().ok(),
+        _ => None,
+    }
+}

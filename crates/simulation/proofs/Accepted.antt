@@ -1,0 +1,24 @@
+-- What is said of a file that is accepted.
+use Rattle.std.proofs.Common.{◌≡◌, Option, Some, None, sym, subst, option_map}
+use Rattle.std.specs.Prelude.{◌≢◌}
+use Rattle.model_guests.specs.Text.{Text}
+use Rattle.model_guests.specs.World.{World}
+use Rattle.bus_scan.specs.declared.fault.Fault.{Fault as SetUpFault}
+use Rattle.bus_scan.specs.declared.fault.Fault.TheVariants as set_up
+use Rattle.diagnostics.specs.declared.style.Style.{Style}
+use Rattle.board_fit.specs.Verdicts.{IsVerdict}
+use Rattle.simulation.specs.declared.fault.Fault.{Fault}
+use Rattle.simulation.specs.declared.fault.Fault.TheVariants.{SetUp}
+use Rattle.simulation.specs.Listing.{Declares}
+use Rattle.simulation.specs.Checking.{IsCheckText}
+
+-- the fault of a board is that of the check
+pub said_of : (style : Style) (name bytes : Text) (w : World) (fault : Option SetUpFault) (told : Option Fault) (text : Text)
+    → fault ≢ Some set_up.Memory → Declares bytes w → IsVerdict style name bytes w.board w.apertures fault text
+    → told ≡ option_map SetUp fault → IsCheckText style name bytes told text
+said_of style name bytes w None told text known declared verdict same =
+    subst (λ (f : Option Fault). IsCheckText style name bytes f text) (sym same)
+    (record { known = known; world = w; declared = declared; verdict = verdict })
+said_of style name bytes w (Some s) told text known declared verdict same =
+    subst (λ (f : Option Fault). IsCheckText style name bytes f text) (sym same)
+    (record { known = known; world = w; declared = declared; verdict = verdict })

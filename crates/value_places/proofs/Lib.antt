@@ -1,5 +1,0 @@
-pub mod Items
-pub mod InOrder
-pub mod Confirmed
-pub mod LongerWays
-pub mod LaterLines

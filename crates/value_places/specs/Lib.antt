@@ -1,5 +1,0 @@
-pub mod LineNumbers
-pub mod Ways
-pub mod Marks
-pub mod Shapes
-pub mod Places
