@@ -1,11 +1,7 @@
 //! A run of firmware's lines.
-ghost use Rattle.std.specs.Prelude.{◌≡◌, ◌+◌, ◌-◌, ◌^◌, ◌<◌, OnOk, IsErrOf};
-ghost use Rattle.std.specs.Option.{ForSome};
-ghost use Rattle.std.specs.Io.KnownBytes.{Appends, IsAtEnd};
-ghost use Rattle.model_guests.specs.Text.{lines};
-ghost use Rattle.model_guests.specs.LineRuns.{output, after_lines, IsCut};
+ghost use Rattle.std.specs.Prelude.{◌≡◌, ◌+◌, ◌-◌, ◌^◌, ◌<◌, IsErrOf};
 ghost use Rattle.line_runs.specs.Faults.{read_failures_of, write_failures_of};
-ghost use Rattle.line_runs.specs.Pieces.{IsStoppedIn};
+ghost use Rattle.line_runs.specs.Runs.{Runs, ends};
 ghost use Rattle.firmware.specs.Hosts.{host_protocol};
 
 use crate::answers::FirmwareLines;
@@ -31,23 +27,9 @@ pub fn run<R: Reader, W: Writer>(
     // No line takes memory.
     ensures memory { ¬ IsErrOf result RunFault.Memory }
 
-    // The lines were read to their end, the output of all was written, and all events ran.
-    ensures end { OnOk result (IsAtEnd (R.rest reader.new)) }
-    ensures output { OnOk result (ForSome (R.rest reader.old) (λ script.
-        Appends (W.written writer.old) (W.written writer.new) (output host_protocol host.old (lines script)))) }
-    ensures after { OnOk result (ForSome (R.rest reader.old) (λ script.
-        host.new ≡ after_lines host_protocol host.old (lines script))) }
-    ensures flushed { OnOk result (W.flushed writer.new ≡ W.written writer.new) }
-
-    // A failed read: the lines that were read up to their line feeds ran, and no part of a line.
-    ensures cut { IsErrOf result RunFault.Read →
-        IsCut host_protocol host.old (R.rest reader.old) (R.rest reader.new)
-        (W.written writer.old) (W.written writer.new) host.new }
-
-    // A failed write or flush ended the run within what some line writes.
-    ensures stopped { IsErrOf result RunFault.Write → ForSome (R.rest reader.old) (λ script.
-        IsStoppedIn host_protocol host.old script (R.rest reader.old) (R.rest reader.new)
-        (W.written writer.old) (W.written writer.new) host.new) }
+    // What it did of the lines.
+    ensures runs { Runs host_protocol host.old host.new (ends (R.rest reader.old) (R.rest reader.new)
+        (W.written writer.old) (W.written writer.new) (W.flushed writer.new)) result }
 {
     line_runs::run::<FirmwareLines, Host, R, W>(host, reader, writer)
 }

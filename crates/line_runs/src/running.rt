@@ -1,11 +1,11 @@
 //! A run of a whole script.
-ghost use Rattle.std.specs.Prelude.{◌≡◌, ◌+◌, ◌-◌, ◌^◌, ◌<◌, ◌≤◌, [], false, length, ◌⊎◌, OnOk, IsErrOf};
-ghost use Rattle.std.specs.Option.{ForSome};
-ghost use Rattle.std.specs.Io.KnownBytes.{Appends, Consumes, IsAtEnd};
-ghost use Rattle.model_guests.specs.Text.{Text, lines};
-ghost use Rattle.model_guests.specs.LineRuns.{output, after_lines, HasNoEnd, IsCut};
+ghost use Rattle.std.specs.Prelude.{◌≡◌, ◌+◌, ◌-◌, ◌^◌, ◌<◌, [], false, ◌⊎◌, OnOk, IfErr, IsErrOf, Err};
+ghost use Rattle.std.specs.Io.KnownBytes.{Consumes, IsAtEnd};
+ghost use Rattle.model_guests.specs.Text.{Text};
+ghost use Rattle.model_guests.specs.LineRuns.{HasNoEnd};
 ghost use Rattle.line_runs.specs.Faults.{read_failures_of, write_failures_of, number_of, of_stop};
-ghost use Rattle.line_runs.specs.Pieces.{Reaches, IsStoppedIn, IsLackingIn};
+ghost use Rattle.line_runs.specs.Pieces.{Reaches};
+ghost use Rattle.line_runs.specs.Runs.{Runs, ends};
 
 use crate::answers::Answers;
 use crate::pending::Pending;
@@ -67,15 +67,9 @@ fn run_pieces<L, S: Answers<L>, R: Reader, W: Writer>(
     ensures runs { OnOk result ((read : Text) × Consumes (R.rest reader.old) (R.rest reader.new) read
         × Reaches S.protocol server.old read pending.new.text pending.new.long
         (W.written writer.old) (W.written writer.new) server.new) }
-    ensures cut { IsErrOf result RunFault.Read →
-        IsCut S.protocol server.old (R.rest reader.old) (R.rest reader.new)
-        (W.written writer.old) (W.written writer.new) server.new }
-    ensures stopped { IsErrOf result RunFault.Write → ForSome (R.rest reader.old) (λ script.
-        IsStoppedIn S.protocol server.old script (R.rest reader.old) (R.rest reader.new)
-        (W.written writer.old) (W.written writer.new) server.new) }
-    ensures lacking { IsErrOf result RunFault.Memory → ForSome (R.rest reader.old) (λ script.
-        IsLackingIn S.protocol server.old script (R.rest reader.old) (R.rest reader.new)
-        (W.written writer.old) (W.written writer.new) server.new) }
+    ensures failed { IfErr result (λ fault. Runs {T = Unit {0}} S.protocol server.old server.new
+        (ends (R.rest reader.old) (R.rest reader.new) (W.written writer.old) (W.written writer.new)
+        (W.flushed writer.new)) (Err fault)) }
     ensures memory { IsErrOf result RunFault.Memory → S.TakesMemory }
     ensures flushed { OnOk result ((W.flushed writer.new ≡ W.written writer.new) ⊎ (writer.new ≡ writer.old)) }
     ensures lacking_flushed { IsErrOf result RunFault.Memory →
@@ -108,28 +102,11 @@ pub fn run<L, S: Answers<L>, R: Reader, W: Writer>(
     ensures reads { R.failures reader.new ≡ R.failures reader.old + read_failures_of result }
     ensures writes { W.failures writer.new ≡ W.failures writer.old + write_failures_of result }
 
-    // The script was read to its end, the output of all its lines was written, and all events ran.
-    ensures end { OnOk result (IsAtEnd (R.rest reader.new)) }
-    ensures output { OnOk result (ForSome (R.rest reader.old) (λ script.
-        Appends (W.written writer.old) (W.written writer.new) (output S.protocol server.old (lines script)))) }
-    ensures after { OnOk result (ForSome (R.rest reader.old) (λ script.
-        server.new ≡ after_lines S.protocol server.old (lines script))) }
-    ensures flushed { OnOk result (W.flushed writer.new ≡ W.written writer.new) }
+    // What it did of the lines of the script.
+    ensures runs { Runs S.protocol server.old server.new (ends (R.rest reader.old) (R.rest reader.new)
+        (W.written writer.old) (W.written writer.new) (W.flushed writer.new)) result }
 
-    // A failed read: the lines that were read up to their line feeds ran, and no part of a line.
-    ensures cut { IsErrOf result RunFault.Read →
-        IsCut S.protocol server.old (R.rest reader.old) (R.rest reader.new)
-        (W.written writer.old) (W.written writer.new) server.new }
-
-    // A failed write or flush ended the run within what some line writes.
-    ensures stopped { IsErrOf result RunFault.Write → ForSome (R.rest reader.old) (λ script.
-        IsStoppedIn S.protocol server.old script (R.rest reader.old) (R.rest reader.new)
-        (W.written writer.old) (W.written writer.new) server.new) }
-
-    // No memory for a line: those before it ran, and all that they write was written and flushed.
-    ensures lacking { IsErrOf result RunFault.Memory → ForSome (R.rest reader.old) (λ script.
-        IsLackingIn S.protocol server.old script (R.rest reader.old) (R.rest reader.new)
-        (W.written writer.old) (W.written writer.new) server.new) }
+    // No memory for a line: all that those before it write was flushed.
     ensures lacking_flushed { IsErrOf result RunFault.Memory →
         (W.flushed writer.new ≡ W.written writer.new) ⊎ (writer.new ≡ writer.old) }
     ensures memory { IsErrOf result RunFault.Memory → S.TakesMemory }

@@ -1,12 +1,8 @@
 //! A run of a whole script.
-ghost use Rattle.std.specs.Prelude.{◌≡◌, ◌+◌, ◌-◌, ◌^◌, ◌<◌, OnOk, IsErrOf};
-ghost use Rattle.std.specs.Option.{ForSome};
-ghost use Rattle.std.specs.Io.KnownBytes.{Appends, IsAtEnd};
-ghost use Rattle.model_guests.specs.Text.{lines};
+ghost use Rattle.std.specs.Prelude.{◌≡◌, ◌+◌, ◌-◌, ◌^◌, ◌<◌, IsErrOf};
 ghost use Rattle.model_giving.specs.Changes.{machine_protocol};
-ghost use Rattle.model_guests.specs.LineRuns.{output, after_lines, IsCut};
 ghost use Rattle.line_runs.specs.Faults.{read_failures_of, write_failures_of};
-ghost use Rattle.line_runs.specs.Pieces.{IsStoppedIn};
+ghost use Rattle.line_runs.specs.Runs.{Runs, ends};
 
 use crate::answers::Script;
 use line_runs::RunFault;
@@ -31,23 +27,9 @@ pub fn run<R: Reader, W: Writer>(
     // No line takes memory.
     ensures memory { ¬ IsErrOf result RunFault.Memory }
 
-    // The script was read to its end, the output of all its lines was written, and all events ran.
-    ensures end { OnOk result (IsAtEnd (R.rest reader.new)) }
-    ensures output { OnOk result (ForSome (R.rest reader.old) (λ script.
-        Appends (W.written writer.old) (W.written writer.new) (output machine_protocol monitor.old (lines script)))) }
-    ensures after { OnOk result (ForSome (R.rest reader.old) (λ script.
-        monitor.new ≡ after_lines machine_protocol monitor.old (lines script))) }
-    ensures flushed { OnOk result (W.flushed writer.new ≡ W.written writer.new) }
-
-    // A failed read: the lines that were read up to their line feeds ran, and no part of a line.
-    ensures cut { IsErrOf result RunFault.Read →
-        IsCut machine_protocol monitor.old (R.rest reader.old) (R.rest reader.new)
-        (W.written writer.old) (W.written writer.new) monitor.new }
-
-    // A failed write or flush ended the run within what some line writes.
-    ensures stopped { IsErrOf result RunFault.Write → ForSome (R.rest reader.old) (λ script.
-        IsStoppedIn machine_protocol monitor.old script (R.rest reader.old) (R.rest reader.new)
-        (W.written writer.old) (W.written writer.new) monitor.new) }
+    // What it did of the lines.
+    ensures runs { Runs machine_protocol monitor.old monitor.new (ends (R.rest reader.old) (R.rest reader.new)
+        (W.written writer.old) (W.written writer.new) (W.flushed writer.new)) result }
 {
     line_runs::run::<Script, Monitor, R, W>(monitor, reader, writer)
 }

@@ -1,12 +1,8 @@
 //! A run of a session's lines.
-ghost use Rattle.std.specs.Prelude.{◌≡◌, ◌+◌, ◌-◌, ◌^◌, ◌<◌, ◌⊎◌, OnOk, IsErrOf};
-ghost use Rattle.std.specs.Option.{ForSome};
-ghost use Rattle.std.specs.Io.KnownBytes.{Appends, IsAtEnd};
-ghost use Rattle.model_guests.specs.Text.{lines};
-ghost use Rattle.model_guests.specs.LineRuns.{output, after_lines, IsCut};
+ghost use Rattle.std.specs.Prelude.{◌≡◌, ◌+◌, ◌-◌, ◌^◌, ◌<◌, ◌⊎◌, IsErrOf};
 ghost use Rattle.model_sessions.specs.Sessions.{session_protocol};
 ghost use Rattle.line_runs.specs.Faults.{read_failures_of, write_failures_of};
-ghost use Rattle.line_runs.specs.Pieces.{IsStoppedIn, IsLackingIn};
+ghost use Rattle.line_runs.specs.Runs.{Runs, ends};
 
 use crate::answers::{Session, SessionLines};
 use line_runs::RunFault;
@@ -27,28 +23,11 @@ pub fn run<R: Reader, W: Writer>(
     ensures reads { R.failures reader.new ≡ R.failures reader.old + read_failures_of result }
     ensures writes { W.failures writer.new ≡ W.failures writer.old + write_failures_of result }
 
-    // The lines were read to their end, the output of all was written, and all events ran.
-    ensures end { OnOk result (IsAtEnd (R.rest reader.new)) }
-    ensures output { OnOk result (ForSome (R.rest reader.old) (λ script.
-        Appends (W.written writer.old) (W.written writer.new) (output session_protocol session.old (lines script)))) }
-    ensures after { OnOk result (ForSome (R.rest reader.old) (λ script.
-        session.new ≡ after_lines session_protocol session.old (lines script))) }
-    ensures flushed { OnOk result (W.flushed writer.new ≡ W.written writer.new) }
+    // What it did of the lines.
+    ensures runs { Runs session_protocol session.old session.new (ends (R.rest reader.old) (R.rest reader.new)
+        (W.written writer.old) (W.written writer.new) (W.flushed writer.new)) result }
 
-    // A failed read: the lines that were read up to their line feeds ran, and no part of a line.
-    ensures cut { IsErrOf result RunFault.Read →
-        IsCut session_protocol session.old (R.rest reader.old) (R.rest reader.new)
-        (W.written writer.old) (W.written writer.new) session.new }
-
-    // A failed write or flush ended the run within what some line writes.
-    ensures stopped { IsErrOf result RunFault.Write → ForSome (R.rest reader.old) (λ script.
-        IsStoppedIn session_protocol session.old script (R.rest reader.old) (R.rest reader.new)
-        (W.written writer.old) (W.written writer.new) session.new) }
-
-    // No memory for a line: those before it ran, and all that they write was written and flushed.
-    ensures lacking { IsErrOf result RunFault.Memory → ForSome (R.rest reader.old) (λ script.
-        IsLackingIn session_protocol session.old script (R.rest reader.old) (R.rest reader.new)
-        (W.written writer.old) (W.written writer.new) session.new) }
+    // No memory for a line: all that those before it write was flushed.
     ensures lacking_flushed { IsErrOf result RunFault.Memory →
         (W.flushed writer.new ≡ W.written writer.new) ⊎ (writer.new ≡ writer.old) }
 {

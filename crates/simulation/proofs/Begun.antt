@@ -1,46 +1,47 @@
 -- What a run of lines says of the board file over whose board it began.
 --     declares      the world of a host bridge and guests that were read of a file
---     written_over, cut_over, stopped_over      a run from where it begins in the world of the file
-use Rattle.std.proofs.Common.{◌≡◌, Ok, Option, subst}
+--     runs_from, runs_over, is_run      a run from where it begins, as in the world of the file
+use Rattle.std.proofs.Common.{◌≡◌, Ok, Result, subst}
 use Rattle.std.specs.Prelude.{IsUtf8}
-use Rattle.std.specs.Option.{ForSome}
-use Rattle.std.specs.Io.KnownBytes.{Appends}
 use Rattle.toml.specs.Parse.{parse_document}
-use Rattle.model_guests.specs.Text.{Text, lines}
+use Rattle.model_guests.specs.Text.{Text}
 use Rattle.model_guests.specs.World.{World}
-use Rattle.model_guests.specs.LineRuns.{Protocol, output, IsCut}
-use Rattle.line_runs.specs.Pieces.{IsStoppedIn}
+use Rattle.model_guests.specs.LineRuns.{Protocol}
+use Rattle.line_runs.specs.declared.running.RunFault.{RunFault}
+use Rattle.line_runs.specs.Runs.{Ends, Runs}
 use Rattle.board_file.specs.Meaning.{document_meaning}
-use Rattle.simulation.specs.Lines.{IsWritten, IsCutOver, IsStoppedOver}
+use Rattle.model_guests.specs.WorldNow.{world_at_first, world_protocol}
+use Rattle.model_giving.specs.Changes.{MachineNow, BeginsIn, machine_protocol}
+use Rattle.model_guests.proofs.Isolation.{isolated}
+use Rattle.simulation.specs.Lines.{RunsOver}
+use Rattle.simulation.specs.Running.{IsOpened, IsRun}
+use Rattle.simulation.proofs.Ran.{runs_aside}
 use Rattle.simulation.specs.Listing.{Declares}
 
 pub declares : {bytes : Text} {w : World} → IsUtf8 bytes × (document_meaning (parse_document bytes) ≡ Ok w) → Declares bytes w
 declares (text, meaning) = record { is_text = text; meaning = meaning }
 
-abbrev pub written_over : {S : Type 0} (p : Protocol S) (first : World → S) {board : Text} {w : World} {s : S} {script old new : Option Text}
-    → Declares board w → s ≡ first w → ForSome script (λ t. Appends old new (output p s (lines t)))
-    → IsWritten (λ v ls. output p (first v) ls) board script old new
-written_over p first {board} {w} {s} {script} {old} {new} declared begins written = record {
-  world = w;
-  declared = declared;
-  written = subst (λ x. ForSome script (λ t. Appends old new (output p x (lines t)))) begins written;
-}
+pub runs_from : {S T : Type 0} (p : Protocol S) (s first end : S) (at : Ends) (result : Result T RunFault) → s ≡ first → Runs p s end at result → Runs p first end at result
+runs_from p s first end at result begins runs = subst (λ x. Runs p x end at result) begins runs
 
-pub cut_over : {S : Type 0} (p : Protocol S) (first : World → S) {board : Text} {w : World} {s end : S} {old_rest new_rest old new : Option Text}
-    → Declares board w → s ≡ first w → IsCut p s old_rest new_rest old new end → IsCutOver p first board old_rest new_rest old new
-cut_over p first {board} {w} {s} {end} {old_rest} {new_rest} {old} {new} declared begins cut = record {
+abbrev pub runs_over : {S T : Type 0} (p : Protocol S) (first : World → S) {board : Text} {w : World} {s : S} (end : S) {at : Ends} (result : Result T RunFault)
+    → Declares board w → s ≡ first w → Runs p s end at result → RunsOver p first board at result
+runs_over p first {board} {w} {s} end {at} result declared begins runs = record {
   world = w;
   declared = declared;
   end = end;
-  cut = subst (λ x. IsCut p x old_rest new_rest old new end) begins cut;
+  runs = runs_from p s (first w) end at result begins runs;
 }
 
-pub stopped_over : {S : Type 0} (p : Protocol S) (first : World → S) {board : Text} {w : World} {s end : S} {old_rest new_rest old new : Option Text}
-    → Declares board w → s ≡ first w → ForSome old_rest (λ t. IsStoppedIn p s t old_rest new_rest old new end)
-    → IsStoppedOver p first board old_rest new_rest old new
-stopped_over p first {board} {w} {s} {end} {old_rest} {new_rest} {old} {new} declared begins stopped = record {
-  world = w;
-  declared = declared;
-  end = end;
-  stopped = subst (λ x. ForSome old_rest (λ t. IsStoppedIn p x t old_rest new_rest old new end)) begins stopped;
-}
+-- a run over the opened world of the file
+abbrev pub is_run : {T : Type 0} (board : Text) (m end : MachineNow) (at : Ends) (result : Result T RunFault)
+    → BeginsIn (IsOpened board) m → Runs machine_protocol m end at result → IsRun board at result
+is_run board m end at result opened runs =
+    let o = opened.world in
+    record {
+      world = o.world;
+      set_up = o.set_up;
+      end = end.world;
+      runs = runs_from world_protocol m.world (world_at_first o.world) end.world at result o.begins (runs_aside m end at result runs);
+      isolated = isolated o.world o.lawful.guests.lawful_names;
+    }

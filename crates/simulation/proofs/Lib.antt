@@ -4,3 +4,4 @@ mod Audited
 mod Listed
 pub mod Ran
 pub mod Accepted
+pub mod Told

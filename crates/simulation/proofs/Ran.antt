@@ -1,5 +1,5 @@
 -- What the parts of a run over a board file say, put together.
-use Rattle.std.proofs.Common.{◌≡◌, ◌+◌, ℕ, Option, Result, Ok, Err, refl, sym, ap, ap₂, ◌∙◌}
+use Rattle.std.proofs.Common.{◌≡◌, ◌+◌, ℕ, Option, Result, Ok, Err, refl, sym, ap, ap₂, ◌∙◌, subst, arith}
 use Rattle.std.specs.Prelude.{List, IsErrOf}
 use Rattle.std.specs.Result.{IsErrAnd}
 use Rattle.model_board.specs.Board.{Board}
@@ -9,8 +9,9 @@ use Rattle.model_guests.specs.World.{Guest, World}
 use Rattle.model_guests.specs.Text.{Text, lines}
 use Rattle.model_guests.specs.WorldNow.{WorldNow, world_at_first, world_protocol}
 use Rattle.model_giving.specs.Changes.{MachineNow, machine_protocol}
-use Rattle.model_giving.proofs.Aside.{stop_aside}
-use Rattle.line_runs.specs.Pieces.{IsStoppedIn}
+use Rattle.model_giving.proofs.Aside.{output_aside, events_aside, cut_aside, stop_aside}
+use Rattle.std.specs.Io.KnownBytes.{Appends}
+use Rattle.line_runs.specs.Pieces.{IsStoppedIn, IsLackingIn}
 use Rattle.host_bridge.specs.HostState.{HostState}
 use Rattle.window_packing.specs.Readies.{ReadyBoard, board_below}
 use Rattle.board_file.specs.Meaning.{world_in}
@@ -19,19 +20,53 @@ use Rattle.line_runs.specs.declared.running.RunFault.{RunFault}
 use Rattle.line_runs.specs.declared.running.RunFault.TheVariants as run
 use Rattle.simulation.specs.declared.fault.Fault.{Fault}
 use Rattle.line_runs.specs.Faults.{read_failures_of, write_failures_of}
-use Rattle.simulation.specs.Faults.{of_run, read_faults, write_faults}
+use Rattle.line_runs.specs.Runs.{Ends, Runs}
+use Rattle.model_guests.specs.LineRuns.{Protocol}
+use Rattle.board_file.specs.declared.fault.BoardFault.{BoardFault}
+use Rattle.bus_scan.specs.declared.fault.Fault.TheVariants as set_up
+use Rattle.simulation.specs.declared.fault.Fault.TheVariants.{File, SetUp}
+use Rattle.simulation.specs.Faults.{of_run, read_faults, write_faults, IsOfBoard, OnRun, OnSession}
 
--- a fault is that of one run alone
-one_run : (e x : RunFault) → of_run e ≡ of_run x → e ≡ x
-one_run run.Read run.Read same = refl
-one_run run.Write run.Write same = refl
-one_run run.Memory run.Memory same = refl
-one_run _ _ same = cc
+-- the run failed for memory as the call that it was part of
+pub lacked : {T : Type 0} (r : Result T Fault) (e : RunFault) → IsErrAnd r (λ f. f ≡ of_run e) → IsErrOf r (SetUp set_up.Memory) → e ≡ run.Memory
+lacked (Ok y) e h is = absurd h
+lacked (Err f) run.Memory h is = refl
+lacked (Err f) e h is = grind arith
 
--- the run failed as the call that it was part of
-pub failed_by : {T : Type 0} (x : RunFault) (r : Result T Fault) (e : RunFault) → IsErrAnd r (λ f. f ≡ of_run e) → IsErrOf r (of_run x) → e ≡ x
-failed_by x (Ok y) e h is = absurd h
-failed_by x (Err f) e h is = one_run e x (let same : f ≡ of_run x = cc in sym h ∙ same)
+-- ---- how a run of lines ended
+
+-- before any line
+no_line : {T : Type 0} (P : Result T RunFault → Type 0) (f : Fault) → IsOfBoard f → OnRun P (Err f)
+no_line P (File b) of = tt
+no_line P (SetUp s) of = tt
+no_line P _ of = absurd of
+
+pub no_run : {T : Type 0} (P : Result T RunFault → Type 0) (r : Result T Fault) (e : Fault) → IsErrAnd r (λ f. f ≡ e) → IsOfBoard e → OnRun P r
+no_run P (Ok x) e h of = absurd h
+no_run P (Err f) e h of = no_line P f (subst IsOfBoard (sym h) of)
+
+-- as the run did
+pub ran : {T : Type 0} (P : Result T RunFault → Type 0) (r : Result T Fault) (e : RunFault) → IsErrAnd r (λ f. f ≡ of_run e) → P (Err e) → OnRun P r
+ran P (Ok x) e h p = absurd h
+ran P (Err f) run.Read h p = subst (λ x. OnRun P (Err x)) (sym h) p
+ran P (Err f) run.Write h p = subst (λ x. OnRun P (Err x)) (sym h) p
+ran P (Err f) run.Memory h p = subst (λ x. OnRun P (Err x)) (sym h) tt
+
+pub no_session : {T : Type 0} (P : Result T RunFault → Type 0) (r : Result T Fault) (b : BoardFault) → IsErrAnd r (λ f. f ≡ File b) → OnSession P r
+no_session P (Ok x) b h = absurd h
+no_session P (Err f) b h = subst (λ x. OnSession P (Err x)) (sym h) tt
+
+pub ran_session : {T : Type 0} (P : Result T RunFault → Type 0) (r : Result T Fault) (e : RunFault) → IsErrAnd r (λ f. f ≡ of_run e) → P (Err e) → OnSession P r
+ran_session P (Ok x) e h p = absurd h
+ran_session P (Err f) run.Read h p = subst (λ x. OnSession P (Err x)) (sym h) p
+ran_session P (Err f) run.Write h p = subst (λ x. OnSession P (Err x)) (sym h) p
+ran_session P (Err f) run.Memory h p = subst (λ x. OnSession P (Err x)) (sym h) p
+
+-- an error is one whatever the result would have been
+pub same_error : (A B : Type 0) {S : Type 0} (p : Protocol S) (s end : S) (at : Ends) (e : RunFault) → Runs {T = A} p s end at (Err e) → Runs {T = B} p s end at (Err e)
+same_error A B p s end at run.Read runs = runs
+same_error A B p s end at run.Write runs = runs
+same_error A B p s end at run.Memory runs = runs
 
 -- a monitor of the board that a file declares begins with the world of the file
 pub began : (h : HostState) (r : ReadyBoard) (gs guests : List Guest) (m : WorldNow)
@@ -42,10 +77,35 @@ began h r gs guests m below host given made =
     ap₂ (λ (b : Board) (a : Apertures). record { board = b; apertures = a; guests = guests }) below (ap (λ (k : HostState). k.apertures) host) in
     made ∙ ap (λ (w : World). world_at_first w) (board ∙ ap (λ (xs : List Guest). record (world_in h gs) { guests = xs }) given)
 
--- where a run stopped, as one over the world alone
-pub stopped_aside : (m end : MachineNow) {script : Text} {old_rest new_rest old new : Option Text} → IsStoppedIn machine_protocol m script old_rest new_rest old new end
+-- a run over a machine, as one over its world alone
+stopped_aside : (m end : MachineNow) {script : Text} {old_rest new_rest old new : Option Text} → IsStoppedIn machine_protocol m script old_rest new_rest old new end
     → IsStoppedIn world_protocol m.world script old_rest new_rest old new end.world
 stopped_aside m end {script} is = record { read = is.read; consumed = is.consumed; stop = stop_aside m end (lines script) is.stop; in_time = is.in_time }
+
+lacking_aside : (m end : MachineNow) {script : Text} {old_rest new_rest old new : Option Text} → IsLackingIn machine_protocol m script old_rest new_rest old new end
+    → IsLackingIn world_protocol m.world script old_rest new_rest old new end.world
+lacking_aside m end {script} {old_rest} {new_rest} {old} {new} is = record {
+  read = is.read;
+  consumed = is.consumed;
+  whole = is.whole;
+  line = is.line;
+  rest = is.rest;
+  in_order = is.in_order;
+  in_time = is.in_time;
+  written = subst (Appends old new) (output_aside m is.whole) is.written;
+  events = events_aside m end is.whole is.events;
+}
+
+pub runs_aside : {T : Type 0} (m end : MachineNow) (at : Ends) (r : Result T RunFault) → Runs machine_protocol m end at r → Runs world_protocol m.world end.world at r
+runs_aside m end at (Ok x) ran = record {
+  read = ran.read;
+  output = λ s known. subst (Appends at.before at.after) (output_aside m (lines s)) (ran.output s known);
+  events = λ s known. events_aside m end (lines s) (ran.events s known);
+  flushed = ran.flushed;
+}
+runs_aside m end at (Err run.Read) ran = cut_aside m end ran
+runs_aside m end at (Err run.Write) ran = λ s known. stopped_aside m end (ran s known)
+runs_aside m end at (Err run.Memory) ran = λ s known. lacking_aside m end (ran s known)
 
 -- such a fault is the reader's, or the writer's, as that of the run is
 pub read_again : {T : Type 0} (r : Result T Fault) (e : RunFault) (old new : ℕ)

@@ -2,6 +2,8 @@
 --     number_of, words_of, line_of      the number, the words and the line of a fault
 --     fault_numbered n      the fault of a number
 --     of_run      the fault of a run
+--     OnRun P r, OnSession P r      how a run of lines ended has P, if any ran before r; of a session memory may be out
+--         for a line
 --     IsOfFile f      the file is refused, or memory is out while it is read
 --     IsOfBoard f      so too, or of its board
 --     IsRefusal f, IsOutOfMemory f      the one of these, and the other
@@ -58,6 +60,16 @@ abbrev pub of_run : RunFault → Fault
 of_run run.Read = Read
 of_run run.Write = Write
 of_run run.Memory = SetUp set_up.Memory
+
+abbrev pub OnRun : {T : Type 0} → (Result T RunFault → Type 0) → Result T Fault → Type 0
+OnRun P (Ok x) = P (Ok x)
+OnRun P (Err Read) = P (Err run.Read)
+OnRun P (Err Write) = P (Err run.Write)
+OnRun P (Err other) = ⊤
+
+abbrev pub OnSession : {T : Type 0} → (Result T RunFault → Type 0) → Result T Fault → Type 0
+OnSession P (Err (SetUp set_up.Memory)) = P (Err run.Memory)
+OnSession P r = OnRun P r
 
 abbrev pub IsOfFile : Fault → Type 0
 IsOfFile (File b) = ⊤

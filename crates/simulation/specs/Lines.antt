@@ -1,33 +1,16 @@
--- What lines over the board of a board file write, in whichever language they are.
---     IsWritten writes board script old new      the lines wrote what they write in the world of the file
---     IsCutOver p first board old_rest new_rest old new      a read failed: the lines that were read up to their LF ran
---     IsStoppedOver p first board old_rest new_rest old new      a write or flush failed: a beginning of the output was
---         written
-use Rattle.std.specs.Prelude.{List, Option}
-use Rattle.std.specs.Option.{ForSome}
-use Rattle.std.specs.Io.KnownBytes.{Appends}
-use Rattle.model_guests.specs.Text.{Text, lines}
+-- A run of lines over the board of a board file, in whichever language they are.
+--     RunsOver p first board at result      what it did, from where it begins in the world of the file
+use Rattle.std.specs.Prelude.{Result}
+use Rattle.model_guests.specs.Text.{Text}
 use Rattle.model_guests.specs.World.{World}
-use Rattle.model_guests.specs.LineRuns.{Protocol, IsCut}
-use Rattle.line_runs.specs.Pieces.{IsStoppedIn}
+use Rattle.model_guests.specs.LineRuns.{Protocol}
+use Rattle.line_runs.specs.declared.running.RunFault.{RunFault}
+use Rattle.line_runs.specs.Runs.{Ends, Runs}
 use Rattle.simulation.specs.Listing.{Declares}
 
-pub record IsWritten (writes : World → List Text → Text) (board : Text) (script old new : Option Text) : Type 0 where
-  pub world : World
-  pub declared : Declares board world
-  pub written : ForSome script (λ s. Appends old new (writes world (lines s)))
-
--- by the protocol of the language, and where it begins in the world of the file
-pub record IsCutOver {S : Type 0} (p : Protocol S) (first : World → S) (board : Text) (old_rest new_rest old new : Option Text)
-    : Type 0 where
+pub record RunsOver {S T : Type 0} (p : Protocol S) (first : World → S) (board : Text) (at : Ends)
+    (result : Result T RunFault) : Type 0 where
   pub world : World
   pub declared : Declares board world
   pub end : S
-  pub cut : IsCut p (first world) old_rest new_rest old new end
-
-pub record IsStoppedOver {S : Type 0} (p : Protocol S) (first : World → S) (board : Text) (old_rest new_rest old new : Option Text)
-    : Type 0 where
-  pub world : World
-  pub declared : Declares board world
-  pub end : S
-  pub stopped : ForSome old_rest (λ s. IsStoppedIn p (first world) s old_rest new_rest old new end)
+  pub runs : Runs p (first world) end at result

@@ -1,9 +1,9 @@
 //! What the program is asked to do, and doing it.
-ghost use Rattle.std.specs.Prelude.{◌≡◌, ◌≢◌, ◌+◌, ◌-◌, ◌^◌, ◌<◌, OnOk, OnErr, IfErr, IsErrOf};
+ghost use Rattle.std.specs.Prelude.{◌≡◌, ◌≢◌, ◌+◌, ◌-◌, ◌^◌, ◌<◌, ◌⊎◌, OnOk, OnErr, IfErr};
 ghost use Rattle.std.specs.Io.KnownBytes.{Appends};
 ghost use Rattle.streams.specs.Ends.{AppendsPart};
-ghost use Rattle.simulation.specs.Choices.{IsDone, IsDoneInPart, IsDoneAsRead, IsOfChoice};
-ghost use Rattle.simulation.specs.Choices.{IsTelling, IsToldOf, IsLacking, IsLackingDone, IsFlushed};
+ghost use Rattle.line_runs.specs.Runs.{ends};
+ghost use Rattle.simulation.specs.Choices.{Does, IsTelling, IsLacking, IsOfChoice};
 ghost use Rattle.simulation.specs.Faults.{read_faults, write_faults};
 
 use crate::auditing::audit;
@@ -64,32 +64,20 @@ pub fn perform<R: Reader, W: Writer>(
     requires reader_has_room { R.failures reader.old < 2 ^ 64 - 1 }
     requires writer_has_room { W.failures writer.old < 2 ^ 64 - 1 }
 
-    // The text, the report of some board file, that a board fits or the output of all lines was written and flushed.
-    ensures done { OnOk result (IsDone choice.now (R.rest reader.old) (W.written writer.old) (W.written writer.new)) }
-    ensures flushed { OnOk result (W.flushed writer.new ≡ W.written writer.new) }
+    // The text, the report of some board file, what a check says of it or the output of all lines was written.
+    ensures does { Does choice.now (ends (R.rest reader.old) (R.rest reader.new)
+        (W.written writer.old) (W.written writer.new) (W.flushed writer.new)) result }
 
-    // Only a failed write, or a failed read of lines, comes after a part of it was written.
-    ensures cut { IsErrOf result Fault.Read →
-        IsDoneAsRead choice.now (R.rest reader.old) (R.rest reader.new) (W.written writer.old) (W.written writer.new) }
-    ensures stopped { IsErrOf result Fault.Write →
-        IsDoneInPart choice.now (R.rest reader.old) (R.rest reader.new) (W.written writer.old) (W.written writer.new) }
+    // Only a failed write or read, what a check tells and no memory once lines ran come after a part was written.
     ensures unread { IfErr result (λ f.
         f ≢ Fault.Read → f ≢ Fault.Write → ¬ IsLacking choice.now f → reader.new ≡ reader.old) }
     ensures nothing { IfErr result (λ f.
         f ≢ Fault.Read → f ≢ Fault.Write → ¬ IsTelling choice.now f → ¬ IsLacking choice.now f
         → writer.new ≡ writer.old) }
 
-    // A check tells of a fault of the file or its board, and nothing else tells.
-    ensures told { IfErr result (λ f.
-        IsTelling choice.now f → IsToldOf choice.now f (W.written writer.old) (W.written writer.new)) }
-    ensures told_flushed { IfErr result (λ f. IsTelling choice.now f → W.flushed writer.new ≡ W.written writer.new) }
-
-    // Where memory is out once lines ran, for an audit or a handover, all that they write was written.
-    ensures lacking { IfErr result (λ f. IsLacking choice.now f
-        → IsLackingDone choice.now (R.rest reader.old) (R.rest reader.new) (W.written writer.old) (W.written writer.new)) }
-    ensures lacking_flushed { IfErr result (λ f.
-        IsLacking choice.now f →
-        IsFlushed choice.now (W.flushed writer.new ≡ W.written writer.new) (writer.new ≡ writer.old)) }
+    // Where memory is out once lines ran, for an audit or a handover, what they write was flushed.
+    ensures lacking_flushed { IfErr result (λ f. IsLacking choice.now f →
+        (W.flushed writer.new ≡ W.written writer.new) ⊎ (writer.new ≡ writer.old)) }
 
     ensures faults { IfErr result (IsOfChoice choice.now) }
 

@@ -1,10 +1,10 @@
 //! A script over the demo board.
-ghost use Rattle.std.specs.Prelude.{◌≡◌, ◌+◌, ◌-◌, ◌^◌, ◌<◌, OnOk, IfErr, IsErrOf};
-ghost use Rattle.std.specs.Io.KnownBytes.{IsAtEnd};
+ghost use Rattle.std.specs.Prelude.{◌≡◌, ◌+◌, ◌-◌, ◌^◌, ◌<◌, IfErr};
+ghost use Rattle.line_runs.specs.Runs.{ends};
 ghost use Rattle.simulation.specs.Demo.{demo_board};
-ghost use Rattle.simulation.specs.Faults.{read_faults, write_faults, OnFile, OnSetUp, IsOfBoard, IsOfRun};
+ghost use Rattle.simulation.specs.Faults.{read_faults, write_faults, OnFile, OnSetUp, OnRun, IsOfBoard, IsOfRun};
 ghost use Rattle.simulation.specs.Listing.{Refuses, Breaks};
-ghost use Rattle.simulation.specs.Running.{IsRun, IsRunCut, IsRunStopped};
+ghost use Rattle.simulation.specs.Running.{IsRun};
 
 use crate::fault::Fault;
 use crate::running::whole;
@@ -40,22 +40,15 @@ pub fn demo<R: Reader, W: Writer>(
     requires reader_has_room { R.failures reader.old < 2 ^ 64 - 1 }
     requires writer_has_room { W.failures writer.old < 2 ^ 64 - 1 }
 
-    // The script was read to its end, and its output in the world of the demo was written and flushed.
-    ensures end { OnOk result (IsAtEnd (R.rest reader.new)) }
-    ensures output { OnOk result (IsRun demo_board (R.rest reader.old) (W.written writer.old) (W.written writer.new)) }
-    ensures flushed { OnOk result (W.flushed writer.new ≡ W.written writer.new) }
+    // What it did of the script in the world of the demo.
+    ensures runs { OnRun (IsRun demo_board (ends (R.rest reader.old) (R.rest reader.new)
+        (W.written writer.old) (W.written writer.new) (W.flushed writer.new))) result }
 
     // What the definitions of board files and of set-up say of the demo's text.
     ensures file { IfErr result (OnFile (Refuses demo_board)) }
     ensures placement { IfErr result (OnSetUp (Breaks demo_board)) }
     ensures faults { IfErr result IsOfRun }
     ensures nothing { IfErr result (λ f. IsOfBoard f → (reader.new ≡ reader.old) × (writer.new ≡ writer.old)) }
-
-    // What a failed read or write leaves of the output.
-    ensures cut { IsErrOf result Fault.Read →
-        IsRunCut demo_board (R.rest reader.old) (R.rest reader.new) (W.written writer.old) (W.written writer.new) }
-    ensures stopped { IsErrOf result Fault.Write →
-        IsRunStopped demo_board (R.rest reader.old) (R.rest reader.new) (W.written writer.old) (W.written writer.new) }
 
     // A fault is the reader's or the writer's exactly where that end failed during the call.
     ensures reads { R.failures reader.new ≡ R.failures reader.old + read_faults result }

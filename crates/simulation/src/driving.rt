@@ -1,8 +1,8 @@
 //! Firmware's lines alone over the board of a board file, at reset.
-ghost use Rattle.std.specs.Prelude.{◌≡◌, ◌+◌, ◌-◌, ◌^◌, ◌<◌, OnOk, IfOk, IfErr, IsErrOf};
-ghost use Rattle.std.specs.Io.KnownBytes.{IsAtEnd};
-ghost use Rattle.simulation.specs.Driving.{IsDrivenTo, IsDrivenCut, IsDrivenStopped};
-ghost use Rattle.simulation.specs.Faults.{read_faults, write_faults, OnFile, IsOfFile, IsOfDriving};
+ghost use Rattle.std.specs.Prelude.{◌≡◌, ◌+◌, ◌-◌, ◌^◌, ◌<◌, IfErr};
+ghost use Rattle.line_runs.specs.Runs.{ends};
+ghost use Rattle.simulation.specs.Driving.{IsDriven};
+ghost use Rattle.simulation.specs.Faults.{read_faults, write_faults, OnFile, OnRun, IsOfFile, IsOfDriving};
 ghost use Rattle.simulation.specs.Listing.{Refuses};
 
 use crate::fault::Fault;
@@ -26,17 +26,11 @@ pub(crate) fn driven<R: Reader, W: Writer>(
     requires reader_has_room { R.failures reader.old < 2 ^ 64 - 1 }
     requires writer_has_room { W.failures writer.old < 2 ^ 64 - 1 }
 
-    ensures end { OnOk result (IsAtEnd (R.rest reader.new)) }
-    ensures output { IfOk result
-        (IsDrivenTo board.now (R.rest reader.old) (W.written writer.old) (W.written writer.new)) }
-    ensures flushed { OnOk result (W.flushed writer.new ≡ W.written writer.new) }
+    ensures runs { OnRun (IsDriven board.now (ends (R.rest reader.old) (R.rest reader.new)
+        (W.written writer.old) (W.written writer.new) (W.flushed writer.new))) result }
     ensures file { IfErr result (OnFile (Refuses board.now)) }
     ensures faults { IfErr result IsOfDriving }
     ensures nothing { IfErr result (λ f. IsOfFile f → (reader.new ≡ reader.old) × (writer.new ≡ writer.old)) }
-    ensures cut { IsErrOf result Fault.Read →
-        IsDrivenCut board.now (R.rest reader.old) (R.rest reader.new) (W.written writer.old) (W.written writer.new) }
-    ensures stopped { IsErrOf result Fault.Write →
-        IsDrivenStopped board.now (R.rest reader.old) (R.rest reader.new) (W.written writer.old) (W.written writer.new) }
     ensures reads { R.failures reader.new ≡ R.failures reader.old + read_faults result }
     ensures writes { W.failures writer.new ≡ W.failures writer.old + write_faults result }
 {

@@ -1,10 +1,10 @@
 //! A session over the board of a board file.
-ghost use Rattle.std.specs.Prelude.{◌≡◌, ◌+◌, ◌-◌, ◌^◌, ◌<◌, ◌⊎◌, OnOk, IfErr, IsErrOf};
-ghost use Rattle.std.specs.Io.KnownBytes.{IsAtEnd};
+ghost use Rattle.std.specs.Prelude.{◌≡◌, ◌+◌, ◌-◌, ◌^◌, ◌<◌, ◌⊎◌, IfErr, IsErrOf};
+ghost use Rattle.line_runs.specs.Runs.{ends};
 ghost use Rattle.bus_scan.specs.declared.fault.Fault.TheVariants.{Memory};
-ghost use Rattle.simulation.specs.Faults.{read_faults, write_faults, OnFile, IsOfFile, IsOfSession};
+ghost use Rattle.simulation.specs.Faults.{read_faults, write_faults, OnFile, OnSession, IsOfFile, IsOfSession};
 ghost use Rattle.simulation.specs.Listing.{Refuses};
-ghost use Rattle.simulation.specs.Sessions.{IsSession, IsSessionCut, IsSessionStopped, IsSessionLacking};
+ghost use Rattle.simulation.specs.Sessions.{IsSession};
 
 use crate::fault::Fault;
 use board_file::read_board;
@@ -30,25 +30,15 @@ pub fn drive<R: Reader, W: Writer>(
     requires reader_has_room { R.failures reader.old < 2 ^ 64 - 1 }
     requires writer_has_room { W.failures writer.old < 2 ^ 64 - 1 }
 
-    // The lines were read to their end, and their output over the board of the file was written and flushed.
-    ensures end { OnOk result (IsAtEnd (R.rest reader.new)) }
-    ensures output { OnOk result
-        (IsSession board.now (R.rest reader.old) (W.written writer.old) (W.written writer.new)) }
-    ensures flushed { OnOk result (W.flushed writer.new ≡ W.written writer.new) }
+    // What it did of the lines over the board of the file.
+    ensures runs { OnSession (IsSession board.now (ends (R.rest reader.old) (R.rest reader.new)
+        (W.written writer.old) (W.written writer.new) (W.flushed writer.new))) result }
 
     ensures file { IfErr result (OnFile (Refuses board.now)) }
     ensures faults { IfErr result IsOfSession }
     ensures nothing { IfErr result (λ f. IsOfFile f → (reader.new ≡ reader.old) × (writer.new ≡ writer.old)) }
 
-    // What a failed read or write leaves of the output.
-    ensures cut { IsErrOf result Fault.Read →
-        IsSessionCut board.now (R.rest reader.old) (R.rest reader.new) (W.written writer.old) (W.written writer.new) }
-    ensures stopped { IsErrOf result Fault.Write →
-        IsSessionStopped board.now (R.rest reader.old) (R.rest reader.new) (W.written writer.old) (W.written writer.new) }
-
-    // No memory for a line: what those before it write was written, and flushed if it is anything.
-    ensures lacking { IsErrOf result (Fault.SetUp Memory) →
-        IsSessionLacking board.now (R.rest reader.old) (R.rest reader.new) (W.written writer.old) (W.written writer.new) }
+    // No memory for a line: what those before it write was flushed if it is anything.
     ensures lacking_flushed { IsErrOf result (Fault.SetUp Memory) →
         (W.flushed writer.new ≡ W.written writer.new) ⊎ (writer.new ≡ writer.old) }
 

@@ -6,7 +6,9 @@ use Rattle.model_guests.specs.LineRuns.{Protocol}
 use Rattle.line_runs.specs.Pieces.{Pending, Reaches}
 use Rattle.line_runs.proofs.Reaching.{reaches_none, reaches_more, reaches_on, stops_on, lacks_on}
 use Rattle.line_runs.proofs.Endings.{cut_of, stopped_of, lacking_of}
-use Rattle.line_runs.proofs.Results.{write_failed, lacked}
+use Rattle.line_runs.proofs.Results.{by_stop, lacked}
+use Rattle.line_runs.specs.Runs.{Runs, ends}
+use Rattle.std.specs.Prelude.{IfErr}
 use Rattle.line_runs.proofs.running.run_pieces.Goals as goal
 
 -- all is flushed, or nothing was written, also after more of it
@@ -17,8 +19,8 @@ flushed_from flushed written old mid new first is = grind arith
 pub loop-more-init : goal.loop-more-init
 loop-more-init g c = grind (arith, reaches_none)
 
-pub returns-in_default-clause-cut : goal.returns-in_default-clause-cut
-returns-in_default-clause-cut g c = λ is.
+pub returns-in_default-clause-failed : goal.returns-in_default-clause-failed
+returns-in_default-clause-failed g c =
     let runs = c.loop-more.invariant.runs in
     cut_of (Consumes-kept (g.R.Reader.rest c.args.reader.now) (g.R.Reader.rest c.loop-more.reader) (g.R.Reader.rest c.fill.new.reader) runs.0 runs.1 c.in_default.ensures.kept)
     runs.2 c.loop-more.invariant.rest
@@ -38,17 +40,15 @@ pub returns-then-not-more-clause-runs : goal.returns-then-not-more-clause-runs
 returns-then-not-more-clause-runs g c =
     came (g.R.Reader.rest c.args.reader.now) (g.R.Reader.rest c.loop-more.reader) (g.R.Reader.rest c.fill.new.reader) c.fill.new.self c.loop-more.invariant.runs c.in-Ok.ensures.bytes
 
-pub returns-in_err-run_piece-clause-stopped : goal.returns-in_err-run_piece-clause-stopped
-returns-in_err-run_piece-clause-stopped g c = λ is script known.
-    let ran = came (g.R.Reader.rest c.args.reader.now) (g.R.Reader.rest c.loop-more.reader) (g.R.Reader.rest c.fill.new.reader) c.fill.new.self c.loop-more.invariant.runs c.in-Ok.ensures.bytes in
-    let stops = c.in_err-run_piece.ensures.stops (ap Err (write_failed c.from_residual.result _ c.from_residual.ensures.1 is)) in
-    stopped_of ran.1 (stops_on ran.2 (stops ran.2.before ran.2.clean ran.2.passed)) known
-
-pub returns-in_err-run_piece-clause-lacking : goal.returns-in_err-run_piece-clause-lacking
-returns-in_err-run_piece-clause-lacking g c = λ is script known.
-    let ran = came (g.R.Reader.rest c.args.reader.now) (g.R.Reader.rest c.loop-more.reader) (g.R.Reader.rest c.fill.new.reader) c.fill.new.self c.loop-more.invariant.runs c.in-Ok.ensures.bytes in
-    let lacks = c.in_err-run_piece.ensures.lacks (ap Err (lacked c.from_residual.result _ c.from_residual.ensures.1 is)) in
-    lacking_of ran.1 (lacks_on ran.2 (lacks ran.2.before ran.2.clean ran.2.passed)) known
+pub returns-in_err-run_piece-clause-failed : goal.returns-in_err-run_piece-clause-failed
+returns-in_err-run_piece-clause-failed g c =
+    let at = ends (g.R.Reader.rest c.args.reader.now) (g.R.Reader.rest c.fill.new.reader) (g.W.Writer.written c.args.writer.now) (g.W.Writer.written c.run_piece.new.writer) (g.W.Writer.flushed c.run_piece.new.writer) in
+    let ran = came at.script (g.R.Reader.rest c.loop-more.reader) at.unread c.fill.new.self c.loop-more.invariant.runs c.in-Ok.ensures.bytes in
+    let piece = c.in_err-run_piece.ensures in
+    by_stop (λ r. IfErr r (λ f. Runs {T = Unit {0}} g.S.Answers.protocol c.args.server.now c.run_piece.new.server at (Err f)))
+    c.from_residual.result _ c.from_residual.ensures.1
+    (λ is script known. stopped_of ran.1 (stops_on ran.2 (piece.stops (ap Err is) ran.2.before ran.2.clean ran.2.passed)) known)
+    (λ is script known. lacking_of ran.1 (lacks_on ran.2 (piece.lacks (ap Err is) ran.2.before ran.2.clean ran.2.passed)) known)
 
 pub returns-in_err-run_piece-clause-lacking_flushed : goal.returns-in_err-run_piece-clause-lacking_flushed
 returns-in_err-run_piece-clause-lacking_flushed g c = grind (arith, flushed_from, lacked)

@@ -1,14 +1,14 @@
-use Rattle.std.proofs.Common.{◌≡◌, Err, [], ap}
+use Rattle.std.proofs.Common.{◌≡◌, [], refl, ap}
 use Rattle.model_board.specs.AtReset.{IsAtReset}
 use Rattle.model_board.specs.State.{State}
 use Rattle.host_bridge.specs.HostState.{HostState}
 use Rattle.board_file.specs.Meaning.{world_in}
 use Rattle.firmware.specs.Hosts.{host_protocol}
-use Rattle.simulation.specs.Driving.{host_at_reset}
-use Rattle.simulation.proofs.Begun.{declares, written_over, cut_over, stopped_over}
+use Rattle.line_runs.specs.Runs.{ends}
+use Rattle.simulation.specs.Driving.{host_at_reset, IsDriven}
+use Rattle.simulation.proofs.Begun.{declares, runs_over}
 use Rattle.simulation.proofs.Listed.{refused_file}
-use Rattle.line_runs.specs.declared.running.RunFault.TheVariants as run
-use Rattle.simulation.proofs.Ran.{failed_by, read_again, written_again}
+use Rattle.simulation.proofs.Ran.{no_run, ran, same_error, read_again, written_again}
 use Rattle.simulation.proofs.driving.driven.Goals as goal
 
 begins : (h : HostState) → IsAtReset h.state → h ≡ host_at_reset (world_in h [])
@@ -18,26 +18,28 @@ pub returns-in_err-host-clause-file : goal.returns-in_err-host-clause-file
 returns-in_err-host-clause-file g c =
     refused_file c.from_residual.result c.args.board.now _ c.in_err-host.ensures.refused c.in_err-host.ensures.not_text c.from_residual.ensures.1
 
+pub returns-in_err-host-clause-runs : goal.returns-in_err-host-clause-runs
+returns-in_err-host-clause-runs g c =
+    let at = ends (g.R.Reader.rest c.args.reader.now) (g.R.Reader.rest c.args.reader.now) (g.W.Writer.written c.args.writer.now) (g.W.Writer.written c.args.writer.now) (g.W.Writer.flushed c.args.writer.now) in
+    no_run (IsDriven c.args.board.now at) c.from_residual.result _ c.from_residual.ensures.1 tt
+
 pub returns-in_err-run-clause-reads : goal.returns-in_err-run-clause-reads
 returns-in_err-run-clause-reads g c = read_again c.from_residual-in_err-run.result _ _ _ c.from_residual-in_err-run.ensures.1 c.in_err-run.ensures.reads
 
 pub returns-in_err-run-clause-writes : goal.returns-in_err-run-clause-writes
 returns-in_err-run-clause-writes g c = written_again c.from_residual-in_err-run.result _ _ _ c.from_residual-in_err-run.ensures.1 c.in_err-run.ensures.writes
 
-pub returns-in_err-run-clause-cut : goal.returns-in_err-run-clause-cut
-returns-in_err-run-clause-cut g c is =
-    cut_over host_protocol host_at_reset (declares c.in_ok-host.ensures.world) (begins c.in_ok-host.host c.in_ok-host.ensures.reset)
-    (c.in_err-run.ensures.cut (ap Err (failed_by run.Read c.from_residual-in_err-run.result _ c.from_residual-in_err-run.ensures.1 is)))
+pub returns-in_err-run-clause-runs : goal.returns-in_err-run-clause-runs
+returns-in_err-run-clause-runs g c =
+    let at = ends (g.R.Reader.rest c.args.reader.now) (g.R.Reader.rest c.run.new.reader) (g.W.Writer.written c.args.writer.now) (g.W.Writer.written c.run.new.writer) (g.W.Writer.flushed c.run.new.writer) in
+    ran (IsDriven c.args.board.now at) c.from_residual-in_err-run.result _ c.from_residual-in_err-run.ensures.1
+    (record {
+      over = runs_over host_protocol host_at_reset c.run.new.host _ (declares c.in_ok-host.ensures.world) (begins c.in_ok-host.host c.in_ok-host.ensures.reset) (same_error (Unit {0}) HostState host_protocol _ _ at _ c.in_err-run.ensures.runs);
+      left = tt;
+    })
 
-pub returns-in_err-run-clause-stopped : goal.returns-in_err-run-clause-stopped
-returns-in_err-run-clause-stopped g c is =
-    stopped_over host_protocol host_at_reset (declares c.in_ok-host.ensures.world) (begins c.in_ok-host.host c.in_ok-host.ensures.reset)
-    (c.in_err-run.ensures.stopped (ap Err (failed_by run.Write c.from_residual-in_err-run.result _ c.from_residual-in_err-run.ensures.1 is)))
-
-pub returns-clause-output : goal.returns-clause-output
-returns-clause-output g c =
-    let reset = begins c.in_ok-host.host c.in_ok-host.ensures.reset in
-    record {
-      output = written_over host_protocol host_at_reset (declares c.in_ok-host.ensures.world) reset c.in_ok-run.ensures.output;
-      events = λ s known. rw reset at (c.in_ok-run.ensures.after s known);
-    }
+pub returns-clause-runs : goal.returns-clause-runs
+returns-clause-runs g c = record {
+  over = runs_over host_protocol host_at_reset c.run.new.host _ (declares c.in_ok-host.ensures.world) (begins c.in_ok-host.host c.in_ok-host.ensures.reset) c.in_ok-run.ensures.runs;
+  left = refl;
+}

@@ -1,10 +1,13 @@
-use Rattle.std.proofs.Common.{Err, ap}
-use Rattle.model_guests.specs.Text.{lines}
-use Rattle.model_guests.proofs.Isolation.{isolated}
-use Rattle.model_giving.proofs.Aside.{cut_aside, output_aside}
-use Rattle.line_runs.specs.declared.running.RunFault.TheVariants as run
-use Rattle.simulation.proofs.Ran.{failed_by, read_again, stopped_aside, written_again}
+use Rattle.line_runs.specs.Runs.{ends}
+use Rattle.simulation.specs.Running.{IsRun}
+use Rattle.simulation.proofs.Begun.{is_run}
+use Rattle.simulation.proofs.Ran.{no_run, ran, read_again, written_again}
 use Rattle.simulation.proofs.running.whole.Goals as goal
+
+pub returns-in_err-monitor-clause-runs : goal.returns-in_err-monitor-clause-runs
+returns-in_err-monitor-clause-runs g c =
+    let at = ends (g.R.Reader.rest c.args.reader.now) (g.R.Reader.rest c.args.reader.now) (g.W.Writer.written c.args.writer.now) (g.W.Writer.written c.args.writer.now) (g.W.Writer.flushed c.args.writer.now) in
+    no_run (IsRun c.args.board.now at) c.from_residual.result _ c.from_residual.ensures.1 c.in_err-monitor.ensures.faults
 
 pub returns-in_err-run-clause-reads : goal.returns-in_err-run-clause-reads
 returns-in_err-run-clause-reads g c = read_again c.from_residual-in_err-run.result _ _ _ c.from_residual-in_err-run.ensures.1 c.in_err-run.ensures.reads
@@ -12,34 +15,15 @@ returns-in_err-run-clause-reads g c = read_again c.from_residual-in_err-run.resu
 pub returns-in_err-run-clause-writes : goal.returns-in_err-run-clause-writes
 returns-in_err-run-clause-writes g c = written_again c.from_residual-in_err-run.result _ _ _ c.from_residual-in_err-run.ensures.1 c.in_err-run.ensures.writes
 
-pub returns-in_err-run-clause-cut : goal.returns-in_err-run-clause-cut
-returns-in_err-run-clause-cut g c is =
-    let opened = c.in_ok-monitor.ensures.opened.world in
-    let fault = failed_by run.Read c.from_residual-in_err-run.result _ c.from_residual-in_err-run.ensures.1 is in
-    record {
-      world = opened.world;
-      set_up = opened.set_up;
-      end = c.run.new.monitor.world;
-      cut = rw opened.begins at (cut_aside c.in_ok-monitor.monitor c.run.new.monitor (c.in_err-run.ensures.cut (ap Err fault)));
-    }
+pub returns-in_err-run-clause-runs : goal.returns-in_err-run-clause-runs
+returns-in_err-run-clause-runs g c =
+    let opened = c.in_ok-monitor.ensures.opened in
+    let at = ends (g.R.Reader.rest c.args.reader.now) (g.R.Reader.rest c.run.new.reader) (g.W.Writer.written c.args.writer.now) (g.W.Writer.written c.run.new.writer) (g.W.Writer.flushed c.run.new.writer) in
+    ran (IsRun c.args.board.now at) c.from_residual-in_err-run.result _ c.from_residual-in_err-run.ensures.1
+    (is_run c.args.board.now _ c.run.new.monitor at _ opened c.in_err-run.ensures.runs)
 
-pub returns-in_err-run-clause-stopped : goal.returns-in_err-run-clause-stopped
-returns-in_err-run-clause-stopped g c is =
-    let opened = c.in_ok-monitor.ensures.opened.world in
-    let fault = failed_by run.Write c.from_residual-in_err-run.result _ c.from_residual-in_err-run.ensures.1 is in
-    record {
-      world = opened.world;
-      set_up = opened.set_up;
-      end = c.run.new.monitor.world;
-      stopped = λ s known. rw opened.begins at (stopped_aside c.in_ok-monitor.monitor c.run.new.monitor (c.in_err-run.ensures.stopped (ap Err fault) s known));
-    }
-
-pub returns-clause-output : goal.returns-clause-output
-returns-clause-output g c =
-    let opened = c.in_ok-monitor.ensures.opened.world in
-    record {
-      world = opened.world;
-      set_up = opened.set_up;
-      written = λ s known. rw (output_aside c.in_ok-monitor.monitor (lines s), opened.begins) at (c.in_ok-run.ensures.output s known);
-      isolated = isolated opened.world opened.lawful.guests.lawful_names;
-    }
+pub returns-clause-runs : goal.returns-clause-runs
+returns-clause-runs g c =
+    let at = ends (g.R.Reader.rest c.args.reader.now) (g.R.Reader.rest c.run.new.reader) (g.W.Writer.written c.args.writer.now) (g.W.Writer.written c.run.new.writer) (g.W.Writer.flushed c.run.new.writer) in
+    let opened = c.in_ok-monitor.ensures.opened in
+    is_run c.args.board.now _ c.run.new.monitor at _ opened c.in_ok-run.ensures.runs
