@@ -43,7 +43,8 @@ def refuse_each(room, name, words, script, mode, board=MAIN, ends="ok"):
     """Refuses each growth in turn. Each refused run answers the growth's number and writes nothing. Where one growth
     alone is refused, the run may also ask again at once, for no more bytes, and then end as one to which none is refused."""
     table = room.write("table", b"")
-    run = room.run_script(words, script, seconds=600, REFUSE_EACH=mode, TABLE=table)
+    # each growth forks the process: on the largest board that takes minutes, and more where others use the processors
+    run = room.run_script(words, script, seconds=3600, REFUSE_EACH=mode, TABLE=table)
     plain = room.run_script(words, script)
     room.expect(f"{name}: the last run has the whole output",
                 run.answer() == ends and plain.answer() == ends and run.out == plain.out, run.answer())
