@@ -5,8 +5,10 @@
 
 A transcript is drawn for a random board and answered by the library, or by the program where one is named. It is kept
 where one of its rows is of a kind that no kept one has: a register with a width, a read or a write and the kind of reply;
-a refusal; a window's write; a latch; a move. Once few come with something new, the others are kept as they come. The last
-line counts the kinds; those that are never seen among the ones that are named here would be told, and status 1 says so."""
+a refusal; a window's write; a latch; a move. Once few come with something new, the others are kept as they come. A line
+counts the kinds; those that are never seen among the ones that are named here would be told. Then the corpus is replayed
+as one who has a virtual PCI does, with the functions of guest a as the library has them, which has to agree. Status 1 says
+that a kind is lacking, or that this differs."""
 import argparse
 import re
 import sys
@@ -14,7 +16,7 @@ from collections import Counter
 from pathlib import Path
 
 import places  # noqa: F401
-from pciguest import transcript
+from pciguest import Machine, transcript
 from pciguest._board_file import text_of
 from pciguest._drawing import RandomChoices, draw_board
 from pciguest._line_drawing import draw_firmware, draw_script
@@ -118,6 +120,33 @@ class Corpus:
         return len(missing)
 
 
+class Guest(transcript.GuestBackEnd):
+    """A virtual PCI that is right: the functions of guest a, as the library has them."""
+
+    def begin(self, mode, board):
+        self.machine = Machine(board)
+        self.guest = self.machine.guest("a")
+
+    def space(self, space, slot):
+        return self.guest.config[slot] if space == "config" else getattr(self.guest, space)
+
+    def read(self, space, slot, place, width):
+        return self.space(space, slot)[place:width]
+
+    def write(self, space, slot, place, width, value):
+        self.space(space, slot)[place:width] = value
+
+    def close(self):
+        self.machine.close()
+
+
+def guest_differs(folder):
+    """How many transcripts a guest's functions answer otherwise, line by line of that guest."""
+    agree, differ = transcript.replay_files(map(str, sorted(Path(folder).glob("*.rows"))), Guest(), guest="a")
+    print(f"guest a by calls: {agree + differ} transcripts, of which differ {differ}")
+    return differ
+
+
 def main():
     parser = argparse.ArgumentParser(description=__doc__.split("\n\n")[0])
     parser.add_argument("folder")
@@ -126,7 +155,8 @@ def main():
     parser.add_argument("--program")
     options = parser.parse_args()
     back_end = transcript.Process([options.program]) if options.program else transcript.Library()
-    sys.exit(Corpus(options.folder, options.transcripts, options.seed, back_end).write() > 0)
+    wrong = Corpus(options.folder, options.transcripts, options.seed, back_end).write()
+    sys.exit(wrong + (0 if options.program else guest_differs(options.folder)) > 0)
 
 
 if __name__ == "__main__":

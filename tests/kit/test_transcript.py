@@ -100,8 +100,23 @@ class Transcripts(unittest.TestCase):
                          ["a: 0x0010", "a: 0x00000004", "a: ok", "a: ok"])
         self.assertEqual(mine.written, [("config", 1, 4, 2, 0x2345), ("io", 0, 8, 1, 1)])
         for line in ("", "a", "# a", "host mr 0 4", "a cr 0 2 4", "a cr 0 0 3", "a cr 32 0 4", "a cr 0 256 4", "a cr 0 4",
-                     "a mw 0 4", "a mr x 4", "a raise 0 cfg 7 1", "a xr 0 4", "host move a 0 b 1"):
+                     "a mw 0 4", "a mr x 4", "a cr +0 0 4", "a cr 0 0_0 4", "a cr 0 0 \u0664", "a cw 0 4 2 0x100000000",
+                     f"a cr 0 0 {4:0192}", "a\vcr 0 0 4", "a raise 0 cfg 7 1", "a xr 0 4", "host move a 0 b 1"):
             self.assertIsNone(mine.answer(line), line)
+
+    def test_raises_that_are_not_answered(self):
+        rows = [("a raise 00 cfg 0x7 128", "a: ok"), ("a cr 0 4 4", "a: 0x80000000"), ("a cr 0 8 4", "a: 0x00000000"),
+                ("a ir 0xcfc 4", "a: 0x80000000"), ("a mr 0x80000000 4", "a: 0x00000000"), ("a raise 1 bar0 0 1", "a: ok"),
+                ("a mr 0x80000000 4", "a: 0x00000001")]
+        section = self.sections[0]._replace(rows=rows)
+        without = {line: "a: 0x00000000" for line, _ in rows if "raise" not in line}
+        with mock.patch.object(transcript, "rule_at", return_value="the rule"):
+            self.assertIsNone(transcript.replay(Fixed(without), section, "the board"))
+            for line in ("a cr 0 8 4", "a mr 0x80000000 4"):
+                wrong = transcript.replay(Fixed({**without, line: "a: 0xffffffff"}), section, "the board")
+                self.assertEqual(wrong.line, line)
+            raised = {**without, "a raise 00 cfg 0x7 128": "a: ok"}
+            self.assertEqual(transcript.replay(Fixed(raised), section, "the board").line, "a cr 0 4 4")
 
     def test_who_takes_part(self):
         section = self.sections[0]

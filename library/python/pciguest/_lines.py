@@ -9,6 +9,8 @@ from typing import Callable, NamedTuple, Optional
 from ._calls import CONFIG, IO, MEMORY
 
 SPACES = {b"c": CONFIG, b"i": IO, b"m": MEMORY}
+#: most bytes of a line
+LONGEST = 200
 
 
 class Access(NamedTuple):
