@@ -344,7 +344,7 @@ DECLARED: Dict[str, Tuple[Any, Tuple[Any, ...]]] = {
     # that is given is reset first, but for what guests have copies of, and the board's CONFIG_ADDRESS is cleared. The
     # struct of the board then holds none. Where it is refused, both structs are as they were.
     # 901: there is no board. 903: the struct of the machine holds one already. 207: the audit tells a problem. 206: a
-    # region of a function that is to be given is closed. 199, 299: out of memory. 901, 903 and 207 come in this order
-    # before 206; pciguest_board_audit tells the problems of 207.
+    # region of a function that is to be given is closed. 299: out of memory. 901, 903 and 207 come in this order before
+    # 206; pciguest_board_audit tells the problems of 207.
     "board_guests": (c_uint32, (POINTER(BoardHandle), POINTER(Handle))),
 }
