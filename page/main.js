@@ -122,7 +122,7 @@ function take(text, file) {
   part.report.textContent = text;
   const bridges = functions.filter(one => one.kind === 'bridge').length;
   const counts = [[functions.length - bridges, 'endpoint'], [bridges, 'bridge'], ...(as === 'firmware' ? [] : [[marks.size, 'guest']])];
-  tell(false, `${as === 'firmware' ? 'At reset' : 'Set up'}: ${counts.map(([count, name]) => count_in_words(count, name)).join(', ')}`);
+  tell(false, `${as === 'firmware' ? 'Driven by firmware' : 'Set up'}: ${counts.map(([count, name]) => count_in_words(count, name)).join(', ')}`);
 }
 
 // Sets the board up anew, and draws it.
