@@ -46,7 +46,7 @@ gate:
 
 # The gate, and then the library for C as its user links it, over what the gate left, and what is installed and packed.
 test:
-	@tests/parts.py $(GATE) 'tools/library --after-gate; cp crates/pciguest/out/pciguest pciguest' \
+	@tests/parts.py $(GATE) 'tools/library --after-gate; cp -f crates/pciguest/out/pciguest pciguest' \
 	  tests/library.sh tests/install.sh 'tests/schema.py ./pciguest'
 
 # All that stands outside the gate, whole. A part whose packages are missing here is skipped, and they are named.
@@ -62,7 +62,7 @@ edits:
 # Leaves the proved program as ./pciguest. Proved is what it stands on, and nothing else.
 build:
 	@$(PROVE) pciguest
-	@cp crates/pciguest/out/pciguest pciguest
+	@cp -f crates/pciguest/out/pciguest pciguest
 	@echo 'pciguest: proved and built'
 
 # Leaves the proved library for C as library/libpciguest.a and library/libpciguest.so.0, beside library/pciguest.h.
@@ -181,12 +181,16 @@ library/libpciguest.a library/libpciguest.so.0:
 EXPORTS := $(addprefix pciguest_raw_,new free guest region report check run_line \
   board_new board_free board_run_line board_audit)
 page: pciguest
-	@mkdir -p page/out
 	@$(PROVE) pciguest_c
-	@page/module pciguest_c page/out/pciguest.wasm $(EXPORTS)
+	@$(MAKE) --no-print-directory page/out/pciguest.wasm
 	@page/compare page/out/pciguest.wasm ./pciguest
 	@page/assemble page/out/pciguest.wasm pciguest.html
 	@echo 'pciguest.html: open it in a browser'
+
+# The module takes some minutes, and is made once for each library that is proved.
+page/out/pciguest.wasm: crates/pciguest_c/out/libpciguest_c.a page/module page/heap.c Makefile
+	@mkdir -p page/out
+	@page/module pciguest_c $@ $(EXPORTS)
 
 # The page as a reader uses it, in headless Chromium; screenshots are left in page/out.
 browse: page
