@@ -23,21 +23,37 @@ class Browser:
         target = self.ask('Target.createTarget', url='about:blank')['targetId']
         self.session = self.ask('Target.attachToTarget', targetId=target, flatten=True)['sessionId']
 
-    def ask(self, method, **parameters):
+    def say(self, method, **parameters):
         self.count += 1
         message = {'id': self.count, 'method': method, 'params': parameters}
         if self.session:
             message['sessionId'] = self.session
         os.write(self.out, json.dumps(message).encode() + b'\0')
+
+    def ask(self, method, **parameters):
+        self.say(method, **parameters)
         while True:
             while b'\0' not in self.rest:
-                self.rest += os.read(self.back, 1 << 20)
+                said = os.read(self.back, 1 << 20)
+                if not said:
+                    sys.exit(f'{method}: Chromium has ended')
+                self.rest += said
             said, self.rest = self.rest.split(b'\0', 1)
             answer = json.loads(said)
             if answer.get('id') == self.count:
                 if 'error' in answer:
                     sys.exit(f'{method}: {answer["error"]["message"]}')
                 return answer['result']
+
+    def close(self):
+        """Lets it end with all its processes, which write into its folder until then."""
+        self.session = None
+        try:
+            self.say('Browser.close')
+            self.process.wait(60)
+        except (OSError, subprocess.TimeoutExpired):
+            self.process.kill()
+            self.process.wait()
 
     def run(self, script):
         answer = self.ask('Runtime.evaluate', expression=script, returnByValue=True, awaitPromise=True)
