@@ -40,7 +40,7 @@ pciguest:
 # the must-fail edits, the tests and the programs; then the proved program as its user runs it, the commands that the
 # documents print, and each growth of memory refused in turn on the main board. At the end stands how long each took.
 GATE := tests/documents.sh tests/kit.sh tests/tools.sh tests/prove.sh 'rm -rf .prove; rt ci' tests/program.sh \
-  tests/commands.sh 'python3 tests/hostile/growths.py crates/pciguest/out/pciguest --quick'
+  tests/commands.sh 'python3 tests/hostile/growths.py crates/pciguest/out/pciguest --quick --arrays crates/examples/out/examples'
 gate:
 	@tests/parts.py $(GATE)
 

@@ -1,10 +1,12 @@
 """Each growth of memory refused in turn: to the one growth alone, and to it and all after it. Each has a number of its own
 that it answers, by what the program is doing then.
 
-    growths.py PROGRAM [--quick]
+    growths.py PROGRAM [--quick] [--arrays EXAMPLES]
 
-With --quick the largest board is left out."""
+With --quick the largest board is left out. EXAMPLES is the program of the crate examples, which runs a script from an array
+into an array."""
 import collections
+import os
 import sys
 
 from harness import AUDIT, DATA, LARGEST, MAIN, PLACES, Room, fault_line
@@ -62,8 +64,7 @@ def refuse_each(room, name, words, script, mode, board=MAIN, ends="ok"):
 
 
 def same_count(room, name, words, scripts):
-    """A run makes as many growths with an empty script as with any other, all before it reads. What it reads into and what
-    it keeps its output in are of fixed size."""
+    """A run makes as many growths with an empty script as with any other, all before it reads."""
     _, empty = room.counted(words, b"")
     for script_name, script in scripts:
         run, counts = room.counted(words, script)
@@ -72,6 +73,21 @@ def same_count(room, name, words, scripts):
         room.expect(f"{name}, {script_name}: growths", counts.growths == empty.growths and before == counts.growths,
                     f"{counts.growths}, {before} before reading, {empty.growths} with an empty script")
     print(f"| {name} | {empty.growths} growths with an empty script and with {len(scripts)} others |", flush=True)
+
+
+def same_count_in_arrays(room, examples, scripts):
+    """A script that stands in an array, whose output goes into an array, takes as many growths as an empty one. What is
+    written is what the program writes."""
+    program, room.program = room.program, examples
+    asked = [(name, script, room.counted([MAIN, room.write("asked", script)], b"")) for name, script in scripts]
+    room.program = program
+    growths = {counts.growths for _, _, (_, counts) in asked}
+    room.expect("from an array into an array: growths", len(growths) == 1, growths)
+    for name, script, (run, _) in asked:
+        wanted = room.run_script(["run", MAIN], script).out
+        room.expect(f"from an array into an array, {name}", run.answer() == "ok" and run.out == wanted, run.out)
+    told = ", ".join(map(str, growths))
+    print(f"| from an array into an array | {told} growths with an empty script and with {len(scripts) - 1} others |", flush=True)
 
 
 def long_scripts():
@@ -103,6 +119,9 @@ def main(program, *options):
     same_count(room, "run, main board", ["run", MAIN], scripts)
     if largest:
         same_count(room, "run, largest board", ["run", LARGEST], scripts)
+    if "--arrays" in options:
+        examples = os.path.abspath(options[options.index("--arrays") + 1])
+        same_count_in_arrays(room, examples, [("an empty script", b""), *scripts[:-2]])
     return room.end()
 
 

@@ -1,16 +1,21 @@
 //! The boards of `data`, each with its report, or with the reason why it is refused; scripts, with what
 //! they write over a board; firmware's lines over a board at reset; what a check says of boards; and guests'
 //! accesses to their regions, compared with accesses to the places where set-up put these.
+//!
+//! With two words, `examples BOARD SCRIPT`, it writes what that script writes over that board, read from an array and
+//! written into one.
 #![tactic(auto)]
 
+mod in_arrays;
 mod landings;
 
+use crate::in_arrays::run_in_arrays;
 use crate::landings::compare_landings;
 use simulation::{Fault, OutputStream, Style, board_bytes, check, drive, list, whole};
 use std::alloc::Global;
-use std::io;
 use std::process::ExitCode;
-use std::rt::Files;
+use std::rt::{Env, Files};
+use std::{env, io};
 use test_streams::FakeReader;
 
 /// Boards that can be set up, then one for each reason why a file or its board is refused, and a name
@@ -260,9 +265,18 @@ fn write_all(rt: &(impl AllocGlobal + Files + Print)) -> io::Result<()> {
     land_on_all(rt)
 }
 
+/// Writes all of this, or what the script that the words name writes.
+fn serve(rt: &(impl AllocGlobal + Env + Files + Print)) -> Option<()> {
+    let words: Vec<String> = env::args(rt).ok()?.collect(rt.alloc()).ok()?;
+    if words.len() < 3 {
+        return write_all(rt).ok();
+    }
+    run_in_arrays(rt, words[1].as_str(), words[2].as_str()).ok()
+}
+
 fn main(rt: HostRuntime) -> ExitCode {
-    match write_all(&rt) {
-        Ok(()) => ExitCode::SUCCESS,
-        Err(_) => ExitCode::FAILURE,
+    match serve(&rt) {
+        Some(()) => ExitCode::SUCCESS,
+        None => ExitCode::FAILURE,
     }
 }

@@ -1,0 +1,36 @@
+//! A run whose reader and writer are arrays: what takes memory is the board alone.
+use simulation::{Fault, board_bytes, whole};
+use std::io::{Read, Write};
+use std::rt::Files;
+use std::{fs, io};
+use test_streams::{FakeReader, FakeWriter};
+
+/// How many bytes of a file were read into an array. What does not fit is left out.
+fn read_into(rt: &impl Files, path: &str, bytes: &mut [u8]) -> Option<usize> {
+    let mut file = fs::open(rt, path).ok()?;
+    file.read(bytes).ok()
+}
+
+/// Writes what the script of a file, of at most 4096 bytes, writes over the board of a file.
+pub(crate) fn run_in_arrays(
+    rt: &(impl AllocGlobal + Files + Print),
+    board: &str,
+    script: &str,
+) -> Result<(), Fault> {
+    let alloc = rt.alloc();
+    let board = board_bytes(rt, alloc, board)?;
+    let mut bytes = [0; 4096];
+    let Some(length) = read_into(rt, script, &mut bytes) else {
+        return Err(Fault::Read);
+    };
+    let Some(script) = bytes.get(..length) else {
+        return Err(Fault::Read);
+    };
+    let mut reader = FakeReader::new(script, 64, None);
+    let mut writer = FakeWriter::<4096>::new(4096, None);
+    whole(alloc, &board, &mut reader, &mut writer)?;
+    match io::writer(rt).write_all(writer.flushed()) {
+        Ok(()) => Ok(()),
+        Err(_) => Err(Fault::Write),
+    }
+}
