@@ -1,2 +1,4 @@
 pub mod SessionLines
 pub mod HandoverLines
+pub mod Written
+pub mod GivenBoards

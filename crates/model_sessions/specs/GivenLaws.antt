@@ -1,25 +1,39 @@
 -- What guests see of a board that was given, whoever set it up.
+--     IsGiven w s m      the guests of a world before any line, over its board as it was handed over
+--     AreAlike name m n one other      a guest is told the same of two boards, each with a script of its own, and holds
+--         the same
 --     GivenIsolated      each guest's replies, and what it holds, are those of its own inputs over its own functions
 --     GivenAlike      two boards and two scripts that agree on a guest tell it the same, and it holds the same
 --     GivenAsSetUp      each script tells each guest what it tells it after our own set-up, and guests hold the same
 --     GivenStays      along any lines the board is in order, with each region of a given function open
-use Rattle.std.specs.Prelude.{◌≡◌, List, IsTrue}
+--     OrderlyStays      of such a board an audit tells no problem
+use Rattle.std.specs.Prelude.{◌≡◌, List, [], IsTrue}
+use Rattle.model_board.specs.AtReset.{board_at}
+use Rattle.model_board.specs.State.{State}
 use Rattle.model_guests.specs.Text.{Text, lines}
 use Rattle.model_guests.specs.Grammar.{has_name}
-use Rattle.model_guests.specs.World.{World, names}
+use Rattle.model_guests.specs.World.{World, names, IsLawfulWorld}
 use Rattle.model_guests.specs.Replies.{reply_lines}
 use Rattle.model_guests.specs.Guests.{guests_at_first, lone_of}
-use Rattle.model_guests.specs.WorldNow.{WorldNow, output, after_lines}
+use Rattle.model_guests.specs.WorldNow.{WorldNow, world_over, world_at_first, board_state, output, after_lines}
 use Rattle.model_guests.specs.Inputs.{inputs}
 use Rattle.model_guests.specs.Isolation.{IsDecidedBy, AgreeOn}
+use Rattle.model_audit.specs.Problems.{problems}
+use Rattle.model_handoff.specs.Handoffs.{IsHandoff, taken_over}
 use Rattle.model_handoff.specs.Kept.{IsLawfulOver}
-use Rattle.host_bridge.specs.HostState.{HostState}
-use Rattle.simulation.specs.Running.{IsOpened}
-use Rattle.driven_board.specs.Giving.{IsGiven}
+use Rattle.model_handoff.specs.Regions.{CanBeGiven}
+
+-- each given function is at reset, but for what guests have copies of, and the address latch is clear
+pub record IsGiven (w : World) (s : State) (m : WorldNow) : Type 0 where
+  pub lawful : IsLawfulWorld w
+  pub board : board_at s.functions ≡ w.board
+  pub handoff : IsHandoff s
+  pub can : CanBeGiven w s
+  pub begins : m ≡ world_over w (taken_over w s)
 
 -- of a board that was given
-abbrev pub OfGiven : ((m : WorldNow) → World → Type 0) → Type 0
-OfGiven P = (file : Text) (h : HostState) (m : WorldNow) → (given : IsGiven file h m) → P m given.world
+abbrev pub OfGiven : (WorldNow → World → Type 0) → Type 0
+OfGiven P = (w : World) (s : State) (m : WorldNow) → IsGiven w s m → P m w
 
 abbrev pub GivenIsolated : Type 0
 GivenIsolated = OfGiven (λ m w. (name script : Text) → IsTrue (has_name (names w) name)
@@ -34,8 +48,11 @@ GivenAlike = OfGiven (λ m v. OfGiven (λ n w. (name one other : Text) → Agree
     → AreAlike name m n one other))
 
 abbrev pub GivenAsSetUp : Type 0
-GivenAsSetUp = (file : Text) (h : HostState) (m n : WorldNow) → (given : IsGiven file h m) → IsOpened file n
-    → (name script : Text) → IsTrue (has_name (names given.world) name) → AreAlike name m n script script
+GivenAsSetUp = OfGiven (λ m w. (name script : Text) → IsTrue (has_name (names w) name)
+    → AreAlike name m (world_at_first w) script script)
 
 abbrev pub GivenStays : Type 0
 GivenStays = OfGiven (λ m w. (ls : List Text) → IsLawfulOver (after_lines m ls))
+
+abbrev pub OrderlyStays : Type 0
+OrderlyStays = (m : WorldNow) → IsLawfulOver m → problems (board_state m).functions ≡ []
