@@ -9,7 +9,7 @@ use Rattle.report.specs.Found.{ended}
 use Rattle.monitor.specs.declared.handover.HandoverFault.{HandoverFault}
 use Rattle.monitor.specs.declared.handover.HandoverFault.TheVariants.{NotInOrder, Closed, Memory}
 use Rattle.monitor.specs.Handovers.{number_of, words_of, handoff_fault}
-use Rattle.sessions.specs.Tellings.{cause_text}
+use Rattle.session.specs.Tellings.{cause_text}
 
 abbrev refusal : HandoverFault → Text
 refusal f = ended (refused_line (number_of f) (words_of f))

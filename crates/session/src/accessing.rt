@@ -10,7 +10,7 @@ ghost use Rattle.host_bridge.specs.HostState.{with_functions, with_latch};
 ghost use Rattle.accesses.specs.Accesses.{reply_of};
 ghost use Rattle.accesses.specs.Replies.{IsRefusal, IsShown};
 ghost use Rattle.lines.specs.FirmwareLines.{host_asked};
-ghost use Rattle.firmware.specs.Hosts.{after_asked};
+ghost use Rattle.session.specs.Hosts.{after_asked};
 
 use accesses::{Bdf, HostAccess, HostAt, Reply};
 use config_bytes::{enables_of, into_lanes, lowered};

@@ -1,43 +1,39 @@
 //! A board that firmware drives.
-ghost use Rattle.std.specs.Prelude.{◌≡◌, ◌≢◌, false, not, IfOk, IfErr, length, string_bytes};
+ghost use Rattle.std.specs.Prelude.{◌≡◌, ◌≢◌, ◌≤◌, ◌++◌, ◌∷◌, [], false, not, codes, length};
+ghost use Rattle.std.specs.Prelude.{MatchOption, IfOk, IfErr, IfSome, map, string_bytes};
 ghost use Rattle.std.specs.Bool.{OnTrue};
 ghost use Rattle.model_guests.specs.Accesses.{reads, writes};
+ghost use Rattle.model_guests.specs.Replies.{reply_text};
+ghost use Rattle.model_guests.specs.Text.{Text};
 ghost use Rattle.model_audit.specs.AuditText.{audit};
 ghost use Rattle.model_audit.specs.Problems.{problems};
 ghost use Rattle.model_giving.specs.Changes.{BeginsIn};
 ghost use Rattle.model_firmware.specs.HostAccesses.{answer};
 ghost use Rattle.model_firmware.specs.FirmwareLines.{line_output};
+ghost use Rattle.model_sessions.specs.GivenLaws.{IsGiven};
+ghost use Rattle.model_sessions.specs.Sessions.{at_reset, after_board_access, after_board_line};
 ghost use Rattle.accesses.specs.Accesses.{reply_of};
-ghost use Rattle.accesses.specs.Replies.{IsRefusal};
+ghost use Rattle.accesses.specs.Replies.{IsRefusal, IsShown};
 ghost use Rattle.lines.specs.FirmwareLines.{host_asked};
+ghost use Rattle.line_runs.specs.Pieces.{IsBefore};
 ghost use Rattle.board_file.specs.declared.fault.BoardFault.TheVariants.{Memory};
 ghost use Rattle.board_file.specs.Faults.{number_of as file_number};
-ghost use Rattle.simulation.specs.Faults.{OnFile, OnSetUp, IsOfBoard};
-ghost use Rattle.simulation.specs.Listing.{Refuses, Breaks};
-ghost use Rattle.simulation.specs.Running.{IsOpened};
-ghost use Rattle.driven_board.specs.Boards.{IsResetBoard, after_read, after_write, after_line};
-ghost use Rattle.driven_board.specs.Giving.{IsGiven, IsRefusalOf};
+ghost use Rattle.session.specs.Boards.{IsRefusalOf};
+ghost use Rattle.session.specs.Faults.{OnFile, OnSetUp};
+ghost use Rattle.session.specs.Files.{Declares, Refuses, BreaksRule, IsAtFirst};
 
-use accesses::GuestDecl;
+use crate::accessing;
+use crate::audit::Audit;
+use crate::opening::{self, OpenFault};
+use accesses::{GuestDecl, HostAccess, Refusal, Reply};
 use audit_text::problems_text;
 use board_audit::problems;
 use board_file::{BoardFault, read_board};
-use firmware::{Host, HostAccess, Reply};
-use lines::LineText;
+use host_bridge::Host;
+use lines::{FirmwareWhat, LineText, firmware_meaning, push_named};
 use monitor::{Monitor, Refused};
-use simulation::Fault;
 use std::alloc::{AllocError, Global};
 use std::marker::Model;
-
-/// What a line writes whose write was done.
-const OK_LINE: &[u8] = b"host: ok\n";
-
-/// What is wrong in the registers of a board: its text, and how many problems there are.
-#[derive(Drop)]
-pub struct Audit {
-    pub text: String,
-    pub problems: usize,
-}
 
 /// The board that a board file declares, from reset on, with the bytes and the guests of the file. Whether a
 /// write was done since reset is kept, so that our own set-up runs on a board at reset alone.
@@ -50,24 +46,22 @@ pub struct Board {
 }
 
 impl Model for Board {
-    ghost use Rattle.std.specs.Prelude.{◌≡◌, false};
-    ghost use Rattle.driven_board.specs.Boards.{BoardNow, IsBoardOf, IsResetBoard};
+    ghost use Rattle.model_sessions.specs.Sessions.{DrivenNow};
+    ghost use Rattle.session.specs.Boards.{board_now, IsBoardOf};
 
-    ghost Value = { BoardNow };
+    ghost Value = { DrivenNow };
 
-    ghost view = { λ b. record { file = b.file.items; host = b.host; written = b.written } };
+    ghost view = { λ b. board_now b.host b.guests.items b.written };
 
-    ghost invariant = { λ b. IsBoardOf b.file.items b.host b.guests.items
-        × (b.written ≡ false → IsResetBoard b.file.items b.host) };
+    ghost invariant = { λ b. IsBoardOf b.file.items (board_now b.host b.guests.items b.written) };
 }
 
 impl Board {
     /// The board of a board file, at reset. The guests of the file are checked and kept, and no function is
     /// given to them. Refused are the file (101 to 112) and lack of memory (199).
     pub fn open(alloc: Global, file: &[u8]) -> Result<Board, BoardFault>
-        ensures file { IfOk result (λ b. b.file ≡ file.now) }
-        ensures untouched { IfOk result (λ b. b.written ≡ false) }
-        ensures reset { IfOk result (λ b. IsResetBoard file.now b.host) }
+        ensures declared { IfOk result (λ b. Declares file.now b.world) }
+        ensures reset { IfOk result (λ b. b ≡ at_reset b.world) }
         ensures refused { IfErr result (λ f. f ≢ Memory → Refuses file.now (file_number f)) }
     {
         let (host, guests) = read_board(alloc, file)?;
@@ -85,57 +79,99 @@ impl Board {
     /// Whether the board is at reset, as no write was done on it.
     pub fn is_at_reset(&self) -> bool
         ensures untouched { result ≡ not self.now.written }
-        ensures reset { OnTrue result (IsResetBoard self.now.file self.now.host) }
+        ensures reset { OnTrue result (self.now ≡ at_reset self.now.world) }
     {
         !self.written
     }
 
     /// Answers a read of firmware, or refuses it and changes nothing. No memory is taken.
     pub fn read(&mut self, from: HostAccess) -> Reply
-        ensures reply { reply_of result ≡ answer self.old.host.state (host_asked from reads) }
-        ensures after { self.new ≡ after_read self.old (host_asked from reads) }
+        ensures reply { reply_of result ≡ answer self.old.state (host_asked from reads) }
+        ensures after { self.new ≡ after_board_access self.old (host_asked from reads) }
+        ensures shown { IsShown result }
         ensures refused { IsRefusal result → self.new ≡ self.old }
     {
-        firmware::read(&mut self.host, from)
+        accessing::read(&mut self.host, from)
     }
 
     /// Writes as firmware does, or refuses the write and changes nothing. No memory is taken.
     pub fn write(&mut self, to: HostAccess, value: u32) -> Reply
-        ensures reply { reply_of result ≡ answer self.old.host.state (host_asked to (writes value)) }
-        ensures after { self.new ≡ after_write self.old (host_asked to (writes value)) }
+        ensures reply { reply_of result ≡ answer self.old.state (host_asked to (writes value)) }
+        ensures after { self.new ≡ after_board_access self.old (host_asked to (writes value)) }
+        ensures shown { IsShown result }
         ensures refused { IsRefusal result → self.new ≡ self.old }
     {
-        let reply = firmware::write(&mut self.host, to, value);
+        let reply = accessing::write(&mut self.host, to, value);
         if matches!(reply, Reply::Done) {
             self.written = true;
         }
         reply
     }
 
-    /// Runs a line of firmware, which is given without its line feed, and gives what the line writes:
-    /// nothing, or one line with its line feed. No memory is taken.
-    pub fn run_line(&mut self, line: &[u8]) -> LineText
-        ensures text { result.items ≡ line_output self.old.host.state line.now }
-        ensures after { self.new ≡ after_line self.old line.now }
+    /// Runs the event of a line, and gives under which name it is answered and with what, if the line makes
+    /// output.
+    fn reply_to(&mut self, line: &[u8]) -> Option<(&'static [u8], Reply)>
+        ensures text { MatchOption result (line_output self.old.state line.now ≡ []) (λ a.
+            line_output self.old.state line.now ≡ a.0.now ++ codes ": " ++ reply_text (reply_of a.1) ++ 10 ∷ []) }
+        ensures after { self.new ≡ after_board_line self.old line.now }
+        ensures short { IfSome result (λ a. length a.0.now ≤ 16) }
+        ensures shown { IfSome result (λ a. IsShown a.1) }
     {
-        let text = firmware::run_line(&mut self.host, line);
-        if text.as_slice() == OK_LINE {
-            self.written = true;
+        match firmware_meaning(line) {
+            FirmwareWhat::Nothing => None,
+            FirmwareWhat::Read(from) => {
+                let reply = self.read(from);
+                Some((b"host", reply))
+            }
+            FirmwareWhat::Write(to, value) => {
+                let reply = self.write(to, value);
+                Some((b"host", reply))
+            }
+            FirmwareWhat::NoForm => Some((b"host", Reply::Refused(Refusal::BadLine))),
+            FirmwareWhat::NotOfHost(why) => Some((b"?", Reply::Refused(why))),
         }
-        text
+    }
+
+    /// Runs the event of a line, and writes what the line writes into an empty text.
+    fn push_answer(&mut self, line: &[u8], text: &mut LineText)
+        requires { text.old.items ≡ [] }
+        ensures text { text.new.items ≡ line_output self.old.state line.now }
+        ensures after { self.new ≡ after_board_line self.old line.now }
+    {
+        let Some((name, reply)) = self.reply_to(line) else {
+            return;
+        };
+        push_named(text, name, reply);
+    }
+
+    /// Runs a line of firmware, which is given without its line feed, and writes what the line writes into an
+    /// empty text: nothing, or one line with its line feed. If `long`, bytes of the line were passed over. No
+    /// memory is taken.
+    pub(crate) fn answer_line(&mut self, line: &[u8], long: bool, text: &mut LineText)
+        requires { text.old.items ≡ [] }
+        ensures text { (before : Text) → IsBefore long before →
+            text.new.items ≡ line_output self.old.state (before ++ line.now) }
+        ensures after { (before : Text) → IsBefore long before →
+            self.new ≡ after_board_line self.old (before ++ line.now) }
+    {
+        // No event runs, and all such lines write the same.
+        if long {
+            push_named(text, b"?", Reply::Refused(Refusal::LongLine));
+            return;
+        }
+        self.push_answer(line, text);
     }
 
     /// What our own set-up makes of this board, which is at reset: a board that is set up, with its functions
     /// given to the guests of the file. It reads the file once more, so this board stays as it is, whatever
     /// comes of it. Refused are the board (201 to 205) and lack of memory (199 or 299).
-    pub fn set_up(&self, alloc: Global) -> Result<Monitor, Fault>
+    pub fn set_up(&self, alloc: Global) -> Result<Monitor, OpenFault>
         requires { self.now.written ≡ false }
-        ensures opened { IfOk result (BeginsIn (IsOpened self.now.file)) }
-        ensures placement { IfErr result (OnSetUp (Breaks self.now.file)) }
+        ensures made { IfOk result (BeginsIn (IsAtFirst self.now.world)) }
+        ensures placement { IfErr result (OnSetUp (BreaksRule self.now.world)) }
         ensures accepted { IfErr result (OnFile (λ _. ⊥)) }
-        ensures faults { IfErr result IsOfBoard }
     {
-        simulation::open(alloc, &self.file)
+        opening::open(alloc, &self.file)
     }
 
     /// Gives the functions of this board to the guests of its file, as the board stands, whoever set it up.
@@ -143,9 +179,9 @@ impl Board {
     /// cleared. Refused are a problem that the audit tells (207), a closed region of a given function (206),
     /// and lack of memory (299): then the board is given back as it was.
     pub fn hand_over(self, alloc: Global) -> Result<Monitor, Refused<Board>>
-        ensures given { IfOk result (BeginsIn (IsGiven self.file self.host)) }
+        ensures given { IfOk result (BeginsIn (IsGiven self.world self.state)) }
         ensures kept { IfErr result (λ r. r.board ≡ self) }
-        ensures refused { IfErr result (λ r. IsRefusalOf self.file self.host r.fault) }
+        ensures refused { IfErr result (λ r. IsRefusalOf self r.fault) }
     {
         let Board {
             file,
@@ -171,15 +207,11 @@ impl Board {
     /// All that is wrong in the registers as they stand, whoever wrote them. Nothing changes, also where memory
     /// is out.
     pub fn audit(&mut self, alloc: Global) -> Result<Audit, AllocError>
-        ensures text { IfOk result (λ a. string_bytes a.text ≡ audit self.old.host.state.functions) }
-        ensures problems { IfOk result (λ a. a.problems ≡ length (problems self.old.host.state.functions)) }
+        ensures text { IfOk result (λ a. string_bytes a.text ≡ audit self.old.state.functions) }
+        ensures problems { IfOk result (λ a. a.problems ≡ length (problems self.old.state.functions)) }
         ensures after { self.new ≡ self.old }
     {
         let found = problems(alloc, &mut self.host)?;
-        let text = problems_text(alloc, &found)?;
-        Ok(Audit {
-            text,
-            problems: found.len(),
-        })
+        Audit::of(alloc, &found)
     }
 }

@@ -4,7 +4,7 @@ ghost use Rattle.model_sessions.specs.Sessions.{session_protocol};
 ghost use Rattle.line_runs.specs.Faults.{read_failures_of, write_failures_of};
 ghost use Rattle.line_runs.specs.Runs.{Runs, ends};
 
-use crate::answers::{Session, SessionLines};
+use crate::session::{Session, SessionLines};
 use line_runs::RunFault;
 use streams::{Reader, Writer};
 

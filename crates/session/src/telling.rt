@@ -3,7 +3,7 @@ ghost use Rattle.std.specs.Prelude.{◌≡◌, ◌++◌, OnOk, IfOk, IfSome, IsS
 ghost use Rattle.model_sessions.specs.Sessions.{closed_text, refused_line, handover_output};
 ghost use Rattle.report.specs.Found.{ended};
 ghost use Rattle.monitor.specs.Handovers.{number_of, words_of, handoff_fault};
-ghost use Rattle.sessions.specs.Tellings.{cause_text};
+ghost use Rattle.session.specs.Tellings.{cause_text};
 
 use audit_text::push_problem;
 use monitor::{ClosedRegion, HandoverFault};

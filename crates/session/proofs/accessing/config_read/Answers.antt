@@ -3,7 +3,7 @@ use Rattle.model_registers.specs.ByteEnables.{lanes, enables_of}
 use Rattle.model_board.specs.Ports.{config_reply}
 use Rattle.model_board.proofs.ConfigAccesses.{config_read_by_lanes}
 use Rattle.paths.specs.BusAddresses.{bus_address_of}
-use Rattle.firmware.proofs.accessing.config_read.Goals as goal
+use Rattle.session.proofs.accessing.config_read.Goals as goal
 
 pub returns-clause-value : goal.returns-clause-value
 returns-clause-value c =

@@ -6,7 +6,7 @@ use Rattle.model_board.specs.Ports.{after_config_write}
 use Rattle.model_board.proofs.ConfigAccesses.{config_write_by_lanes}
 use Rattle.paths.specs.BusAddresses.{bus_address_of}
 use Rattle.host_bridge.specs.HostState.{with_functions, with_latch}
-use Rattle.firmware.proofs.accessing.config_write.Goals as goal
+use Rattle.session.proofs.accessing.config_write.Goals as goal
 
 pub returns : goal.returns
 returns c =

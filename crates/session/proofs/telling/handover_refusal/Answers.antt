@@ -1,5 +1,5 @@
-use Rattle.sessions.proofs.Refusals.{refusal_written}
-use Rattle.sessions.proofs.telling.handover_refusal.Goals as goal
+use Rattle.session.proofs.Refusals.{refusal_written}
+use Rattle.session.proofs.telling.handover_refusal.Goals as goal
 
 pub returns-clause-text : goal.returns-clause-text
 returns-clause-text c =
