@@ -7,7 +7,7 @@ use Rattle.model_guests.specs.Text.{Text}
 use Rattle.model_guests.specs.World.{Guest, IsLawfulWorld}
 use Rattle.model_handoff.specs.Handoffs.{IsHandoff}
 use Rattle.model_handoff.specs.Regions.{first_fault}
-use Rattle.model_sessions.specs.Sessions.{DrivenNow, at_reset}
+use Rattle.model_lines.specs.Sessions.{DrivenNow, at_reset}
 use Rattle.host_bridge.specs.HostState.{HostState}
 use Rattle.monitor.specs.Beginnings.{world_on}
 use Rattle.monitor.specs.Handovers.{handoff_fault}

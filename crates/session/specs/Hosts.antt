@@ -1,6 +1,6 @@
 -- Firmware's accesses over a host bridge. Set-up's apertures stay, whatever firmware does.
 --     after_asked h a      the host bridge after an access
-use Rattle.model_firmware.specs.HostAccesses.{HostAccess, after_access}
+use Rattle.model_lines.specs.HostAccesses.{HostAccess, after_access}
 use Rattle.host_bridge.specs.HostState.{HostState}
 
 abbrev pub after_asked : HostState → HostAccess → HostState

@@ -3,8 +3,8 @@
 --     LendsMonitor s m      it is given, with the guests that were left behind m
 use Rattle.std.specs.Prelude.{Option}
 use Rattle.std.specs.Borrow.{LendsIf, MutBor, Fml}
-use Rattle.model_giving.specs.Changes.{MachineNow}
-use Rattle.model_sessions.specs.Sessions.{DrivenNow, SessionNow, driven, given}
+use Rattle.model_handoff.specs.Changes.{MachineNow}
+use Rattle.model_lines.specs.Sessions.{DrivenNow, SessionNow, driven, given}
 use Rattle.claim_table.specs.contracts.table.Table as table
 use Rattle.claim_table.specs.contracts.table.TableRoute.TheImpl as route
 use Rattle.monitor.specs.contracts.engine.Engine as engine

@@ -5,8 +5,8 @@
 --     IsDriven x, IsGiven x      which of the two it is
 --     asks_audit, asks_guests      what a line asks for
 use Rattle.std.specs.Prelude.{Bool, true, false, [], Option, None, Some, IsSome, ⊤}
-use Rattle.model_giving.specs.Changes.{MachineNow}
-use Rattle.model_sessions.specs.Sessions.{DrivenNow, SessionNow, driven, given}
+use Rattle.model_handoff.specs.Changes.{MachineNow}
+use Rattle.model_lines.specs.Sessions.{DrivenNow, SessionNow, driven, given}
 use Rattle.session.specs.declared.asking.Asked.{Asked}
 use Rattle.session.specs.declared.asking.Asked.TheVariants.{Access, Audit, Handover}
 use Rattle.session.specs.declared.stage.Stage.{Stage}

@@ -7,11 +7,11 @@ ghost use Rattle.model_guests.specs.Replies.{reply_text};
 ghost use Rattle.model_guests.specs.Text.{Text};
 ghost use Rattle.model_audit.specs.AuditText.{audit};
 ghost use Rattle.model_audit.specs.Problems.{problems};
-ghost use Rattle.model_giving.specs.Changes.{BeginsIn};
-ghost use Rattle.model_firmware.specs.HostAccesses.{answer};
-ghost use Rattle.model_firmware.specs.FirmwareLines.{line_output};
-ghost use Rattle.model_sessions.specs.GivenLaws.{IsGiven};
-ghost use Rattle.model_sessions.specs.Sessions.{at_reset, after_board_access, after_board_line};
+ghost use Rattle.model_handoff.specs.Changes.{BeginsIn};
+ghost use Rattle.model_lines.specs.HostAccesses.{answer};
+ghost use Rattle.model_lines.specs.FirmwareLines.{line_output};
+ghost use Rattle.model_lines.specs.GivenLaws.{IsGiven};
+ghost use Rattle.model_lines.specs.Sessions.{at_reset, after_board_access, after_board_line};
 ghost use Rattle.accesses.specs.Accesses.{reply_of};
 ghost use Rattle.accesses.specs.Replies.{IsRefusal, IsShown};
 ghost use Rattle.lines.specs.FirmwareLines.{host_asked};
@@ -46,7 +46,7 @@ pub struct Board {
 }
 
 impl Model for Board {
-    ghost use Rattle.model_sessions.specs.Sessions.{DrivenNow};
+    ghost use Rattle.model_lines.specs.Sessions.{DrivenNow};
     ghost use Rattle.session.specs.Boards.{board_now, IsBoardOf};
 
     ghost Value = { DrivenNow };

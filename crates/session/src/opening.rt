@@ -1,6 +1,6 @@
 //! The board of a board file that our own set-up sets up, with its guests.
 ghost use Rattle.std.specs.Prelude.{◌≡◌, IfOk, IfErr};
-ghost use Rattle.model_giving.specs.Changes.{BeginsIn};
+ghost use Rattle.model_handoff.specs.Changes.{BeginsIn};
 ghost use Rattle.session.specs.declared.opening.OpenFault.TheVariants.{File, SetUp};
 ghost use Rattle.session.specs.Faults.{number_of, OnFile, OnSetUp};
 ghost use Rattle.session.specs.Files.{Refuses, Breaks, IsOpened};

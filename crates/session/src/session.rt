@@ -7,8 +7,8 @@ ghost use Rattle.model_guests.specs.Text.{Text};
 ghost use Rattle.model_guests.specs.World.{World};
 ghost use Rattle.model_audit.specs.AuditText.{audit};
 ghost use Rattle.model_audit.specs.Problems.{problems};
-ghost use Rattle.model_sessions.specs.Sessions.{driven, given, at_reset, session_functions, session_protocol};
-ghost use Rattle.model_sessions.specs.Sessions.{session_output, after_session_line};
+ghost use Rattle.model_lines.specs.Sessions.{driven, given, at_reset, session_functions, session_protocol};
+ghost use Rattle.model_lines.specs.Sessions.{session_output, after_session_line};
 ghost use Rattle.line_runs.specs.Pieces.{IsBefore, with_more};
 ghost use Rattle.board_file.specs.declared.fault.BoardFault.TheVariants.{Memory};
 ghost use Rattle.board_file.specs.Faults.{number_of as file_number};
@@ -35,7 +35,7 @@ pub struct Session {
 }
 
 impl Model for Session {
-    ghost use Rattle.model_sessions.specs.Sessions.{SessionNow};
+    ghost use Rattle.model_lines.specs.Sessions.{SessionNow};
     ghost use Rattle.session.specs.Stages.{session_now, IsAtLine};
 
     ghost Value = { SessionNow };

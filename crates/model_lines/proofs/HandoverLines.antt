@@ -1,0 +1,82 @@
+-- Where a session hands its board over, and what guests are told then.
+use Rattle.std.proofs.Common.{◌≡◌, Bool, true, false, List, [], ◌∷◌, Option, None, Some, refl, sym, ap, ◌∙◌, arith, subst}
+use Rattle.std.specs.Prelude.{IsTrue}
+use Rattle.model_guests.specs.Text.{Text, lines}
+use Rattle.model_guests.specs.Guests.{guests_at_first}
+use Rattle.model_guests.specs.Inputs.{inputs}
+use Rattle.model_guests.specs.LineRuns.{after_lines}
+use Rattle.model_guests.specs.World.{World}
+use Rattle.model_guests.specs.WorldNow.{world_over}
+use Rattle.model_guests.specs.Isolation.{IsDecidedBy}
+use Rattle.model_guests.proofs.Isolation.{isolated_over}
+use Rattle.model_handoff.specs.Handoffs.{taken_over}
+use Rattle.model_handoff.specs.Regions.{HandoffFault, first_fault}
+use Rattle.model_handoff.specs.Changes.{MachineNow, machine_protocol}
+use Rattle.model_lines.specs.Sessions.{is_audit, is_handover, DrivenNow, SessionNow, driven, given, after_handover, handed_over}
+use Rattle.model_lines.specs.Sessions.{after_board_line, after_session_line, session_protocol}
+use Rattle.model_lines.specs.SessionLaws.{IsHandedOver, IsGivenBy, GivenBy, IsolatedSessions}
+use Rattle.model_lines.proofs.SessionLines.{audits_change_nothing, handover_leaves, plain_after, given_is_script}
+
+same_given : (m n : MachineNow) → given m ≡ given n → m ≡ n
+same_given m n is = cc
+
+-- what one line leaves of a board that firmware drives
+pub data Left (b : DrivenNow) (line : Text) : Type 0 where
+  goes_on : (next : DrivenNow) → after_session_line (driven b) line ≡ driven next → Left b line
+  hands_over : IsHandedOver b line → after_session_line (driven b) line ≡ given (handed_over b) → Left b line
+
+left_by_fault : (b : DrivenNow) (line : Text) → IsTrue (is_handover line) → (f : Option HandoffFault) → first_fault b.world b.state ≡ f → Left b line
+left_by_fault b line asks None can =
+    hands_over (record { asks = asks; can = can }) (handover_leaves b line asks ∙ ap (after_handover b) can)
+left_by_fault b line asks (Some f) fault = goes_on b (handover_leaves b line asks ∙ ap (after_handover b) fault)
+
+left_by : (b : DrivenNow) (line : Text) (t u : Bool) → is_audit line ≡ t → is_handover line ≡ u → Left b line
+left_by b line true u is_one is_other = goes_on b (audits_change_nothing (driven b) line is_one)
+left_by b line false true is_one is_other = left_by_fault b line is_other (first_fault b.world b.state) refl
+left_by b line false false is_one is_other =
+    goes_on (after_board_line b line) (plain_after b line (record { no_audit = is_one; no_handover = is_other }))
+
+left : (b : DrivenNow) (line : Text) → Left b line
+left b line = left_by b line (is_audit line) (is_handover line) refl refl
+
+given_by_left : (b : DrivenNow) (l : Text) (ls : List Text) (m : MachineNow) → Left b l
+    → ((next : DrivenNow) → after_lines session_protocol (driven next) ls ≡ given m → IsGivenBy next ls m)
+    → after_lines session_protocol (driven b) (l ∷ ls) ≡ given m → IsGivenBy b (l ∷ ls) m
+given_by_left b l ls m (goes_on next same) more is =
+    let rest = more next (sym (ap (λ (x : SessionNow). after_lines session_protocol x ls) same) ∙ is) in
+    record {
+      before = l ∷ rest.before;
+      line = rest.line;
+      later = rest.later;
+      board = rest.board;
+      in_order = ap (λ (ms : List Text). l ∷ ms) rest.in_order;
+      left = ap (λ (x : SessionNow). after_lines session_protocol x rest.before) same ∙ rest.left;
+      handed = rest.handed;
+      now = rest.now;
+    }
+given_by_left b l ls m (hands_over handed same) more is = record {
+  before = [];
+  line = l;
+  later = ls;
+  board = b;
+  in_order = refl;
+  left = refl;
+  handed = handed;
+  now = same_given m (after_lines machine_protocol (handed_over b) ls)
+      (sym is ∙ ap (λ (x : SessionNow). after_lines session_protocol x ls) same ∙ (given_is_script (handed_over b) ls).after);
+}
+
+pub given_by : GivenBy
+given_by b [] m is = absurd (let wrong : driven b ≡ given m = is in cc)
+given_by b (l ∷ ls) m is = given_by_left b l ls m (left b l) (λ next. given_by next ls m) is
+
+pub isolated_sessions : IsolatedSessions
+isolated_sessions w lawful b same_world line name script handed there =
+    let n : MachineNow = handed_over b in
+    let x : SessionNow = after_session_line (driven b) line in
+    let same : x ≡ given n = handover_leaves b line handed.asks ∙ ap (after_handover b) handed.can in
+    let alone : IsDecidedBy (inputs (guests_at_first w) name (lines script)) w n.world name script =
+    subst (λ (v : World). IsDecidedBy (inputs (guests_at_first w) name (lines script)) w (world_over v (taken_over v b.state)) name script) (sym same_world)
+    (isolated_over w lawful (taken_over w b.state) name script there) in
+    let told = given_is_script n (lines script) in
+    grind (arith, same_given)

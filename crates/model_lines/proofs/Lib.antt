@@ -1,0 +1,7 @@
+pub mod HostLaws
+pub mod RowsOfFirmware
+pub mod SessionLines
+pub mod HandoverLines
+pub mod FirmwareLeaves
+pub mod Written
+pub mod GivenBoards

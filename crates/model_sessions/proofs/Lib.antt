@@ -1,4 +1,0 @@
-pub mod SessionLines
-pub mod HandoverLines
-pub mod Written
-pub mod GivenBoards
