@@ -5,7 +5,7 @@ ghost use Rattle.std.specs.Prelude.{◌≡◌, length};
 use board_file::read_board;
 use host_bridge::{Host, Path, Space, TreeWalk};
 use monitor::{Access, At, GuestDecl, HostAccess, HostAt, Monitor, Op, Reply};
-use simulation::{Fault, open};
+use session::{OpenFault, open};
 use std::alloc::Global;
 use window_packing::{Placed, PlanRow, Pool, set_up};
 
@@ -254,12 +254,12 @@ impl Boards {
 
 /// Compares each region of each guest of a board file: what the guest is told of it through the monitor,
 /// and what the other board answers at its place; and what both then show there.
-pub(crate) fn compare_landings(alloc: Global, board: &[u8]) -> Result<Tally, Fault> {
+pub(crate) fn compare_landings(alloc: Global, board: &[u8]) -> Result<Tally, OpenFault> {
     let monitor = open(alloc, board)?;
     let (host, guests) = read_board(alloc, board)?;
     let ready = set_up(alloc, host)?;
     let Ok(rows) = ready.plan().rows(alloc) else {
-        return Err(Fault::SetUp(bus_scan::Fault::Memory));
+        return Err(OpenFault::SetUp(bus_scan::Fault::Memory));
     };
     let (host, _table, _plan) = ready.into_parts();
     let tally = Tally {
