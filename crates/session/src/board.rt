@@ -209,7 +209,8 @@ impl Board {
     /// is out.
     pub fn audit(&mut self, alloc: Global) -> Result<Audit, AllocError>
         ensures text { IfOk result (λ a. string_bytes a.text ≡ audit self.old.state.functions) }
-        ensures problems { IfOk result (λ a. a.problems ≡ length (problems self.old.state.functions)) }
+        ensures problems { IfOk result (λ a.
+            a.problems ≡ length (problems self.old.state.functions)) }
         ensures after { self.new ≡ self.old }
     {
         let found = problems(alloc, &mut self.host)?;

@@ -138,7 +138,8 @@ impl Session {
     /// where memory is out.
     pub fn audit(&mut self, alloc: Global) -> Result<Audit, AllocError>
         ensures text { IfOk result (λ a. string_bytes a.text ≡ audit (session_functions self.old)) }
-        ensures problems { IfOk result (λ a. a.problems ≡ length (problems (session_functions self.old))) }
+        ensures problems { IfOk result (λ a.
+            a.problems ≡ length (problems (session_functions self.old))) }
         ensures after { self.new ≡ self.old }
     {
         match &mut self.stage {

@@ -12,4 +12,4 @@ invariant_of-result c =
     let gs = c.in_ok-host.guests.items in
     subst (λ (text : Text). IsBoardOf text (board_now h gs false)) (sym c.in-Ok.ensures.items)
     (at_first c.args.file.now h gs (declares c.in_ok-host.ensures.world) c.in_ok-host.ensures.lawful
-        (reset_is_handoff h.state c.in_ok-host.ensures.reset) c.in_ok-host.ensures.reset.registers)
+    (reset_is_handoff h.state c.in_ok-host.ensures.reset) c.in_ok-host.ensures.reset.registers)

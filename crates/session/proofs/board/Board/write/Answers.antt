@@ -13,7 +13,7 @@ invariant_of-self c =
     let a = host_asked c.args.to (writes c.args.value) in
     let one : is_done (reply_of c.write-reply.result) ≡ true = search rules in
     (asked_at b.file.items b.host c.write-reply.new.host b.guests.items b.written true a c.self.invariant c.write-reply.ensures.after
-        (written_by b.written b.host.state a (reply_of c.write-reply.result) c.write-reply.ensures.reply one)).board
+    (written_by b.written b.host.state a (reply_of c.write-reply.result) c.write-reply.ensures.reply one)).board
 
 pub invariant_of-self-else-matches : goal.invariant_of-self-else-matches
 invariant_of-self-else-matches c =
@@ -21,4 +21,4 @@ invariant_of-self-else-matches c =
     let a = host_asked c.args.to (writes c.args.value) in
     let none : is_done (reply_of c.write-reply.result) ≡ false = search rules in
     (asked_at b.file.items b.host c.write-reply.new.host b.guests.items b.written b.written a c.self.invariant c.write-reply.ensures.after
-        (unwritten_by b.written b.host.state a (reply_of c.write-reply.result) c.write-reply.ensures.reply none)).board
+    (unwritten_by b.written b.host.state a (reply_of c.write-reply.result) c.write-reply.ensures.reply none)).board
