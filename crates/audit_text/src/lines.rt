@@ -2,7 +2,7 @@
 ghost use Rattle.std.specs.Prelude.{◌≡◌, ◌++◌, codes, OnOk, string_bytes};
 ghost use Rattle.std.specs.Option.{option_map_or};
 ghost use Rattle.paths.specs.BusAddresses.{bus_address_of};
-ghost use Rattle.model_guests.specs.Report.{hexadecimal, path_text};
+ghost use Rattle.model_guests.specs.PathTexts.{hexadecimal, path_text};
 ghost use Rattle.model_audit.specs.AuditText.{region_text, agent_text, space_text, number_text, problem_text, total_text, audit_line};
 ghost use Rattle.model_audit.specs.Problems.{not_forwarded, contended, not_found};
 ghost use Rattle.board_audit.specs.Told.{problem_of};

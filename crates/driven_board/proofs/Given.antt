@@ -4,11 +4,13 @@ use Rattle.std.proofs.Common.{◌≡◌, List, None, refl, sym, ap, ap₂, ◌�
 use Rattle.model_guests.specs.Text.{Text, lines}
 use Rattle.model_guests.specs.Guests.{guests_at_first}
 use Rattle.model_guests.specs.World.{Guest, World, HasLawfulNames, IsLawfulWorld}
-use Rattle.model_guests.specs.WorldNow.{WorldNow, world_over, world_at_first}
+use Rattle.model_guests.specs.WorldNow.{WorldNow, world_over}
+use Rattle.model_handoff.specs.AfterSetUp.{world_at_first}
 use Rattle.model_guests.specs.Inputs.{Input, inputs, lone_output, after_inputs}
 use Rattle.model_guests.specs.Isolation.{IsDecidedBy, AgreeOn}
 use Rattle.model_guests.specs.Lone.{reset_guest}
-use Rattle.model_guests.proofs.Isolation.{isolated, isolated_over}
+use Rattle.model_handoff.proofs.AfterSetUp.{set_up_isolates}
+use Rattle.model_guests.proofs.Isolation.{isolated}
 use Rattle.model_handoff.specs.Handoffs.{taken_over}
 use Rattle.model_handoff.specs.Kept.{IsLawfulOver}
 use Rattle.model_handoff.specs.Regions.{first_fault}
@@ -53,7 +55,7 @@ pub given_isolated : GivenIsolated
 given_isolated file h m given name script there =
     let w : World = given.world in
     subst (λ (x : WorldNow). IsDecidedBy (inputs (guests_at_first w) name (lines script)) w x name script) (sym given.begins)
-    (isolated_over w (names_lawful file h m given) (taken_over w h.state) name script there)
+    (isolated w (names_lawful file h m given) (taken_over w h.state) name script there)
 
 -- what the same inputs over the same functions decide
 alike : (name : Text) (v w : World) (m n : WorldNow) (one other : Text) → AgreeOn name v w one other
@@ -77,7 +79,7 @@ given_as_set_up file h m n given opened name script there =
     alike name w w m n script script (record { in_first = there; in_second = there; declarations = refl; inputs = refl })
     (given_isolated file h m given name script there)
     (subst (λ (x : WorldNow). IsDecidedBy (inputs (guests_at_first w) name (lines script)) w x name script) (sym begins)
-    (isolated w (names_lawful file h m given) name script there))
+    (set_up_isolates w (names_lawful file h m given) name script there))
 
 pub given_stays : GivenStays
 given_stays file h m given ls =

@@ -15,7 +15,7 @@ use Rattle.model_guests.specs.Text.{Text, words, text_of_lines}
 use Rattle.model_guests.specs.Grammar.{on_word, host, is_long}
 use Rattle.model_guests.specs.Accesses.{done}
 use Rattle.model_guests.specs.Replies.{line_text}
-use Rattle.model_guests.specs.Report.{path_text}
+use Rattle.model_guests.specs.PathTexts.{path_text}
 use Rattle.model_guests.specs.World.{World}
 use Rattle.model_guests.specs.WorldNow.{WorldNow, world_over}
 use Rattle.model_guests.specs.WorldNow as script

@@ -1,7 +1,7 @@
 //! The lines of one function and of one guest.
 ghost use Rattle.std.specs.Prelude.{◌≡◌, ◌++◌, ◌≤◌, OnOk, string_bytes, map};
 ghost use Rattle.model_guests.specs.Text.{text_of_lines};
-ghost use Rattle.model_guests.specs.Report.{pin_text, slot_lines};
+ghost use Rattle.model_handoff.specs.Report.{pin_text, slot_lines};
 ghost use Rattle.bars.specs.Slots.{placed, bases_from};
 ghost use Rattle.window_packing.specs.Plans.{writes_of};
 ghost use Rattle.report.specs.Found.{ended, base_line, known_pin_lines, named_window_lines, base_lines, window_lines, range_text, pin_line, row_head, endpoint_text, windows_text, found_text, slot_line};

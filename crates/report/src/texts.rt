@@ -1,6 +1,7 @@
 //! Texts of numbers, paths and kinds.
 ghost use Rattle.std.specs.Prelude.{◌≡◌, ◌++◌, OnOk, string_bytes};
-ghost use Rattle.model_guests.specs.Report.{kind_text, path_text, identity_text};
+ghost use Rattle.model_handoff.specs.Report.{kind_text, identity_text};
+ghost use Rattle.model_guests.specs.PathTexts.{path_text};
 ghost use Rattle.bars.specs.Kinds.{kind_of};
 ghost use Rattle.report.specs.Found.{part_address, numbers_and_path};
 

@@ -2,7 +2,7 @@
 ghost use Rattle.std.specs.Prelude.{◌≡◌, ◌++◌, OnOk, IfOk, not, count_by, string_bytes};
 ghost use Rattle.model_board.specs.Board.{is_bridge};
 ghost use Rattle.model_guests.specs.World.{World};
-ghost use Rattle.model_guests.specs.Report.{report};
+ghost use Rattle.model_handoff.specs.Report.{report};
 ghost use Rattle.report.specs.Found.{ended, count_line, rows_text, guests_text, found_report};
 ghost use Rattle.report.specs.OfWorld.{IsOf};
 

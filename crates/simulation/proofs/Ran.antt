@@ -7,7 +7,8 @@ use Rattle.model_registers.specs.Apertures.{Apertures}
 use Rattle.model_set_up.specs.SetUp.{set_up_state}
 use Rattle.model_guests.specs.World.{Guest, World}
 use Rattle.model_guests.specs.Text.{Text, lines}
-use Rattle.model_guests.specs.WorldNow.{WorldNow, world_at_first, world_protocol}
+use Rattle.model_guests.specs.WorldNow.{WorldNow, world_protocol}
+use Rattle.model_handoff.specs.AfterSetUp.{world_at_first}
 use Rattle.model_handoff.specs.Changes.{MachineNow, machine_protocol}
 use Rattle.model_handoff.proofs.Aside.{output_aside, events_aside, cut_aside, stop_aside}
 use Rattle.std.specs.Io.KnownBytes.{Appends}

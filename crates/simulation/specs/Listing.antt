@@ -12,7 +12,7 @@ use Rattle.model_set_up.specs.SetUpWrites.{set_up_rules}
 use Rattle.streams.specs.Ends.{AppendsPart}
 use Rattle.model_guests.specs.Text.{Text}
 use Rattle.model_guests.specs.World.{World}
-use Rattle.model_guests.specs.Report.{report}
+use Rattle.model_handoff.specs.Report.{report}
 use Rattle.board_file.specs.Meaning.{document_meaning}
 
 pub record Declares (bytes : Text) (w : World) : Type 0 where

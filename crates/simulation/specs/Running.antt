@@ -8,8 +8,9 @@ use Rattle.model_set_up.specs.SetUpWrites.{set_up_rules}
 use Rattle.model_guests.specs.Text.{Text}
 use Rattle.model_guests.specs.Grammar.{has_name}
 use Rattle.model_guests.specs.World.{World, names, IsLawfulWorld}
-use Rattle.model_guests.specs.WorldNow.{WorldNow, world_at_first, world_protocol}
-use Rattle.model_guests.specs.Isolation.{IsIsolated}
+use Rattle.model_guests.specs.WorldNow.{WorldNow, world_protocol}
+use Rattle.model_handoff.specs.AfterSetUp.{world_at_first}
+use Rattle.model_handoff.specs.AfterSetUp.{IsIsolated}
 use Rattle.line_runs.specs.declared.running.RunFault.{RunFault}
 use Rattle.line_runs.specs.Runs.{Ends, Runs}
 use Rattle.simulation.specs.Listing.{Declares}
