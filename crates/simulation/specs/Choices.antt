@@ -18,7 +18,8 @@ use Rattle.bus_scan.specs.declared.fault.Fault.TheVariants as set_up
 use Rattle.diagnostics.specs.declared.style.Style.{Style}
 use Rattle.simulation.specs.Demo.{demo_board}
 use Rattle.simulation.specs.Faults.{IsRefusal, IsOfList, IsOfRun, IsOfSession, OnRun, OnSession}
-use Rattle.simulation.specs.Listing.{Declares, IsListed, IsListedInPart}
+use Rattle.session.specs.Files.{Declares}
+use Rattle.simulation.specs.Listing.{IsListed, IsListedInPart}
 use Rattle.simulation.specs.Checking.{IsChecked, IsCheckedInPart}
 use Rattle.simulation.specs.Running.{IsRun}
 use Rattle.simulation.specs.Sessions.{IsSession}

@@ -34,7 +34,7 @@ pub enum Choice<'a> {
     Run(&'a str),
     /// Run a session over the board of the board file at this path, at reset.
     Firmware(&'a str),
-    /// Run firmware's lines over it, and then write all that is wrong in the registers as they stand.
+    /// Run a session over it, and then write all that is wrong in the registers as they stand.
     Audit(&'a str),
 }
 

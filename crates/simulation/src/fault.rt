@@ -1,11 +1,11 @@
 //! Why the program fails.
 ghost use Rattle.std.specs.Prelude.{◌≡◌};
-ghost use Rattle.simulation.specs.Faults.{number_of, words_of, of_run};
+ghost use Rattle.simulation.specs.Faults.{number_of, words_of, of_open, of_run};
 ghost use Rattle.simulation.specs.declared.fault.Fault.TheVariants.{File, SetUp};
 
 use board_file::BoardFault;
 use board_fit::set_up_words;
-use script::RunFault;
+use session::{OpenFault, RunFault};
 use thiserror::Error;
 
 /// Why the program fails.
@@ -80,6 +80,17 @@ impl From<bus_scan::Fault> for Fault {
 
     fn from(fault: bus_scan::Fault) -> Fault {
         Fault::SetUp(fault)
+    }
+}
+
+impl From<OpenFault> for Fault {
+    ghost from_gives = { λ o f. f ≡ of_open o };
+
+    fn from(fault: OpenFault) -> Fault {
+        match fault {
+            OpenFault::File(fault) => Fault::File(fault),
+            OpenFault::SetUp(fault) => Fault::SetUp(fault),
+        }
     }
 }
 
