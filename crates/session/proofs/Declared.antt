@@ -12,7 +12,8 @@ use Rattle.model_board.specs.Board.{Board}
 use Rattle.model_set_up.specs.SetUp.{set_up_state}
 use Rattle.model_guests.specs.Text.{Text}
 use Rattle.model_guests.specs.World.{Guest, World}
-use Rattle.model_guests.specs.WorldNow.{WorldNow, world_at_first}
+use Rattle.model_guests.specs.WorldNow.{WorldNow}
+use Rattle.model_handoff.specs.AfterSetUp.{world_at_first}
 use Rattle.host_bridge.specs.HostState.{HostState}
 use Rattle.window_packing.specs.Readies.{ReadyBoard, board_below}
 use Rattle.board_file.specs.declared.fault.BoardFault.{BoardFault}

@@ -6,9 +6,10 @@ use Rattle.model_guests.specs.World.{World}
 use Rattle.model_guests.specs.LineRuns.{Protocol}
 use Rattle.line_runs.specs.declared.running.RunFault.{RunFault}
 use Rattle.line_runs.specs.Runs.{Ends, Runs}
-use Rattle.model_guests.specs.WorldNow.{world_at_first, world_protocol}
+use Rattle.model_handoff.specs.AfterSetUp.{world_at_first}
+use Rattle.model_guests.specs.WorldNow.{world_protocol}
 use Rattle.model_handoff.specs.Changes.{MachineNow, BeginsIn, machine_protocol}
-use Rattle.model_guests.proofs.Isolation.{isolated}
+use Rattle.model_handoff.proofs.AfterSetUp.{set_up_isolates}
 use Rattle.simulation.specs.Lines.{RunsOver}
 use Rattle.simulation.specs.Running.{IsRun}
 use Rattle.simulation.proofs.Ran.{runs_aside}
@@ -36,5 +37,5 @@ is_run board m end at result opened runs =
       set_up = o.set_up;
       end = end.world;
       runs = runs_from world_protocol m.world (world_at_first o.world) end.world at result o.begins (runs_aside m end at result runs);
-      isolated = isolated o.world o.lawful.guests.lawful_names;
+      isolated = set_up_isolates o.world o.lawful.guests.lawful_names;
     }

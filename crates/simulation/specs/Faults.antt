@@ -1,7 +1,7 @@
 -- Why the program fails, as numbers and words.
 --     number_of, words_of, line_of      the number, the words and the line of a fault
 --     fault_numbered n      the fault of a number
---     of_open, of_run      the fault of a board that is not set up, and of a run
+--     of_open, of_run, of_words      the fault of a board that is not set up, of a run, and of the words of the command line
 --     OnRun P r, OnSession P r      how a run of lines ended has P, if any ran before r; of a session memory may be out
 --         for a line
 --     IsOfFile f      the file is refused, or memory is out while it is read
@@ -17,6 +17,8 @@ use Rattle.board_file.specs.Faults as board_file
 use Rattle.bus_scan.specs.declared.fault.Fault.TheVariants as set_up
 use Rattle.bus_scan.specs.Faults as bus_scan
 use Rattle.board_fit.specs.Shortages.{set_up_words}
+use Rattle.command_line.specs.declared.choice.WordsFault.{WordsFault}
+use Rattle.command_line.specs.declared.choice.WordsFault.TheVariants as words
 use Rattle.line_runs.specs.declared.running.RunFault.TheVariants as run
 use Rattle.line_runs.specs.declared.running.RunFault.{RunFault}
 use Rattle.session.specs.declared.opening.OpenFault.TheVariants as opening
@@ -66,6 +68,10 @@ abbrev pub of_run : RunFault → Fault
 of_run run.Read = Read
 of_run run.Write = Write
 of_run run.Memory = SetUp set_up.Memory
+
+abbrev pub of_words : WordsFault → Fault
+of_words words.Usage = Usage
+of_words words.Memory = WordMemory
 
 abbrev pub OnRun : {T : Type 0} → (Result T RunFault → Type 0) → Result T Fault → Type 0
 OnRun P (Ok x) = P (Ok x)

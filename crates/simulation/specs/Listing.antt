@@ -6,7 +6,7 @@ use Rattle.std.specs.Io.KnownBytes.{Appends}
 use Rattle.streams.specs.Ends.{AppendsPart}
 use Rattle.model_guests.specs.Text.{Text}
 use Rattle.model_guests.specs.World.{World}
-use Rattle.model_guests.specs.Report.{report}
+use Rattle.model_handoff.specs.Report.{report}
 
 abbrev pub IsListed : World → Option Text → Option Text → Type 0
 IsListed w old new = Appends old new (report w)

@@ -4,8 +4,9 @@ use Rattle.std.specs.Prelude.{Result, IsTrue}
 use Rattle.model_guests.specs.Text.{Text}
 use Rattle.model_guests.specs.Grammar.{has_name}
 use Rattle.model_guests.specs.World.{World, names}
-use Rattle.model_guests.specs.WorldNow.{WorldNow, world_at_first, world_protocol}
-use Rattle.model_guests.specs.Isolation.{IsIsolated}
+use Rattle.model_guests.specs.WorldNow.{WorldNow, world_protocol}
+use Rattle.model_handoff.specs.AfterSetUp.{world_at_first}
+use Rattle.model_handoff.specs.AfterSetUp.{IsIsolated}
 use Rattle.line_runs.specs.declared.running.RunFault.{RunFault}
 use Rattle.line_runs.specs.Runs.{Ends, Runs}
 use Rattle.session.specs.Files.{IsSetUp}

@@ -18,7 +18,8 @@ mod standard_streams;
 
 pub use auditing::audit;
 pub use checking::{Checked, check, check_text};
-pub use choice::{Choice, perform};
+pub use choice::perform;
+pub use command_line::Choice;
 pub use demonstration::demo;
 pub use diagnostics::Style;
 pub use driving::drive;

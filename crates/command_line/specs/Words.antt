@@ -1,9 +1,9 @@
 -- The program's command line, as a definition that `clap` reads.
---     demo_and_list_app, demo_list_and_check_app, without_firmware_app, without_audit_app      with some subcommands
+--     demo_and_list_app, with_check_app, with_run_app, with_firmware_app      with the first subcommands, and up to these
 --     pciguest_app      with all of them
 --     is_taken words      the command line takes these words, the program's name among them
---     subcommand, board words      the subcommand that they name, and the path of its board file
---     plain words      what they give for `--plain`
+--     subcommand words      the subcommand that they name
+--     value words id      what they give first for one of its arguments
 use Rattle.std.specs.Prelude.{ℕ, Bool, true, List, [], ◌∷◌, Option, Some, codes, option_map, option_and_then, find, slice_get}
 use Rattle.std.specs.Str.{bytes_eq}
 use Rattle.clap.specs.declared.builder.action.ArgAction.TheVariants.{SetTrue}
@@ -41,20 +41,20 @@ demo_and_list_app =
     (new_shape (codes "demo"))) list_shape
 
 -- and `pciguest check [--plain] BOARD`
-abbrev pub demo_list_and_check_app : App
-demo_list_and_check_app = with_subcommand demo_and_list_app check_shape
+abbrev pub with_check_app : App
+with_check_app = with_subcommand demo_and_list_app check_shape
 
 -- and `pciguest run BOARD`
-abbrev pub without_firmware_app : App
-without_firmware_app = with_subcommand demo_list_and_check_app run_shape
+abbrev pub with_run_app : App
+with_run_app = with_subcommand with_check_app run_shape
 
 -- and `pciguest firmware BOARD`
-abbrev pub without_audit_app : App
-without_audit_app = with_subcommand without_firmware_app firmware_shape
+abbrev pub with_firmware_app : App
+with_firmware_app = with_subcommand with_run_app firmware_shape
 
 -- and `pciguest audit BOARD`
 abbrev pub pciguest_app : App
-pciguest_app = with_subcommand without_audit_app audit_shape
+pciguest_app = with_subcommand with_firmware_app audit_shape
 
 abbrev pub is_taken : List (List ℕ) → Bool
 is_taken words = takes pciguest_app words
@@ -68,9 +68,3 @@ value_in rows id = option_and_then (λ r. slice_get r.values 0) (find (λ r. byt
 
 abbrev pub value : List (List ℕ) → List ℕ → Option (List ℕ)
 value words id = option_and_then (λ s. value_in s.1 id) (subcommand_of pciguest_app words)
-
-abbrev pub board : List (List ℕ) → Option (List ℕ)
-board words = value words (codes "board")
-
-abbrev pub plain : List (List ℕ) → Option (List ℕ)
-plain words = value words (codes "plain")

@@ -3,7 +3,8 @@ use Rattle.std.proofs.Common.{[], ◌∷◌, ◌++◌, Some, refl}
 use Rattle.std.specs.Prelude.{List, codes}
 use Rattle.model_guests.specs.Text.{Text, text_of_lines}
 use Rattle.model_guests.specs.Examples.{main_world}
-use Rattle.model_guests.specs.WorldNow.{WorldNow, world_at_first, world_protocol, after_lines}
+use Rattle.model_guests.specs.WorldNow.{WorldNow, world_protocol, after_lines}
+use Rattle.model_handoff.specs.AfterSetUp.{world_at_first}
 use Rattle.model_guests.specs.LineRuns.{IsCut, IsStopped}
 
 abbrev at_first : WorldNow

@@ -2,7 +2,7 @@
 use Rattle.std.proofs.Common.{[], ◌∷◌, refl}
 use Rattle.std.specs.Fmt.{digits}
 use Rattle.model_guests.specs.Examples.{main_world, wide_world, demo_world}
-use Rattle.model_guests.proofs.Dialogues.{◌▷◌, Dialogue}
+use Rattle.model_handoff.proofs.Dialogues.{◌▷◌, Dialogue}
 
 -- Command is written and Status cleared by one access
 pub a_status_bit_is_cleared_by_a_one : Dialogue main_world (

@@ -11,7 +11,8 @@ use Rattle.model_guests.specs.Grammar.{is_own_line}
 use Rattle.model_guests.specs.World.{Guest, World, declarations}
 use Rattle.model_guests.specs.Lone.{reset_guest}
 use Rattle.model_guests.specs.Guests.{guests_at_first}
-use Rattle.model_guests.specs.WorldNow.{world_at_first, output}
+use Rattle.model_handoff.specs.AfterSetUp.{world_at_first}
+use Rattle.model_guests.specs.WorldNow.{output}
 use Rattle.model_guests.specs.Inputs.{inputs, lone_output}
 
 pub record Exchange : Type 0 where

@@ -1,7 +1,7 @@
 -- The cells of a guest's regions are the board's: what a guest writes there the host reads, and no other guest.
 use Rattle.std.proofs.Common.{[], ◌∷◌, refl}
 use Rattle.model_guests.specs.Examples.{main_world, second_world}
-use Rattle.model_guests.proofs.Dialogues.{◌▷◌, Dialogue}
+use Rattle.model_handoff.proofs.Dialogues.{◌▷◌, Dialogue}
 
 -- the guest's base and the board's are apart, and the guest's Command closes its own view alone
 pub a_block_is_the_boards : Dialogue main_world (

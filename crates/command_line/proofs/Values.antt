@@ -1,23 +1,22 @@
 -- The first value of an argument, by the rows of a parse.
 use Rattle.std.proofs.Common.{◌≡◌, ◌⊎◌, inl, inr, ℕ, Bool, true, false, cond, List, [], ◌∷◌, Option, Some, None, map, refl, sym, ap, ◌∙◌}
-use Rattle.std.specs.Prelude.{◌≢◌, ◌||◌, not, is_some, option_map, option_and_then, find, slice_get, unwrap_or, codes, Box}
+use Rattle.std.specs.Prelude.{option_map, option_and_then, find, slice_get, unwrap_or, codes, Box}
 use Rattle.std.specs.Box.{box_value}
 use Rattle.std.specs.Borrow.{Bor}
 use Rattle.std.specs.Str.{bytes_eq}
 use Rattle.clap.specs.declared.parser.matches.MatchedArg.{MatchedArg}
 use Rattle.clap.specs.declared.parser.matches.Found.{Found}
-use Rattle.std.specs.List.{list_all, list_any}
-use Rattle.lists.proofs.Tests.{right_true, left_true}
-use Rattle.clap.specs.Facts.{explicit_source}
-use Rattle.clap.specs.Walk.{Row, rows_of, row_of, finished, nothing_held, stop_after, walk, walk_from}
+use Rattle.clap.specs.Walk.{Row, rows_of, row_of, stop_after}
 use Rattle.clap.specs.Matches.{first_value, subcommand_name_of}
-use Rattle.clap.specs.Simple.{App, Shape, argument_words, built, entered, is_simple, names_of, rows_at, subcommand_rows, subcommand_rows_of, subcommand_of}
-use Rattle.clap.specs.Takes.{built_takes, default_passes, entered_passes, is_valid, level_passes, settle_passes, walk_passes}
+use Rattle.clap.specs.Simple.{Shape, argument_words, built, entered, names_of, rows_at, subcommand_rows, subcommand_rows_of, subcommand_of}
 use Rattle.clap.proofs.OnLiterals.{clap_on_literals}
 use Rattle.clap.specs.declared.parser.matches.ArgMatches.{ArgMatches}
 use Rattle.clap.specs.declared.parser.matches.ArgMatches.TheViews.{out-ArgMatches, out-SubCommand}
 use Rattle.clap.specs.declared.parser.matches.SubCommand.{SubCommand}
-use Rattle.pciguest.specs.Words.{pciguest_app, is_taken, subcommand, value, value_in}
+use Rattle.command_line.specs.Words.{pciguest_app, subcommand, value, value_in}
+use Rattle.command_line.specs.Choices.{is_plain, board_in, IsAskedBy, IsNoCommand}
+use Rattle.command_line.specs.declared.choice.Choice.{Choice}
+use Rattle.command_line.specs.declared.choice.Choice.TheVariants.{Help, Demo, List as Lists, Check, Run, Firmware, Audit}
 
 abbrev Entry : Type 0
 Entry = Bor (List ℕ) × MatchedArg
@@ -42,11 +41,6 @@ by_entries id (e ∷ es) = by_test (bytes_eq e.0.now id) (by_entries id es)
 pub first_value_is : (f : Found) (id : List ℕ) → first_value f id ≡ value_in (rows_of f) id
 first_value_is f id = by_entries id f.entries.items
 
--- a text or an empty one
-pub shown_or_empty : (o : Option (Bor (List ℕ))) (d : Bor (List ℕ)) → d.now ≡ [] → (unwrap_or o d).now ≡ unwrap_or (option_map (λ (s : Bor (List ℕ)). s.now) o) []
-shown_or_empty (Some s) d e = refl
-shown_or_empty None d e = e
-
 -- ---- the subcommand of a parse
 
 named_by_rows : {Z : Type 0} (x : Option (Box SubCommand Z)) → option_map (λ b. (out-SubCommand (box_value b)).name.now) x ≡ option_map (λ (p : List ℕ × List Row). p.0) (subcommand_rows x)
@@ -69,23 +63,7 @@ asked m words name f e n r =
     (r ∙ ap (option_map (λ (p : List ℕ × List Row). p.1)) e) in
     (both.0, λ id. both.1 id ∙ sym (first_value_is f id))
 
--- ---- words that are taken name a subcommand, and no words name another
-
-required_is_there : (r has : Bool) → r ≡ true → (not r || has) ≡ true → has ≡ true
-required_is_there true has e h = h
-required_is_there false has e h = absurd (let wrong : false ≡ true = e in cc)
-
-enters_one : (a : App) (ws : List (List ℕ)) → a.top.subcommand_required ≡ true → built_takes a nothing_held ws ≡ true
-    → is_some (entered a (walk a.top.rules (names_of a) nothing_held ws).stopped) ≡ true
-enters_one a ws asks h =
-    let has = is_some (entered a (walk a.top.rules (names_of a) nothing_held ws).stopped) in
-    let end = (walk a.top.rules (names_of a) nothing_held ws).held in
-    let level : level_passes a.top (names_of a) nothing_held ws has ≡ true =
-    right_true (entered_passes a (walk a.top.rules (names_of a) nothing_held ws).stopped) (level_passes a.top (names_of a) nothing_held ws has) h in
-    let valid : is_valid a.top (finished a.top.rules end) has ≡ true =
-    right_true (list_all default_passes a.top.rules) _ (right_true (settle_passes a.top.rules a.top.args_override_self end) _
-    (right_true (walk_passes a.top (names_of a) (walk_from nothing_held) ws) _ level)) in
-    required_is_there a.top.subcommand_required has asks (left_true (not a.top.subcommand_required || has) _ (right_true (not a.top.arg_required_else_help || (has || list_any (λ r. explicit_source r.source) (finished a.top.rules end))) _ valid))
+-- ---- the names of subcommands
 
 one_of : (d l k r f a : Shape) (t u x v y z : Bool) (ws : List (List ℕ)) (n : List ℕ)
     → Some n ≡ option_map (λ (q : List ℕ × List Row). q.0) (option_map (λ (s : Shape). rows_at s ws) (cond t (Some d) (cond u (Some l) (cond x (Some k) (cond v (Some r) (cond y (Some f) (cond z (Some a) None)))))))
@@ -109,26 +87,34 @@ stop_name (Some p) n h = one_of _ _ _ _ _ _ _ _ _ _ _ _ p.1 n h
 
 -- of the subcommand that a parse met
 pub no_other : (m : ArgMatches) (words : List (List ℕ)) (n : List ℕ) → subcommand_rows_of m ≡ subcommand_of pciguest_app words
-    → Some n ≡ subcommand_name_of m → n ≢ codes "demo" → n ≢ codes "list" → n ≢ codes "run" → n ≢ codes "check" → n ≢ codes "firmware" → n ≢ codes "audit" → ⊥
-no_other m words n read known demo list run check firmware audit =
+    → Some n ≡ subcommand_name_of m → IsNoCommand n → ⊥
+no_other m words n read known none =
     by_name (stop_name (stop_after (built pciguest_app).top.rules (names_of (built pciguest_app)) (argument_words pciguest_app words)) n (known ∙ named_by_rows (out-ArgMatches m).subcommand ∙ ap (option_map (λ (p : List ℕ × List Row). p.0)) read))
   where
     by_name : IsKnown n → ⊥
-    by_name (inl is) = demo is
-    by_name (inr (inl is)) = list is
-    by_name (inr (inr (inl is))) = check is
-    by_name (inr (inr (inr (inl is)))) = run is
-    by_name (inr (inr (inr (inr (inl is))))) = firmware is
-    by_name (inr (inr (inr (inr (inr is))))) = audit is
+    by_name (inl is) = none.demo is
+    by_name (inr (inl is)) = none.list is
+    by_name (inr (inr (inl is))) = none.check is
+    by_name (inr (inr (inr (inl is)))) = none.run is
+    by_name (inr (inr (inr (inr (inl is))))) = none.firmware is
+    by_name (inr (inr (inr (inr (inr is))))) = none.audit is
 
-none_is_none : (o : Option (List ℕ × List Row)) → None ≡ option_map (λ (p : List ℕ × List Row). p.0) o → is_some o ≡ true → ⊥
-none_is_none None same h = let wrong : false ≡ true = h in absurd cc
-none_is_none (Some p) same h = let wrong : None ≡ Some p.0 = same in absurd cc
+-- ---- what the same values ask for
 
-pub one_is_met : (m : ArgMatches) (words : List (List ℕ)) → subcommand_rows_of m ≡ subcommand_of pciguest_app words
-    → None ≡ subcommand_name_of m → is_taken words ≡ true → ⊥
-one_is_met m words read none taken =
-    none_is_none (subcommand_of pciguest_app words)
-    (none ∙ named_by_rows (out-ArgMatches m).subcommand ∙ ap (option_map (λ (p : List ℕ × List Row). p.0)) read)
-    (enters_one (built pciguest_app) (argument_words pciguest_app words) refl
-    (right_true (is_simple pciguest_app) (built_takes (built pciguest_app) nothing_held (argument_words pciguest_app words)) taken))
+board_alike : {v w : List ℕ → Option (List ℕ)} → ((id : List ℕ) → w id ≡ v id) → board_in w ≡ board_in v
+board_alike alike = ap (λ o. unwrap_or o []) (alike (codes "board"))
+
+pub asked_alike : {name : List ℕ} {o : Option (List ℕ)} {v w : List ℕ → Option (List ℕ)} → o ≡ Some name
+    → ((id : List ℕ) → w id ≡ v id) → (terminal : Bool) (c : Choice) → IsAskedBy (Some name) v terminal c
+    → IsAskedBy o w terminal c
+asked_alike same alike terminal (Help text) said = said
+asked_alike same alike terminal Demo said = same ∙ said
+asked_alike same alike terminal (Lists path) said = (same ∙ said.0, said.1 ∙ sym (board_alike alike))
+asked_alike same alike terminal (Check path plain) said = (
+  same ∙ said.0,
+  said.1 ∙ sym (board_alike alike),
+  said.2 ∙ sym (ap (λ o. is_plain o terminal) (alike (codes "plain"))),
+)
+asked_alike same alike terminal (Run path) said = (same ∙ said.0, said.1 ∙ sym (board_alike alike))
+asked_alike same alike terminal (Firmware path) said = (same ∙ said.0, said.1 ∙ sym (board_alike alike))
+asked_alike same alike terminal (Audit path) said = (same ∙ said.0, said.1 ∙ sym (board_alike alike))

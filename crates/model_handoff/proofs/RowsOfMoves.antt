@@ -2,7 +2,7 @@
 use Rattle.std.proofs.Common.{[], ◌∷◌, refl}
 use Rattle.std.specs.Fmt.{digits}
 use Rattle.model_guests.specs.Examples.{main_world, second_world, deep_world, wide_world, demo_world}
-use Rattle.model_guests.proofs.Dialogues.{◌▷◌, Dialogue}
+use Rattle.model_handoff.proofs.Dialogues.{◌▷◌, Dialogue}
 
 -- its block, Command, bases and Status; the board keeps its own Command and bases
 pub a_moved_function_is_at_reset : Dialogue main_world (

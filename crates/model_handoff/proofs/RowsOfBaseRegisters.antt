@@ -1,7 +1,7 @@
 -- A guest's base address registers: they show sizes and kinds, decide what is decoded, and leave the board's as they are.
 use Rattle.std.proofs.Common.{[], ◌∷◌, refl}
 use Rattle.model_guests.specs.Examples.{main_world, wide_world}
-use Rattle.model_guests.proofs.Dialogues.{◌▷◌, Dialogue}
+use Rattle.model_handoff.proofs.Dialogues.{◌▷◌, Dialogue}
 
 -- the board keeps the address that set-up gave
 pub ones_read_back_as_the_size : Dialogue main_world (

@@ -4,10 +4,8 @@
 --     report      the whole text
 use Rattle.std.specs.Prelude.{List, [], ◌∷◌, ℕ, ◌-◌, zero, suc, ◌+◌, true, false, ◌++◌, flat_map, not, map, count_by}
 use Rattle.std.specs.Prelude.{codes, decimal}
-use Rattle.std.specs.Fmt.{digits}
-use Rattle.std.specs.List.{join_with_byte}
 use Rattle.model_registers.specs.Declarations.{Kind, io_kind, mem32, mem64, Region}
-use Rattle.model_board.specs.Paths.{Part, Path, last_part}
+use Rattle.model_board.specs.Paths.{Path, last_part}
 use Rattle.model_board.specs.Board.{Decl, endpoint, bridge, is_bridge, Board}
 use Rattle.model_board.specs.BusNumbers.{secondary, subordinate, bus_of}
 use Rattle.model_board.specs.Interrupts.{root_device, root_pin}
@@ -17,17 +15,8 @@ use Rattle.model_set_up.specs.Placement.{Item, need, items_on, bus_first}
 use Rattle.model_set_up.specs.SetUp.{first_of}
 use Rattle.model_guests.specs.Text.{Text, text_of_lines}
 use Rattle.model_guests.specs.World.{World}
+use Rattle.model_guests.specs.PathTexts.{hexadecimal, path_text}
 use Rattle.model_guests.specs.Replies.{hex_digits}
-
--- without leading zeros
-abbrev pub hexadecimal : ℕ → Text
-hexadecimal n = codes "0x" ++ digits 16 false n
-
-abbrev pub part_text : Part → Text
-part_text p = decimal p.device ++ codes "." ++ decimal p.function
-
-abbrev pub path_text : Path → Text
-path_text p = join_with_byte 47 (map part_text p)
 
 -- BB:DD.F
 abbrev pub address_text : Board → Path → Text

@@ -2,10 +2,10 @@
 use Rattle.std.proofs.Common.{◌≡◌, [], ◌∷◌, refl}
 use Rattle.std.specs.Fmt.{digits}
 use Rattle.model_board.specs.Board.{endpoint}
-use Rattle.model_set_up.specs.Examples.{part, function_at, aperture, main_apertures, memory_of, twin_bridges}
+use Rattle.model_board.specs.Examples.{part, function_at, aperture, main_apertures, memory_of, twin_bridges}
 use Rattle.std.specs.Prelude.{codes}
 use Rattle.model_guests.specs.Text.{text_of_lines}
-use Rattle.model_guests.specs.Report.{report}
+use Rattle.model_handoff.specs.Report.{report}
 use Rattle.model_guests.specs.Examples.{main_world, demo_world, deep_world, wide_world, chain_world, high_world, bare}
 
 -- the window of 1 MB stands before the region of 4 KB, whose function comes first

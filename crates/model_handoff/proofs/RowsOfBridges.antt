@@ -1,13 +1,13 @@
 -- The registers of a bridge: after set-up as the host reads them, at reset, and after a write of ones.
 use Rattle.std.proofs.Common.{◌≡◌, ℕ, List, [], ◌∷◌, true, false, refl, map}
-use Rattle.model_set_up.specs.Examples.{aperture, main_bridge, main_apertures, memory_bridge, lone_bridge}
+use Rattle.model_board.specs.Examples.{aperture, main_bridge, main_apertures, memory_bridge, lone_bridge}
 use Rattle.std.specs.Prelude.{Some}
 use Rattle.model_registers.specs.Registers.{config, File, number, write, raise, all_bytes}
 use Rattle.model_registers.specs.Declarations.{Bridge, io32, pref32, pref64}
 use Rattle.model_registers.specs.BridgeTable.{BridgeValues, bridge_file, bridge_reset}
 use Rattle.model_registers.specs.Apertures.{Apertures}
 use Rattle.model_guests.specs.Examples.{main_world_with, main_world, high_world, bare}
-use Rattle.model_guests.proofs.Dialogues.{◌▷◌, Shows}
+use Rattle.model_handoff.proofs.Dialogues.{◌▷◌, Shows}
 
 abbrev low_apertures : Apertures
 low_apertures = record main_apertures { pref = Some (aperture 0xe0000000 0xefffffff) }

@@ -2,7 +2,7 @@
 use Rattle.std.proofs.Common.{[], ◌∷◌, refl}
 use Rattle.std.specs.Fmt.{digits}
 use Rattle.model_guests.specs.Examples.{main_world, wide_world}
-use Rattle.model_guests.proofs.Dialogues.{◌▷◌, Dialogue}
+use Rattle.model_handoff.proofs.Dialogues.{◌▷◌, Dialogue}
 
 -- an empty slot; the guest's region there, once the latch is not enabled; and each guest has its own
 pub the_latch_and_its_data : Dialogue main_world (

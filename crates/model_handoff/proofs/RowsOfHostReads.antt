@@ -1,7 +1,7 @@
 -- What a host reads at bus addresses and ports.
 use Rattle.std.proofs.Common.{[], ◌∷◌, refl}
 use Rattle.model_guests.specs.Examples.{main_world, deep_world, chain_world}
-use Rattle.model_guests.proofs.Dialogues.{◌▷◌, Shows}
+use Rattle.model_handoff.proofs.Dialogues.{◌▷◌, Shows}
 
 -- device 16 is no device
 pub host_reads_of_functions : Shows main_world (

@@ -2,7 +2,7 @@
 use Rattle.std.proofs.Common.{[], ◌∷◌, refl}
 use Rattle.std.specs.Fmt.{digits}
 use Rattle.model_guests.specs.Examples.{main_world, wide_world}
-use Rattle.model_guests.proofs.Dialogues.{◌▷◌, Dialogue}
+use Rattle.model_handoff.proofs.Dialogues.{◌▷◌, Dialogue}
 
 -- no region there; second half of 64 bits; offset is the size; past the block; a copy of the guest; the slot before the offset
 pub checks_of_a_raise : Dialogue main_world (

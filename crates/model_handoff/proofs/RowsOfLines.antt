@@ -3,7 +3,7 @@ use Rattle.std.proofs.Common.{◌≡◌, [], ◌∷◌, ◌++◌, refl, replicat
 use Rattle.std.specs.Fmt.{digits}
 use Rattle.std.specs.Prelude.{codes}
 use Rattle.model_guests.specs.Examples.{main_world}
-use Rattle.model_guests.proofs.Dialogues.{◌▷◌, Dialogue, written}
+use Rattle.model_handoff.proofs.Dialogues.{◌▷◌, Dialogue, written}
 
 -- the width before the alignment, and both before the range
 pub checks_of_an_access : Dialogue main_world (
