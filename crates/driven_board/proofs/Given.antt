@@ -10,7 +10,7 @@ use Rattle.model_guests.specs.Inputs.{Input, inputs, lone_output, after_inputs}
 use Rattle.model_guests.specs.Isolation.{IsDecidedBy, AgreeOn}
 use Rattle.model_guests.specs.Lone.{reset_guest}
 use Rattle.model_handoff.proofs.AfterSetUp.{set_up_isolates}
-use Rattle.model_guests.proofs.Isolation.{isolated}
+use Rattle.model_guests.proofs.Isolation.{isolated_over}
 use Rattle.model_handoff.specs.Handoffs.{taken_over}
 use Rattle.model_handoff.specs.Kept.{IsLawfulOver}
 use Rattle.model_handoff.specs.Regions.{first_fault}
@@ -55,7 +55,7 @@ pub given_isolated : GivenIsolated
 given_isolated file h m given name script there =
     let w : World = given.world in
     subst (λ (x : WorldNow). IsDecidedBy (inputs (guests_at_first w) name (lines script)) w x name script) (sym given.begins)
-    (isolated w (names_lawful file h m given) (taken_over w h.state) name script there)
+    (isolated_over w (names_lawful file h m given) (taken_over w h.state) name script there)
 
 -- what the same inputs over the same functions decide
 alike : (name : Text) (v w : World) (m n : WorldNow) (one other : Text) → AgreeOn name v w one other

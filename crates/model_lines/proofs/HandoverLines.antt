@@ -10,7 +10,7 @@ use Rattle.model_guests.specs.World.{World}
 use Rattle.model_guests.specs.WorldNow.{WorldNow, world_over}
 use Rattle.model_guests.specs.WorldNow as now
 use Rattle.model_guests.specs.Isolation.{IsDecidedBy}
-use Rattle.model_guests.proofs.Isolation.{isolated}
+use Rattle.model_guests.proofs.Isolation.{isolated_over}
 use Rattle.model_lines.specs.FirmwareLines.{after_line}
 use Rattle.model_handoff.specs.Handoffs.{taken_over}
 use Rattle.model_handoff.specs.Regions.{HandoffFault, first_fault}
@@ -80,6 +80,6 @@ isolated_sessions w lawful t line name script handed there =
     let x : SessionNow = after_session_line (driven w t) line in
     let same : x ≡ given n = handover_leaves w t line handed.asks ∙ ap (after_handover w t) handed.can in
     let alone : IsDecidedBy (inputs (guests_at_first w) name (lines script)) w n name script =
-    isolated w lawful (taken_over w t) name script there in
+    isolated_over w lawful (taken_over w t) name script there in
     let told = given_is_script n (lines script) in
     grind (arith, same_given)
