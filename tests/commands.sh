@@ -16,7 +16,7 @@ documents=(README.md docs/ARCHITECTURE.md docs/FORMATS.md docs/LSPCI.md examples
 room=$(mktemp -d)
 trap 'rm -rf "$room"' EXIT
 ln -s "$program" "$room/pciguest"
-for name in README.md crates docs examples tools; do ln -s "$top/$name" "$room/$name"; done
+for name in README.md boards crates docs examples tools; do ln -s "$top/$name" "$room/$name"; done
 passed=0
 failed=0
 
@@ -93,7 +93,7 @@ document() {
 }
 
 for name in "${documents[@]}"; do document "$name"; done
-for target in $(grep -ohE '(^|`|\$ )make [a-z]+' README.md CONTRIBUTING.md docs/*.md examples/README.md | sed 's/.*make //' | sort -u); do
+for target in $(grep -ohE '(^|`|\$ )make [a-z]+' README.md CONTRIBUTING.md docs/*.md {boards,examples}/README.md | sed 's/.*make //' | sort -u); do
   tell "make $target" "$target" "$(has_target "$target")"
 done
 

@@ -5,7 +5,7 @@ set -u
 cd "$(dirname "$0")/.."
 passed=0
 failed=0
-documents=(*.md docs/*.md examples/README.md examples/audit/README.md tests/README.md)
+documents=(*.md docs/*.md {boards,examples,examples/audit,tests}/README.md)
 index=docs/DEFINITIONS.md
 
 # holds NAME CHECK..: the check writes nothing
@@ -63,13 +63,24 @@ holds 'links that lead nowhere' broken_links
 # ---- files that are named in the text, from the top; a star may stand in them
 lost_files() {
   for document in "${documents[@]}"; do
-    grep -oE '`(crates|docs|tests|tools|examples|bench)/[A-Za-z0-9_./*-]*`' "$document" | tr -d '`' | sort -u |
+    grep -oE '`(boards|crates|docs|tests|tools|examples|bench)/[A-Za-z0-9_./*-]*`' "$document" | tr -d '`' | sort -u |
       while read -r name; do
         [[ $name == */out* ]] || compgen -G "$name" > /dev/null || echo "$document: $name"
       done
   done
 }
 holds 'files that are not there' lost_files
+
+# ---- boards and scripts: each has a section of what is expected beside it, and a row in boards/README.md
+unexpected() {
+  local file name
+  for file in boards/*.{toml,script} boards/refused/*.toml; do
+    name=$(basename "$file")
+    grep -qE "^== (check |[a-z_]+\.script over )?$name( |\$)" "$(dirname "$file")/expected.txt" || echo "$file: no section"
+    [[ $file == boards/refused/* ]] || grep -qF "| \`$name\` |" boards/README.md || echo "$file: not in boards/README.md"
+  done
+}
+holds 'boards and scripts of which nothing is expected' unexpected
 
 # ---- bodies that are refused: each row names an edit of the gate, or a test with words that stand in it
 lost_bodies() {

@@ -108,13 +108,13 @@ if has python3; then
   outside python3 examples/python/doorbell.py > rings
   holds 'the device in Python' grep -qx 'driver: 2 rings, status 1' rings
   holds 'the device model in Python' same "$device" outside python3 examples/python/device.py examples/device.toml
-  printf 'a.vendor\ntree\n' | outside python3 -m pciguest examples/boards/main.toml > answers
+  printf 'a.vendor\ntree\n' | outside python3 -m pciguest boards/main.toml > answers
   holds 'the prompt' grep -qx 'a: 0x1234' answers
 else
   echo 'no Python 3: its module is not tried'
 fi
 holds 'the schema that boards name' test -e examples/board.schema.json
-for board in examples/*.toml examples/*/*.toml; do
+for board in boards/*.toml examples/*.toml examples/*/*.toml; do
   named=$(sed -n '1s/^#:schema //p' "$board")
   [ -z "$named" ] || holds "$board names it" test -e "$(dirname "$board")/$named"
 done

@@ -23,7 +23,7 @@ from machine import Machine, MachineError
 from rules import Comparison
 from trees import Reading, Tree
 
-EXAMPLES = Path(__file__).resolve().parents[2] / "crates/examples/data"
+FOLDER = Path(__file__).resolve().parents[2] / "boards"
 # U-Boot stops before its first words on the other two
 BOARDS = {SEABIOS: ["main", "server", "second_bridge", "kinds", "chain", "largest"],
           UBOOT: ["main", "server", "second_bridge", "kinds"]}
@@ -104,7 +104,7 @@ def examine(options, room):
     run, comparison = Run(options, room), Comparison()
     for firmware in (SEABIOS, UBOOT):
         for name in BOARDS[firmware]:
-            run.boot(name, EXAMPLES / f"{name}.toml", firmware)
+            run.boot(name, FOLDER / f"{name}.toml", firmware)
     for seed in range(options.seed, options.seed + options.trees):
         try:
             run.compare(seed, comparison)

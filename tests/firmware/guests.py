@@ -8,7 +8,7 @@ from pathlib import Path
 from board import pciguest
 
 TOP = Path(__file__).resolve().parents[2]
-SCRIPTS = [TOP / "examples/demo.script", *sorted((TOP / "crates/examples/data").glob("*.script"))]
+SCRIPTS = sorted((TOP / "boards").glob("*.script"))
 MOST = 8  # endpoints that are given, of a board
 
 

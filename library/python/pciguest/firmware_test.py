@@ -200,9 +200,9 @@ def counted(number: int, word: str) -> str:
 
 
 def example_files() -> List[Path]:
-    """The boards of the examples, as they stand in the repository or where they are installed."""
+    """Boards of the folder `boards`, as they stand in the repository or where they are installed."""
     try:
-        folder = find("crates/examples/data", "boards")
+        folder = find("boards", "boards")
     except FileNotFoundError:  # as where pip installed the module alone
         return []
     return [folder / f"{name}.toml" for name in EXAMPLES]
