@@ -134,6 +134,10 @@ lacking_calls() {
 holds 'numbers that the manual lacks' lacking_numbers
 holds 'calls that the manual lacks' lacking_calls
 
+# ---- the kit: the README names the one that is here, where there is one
+other_kit() { grep -qxF "Proved with \`$(rt version)\`." README.md || echo "README.md: not proved with $(rt version)"; }
+! command -v rt > /dev/null || holds 'the kit that the README names' other_kit
+
 # ---- edits that the gate doesn't try: each text that one replaces stands once in its file
 lost_edits() {
   local edit file line
