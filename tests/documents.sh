@@ -6,7 +6,7 @@ set -u
 cd "$(dirname "$0")/.."
 passed=0
 failed=0
-documents=(*.md docs/*.md {boards,examples,examples/audit,tests}/README.md)
+documents=(*.md docs/*.md docs/reports/*.md {boards,examples,examples/audit,tests}/README.md)
 index=docs/DEFINITIONS.md
 room=$(mktemp -d)
 trap 'rm -rf "$room"' EXIT
@@ -79,6 +79,15 @@ broken_links() {
   done
 }
 holds 'links that lead nowhere' broken_links
+
+# ---- the list of documents has each
+unlisted() {
+  local file
+  for file in docs/*.md docs/reports/*.md; do
+    [ "$file" = docs/README.md ] || grep -qF "](${file#docs/})" docs/README.md || echo "$file"
+  done
+}
+holds 'documents that docs/README.md lacks' unlisted
 
 # ---- files that are named in the text, from the top; a star may stand in them
 lost_files() {
