@@ -143,7 +143,7 @@ holds 'examples in headings that no test runs' strange_examples
 # ---- the page on a crate of one's own: its code stands in that crate
 strange_code() {
   local code block
-  code=$(find crates/presence -not -path '*/out/*' \( -name '*.rt' -o -name '*.antt' -o -name '*.edit' \) -exec cat {} +)
+  code=$(find crates/example_presence -not -path '*/out/*' \( -name '*.rt' -o -name '*.antt' -o -name '*.edit' \) -exec cat {} +)
   awk '/^```$/ { if (inside) printf "%c", 0; inside = 0; next } /^```(rust|antt|edit)$/ { inside = 1; next } inside' docs/OWN_CRATE.md |
     while IFS= read -r -d '' block; do
       [[ $code == *"${block%$'\n'}"* ]] || echo "docs/OWN_CRATE.md: ${block%%$'\n'*}"
