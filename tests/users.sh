@@ -37,7 +37,7 @@ has() { command -v "$1" > /dev/null; }
 holds 'no kit' outside sh -c '! command -v rt'
 
 # ---- all: what the README that was packed says is run there
-readme=share/doc/pciguest/README.md
+readme=README.md
 # saved NAME: the block under the line that says to save it so
 saved() { awk -v name="Save this as \`$1\`" 'index($0, name) { on = 1 } on && /^```/ { if (inside) exit; inside = 1; next } inside' "$readme"; }
 # shown COMMAND: what the README prints under it
@@ -57,7 +57,7 @@ holds 'a session' same examples/session/session.stdout \
   outside sh -c './pciguest firmware examples/session/board.toml < examples/session/session.script'
 
 # ---- firmware: an enumerator on many boards, and with each of its mistakes, by the words of TESTING_YOURS.md
-testing=share/doc/pciguest/docs/TESTING_YOURS.md
+testing=docs/TESTING_YOURS.md
 tested() { outside env -u PYTHONPATH "$@"; }
 # typed PATTERN: the command that the page gives for the tarball
 typed() { grep -oE '`[^`]*`' "$testing" | tr -d '`' | grep -m1 -E "$1"; }
