@@ -80,6 +80,13 @@ broken_links() {
 }
 holds 'links that lead nowhere' broken_links
 
+# ---- each crate has its row in docs/ARCHITECTURE.md
+other_rows() {
+  diff <(sed -n 's/^\([a-z_]*\)\( staticlib\)\?:.*/\1/p' crates.txt | sort) \
+    <(sed -n '/^## Crates/,/^### What/s/^| `\([a-z_]*\)` |.*/\1/p' docs/ARCHITECTURE.md | sort)
+}
+holds 'crates that docs/ARCHITECTURE.md lacks, or that are gone' other_rows
+
 # ---- the list of documents has each
 unlisted() {
   local file
