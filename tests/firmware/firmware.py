@@ -4,7 +4,7 @@ QEMU.
 
     firmware.py PROGRAM [--trees N] [--seed S] [--keep FOLDER]
 
-First each firmware boots on boards of the examples. Then it boots on N random trees (30), here and in QEMU's machine,
+First each firmware boots on boards of the folder boards. Then it boots on N random trees (30), here and in QEMU's machine,
 and the configuration bytes of all functions are compared; the same seed makes the same trees. After each boot the
 program audits what the firmware left, and what is wrong there is told; then the board is given to the guests of its
 file, or refused, and scripts are told what they are after our own set-up. With --keep the consoles and the boards of the

@@ -51,7 +51,7 @@ def is_of_guests(line):
 
 
 def scripts(file):
-    """The script of the board and then those of the examples, without the host's reads."""
+    """The script of the board and then those of the folder boards, without the host's reads."""
     texts = [script_of(tomllib.loads(Path(file).read_text()))]
     texts += [script.read_text().splitlines() for script in SCRIPTS]
     return [[line for line in lines if is_of_guests(line)] for lines in texts]

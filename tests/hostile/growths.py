@@ -91,7 +91,7 @@ def same_count_in_arrays(room, landings, scripts):
 
 
 def long_scripts():
-    """The scripts of the examples, and long ones with every kind of line."""
+    """Scripts of the folder boards, and long ones with every kind of line."""
     scripts = [(name, (BOARDS / name).read_bytes()) for name in SCRIPTS]
     every = b"".join(content + b"\n" for _, content in scripts)
     scripts.append(("all of them a hundred times", every * 100))

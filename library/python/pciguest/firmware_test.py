@@ -27,7 +27,7 @@ from ._firmware_run import Firmware, Run, since
 from ._judge import KINDS
 from ._shrink import shrunk
 
-#: boards of the examples, each of which can be set up
+#: boards of the folder `boards`, each of which can be set up
 EXAMPLES = ["main", "server", "second_bridge", "kinds", "chain", "guest_elsewhere"]
 
 

@@ -1,4 +1,4 @@
-"""Firmware on the main board of the examples, by calls and by lines, and what is refused."""
+"""Firmware on `boards/main.toml`, by calls and by lines, and what is refused."""
 
 import random
 import unittest

@@ -1,4 +1,4 @@
-"""Each call on the main board of the examples, and what is refused."""
+"""Each call on `boards/main.toml`, and what is refused."""
 
 import gc
 import threading

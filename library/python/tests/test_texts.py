@@ -1,4 +1,4 @@
-"""Reports, checks and words over all boards of the examples; and the examples in docstrings."""
+"""Reports, checks and words over all boards of the folder `boards`; and the examples in docstrings."""
 
 import doctest
 import unittest

@@ -1,4 +1,4 @@
-//! Firmware on the main board of the examples, by calls, and what is refused.
+//! Firmware on `boards/main.toml`, by calls, and what is refused.
 
 use pciguest::{Board, Error, HostAt, Machine};
 use std::thread;
