@@ -4,7 +4,7 @@
 ghost use Rattle.std.specs.Prelude.{◌≡◌};
 ghost use Rattle.paths.specs.BusAddresses.{bus_address_of};
 ghost use Rattle.host_bridge.specs.HostState.{with_latch};
-ghost use Rattle.presence.specs.Presence.{is_present, devices_below};
+ghost use Rattle.example_presence.specs.Presence.{is_present, devices_below};
 
 use host_bridge::{Bdf, Host};
 

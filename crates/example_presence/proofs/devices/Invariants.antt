@@ -1,6 +1,6 @@
 use Rattle.std.proofs.Common.{◌≡◌, ◌≤◌}
-use Rattle.presence.specs.Presence.{devices_below}
-use Rattle.presence.proofs.devices.Given as goal
+use Rattle.example_presence.specs.Presence.{devices_below}
+use Rattle.example_presence.proofs.devices.Given as goal
 
 abbrev pub invariant-loop-device : goal.invariant-loop-device
 invariant-loop-device l = record {
