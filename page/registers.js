@@ -32,11 +32,14 @@ export class Registers {
     parts.chosen.addEventListener('change', () => choose(parts.chosen.value));
   }
 
+  // What changes from here on is marked.
+  forget() { this.bytes.of = ''; }
+
   clear() {
     for (const one of [this.parts.fields, this.parts.bytes]) one.replaceChildren();
     this.parts.lost.textContent = this.parts.identity.textContent = '';
     this.seen = '';
-    this.bytes.of = '';
+    this.forget();
   }
 
   // Shows `one` of some functions: `bytes` are its 256 bytes or null, `note` says why nothing can be written, or nothing; `write` is given

@@ -5,7 +5,7 @@ set -u
 cd "$(dirname "$0")/.."
 passed=0
 failed=0
-documents=(*.md docs/*.md examples/README.md examples/audit/README.md tests/README.md)
+documents=(*.md docs/*.md docs/lessons/*.md examples/README.md examples/audit/README.md tests/README.md)
 index=docs/DEFINITIONS.md
 
 # holds NAME CHECK..: the check writes nothing
