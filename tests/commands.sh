@@ -11,7 +11,7 @@ cd "$(dirname "$0")/.."
 top=$PWD
 program=$(readlink -f "${1:-crates/pciguest/out/pciguest}")
 [ -x "$program" ] || { echo "no program at $program: make build"; echo '0 passed, 1 failed'; exit 1; }
-documents=(README.md docs/ARCHITECTURE.md docs/FORMATS.md docs/reports/LSPCI.md examples/audit/README.md man/pciguest.1)
+documents=(README.md docs/ARCHITECTURE.md docs/FORMATS.md docs/reports/LSPCI.md docs/lessons/*.md examples/audit/README.md man/pciguest.1)
 
 room=$(mktemp -d)
 trap 'rm -rf "$room"' EXIT
