@@ -14,15 +14,13 @@ use Rattle.model_board.specs.Examples.{part, function_at, plain, main_apertures}
 use Rattle.model_guests.specs.World.{World}
 use Rattle.model_guests.specs.Guests.{GuestsNow, Move, after_move, function_in, guests_at_first, move_fault, path_in}
 use Rattle.model_registers.specs.CopiedFiles.{after_reset, places_of}
+use Rattle.model_registers.proofs.RegisterFiles.{self}
 use Rattle.model_guests.specs.AgreedBoard.{state_over, with_change_at}
 use Rattle.model_guests.specs.Seated.{AreSeated}
 use Rattle.model_guests.proofs.SeatedFirst.{seated_at_first}
 
 differ : (a b : ℕ) → eqb a b ≡ false → a ≡ b → ⊥
-differ a b h e = let no : eqb a a ≡ false = ap (eqb a) e ∙ h in let yes : eqb a a ≡ true = same a in cc
-  where
-    same : (n : ℕ) → eqb n n ≡ true
-    same n = grind (arith, nat_tests)
+differ a b h e = let no : eqb a a ≡ false = ap (eqb a) e ∙ h in let yes : eqb a a ≡ true = self a in cc
 
 -- places alone don't keep the copies from rising
 raisable : File

@@ -190,8 +190,8 @@ module _ (ns : List Text) (name : Text) (lawful : Each (λ n. IsTrue (is_name n)
 
 -- ---- the whole script
 
-pub isolated : Isolated
-isolated w lawful s name script h =
+pub isolated_over : Isolated
+isolated_over w lawful s name script h =
     let now : WorldNow = world_over w s in
     let facts : NameFacts name = named_facts (names w) name lawful h in
     let same : names_now now ≡ names w = names_at_first w in
@@ -205,4 +205,4 @@ isolated w lawful s name script h =
     }
 
 pub two_worlds_agree : TwoWorlds
-two_worlds_agree name v w one other lawful_v lawful_w agree s t = grind (arith, isolated)
+two_worlds_agree name v w one other lawful_v lawful_w agree s t = grind (arith, isolated_over)

@@ -9,7 +9,7 @@ use Rattle.model_guests.specs.Inputs.{Input, inputs, lone_output, after_inputs}
 use Rattle.model_guests.specs.Isolation.{IsDecidedBy, AgreeOn}
 use Rattle.model_guests.specs.Lone.{reset_guest}
 use Rattle.model_handoff.proofs.AfterSetUp.{set_up_isolates}
-use Rattle.model_guests.proofs.Isolation.{isolated}
+use Rattle.model_guests.proofs.Isolation.{isolated_over}
 use Rattle.model_audit.proofs.Witnesses.{problems_decide}
 use Rattle.model_handoff.specs.Handoffs.{taken_over}
 use Rattle.model_handoff.specs.Kept.{IsLawfulOver}
@@ -21,7 +21,7 @@ use Rattle.model_lines.specs.GivenLaws.{AreAlike, GivenIsolated, GivenAlike, Giv
 pub given_isolated : GivenIsolated
 given_isolated w s m given name script there =
     subst (λ (x : WorldNow). IsDecidedBy (inputs (guests_at_first w) name (lines script)) w x name script) (sym given.begins)
-    (isolated w given.lawful.guests.lawful_names (taken_over w s) name script there)
+    (isolated_over w given.lawful.guests.lawful_names (taken_over w s) name script there)
 
 -- what the same inputs over the same functions decide
 alike : (name : Text) (v w : World) (m n : WorldNow) (one other : Text) → AgreeOn name v w one other

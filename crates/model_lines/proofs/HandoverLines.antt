@@ -8,7 +8,7 @@ use Rattle.model_guests.specs.LineRuns.{after_lines}
 use Rattle.model_guests.specs.World.{World}
 use Rattle.model_guests.specs.WorldNow.{world_over}
 use Rattle.model_guests.specs.Isolation.{IsDecidedBy}
-use Rattle.model_guests.proofs.Isolation.{isolated}
+use Rattle.model_guests.proofs.Isolation.{isolated_over}
 use Rattle.model_handoff.specs.Handoffs.{taken_over}
 use Rattle.model_handoff.specs.Regions.{HandoffFault, first_fault}
 use Rattle.model_handoff.specs.Changes.{MachineNow, machine_protocol}
@@ -77,6 +77,6 @@ isolated_sessions w lawful b same_world line name script handed there =
     let same : x ≡ given n = handover_leaves b line handed.asks ∙ ap (after_handover b) handed.can in
     let alone : IsDecidedBy (inputs (guests_at_first w) name (lines script)) w n.world name script =
     subst (λ (v : World). IsDecidedBy (inputs (guests_at_first w) name (lines script)) w (world_over v (taken_over v b.state)) name script) (sym same_world)
-    (isolated w lawful (taken_over w b.state) name script there) in
+    (isolated_over w lawful (taken_over w b.state) name script there) in
     let told = given_is_script n (lines script) in
     grind (arith, same_given)
