@@ -26,7 +26,7 @@ pub record IsBoardOf (file : Text) (b : DrivenNow) : Type 0 where
   pub untouched : b.written ≡ false → b ≡ at_reset b.world
 
 pub record IsHandedOverAs (b : DrivenNow) (x : SessionNow) : Type 0 where
-  pub given : IsGiven b.world b.state (handed_over b).world
+  pub lawful : IsGiven b.world b.state (handed_over b).world
   pub now : x ≡ given (handed_over b)
 
 abbrev pub IsRefusalOf : DrivenNow → HandoverFault → Type 0

@@ -115,9 +115,10 @@ impl Session {
         ensures kept { IfErr result (λ x. x ≡ self) }
         ensures given { IfErr result IsGiven }
     {
-        match self.stage {
+        let Session { alloc, stage } = self;
+        match stage {
             Stage::Driven(board) => Ok(board),
-            Stage::Given(monitor) => Err(Session::of(self.alloc, monitor)),
+            Stage::Given(monitor) => Err(Session::of(alloc, monitor)),
             Stage::Between => unreachable!(),
         }
     }
@@ -128,8 +129,9 @@ impl Session {
         ensures kept { IfErr result (λ x. x ≡ self) }
         ensures driven { IfErr result IsDriven }
     {
-        match self.stage {
-            Stage::Driven(board) => Err(Session::over(self.alloc, board)),
+        let Session { alloc, stage } = self;
+        match stage {
+            Stage::Driven(board) => Err(Session::over(alloc, board)),
             Stage::Given(monitor) => Ok(monitor),
             Stage::Between => unreachable!(),
         }
