@@ -28,7 +28,8 @@ impl Monitor {
     /// the board is dropped.
     pub fn new(alloc: Global, ready: Ready, guests: &[GuestDecl]) -> Result<Monitor, Fault>
         requires { HasLawfulGuests (world_of ready guests.now) }
-        ensures made { IfOk result (BeginsIn (λ v. v ≡ world_at_first (world_of ready guests.now))) }
+        ensures made { IfOk result (BeginsIn (λ v.
+            v ≡ world_at_first (world_of ready guests.now))) }
         ensures refused { IfErr result (λ f. f ≡ Memory) }
     {
         let table = Table::build(alloc, &ready)?;
@@ -48,7 +49,8 @@ impl Monitor {
         requires lawful { HasLawfulGuests (world_on host guests.now) }
         ensures made { let w = world_on host guests.now in
             IfOk result (BeginsIn (λ v. v ≡ world_over w (taken_over w host.state))) }
-        ensures given { IfOk result (λ _. first_fault (world_on host guests.now) host.state ≡ None) }
+        ensures given { IfOk result (λ _.
+            first_fault (world_on host guests.now) host.state ≡ None) }
         ensures kept { IfErr result (λ r. r.board ≡ host) }
         ensures refused { IfErr result (λ r. IsFaultOf (world_on host guests.now) host r.fault) }
     {

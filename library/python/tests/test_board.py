@@ -1,9 +1,9 @@
-"""Firmware on the main board of the examples, by calls and by lines, and what is refused."""
+"""Firmware on `boards/main.toml`, by calls and by lines, and what is refused."""
 
 import random
 import unittest
 
-from boards import DATA, MAIN
+from boards import BOARDS, MAIN, REFUSED
 from pciguest import Board, Machine, Refusal
 
 
@@ -72,7 +72,7 @@ class Audits(Case):
         self.assertEqual(self.board.audit(), ("audit: ok\n", 0))
 
     def test_long_texts_come_whole(self):
-        with Board((DATA / "largest.toml").read_bytes()) as board:
+        with Board((BOARDS / "largest.toml").read_bytes()) as board:
             audit = board.audit()
         self.assertGreater(len(audit.text), 4096)
         self.assertEqual(audit.text.count("\n"), audit.problems + 1)
@@ -94,7 +94,7 @@ class SetUp(Case):
         self.assertEqual(str(self.refused(904, self.board.set_up)), "904 not at reset")
 
     def test_a_board_that_does_not_fit(self):
-        with Board((DATA / "io_pool.toml").read_bytes()) as board:
+        with Board((REFUSED / "io_pool.toml").read_bytes()) as board:
             self.refused(203, board.set_up)
 
 
