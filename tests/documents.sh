@@ -90,7 +90,7 @@ holds 'crates that docs/ARCHITECTURE.md lacks, or that are gone' other_rows
 # ---- the list of documents has each
 unlisted() {
   local file
-  for file in docs/*.md docs/reports/*.md; do
+  for file in docs/*.md docs/reports/*.md docs/lessons/README.md; do
     [ "$file" = docs/README.md ] || grep -qF "](${file#docs/})" docs/README.md || echo "$file"
   done
 }
