@@ -205,6 +205,7 @@ function open_task(text, whom, lines, shows) {
   show_text(text, whom);
   script_console.prepare(lines, shows);
   if (as === 'firmware') firmware.look();
+  part.line.placeholder = functions.length > 0 ? `host cr ${functions[0].place} 0 4` : '';
   registers.forget();
   follow();
 }
