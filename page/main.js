@@ -37,7 +37,8 @@ const guest_registers = new GuestRegisters(part, registers, board, give);
 const firmware = new Firmware(part, board, addresses, registers, light, give);
 const box = new ScriptBox(part, known);
 const script_console = new Console(part, box, { machine: answers, whose: () => ({ as, guests: guests() }), moved, heard: reply => lessons.hear(reply), ran });
-const lessons = new Lessons(part, TASKS, { open: open_task, held: answers, guests, left: set_up, lacks: () => (firmware.now === null ? [] : lacks_of(firmware.driven, firmware.now, apertures)) });
+const lacks = () => (firmware.now === null ? ['the board is refused'] : lacks_of(firmware.driven, firmware.now, apertures));
+const lessons = new Lessons(part, TASKS, { open: open_task, held: answers, guests, left: set_up, lacks });
 const held = () => ({ board: part.board.value, script: script_console.script(), as, task: lessons.kept() });
 new TaskForm(part, () => ({ ...held(), guests: guests() }));
 let following = false;
@@ -46,7 +47,8 @@ let following = false;
 function known() {
   if (answers() === null) return null;
   const those = as === 'firmware' ? firmware.now?.functions ?? [] : functions;
-  return { as, guests: guests(), functions: those, owners, places: who => (as === 'firmware' || who === 'host' ? places_on(those) : places_on(all_open(machine, functions, owners).filter(one => one.owner.guest === who))) };
+  const open_of = who => all_open(machine, functions, owners).filter(one => one.owner.guest === who);
+  return { as, guests: guests(), functions: those, owners, places: who => places_on(as === 'firmware' || who === 'host' ? those : open_of(who)) };
 }
 
 function moved(from, to) {
@@ -71,7 +73,10 @@ function follow() {
   following = true;
   queueMicrotask(() => {
     following = false;
-    if (as === 'firmware') { if (functions.length > LARGE) note(); firmware.draw(apertures); } else if (machine !== null) draw_guests();
+    if (as === 'firmware') {
+      if (functions.length > LARGE) note();
+      firmware.draw(apertures);
+    } else if (machine !== null) draw_guests();
     lessons.look();
     keep(held());
   });
@@ -230,7 +235,7 @@ async function hand_out() {
 async function begin() {
   const asked = wanted(), before = asked.has('kept') ? await kept_in(asked.get('kept')) : asked.size > 0 ? null : kept();
   if (asked.has('story')) { tell_story(asked.get('story')); return; }
-  if (asked.has('lesson')) { lessons.begin_lesson(TASKS.findIndex(one => one.name === asked.get('lesson')), Number(asked.get('part') ?? 1) - 1); return; }
+  if (asked.has('lesson') && lessons.begin_by_name(asked.get('lesson'), Number(asked.get('part')) - 1)) return;
   if (asked.has('task') && lessons.take_up(await task_in(asked.get('task')))) return;
   if (before?.task && lessons.take_up(before.task)) { script_console.play(before.script, true); return; }
   show_text(before?.board ?? BOARDS[asked.get('board') ?? Object.keys(BOARDS)[0]] ?? '', before?.as ?? asked.get('as'));
