@@ -28,7 +28,9 @@ let engine = null, machine = null, functions = [], owners = new Map(), marks = n
 const choose = path => (as === 'firmware' ? firmware : guest_registers).choose(path);
 const give = line => script_console.give(line);
 const answers = () => (as === 'firmware' ? firmware.driven : machine);
-const guests = () => (as === 'firmware' ? [] : [...marks.keys()]);
+// Once firmware has given its board to guests, its lines are a script's.
+const speaking = () => (as === 'firmware' && !firmware.now?.given ? as : 'guests');
+const guests = () => (speaking() === 'firmware' ? [] : [...marks.keys()]);
 const board = new Board({ tree: part.tree, told: part.told, table: part.functions }, light, choose);
 const addresses = new Addresses(part.addresses, light);
 const maps = new GuestMaps(part.maps, light);
@@ -36,19 +38,19 @@ const registers = new Registers(part, choose);
 const guest_registers = new GuestRegisters(part, registers, board, give);
 const firmware = new Firmware(part, board, addresses, registers, light, give);
 const box = new ScriptBox(part, known);
-const script_console = new Console(part, box, { machine: answers, whose: () => ({ as, guests: guests() }), moved, heard: reply => lessons.hear(reply), ran });
+const script_console = new Console(part, box, { machine: answers, whose: () => ({ as: speaking(), guests: guests() }), moved, heard: reply => lessons.hear(reply), ran });
 const lacks = () => (firmware.now === null ? ['the board is refused'] : lacks_of(firmware.driven, firmware.now, apertures));
 const lessons = new Lessons(part, TASKS, { open: open_task, held: answers, guests, left: set_up, lacks });
 const held = () => ({ board: part.board.value, script: script_console.script(), as, task: lessons.kept() });
 new TaskForm(part, () => ({ ...held(), guests: guests() }));
-let following = false;
+let following = false, unseen = false;
 
 // What one may type about: the functions with their numbers as they are now, and where regions stand.
 function known() {
   if (answers() === null) return null;
   const those = as === 'firmware' ? firmware.now?.functions ?? [] : functions;
   const open_of = who => all_open(machine, functions, owners).filter(one => one.owner.guest === who);
-  return { as, guests: guests(), functions: those, owners, places: who => places_on(as === 'firmware' || who === 'host' ? those : open_of(who)) };
+  return { as: speaking(), guests: guests(), functions: those, owners, places: who => places_on(as === 'firmware' || who === 'host' ? those : open_of(who)) };
 }
 
 function moved(from, to) {
@@ -56,13 +58,16 @@ function moved(from, to) {
   if (path !== undefined) { owners.set(path, to); draw(); }
 }
 
-// What is wrong after a line of firmware is noted under it; on a large board, after all that run at once.
-function ran() {
+// What is wrong after a line of firmware is noted under it; on a large board, after all that run at once. A read changes nothing.
+function ran(line) {
+  unseen ||= !/^\s*\S+\s+[cim]r\s/.test(line);
   if (as === 'firmware' && functions.length <= LARGE) note();
   follow();
 }
 
 function note() {
+  if (!unseen) return;
+  unseen = false;
   const { came, gone } = firmware.look();
   script_console.note(came, gone);
 }
