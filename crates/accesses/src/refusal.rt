@@ -60,7 +60,8 @@ impl Refusal {
 
     /// What a reply says of it: `refused`, its number and its words.
     pub fn text(self) -> &'static [u8]
-        ensures text { result.now ≡ codes "refused " ++ decimal (number_of self) ++ codes " " ++ refusal_words (number_of self) }
+        ensures text { result.now ≡ codes "refused " ++ decimal (number_of self) ++ codes " "
+            ++ refusal_words (number_of self) }
         ensures short { length result.now ≤ 25 }
     {
         match self {

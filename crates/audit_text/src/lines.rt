@@ -1,6 +1,7 @@
 //! A problem's line, and the last line.
-ghost use Rattle.std.specs.Prelude.{◌≡◌, ◌++◌, codes, OnOk, string_bytes};
+ghost use Rattle.std.specs.Prelude.{codes, OnOk};
 ghost use Rattle.std.specs.Option.{option_map_or};
+ghost use Rattle.lists.specs.Texts.{Adds};
 ghost use Rattle.paths.specs.BusAddresses.{bus_address_of};
 ghost use Rattle.model_guests.specs.PathTexts.{hexadecimal, path_text};
 ghost use Rattle.model_audit.specs.AuditText.{region_text, agent_text, space_text, number_text, problem_text, total_text, audit_line};
@@ -16,8 +17,7 @@ use std::alloc::AllocError;
 
 /// Appends the path of a region, its register, and where it stands.
 fn push_region(text: &mut String, region: &OpenRegion) -> Result<(), AllocError>
-    ensures { OnOk result (string_bytes text.new
-        ≡ string_bytes text.old ++ region_text region.now) }
+    ensures { OnOk result (Adds text.old text.new (region_text region.now)) }
 {
     push_path(text, &region.path)?;
     let index = region.region.index;
@@ -28,8 +28,7 @@ fn push_region(text: &mut String, region: &OpenRegion) -> Result<(), AllocError>
 
 /// Appends the path of an agent, and its register, if it has one.
 fn push_agent(text: &mut String, agent: &Agent) -> Result<(), AllocError>
-    ensures { OnOk result (string_bytes text.new
-        ≡ string_bytes text.old ++ agent_text agent.now) }
+    ensures { OnOk result (Adds text.old text.new (agent_text agent.now)) }
 {
     push_path(text, &agent.path)?;
     match agent.register {
@@ -40,15 +39,14 @@ fn push_agent(text: &mut String, agent: &Agent) -> Result<(), AllocError>
 
 /// Appends an address.
 fn push_address(text: &mut String, address: u64) -> Result<(), AllocError>
-    ensures { OnOk result (string_bytes text.new ≡ string_bytes text.old ++ hexadecimal address) }
+    ensures { OnOk result (Adds text.old text.new (hexadecimal address)) }
 {
     write!(text, "0x{address:x}")
 }
 
 /// Appends the name of the space whose addresses an agent answers.
 fn push_space(text: &mut String, agent: &Agent) -> Result<(), AllocError>
-    ensures { OnOk result (string_bytes text.new
-        ≡ string_bytes text.old ++ space_text agent.now.space) }
+    ensures { OnOk result (Adds text.old text.new (space_text agent.now.space)) }
 {
     match agent.space {
         Space::Io => text.push_str("I/O"),
@@ -58,17 +56,16 @@ fn push_space(text: &mut String, agent: &Agent) -> Result<(), AllocError>
 
 /// Appends a bus, device and function number.
 fn push_number(text: &mut String, bus: u8, device: u8, function: u8) -> Result<(), AllocError>
-    ensures { OnOk result (string_bytes text.new
-        ≡ string_bytes text.old
-        ++ number_text (record { bus = bus; part = record { device = device; function = function } })) }
+    ensures { OnOk result (Adds text.old text.new
+        (number_text (record { bus = bus; part = record { device = device; function = function } }))) }
 {
     write!(text, "{bus:02x}:{device:02x}.{function}")
 }
 
 /// Appends a path, or `nothing`.
 fn push_reached(text: &mut String, path: &Option<Path>) -> Result<(), AllocError>
-    ensures { OnOk result (string_bytes text.new
-        ≡ string_bytes text.old ++ option_map_or path_text path.now (codes "nothing")) }
+    ensures { OnOk result (Adds text.old text.new
+        (option_map_or path_text path.now (codes "nothing"))) }
 {
     match path {
         Some(path) => push_path(text, path),
@@ -83,8 +80,8 @@ fn push_not_forwarded(
     bridge: &Path,
     address: u64,
 ) -> Result<(), AllocError>
-    ensures { OnOk result (string_bytes text.new
-        ≡ string_bytes text.old ++ problem_text (not_forwarded region.now bridge.now address)) }
+    ensures { OnOk result (Adds text.old text.new
+        (problem_text (not_forwarded region.now bridge.now address))) }
 {
     push_region(text, region)?;
     text.push_str(": ")?;
@@ -100,8 +97,8 @@ fn push_contended(
     other: &Agent,
     address: u64,
 ) -> Result<(), AllocError>
-    ensures { OnOk result (string_bytes text.new
-        ≡ string_bytes text.old ++ problem_text (contended one.now other.now address)) }
+    ensures { OnOk result (Adds text.old text.new
+        (problem_text (contended one.now other.now address))) }
 {
     push_agent(text, one)?;
     text.push_str(" and ")?;
@@ -119,9 +116,8 @@ fn push_not_found(
     address: Bdf,
     instead: &Option<Path>,
 ) -> Result<(), AllocError>
-    ensures { OnOk result (string_bytes text.new
-        ≡ string_bytes text.old
-        ++ problem_text (not_found path.now (bus_address_of address) instead.now)) }
+    ensures { OnOk result (Adds text.old text.new
+        (problem_text (not_found path.now (bus_address_of address) instead.now))) }
 {
     push_path(text, path)?;
     text.push_str(": a cycle for ")?;
@@ -132,8 +128,7 @@ fn push_not_found(
 
 /// Appends a problem.
 fn push_told(text: &mut String, problem: &Problem) -> Result<(), AllocError>
-    ensures { OnOk result (string_bytes text.new
-        ≡ string_bytes text.old ++ problem_text (problem_of problem.now)) }
+    ensures { OnOk result (Adds text.old text.new (problem_text (problem_of problem.now))) }
 {
     match problem {
         Problem::NotForwarded {
@@ -156,8 +151,8 @@ fn push_told(text: &mut String, problem: &Problem) -> Result<(), AllocError>
 
 /// Appends the line of a problem.
 pub fn push_problem(text: &mut String, problem: &Problem) -> Result<(), AllocError>
-    ensures { OnOk result (string_bytes text.new
-        ≡ string_bytes text.old ++ ended (audit_line (problem_text (problem_of problem.now)))) }
+    ensures { OnOk result (Adds text.old text.new
+        (ended (audit_line (problem_text (problem_of problem.now))))) }
 {
     text.push_str("audit: ")?;
     push_told(text, problem)?;
@@ -166,8 +161,7 @@ pub fn push_problem(text: &mut String, problem: &Problem) -> Result<(), AllocErr
 
 /// Appends the line that counts the problems.
 pub(crate) fn push_total(text: &mut String, count: usize) -> Result<(), AllocError>
-    ensures { OnOk result (string_bytes text.new
-        ≡ string_bytes text.old ++ ended (audit_line (total_text count))) }
+    ensures { OnOk result (Adds text.old text.new (ended (audit_line (total_text count)))) }
 {
     if count == 0 {
         return text.push_str("audit: ok\n");

@@ -1,5 +1,6 @@
 //! The whole text.
-ghost use Rattle.std.specs.Prelude.{◌≡◌, ◌++◌, map, OnOk, IfOk, string_bytes};
+ghost use Rattle.std.specs.Prelude.{◌≡◌, map, OnOk, IfOk, string_bytes};
+ghost use Rattle.lists.specs.Texts.{Adds};
 ghost use Rattle.model_audit.specs.AuditText.{audit_text, audit};
 ghost use Rattle.board_audit.specs.Told.{problem_of};
 ghost use Rattle.audit_text.specs.Lines.{problem_lines};
@@ -11,8 +12,7 @@ use std::alloc::{AllocError, Global};
 
 /// Appends the lines of all problems.
 fn push_problems(text: &mut String, problems: &[Problem]) -> Result<(), AllocError>
-    ensures { OnOk result (string_bytes text.new ≡ string_bytes text.old
-        ++ problem_lines problems.now) }
+    ensures { OnOk result (Adds text.old text.new (problem_lines problems.now)) }
 {
     for problem in problems {
         push_problem(text, problem)?;

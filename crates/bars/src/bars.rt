@@ -75,7 +75,8 @@ impl Bars {
     /// each half of a base of 64 bits counts at once.
     pub fn write(&mut self, reg: u8, enables: u8, value: u32)
         requires { reg < 6 }
-        ensures cells { base_file self.new ≡ write (lanes enables) value (base_register reg) (base_file self.old) }
+        ensures cells { base_file self.new
+            ≡ write (lanes enables) value (base_register reg) (base_file self.old) }
         ensures regions { map opened self.new ≡ map opened self.old }
     {
         if let Some(part) = self.slots.part_at(reg) {
@@ -90,7 +91,8 @@ impl Bars {
     /// in the region.
     pub fn decode(&self, space: Space, addr: u64, command: u16) -> Option<(u8, u64)>
         ensures { named_hit result
-            ≡ first_hit (command_cells command ++ base_file self.now) (map opened self.now) (named_space space) addr }
+            ≡ first_hit (command_cells command
+            ++ base_file self.now) (map opened self.now) (named_space space) addr }
     {
         if self.slots.is_outside(space, addr) {
             return None;

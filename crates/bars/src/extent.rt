@@ -33,7 +33,8 @@ impl Extent {
     /// The extent with one more region in it, if that lies in the space.
     pub fn with(self, space: Space, region: BasedRegion) -> Extent
         ensures wider { (a : ℕ) → IsOutside result a → IsOutside self a }
-        ensures holds { (a : ℕ) → a < 2 ^ 64 → IsOutside result a → offset_in (named_space space) a region ≡ None }
+        ensures holds { (a : ℕ) → a < 2 ^ 64 → IsOutside result a →
+            offset_in (named_space space) a region ≡ None }
     {
         if region.decl.kind().space() != space {
             return self;

@@ -10,7 +10,8 @@ use crate::decl::{BarDecl, Kind};
 /// The kind that the type bits of a region's first register tell.
 fn kind_shown(low: u32) -> Option<Kind>
     ensures shown { IfSome result (λ k. low % least_size (kind_of k) ≡ type_bits (kind_of k)) }
-    ensures found { (k : model_kind) → low % least_size k ≡ type_bits k → option_map kind_of result ≡ Some k }
+    ensures found { (k : model_kind) → low % least_size k ≡ type_bits k →
+        option_map kind_of result ≡ Some k }
 {
     if low & 0b11 == 0b01 {
         return Some(Kind::Io);

@@ -2,6 +2,7 @@
 ghost use Rattle.std.specs.Prelude.{◌≡◌, [], ◌∷◌, ◌++◌, ◌&&◌, not, map, filter, flat_map, IfOk, OnOk, IsTrue};
 ghost use Rattle.std.specs.Option.{option_map, option_to_list};
 ghost use Rattle.std.specs.List.{list_any};
+ghost use Rattle.lists.specs.Texts.{Adds};
 ghost use Rattle.model_registers.specs.Decoding.{same_space};
 ghost use Rattle.model_set_up.specs.PlacedRegions.{holds};
 ghost use Rattle.model_audit.specs.Agents.{extent_holds, answers};
@@ -40,7 +41,8 @@ fn if_lost(
     addr: Option<u64>,
 ) -> Option<u64>
     ensures { let q = region.now in option_to_list result
-        ≡ filter (λ n. holds q.space n q && not (list_any (extent_holds n) (extents_of one other))) (option_to_list addr) }
+        ≡ filter (λ n.
+        holds q.space n q && not (list_any (extent_holds n) (extents_of one other))) (option_to_list addr) }
 {
     let addr = addr?;
     if region.holds(addr) && !holds_any(one, other, addr) {
@@ -58,7 +60,8 @@ fn if_end_lost(
     window: Option<Window>,
 ) -> Option<u64>
     ensures { let q = region.now in option_to_list result
-        ≡ filter (λ n. holds q.space n q && not (list_any (extent_holds n) (extents_of one other)))
+        ≡ filter (λ n.
+        holds q.space n q && not (list_any (extent_holds n) (extents_of one other)))
         (map (λ e. e.end) (option_to_list (option_map extent_of window))) }
 {
     let end = region.end_held(window?)?;
@@ -182,7 +185,8 @@ fn routing_problems(alloc: Global, rows: &[RoutingRow]) -> Result<Vec<Problem>, 
 /// All that is wrong in the registers of a board as they stand: open regions that are not forwarded,
 /// agents of one bus that answer one address, and functions that no cycle finds. Nothing changes.
 pub fn problems(alloc: Global, host: &mut Host) -> Result<Vec<Problem>, AllocError>
-    ensures told { IfOk result (λ v. map problem_of v.items ≡ problems host.old.state.functions) }
+    ensures told { IfOk result (λ v.
+        map problem_of v.items ≡ problems host.old.state.functions) }
     ensures after { host.new ≡ host.old }
 {
     let rows = host.routing(alloc)?;

@@ -1,6 +1,7 @@
 //! Open regions that a bridge above them doesn't forward.
 ghost use Rattle.std.specs.Prelude.{◌≡◌, ◌++◌, map, filter, flat_map, slice_get, IfOk, OnOk};
 ghost use Rattle.std.specs.Option.{option_map, option_to_list};
+ghost use Rattle.lists.specs.Texts.{Adds};
 ghost use Rattle.lists.specs.Elements.{first_some};
 ghost use Rattle.model_board.specs.Paths.{leads_to};
 ghost use Rattle.model_audit.specs.OpenRegions.{open_of, open_regions};
@@ -17,7 +18,8 @@ use std::alloc::{AllocError, Global};
 
 /// The indices of the rows that lead to a path. They are asked once for all regions of a function.
 fn rows_above(alloc: Global, rows: &[RoutingRow], path: &Path) -> Result<Vec<usize>, AllocError>
-    ensures { IfOk result (λ v. rows_nth rows.now v.items ≡ filter (λ r. leads_to r.path path.now) rows.now) }
+    ensures { IfOk result (λ v.
+        rows_nth rows.now v.items ≡ filter (λ r. leads_to r.path path.now) rows.now) }
 {
     let mut above = Vec::new(alloc);
     for index in 0..rows.len() {
@@ -42,7 +44,8 @@ fn blame_nth(rows: &[RoutingRow], index: usize, region: &OpenRegion) -> Option<P
 
 /// The first bridge above a region that doesn't forward all of it.
 fn first_blame(rows: &[RoutingRow], above: &[usize], region: &OpenRegion) -> Option<Problem>
-    ensures { option_map problem_of result ≡ first_some (blame region.now) (rows_nth rows.now above.now) }
+    ensures { option_map problem_of result
+        ≡ first_some (blame region.now) (rows_nth rows.now above.now) }
 {
     for index in above {
         if let Some(problem) = blame_nth(rows, *index, region) {
@@ -78,7 +81,8 @@ fn add_function(
     row: &RoutingRow,
 ) -> Result<(), AllocError>
     ensures { OnOk result (map problem_of told.new.items
-        ≡ map problem_of told.old.items ++ flat_map (forwarding_problem rows.now) (open_of row.now)) }
+        ≡ map problem_of told.old.items
+        ++ flat_map (forwarding_problem rows.now) (open_of row.now)) }
 {
     let mut regions = Vec::new(alloc);
     add_open(&mut regions, row)?;
@@ -93,7 +97,8 @@ pub(crate) fn add_forwarding(
     rows: &[RoutingRow],
 ) -> Result<(), AllocError>
     ensures { OnOk result (map problem_of told.new.items
-        ≡ map problem_of told.old.items ++ flat_map (forwarding_problem rows.now) (open_regions rows.now)) }
+        ≡ map problem_of told.old.items
+        ++ flat_map (forwarding_problem rows.now) (open_regions rows.now)) }
 {
     for row in rows {
         add_function(alloc, told, rows, row)?;

@@ -1,6 +1,7 @@
 //! Which functions no configuration cycle finds (PCI-to-PCI Bridge Architecture 1.2, chapter 3).
 ghost use Rattle.std.specs.Prelude.{◌≡◌, ◌++◌, map, flat_map, position, slice_get, OnOk, option_map};
 ghost use Rattle.std.specs.Option.{option_and_then, option_to_list};
+ghost use Rattle.lists.specs.Texts.{Adds};
 ghost use Rattle.model_board.specs.Routing.{routing, RoutingRow as RowValue};
 ghost use Rattle.model_audit.specs.Found.{bus_now, address_now};
 ghost use Rattle.model_audit.specs.Problems.{numbering_problems};
@@ -65,7 +66,8 @@ pub fn address_now(host: &Host, rows: &[RoutingRow], path: &Path) -> Bdf
 
 /// The path at an index, if there is one.
 fn path_at(rows: &[RoutingRow], index: Option<usize>) -> Option<Path>
-    ensures { result ≡ option_map (λ (r : RowValue). r.path) (option_and_then (slice_get rows.now) index) }
+    ensures { result
+        ≡ option_map (λ (r : RowValue). r.path) (option_and_then (slice_get rows.now) index) }
 {
     let index = index?;
     if index >= rows.len() {
@@ -88,7 +90,8 @@ fn is_there(instead: &Option<Path>, path: &Path) -> bool
 /// What is wrong with the numbers of the function at a path.
 fn numbering_problem(host: &mut Host, rows: &[RoutingRow], path: &Path) -> Option<Problem>
     requires { rows.now ≡ routing host.old.state.functions }
-    ensures told { option_to_list (option_map problem_of result) ≡ lost_function host.old.state.functions path.now }
+    ensures told { option_to_list (option_map problem_of result)
+        ≡ lost_function host.old.state.functions path.now }
     ensures after { host.new ≡ host.old }
 {
     let address = address_now(host, rows, path);

@@ -2,6 +2,7 @@
 ghost use Rattle.std.specs.Prelude.{◌≡◌, ℕ, ◌++◌, ◌^◌, ◌<◌, IfOk, OnOk, IsTrue, map, filter};
 ghost use Rattle.std.specs.Option.{option_to_list};
 ghost use Rattle.std.specs.List.Sorted.{IsNonDecreasingBy, IsPermutation};
+ghost use Rattle.lists.specs.Texts.{Adds};
 ghost use Rattle.model_audit.specs.Problems.{contentions};
 ghost use Rattle.board_audit.specs.Spans.{bus_key, group_of, key_of, window_span, agent_spans, spans_from, EndsBefore, crowds, AreApartBut, is_crowded};
 
@@ -113,7 +114,8 @@ fn is_before(before: Span, here: Span) -> bool
 /// Adds a bus and space, unless it was the last one added.
 fn add_group(groups: &mut Vec<u64>, group: u64) -> Result<(), AllocError>
     ensures added { OnOk result (IsTrue (crowds groups.new.items group)) }
-    ensures kept { OnOk result ((g : ℕ) → IsTrue (crowds groups.old.items g) → IsTrue (crowds groups.new.items g)) }
+    ensures kept { OnOk result ((g : ℕ) → IsTrue (crowds groups.old.items g) →
+        IsTrue (crowds groups.new.items g)) }
 {
     if groups.last() == Some(&group) {
         return Ok(());

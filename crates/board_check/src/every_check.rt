@@ -79,7 +79,8 @@ fn clear_of<'a>(
     problems: &[Problem<'a>],
 ) -> Result<Vec<Problem<'a>>, AllocError>
     ensures { IfOk result (λ v.
-        map found_of v.items ≡ filter (is_clear (map found_of earlier.now)) (map found_of problems.now)) }
+        map found_of v.items
+        ≡ filter (is_clear (map found_of earlier.now)) (map found_of problems.now)) }
 {
     let mut clear = Vec::new(alloc);
     'problems: for problem in problems {

@@ -19,7 +19,8 @@ fn push_endpoint(
     index: usize,
     endpoint: &EndpointEntry<'_>,
 ) -> Result<(), AllocError>
-    ensures { OnOk result (entries.new.items ≡ entries.old.items ++ with_endpoint (index, endpoint.now)) }
+    ensures { OnOk result (entries.new.items
+        ≡ entries.old.items ++ with_endpoint (index, endpoint.now)) }
 {
     entries.push(Entry::Endpoint(index))?;
     'bars: for bar in 0..endpoint.bars.len() {
@@ -37,7 +38,8 @@ fn push_guest(
     index: usize,
     guest: &GuestEntry<'_>,
 ) -> Result<(), AllocError>
-    ensures { OnOk result (entries.new.items ≡ entries.old.items ++ with_guest (index, guest.now)) }
+    ensures { OnOk result (entries.new.items
+        ≡ entries.old.items ++ with_guest (index, guest.now)) }
 {
     entries.push(Entry::Guest(index))?;
     'slots: for slot in 0..guest.slots.len() {
@@ -162,7 +164,8 @@ fn key_problems<'a>(
     fault: BoardFault,
 ) -> Result<Vec<Problem<'a>>, AllocError>
     requires { file.now ≡ said.file (table_view table.now) }
-    ensures { IfOk result (λ v. map found_of v.items ≡ key_problems (table_view table.now) fault) }
+    ensures { IfOk result (λ v.
+        map found_of v.items ≡ key_problems (table_view table.now) fault) }
 {
     let entries = entries(alloc, file)?;
     let mut problems = Vec::new(alloc);
@@ -179,7 +182,8 @@ pub(crate) fn problems<'a>(
     source: &Source<'a>,
     fault: BoardFault,
 ) -> Result<Vec<Problem<'a>>, AllocError>
-    ensures { IfOk result (λ v. map found_of v.items ≡ problems_of (table_view source.now.document.now) fault) }
+    ensures { IfOk result (λ v.
+        map found_of v.items ≡ problems_of (table_view source.now.document.now) fault) }
 {
     match fault {
         BoardFault::Key | BoardFault::UnknownKey => {

@@ -167,7 +167,8 @@ fn spoils(earlier: &Problem<'_>, later: &Problem<'_>) -> bool
 
 /// Whether none of the earlier problems does, one by one.
 fn all_pass(earlier: &[Problem<'_>], later: &Problem<'_>) -> bool
-    ensures { result ≡ list_all (λ q. not (spoils (found_of q) (found_of later.now))) earlier.now }
+    ensures { result
+        ≡ list_all (λ q. not (spoils (found_of q) (found_of later.now))) earlier.now }
 {
     earlier.iter().all(|problem| !spoils(problem, later))
 }

@@ -58,7 +58,8 @@ fn cells(
     requires rw { 0 < length rw.now }
     requires w1c { 0 < length w1c.now }
     ensures { IfOk result (λ found.
-        Gives (share_no_bit len rw.now w1c.now) found (λ v. v.items ≡ cells len reset.now rw.now w1c.now)) }
+        Gives (share_no_bit len rw.now w1c.now) found (λ v. v.items
+        ≡ cells len reset.now rw.now w1c.now)) }
 {
     let mut cells = Vec::new(alloc);
     for i in 0..len {
@@ -109,7 +110,8 @@ pub(crate) fn is_block(
 
 /// Whether the first ends before the second begins.
 fn ends_before(first: &ConfigEntry<'_>, second: &ConfigEntry<'_>) -> bool
-    ensures { result ≡ nat_le (nat_abs first.now.off + nat_abs first.now.block) (nat_abs second.now.off) }
+    ensures { result
+        ≡ nat_le (nat_abs first.now.off + nat_abs first.now.block) (nat_abs second.now.off) }
 {
     let begin = second.off.unsigned_abs();
     let off = first.off.unsigned_abs();

@@ -57,7 +57,8 @@ fn endpoint_decls(
 fn with_bridges(decls: Vec<Decl>, entries: &[BridgeEntry<'_>]) -> Result<Vec<Decl>, AllocError>
     requires bridges { IsTrue (list_all is_lawful_bridge entries.now) }
     requires lawful { HasLawfulDecls decls.items }
-    ensures { IfOk result (λ v. (v.items ≡ decls.items ++ map said.bridge_row entries.now) × HasLawfulDecls v.items) }
+    ensures { IfOk result (λ v.
+        (v.items ≡ decls.items ++ map said.bridge_row entries.now) × HasLawfulDecls v.items) }
 {
     let mut decls = decls;
     'entries: for entry in entries {
@@ -96,7 +97,8 @@ fn guests(alloc: Global, entries: &[GuestEntry<'_>]) -> Result<Vec<GuestDecl>, A
 /// The host over these functions, at reset.
 fn host(alloc: Global, decls: Vec<Decl>, apertures: Apertures) -> Result<Host, AllocError>
     requires { IsBoard (board_of decls.items) }
-    ensures { IfOk result (λ h. h ≡ record { state = reset_state (board_of decls.items); apertures = apertures }) }
+    ensures { IfOk result (λ h.
+        h ≡ record { state = reset_state (board_of decls.items); apertures = apertures }) }
 {
     Ok(Host::new(Bus::build(alloc, decls)?, apertures))
 }
@@ -109,7 +111,8 @@ fn build(alloc: Global, file: &FileEntries<'_>) -> Result<(Host, Vec<GuestDecl>)
     ensures reset { IfOk result (λ r. IsAtReset r.0.state) }
     ensures lawful { IfOk result (λ r. IsLawfulWorld (world_of file.now)) }
     ensures refused { IfErr result (λ e.
-        (e ≡ Memory) ⊎ ((e ≡ CellMasks) × (list_all masks_hold file.now.endpoints ≡ false))) }
+        (e ≡ Memory)
+        ⊎ ((e ≡ CellMasks) × (list_all masks_hold file.now.endpoints ≡ false))) }
 {
     let apertures = apertures(file).unwrap();
     let decls = match decls(alloc, file)? {
@@ -130,10 +133,12 @@ pub(crate) fn read_table(
 ) -> Result<(Host, Vec<GuestDecl>), BoardFault>
     requires entries { file.now ≡ entries.file (table_view table.now) }
     requires places { functions.now ≡ standings file.now }
-    ensures world { IfOk result (λ r. meaning (table_view table.now) ≡ Ok (world_in r.0 r.1.items)) }
+    ensures world { IfOk result (λ r.
+        meaning (table_view table.now) ≡ Ok (world_in r.0 r.1.items)) }
     ensures reset { IfOk result (λ r. IsAtReset r.0.state) }
     ensures lawful { IfOk result (λ r. IsLawfulWorld (world_in r.0 r.1.items)) }
-    ensures refused { IfErr result (λ e. e ≢ Memory → meaning (table_view table.now) ≡ Err (number_of e)) }
+    ensures refused { IfErr result (λ e.
+        e ≢ Memory → meaning (table_view table.now) ≡ Err (number_of e)) }
 {
     if let Some(fault) = form_fault(table) {
         return Err(fault);

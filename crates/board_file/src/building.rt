@@ -54,7 +54,8 @@ fn region(alloc: Global, bar: &BarEntry<'_>) -> Result<Option<Region>, AllocErro
     requires block { nat_abs bar.now.block ≤ 4096 }
     requires index { nat_abs bar.now.index ≤ 5 }
     requires size { IsTrue (is_size bar.now.kind bar.now.size) }
-    ensures { IfOk result (λ found. Gives (bar_holds bar.now) found (λ r. r ≡ said.region bar.now)) }
+    ensures { IfOk result (λ found.
+        Gives (bar_holds bar.now) found (λ r. r ≡ said.region bar.now)) }
 {
     match block(alloc, natural(bar.block) as usize, &bar.patterns)? {
         Some(block) => Ok(Some(Region {
@@ -84,7 +85,8 @@ fn regions(alloc: Global, bars: &[BarEntry<'_>]) -> Result<Option<Vec<Region>>, 
 /// The registers of its own that a device declares, where the patterns are lawful.
 fn config_block(alloc: Global, config: &ConfigEntry<'_>) -> Result<Option<ConfigBlock>, AllocError>
     requires { nat_abs config.now.off < 2 ^ 16 }
-    ensures { IfOk result (λ found. Gives (config_holds config.now) found (λ b. b ≡ said.config_block config.now)) }
+    ensures { IfOk result (λ found.
+        Gives (config_holds config.now) found (λ b. b ≡ said.config_block config.now)) }
 {
     match block(alloc, natural(config.block) as usize, &config.patterns)? {
         Some(block) => Ok(Some(ConfigBlock {
@@ -101,7 +103,8 @@ fn config_blocks(
 ) -> Result<Option<Vec<ConfigBlock>>, AllocError>
     requires { IsTrue (list_all is_config_block configs.now) }
     ensures { IfOk result (λ found.
-        Gives (list_all config_holds configs.now) found (λ v. v.items ≡ map said.config_block configs.now)) }
+        Gives (list_all config_holds configs.now) found (λ v. v.items
+        ≡ map said.config_block configs.now)) }
 {
     let mut blocks = Vec::new(alloc);
     'configs: for config in configs {
@@ -116,7 +119,8 @@ fn config_blocks(
 /// The values of an endpoint, with these regions and registers of its own.
 fn values(entry: &EndpointEntry<'_>, bar: Vec<Region>, config: Vec<ConfigBlock>) -> EndpointValues
     requires { HasSmallNumbers entry.now }
-    ensures { result ≡ record (said.endpoint_values entry.now) { regions = bar.items; blocks = config.items } }
+    ensures { result
+        ≡ record (said.endpoint_values entry.now) { regions = bar.items; blocks = config.items } }
 {
     EndpointValues {
         vendor: half_word(entry.vendor),
@@ -154,7 +158,8 @@ pub(crate) fn endpoint(
 ) -> Result<Option<EndpointDecl>, AllocError>
     requires { IsTrue (is_declarable entry.now) }
     ensures { IfOk result (λ found.
-        Gives (masks_hold entry.now) found (λ d. (d ≡ said.endpoint entry.now) × IsLawfulEndpoint d)) }
+        Gives (masks_hold entry.now) found (λ d. (d ≡ said.endpoint entry.now)
+        × IsLawfulEndpoint d)) }
 {
     let regions = match regions(alloc, &entry.bars)? {
         Some(regions) => regions,

@@ -52,7 +52,8 @@ pub(crate) fn first_fault(
 ) -> Result<Option<BoardFault>, AllocError>
     requires { functions.now ≡ standings file.now }
     ensures { IfOk result (λ found.
-        MatchOption found (IsJudged file.now) (λ e. first_broken (rules file.now) ≡ Some (number_of e))) }
+        MatchOption found (IsJudged file.now) (λ e.
+        first_broken (rules file.now) ≡ Some (number_of e))) }
 {
     if !holds(alloc, file, functions, BoardFault::Number)? {
         return Ok(Some(BoardFault::Number));

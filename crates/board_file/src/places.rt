@@ -48,7 +48,8 @@ pub fn function_paths(
 
 /// Whether none of the first endpoints stands there.
 fn no_endpoint(endpoints: &[EndpointEntry<'_>], count: usize, at: &PathText<'_>) -> bool
-    ensures { result ≡ list_all (λ e. not (are_same_place e.at at.now)) (take count endpoints.now) }
+    ensures { result
+        ≡ list_all (λ e. not (are_same_place e.at at.now)) (take count endpoints.now) }
 {
     endpoints
         .iter()
@@ -58,7 +59,8 @@ fn no_endpoint(endpoints: &[EndpointEntry<'_>], count: usize, at: &PathText<'_>)
 
 /// Whether none of the first bridges stands there.
 fn no_bridge(bridges: &[BridgeEntry<'_>], count: usize, at: &PathText<'_>) -> bool
-    ensures { result ≡ list_all (λ b. not (are_same_place b.at at.now)) (take count bridges.now) }
+    ensures { result
+        ≡ list_all (λ b. not (are_same_place b.at at.now)) (take count bridges.now) }
 {
     bridges
         .iter()

@@ -73,7 +73,8 @@ trait FromTable<'a>: Sized + Drop {
 
 /// What the tables of an array say.
 fn entries_of<'a, E: FromTable<'a>>(alloc: Global, items: &'a Array) -> Result<Vec<E>, AllocError>
-    ensures { IfOk result (λ v. v.items ≡ map E.said (filter_map as_table (list_of (array_view items.now)))) }
+    ensures { IfOk result (λ v.
+        v.items ≡ map E.said (filter_map as_table (list_of (array_view items.now)))) }
 {
     let mut entries = Vec::new(alloc);
     'items: for item in items {
@@ -185,7 +186,8 @@ impl<'a> FromTable<'a> for BridgeEntry<'a> {
 }
 
 fn slots(alloc: Global, table: &Table) -> Result<Vec<PathText<'_>>, AllocError>
-    ensures { IfOk result (λ v. v.items ≡ filter_map as_str (values (codes "slots") (table_view table.now))) }
+    ensures { IfOk result (λ v.
+        v.items ≡ filter_map as_str (values (codes "slots") (table_view table.now))) }
 {
     match array_at(table, "slots") {
         Some(items) => texts_of(alloc, items),

@@ -38,7 +38,8 @@ impl<'a> TakesRegisters for BarEntry<'a> {
 
 /// Whether each region has its own registers, if all their indices are lawful.
 pub(crate) fn has_own_registers(endpoint: &EndpointEntry<'_>) -> bool
-    ensures { result ≡ (not (has_indices endpoint.now) || has_own_registers (map region endpoint.now.bars)) }
+    ensures { result
+        ≡ (not (has_indices endpoint.now) || has_own_registers (map region endpoint.now.bars)) }
 {
     !has_indices(endpoint) || have_own_registers(&endpoint.bars)
 }

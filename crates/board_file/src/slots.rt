@@ -25,7 +25,8 @@ fn has_not(texts: &[PathText<'_>], slot: &PathText<'_>) -> bool
 
 /// Whether none of the first guests has it in a slot.
 fn have_not(guests: &[GuestEntry<'_>], count: usize, slot: &PathText<'_>) -> bool
-    ensures { result ≡ list_all (λ g. list_all (λ s. not (are_same_place s slot.now)) g.slots) (take count guests.now) }
+    ensures { result ≡ list_all (λ g.
+        list_all (λ s. not (are_same_place s slot.now)) g.slots) (take count guests.now) }
 {
     guests
         .iter()

@@ -72,10 +72,12 @@ fn read_document(
     bytes: &[u8],
     document: &Table,
 ) -> Result<(Host, Vec<GuestDecl>), BoardFault>
-    ensures world { IfOk result (λ r. meaning (table_view document.now) ≡ Ok (world_in r.0 r.1.items)) }
+    ensures world { IfOk result (λ r.
+        meaning (table_view document.now) ≡ Ok (world_in r.0 r.1.items)) }
     ensures reset { IfOk result (λ r. IsAtReset r.0.state) }
     ensures lawful { IfOk result (λ r. IsLawfulWorld (world_in r.0 r.1.items)) }
-    ensures refused { IfErr result (λ e. e ≢ Memory → meaning (table_view document.now) ≡ Err (number_of e)) }
+    ensures refused { IfErr result (λ e.
+        e ≢ Memory → meaning (table_view document.now) ≡ Err (number_of e)) }
 {
     let source = Source::new(alloc, bytes, document)?;
     source.world(alloc)
@@ -87,11 +89,13 @@ fn read_document(
 /// 112; bytes that are not UTF-8 are no TOML. Out of memory is answered at any point.
 pub fn read_board(alloc: Global, bytes: &[u8]) -> Result<(Host, Vec<GuestDecl>), BoardFault>
     ensures world { IfOk result (λ r.
-        IsUtf8 bytes.now × (document_meaning (parse_document bytes.now) ≡ Ok (world_in r.0 r.1.items))) }
+        IsUtf8 bytes.now
+        × (document_meaning (parse_document bytes.now) ≡ Ok (world_in r.0 r.1.items))) }
     ensures reset { IfOk result (λ r. IsAtReset r.0.state) }
     ensures lawful { IfOk result (λ r. IsLawfulWorld (world_in r.0 r.1.items)) }
     ensures refused { IfErr result (λ e.
-        e ≢ Memory → IsUtf8 bytes.now → document_meaning (parse_document bytes.now) ≡ Err (number_of e)) }
+        e ≢ Memory → IsUtf8 bytes.now →
+        document_meaning (parse_document bytes.now) ≡ Err (number_of e)) }
     ensures not_text { IfErr result (λ e. e ≢ Memory → ¬ IsUtf8 bytes.now → e ≡ NotToml) }
 {
     match toml::table_from_slice(alloc, bytes) {

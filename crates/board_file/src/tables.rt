@@ -12,7 +12,8 @@ use toml::value::Value;
 
 /// The table at an index of a list.
 fn table_of(list: &Value, index: usize) -> Option<&Table>
-    ensures { option_map (λ t. table_view t.now) result ≡ option_and_then as_table (at index (view list.now)) }
+    ensures { option_map (λ t. table_view t.now) result
+        ≡ option_and_then as_table (at index (view list.now)) }
 {
     match list.get(index) {
         Some(item) => item.as_table(),
@@ -22,7 +23,8 @@ fn table_of(list: &Value, index: usize) -> Option<&Table>
 
 /// The table at an index of the list at a key.
 fn table_in<'v>(table: &'v Table, key: &str, index: usize) -> Option<&'v Table>
-    ensures { option_map (λ t. table_view t.now) result ≡ table_in key.now index (table_view table.now) }
+    ensures { option_map (λ t. table_view t.now) result
+        ≡ table_in key.now index (table_view table.now) }
 {
     match member(table, key) {
         Some(list) => table_of(list, index),
@@ -48,7 +50,8 @@ fn table_in_endpoint<'v>(
 
 /// The table `host`.
 fn host(table: &Table) -> Option<&Table>
-    ensures { option_map (λ t. table_view t.now) result ≡ table_at (table_view table.now) Entry.Host }
+    ensures { option_map (λ t. table_view t.now) result
+        ≡ table_at (table_view table.now) Entry.Host }
 {
     match member(table, "host") {
         Some(host) => host.as_table(),
@@ -85,7 +88,8 @@ fn member_of<'v>(table: Option<&'v Table>, key: &str) -> Option<&'v Value>
 
 /// The value at a key of an entry. A slot is its value itself.
 pub fn value_at<'v>(document: &'v Table, entry: Entry, key: &str) -> Option<&'v Value>
-    ensures { option_map (λ v. view v.now) result ≡ value_at (table_view document.now) entry key.now }
+    ensures { option_map (λ v. view v.now) result
+        ≡ value_at (table_view document.now) entry key.now }
 {
     match entry {
         Entry::Slot(i, j) => match member_of(table_at(document, Entry::Guest(i)), "slots") {

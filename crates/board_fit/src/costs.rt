@@ -1,5 +1,6 @@
 //! What is told of a pool that doesn't fit its aperture.
-ghost use Rattle.std.specs.Prelude.{◌≡◌, ◌++◌, IfOk, OnOk, map, string_bytes};
+ghost use Rattle.std.specs.Prelude.{◌≡◌, IfOk, OnOk, map, string_bytes};
+ghost use Rattle.lists.specs.Texts.{Adds};
 ghost use Rattle.toml.specs.View.{table_view};
 ghost use Rattle.model_board.specs.Board.{Board};
 ghost use Rattle.window_packing.specs.Plans.{named_pool};
@@ -62,8 +63,8 @@ fn push_number_line(
     number: u64,
     after: &str,
 ) -> Result<(), AllocError>
-    ensures { OnOk result (string_bytes text.new
-        ≡ string_bytes text.old ++ number_line name.now words.now number after.now) }
+    ensures { OnOk result (Adds text.old text.new
+        (number_line name.now words.now number after.now)) }
 {
     text.push_str(name)?;
     push_number(text, words, number)?;
@@ -77,7 +78,7 @@ fn push_gaps(
     needed: Option<PoolUse>,
     regions: &[PoolRegion],
 ) -> Result<(), AllocError>
-    ensures { OnOk result (string_bytes text.new ≡ string_bytes text.old ++ gaps_text name.now needed regions.now) }
+    ensures { OnOk result (Adds text.old text.new (gaps_text name.now needed regions.now)) }
 {
     match needed {
         Some(used) => push_number_line(
@@ -98,7 +99,7 @@ fn push_least(
     present: Aperture,
     least: Option<Aperture>,
 ) -> Result<(), AllocError>
-    ensures { OnOk result (string_bytes text.new ≡ string_bytes text.old ++ least_text name.now present least) }
+    ensures { OnOk result (Adds text.old text.new (least_text name.now present least)) }
 {
     match least {
         Some(least) => {
@@ -126,7 +127,7 @@ fn push_aperture(
     present: Option<Aperture>,
     least: Option<Aperture>,
 ) -> Result<(), AllocError>
-    ensures { OnOk result (string_bytes text.new ≡ string_bytes text.old ++ aperture_text name.now present least) }
+    ensures { OnOk result (Adds text.old text.new (aperture_text name.now present least)) }
 {
     match present {
         Some(present) => push_least(text, name, present, least),
@@ -202,7 +203,8 @@ pub(crate) fn costs_text(
     apertures: &Apertures,
 ) -> Result<String, AllocError>
     requires { IsRead source.now }
-    ensures { let t = telling.now in IfOk result (λ text. (b : Board) → IsNeedOf b apertures.now shortage
+    ensures { let t = telling.now in IfOk result (λ text.
+        (b : Board) → IsNeedOf b apertures.now shortage
         → AreCostsOf t.style t.name.now source.now.bytes.now b apertures.now shortage (string_bytes text)) }
 {
     match shortage {

@@ -1,6 +1,7 @@
 //! How a board fits its apertures.
-ghost use Rattle.std.specs.Prelude.{◌≡◌, ◌++◌, true, false, IfOk, OnOk, string_bytes};
+ghost use Rattle.std.specs.Prelude.{◌≡◌, true, false, IfOk, OnOk, string_bytes};
 ghost use Rattle.std.specs.Option.{option_map_or};
+ghost use Rattle.lists.specs.Texts.{Adds};
 ghost use Rattle.model_board.specs.Board.{Board};
 ghost use Rattle.model_set_up.specs.FunctionTable.{board_in};
 ghost use Rattle.model_set_up.specs.Pools.{aperture_of};
@@ -16,7 +17,7 @@ use window_packing::{Pool, PoolUse, pool_use};
 
 /// Appends how much of its aperture a pool takes.
 fn push_known_use(text: &mut String, used: PoolUse) -> Result<(), AllocError>
-    ensures { OnOk result (string_bytes text.new ≡ string_bytes text.old ++ known_use_text used) }
+    ensures { OnOk result (Adds text.old text.new (known_use_text used)) }
 {
     push_number(text, ": ", used.extent)?;
     push_number(text, " of ", used.room)?;
@@ -26,7 +27,7 @@ fn push_known_use(text: &mut String, used: PoolUse) -> Result<(), AllocError>
 
 /// Appends how much a pool takes.
 fn push_use(text: &mut String, used: Option<PoolUse>) -> Result<(), AllocError>
-    ensures { OnOk result (string_bytes text.new ≡ string_bytes text.old ++ use_text used) }
+    ensures { OnOk result (Adds text.old text.new (use_text used)) }
 {
     match used {
         Some(used) => push_known_use(text, used),
@@ -36,7 +37,8 @@ fn push_use(text: &mut String, used: Option<PoolUse>) -> Result<(), AllocError>
 
 /// Whether a pool has an aperture.
 fn has_aperture(apertures: &Apertures, pool: Pool) -> bool
-    ensures { result ≡ option_map_or (λ _. true) (aperture_of apertures.now (named_pool pool)) false }
+    ensures { result
+        ≡ option_map_or (λ _. true) (aperture_of apertures.now (named_pool pool)) false }
 {
     match pool {
         Pool::Io | Pool::Mem => true,
@@ -54,7 +56,7 @@ fn push_pool(
 ) -> Result<(), AllocError>
     requires { IsTableOf (board_in table.now) table.now }
     ensures { OnOk result ((b : Board) → IsTableOf b table.now
-        → string_bytes text.new ≡ string_bytes text.old ++ pool_text b apertures.now pool) }
+        → Adds text.old text.new (pool_text b apertures.now pool)) }
 {
     text.push_str(pool_words(pool))?;
     if !has_aperture(apertures, pool) {
@@ -70,7 +72,8 @@ pub(crate) fn fit_text(
     apertures: &Apertures,
 ) -> Result<String, AllocError>
     requires { IsTableOf (board_in table.now) table.now }
-    ensures { IfOk result (λ t. (b : Board) → IsTableOf b table.now → string_bytes t ≡ fit_text b apertures.now) }
+    ensures { IfOk result (λ t.
+        (b : Board) → IsTableOf b table.now → string_bytes t ≡ fit_text b apertures.now) }
 {
     let mut text = String::new(alloc);
     text.push_str("ok\n")?;

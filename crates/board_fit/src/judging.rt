@@ -109,7 +109,8 @@ fn reject(
 fn can_be_placed(alloc: Global, table: &FunctionTable, apertures: &Apertures) -> Result<(), Fault>
     requires { IsTableOf (board_in table.now) table.now }
     ensures kept { IfOk result (λ _.
-        (b : Board) → IsTableOf b table.now → first_broken (set_up_rules b apertures.now) ≡ None) }
+        (b : Board) → IsTableOf b table.now →
+        first_broken (set_up_rules b apertures.now) ≡ None) }
     ensures refused { IfErr result (λ f. (b : Board) → IsTableOf b table.now →
         (f ≡ Memory) ⊎ (first_broken (set_up_rules b apertures.now) ≡ Some (number_of f))) }
 {

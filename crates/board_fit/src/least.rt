@@ -35,8 +35,10 @@ fn round_up(unit: u128, address: u128) -> u128
 
 /// The last address of the last unit that the pool takes of its aperture, where it is below 2^63.
 fn last_taken(pool: Pool, needed: PoolUse) -> Option<u64>
-    ensures some { IfSome result (λ n. n ≡ round_up (unit_of (named_pool pool)) (needed.first + needed.extent) - 1) }
-    ensures none { IfNone result (2 ^ 63 < round_up (unit_of (named_pool pool)) (needed.first + needed.extent)) }
+    ensures some { IfSome result (λ n.
+        n ≡ round_up (unit_of (named_pool pool)) (needed.first + needed.extent) - 1) }
+    ensures none { IfNone result (2 ^ 63
+        < round_up (unit_of (named_pool pool)) (needed.first + needed.extent)) }
 {
     let taken = u128::from(needed.first) + u128::from(needed.extent);
     let end = round_up(unit_of(pool), taken);
@@ -52,7 +54,8 @@ fn with_aperture(
     pool: Pool,
     aperture: Aperture,
 ) -> Result<Apertures, ApertureFault>
-    ensures { IsOk result ↔ IsLawfulApertures (with_aperture apertures.now (named_pool pool) aperture) }
+    ensures { IsOk result
+        ↔ IsLawfulApertures (with_aperture apertures.now (named_pool pool) aperture) }
 {
     match pool {
         Pool::Io => Apertures::new(aperture, apertures.mem(), apertures.pref()),
@@ -65,7 +68,8 @@ fn with_aperture(
 fn if_lawful(apertures: &Apertures, pool: Pool, aperture: Aperture) -> Option<Aperture>
     ensures { MatchOption result
         (¬ IsLawfulApertures (with_aperture apertures.now (named_pool pool) aperture))
-        (λ x. (x ≡ aperture) × IsLawfulApertures (with_aperture apertures.now (named_pool pool) x)) }
+        (λ x. (x ≡ aperture)
+        × IsLawfulApertures (with_aperture apertures.now (named_pool pool) x)) }
 {
     match with_aperture(apertures, pool, aperture) {
         Ok(_) => Some(aperture),

@@ -53,7 +53,8 @@ fn push_closed(
     bar: usize,
     bridge: Option<usize>,
 ) -> Result<(), AllocError>
-    ensures { OnOk result (remarks.new.items ≡ remarks.old.items ++ closed_remarks endpoint bar bridge) }
+    ensures { OnOk result (remarks.new.items
+        ≡ remarks.old.items ++ closed_remarks endpoint bar bridge) }
 {
     if let Some(bridge) = bridge {
         remarks.push(Remark::ClosedRegion(endpoint, bar, bridge))?;
@@ -69,7 +70,8 @@ fn push_region(
     index: usize,
     bar: &BarEntry<'_>,
 ) -> Result<(), AllocError>
-    ensures { OnOk result (remarks.new.items ≡ remarks.old.items ++ closed_region endpoint bridge (index, bar.now)) }
+    ensures { OnOk result (remarks.new.items
+        ≡ remarks.old.items ++ closed_region endpoint bridge (index, bar.now)) }
 {
     if is_io(bar.kind) {
         push_closed(remarks, endpoint, index, bridge)?;
@@ -84,7 +86,8 @@ fn push_bars(
     bridge: Option<usize>,
     bars: &[BarEntry<'_>],
 ) -> Result<(), AllocError>
-    ensures { OnOk result (remarks.new.items ≡ remarks.old.items ++ closed_bars endpoint bridge bars.now) }
+    ensures { OnOk result (remarks.new.items
+        ≡ remarks.old.items ++ closed_bars endpoint bridge bars.now) }
 {
     'bars: for (index, bar) in bars.iter().enumerate() {
         push_region(remarks, endpoint, bridge, index, bar)?;
@@ -100,7 +103,8 @@ fn push_endpoint(
     index: usize,
     endpoint: &EndpointEntry<'_>,
 ) -> Result<(), AllocError>
-    ensures { OnOk result (remarks.new.items ≡ remarks.old.items ++ closed_in bridges.now (index, endpoint.now)) }
+    ensures { OnOk result (remarks.new.items
+        ≡ remarks.old.items ++ closed_in bridges.now (index, endpoint.now)) }
 {
     let bridge = first_closed(bridges, &endpoint.at.path());
     push_bars(remarks, index, bridge, &endpoint.bars)

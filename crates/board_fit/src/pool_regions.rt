@@ -112,7 +112,8 @@ fn push_region(
     bar: &BarEntry<'_>,
 ) -> Result<(), AllocError>
     ensures { OnOk result (regions.new.items
-        ≡ regions.old.items ++ region_by (named_pool pool) reaches.narrow reaches.wide endpoint (index, bar.now)) }
+        ≡ regions.old.items
+        ++ region_by (named_pool pool) reaches.narrow reaches.wide endpoint (index, bar.now)) }
 {
     if pool_of(bar.kind, reaches) == pool {
         regions.push(PoolRegion {
@@ -133,7 +134,8 @@ fn push_bars(
     bars: &[BarEntry<'_>],
 ) -> Result<(), AllocError>
     ensures { OnOk result (regions.new.items
-        ≡ regions.old.items ++ bars_by (named_pool pool) reaches.narrow reaches.wide endpoint bars.now) }
+        ≡ regions.old.items
+        ++ bars_by (named_pool pool) reaches.narrow reaches.wide endpoint bars.now) }
 {
     'bars: for (index, bar) in bars.iter().enumerate() {
         push_region(regions, pool, reaches, endpoint, index, bar)?;
@@ -152,7 +154,8 @@ fn push_endpoint(
     endpoint: &EndpointEntry<'_>,
 ) -> Result<(), AllocError>
     ensures { OnOk result (regions.new.items
-        ≡ regions.old.items ++ endpoint_by file.now apertures.now (named_pool pool) (index, endpoint.now)) }
+        ≡ regions.old.items
+        ++ endpoint_by file.now apertures.now (named_pool pool) (index, endpoint.now)) }
 {
     let path = endpoint.at.path();
     let narrow = reaches_pool(apertures, &file.bridges, &path, false);
@@ -173,7 +176,8 @@ fn regions_by(
     file: &FileEntries<'_>,
     apertures: &Apertures,
 ) -> Result<Vec<PoolRegion>, AllocError>
-    ensures { IfOk result (λ v. v.items ≡ flat_map (endpoint_by file.now apertures.now (named_pool pool))
+    ensures { IfOk result (λ v.
+        v.items ≡ flat_map (endpoint_by file.now apertures.now (named_pool pool))
         (enumerate_from 0 file.now.endpoints)) }
 {
     let mut regions = Vec::new(alloc);

@@ -1,5 +1,6 @@
 //! The line of a board that can't be set up.
-ghost use Rattle.std.specs.Prelude.{◌≡◌, ◌++◌, None, IfOk, OnOk, string_bytes};
+ghost use Rattle.std.specs.Prelude.{◌≡◌, None, IfOk, OnOk, string_bytes};
+ghost use Rattle.lists.specs.Texts.{Adds};
 ghost use Rattle.model_board.specs.Board.{Board};
 ghost use Rattle.model_set_up.specs.FunctionTable.{board_in};
 ghost use Rattle.bus_scan.specs.SizedTables.{IsTableOf};
@@ -50,7 +51,8 @@ pub(crate) fn find_shortage(
     fault: Fault,
 ) -> Result<Option<Shortage>, AllocError>
     requires { IsTableOf (board_in table.now) table.now }
-    ensures { IfOk result (λ s. (b : Board) → IsTableOf b table.now → s ≡ shortage_of b apertures.now fault) }
+    ensures { IfOk result (λ s.
+        (b : Board) → IsTableOf b table.now → s ≡ shortage_of b apertures.now fault) }
 {
     match pool_of(fault) {
         Some(pool) => Ok(Some(Shortage {
@@ -63,14 +65,14 @@ pub(crate) fn find_shortage(
 
 /// Appends a number in hexadecimal digits, after some words.
 pub(crate) fn push_number(text: &mut String, words: &str, number: u64) -> Result<(), AllocError>
-    ensures { OnOk result (string_bytes text.new ≡ string_bytes text.old ++ number_text words.now number) }
+    ensures { OnOk result (Adds text.old text.new (number_text words.now number)) }
 {
     write!(text, "{words}0x{number:x}")
 }
 
 /// Appends how much a pool needs, and its aperture has.
 fn push_known_need(text: &mut String, needed: PoolUse) -> Result<(), AllocError>
-    ensures { OnOk result (string_bytes text.new ≡ string_bytes text.old ++ known_need_text needed) }
+    ensures { OnOk result (Adds text.old text.new (known_need_text needed)) }
 {
     push_number(text, " needs ", needed.extent)?;
     push_number(text, " bytes from ", needed.first)?;
@@ -79,7 +81,7 @@ fn push_known_need(text: &mut String, needed: PoolUse) -> Result<(), AllocError>
 
 /// Appends how much a pool needs.
 fn push_need(text: &mut String, needed: Option<PoolUse>) -> Result<(), AllocError>
-    ensures { OnOk result (string_bytes text.new ≡ string_bytes text.old ++ need_text needed) }
+    ensures { OnOk result (Adds text.old text.new (need_text needed)) }
 {
     match needed {
         Some(needed) => push_known_need(text, needed),
@@ -89,7 +91,7 @@ fn push_need(text: &mut String, needed: Option<PoolUse>) -> Result<(), AllocErro
 
 /// Appends why the board can't be set up.
 fn push_reason(text: &mut String, shortage: Option<Shortage>) -> Result<(), AllocError>
-    ensures { OnOk result (string_bytes text.new ≡ string_bytes text.old ++ reason_text shortage) }
+    ensures { OnOk result (Adds text.old text.new (reason_text shortage)) }
 {
     match shortage {
         Some(shortage) => {
@@ -103,7 +105,7 @@ fn push_reason(text: &mut String, shortage: Option<Shortage>) -> Result<(), Allo
 
 /// Appends the number and the words of a fault, and ends the line.
 fn push_fault(text: &mut String, fault: Fault) -> Result<(), AllocError>
-    ensures { OnOk result (string_bytes text.new ≡ string_bytes text.old ++ fault_text fault) }
+    ensures { OnOk result (Adds text.old text.new (fault_text fault)) }
 {
     let number = fault.number();
     let words = set_up_words(fault);

@@ -1,6 +1,7 @@
 //! What is said of remarks.
-ghost use Rattle.std.specs.Prelude.{◌≡◌, ◌++◌, OnOk, string_bytes};
+ghost use Rattle.std.specs.Prelude.{OnOk};
 ghost use Rattle.std.specs.List.{flat_map};
+ghost use Rattle.lists.specs.Texts.{Adds};
 ghost use Rattle.toml.specs.View.{table_view};
 ghost use Rattle.board_fit.specs.Texts.{size_text, ending_text, said_text};
 ghost use Rattle.board_fit.specs.Telling.{remark_text, told_text};
@@ -16,7 +17,7 @@ use toml::Table;
 
 /// Appends the size of a region, where it is told.
 fn push_size(text: &mut String, size: Option<u64>) -> Result<(), AllocError>
-    ensures { OnOk result (string_bytes text.new ≡ string_bytes text.old ++ size_text size) }
+    ensures { OnOk result (Adds text.old text.new (size_text size)) }
 {
     match size {
         Some(size) => write!(text, ", 0x{size:x} bytes"),
@@ -26,7 +27,7 @@ fn push_size(text: &mut String, size: Option<u64>) -> Result<(), AllocError>
 
 /// Appends what is said of an entry, and ends the line.
 fn push_words(text: &mut String, remark: Remark, other: Option<Other>) -> Result<(), AllocError>
-    ensures { OnOk result (string_bytes text.new ≡ string_bytes text.old ++ ending_text remark other) }
+    ensures { OnOk result (Adds text.old text.new (ending_text remark other)) }
 {
     text.push_str(": ")?;
     text.push_str(remark.words())?;
@@ -42,8 +43,8 @@ fn push_said(
     remark: Remark,
     other: Option<Other>,
 ) -> Result<(), AllocError>
-    ensures { OnOk result (string_bytes text.new
-        ≡ string_bytes text.old ++ said_text (table_view document.now) remark other) }
+    ensures { OnOk result (Adds text.old text.new
+        (said_text (table_view document.now) remark other)) }
 {
     push_place(text, document, remark.entry(), remark.key())?;
     push_words(text, remark, other)
@@ -56,8 +57,8 @@ fn push_remark(
     document: &Table,
     located: &Located,
 ) -> Result<(), AllocError>
-    ensures { OnOk result (string_bytes text.new
-        ≡ string_bytes text.old ++ remark_text name.now (table_view document.now) located.now) }
+    ensures { OnOk result (Adds text.old text.new
+        (remark_text name.now (table_view document.now) located.now)) }
 {
     text.push_str(name)?;
     push_line_number(text, line_at(located.place))?;
@@ -74,8 +75,8 @@ fn push_told(
     source: &Source<'_>,
     located: &Located,
 ) -> Result<(), AllocError>
-    ensures { OnOk result (string_bytes text.new ≡ string_bytes text.old
-        ++ told_text telling.now.style telling.now.name.now (table_view source.now.document.now) source.now.bytes.now located.now) }
+    ensures { OnOk result (Adds text.old text.new
+        (told_text telling.now.style telling.now.name.now (table_view source.now.document.now) source.now.bytes.now located.now)) }
 {
     push_remark(text, telling.name, source.document, located)?;
     let remark = located.remark;
@@ -101,9 +102,8 @@ pub(crate) fn push_remarks(
     source: &Source<'_>,
     located: &[Located],
 ) -> Result<(), AllocError>
-    ensures { OnOk result (string_bytes text.new ≡ string_bytes text.old
-        ++ flat_map (told_text telling.now.style telling.now.name.now (table_view source.now.document.now) source.now.bytes.now)
-        located.now) }
+    ensures { OnOk result (Adds text.old text.new
+        (flat_map (told_text telling.now.style telling.now.name.now (table_view source.now.document.now) source.now.bytes.now) located.now)) }
 {
     'remarks: for one in located {
         push_told(alloc, text, telling, source, one)?;

@@ -83,7 +83,8 @@ fn push_empty_bridge(
     index: usize,
     bridge: &BridgeEntry<'_>,
 ) -> Result<(), AllocError>
-    ensures { OnOk result (remarks.new.items ≡ remarks.old.items ++ empty_bridge paths.now (index, bridge.now)) }
+    ensures { OnOk result (remarks.new.items
+        ≡ remarks.old.items ++ empty_bridge paths.now (index, bridge.now)) }
 {
     let is_empty = has_none_behind(paths, &bridge.at.path());
     push_if(remarks, Remark::EmptyBridge(index), is_empty)
@@ -126,7 +127,8 @@ fn push_endpoint_of_none(
     endpoint: &EndpointEntry<'_>,
 ) -> Result<(), AllocError>
     ensures { OnOk result
-        (remarks.new.items ≡ remarks.old.items ++ endpoint_of_none guests.now (index, endpoint.now)) }
+        (remarks.new.items
+        ≡ remarks.old.items ++ endpoint_of_none guests.now (index, endpoint.now)) }
 {
     let has_guest = is_given(guests, &endpoint.at);
     push_if(remarks, Remark::EndpointOfNone(index), !has_guest)
@@ -137,7 +139,8 @@ fn push_all_endpoints_of_none(
     remarks: &mut Vec<Remark>,
     file: &FileEntries<'_>,
 ) -> Result<(), AllocError>
-    ensures { OnOk result (remarks.new.items ≡ remarks.old.items ++ all_endpoints_of_none file.now) }
+    ensures { OnOk result (remarks.new.items
+        ≡ remarks.old.items ++ all_endpoints_of_none file.now) }
 {
     'endpoints: for (index, endpoint) in file.endpoints.iter().enumerate() {
         push_endpoint_of_none(remarks, &file.guests, index, endpoint)?;
@@ -164,7 +167,8 @@ fn push_guest_without_slots(
     index: usize,
     guest: &GuestEntry<'_>,
 ) -> Result<(), AllocError>
-    ensures { OnOk result (remarks.new.items ≡ remarks.old.items ++ guest_without_slots (index, guest.now)) }
+    ensures { OnOk result (remarks.new.items
+        ≡ remarks.old.items ++ guest_without_slots (index, guest.now)) }
 {
     push_if(
         remarks,
@@ -178,7 +182,8 @@ fn push_guests_without_slots(
     remarks: &mut Vec<Remark>,
     file: &FileEntries<'_>,
 ) -> Result<(), AllocError>
-    ensures { OnOk result (remarks.new.items ≡ remarks.old.items ++ guests_without_slots file.now) }
+    ensures { OnOk result (remarks.new.items
+        ≡ remarks.old.items ++ guests_without_slots file.now) }
 {
     'guests: for (index, guest) in file.guests.iter().enumerate() {
         push_guest_without_slots(remarks, index, guest)?;

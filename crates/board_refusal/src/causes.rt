@@ -1,6 +1,7 @@
 //! What is said of a problem beyond the words of its rule.
-ghost use Rattle.std.specs.Prelude.{◌≡◌, ◌++◌, [], OnOk, string_bytes};
+ghost use Rattle.std.specs.Prelude.{◌≡◌, [], OnOk};
 ghost use Rattle.std.specs.Option.{option_map_or};
+ghost use Rattle.lists.specs.Texts.{Adds};
 ghost use Rattle.board_file.specs.Functions.{standings};
 ghost use Rattle.board_refusal.specs.Causes.{patterns_text, path_cause_text, own_text, met_text, taker_text, beside_text, cause_text};
 ghost use Rattle.board_refusal.specs.Said.{bar_of};
@@ -22,8 +23,8 @@ use std::alloc::{AllocError, Global};
 
 /// Appends what is wrong with the size of the region of an entry.
 fn push_size(text: &mut String, file: &FileEntries<'_>, entry: Entry) -> Result<(), AllocError>
-    ensures { OnOk result (string_bytes text.new
-        ≡ string_bytes text.old ++ option_map_or bar_text (bar_of file.now entry) []) }
+    ensures { OnOk result (Adds text.old text.new
+        (option_map_or bar_text (bar_of file.now entry) [])) }
 {
     match bar_of(file, entry) {
         Some(bar) => push_bar(text, bar),
@@ -33,7 +34,7 @@ fn push_size(text: &mut String, file: &FileEntries<'_>, entry: Entry) -> Result<
 
 /// Appends what is wrong with the patterns of the region or the block of an entry.
 fn push_patterns(text: &mut String, file: &FileEntries<'_>, entry: Entry) -> Result<(), AllocError>
-    ensures { OnOk result (string_bytes text.new ≡ string_bytes text.old ++ patterns_text file.now entry) }
+    ensures { OnOk result (Adds text.old text.new (patterns_text file.now entry)) }
 {
     if let Some(bar) = bar_of(file, entry) {
         return push_bar_masks(text, bar);
@@ -53,8 +54,8 @@ fn push_path(
     problem: &Problem<'_>,
 ) -> Result<(), AllocError>
     requires { functions.now ≡ standings file.now }
-    ensures { let p = problem.now in OnOk result (string_bytes text.new
-        ≡ string_bytes text.old ++ path_cause_text file.now p.entry p.rule) }
+    ensures { let p = problem.now in OnOk result (Adds text.old text.new
+        (path_cause_text file.now p.entry p.rule)) }
 {
     let Some(at) = at_of(file, problem.entry) else {
         return Ok(());
@@ -77,8 +78,8 @@ fn push_own(
     problem: &Problem<'_>,
 ) -> Result<(), AllocError>
     requires { functions.now ≡ standings file.now }
-    ensures { let p = problem.now in OnOk result (string_bytes text.new
-        ≡ string_bytes text.old ++ own_text file.now p.entry p.rule p.key.now) }
+    ensures { let p = problem.now in OnOk result (Adds text.old text.new
+        (own_text file.now p.entry p.rule p.key.now)) }
 {
     let level = level_of(problem.entry);
     match problem.rule {
@@ -98,7 +99,7 @@ fn push_own(
 
 /// Appends why a region has no registers of its own.
 fn push_met(text: &mut String, met: Option<Other>) -> Result<(), AllocError>
-    ensures { OnOk result (string_bytes text.new ≡ string_bytes text.old ++ met_text met) }
+    ensures { OnOk result (Adds text.old text.new (met_text met)) }
 {
     match met {
         Some(met) => {
@@ -113,7 +114,7 @@ fn push_met(text: &mut String, met: Option<Other>) -> Result<(), AllocError>
 
 /// Appends the region that has no registers of its own, and why.
 fn push_taker(text: &mut String, taker: Other, met: Option<Other>) -> Result<(), AllocError>
-    ensures { OnOk result (string_bytes text.new ≡ string_bytes text.old ++ taker_text taker met) }
+    ensures { OnOk result (Adds text.old text.new (taker_text taker met)) }
 {
     text.push_str(": ")?;
     push_named(text, taker)?;
@@ -126,7 +127,7 @@ fn push_beside(
     taker: Option<Other>,
     other: Option<Other>,
 ) -> Result<(), AllocError>
-    ensures { OnOk result (string_bytes text.new ≡ string_bytes text.old ++ beside_text taker other) }
+    ensures { OnOk result (Adds text.old text.new (beside_text taker other)) }
 {
     match taker {
         Some(taker) => push_taker(text, taker, other),
@@ -143,7 +144,7 @@ pub(crate) fn push_cause(
     told: &Told<'_>,
 ) -> Result<(), AllocError>
     requires { functions.now ≡ standings file.now }
-    ensures { OnOk result (string_bytes text.new ≡ string_bytes text.old ++ cause_text file.now told.now) }
+    ensures { OnOk result (Adds text.old text.new (cause_text file.now told.now)) }
 {
     push_own(alloc, text, file, functions, &told.problem)?;
     push_beside(text, told.taker, told.other)

@@ -1,5 +1,6 @@
 //! What is said of a key that its table doesn't have, and of a value that its key doesn't ask for.
-ghost use Rattle.std.specs.Prelude.{◌≡◌, ◌<◌, ◌++◌, map, flat_map, IfOk, OnOk, option_map, string_bytes};
+ghost use Rattle.std.specs.Prelude.{◌≡◌, ◌<◌, map, flat_map, IfOk, OnOk, option_map};
+ghost use Rattle.lists.specs.Texts.{Adds};
 ghost use Rattle.board_file.specs.Schema.{fields, field_of};
 ghost use Rattle.board_refusal.specs.KeyCauses.{distance, is_off, first_off, nearest, with_comma, keys_text, all_text, meant_text, known_text, form_text, asked_form, asked_text};
 
@@ -45,7 +46,8 @@ fn nearest(
     word: &str,
     fields: &'static [Field],
 ) -> Result<Option<&'static str>, AllocError>
-    ensures { IfOk result (λ found. option_map (λ k. k.now) found ≡ nearest word.now (map field_of fields.now)) }
+    ensures { IfOk result (λ found.
+        option_map (λ k. k.now) found ≡ nearest word.now (map field_of fields.now)) }
 {
     match first_off(alloc, 1, word, fields)? {
         Some(key) => Ok(Some(key)),
@@ -55,8 +57,7 @@ fn nearest(
 
 /// Appends keys, each after a comma.
 fn push_more(text: &mut String, fields: &[Field]) -> Result<(), AllocError>
-    ensures { OnOk result (string_bytes text.new
-        ≡ string_bytes text.old ++ flat_map with_comma (map field_of fields.now)) }
+    ensures { OnOk result (Adds text.old text.new (flat_map with_comma (map field_of fields.now))) }
 {
     'fields: for field in fields {
         text.push_str(", ")?;
@@ -67,7 +68,7 @@ fn push_more(text: &mut String, fields: &[Field]) -> Result<(), AllocError>
 
 /// Appends keys with commas between them.
 fn push_keys(text: &mut String, fields: &[Field]) -> Result<(), AllocError>
-    ensures { OnOk result (string_bytes text.new ≡ string_bytes text.old ++ keys_text (map field_of fields.now)) }
+    ensures { OnOk result (Adds text.old text.new (keys_text (map field_of fields.now))) }
 {
     match fields {
         [] => Ok(()),
@@ -80,7 +81,7 @@ fn push_keys(text: &mut String, fields: &[Field]) -> Result<(), AllocError>
 
 /// Appends all keys that there are.
 fn push_all(text: &mut String, fields: &[Field]) -> Result<(), AllocError>
-    ensures { OnOk result (string_bytes text.new ≡ string_bytes text.old ++ all_text (map field_of fields.now)) }
+    ensures { OnOk result (Adds text.old text.new (all_text (map field_of fields.now))) }
 {
     text.push_str(", which has ")?;
     push_keys(text, fields)
@@ -92,8 +93,8 @@ fn push_meant(
     fields: &[Field],
     meant: Option<&'static str>,
 ) -> Result<(), AllocError>
-    ensures { OnOk result (string_bytes text.new ≡ string_bytes text.old
-        ++ meant_text (map field_of fields.now) (option_map (λ k. k.now) meant.entry)) }
+    ensures { OnOk result (Adds text.old text.new
+        (meant_text (map field_of fields.now) (option_map (λ k. k.now) meant.entry))) }
 {
     match meant {
         Some(key) => {
@@ -112,7 +113,7 @@ pub(crate) fn push_known(
     level: Option<Level>,
     key: &str,
 ) -> Result<(), AllocError>
-    ensures { OnOk result (string_bytes text.new ≡ string_bytes text.old ++ known_text level key.now) }
+    ensures { OnOk result (Adds text.old text.new (known_text level key.now)) }
 {
     let Some(level) = level else {
         return Ok(());
@@ -157,7 +158,7 @@ pub(crate) fn push_asked(
     level: Option<Level>,
     key: &str,
 ) -> Result<(), AllocError>
-    ensures { OnOk result (string_bytes text.new ≡ string_bytes text.old ++ asked_text level key.now) }
+    ensures { OnOk result (Adds text.old text.new (asked_text level key.now)) }
 {
     match asked_form(level, key) {
         Some(form) => text.push_str(form_words(form)),

@@ -1,5 +1,6 @@
 //! What is said of the path of a function.
-ghost use Rattle.std.specs.Prelude.{◌≡◌, ◌<◌, ◌≤◌, ◌++◌, codes, length, map, take, IfOk, IfSome, OnOk, option_map, string_bytes};
+ghost use Rattle.std.specs.Prelude.{◌≡◌, ◌<◌, ◌≤◌, ◌++◌, codes, length, map, take, IfOk, IfSome, OnOk, option_map};
+ghost use Rattle.lists.specs.Texts.{Adds};
 ghost use Rattle.board_file.specs.PathTexts.{path_at};
 ghost use Rattle.diagnostics.specs.Shown.{shown_byte};
 ghost use Rattle.board_refusal.specs.PathCauses.{without_bus, unpadded, meant_path, meant_text, path_form_text, is_gap, first_gap, gap_text, bridge_text, zero_text, slot_text};
@@ -48,8 +49,8 @@ fn meant_path(alloc: Global, text: &[u8]) -> Result<Option<Vec<u8>>, AllocError>
 
 /// Appends the path that may be meant, or what a path is.
 fn push_meant(text: &mut String, meant: Option<&[u8]>) -> Result<(), AllocError>
-    ensures { OnOk result (string_bytes text.new
-        ≡ string_bytes text.old ++ meant_text (option_map (λ p. p.now) meant.entry)) }
+    ensures { OnOk result (Adds text.old text.new
+        (meant_text (option_map (λ p. p.now) meant.entry))) }
 {
     match meant {
         Some(path) => {
@@ -69,7 +70,7 @@ pub(crate) fn push_path_form(
     text: &mut String,
     at: &PathText<'_>,
 ) -> Result<(), AllocError>
-    ensures { OnOk result (string_bytes text.new ≡ string_bytes text.old ++ path_form_text at.now) }
+    ensures { OnOk result (Adds text.old text.new (path_form_text at.now)) }
 {
     match meant_path(alloc, at.text().as_bytes())? {
         Some(path) => push_meant(text, Some(&path)),
@@ -108,7 +109,7 @@ fn first_gap(functions: &[FunctionPath], at: &[u8]) -> Option<usize>
 /// Appends so many bytes as they are shown.
 fn push_front(text: &mut String, bytes: &[u8], count: usize) -> Result<(), AllocError>
     requires { count ≤ length bytes.now }
-    ensures { OnOk result (string_bytes text.new ≡ string_bytes text.old ++ map shown_byte (take count bytes.now)) }
+    ensures { OnOk result (Adds text.old text.new (map shown_byte (take count bytes.now))) }
 {
     push_shown(text, &bytes[..count])
 }
@@ -116,7 +117,7 @@ fn push_front(text: &mut String, bytes: &[u8], count: usize) -> Result<(), Alloc
 /// Appends the path at which no bridge stands.
 fn push_gap(text: &mut String, at: &[u8], count: usize) -> Result<(), AllocError>
     requires { count ≤ length at.now }
-    ensures { OnOk result (string_bytes text.new ≡ string_bytes text.old ++ gap_text at.now count) }
+    ensures { OnOk result (Adds text.old text.new (gap_text at.now count)) }
 {
     text.push_str(": no bridge at ")?;
     push_front(text, at, count)
@@ -128,7 +129,7 @@ pub(crate) fn push_bridge(
     functions: &[FunctionPath],
     at: &PathText<'_>,
 ) -> Result<(), AllocError>
-    ensures { OnOk result (string_bytes text.new ≡ string_bytes text.old ++ bridge_text functions.now at.now) }
+    ensures { OnOk result (Adds text.old text.new (bridge_text functions.now at.now)) }
 {
     let bytes = at.text().as_bytes();
     match first_gap(functions, bytes) {
@@ -140,8 +141,8 @@ pub(crate) fn push_bridge(
 /// Appends so many bytes of a path, with function 0 after them.
 fn push_function_zero(text: &mut String, at: &[u8], count: usize) -> Result<(), AllocError>
     requires { count ≤ length at.now }
-    ensures { OnOk result (string_bytes text.new
-        ≡ string_bytes text.old ++ (codes ": no function at " ++ (map shown_byte (take count at.now) ++ codes "0"))) }
+    ensures { OnOk result (Adds text.old text.new
+        (codes ": no function at " ++ (map shown_byte (take count at.now) ++ codes "0"))) }
 {
     text.push_str(": no function at ")?;
     push_front(text, at, count)?;
@@ -150,7 +151,7 @@ fn push_function_zero(text: &mut String, at: &[u8], count: usize) -> Result<(), 
 
 /// Appends function 0 of the device.
 pub(crate) fn push_zero(text: &mut String, at: &PathText<'_>) -> Result<(), AllocError>
-    ensures { OnOk result (string_bytes text.new ≡ string_bytes text.old ++ zero_text at.now) }
+    ensures { OnOk result (Adds text.old text.new (zero_text at.now)) }
 {
     let bytes = at.text().as_bytes();
     push_function_zero(text, bytes, bytes.len().saturating_sub(1))
@@ -163,7 +164,7 @@ pub(crate) fn push_slot(
     functions: &[FunctionPath],
     at: &PathText<'_>,
 ) -> Result<(), AllocError>
-    ensures { OnOk result (string_bytes text.new ≡ string_bytes text.old ++ slot_text functions.now at.now) }
+    ensures { OnOk result (Adds text.old text.new (slot_text functions.now at.now)) }
 {
     let bytes = at.text().as_bytes();
     if path_of(bytes).is_none() {

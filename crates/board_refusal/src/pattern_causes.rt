@@ -1,5 +1,6 @@
 //! What is said of patterns that are not lawful.
-ghost use Rattle.std.specs.Prelude.{◌≡◌, ◌++◌, OnOk, option_map, string_bytes};
+ghost use Rattle.std.specs.Prelude.{◌≡◌, OnOk, option_map};
+ghost use Rattle.lists.specs.Texts.{Adds};
 ghost use Rattle.board_refusal.specs.PatternCauses.{begins_with_0x, is_digit, are_digits, has_whole_bytes, has_room, pattern_parts, pattern_words, keyed_text, masks_text, bar_masks_text, config_masks_text};
 ghost use Rattle.board_refusal.specs.ApertureCauses.{first_words};
 
@@ -84,7 +85,7 @@ fn pattern_words(len: u64, text: Option<&str>) -> &'static str
 
 /// Appends what is said of the pattern at a key.
 fn push_keyed(text: &mut String, key: &str, words: &str) -> Result<(), AllocError>
-    ensures { OnOk result (string_bytes text.new ≡ string_bytes text.old ++ keyed_text key.now words.now) }
+    ensures { OnOk result (Adds text.old text.new (keyed_text key.now words.now)) }
 {
     text.push_str(": ")?;
     text.push_str(key)?;
@@ -93,7 +94,7 @@ fn push_keyed(text: &mut String, key: &str, words: &str) -> Result<(), AllocErro
 
 /// Appends what is said of the patterns of a block.
 fn push_masks(text: &mut String, len: u64, patterns: &PatternTexts<'_>) -> Result<(), AllocError>
-    ensures { OnOk result (string_bytes text.new ≡ string_bytes text.old ++ masks_text len patterns.now) }
+    ensures { OnOk result (Adds text.old text.new (masks_text len patterns.now)) }
 {
     let reset = pattern_words(len, patterns.reset);
     if reset.len() != 0 {
@@ -112,7 +113,7 @@ fn push_masks(text: &mut String, len: u64, patterns: &PatternTexts<'_>) -> Resul
 
 /// Appends what is wrong with the patterns of a region.
 pub(crate) fn push_bar_masks(text: &mut String, bar: &BarEntry<'_>) -> Result<(), AllocError>
-    ensures { OnOk result (string_bytes text.new ≡ string_bytes text.old ++ bar_masks_text bar.now) }
+    ensures { OnOk result (Adds text.old text.new (bar_masks_text bar.now)) }
 {
     push_masks(text, bar.block.unsigned_abs(), &bar.patterns)
 }
@@ -122,7 +123,7 @@ pub(crate) fn push_config_masks(
     text: &mut String,
     config: &ConfigEntry<'_>,
 ) -> Result<(), AllocError>
-    ensures { OnOk result (string_bytes text.new ≡ string_bytes text.old ++ config_masks_text config.now) }
+    ensures { OnOk result (Adds text.old text.new (config_masks_text config.now)) }
 {
     push_masks(text, config.block.unsigned_abs(), &config.patterns)
 }

@@ -1,5 +1,6 @@
 //! What is said of a size that its kind doesn't allow.
-ghost use Rattle.std.specs.Prelude.{◌≡◌, ◌<◌, ◌≤◌, ◌*◌, ◌^◌, ◌++◌, false, not, int_le, pos, OnOk, string_bytes};
+ghost use Rattle.std.specs.Prelude.{◌≡◌, ◌<◌, ◌≤◌, ◌*◌, ◌^◌, ◌++◌, false, not, int_le, pos, OnOk};
+ghost use Rattle.lists.specs.Texts.{Adds};
 ghost use Rattle.model_registers.specs.Declarations.{least_size, greatest_size};
 ghost use Rattle.bars.specs.Kinds.{kind_of};
 ghost use Rattle.board_refusal.specs.SizeCauses.{power_below, limits_text, powers_text, power_text, large_text, size_text, bar_text};
@@ -54,7 +55,7 @@ fn limits(kind: Kind) -> &'static str
 /// Appends a power of two and the next one.
 fn push_powers(text: &mut String, power: u64, next: u64) -> Result<(), AllocError>
     requires { next ≡ power * 2 }
-    ensures { OnOk result (string_bytes text.new ≡ string_bytes text.old ++ powers_text power) }
+    ensures { OnOk result (Adds text.old text.new (powers_text power)) }
 {
     write!(text, ": no power of two, as 0x{power:x} and 0x{next:x} are")
 }
@@ -63,7 +64,7 @@ fn push_powers(text: &mut String, power: u64, next: u64) -> Result<(), AllocErro
 fn push_power(text: &mut String, size: u64) -> Result<(), AllocError>
     requires some { 0 < size }
     requires small { size < 2 ^ 63 }
-    ensures { OnOk result (string_bytes text.new ≡ string_bytes text.old ++ power_text size) }
+    ensures { OnOk result (Adds text.old text.new (power_text size)) }
 {
     if size.is_power_of_two() {
         return Ok(());
@@ -74,7 +75,7 @@ fn push_power(text: &mut String, size: u64) -> Result<(), AllocError>
 
 /// Appends a limit that a size doesn't keep.
 fn push_limits(text: &mut String, words: &str, kind: Kind) -> Result<(), AllocError>
-    ensures { OnOk result (string_bytes text.new ≡ string_bytes text.old ++ (words.now ++ limits_text (kind_of kind))) }
+    ensures { OnOk result (Adds text.old text.new (words.now ++ limits_text (kind_of kind))) }
 {
     text.push_str(words)?;
     text.push_str(limits(kind))
@@ -83,7 +84,7 @@ fn push_limits(text: &mut String, words: &str, kind: Kind) -> Result<(), AllocEr
 /// Appends what is wrong with a size that is no less than the least of its kind.
 fn push_large(text: &mut String, kind: Kind, size: i64) -> Result<(), AllocError>
     requires { not (int_le (pos (least_size (kind_of kind))) size) ≡ false }
-    ensures { OnOk result (string_bytes text.new ≡ string_bytes text.old ++ large_text (kind_of kind) size) }
+    ensures { OnOk result (Adds text.old text.new (large_text (kind_of kind) size)) }
 {
     if is_large(kind, size) {
         return push_limits(text, ": too large", kind);
@@ -93,7 +94,7 @@ fn push_large(text: &mut String, kind: Kind, size: i64) -> Result<(), AllocError
 
 /// Appends what is wrong with a size.
 fn push_size(text: &mut String, kind: Kind, size: i64) -> Result<(), AllocError>
-    ensures { OnOk result (string_bytes text.new ≡ string_bytes text.old ++ size_text (kind_of kind) size) }
+    ensures { OnOk result (Adds text.old text.new (size_text (kind_of kind) size)) }
 {
     if is_small(kind, size) {
         return push_limits(text, ": too small", kind);
@@ -103,7 +104,7 @@ fn push_size(text: &mut String, kind: Kind, size: i64) -> Result<(), AllocError>
 
 /// Appends what is wrong with the size of a region.
 pub(crate) fn push_bar(text: &mut String, bar: &BarEntry<'_>) -> Result<(), AllocError>
-    ensures { OnOk result (string_bytes text.new ≡ string_bytes text.old ++ bar_text bar.now) }
+    ensures { OnOk result (Adds text.old text.new (bar_text bar.now)) }
 {
     push_size(text, bar.kind, bar.size)
 }

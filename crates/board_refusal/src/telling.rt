@@ -76,7 +76,8 @@ pub fn refusal_text(
     fault: BoardFault,
 ) -> Result<String, AllocError>
     requires { IsRead source.now }
-    ensures { IfOk result (λ t. IsRefusal style name.now source.now.bytes.now fault (string_bytes t)) }
+    ensures { IfOk result (λ t.
+        IsRefusal style name.now source.now.bytes.now fault (string_bytes t)) }
 {
     let problems = all_problems(alloc, source, fault)?;
     let places = Places::new(alloc, source.bytes, source.document)?;

@@ -1,6 +1,7 @@
 //! What is said of problems.
-ghost use Rattle.std.specs.Prelude.{◌≡◌, ◌++◌, OnOk, string_bytes};
+ghost use Rattle.std.specs.Prelude.{OnOk};
 ghost use Rattle.std.specs.List.{flat_map};
+ghost use Rattle.lists.specs.Texts.{Adds};
 ghost use Rattle.toml.specs.View.{table_view};
 ghost use Rattle.board_file.specs.declared.fault.BoardFault.TheVariants.{NotToml};
 ghost use Rattle.board_refusal.specs.Texts.{fault_text, said_text, problem_text, below_problem_text, told_text, bare_text, reasoned_text, unread_text, count_text, lines_text};
@@ -17,7 +18,7 @@ use toml::Table;
 
 /// Appends the number and the words of a fault, and ends the line.
 fn push_fault(text: &mut String, fault: BoardFault) -> Result<(), AllocError>
-    ensures { OnOk result (string_bytes text.new ≡ string_bytes text.old ++ fault_text fault) }
+    ensures { OnOk result (Adds text.old text.new (fault_text fault)) }
 {
     let number = fault.number();
     let words = fault.words();
@@ -31,7 +32,7 @@ fn push_said(
     source: &Source<'_>,
     told: &Told<'_>,
 ) -> Result<(), AllocError>
-    ensures { OnOk result (string_bytes text.new ≡ string_bytes text.old ++ said_text source.now.file told.now) }
+    ensures { OnOk result (Adds text.old text.new (said_text source.now.file told.now)) }
 {
     text.push_str(rule_words(told.problem.rule))?;
     push_cause(alloc, text, &source.file, &source.functions, told)?;
@@ -46,8 +47,8 @@ fn push_problem_line(
     source: &Source<'_>,
     told: &Told<'_>,
 ) -> Result<(), AllocError>
-    ensures { OnOk result (string_bytes text.new
-        ≡ string_bytes text.old ++ problem_text name.now (table_view source.now.document.now) told.now) }
+    ensures { OnOk result (Adds text.old text.new
+        (problem_text name.now (table_view source.now.document.now) told.now)) }
 {
     text.push_str(name)?;
     push_line_number(text, line_at(told.place))?;
@@ -65,8 +66,8 @@ fn push_below_problem(
     document: &Table,
     told: &Told<'_>,
 ) -> Result<(), AllocError>
-    ensures { OnOk result (string_bytes text.new
-        ≡ string_bytes text.old ++ below_problem_text (table_view document.now) bytes.now told.now) }
+    ensures { OnOk result (Adds text.old text.new
+        (below_problem_text (table_view document.now) bytes.now told.now)) }
 {
     let problem = told.problem;
     push_below(
@@ -88,8 +89,8 @@ fn push_problem(
     source: &Source<'_>,
     told: &Told<'_>,
 ) -> Result<(), AllocError>
-    ensures { OnOk result (string_bytes text.new
-        ≡ string_bytes text.old ++ told_text telling.now.style telling.now.name.now (table_view source.now.document.now) source.now.bytes.now told.now) }
+    ensures { OnOk result (Adds text.old text.new
+        (told_text telling.now.style telling.now.name.now (table_view source.now.document.now) source.now.bytes.now told.now)) }
 {
     push_problem_line(alloc, text, telling.name, source, told)?;
     match telling.style {
@@ -106,8 +107,8 @@ fn push_problems(
     source: &Source<'_>,
     told: &[Told<'_>],
 ) -> Result<(), AllocError>
-    ensures { OnOk result (string_bytes text.new ≡ string_bytes text.old
-        ++ flat_map (told_text telling.now.style telling.now.name.now (table_view source.now.document.now) source.now.bytes.now) told.now) }
+    ensures { OnOk result (Adds text.old text.new
+        (flat_map (told_text telling.now.style telling.now.name.now (table_view source.now.document.now) source.now.bytes.now) told.now)) }
 {
     for one in told {
         push_problem(alloc, text, telling, source, one)?;
@@ -122,7 +123,7 @@ fn push_bare(
     line: Option<usize>,
     fault: BoardFault,
 ) -> Result<(), AllocError>
-    ensures { OnOk result (string_bytes text.new ≡ string_bytes text.old ++ bare_text name.now line fault) }
+    ensures { OnOk result (Adds text.old text.new (bare_text name.now line fault)) }
 {
     text.push_str(name)?;
     push_line_number(text, line)?;
@@ -138,8 +139,7 @@ fn push_reasoned(
     reason: &str,
     fault: BoardFault,
 ) -> Result<(), AllocError>
-    ensures { OnOk result (string_bytes text.new
-        ≡ string_bytes text.old ++ reasoned_text name.now line reason.now fault) }
+    ensures { OnOk result (Adds text.old text.new (reasoned_text name.now line reason.now fault)) }
 {
     text.push_str(name)?;
     push_line_number(text, line)?;
@@ -157,8 +157,8 @@ pub(crate) fn push_unread(
     place: Option<Place>,
     reason: &str,
 ) -> Result<(), AllocError>
-    ensures { OnOk result (string_bytes text.new ≡ string_bytes text.old
-        ++ unread_text telling.now.style telling.now.name.now bytes.now place reason.now NotToml) }
+    ensures { OnOk result (Adds text.old text.new
+        (unread_text telling.now.style telling.now.name.now bytes.now place reason.now NotToml)) }
 {
     let line = line_at(place);
     match telling.style {
@@ -172,7 +172,7 @@ pub(crate) fn push_unread(
 
 /// Appends how many problems there are.
 fn push_count(text: &mut String, count: usize) -> Result<(), AllocError>
-    ensures { OnOk result (string_bytes text.new ≡ string_bytes text.old ++ count_text count) }
+    ensures { OnOk result (Adds text.old text.new (count_text count)) }
 {
     let noun = if count == 1 { "problem" } else { "problems" };
     writeln!(text, "{count} {noun}")
@@ -187,8 +187,8 @@ pub(crate) fn push_lines(
     fault: BoardFault,
     told: &[Told<'_>],
 ) -> Result<(), AllocError>
-    ensures { OnOk result (string_bytes text.new ≡ string_bytes text.old
-        ++ lines_text telling.now.style telling.now.name.now (table_view source.now.document.now) source.now.bytes.now fault told.now) }
+    ensures { OnOk result (Adds text.old text.new
+        (lines_text telling.now.style telling.now.name.now (table_view source.now.document.now) source.now.bytes.now fault told.now)) }
 {
     if told.is_empty() {
         return push_bare(text, telling.name, None, fault);

@@ -60,7 +60,8 @@ fn block_at(alloc: Global, regions: &[Region], index: u8) -> Result<Cells, Alloc
 pub(crate) fn block_files(alloc: Global, regions: &[Region]) -> Result<Vec<Cells>, AllocError>
     requires { Each (λ r. length r.cells ≤ 4096) regions.now }
     ensures blocks { IfOk result (λ v.
-        (n : ℕ) → n < 6 → slice_get v.items n ≡ Some (as_made (declared_block regions.now n))) }
+        (n : ℕ) → n < 6 →
+        slice_get v.items n ≡ Some (as_made (declared_block regions.now n))) }
     ensures six { IfOk result (λ v. length v.items ≡ 6) }
 {
     let mut blocks = Vec::new(alloc);

@@ -75,7 +75,8 @@ impl BridgeFn {
         decl: BridgeDecl,
         multifunction: bool,
     ) -> Result<BridgeFn, AllocError>
-        ensures made { IfOk result (λ b. b ≡ record { decl = decl; file = bridge_reset decl multifunction }) }
+        ensures made { IfOk result (λ b.
+            b ≡ record { decl = decl; file = bridge_reset decl multifunction }) }
         ensures lawful { IfOk result (λ _. IsLawfulBridge decl) }
     {
         // A bridge that is there has a vendor.
@@ -100,7 +101,8 @@ impl BridgeFn {
     /// Writes the enabled bytes of the configuration word at `off`, a multiple of 4.
     pub(crate) fn config_write(&mut self, off: u8, enables: u8, data: u32)
         requires { off % 4 ≡ 0 }
-        ensures { self.new ≡ record self.old { file = write (lanes enables) «data» (config off) self.old.file } }
+        ensures { self.new
+            ≡ record self.old { file = write (lanes enables) «data» (config off) self.old.file } }
     {
         self.cells.write(u16::from(off), enables, data);
         self.decoded = decode(&self.cells, &self.decl);
@@ -135,7 +137,8 @@ impl BridgeFn {
     /// The windows that the registers name.
     pub(crate) fn windows(&self) -> Ranges
         ensures { let file = self.now.file in let d = self.now.decl in
-            named_ranges result ≡ windows (io_window d.io file) (mem_window file) (pref_window d.pref file) }
+            named_ranges result
+            ≡ windows (io_window d.io file) (mem_window file) (pref_window d.pref file) }
     {
         Ranges::Windows {
             io: window_of(self.decoded.io),
@@ -147,7 +150,8 @@ impl BridgeFn {
     /// The same without memory.
     pub(crate) fn windows_now(&self) -> RangesNow
         ensures { let file = self.now.file in let d = self.now.decl in
-            ranges_told result ≡ windows (io_window d.io file) (mem_window file) (pref_window d.pref file) }
+            ranges_told result
+            ≡ windows (io_window d.io file) (mem_window file) (pref_window d.pref file) }
     {
         let Decoded { io, mem, pref, .. } = self.decoded;
         RangesNow::Windows {

@@ -24,7 +24,8 @@ fn sort(decls: &mut Vec<Decl>)
 /// Which of the functions stand in a device with other functions. Each is compared with all, once,
 /// before the board is used.
 fn multifunction_devices(alloc: Global, decls: &[Decl]) -> Result<Vec<bool>, AllocError>
-    ensures { IfOk result (λ v. v.items ≡ map (λ r. is_multifunction decls.now r.path) decls.now) }
+    ensures { IfOk result (λ v.
+        v.items ≡ map (λ r. is_multifunction decls.now r.path) decls.now) }
 {
     decls
         .iter()
@@ -35,7 +36,8 @@ fn multifunction_devices(alloc: Global, decls: &[Decl]) -> Result<Vec<bool>, All
 /// The function at reset, at its path. Where it ends is set by `lay_out`.
 fn node_at_reset(alloc: Global, decl: Decl, multifunction: bool) -> Result<Node, AllocError>
     ensures made { IfOk result (λ n.
-        function_of n ≡ record { path = decl.path; decl = decl.decl; file = reset_cells decl.decl multifunction }) }
+        function_of n
+        ≡ record { path = decl.path; decl = decl.decl; file = reset_cells decl.decl multifunction }) }
     ensures lawful { IfOk result (λ _. IsLawfulDecl decl.decl) }
 {
     let Decl { path, function } = decl;
@@ -50,7 +52,8 @@ fn node_at_reset(alloc: Global, decl: Decl, multifunction: bool) -> Result<Node,
 /// All functions at reset.
 pub(crate) fn nodes_at_reset(alloc: Global, decls: Vec<Decl>) -> Result<Vec<Node>, AllocError>
     requires { IsBoard (board_of decls.items) }
-    ensures made { IfOk result (λ v. functions_of v.items ≡ reset_functions (board_of decls.items)) }
+    ensures made { IfOk result (λ v.
+        functions_of v.items ≡ reset_functions (board_of decls.items)) }
     ensures lawful { IfOk result (λ _. HasLawfulDecls (board_of decls.items)) }
 {
     let mut decls = decls;

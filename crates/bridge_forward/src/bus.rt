@@ -116,7 +116,8 @@ impl Bus {
     /// than that memory is out, and no later call takes memory.
     pub fn build(alloc: Global, decls: Vec<Decl>) -> Result<Bus, AllocError>
         requires { IsBoard (board_of decls.items) }
-        ensures functions { IfOk result (λ bus. bus ≡ (reset_state (board_of decls.items)).functions) }
+        ensures functions { IfOk result (λ bus.
+            bus ≡ (reset_state (board_of decls.items)).functions) }
         ensures at_reset { IfOk result (λ bus. IsAtReset (record { functions = bus; latch = 0 })) }
     {
         let mut nodes = nodes_at_reset(alloc, decls)?;
@@ -143,7 +144,8 @@ impl Bus {
     /// The first claim of an address in path order, then by register: a region that decodes it, where
     /// each bridge above forwards it. It is told by the index of its endpoint.
     pub fn locate(&self, space: Space, addr: u64) -> Option<Located>
-        ensures claim { located_claim self.now result ≡ first_claim self.now (named_space space) addr }
+        ensures claim { located_claim self.now result
+            ≡ first_claim self.now (named_space space) addr }
         ensures there { IfSome result (λ l. IsSome (endpoint_nth self.now l.index)) }
     {
         locate(&self.nodes, space, addr)
@@ -167,7 +169,8 @@ impl Bus {
 
     /// The index of the function at a path, if one stands there.
     pub fn index_of(&self, path: &Path) -> Option<usize>
-        ensures function { option_and_then (slice_get self.now) result ≡ find (λ f. path_eq f.path path.now) self.now }
+        ensures function { option_and_then (slice_get self.now) result
+            ≡ find (λ f. path_eq f.path path.now) self.now }
         ensures within { IfSome result (λ i. i < length self.now) }
     {
         position(&self.nodes, path)
@@ -212,7 +215,8 @@ impl Bus {
 
     /// The index of the function that a configuration cycle reaches, put on bus 0. It changes nothing.
     pub fn reached(&mut self, cycle: &Cycle) -> Option<usize>
-        ensures function { option_and_then (slice_get self.old) result ≡ reached_by self.old cycle.now }
+        ensures function { option_and_then (slice_get self.old) result
+            ≡ reached_by self.old cycle.now }
         ensures within { IfSome result (λ i. i < length self.old) }
         ensures after { self.new ≡ self.old }
     {

@@ -32,7 +32,8 @@ impl Bus {
 
     /// The path of the function at an index, in path order.
     pub fn path_nth(&self, index: usize) -> Option<Path>
-        ensures { result ≡ option_map (λ (f : BoardFunction). f.path) (slice_get self.now index) }
+        ensures { result
+            ≡ option_map (λ (f : BoardFunction). f.path) (slice_get self.now index) }
     {
         let node = self.nodes.get(index)?;
         Some(node.path.copied())

@@ -46,7 +46,8 @@ impl Decl {
 
     /// Whether the other function stands in the same device.
     fn shares_device(&self, other: &Decl) -> bool
-        ensures { result ≡ (same_device other.now.path self.now.path && not (path_eq other.now.path self.now.path)) }
+        ensures { result
+            ≡ (same_device other.now.path self.now.path && not (path_eq other.now.path self.now.path)) }
     {
         self.path.shares_device(&other.path)
     }

@@ -69,7 +69,8 @@ impl EndpointFn {
         decl: EndpointDecl,
         multifunction: bool,
     ) -> Result<EndpointFn, AllocError>
-        ensures made { IfOk result (λ e. e ≡ record { decl = decl; file = endpoint_reset decl multifunction }) }
+        ensures made { IfOk result (λ e.
+            e ≡ record { decl = decl; file = endpoint_reset decl multifunction }) }
         ensures lawful { IfOk result (λ _. IsLawfulEndpoint decl) }
     {
         let config = Endpoint::cells(alloc, &decl, multifunction)?;
@@ -131,7 +132,8 @@ impl EndpointFn {
     /// there drops them.
     pub fn write(&mut self, reg: u8, off: u64, enables: u8, data: u32)
         requires { off % 4 ≡ 0 }
-        ensures { self.new ≡ record self.old { file = write (lanes enables) «data» (block reg off) self.old.file } }
+        ensures { self.new
+            ≡ record self.old { file = write (lanes enables) «data» (block reg off) self.old.file } }
     {
         let Some(block) = self.blocks.get_mut(usize::from(reg)) else {
             return;
@@ -141,7 +143,8 @@ impl EndpointFn {
 
     /// Raises the bits of `mask` that writing a one clears, in the cell at `off`. All other cells stay.
     pub fn raise(&mut self, place: Place, off: u64, mask: u8)
-        ensures { self.new ≡ record self.old { file = raise mask (place_of place off) self.old.file } }
+        ensures { self.new
+            ≡ record self.old { file = raise mask (place_of place off) self.old.file } }
     {
         match place {
             Place::Cfg => {
@@ -174,7 +177,8 @@ impl EndpointFn {
     /// cells stay, and where none stands nothing changes.
     pub fn set(&mut self, place: Place, off: u64, value: u8)
         requires { IsTrue (is_device_byte (place_of place off)) }
-        ensures { self.new ≡ record self.old { file = set_value value (place_of place off) self.old.file } }
+        ensures { self.new
+            ≡ record self.old { file = set_value value (place_of place off) self.old.file } }
     {
         match place {
             Place::Cfg => {
@@ -213,7 +217,8 @@ impl EndpointFn {
     /// Writes the enabled bytes of the configuration word at `off`, a multiple of 4.
     pub fn config_write(&mut self, off: u8, enables: u8, data: u32)
         requires { off % 4 ≡ 0 }
-        ensures { self.new ≡ record self.old { file = write (lanes enables) «data» (config off) self.old.file } }
+        ensures { self.new
+            ≡ record self.old { file = write (lanes enables) «data» (config off) self.old.file } }
     {
         match base_register(off) {
             Some(reg) => self.bars.write(reg, enables, data),

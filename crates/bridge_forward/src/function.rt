@@ -45,7 +45,8 @@ impl Function {
         multifunction: bool,
     ) -> Result<Function, AllocError>
         ensures decl { IfOk result (λ f. decl_of f ≡ declared decl) }
-        ensures cells { IfOk result (λ f. file_of f ≡ reset_cells (declared decl) multifunction) }
+        ensures cells { IfOk result (λ f.
+            file_of f ≡ reset_cells (declared decl) multifunction) }
         ensures lawful { IfOk result (λ _. IsLawfulDecl (declared decl)) }
     {
         match decl {
@@ -66,7 +67,8 @@ impl Function {
     pub(crate) fn access(&mut self, op: Op, off: u8, enables: u8) -> u32
         requires { off % 4 ≡ 0 }
         ensures reply { result ≡ reply_to op off enables (file_of self.old) }
-        ensures after { self.new ≡ with_cells self.old (after_access op off enables (file_of self.old)) }
+        ensures after { self.new
+            ≡ with_cells self.old (after_access op off enables (file_of self.old)) }
     {
         match op {
             Op::Read => self.config_read(off, enables),
@@ -89,7 +91,8 @@ impl Function {
 
     fn config_write(&mut self, off: u8, enables: u8, data: u32)
         requires { off % 4 ≡ 0 }
-        ensures { self.new ≡ with_cells self.old (write (lanes enables) «data» (config off) (file_of self.old)) }
+        ensures { self.new
+            ≡ with_cells self.old (write (lanes enables) «data» (config off) (file_of self.old)) }
     {
         match self {
             Function::Endpoint(endpoint) => endpoint.config_write(off, enables, data),
@@ -119,7 +122,8 @@ impl Function {
 
     /// The regions or windows where the registers say now.
     fn ranges(&self, alloc: Global) -> Result<Ranges, AllocError>
-        ensures { IfOk result (λ r. named_ranges r ≡ ranges_of (file_of self.now) (decl_of self.now)) }
+        ensures { IfOk result (λ r.
+            named_ranges r ≡ ranges_of (file_of self.now) (decl_of self.now)) }
     {
         match self {
             Function::Endpoint(endpoint) => Ok(Ranges::Regions(endpoint.regions(alloc)?)),
@@ -174,7 +178,8 @@ impl Function {
 
     /// Resets the endpoint, if it is one.
     pub(crate) fn reset_endpoint(&mut self)
-        ensures { self.new ≡ with_cells self.old (after_leaf_reset (decl_of self.old) (file_of self.old)) }
+        ensures { self.new
+            ≡ with_cells self.old (after_leaf_reset (decl_of self.old) (file_of self.old)) }
     {
         match self {
             Function::Endpoint(endpoint) => endpoint.reset(),
@@ -213,7 +218,8 @@ impl Function {
 
     /// Whether it is a bridge and the bus is the one behind it.
     pub(crate) fn leads_to(&self, bus: u8) -> bool
-        ensures { result ≡ (is_bridge (decl_of self.now) && (secondary_register (file_of self.now) == bus)) }
+        ensures { result
+            ≡ (is_bridge (decl_of self.now) && (secondary_register (file_of self.now) == bus)) }
     {
         match self {
             Function::Endpoint(_) => false,

@@ -25,7 +25,8 @@ pub(crate) fn read(cells: &Cells, off: u64, enables: u8) -> u32
 pub(crate) fn write(cells: &mut Cells, off: u64, enables: u8, data: u32)
     requires word { off % 4 ≡ 0 }
     requires short { IsShort cells.old.now }
-    ensures { cells.new ≡ record cells.old { now = write (lanes enables) «data» (config off) cells.old.now } }
+    ensures { cells.new
+        ≡ record cells.old { now = write (lanes enables) «data» (config off) cells.old.now } }
 {
     if let Ok(off) = u16::try_from(off) {
         cells.write(off, enables, data);

@@ -43,7 +43,8 @@ fn has_bridge<S: Stands>(places: &[S], parts: &[Part]) -> bool
 
 /// Whether these parts are none, as those above bus 0, or name one of the bridges.
 fn is_bus<S: Stands>(places: &[S], parts: &[Part]) -> bool
-    ensures { IsTrue result ↔ ((parts.now ≡ []) ⊎ IsTrue (has_bridge (map S.standing places.now) parts.now)) }
+    ensures { IsTrue result
+        ↔ ((parts.now ≡ []) ⊎ IsTrue (has_bridge (map S.standing places.now) parts.now)) }
 {
     if parts.is_empty() {
         return true;
@@ -63,7 +64,8 @@ fn is_founded<S: Stands>(places: &[S], place: &S) -> bool
 
 /// Whether each function is on bus 0 or behind a bridge, in a device with a function 0.
 fn are_founded<S: Stands>(places: &[S]) -> bool
-    ensures { IsTrue result ↔ Each (IsFounded (map S.standing places.now)) (map S.standing places.now) }
+    ensures { IsTrue result
+        ↔ Each (IsFounded (map S.standing places.now)) (map S.standing places.now) }
 {
     for place in places {
         if !is_founded(places, place) {
@@ -75,7 +77,8 @@ fn are_founded<S: Stands>(places: &[S]) -> bool
 
 /// Whether no two functions stand at one path.
 fn are_apart<S: Stands>(places: &[S]) -> bool
-    ensures { IsTrue result ↔ EachPair (λ s t. IsFalse (path_eq t.path s.path)) (map S.standing places.now) }
+    ensures { IsTrue result
+        ↔ EachPair (λ s t. IsFalse (path_eq t.path s.path)) (map S.standing places.now) }
 {
     for i in 0..places.len() {
         if has_path(&places[i + 1..], places[i].path()) {

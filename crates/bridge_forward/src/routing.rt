@@ -49,7 +49,8 @@ impl Model for RoutingRow {
 
 /// A window, from its first and last address.
 pub(crate) fn window_of(pair: Option<(u64, u64)>) -> Option<Window>
-    ensures { (w : Option model.Window) → pair ≡ option_map pair_of w → option_map window_of result ≡ w }
+    ensures { (w : Option model.Window) → pair ≡ option_map pair_of w →
+        option_map window_of result ≡ w }
 {
     match pair {
         None => None,

@@ -62,7 +62,8 @@ fn part_on_bus(
     requires side { IsSide nodes.now bus.now from to }
     ensures found { IfSome result (λ i.
         IsAt nodes.now i (find (is_named bus.now device function) (functions_of nodes.now))) }
-    ensures none { IfNone result (find (is_named bus.now device function) (functions_of nodes.now) ≡ None) }
+    ensures none { IfNone result (find (is_named bus.now device function) (functions_of nodes.now)
+        ≡ None) }
 {
     let mut low = from;
     let mut high = to;
@@ -119,7 +120,8 @@ pub(crate) fn reach(nodes: &[Node], known: &mut Routes, cycle: &Cycle) -> Option
     requires tree { IsTree nodes.now }
     requires routes { AreRoutes nodes.now known.old }
     ensures routes { AreRoutes nodes.now known.new }
-    ensures found { IfSome result (λ i. IsAt nodes.now i (reached_by (functions_of nodes.now) cycle.now)) }
+    ensures found { IfSome result (λ i.
+        IsAt nodes.now i (reached_by (functions_of nodes.now) cycle.now)) }
     ensures none { IfNone result (reached_by (functions_of nodes.now) cycle.now ≡ None) }
 {
     let Cycle {
@@ -182,7 +184,8 @@ pub(crate) fn position(nodes: &[Node], path: &Path) -> Option<usize>
     requires { IsTree nodes.now }
     ensures found { IfSome result (λ i.
         IsAt nodes.now i (find (λ f. path_eq f.path path.now) (functions_of nodes.now))) }
-    ensures none { IfNone result (find (λ f. path_eq f.path path.now) (functions_of nodes.now) ≡ None) }
+    ensures none { IfNone result (find (λ f. path_eq f.path path.now) (functions_of nodes.now)
+        ≡ None) }
 {
     let mut low = 0;
     let mut high = nodes.len();

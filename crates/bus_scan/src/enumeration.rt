@@ -37,7 +37,8 @@ fn write_numbers(host: &mut Host, at: Bdf, primary: u8, secondary: u8, subordina
     ensures written { (b : Board) (numbers : PathValue → BusNumbers) (p : PathValue)
         → IsBoard b → IsTrue (is_bridge_at b p)
         → host.old.state ≡ state_of b (numbered_file b numbers)
-        → reached host.old.state.functions (bus_address_of at) ≡ find (λ f. path_eq f.path p) host.old.state.functions
+        → reached host.old.state.functions (bus_address_of at)
+        ≡ find (λ f. path_eq f.path p) host.old.state.functions
         → host.new.state ≡ state_of b (numbered_file b
         (given p (record { primary = primary; secondary = secondary; subordinate = subordinate }) numbers)) }
     ensures kept { host.new.apertures ≡ host.old.apertures }
@@ -78,11 +79,13 @@ impl Enumeration {
         path: Path,
         seen: Seen,
     ) -> Result<u8, Fault>
-        ensures opened { (b : Board) (on_path : PathValue) (n : ℕ) (r : Row) → IsBridgeThere b on_path bus n r (bus_address_of at)
+        ensures opened { (b : Board) (on_path : PathValue) (n : ℕ) (r : Row) →
+            IsBridgeThere b on_path bus n r (bus_address_of at)
             → path ≡ on on_path n → seen ≡ seen_of (is_multifunction b path) r.decl
             → ComesTo b (on on_path n) host.old self.old
             → MatchResult result
-            (λ number. (number ≡ secondary b (on on_path n)) × ComesTo b (on (on on_path n) 0) host.new self.new)
+            (λ number. (number ≡ secondary b (on on_path n))
+            × ComesTo b (on (on on_path n) 0) host.new self.new)
             (λ f. IsRefused b f host.new.state) }
         ensures rows { IfOk result (λ _. length self.old.rows.items < length self.new.rows.items) }
         ensures kept { host.new.apertures ≡ host.old.apertures }
@@ -106,7 +109,8 @@ impl Enumeration {
     /// Ends the numbers of a bridge with the last one given, in its registers and in its row.
     fn close_bridge(&mut self, host: &mut Host, at: Bdf, bus: u8, number: u8, index: usize)
         requires { index < length self.old.rows.items }
-        ensures closed { (b : Board) (on_path : PathValue) (n : ℕ) (r : Row) → IsBridgeThere b on_path bus n r (bus_address_of at)
+        ensures closed { (b : Board) (on_path : PathValue) (n : ℕ) (r : Row) →
+            IsBridgeThere b on_path bus n r (bus_address_of at)
             → number ≡ secondary b (on on_path n) → index ≡ length (met b (on on_path n))
             → ComesTo b (on (on on_path n) 128) host.old self.old
             → ComesTo b (on on_path (next_part b on_path n)) host.new self.new }
@@ -129,13 +133,15 @@ impl Enumeration {
         path: Path,
         seen: Seen,
     ) -> Result<(), Fault>
-        ensures scanned { (b : Board) (on_path : PathValue) (n : ℕ) (r : Row) → IsBridgeThere b on_path bus n r (bus_address_of at)
+        ensures scanned { (b : Board) (on_path : PathValue) (n : ℕ) (r : Row) →
+            IsBridgeThere b on_path bus n r (bus_address_of at)
             → path ≡ on on_path n → seen ≡ seen_of (is_multifunction b path) r.decl
             → ComesTo b (on on_path n) host.old self.old
             → MatchResult result
             (λ _. ComesTo b (on on_path (next_part b on_path n)) host.new self.new)
             (λ f. IsRefused b f host.new.state) }
-        ensures rows { IfOk result (λ _. length self.old.rows.items ≤ length self.new.rows.items) }
+        ensures rows { IfOk result (λ _.
+            length self.old.rows.items ≤ length self.new.rows.items) }
         ensures kept { host.new.apertures ≡ host.old.apertures }
     {
         let index = self.rows.len();
@@ -159,7 +165,8 @@ impl Enumeration {
             → MatchResult result
             (λ m. ComesTo b (on bus.now m) host.new self.new)
             (λ f. IsRefused b f host.new.state) }
-        ensures rows { IfOk result (λ _. length self.old.rows.items ≤ length self.new.rows.items) }
+        ensures rows { IfOk result (λ _.
+            length self.old.rows.items ≤ length self.new.rows.items) }
         ensures kept { host.new.apertures ≡ host.old.apertures }
     {
         let at = address(number, n);
@@ -187,7 +194,8 @@ impl Enumeration {
             → MatchResult result
             (λ _. ComesTo b (on bus.now 128) host.new self.new)
             (λ f. IsRefused b f host.new.state) }
-        ensures rows { IfOk result (λ _. length self.old.rows.items ≤ length self.new.rows.items) }
+        ensures rows { IfOk result (λ _.
+            length self.old.rows.items ≤ length self.new.rows.items) }
         ensures kept { host.new.apertures ≡ host.old.apertures }
     {
         let mut n = 0;
@@ -207,7 +215,8 @@ impl Enumeration {
 pub fn scan(alloc: Global, host: &mut Host) -> Result<FunctionTable, Fault>
     requires { IsAtReset host.old.state }
     ensures board { board_at host.new.state.functions ≡ board_at host.old.state.functions }
-    ensures table { let b = board_at host.new.state.functions in IfOk result (λ t. t ≡ scanned_table b) }
+    ensures table { let b = board_at host.new.state.functions in IfOk result (λ t.
+        t ≡ scanned_table b) }
     ensures registers { IfOk result (λ _. IsNumbered host.new.state) }
     ensures numbered { let b = board_at host.old.state.functions in
         IfOk result (λ _. host.new ≡ record host.old { state = numbered_state b }) }

@@ -41,9 +41,12 @@ fn byte_of(word: u32, lane: u32) -> u8
 /// Looks at a function by its Vendor ID, Device ID, header type and interrupt pin. None where no function
 /// answers, as its Vendor ID then reads FFFFh.
 pub(crate) fn look(host: &mut Host, at: Bdf) -> Option<Seen>
-    ensures none { let fs = host.old.state.functions in reached fs (bus_address_of at) ≡ None → result ≡ None }
-    ensures some { let fs = host.old.state.functions in (b : Board) (numbers : Path → BusNumbers) (f : BoardFunction)
-        → reached fs (bus_address_of at) ≡ Some f → f.file ≡ numbered_file b numbers f.path f.decl → IsLawfulDecl f.decl
+    ensures none { let fs = host.old.state.functions in
+        reached fs (bus_address_of at) ≡ None → result ≡ None }
+    ensures some { let fs = host.old.state.functions in
+        (b : Board) (numbers : Path → BusNumbers) (f : BoardFunction)
+        → reached fs (bus_address_of at) ≡ Some f →
+        f.file ≡ numbered_file b numbers f.path f.decl → IsLawfulDecl f.decl
         → result ≡ Some (seen_of (is_multifunction b f.path) f.decl) }
     ensures after { host.new ≡ with_latch 0 host.old }
 {

@@ -32,7 +32,8 @@ const PREFETCHABLE_WINDOW: u8 = 0x24;
 fn probe(host: &mut Host, at: Bdf, off: u8, enables: u8) -> u32
     requires word { off % 4 ≡ 0 }
     requires taken { TakesBack host.old.state (bus_address_of at) off (lanes enables) }
-    ensures mask { result ≡ mask_shown host.old.state.functions (bus_address_of at) off (lanes enables) }
+    ensures mask { result
+        ≡ mask_shown host.old.state.functions (bus_address_of at) off (lanes enables) }
     ensures host { host.new ≡ host.old }
 {
     let before = host.config_read(at, off, enables);
@@ -45,7 +46,8 @@ fn probe(host: &mut Host, at: Bdf, off: u8, enables: u8) -> u32
 /// The region whose registers read `low` and `high` after all ones.
 fn region_shown(low: u32, high: u32) -> Option<BarDecl>
     ensures shown { IfSome result (λ b. IsLawfulSize b.kind b.size × ShowsSize b low high) }
-    ensures found { (b : Bar) → IsLawfulSize b.kind b.size → ShowsSize b low high → result ≡ Some b }
+    ensures found { (b : Bar) → IsLawfulSize b.kind b.size → ShowsSize b low high →
+        result ≡ Some b }
 {
     let (kind, size) = size_of_mask(low, high)?;
     Some(BarDecl::new(kind, size).unwrap())
@@ -58,7 +60,8 @@ fn size_bar(host: &mut Host, at: Bdf, reg: u8) -> Option<BarDecl>
     requires registers { IsNumbered host.old.state }
     requires endpoint { IsEndpointReached host.old.state.functions (bus_address_of at) }
     requires begins { IsFalse (is_upper_half reg (regions_reached host.old.state.functions (bus_address_of at))) }
-    ensures bar { result ≡ bar_at reg (regions_reached host.old.state.functions (bus_address_of at)) }
+    ensures bar { result
+        ≡ bar_at reg (regions_reached host.old.state.functions (bus_address_of at)) }
     ensures host { host.new ≡ host.old }
 {
     let off = BASES + 4 * reg;
@@ -90,7 +93,8 @@ fn is_upper_half(bars: &[Option<BarDecl>; 6], reg: u8) -> bool
 fn size_bars(host: &mut Host, at: Bdf) -> [Option<BarDecl>; 6]
     requires registers { IsNumbered host.old.state }
     requires endpoint { IsEndpointReached host.old.state.functions (bus_address_of at) }
-    ensures bars { result ≡ bars_of (regions_reached host.old.state.functions (bus_address_of at)) }
+    ensures bars { result
+        ≡ bars_of (regions_reached host.old.state.functions (bus_address_of at)) }
     ensures host { host.new ≡ host.old }
 {
     let mut bars = [None; 6];
@@ -109,7 +113,8 @@ fn size_bars(host: &mut Host, at: Bdf) -> [Option<BarDecl>; 6]
 fn size_io_window(host: &mut Host, at: Bdf) -> IoDecode
     requires registers { IsNumbered host.old.state }
     requires bridge { IsBridgeReached host.old.state.functions (bus_address_of at) }
-    ensures decode { io_decode_of result ≡ io_reached host.old.state.functions (bus_address_of at) }
+    ensures decode { io_decode_of result
+        ≡ io_reached host.old.state.functions (bus_address_of at) }
     ensures host { host.new ≡ host.old }
 {
     let mask = probe(host, at, IO_WINDOW, 0b0011);
@@ -126,7 +131,8 @@ fn size_io_window(host: &mut Host, at: Bdf) -> IoDecode
 fn size_pref_window(host: &mut Host, at: Bdf) -> PrefDecode
     requires registers { IsNumbered host.old.state }
     requires bridge { IsBridgeReached host.old.state.functions (bus_address_of at) }
-    ensures decode { pref_decode_of result ≡ pref_reached host.old.state.functions (bus_address_of at) }
+    ensures decode { pref_decode_of result
+        ≡ pref_reached host.old.state.functions (bus_address_of at) }
     ensures host { host.new ≡ host.old }
 {
     let mask = probe(host, at, PREFETCHABLE_WINDOW, 0b1111);

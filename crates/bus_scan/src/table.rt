@@ -58,7 +58,8 @@ impl FunctionRow {
 
     /// The number that the function is reached by.
     pub fn address(&self) -> Bdf
-        ensures { bus_address_of result ≡ record { bus = self.now.bus; part = last_part self.now.path } }
+        ensures { bus_address_of result
+            ≡ record { bus = self.now.bus; part = last_part self.now.path } }
     {
         let part = self.path.last();
         Bdf {

@@ -1,6 +1,7 @@
 //! The open regions of a board in one space, in the order of their addresses.
 ghost use Rattle.std.specs.Prelude.{◌≡◌, ◌++◌, map, IfOk, OnOk};
 ghost use Rattle.std.specs.List.Sorted.{IsPermutation, IsNonDecreasingBy};
+ghost use Rattle.lists.specs.Texts.{Adds};
 ghost use Rattle.bars.specs.Kinds.{named_space};
 ghost use Rattle.model_registers.specs.Decoding.{opens_space};
 ghost use Rattle.bridge_forward.specs.RoutingRows.{base_of};
@@ -27,7 +28,8 @@ fn add_regions(
     regions: &[RoutingRegion],
 ) -> Result<(), AllocError>
     ensures { OnOk result (entries.new.items
-        ≡ entries.old.items ++ map (entry_for function) (of_space (named_space space) (map base_of regions.now))) }
+        ≡ entries.old.items
+        ++ map (entry_for function) (of_space (named_space space) (map base_of regions.now))) }
 {
     for region in regions {
         if region.kind.space() == space {
@@ -49,7 +51,8 @@ fn add_open(
     function: usize,
     row: &RoutingRow,
 ) -> Result<(), AllocError>
-    ensures { OnOk result (entries.new.items ≡ entries.old.items ++ open_at (named_space space) function row.now) }
+    ensures { OnOk result (entries.new.items
+        ≡ entries.old.items ++ open_at (named_space space) function row.now) }
 {
     match &row.ranges {
         Ranges::Regions(regions) => {
@@ -84,7 +87,8 @@ pub(crate) fn open_by_address(
     space: Space,
     rows: &[RoutingRow],
 ) -> Result<Vec<RegionEntry>, AllocError>
-    ensures all { IfOk result (λ v. IsPermutation (open_entries (named_space space) 0 rows.now) v.items) }
+    ensures all { IfOk result (λ v.
+        IsPermutation (open_entries (named_space space) 0 rows.now) v.items) }
     ensures rising { IfOk result (λ v. IsNonDecreasingBy (λ (e : EntryValue). e.first) v.items) }
 {
     let mut entries = all_open(alloc, space, rows)?;

@@ -29,7 +29,8 @@ impl Model for Table {
 
     ghost view = { λ t. table_of t.paths.items t.ports.items t.memory.items };
 
-    ghost invariant = { λ t. AreEntries t.paths.items t.ports.items × AreEntries t.paths.items t.memory.items };
+    ghost invariant = { λ t. AreEntries t.paths.items t.ports.items
+        × AreEntries t.paths.items t.memory.items };
 }
 
 /// The paths of all rows.
@@ -51,7 +52,8 @@ impl Table {
         requires board { IsStateOfBoard host.now.state.functions }
         requires order { IsOrderly (routing host.now.state.functions) }
         ensures { IfOk result (λ t.
-            (h : HostState) → routing h.state.functions ≡ routing host.now.state.functions → FitsTable t h) }
+            (h : HostState) → routing h.state.functions ≡ routing host.now.state.functions →
+            FitsTable t h) }
     {
         let rows = host.routing(alloc)?;
         Ok(Table {
@@ -66,7 +68,8 @@ impl Table {
     #[tactic(auto, using(crate::proofs::Readies::ready_state))]
     pub fn build(alloc: Global, ready: &Ready) -> Result<Table, AllocError>
         ensures { IfOk result (λ t.
-            (h : HostState) → routing h.state.functions ≡ routing ready.now.host.state.functions → FitsTable t h) }
+            (h : HostState) → routing h.state.functions ≡ routing ready.now.host.state.functions
+            → FitsTable t h) }
     {
         Table::of_open_regions(alloc, ready.host())
     }

@@ -44,7 +44,8 @@ pub enum WordsFault {
 
 /// The answer to words that the command line refuses.
 fn refusal<'a>(alloc: Global, error: &Error) -> Result<Choice<'a>, WordsFault>
-    ensures memory { kind_of error.now ≡ ErrorKind.OutOfMemory → result ≡ Err WordsFault.Memory }
+    ensures memory { kind_of error.now ≡ ErrorKind.OutOfMemory →
+        result ≡ Err WordsFault.Memory }
     ensures help { IfOk result IsHelp }
 {
     match error.kind() {
@@ -102,7 +103,8 @@ pub fn choose<'a>(
     is_terminal: bool,
 ) -> Result<Choice<'a>, WordsFault>
     ensures asked { IfOk result (IsAsked (map (λ w. w.now) words.entry.now) is_terminal) }
-    ensures only_taken { IfOk result (λ c. IsWork c → fault_of pciguest_app (map (λ w. w.now) words.entry.now) ≡ []) }
+    ensures only_taken { IfOk result (λ c.
+        IsWork c → fault_of pciguest_app (map (λ w. w.now) words.entry.now) ≡ []) }
 
     // Words that the command line takes are refused where memory is out, and nowhere else.
     ensures taken { is_taken (map (λ w. w.now) words.entry.now) ≡ true

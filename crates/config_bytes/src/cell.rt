@@ -46,7 +46,8 @@ impl Cell {
     /// a bit in both masks.
     pub fn new(value: u8, rw: u8, w1c: u8) -> Result<Cell, CellFault>
         ensures taken { IsOk result ↔ (bit_and rw w1c ≡ 0) }
-        ensures cell { IfOk result (λ c. c ≡ record { value = value; writable = rw; clearable = w1c }) }
+        ensures cell { IfOk result (λ c.
+            c ≡ record { value = value; writable = rw; clearable = w1c }) }
     {
         if rw & w1c != 0 {
             return Err(CellFault);

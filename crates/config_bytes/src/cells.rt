@@ -111,7 +111,8 @@ impl Cells {
     /// a cell for each offset up to the highest.
     pub fn new(alloc: Global, cells: &[(u16, Cell)]) -> Result<Cells, AllocError>
         requires { HasDistinctOffsets cells.now }
-        ensures cells { IfOk result (λ f. f ≡ record { now = file_of cells.now; initial = file_of cells.now }) }
+        ensures cells { IfOk result (λ f.
+            f ≡ record { now = file_of cells.now; initial = file_of cells.now }) }
         ensures places { IfOk result (λ f. IsConfigFile f.now) }
         ensures kept { IfOk result KeepsPlaces }
     {
@@ -123,7 +124,8 @@ impl Cells {
 
     /// The byte at an offset, where it is enabled, else 0.
     fn byte_at(&self, off: u16, enabled: bool) -> u8
-        ensures byte { result ≡ (if enabled then (cell_at self.now.now (config off)).value else 0) }
+        ensures byte { result
+            ≡ (if enabled then (cell_at self.now.now (config off)).value else 0) }
         ensures places { IsConfigFile self.now.now }
         ensures kept { KeepsPlaces self.now }
     {
@@ -187,7 +189,8 @@ impl Cells {
     #[inline(always)]
     pub fn write(&mut self, off: u16, enables: u8, data: u32)
         requires { off % 4 ≡ 0 }
-        ensures cells { self.new ≡ record self.old { now = write (lanes enables) «data» (config off) self.old.now } }
+        ensures cells { self.new
+            ≡ record self.old { now = write (lanes enables) «data» (config off) self.old.now } }
         ensures places { IsConfigFile self.new.now }
         ensures kept { KeepsPlaces self.new }
     {
@@ -203,7 +206,8 @@ impl Cells {
     /// Raises the bits of `mask` that writing a one clears, in the cell at `off`. All other cells
     /// stay.
     pub fn raise(&mut self, off: u16, mask: u8)
-        ensures cells { self.new ≡ record self.old { now = raise mask (config off) self.old.now } }
+        ensures cells { self.new
+            ≡ record self.old { now = raise mask (config off) self.old.now } }
         ensures places { IsConfigFile self.new.now }
         ensures kept { KeepsPlaces self.new }
     {
@@ -223,7 +227,8 @@ impl Cells {
     /// Puts a value into the cell at `off`, whatever its masks, which stay. All other cells stay, and
     /// where none stands nothing changes. A gap of the table looks like a cell, so the offsets are asked.
     pub fn set(&mut self, off: u16, value: u8)
-        ensures cells { self.new ≡ record self.old { now = set_value value (config off) self.old.now } }
+        ensures cells { self.new
+            ≡ record self.old { now = set_value value (config off) self.old.now } }
         ensures places { IsConfigFile self.new.now }
         ensures kept { KeepsPlaces self.new }
     {
@@ -246,7 +251,8 @@ impl Cells {
     /// Goes back to the cells that `new` was given, but for those at the offsets from `first` to `last`,
     /// both included, which stay.
     pub fn reset_outside(&mut self, first: u16, last: u16)
-        ensures cells { self.new ≡ record self.old { now = reset_outside first last self.old.initial self.old.now } }
+        ensures cells { self.new
+            ≡ record self.old { now = reset_outside first last self.old.initial self.old.now } }
         ensures places { IsConfigFile self.new.now }
         ensures kept { KeepsPlaces self.new }
     {

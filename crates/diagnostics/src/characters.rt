@@ -1,6 +1,7 @@
 //! Bytes as they are shown: a column for each character.
 ghost use Rattle.std.specs.Prelude.{◌≡◌, ◌<◌, ◌++◌, ◌∷◌, [], OnOk, drop, map, string_bytes};
 ghost use Rattle.std.specs.List.{flat_map};
+ghost use Rattle.lists.specs.Texts.{Adds};
 ghost use Rattle.diagnostics.specs.Characters.{is_shown, is_later, shown_byte, character, characters, blank, mark, marks};
 
 use std::alloc::AllocError;
@@ -33,7 +34,7 @@ fn shown_byte(byte: u8) -> char
 
 /// Appends the character that begins at a byte, if one does.
 fn push_character(text: &mut String, byte: u8) -> Result<(), AllocError>
-    ensures { OnOk result (string_bytes text.new ≡ string_bytes text.old ++ character byte) }
+    ensures { OnOk result (Adds text.old text.new (character byte)) }
 {
     if is_later(byte) {
         return Ok(());
@@ -43,7 +44,7 @@ fn push_character(text: &mut String, byte: u8) -> Result<(), AllocError>
 
 /// Appends the characters of some bytes.
 pub(crate) fn push_characters(text: &mut String, bytes: &[u8]) -> Result<(), AllocError>
-    ensures { OnOk result (string_bytes text.new ≡ string_bytes text.old ++ characters bytes.now) }
+    ensures { OnOk result (Adds text.old text.new (characters bytes.now)) }
 {
     'bytes: for byte in bytes {
         push_character(text, *byte)?;
@@ -68,7 +69,7 @@ fn push_blank(text: &mut String, byte: u8) -> Result<(), AllocError>
 
 /// Appends a blank for each byte of what is shown.
 pub(crate) fn push_blanks(text: &mut String, shown: &[u8]) -> Result<(), AllocError>
-    ensures { OnOk result (string_bytes text.new ≡ string_bytes text.old ++ map blank shown.now) }
+    ensures { OnOk result (Adds text.old text.new (map blank shown.now)) }
 {
     'bytes: for byte in shown {
         push_blank(text, *byte)?;
@@ -78,7 +79,7 @@ pub(crate) fn push_blanks(text: &mut String, shown: &[u8]) -> Result<(), AllocEr
 
 /// Appends a mark below the character that begins at a byte, if one does.
 fn push_mark(text: &mut String, byte: u8) -> Result<(), AllocError>
-    ensures { OnOk result (string_bytes text.new ≡ string_bytes text.old ++ mark byte) }
+    ensures { OnOk result (Adds text.old text.new (mark byte)) }
 {
     if is_later(byte) {
         return Ok(());
@@ -88,7 +89,7 @@ fn push_mark(text: &mut String, byte: u8) -> Result<(), AllocError>
 
 /// Appends a mark below each character of some bytes.
 fn push_each_mark(text: &mut String, bytes: &[u8]) -> Result<(), AllocError>
-    ensures { OnOk result (string_bytes text.new ≡ string_bytes text.old ++ flat_map mark bytes.now) }
+    ensures { OnOk result (Adds text.old text.new (flat_map mark bytes.now)) }
 {
     'bytes: for byte in bytes {
         push_mark(text, *byte)?;
@@ -108,7 +109,7 @@ fn without_first(bytes: &[u8]) -> &[u8]
 
 /// Appends a mark below each character, and at least one.
 pub(crate) fn push_marks(text: &mut String, bytes: &[u8]) -> Result<(), AllocError>
-    ensures { OnOk result (string_bytes text.new ≡ string_bytes text.old ++ marks bytes.now) }
+    ensures { OnOk result (Adds text.old text.new (marks bytes.now)) }
 {
     text.push_str("^")?;
     push_each_mark(text, without_first(bytes))

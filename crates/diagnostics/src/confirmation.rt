@@ -34,8 +34,10 @@ pub struct Places<'a> {
     places: Vec<Extent>,
     /// The document with its mark in each place, if it has one shape with the document.
     marked: Option<Marked>,
-    ghost confirmed: { ForSome marked (λ m. IsMarked text.now (table_view document.now) places.items
-        × ∥ parse_document (with_marks text.now 0 places.items) ≡ Some (table_view m.table) ∥₁
+    ghost confirmed: { ForSome marked (λ m.
+        IsMarked text.now (table_view document.now) places.items
+        × ∥ parse_document (with_marks text.now 0 places.items)
+        ≡ Some (table_view m.table) ∥₁
         × m.lines.items ≡ map (first_line text.now) places.items) },
 }
 
@@ -46,7 +48,8 @@ fn marked_document(
     document: &Table,
     places: &[Extent],
 ) -> Result<Option<Marked>, AllocError>
-    ensures { IfOk result (λ found. IfSome found (λ m. IsMarked text.now (table_view document.now) places.now
+    ensures { IfOk result (λ found.
+        IfSome found (λ m. IsMarked text.now (table_view document.now) places.now
         × (parse_document (with_marks text.now 0 places.now) ≡ Some (table_view m.table))
         × (m.lines.items ≡ map (first_line text.now) places.now))) }
 {
@@ -68,7 +71,8 @@ fn marked_document(
 fn line_and_end(places: &[Extent], lines: &[usize], start: usize) -> Option<(usize, usize)>
     requires { length lines.now ≡ length places.now }
     ensures line { IfSome result (λ p.
-        (text : List ℕ) → lines.now ≡ map (first_line text) places.now → p.0 ≡ line_of start text) }
+        (text : List ℕ) → lines.now ≡ map (first_line text) places.now →
+        p.0 ≡ line_of start text) }
     ensures stands { IfSome result (λ p. Stands places.now start p.1) }
 {
     match places.binary_search_by_key(&start, |place| place.start) {

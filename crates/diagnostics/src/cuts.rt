@@ -1,5 +1,6 @@
 //! Parts of a line that are short enough to be shown.
-ghost use Rattle.std.specs.Prelude.{◌≡◌, ◌++◌, OnOk, string_bytes};
+ghost use Rattle.std.specs.Prelude.{OnOk};
+ghost use Rattle.lists.specs.Texts.{Adds};
 ghost use Rattle.diagnostics.specs.Excerpts.{cut_front, cut_back};
 
 use crate::characters::push_characters;
@@ -11,7 +12,7 @@ pub(crate) const MOST: usize = 60;
 
 /// Appends the last bytes of what stands before a place.
 pub(crate) fn push_front(text: &mut String, before: &[u8]) -> Result<(), AllocError>
-    ensures { OnOk result (string_bytes text.new ≡ string_bytes text.old ++ cut_front before.now) }
+    ensures { OnOk result (Adds text.old text.new (cut_front before.now)) }
 {
     if before.len() <= MOST {
         return push_characters(text, before);
@@ -22,7 +23,7 @@ pub(crate) fn push_front(text: &mut String, before: &[u8]) -> Result<(), AllocEr
 
 /// Appends the first bytes of what stands from a place on.
 pub(crate) fn push_back(text: &mut String, after: &[u8]) -> Result<(), AllocError>
-    ensures { OnOk result (string_bytes text.new ≡ string_bytes text.old ++ cut_back after.now) }
+    ensures { OnOk result (Adds text.old text.new (cut_back after.now)) }
 {
     if after.len() <= MOST {
         return push_characters(text, after);

@@ -1,5 +1,6 @@
 //! A line with its number, and a mark below a part of it.
-ghost use Rattle.std.specs.Prelude.{◌≡◌, ◌++◌, ◌-◌, OnOk, decimal, map, string_bytes};
+ghost use Rattle.std.specs.Prelude.{◌≡◌, ◌-◌, OnOk, decimal, map};
+ghost use Rattle.lists.specs.Texts.{Adds};
 ghost use Rattle.diagnostics.specs.Characters.{blank};
 ghost use Rattle.diagnostics.specs.Excerpts.{cut_front, marked_part, line_row, mark_row, excerpt};
 
@@ -19,7 +20,7 @@ fn marked_part(text: &[u8], place: Place) -> &[u8]
 
 /// Appends blanks in place of a number.
 fn push_no_number(alloc: Global, shown: &mut String, number: usize) -> Result<(), AllocError>
-    ensures { OnOk result (string_bytes shown.new ≡ string_bytes shown.old ++ map blank (decimal number)) }
+    ensures { OnOk result (Adds shown.old shown.new (map blank (decimal number))) }
 {
     let mut digits = String::new(alloc);
     write!(&mut digits, "{number}")?;
@@ -28,7 +29,7 @@ fn push_no_number(alloc: Global, shown: &mut String, number: usize) -> Result<()
 
 /// Appends blanks in place of what stands before a place.
 fn push_no_front(alloc: Global, shown: &mut String, before: &[u8]) -> Result<(), AllocError>
-    ensures { OnOk result (string_bytes shown.new ≡ string_bytes shown.old ++ map blank (cut_front before.now)) }
+    ensures { OnOk result (Adds shown.old shown.new (map blank (cut_front before.now))) }
 {
     let mut front = String::new(alloc);
     push_front(&mut front, before)?;
@@ -37,7 +38,7 @@ fn push_no_front(alloc: Global, shown: &mut String, before: &[u8]) -> Result<(),
 
 /// Appends the line in which a place begins, after its number.
 pub fn push_line(shown: &mut String, text: &[u8], place: Place) -> Result<(), AllocError>
-    ensures { OnOk result (string_bytes shown.new ≡ string_bytes shown.old ++ line_row text.now place) }
+    ensures { OnOk result (Adds shown.old shown.new (line_row text.now place)) }
 {
     let line = place.line;
     write!(shown, " {line} | ")?;
@@ -53,7 +54,7 @@ fn push_mark_row(
     text: &[u8],
     place: Place,
 ) -> Result<(), AllocError>
-    ensures { OnOk result (string_bytes shown.new ≡ string_bytes shown.old ++ mark_row text.now place) }
+    ensures { OnOk result (Adds shown.old shown.new (mark_row text.now place)) }
 {
     shown.push_str(" ")?;
     push_no_number(alloc, shown, place.line)?;
@@ -71,7 +72,7 @@ pub fn push_excerpt(
     text: &[u8],
     place: Place,
 ) -> Result<(), AllocError>
-    ensures { OnOk result (string_bytes shown.new ≡ string_bytes shown.old ++ excerpt text.now place) }
+    ensures { OnOk result (Adds shown.old shown.new (excerpt text.now place)) }
 {
     push_line(shown, text, place)?;
     push_mark_row(alloc, shown, text, place)

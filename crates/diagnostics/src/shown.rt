@@ -1,5 +1,6 @@
 //! How bytes, entries and lines are shown.
 ghost use Rattle.std.specs.Prelude.{◌≡◌, ◌<◌, ◌++◌, ◌∷◌, [], OnOk, map, string_bytes};
+ghost use Rattle.lists.specs.Texts.{Adds};
 ghost use Rattle.diagnostics.specs.Shown.{nth_text, inner_text, entry_text, shown_byte, in_line_text};
 
 use board_file::Entry;
@@ -19,14 +20,15 @@ fn shown_byte(byte: u8) -> char
 
 /// Appends a byte as it is shown.
 fn push_byte(text: &mut String, byte: u8) -> Result<(), AllocError>
-    ensures { OnOk result (string_bytes text.new ≡ string_bytes text.old ++ shown_byte byte ∷ []) }
+    ensures { OnOk result (string_bytes text.new
+        ≡ string_bytes text.old ++ shown_byte byte ∷ []) }
 {
     text.push(shown_byte(byte))
 }
 
 /// Appends the bytes as they are shown.
 pub fn push_shown(text: &mut String, bytes: &[u8]) -> Result<(), AllocError>
-    ensures { OnOk result (string_bytes text.new ≡ string_bytes text.old ++ map shown_byte bytes.now) }
+    ensures { OnOk result (Adds text.old text.new (map shown_byte bytes.now)) }
 {
     'bytes: for byte in bytes {
         push_byte(text, *byte)?;
@@ -36,7 +38,7 @@ pub fn push_shown(text: &mut String, bytes: &[u8]) -> Result<(), AllocError>
 
 /// Appends an item of a list.
 fn push_nth(text: &mut String, list: &str, index: usize) -> Result<(), AllocError>
-    ensures { OnOk result (string_bytes text.new ≡ string_bytes text.old ++ nth_text list.now index) }
+    ensures { OnOk result (Adds text.old text.new (nth_text list.now index)) }
 {
     write!(text, "{list}[{index}]")
 }
@@ -49,14 +51,14 @@ fn push_inner(
     inner: &str,
     j: usize,
 ) -> Result<(), AllocError>
-    ensures { OnOk result (string_bytes text.new ≡ string_bytes text.old ++ inner_text outer.now i inner.now j) }
+    ensures { OnOk result (Adds text.old text.new (inner_text outer.now i inner.now j)) }
 {
     write!(text, "{outer}[{i}].{inner}[{j}]")
 }
 
 /// Appends where an entry stands.
 pub(crate) fn push_entry(text: &mut String, entry: Entry) -> Result<(), AllocError>
-    ensures { OnOk result (string_bytes text.new ≡ string_bytes text.old ++ entry_text entry) }
+    ensures { OnOk result (Adds text.old text.new (entry_text entry)) }
 {
     match entry {
         Entry::File => text.push_str("file"),
@@ -72,7 +74,7 @@ pub(crate) fn push_entry(text: &mut String, entry: Entry) -> Result<(), AllocErr
 
 /// Appends the line of what is told beside a problem, where it is known.
 pub(crate) fn push_in_line(text: &mut String, line: Option<usize>) -> Result<(), AllocError>
-    ensures { OnOk result (string_bytes text.new ≡ string_bytes text.old ++ in_line_text line) }
+    ensures { OnOk result (Adds text.old text.new (in_line_text line)) }
 {
     match line {
         Some(line) => write!(text, " in line {line}"),

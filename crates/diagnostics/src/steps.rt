@@ -49,7 +49,8 @@ pub(crate) fn member<'v>(key: &str, table: &'v Table) -> Option<&'v Value>
 /// The value at the end of a way of one step or more.
 pub(crate) fn value_at<'v>(way: &[Step<'_>], document: &'v Table) -> Option<&'v Value>
     requires { 0 < length way.now }
-    ensures { option_map (λ v. view v.now) result ≡ value_at way.now (table (table_view document.now)) }
+    ensures { option_map (λ v. view v.now) result
+        ≡ value_at way.now (table (table_view document.now)) }
 {
     match way {
         [Step::Key(key), rest @ ..] => match member(*key, document) {

@@ -1,5 +1,6 @@
 //! What is said of entries.
-ghost use Rattle.std.specs.Prelude.{◌≡◌, ◌++◌, OnOk, option_map, string_bytes};
+ghost use Rattle.std.specs.Prelude.{◌≡◌, OnOk, option_map};
+ghost use Rattle.lists.specs.Texts.{Adds};
 ghost use Rattle.toml.specs.View.{view, table_view};
 ghost use Rattle.diagnostics.specs.Texts.{key_text, line_text, quoted_text, data_text, scalar_text, name_text, is_own_name, place_text, shown_text, below_text, named_text, other_text};
 
@@ -15,7 +16,7 @@ use toml::value::Value;
 
 /// Appends a key, where there is one.
 fn push_key(text: &mut String, key: &str) -> Result<(), AllocError>
-    ensures { OnOk result (string_bytes text.new ≡ string_bytes text.old ++ key_text key.now) }
+    ensures { OnOk result (Adds text.old text.new (key_text key.now)) }
 {
     let bytes = key.as_bytes();
     if bytes.len() == 0 {
@@ -27,7 +28,7 @@ fn push_key(text: &mut String, key: &str) -> Result<(), AllocError>
 
 /// Appends a line's number, where it is known.
 pub fn push_line_number(text: &mut String, line: Option<usize>) -> Result<(), AllocError>
-    ensures { OnOk result (string_bytes text.new ≡ string_bytes text.old ++ line_text line) }
+    ensures { OnOk result (Adds text.old text.new (line_text line)) }
 {
     match line {
         Some(line) => write!(text, ":{line}"),
@@ -37,7 +38,7 @@ pub fn push_line_number(text: &mut String, line: Option<usize>) -> Result<(), Al
 
 /// Appends a text as it is shown, in quotation marks.
 fn push_quoted(text: &mut String, quoted: &str) -> Result<(), AllocError>
-    ensures { OnOk result (string_bytes text.new ≡ string_bytes text.old ++ quoted_text quoted.now) }
+    ensures { OnOk result (Adds text.old text.new (quoted_text quoted.now)) }
 {
     text.push('"')?;
     push_shown(text, quoted.as_bytes())?;
@@ -46,7 +47,7 @@ fn push_quoted(text: &mut String, quoted: &str) -> Result<(), AllocError>
 
 /// Appends an integer or a text, as it was read. Of other values nothing is shown.
 fn push_data(text: &mut String, value: &Value) -> Result<(), AllocError>
-    ensures { OnOk result (string_bytes text.new ≡ string_bytes text.old ++ data_text (view value.now)) }
+    ensures { OnOk result (Adds text.old text.new (data_text (view value.now))) }
 {
     match value {
         Value::Integer(number) => write!(text, " = {number}"),
@@ -60,8 +61,8 @@ fn push_data(text: &mut String, value: &Value) -> Result<(), AllocError>
 
 /// Appends a value, where there is one.
 fn push_scalar(text: &mut String, value: Option<&Value>) -> Result<(), AllocError>
-    ensures { OnOk result (string_bytes text.new
-        ≡ string_bytes text.old ++ scalar_text (option_map (λ v. view v.now) value.entry)) }
+    ensures { OnOk result (Adds text.old text.new
+        (scalar_text (option_map (λ v. view v.now) value.entry))) }
 {
     match value {
         Some(value) => push_data(text, value),
@@ -71,8 +72,8 @@ fn push_scalar(text: &mut String, value: Option<&Value>) -> Result<(), AllocErro
 
 /// Appends the path or name of what an entry belongs to, where there is one.
 fn push_name(text: &mut String, name: Option<&str>) -> Result<(), AllocError>
-    ensures { OnOk result (string_bytes text.new
-        ≡ string_bytes text.old ++ name_text (option_map (λ s. s.now) name.entry)) }
+    ensures { OnOk result (Adds text.old text.new
+        (name_text (option_map (λ s. s.now) name.entry))) }
 {
     match name {
         Some(name) => {
@@ -98,8 +99,8 @@ pub fn push_place(
     entry: Entry,
     key: &str,
 ) -> Result<(), AllocError>
-    ensures { OnOk result (string_bytes text.new
-        ≡ string_bytes text.old ++ place_text (table_view document.now) entry key.now) }
+    ensures { OnOk result (Adds text.old text.new
+        (place_text (table_view document.now) entry key.now)) }
 {
     push_entry(text, entry)?;
     push_key(text, key)?;
@@ -118,8 +119,7 @@ pub fn push_shown_line(
     has_value: bool,
     place: Option<Place>,
 ) -> Result<(), AllocError>
-    ensures { OnOk result (string_bytes text.new
-        ≡ string_bytes text.old ++ shown_text bytes.now has_value place) }
+    ensures { OnOk result (Adds text.old text.new (shown_text bytes.now has_value place)) }
 {
     match place {
         Some(place) => {
@@ -144,8 +144,8 @@ pub fn push_below(
     key: &str,
     place: Option<Place>,
 ) -> Result<(), AllocError>
-    ensures { OnOk result (string_bytes text.new
-        ≡ string_bytes text.old ++ below_text (table_view document.now) bytes.now entry key.now place) }
+    ensures { OnOk result (Adds text.old text.new
+        (below_text (table_view document.now) bytes.now entry key.now place)) }
 {
     let has_value = value_at(document, entry, key).is_some();
     push_shown_line(alloc, text, bytes, has_value, place)
@@ -153,7 +153,7 @@ pub fn push_below(
 
 /// Appends an entry with its line, where that is known.
 pub fn push_named(text: &mut String, other: Other) -> Result<(), AllocError>
-    ensures { OnOk result (string_bytes text.new ≡ string_bytes text.old ++ named_text other) }
+    ensures { OnOk result (Adds text.old text.new (named_text other)) }
 {
     push_entry(text, other.entry)?;
     push_in_line(text, line_at(other.place))
@@ -161,7 +161,7 @@ pub fn push_named(text: &mut String, other: Other) -> Result<(), AllocError>
 
 /// Appends another entry with its line, after a colon.
 pub fn push_other(text: &mut String, other: Option<Other>) -> Result<(), AllocError>
-    ensures { OnOk result (string_bytes text.new ≡ string_bytes text.old ++ other_text other) }
+    ensures { OnOk result (Adds text.old text.new (other_text other)) }
 {
     match other {
         Some(other) => {

@@ -55,7 +55,8 @@ impl VirtualFunction {
         requires { HasLawfulRegions (map opened (at_reset decls)) }
         ensures copies { result ≡ record { command = 0; bases = at_reset decls } }
         ensures reset { (d : Endpoint) → Each (λ b. 0x40 ≤ b.offset) d.blocks
-            → map closed d.regions ≡ at_reset decls → HoldsOwn (endpoint_reset d false) result }
+            → map closed d.regions ≡ at_reset decls →
+            HoldsOwn (endpoint_reset d false) result }
     {
         VirtualFunction {
             command: 0,
@@ -72,7 +73,8 @@ impl VirtualFunction {
         ensures others { lanes result.1 ≡ handed_on (config off) (lanes enables) }
         ensures four { result.1 < 16 }
         ensures together { (file : File) → HoldsOwn file self.now
-            → read file (config off) (lanes enables) ≡ result.0 + read file (config off) (lanes result.1) }
+            → read file (config off) (lanes enables)
+            ≡ result.0 + read file (config off) (lanes result.1) }
     {
         let word = Word::at(off);
         let own = match word {
@@ -88,7 +90,8 @@ impl VirtualFunction {
     pub fn config_write(&mut self, off: u16, enables: u8, value: u32) -> u8
         requires aligned { off % 4 ≡ 0 }
         requires in_range { off < 256 }
-        ensures own { own_file self.new ≡ write (lanes enables) value (config off) (own_file self.old) }
+        ensures own { own_file self.new
+            ≡ write (lanes enables) value (config off) (own_file self.old) }
         ensures regions { map opened self.new.bases ≡ map opened self.old.bases }
         ensures others { lanes result ≡ handed_on (config off) (lanes enables) }
         ensures four { result < 16 }
@@ -109,7 +112,8 @@ impl VirtualFunction {
     /// The least register whose region decodes an address by the guest's own Command and bases, and the
     /// offset in the region.
     pub fn decode(&self, space: Space, addr: u64) -> Option<(u8, u64)>
-        ensures { (f : Function) → HoldsOwn f.file self.now → map bare f.decl.regions ≡ map opened self.now.bases
+        ensures { (f : Function) → HoldsOwn f.file self.now →
+            map bare f.decl.regions ≡ map opened self.now.bases
             → named_hit result ≡ lone_claim f (named_space space) addr }
     {
         self.bars.decode(space, addr, self.command)
@@ -117,10 +121,12 @@ impl VirtualFunction {
 
     /// Sets all own copies back to what they are at reset.
     pub fn reset(&mut self)
-        ensures copies { self.new ≡ record { command = 0; bases = map with_no_base self.old.bases } }
+        ensures copies { self.new
+            ≡ record { command = 0; bases = map with_no_base self.old.bases } }
         ensures regions { map opened self.new.bases ≡ map opened self.old.bases }
         ensures reset { (d : Endpoint) → Each (λ b. 0x40 ≤ b.offset) d.blocks
-            → map bare d.regions ≡ map opened self.old.bases → HoldsOwn (endpoint_reset d false) self.new }
+            → map bare d.regions ≡ map opened self.old.bases →
+            HoldsOwn (endpoint_reset d false) self.new }
     {
         self.command = 0;
         self.bars.reset();

@@ -107,7 +107,8 @@ impl Apertures {
         pref: Option<Aperture>,
     ) -> Result<Apertures, ApertureFault>
         ensures taken { is_ok result ≡ are_lawful (record { io = io; mem = mem; pref = pref }) }
-        ensures lawful { IsOk result ↔ IsLawfulApertures (record { io = io; mem = mem; pref = pref }) }
+        ensures lawful { IsOk result
+            ↔ IsLawfulApertures (record { io = io; mem = mem; pref = pref }) }
         ensures apertures { IfOk result (λ a. a ≡ record { io = io; mem = mem; pref = pref }) }
     {
         if !io.is_io() || !mem.is_mem() || !has_lawful_pref(&mem, &pref) {

@@ -48,7 +48,8 @@ fn push_header(
 
 /// Appends the cells of the memory window.
 fn push_mem_window(cells: &mut Vec<(u16, Cell)>) -> Result<(), AllocError>
-    ensures { OnOk result (file_of cells.new.items ≡ file_of cells.old.items ++ mem_cells no_window) }
+    ensures { OnOk result (file_of cells.new.items
+        ≡ file_of cells.old.items ++ mem_cells no_window) }
 {
     push_rows(
         cells,

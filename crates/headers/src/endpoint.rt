@@ -20,7 +20,8 @@ pub struct Endpoint;
 /// Appends the cells of the device's own registers.
 fn push_blocks(cells: &mut Vec<(u16, Cell)>, blocks: &[ConfigBlock]) -> Result<(), AllocError>
     requires { Each IsConfigBlock blocks.now }
-    ensures { OnOk result (file_of cells.new.items ≡ file_of cells.old.items ++ flat_map block_cells blocks.now) }
+    ensures { OnOk result (file_of cells.new.items
+        ≡ file_of cells.old.items ++ flat_map block_cells blocks.now) }
 {
     let mut left = blocks;
     while let Some((first, rest)) = left.split_first() {
@@ -36,7 +37,8 @@ fn push_header(
     decl: &EndpointDecl,
     multifunction: bool,
 ) -> Result<(), AllocError>
-    ensures { OnOk result (file_of cells.new.items ≡ file_of cells.old.items ++ header_cells decl.now multifunction 0) }
+    ensures { OnOk result (file_of cells.new.items
+        ≡ file_of cells.old.items ++ header_cells decl.now multifunction 0) }
 {
     let values = decl.values();
     push_rows(

@@ -139,7 +139,8 @@ impl EndpointDecl {
     /// The declaration with these values, or the first rule that they break, in the order 104, 106,
     /// 107, 112.
     pub fn new(values: EndpointValues) -> Result<EndpointDecl, DeclFault>
-        ensures refused { option_map number_of (result_err result) ≡ first_broken (endpoint_rules values) }
+        ensures refused { option_map number_of (result_err result)
+            ≡ first_broken (endpoint_rules values) }
         ensures declared { IfOk result (λ d. d ≡ with_ordered_regions values) }
         ensures lawful { IfOk result IsLawfulEndpoint }
         ensures complete { IsLawfulEndpoint values → result ≡ Ok values }

@@ -30,7 +30,8 @@ fn registers(kind: Kind) -> u64
 }
 
 fn is_in_header<T: TakesRegisters>(region: &T) -> bool
-    ensures { result ≡ nat_le ((T.region region.now).index + registers_of (T.region region.now).kind) 6 }
+    ensures { result
+        ≡ nat_le ((T.region region.now).index + registers_of (T.region region.now).kind) 6 }
 {
     let index = region.index();
     index <= 5 && index + registers(region.kind()) <= 6
@@ -46,7 +47,8 @@ fn uses<T: TakesRegisters>(region: &T, register: u64) -> bool
 
 /// Whether each region's registers are among the six.
 fn are_in_header<T: TakesRegisters>(regions: &[T]) -> bool
-    ensures { result ≡ list_all (λ r. nat_le ((T.region r).index + registers_of (T.region r).kind) 6) regions.now }
+    ensures { result ≡ list_all (λ r.
+        nat_le ((T.region r).index + registers_of (T.region r).kind) 6) regions.now }
 {
     regions.iter().all(|region| is_in_header(region))
 }
@@ -65,7 +67,8 @@ fn is_used_once<T: TakesRegisters>(regions: &[T], register: u64) -> bool
 /// Whether no register is used twice.
 fn use_registers_once<T: TakesRegisters>(regions: &[T]) -> bool
     ensures { result
-        ≡ list_all (λ n. nat_le (count_by (λ r. uses n (T.region r)) regions.now) 1) (0 ∷ 1 ∷ 2 ∷ 3 ∷ 4 ∷ 5 ∷ []) }
+        ≡ list_all (λ n. nat_le (count_by (λ r. uses n (T.region r)) regions.now) 1) (0 ∷ 1
+        ∷ 2 ∷ 3 ∷ 4 ∷ 5 ∷ []) }
 {
     is_used_once(regions, 0)
         && is_used_once(regions, 1)

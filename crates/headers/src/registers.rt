@@ -24,7 +24,8 @@ impl Flags for Command {
 
     ghost exact = { ⊤ };
 
-    ghost table = { (codes "IO_SPACE", 0x0001) ∷ (codes "MEMORY_SPACE", 0x0002) ∷ (codes "BUS_MASTER", 0x0004) ∷ (codes "PARITY_ERROR_RESPONSE", 0x0040) ∷ (codes "SERR_ENABLE", 0x0100) ∷ (codes "INTERRUPT_DISABLE", 0x0400) ∷ [] };
+    ghost table = { (codes "IO_SPACE", 0x0001) ∷ (codes "MEMORY_SPACE", 0x0002)
+        ∷ (codes "BUS_MASTER", 0x0004) ∷ (codes "PARITY_ERROR_RESPONSE", 0x0040) ∷ (codes "SERR_ENABLE", 0x0100) ∷ (codes "INTERRUPT_DISABLE", 0x0400) ∷ [] };
 
     ghost set_of = { λ c. c.0 };
 
@@ -86,7 +87,8 @@ impl Flags for Status {
 
     ghost exact = { ⊤ };
 
-    ghost table = { (codes "MASTER_DATA_PARITY_ERROR", 0x0100) ∷ (codes "SIGNALED_TARGET_ABORT", 0x0800) ∷ (codes "RECEIVED_TARGET_ABORT", 0x1000) ∷ (codes "RECEIVED_MASTER_ABORT", 0x2000) ∷ (codes "SIGNALED_SYSTEM_ERROR", 0x4000) ∷ (codes "DETECTED_PARITY_ERROR", 0x8000) ∷ [] };
+    ghost table = { (codes "MASTER_DATA_PARITY_ERROR", 0x0100)
+        ∷ (codes "SIGNALED_TARGET_ABORT", 0x0800) ∷ (codes "RECEIVED_TARGET_ABORT", 0x1000) ∷ (codes "RECEIVED_MASTER_ABORT", 0x2000) ∷ (codes "SIGNALED_SYSTEM_ERROR", 0x4000) ∷ (codes "DETECTED_PARITY_ERROR", 0x8000) ∷ [] };
 
     ghost set_of = { λ s. s.0 };
 

@@ -32,7 +32,8 @@ fn push_row(cells: &mut Vec<(u16, Cell)>, row: Row) -> Result<(), AllocError>
 
 /// Appends the cells of registers.
 pub(crate) fn push_rows(cells: &mut Vec<(u16, Cell)>, rows: &[Row]) -> Result<(), AllocError>
-    ensures { OnOk result (file_of cells.new.items ≡ file_of cells.old.items ++ flat_map row_cells rows.now) }
+    ensures { OnOk result (file_of cells.new.items
+        ≡ file_of cells.old.items ++ flat_map row_cells rows.now) }
 {
     let mut left = rows;
     while let Some((row, rest)) = left.split_first() {
@@ -49,7 +50,8 @@ pub(crate) fn push_block(
     block: &[Cell],
 ) -> Result<(), AllocError>
     requires { off + length block.now ≤ 0x100 }
-    ensures { OnOk result (file_of cells.new.items ≡ file_of cells.old.items ++ cells_from (config off) block.now) }
+    ensures { OnOk result (file_of cells.new.items
+        ≡ file_of cells.old.items ++ cells_from (config off) block.now) }
 {
     let mut left = block;
     let mut at = off;

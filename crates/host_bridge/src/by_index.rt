@@ -26,7 +26,8 @@ impl Host {
 
     /// The path of the function at an index, in path order.
     pub fn path_nth(&self, index: usize) -> Option<Path>
-        ensures { result ≡ option_map (λ (f : BoardFunction). f.path) (slice_get self.now.state.functions index) }
+        ensures { result
+            ≡ option_map (λ (f : BoardFunction). f.path) (slice_get self.now.state.functions index) }
     {
         self.root.path_nth(index)
     }
@@ -54,7 +55,8 @@ impl Host {
         requires there { IsSome (endpoint_nth self.old.state.functions index) }
         requires reached { IsReached self.old.state.functions index }
         requires word { off % 4 ≡ 0 }
-        ensures value { result ≡ read (file_nth self.old.state.functions index) (config off) (lanes enables) }
+        ensures value { result
+            ≡ read (file_nth self.old.state.functions index) (config off) (lanes enables) }
         ensures after { self.new ≡ self.old }
     {
         match self.root.endpoint_nth(index) {
@@ -94,7 +96,8 @@ impl Host {
     pub fn device_value_nth(&mut self, index: usize, place: Place, off: u64) -> u8
         requires there { IsSome (endpoint_nth self.old.state.functions index) }
         requires own { IsTrue (is_device_byte (place_of place off)) }
-        ensures value { result ≡ (cell_at (file_nth self.old.state.functions index) (place_of place off)).value }
+        ensures value { result
+            ≡ (cell_at (file_nth self.old.state.functions index) (place_of place off)).value }
         ensures after { self.new ≡ self.old }
     {
         match self.root.endpoint_nth(index) {
@@ -120,7 +123,8 @@ impl Host {
     /// Resets every cell of this endpoint but Command and the base address registers. All other functions
     /// stay, and so do the address latch and the apertures. Where no endpoint stands, nothing changes.
     pub fn reset_nth(&mut self, index: usize)
-        ensures { self.new ≡ with_functions (with_reset_nth index self.old.state.functions) self.old }
+        ensures { self.new
+            ≡ with_functions (with_reset_nth index self.old.state.functions) self.old }
     {
         let Some(endpoint) = self.root.endpoint_nth(index) else {
             return;

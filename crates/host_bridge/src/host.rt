@@ -157,7 +157,8 @@ impl Host {
     /// The routing registers of all functions as they stand, in path order: for an audit.
     pub fn routing(&self, alloc: Global) -> Result<Vec<RoutingRow>, AllocError>
         ensures rows { IfOk result (λ v. v.items ≡ routing self.now.state.functions) }
-        ensures in_order { EachPair (λ f g. IsTrue (path_before f.path g.path)) self.now.state.functions }
+        ensures in_order { EachPair (λ f g.
+            IsTrue (path_before f.path g.path)) self.now.state.functions }
     {
         self.root.routing(alloc)
     }

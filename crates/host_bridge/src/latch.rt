@@ -22,7 +22,8 @@ pub(crate) enum Target {
 /// The configuration cycle on bus 0, which is the host bridge's own, for the function and the word
 /// that a latch selects: of type 0 for bus 0, and of type 1 for any other.
 pub(crate) fn cycle_of(latch: Latch, enables: u8, op: Op) -> Cycle
-    ensures reached { (fs : List BoardFunction) → reached_by fs result ≡ reached fs (selected latch) }
+    ensures reached { (fs : List BoardFunction) →
+        reached_by fs result ≡ reached fs (selected latch) }
     ensures offset { result.offset ≡ selected_register latch }
     ensures enables { result.enables ≡ enables }
     ensures op { result.op ≡ op }

@@ -42,7 +42,8 @@ pub trait Route {
 
     /// Routing registers alone decide which hosts it fits: with the same ones another host fits too.
     ghost by_routing: { (route : Self) (h k : HostState)
-        → routing h.state.functions ≡ routing k.state.functions → fits route h → fits route k };
+        → routing h.state.functions ≡ routing k.state.functions → fits route h →
+        fits route k };
 }
 
 /// Asks the tree itself. It fits every host.

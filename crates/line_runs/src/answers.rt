@@ -28,7 +28,8 @@ pub trait Answers<L> {
     ) -> Result<Option<String>, AllocError>
         requires { text.old.items ≡ [] }
         ensures text { IfOk result (λ more. (before : Text) → IsBefore long before →
-            with_more text.new.items (option_map string_bytes more) ≡ protocol.writes self.old (before ++ line.now)) }
+            with_more text.new.items (option_map string_bytes more)
+            ≡ protocol.writes self.old (before ++ line.now)) }
         ensures after { OnOk result ((before : Text) → IsBefore long before →
             self.new ≡ protocol.next self.old (before ++ line.now)) }
         ensures kept { OnErr result ((self.new ≡ self.old) × (text.new ≡ text.old)) }

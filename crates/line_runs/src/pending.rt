@@ -40,12 +40,15 @@ fn read_from<R: Reader>(reader: &mut R, buffer: &mut [u8], start: usize) -> Resu
     requires room { R.failures reader.old < 2 ^ 64 - 1 }
     ensures bound { IfOk result (λ n. start + n ≤ length buffer.new) }
     ensures length { length buffer.new ≡ length buffer.old }
-    ensures bytes { IfOk result (λ n. (bytes : Text) × Consumes (R.rest reader.old) (R.rest reader.new) bytes
-        × (length bytes ≡ n) × (take (start + n) buffer.new ≡ take start buffer.old ++ bytes)) }
+    ensures bytes { IfOk result (λ n.
+        (bytes : Text) × Consumes (R.rest reader.old) (R.rest reader.new) bytes
+        × (length bytes ≡ n)
+        × (take (start + n) buffer.new ≡ take start buffer.old ++ bytes)) }
     ensures kept { OnErr result (Keeps (R.rest reader.old) (R.rest reader.new)) }
     ensures end { IfOk result (λ n. n ≡ 0 → IsAtEnd (R.rest reader.new)) }
     ensures failures { R.failures reader.new ≡ R.failures reader.old + failures_of result }
-    ensures falls { IfOk result (λ n. 0 < n → R.reads_left reader.new < R.reads_left reader.old) }
+    ensures falls { IfOk result (λ n.
+        0 < n → R.reads_left reader.new < R.reads_left reader.old) }
 {
     reader.read(&mut buffer[start..])
 }
@@ -79,12 +82,15 @@ impl Pending {
     pub(crate) fn fill<R: Reader>(&mut self, reader: &mut R) -> Result<bool, Failed>
         requires few { length self.old.text ≤ 200 }
         requires room { R.failures reader.old < 2 ^ 64 - 1 }
-        ensures bytes { IfOk result (λ _. (bytes : Text) × Consumes (R.rest reader.old) (R.rest reader.new) bytes
+        ensures bytes { IfOk result (λ _.
+            (bytes : Text) × Consumes (R.rest reader.old) (R.rest reader.new) bytes
             × (self.new ≡ record self.old { text = self.old.text ++ bytes })) }
-        ensures end { IfOk result (λ more. IsFalse more → IsAtEnd (R.rest reader.new) × (self.new ≡ self.old)) }
+        ensures end { IfOk result (λ more.
+            IsFalse more → IsAtEnd (R.rest reader.new) × (self.new ≡ self.old)) }
         ensures kept { OnErr result (Keeps (R.rest reader.old) (R.rest reader.new)) }
         ensures failures { R.failures reader.new ≡ R.failures reader.old + failures_of result }
-        ensures falls { IfOk result (λ more. IsTrue more → R.reads_left reader.new < R.reads_left reader.old) }
+        ensures falls { IfOk result (λ more.
+            IsTrue more → R.reads_left reader.new < R.reads_left reader.old) }
     {
         let n = read_from(reader, &mut self.bytes, self.length)?;
         self.length += n;

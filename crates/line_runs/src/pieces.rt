@@ -76,9 +76,11 @@ fn answer_line<L, S: Answers<L>, W: Writer>(
     ensures silent { IfOk result (λ wrote. IsFalse wrote → writer.new ≡ writer.old) }
     ensures failed { IsErrOf result Stop.Failed → (before : Text) → IsBefore long before →
         AppendsPart (W.written writer.old) (W.written writer.new) (S.protocol.writes server.old (before ++ line.now)) }
-    ensures failed_after { IsErrOf result Stop.Failed → (before : Text) → IsBefore long before →
+    ensures failed_after { IsErrOf result Stop.Failed → (before : Text) →
+        IsBefore long before →
         server.new ≡ S.protocol.next server.old (before ++ line.now) }
-    ensures lacking { IsErrOf result Stop.Memory → (server.new ≡ server.old) × (writer.new ≡ writer.old) }
+    ensures lacking { IsErrOf result Stop.Memory →
+        (server.new ≡ server.old) × (writer.new ≡ writer.old) }
     ensures memory { IsErrOf result Stop.Memory → S.TakesMemory }
     ensures failures { W.failures writer.new ≡ W.failures writer.old + stop_failures_of result }
 {
@@ -115,9 +117,11 @@ fn flushed<W: Writer>(writer: &mut W, wrote: bool) -> Stop
     requires { W.failures writer.old < 2 ^ 64 - 1 }
     ensures bytes { Keeps (W.written writer.old) (W.written writer.new) }
     ensures wrote { result ≡ Stop.Failed → IsTrue wrote }
-    ensures flushed { result ≡ Stop.Memory → IsTrue wrote → W.flushed writer.new ≡ W.written writer.new }
+    ensures flushed { result ≡ Stop.Memory → IsTrue wrote →
+        W.flushed writer.new ≡ W.written writer.new }
     ensures kept { IsFalse wrote → writer.new ≡ writer.old }
-    ensures failures { W.failures writer.new ≡ W.failures writer.old + stop_failures_of {T = Unit {0}} (Err result) }
+    ensures failures { W.failures writer.new
+        ≡ W.failures writer.old + stop_failures_of {T = Unit {0}} (Err result) }
 {
     if flush_if(writer, wrote).is_err() {
         return Stop::Failed;
@@ -137,15 +141,18 @@ fn run_lines<L, S: Answers<L>, W: Writer>(
     requires { W.failures writer.old < 2 ^ 64 - 1 }
     ensures length { IfOk result (λ left. left.length ≤ length text.now) }
     ensures rest { IfOk result (λ left. HasNoEnd (rest_of left.length text.now)) }
-    ensures runs { IfOk result (λ left. (before : Text) → HasNoEnd before → IsBefore long before →
+    ensures runs { IfOk result (λ left.
+        (before : Text) → HasNoEnd before → IsBefore long before →
         (run : Reaches S.protocol server.old (before ++ text.now) (rest_of left.length text.now) left.long
         (W.written writer.old) (W.written writer.new) server.new)
         × (IsTrue left.wrote → 0 < length run.whole)) }
     ensures silent { IfOk result (λ left. IsFalse left.wrote → writer.new ≡ writer.old) }
-    ensures stops { IsErrOf result Stop.Failed → (before : Text) → HasNoEnd before → IsBefore long before →
+    ensures stops { IsErrOf result Stop.Failed → (before : Text) → HasNoEnd before →
+        IsBefore long before →
         StopsWithin S.protocol server.old (before ++ text.now)
         (W.written writer.old) (W.written writer.new) server.new }
-    ensures lacks { IsErrOf result Stop.Memory → (before : Text) → HasNoEnd before → IsBefore long before →
+    ensures lacks { IsErrOf result Stop.Memory → (before : Text) → HasNoEnd before →
+        IsBefore long before →
         LacksWithin S.protocol server.old (before ++ text.now)
         (W.written writer.old) (W.written writer.new) server.new }
     ensures memory { IsErrOf result Stop.Memory → S.TakesMemory }
@@ -183,17 +190,21 @@ pub(crate) fn run_piece<L, S: Answers<L>, W: Writer>(
     requires { W.failures writer.old < 2 ^ 64 - 1 }
     ensures few { OnOk result (length pending.new.text ≤ 200) }
     ensures rest { OnOk result (HasNoEnd pending.new.text) }
-    ensures runs { OnOk result ((before : Text) → HasNoEnd before → IsBefore pending.old.long before →
+    ensures runs { OnOk result ((before : Text) → HasNoEnd before →
+        IsBefore pending.old.long before →
         Reaches S.protocol server.old (before ++ pending.old.text) pending.new.text pending.new.long
         (W.written writer.old) (W.written writer.new) server.new) }
-    ensures stops { IsErrOf result Stop.Failed → (before : Text) → HasNoEnd before → IsBefore pending.old.long before →
+    ensures stops { IsErrOf result Stop.Failed → (before : Text) → HasNoEnd before →
+        IsBefore pending.old.long before →
         StopsWithin S.protocol server.old (before ++ pending.old.text)
         (W.written writer.old) (W.written writer.new) server.new }
-    ensures lacks { IsErrOf result Stop.Memory → (before : Text) → HasNoEnd before → IsBefore pending.old.long before →
+    ensures lacks { IsErrOf result Stop.Memory → (before : Text) → HasNoEnd before →
+        IsBefore pending.old.long before →
         LacksWithin S.protocol server.old (before ++ pending.old.text)
         (W.written writer.old) (W.written writer.new) server.new }
     ensures memory { IsErrOf result Stop.Memory → S.TakesMemory }
-    ensures flushed { OnOk result ((W.flushed writer.new ≡ W.written writer.new) ⊎ (writer.new ≡ writer.old)) }
+    ensures flushed { OnOk result ((W.flushed writer.new ≡ W.written writer.new)
+        ⊎ (writer.new ≡ writer.old)) }
     ensures lacking_flushed { IsErrOf result Stop.Memory →
         (W.flushed writer.new ≡ W.written writer.new) ⊎ (writer.new ≡ writer.old) }
     ensures failures { W.failures writer.new ≡ W.failures writer.old + stop_failures_of result }
@@ -208,8 +219,10 @@ pub(crate) fn run_piece<L, S: Answers<L>, W: Writer>(
 
 /// Whether a last line is left at the end of a script.
 fn is_line_left(text: &[u8], long: bool) -> bool
-    ensures some { IsTrue result → (before : Text) → IsBefore long before → 0 < length (before ++ text.now) }
-    ensures none { IsFalse result → (before : Text) → IsBefore long before → before ++ text.now ≡ [] }
+    ensures some { IsTrue result → (before : Text) → IsBefore long before →
+        0 < length (before ++ text.now) }
+    ensures none { IsFalse result → (before : Text) → IsBefore long before →
+        before ++ text.now ≡ [] }
 {
     if long {
         return true;
@@ -225,17 +238,21 @@ fn answer_last<L, S: Answers<L>, W: Writer>(
     writer: &mut W,
 ) -> Result<(), Stop>
     requires { W.failures writer.old < 2 ^ 64 - 1 }
-    ensures output { OnOk result ((before : Text) → IsBefore long before → HasNoEnd (before ++ text.now) →
+    ensures output { OnOk result ((before : Text) → IsBefore long before →
+        HasNoEnd (before ++ text.now) →
         Appends (W.written writer.old) (W.written writer.new)
         (output S.protocol server.old (lines (before ++ text.now)))) }
-    ensures after { OnOk result ((before : Text) → IsBefore long before → HasNoEnd (before ++ text.now) →
+    ensures after { OnOk result ((before : Text) → IsBefore long before →
+        HasNoEnd (before ++ text.now) →
         server.new ≡ after_lines S.protocol server.old (lines (before ++ text.now))) }
     ensures stopped { IsErrOf result Stop.Failed → (before : Text) → IsBefore long before →
         HasNoEnd (before ++ text.now) →
         IsStopped S.protocol server.old (lines (before ++ text.now))
         (W.written writer.old) (W.written writer.new) server.new }
-    ensures lacking { IsErrOf result Stop.Memory → (server.new ≡ server.old) × (writer.new ≡ writer.old) }
-    ensures some { IsErrOf result Stop.Memory → (before : Text) → IsBefore long before → 0 < length (before ++ text.now) }
+    ensures lacking { IsErrOf result Stop.Memory →
+        (server.new ≡ server.old) × (writer.new ≡ writer.old) }
+    ensures some { IsErrOf result Stop.Memory → (before : Text) → IsBefore long before →
+        0 < length (before ++ text.now) }
     ensures memory { IsErrOf result Stop.Memory → S.TakesMemory }
     ensures failures { W.failures writer.new ≡ W.failures writer.old + stop_failures_of result }
 {
@@ -253,18 +270,23 @@ pub(crate) fn run_last<L, S: Answers<L>, W: Writer>(
     writer: &mut W,
 ) -> Result<(), Stop>
     requires { W.failures writer.old < 2 ^ 64 - 1 }
-    ensures output { OnOk result ((before : Text) → IsBefore pending.now.long before → HasNoEnd (before ++ pending.now.text) →
+    ensures output { OnOk result ((before : Text) → IsBefore pending.now.long before →
+        HasNoEnd (before ++ pending.now.text) →
         Appends (W.written writer.old) (W.written writer.new)
         (output S.protocol server.old (lines (before ++ pending.now.text)))) }
-    ensures after { OnOk result ((before : Text) → IsBefore pending.now.long before → HasNoEnd (before ++ pending.now.text) →
+    ensures after { OnOk result ((before : Text) → IsBefore pending.now.long before →
+        HasNoEnd (before ++ pending.now.text) →
         server.new ≡ after_lines S.protocol server.old (lines (before ++ pending.now.text))) }
     ensures flushed { OnOk result (W.flushed writer.new ≡ W.written writer.new) }
-    ensures stopped { IsErrOf result Stop.Failed → (before : Text) → IsBefore pending.now.long before →
+    ensures stopped { IsErrOf result Stop.Failed → (before : Text) →
+        IsBefore pending.now.long before →
         HasNoEnd (before ++ pending.now.text) →
         IsStopped S.protocol server.old (lines (before ++ pending.now.text))
         (W.written writer.old) (W.written writer.new) server.new }
-    ensures lacking { IsErrOf result Stop.Memory → (server.new ≡ server.old) × (writer.new ≡ writer.old) }
-    ensures some { IsErrOf result Stop.Memory → (before : Text) → IsBefore pending.now.long before →
+    ensures lacking { IsErrOf result Stop.Memory →
+        (server.new ≡ server.old) × (writer.new ≡ writer.old) }
+    ensures some { IsErrOf result Stop.Memory → (before : Text) →
+        IsBefore pending.now.long before →
         0 < length (before ++ pending.now.text) }
     ensures memory { IsErrOf result Stop.Memory → S.TakesMemory }
     ensures failures { W.failures writer.new ≡ W.failures writer.old + stop_failures_of result }

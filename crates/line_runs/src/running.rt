@@ -64,14 +64,16 @@ fn run_pieces<L, S: Answers<L>, R: Reader, W: Writer>(
     ensures writes { W.failures writer.new ≡ W.failures writer.old + write_failures_of result }
     ensures end { OnOk result (IsAtEnd (R.rest reader.new)) }
     ensures rest { OnOk result (HasNoEnd pending.new.text) }
-    ensures runs { OnOk result ((read : Text) × Consumes (R.rest reader.old) (R.rest reader.new) read
+    ensures runs { OnOk result ((read : Text)
+        × Consumes (R.rest reader.old) (R.rest reader.new) read
         × Reaches S.protocol server.old read pending.new.text pending.new.long
         (W.written writer.old) (W.written writer.new) server.new) }
     ensures failed { IfErr result (λ fault. Runs {T = Unit {0}} S.protocol server.old server.new
         (ends (R.rest reader.old) (R.rest reader.new) (W.written writer.old) (W.written writer.new)
         (W.flushed writer.new)) (Err fault)) }
     ensures memory { IsErrOf result RunFault.Memory → S.TakesMemory }
-    ensures flushed { OnOk result ((W.flushed writer.new ≡ W.written writer.new) ⊎ (writer.new ≡ writer.old)) }
+    ensures flushed { OnOk result ((W.flushed writer.new ≡ W.written writer.new)
+        ⊎ (writer.new ≡ writer.old)) }
     ensures lacking_flushed { IsErrOf result RunFault.Memory →
         (W.flushed writer.new ≡ W.written writer.new) ⊎ (writer.new ≡ writer.old) }
 {

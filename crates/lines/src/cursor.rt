@@ -35,7 +35,8 @@ pub(crate) fn is_end(text: &[u8]) -> bool
 /// The first word, and what comes after it.
 #[inline]
 pub(crate) fn first_word(text: &[u8]) -> Option<(&[u8], &[u8])>
-    ensures { MatchOption result (words text.now ≡ []) (λ p. words text.now ≡ p.0.now ∷ words p.1.now) }
+    ensures { MatchOption result (words text.now ≡ []) (λ p.
+        words text.now ≡ p.0.now ∷ words p.1.now) }
 {
     let mut rest = text;
     while let Some((piece, after)) = next_piece(rest) {
@@ -50,7 +51,8 @@ pub(crate) fn first_word(text: &[u8]) -> Option<(&[u8], &[u8])>
 /// The first word, and what comes after it. A word of one letter, as of short names, is seen at once.
 #[inline(always)]
 pub(crate) fn name_word(text: &[u8]) -> Option<(&[u8], &[u8])>
-    ensures { MatchOption result (words text.now ≡ []) (λ p. words text.now ≡ p.0.now ∷ words p.1.now) }
+    ensures { MatchOption result (words text.now ≡ []) (λ p.
+        words text.now ≡ p.0.now ∷ words p.1.now) }
 {
     if let [letter, end, rest @ ..] = text {
         if is_blank(*end) && !is_blank(*letter) {
@@ -63,7 +65,8 @@ pub(crate) fn name_word(text: &[u8]) -> Option<(&[u8], &[u8])>
 /// The first word, and what comes after it. A word of two letters, as of accesses, is seen at once.
 #[inline(always)]
 pub(crate) fn form_word(text: &[u8]) -> Option<(&[u8], &[u8])>
-    ensures { MatchOption result (words text.now ≡ []) (λ p. words text.now ≡ p.0.now ∷ words p.1.now) }
+    ensures { MatchOption result (words text.now ≡ []) (λ p.
+        words text.now ≡ p.0.now ∷ words p.1.now) }
 {
     if let [first, second, end, rest @ ..] = text {
         if is_blank(*end) && !is_blank(*second) && !is_blank(*first) {
@@ -78,7 +81,8 @@ pub(crate) fn form_word(text: &[u8]) -> Option<(&[u8], &[u8])>
 #[inline(always)]
 fn more_digits(base: u8, start: u64, text: &[u8]) -> Option<(u64, &[u8])>
     requires { 1 ≤ base }
-    ensures { MatchOption result (below (2 ^ 64) (digits_from base start (before_blank text.now)) ≡ None)
+    ensures { MatchOption result (below (2 ^ 64) (digits_from base start (before_blank text.now))
+        ≡ None)
         (λ p. (below (2 ^ 64) (digits_from base start (before_blank text.now)) ≡ Some p.0)
         × (p.1.now ≡ after_blank text.now)) }
 {
@@ -101,7 +105,8 @@ fn more_digits(base: u8, start: u64, text: &[u8]) -> Option<(u64, &[u8])>
 #[inline(always)]
 fn eight_digits(text: &[u8]) -> Option<(u64, &[u8])>
     ensures read { IfSome result (λ p. IsRead 16 text.now p.0 p.1.now) }
-    ensures some { IfSome result (λ _. digits_in 16 (before_blank text.now) ≡ digits_from 16 0 (before_blank text.now)) }
+    ensures some { IfSome result (λ _.
+        digits_in 16 (before_blank text.now) ≡ digits_from 16 0 (before_blank text.now)) }
 {
     if text.len() < 8 {
         return None;
@@ -118,7 +123,8 @@ fn eight_digits(text: &[u8]) -> Option<(u64, &[u8])>
 fn digits_before_blank(base: u8, text: &[u8]) -> Option<(u64, &[u8])>
     requires { 1 ≤ base }
     ensures { MatchOption result (below (2 ^ 64) (digits_in base (before_blank text.now)) ≡ None)
-        (λ p. (below (2 ^ 64) (digits_in base (before_blank text.now)) ≡ Some p.0) × (p.1.now ≡ after_blank text.now)) }
+        (λ p. (below (2 ^ 64) (digits_in base (before_blank text.now)) ≡ Some p.0)
+        × (p.1.now ≡ after_blank text.now)) }
 {
     if base == 16
         && let Some((number, rest)) = eight_digits(text)
@@ -168,7 +174,8 @@ pub(crate) fn other_number(text: &[u8]) -> Option<(u64, &[u8])>
 /// The number of one digit at the front, and what comes after it.
 #[inline(always)]
 fn one_digit(text: &[u8]) -> Option<(u64, &[u8])>
-    ensures { IfSome result (λ p. numbered (words text.now) ≡ Some (record { number = p.0; rest = words p.1.now })) }
+    ensures { IfSome result (λ p.
+        numbered (words text.now) ≡ Some (record { number = p.0; rest = words p.1.now })) }
 {
     match text {
         [digit] => Some((with_digit(10, 0, *digit)?, &[])),

@@ -101,7 +101,8 @@ fn write_of_five(
     bits: &[u8],
 ) -> Option<FirmwareWhat>
     ensures { option_map firmware_meaning_of result
-        ≡ option_map asked (host_write_of (op.now ∷ bdf.now ∷ off.now ∷ width.now ∷ bits.now ∷ [])) }
+        ≡ option_map asked (host_write_of (op.now ∷ bdf.now ∷ off.now ∷ width.now
+        ∷ bits.now ∷ [])) }
 {
     if op == b"cw".as_slice() {
         return written_at(config_place(bdf, off, width), bits);
@@ -124,7 +125,8 @@ fn host_write_form(words: &[&[u8]]) -> Option<FirmwareWhat>
 
 /// What the words after `host` ask.
 fn of_host_words(words: &[&[u8]]) -> FirmwareWhat
-    ensures { firmware_meaning_of result ≡ access_or_bad (access_of_words (map (λ w. w.now) words.now)) }
+    ensures { firmware_meaning_of result
+        ≡ access_or_bad (access_of_words (map (λ w. w.now) words.now)) }
 {
     if let Some(read) = host_form(words) {
         return FirmwareWhat::Read(read);

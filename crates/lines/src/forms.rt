@@ -58,7 +58,8 @@ fn to_raise(slot: &[u8], part: &[u8], off: &[u8], bits: &[u8]) -> Option<Asked>
 /// `raise SLOT P OFF MASK`, by the words after `raise`.
 #[tactic(auto, using(crate::proofs::Counts::raise_of_few, crate::proofs::Counts::raise_of_many))]
 fn raise_form(words: &[&[u8]]) -> Option<Asked>
-    ensures { option_map event_asked result ≡ event_of (codes "raise" ∷ map (λ w. w.now) words.now) }
+    ensures { option_map event_asked result
+        ≡ event_of (codes "raise" ∷ map (λ w. w.now) words.now) }
 {
     match words {
         [slot, part, off, bits] => to_raise(slot, part, off, bits),
@@ -72,7 +73,8 @@ fn raise_form(words: &[&[u8]]) -> Option<Asked>
 #[inline(always)]
 fn placed(space: u8, text: &[u8]) -> Option<(At, &[u8])>
     ensures { MatchOption result (placed space (words text.now) ≡ None) (λ p.
-        placed space (words text.now) ≡ Some (record { target = target_of p.0; rest = words p.1.now })) }
+        placed space (words text.now)
+        ≡ Some (record { target = target_of p.0; rest = words p.1.now })) }
 {
     let (number, rest) = first_number(text)?;
     match space {
@@ -108,7 +110,8 @@ fn operated(kind: u8, text: &[u8]) -> Option<(Op, &[u8])>
 #[inline(always)]
 #[tactic(auto, using(crate::proofs::GuestForms::accesses_are))]
 fn access_form(space: u8, kind: u8, text: &[u8]) -> Option<Access>
-    ensures { option_map (λ a. access (access_of a)) result ≡ event_of ((space ∷ kind ∷ []) ∷ words text.now) }
+    ensures { option_map (λ a. access (access_of a)) result
+        ≡ event_of ((space ∷ kind ∷ []) ∷ words text.now) }
 {
     let (at, rest) = placed(space, text)?;
     let (width, rest) = short_number(rest)?;
@@ -177,7 +180,8 @@ pub(crate) fn bus_address(word: &[u8]) -> Option<Bdf>
 
 /// A line of the host with three words after `host`.
 fn host_of_three(op: &[u8], at: &[u8], width: &[u8]) -> Option<HostAccess>
-    ensures { option_map host_access_of result ≡ host_read_of (op.now ∷ at.now ∷ width.now ∷ []) }
+    ensures { option_map host_access_of result
+        ≡ host_read_of (op.now ∷ at.now ∷ width.now ∷ []) }
 {
     let at = match op {
         b"ir" => HostAt::Io {
@@ -194,7 +198,8 @@ fn host_of_three(op: &[u8], at: &[u8], width: &[u8]) -> Option<HostAccess>
 
 /// A line of the host with four words after `host`.
 fn host_of_four(op: &[u8], bdf: &[u8], off: &[u8], width: &[u8]) -> Option<HostAccess>
-    ensures { option_map host_access_of result ≡ host_read_of (op.now ∷ bdf.now ∷ off.now ∷ width.now ∷ []) }
+    ensures { option_map host_access_of result
+        ≡ host_read_of (op.now ∷ bdf.now ∷ off.now ∷ width.now ∷ []) }
 {
     let at = match op {
         b"cr" => HostAt::Config {

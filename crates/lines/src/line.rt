@@ -126,7 +126,8 @@ fn move_form(words: &[&[u8]], names: &Names) -> Option<What>
 /// A line of the host, by the words after `host`.
 fn of_host_words(words: &[&[u8]], names: &Names) -> What
     ensures meaning { let ws = map (λ w. w.now) words.now in
-        meaning_of (texts names.now) result ≡ read_or_move (host_read_of ws) (move_of (texts names.now) ws) }
+        meaning_of (texts names.now) result
+        ≡ read_or_move (host_read_of ws) (move_of (texts names.now) ws) }
     ensures first { GuestsAre (IsFirst (texts names.now)) result }
 {
     if let Some(read) = host_form(words) {
@@ -141,7 +142,8 @@ fn of_host_words(words: &[&[u8]], names: &Names) -> What
 /// A line of the host, by the text after `host`.
 fn host_line(text: &[u8], names: &Names) -> What
     ensures meaning { let ws = words text.now in
-        meaning_of (texts names.now) result ≡ read_or_move (host_read_of ws) (move_of (texts names.now) ws) }
+        meaning_of (texts names.now) result
+        ≡ read_or_move (host_read_of ws) (move_of (texts names.now) ws) }
     ensures first { GuestsAre (IsFirst (texts names.now)) result }
 {
     of_host_words(first_words(text).as_slice(), names)
@@ -222,7 +224,8 @@ pub fn line_meaning(line: &[u8], names: &Names) -> What
 /// meant.
 pub fn parse_line<'a>(line: &'a [u8], names: &Names) -> Line<'a>
     ensures words { map (λ w. w.now) result.words.items ≡ take 7 (words line.now) }
-    ensures meaning { meaning_of (texts names.now) result.what ≡ meaning (texts names.now) line.now }
+    ensures meaning { meaning_of (texts names.now) result.what
+        ≡ meaning (texts names.now) line.now }
     ensures guests { GuestsAre (λ g. g < length names.now.items) result.what }
     ensures first { GuestsAre (IsFirst (texts names.now)) result.what }
 {

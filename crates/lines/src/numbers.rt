@@ -36,7 +36,8 @@ pub(crate) fn digit_in(base: u8, byte: u8) -> Option<u8>
 /// A number with one digit more, if it stays below 2^64.
 #[inline]
 pub(crate) fn with_digit(base: u8, number: u64, byte: u8) -> Option<u64>
-    ensures { result ≡ below (2 ^ 64) (option_map (λ d. number * base + d) (below base (digit_of byte))) }
+    ensures { result
+        ≡ below (2 ^ 64) (option_map (λ d. number * base + d) (below base (digit_of byte))) }
 {
     let digit = digit_in(base, byte)?;
     // Of a hexadecimal digit one test is enough: the sum carries no bit.

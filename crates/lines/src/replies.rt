@@ -110,7 +110,8 @@ pub fn push_named(text: &mut LineText, name: &[u8], reply: Reply)
     requires empty { text.old.items ≡ [] }
     requires short { length name.now ≤ 16 }
     requires reply { IsShown reply }
-    ensures { text.new.items ≡ name.now ++ codes ": " ++ reply_text (reply_of reply) ++ 10 ∷ [] }
+    ensures { text.new.items
+        ≡ name.now ++ codes ": " ++ reply_text (reply_of reply) ++ 10 ∷ [] }
 {
     push_name(text, name);
     text.push(b':');
@@ -133,7 +134,8 @@ pub fn push_line(text: &mut LineText, who: Who, names: &Names, reply: Reply)
     requires empty { text.old.items ≡ [] }
     requires who { GuestIs (λ g. g < length names.now.items) who }
     requires reply { IsShown reply }
-    ensures { text.new.items ≡ line_text (who_of (texts names.now) who) (reply_of reply) ++ 10 ∷ [] }
+    ensures { text.new.items
+        ≡ line_text (who_of (texts names.now) who) (reply_of reply) ++ 10 ∷ [] }
 {
     push_named(text, name_of(who, names), reply);
 }
@@ -142,7 +144,8 @@ pub fn push_line(text: &mut LineText, who: Who, names: &Names, reply: Reply)
 pub fn line_text(who: Who, names: &Names, reply: Reply) -> LineText
     requires who { GuestIs (λ g. g < length names.now.items) who }
     requires reply { IsShown reply }
-    ensures { result.items ≡ line_text (who_of (texts names.now) who) (reply_of reply) ++ 10 ∷ [] }
+    ensures { result.items
+        ≡ line_text (who_of (texts names.now) who) (reply_of reply) ++ 10 ∷ [] }
 {
     let mut text = LineText::new();
     push_line(&mut text, who, names, reply);

@@ -58,8 +58,10 @@ impl Part {
 
     /// The order in which a bus is scanned, against a device and a function number of any size.
     fn compare_numbers(self, device: u8, function: u8) -> Ordering
-        ensures less { is_lt result ≡ part_before self (record { device = device; function = function }) }
-        ensures equal { is_eq result ≡ part_eq self (record { device = device; function = function }) }
+        ensures less { is_lt result
+            ≡ part_before self (record { device = device; function = function }) }
+        ensures equal { is_eq result
+            ≡ part_eq self (record { device = device; function = function }) }
     {
         if self.device == device && self.function == function {
             Ordering::Equal
@@ -199,9 +201,11 @@ impl Path {
     pub fn compare_on(&self, bus: &[Part], device: u8, function: u8) -> Ordering
         requires { IsTrue (leads_to bus.now self.now) }
         ensures less { is_lt result
-            ≡ path_before self.now (bus.now ++ record { device = device; function = function } ∷ []) }
+            ≡ path_before self.now (bus.now
+            ++ record { device = device; function = function } ∷ []) }
         ensures equal { is_eq result
-            ≡ path_eq self.now (bus.now ++ record { device = device; function = function } ∷ []) }
+            ≡ path_eq self.now (bus.now
+            ++ record { device = device; function = function } ∷ []) }
     {
         let parts = self.parts();
         let depth = bus.len();

@@ -1,5 +1,6 @@
 //! The lines of one function and of one guest.
-ghost use Rattle.std.specs.Prelude.{◌≡◌, ◌++◌, ◌≤◌, OnOk, string_bytes, map};
+ghost use Rattle.std.specs.Prelude.{◌≡◌, ◌++◌, ◌≤◌, OnOk, map};
+ghost use Rattle.lists.specs.Texts.{Adds};
 ghost use Rattle.model_guests.specs.Text.{text_of_lines};
 ghost use Rattle.model_handoff.specs.Report.{pin_text, slot_lines};
 ghost use Rattle.bars.specs.Slots.{placed, bases_from};
@@ -17,8 +18,7 @@ use window_packing::{Window, Writes};
 
 /// Appends the line of a region, whose first register has this index.
 fn push_region(text: &mut String, index: usize, region: &BasedRegion) -> Result<(), AllocError>
-    ensures { OnOk result (string_bytes text.new
-        ≡ string_bytes text.old ++ ended (base_line (placed index region.now))) }
+    ensures { OnOk result (Adds text.old text.new (ended (base_line (placed index region.now)))) }
 {
     let kind = kind_text(region.decl.kind());
     let base = region.base;
@@ -28,8 +28,8 @@ fn push_region(text: &mut String, index: usize, region: &BasedRegion) -> Result<
 
 /// Appends the lines of regions, each at the index of its first register.
 fn push_regions(text: &mut String, bases: &[Option<BasedRegion>]) -> Result<(), AllocError>
-    ensures { OnOk result (string_bytes text.new
-        ≡ string_bytes text.old ++ text_of_lines (map base_line (bases_from 0 bases.now))) }
+    ensures { OnOk result (Adds text.old text.new
+        (text_of_lines (map base_line (bases_from 0 bases.now)))) }
 {
     for (index, slot) in bases.iter().enumerate() {
         if let Some(region) = slot {
@@ -57,8 +57,7 @@ fn pin_text(pin: u8) -> &'static str
 fn push_pin(text: &mut String, path: &Path, pin: u8) -> Result<(), AllocError>
     requires least { 1 ≤ pin }
     requires most { pin ≤ 4 }
-    ensures { OnOk result (string_bytes text.new
-        ≡ string_bytes text.old ++ ended (pin_line path.now pin)) }
+    ensures { OnOk result (Adds text.old text.new (ended (pin_line path.now pin))) }
 {
     let (device, root) = at_root(path, pin);
     let pin = pin_text(pin);
@@ -69,8 +68,7 @@ fn push_pin(text: &mut String, path: &Path, pin: u8) -> Result<(), AllocError>
 /// Appends the line of an interrupt pin. There is none for pin 0, which says that the function has no
 /// pin, and none above 4, which is no pin.
 fn push_known_pin(text: &mut String, path: &Path, pin: u8) -> Result<(), AllocError>
-    ensures { OnOk result (string_bytes text.new
-        ≡ string_bytes text.old ++ text_of_lines (known_pin_lines path.now pin)) }
+    ensures { OnOk result (Adds text.old text.new (text_of_lines (known_pin_lines path.now pin))) }
 {
     if pin == 0 || pin > 4 {
         return Ok(());
@@ -80,8 +78,8 @@ fn push_known_pin(text: &mut String, path: &Path, pin: u8) -> Result<(), AllocEr
 
 /// Appends the line of a window, if it has items.
 fn push_window(text: &mut String, name: &str, window: &Window) -> Result<(), AllocError>
-    ensures { OnOk result (string_bytes text.new
-        ≡ string_bytes text.old ++ text_of_lines (named_window_lines name.now window.now)) }
+    ensures { OnOk result (Adds text.old text.new
+        (text_of_lines (named_window_lines name.now window.now))) }
 {
     let first = window.first;
     let last = window.last;
@@ -93,8 +91,8 @@ fn push_window(text: &mut String, name: &str, window: &Window) -> Result<(), All
 
 /// Appends the lines of the regions that were written into an endpoint.
 fn push_bases(text: &mut String, writes: &Writes) -> Result<(), AllocError>
-    ensures { OnOk result (string_bytes text.new
-        ≡ string_bytes text.old ++ text_of_lines (base_lines (writes_of writes.now))) }
+    ensures { OnOk result (Adds text.old text.new
+        (text_of_lines (base_lines (writes_of writes.now)))) }
 {
     match writes {
         Writes::Endpoint { bases, .. } => push_regions(text, bases),
@@ -104,8 +102,8 @@ fn push_bases(text: &mut String, writes: &Writes) -> Result<(), AllocError>
 
 /// Appends the lines of the windows that were written into a bridge.
 fn push_windows(text: &mut String, writes: &Writes) -> Result<(), AllocError>
-    ensures { OnOk result (string_bytes text.new
-        ≡ string_bytes text.old ++ text_of_lines (window_lines (writes_of writes.now))) }
+    ensures { OnOk result (Adds text.old text.new
+        (text_of_lines (window_lines (writes_of writes.now)))) }
 {
     match writes {
         Writes::Endpoint { .. } => Ok(()),
@@ -124,8 +122,7 @@ fn push_buses(
     secondary: u8,
     subordinate: u8,
 ) -> Result<(), AllocError>
-    ensures { OnOk result (string_bytes text.new
-        ≡ string_bytes text.old ++ range_text primary secondary subordinate) }
+    ensures { OnOk result (Adds text.old text.new (range_text primary secondary subordinate)) }
 {
     write!(
         text,
@@ -135,8 +132,7 @@ fn push_buses(
 
 /// Appends a function's numbers, its path, its kind and its identity.
 fn push_head(text: &mut String, row: &FunctionRow, kind: &str) -> Result<(), AllocError>
-    ensures { OnOk result (string_bytes text.new
-        ≡ string_bytes text.old ++ row_head row.now kind.now) }
+    ensures { OnOk result (Adds text.old text.new (row_head row.now kind.now)) }
 {
     push_numbers_and_path(text, row.bus, &row.path)?;
     text.push_str(kind)?;
@@ -145,8 +141,8 @@ fn push_head(text: &mut String, row: &FunctionRow, kind: &str) -> Result<(), All
 
 /// Ends an endpoint's first line, and appends the lines of its regions and its pin.
 fn push_endpoint(text: &mut String, path: &Path, pin: u8, writes: &Writes) -> Result<(), AllocError>
-    ensures { OnOk result (string_bytes text.new
-        ≡ string_bytes text.old ++ endpoint_text path.now pin (writes_of writes.now)) }
+    ensures { OnOk result (Adds text.old text.new
+        (endpoint_text path.now pin (writes_of writes.now))) }
 {
     text.push_str("\n")?;
     push_bases(text, writes)?;
@@ -161,9 +157,8 @@ fn push_bridge(
     subordinate: u8,
     writes: &Writes,
 ) -> Result<(), AllocError>
-    ensures { OnOk result (string_bytes text.new
-        ≡ string_bytes text.old
-        ++ (range_text bus secondary subordinate ++ windows_text (writes_of writes.now))) }
+    ensures { OnOk result (Adds text.old text.new
+        (range_text bus secondary subordinate ++ windows_text (writes_of writes.now))) }
 {
     push_buses(text, bus, secondary, subordinate)?;
     text.push_str("\n")?;
@@ -176,8 +171,7 @@ pub(crate) fn push_function(
     row: &FunctionRow,
     writes: &Writes,
 ) -> Result<(), AllocError>
-    ensures { OnOk result (string_bytes text.new
-        ≡ string_bytes text.old ++ found_text row.now (writes_of writes.now)) }
+    ensures { OnOk result (Adds text.old text.new (found_text row.now (writes_of writes.now))) }
 {
     match &row.found {
         Found::Endpoint { pin, .. } => {
@@ -197,8 +191,7 @@ pub(crate) fn push_function(
 
 /// Appends the line of a guest's slot.
 fn push_slot(text: &mut String, name: &str, slot: usize, path: &Path) -> Result<(), AllocError>
-    ensures { OnOk result (string_bytes text.new
-        ≡ string_bytes text.old ++ ended (slot_line name.now slot path.now)) }
+    ensures { OnOk result (Adds text.old text.new (ended (slot_line name.now slot path.now))) }
 {
     write!(text, "guest {name} slot {slot} ")?;
     push_path(text, path)?;
@@ -207,8 +200,8 @@ fn push_slot(text: &mut String, name: &str, slot: usize, path: &Path) -> Result<
 
 /// Appends the lines of a guest's slots.
 pub(crate) fn push_guest(text: &mut String, guest: &GuestDecl) -> Result<(), AllocError>
-    ensures { OnOk result (string_bytes text.new
-        ≡ string_bytes text.old ++ text_of_lines (slot_lines guest.now.name 0 guest.now.slots)) }
+    ensures { OnOk result (Adds text.old text.new
+        (text_of_lines (slot_lines guest.now.name 0 guest.now.slots))) }
 {
     let name = guest.name.as_str();
     for (slot, path) in guest.slots.iter().enumerate() {

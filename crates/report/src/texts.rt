@@ -1,5 +1,6 @@
 //! Texts of numbers, paths and kinds.
-ghost use Rattle.std.specs.Prelude.{◌≡◌, ◌++◌, OnOk, string_bytes};
+ghost use Rattle.std.specs.Prelude.{◌≡◌, OnOk};
+ghost use Rattle.lists.specs.Texts.{Adds};
 ghost use Rattle.model_handoff.specs.Report.{kind_text, identity_text};
 ghost use Rattle.model_guests.specs.PathTexts.{path_text};
 ghost use Rattle.bars.specs.Kinds.{kind_of};
@@ -23,7 +24,7 @@ pub(crate) fn kind_text(kind: Kind) -> &'static str
 /// Appends the text of a path: device and function number of each part, as in `2.0/1.0`. Without memory for
 /// it, some of it may stand there.
 pub fn push_path(text: &mut String, path: &Path) -> Result<(), AllocError>
-    ensures { OnOk result (string_bytes text.new ≡ string_bytes text.old ++ path_text path.now) }
+    ensures { OnOk result (Adds text.old text.new (path_text path.now)) }
 {
     let mut is_first = true;
     for part in path.parts() {
@@ -40,16 +41,14 @@ pub fn push_path(text: &mut String, path: &Path) -> Result<(), AllocError>
 
 /// Appends Vendor ID and Device ID.
 pub(crate) fn push_identity(text: &mut String, vendor: u16, device: u16) -> Result<(), AllocError>
-    ensures { OnOk result (string_bytes text.new
-        ≡ string_bytes text.old ++ identity_text vendor device) }
+    ensures { OnOk result (Adds text.old text.new (identity_text vendor device)) }
 {
     write!(text, "{vendor:04x}:{device:04x}")
 }
 
 /// Appends a function's bus, device and function numbers.
 fn push_address(text: &mut String, bus: u8, part: Part) -> Result<(), AllocError>
-    ensures { OnOk result (string_bytes text.new
-        ≡ string_bytes text.old ++ part_address bus part) }
+    ensures { OnOk result (Adds text.old text.new (part_address bus part)) }
 {
     let device = part.device();
     let function = part.function();
@@ -62,8 +61,7 @@ pub(crate) fn push_numbers_and_path(
     bus: u8,
     path: &Path,
 ) -> Result<(), AllocError>
-    ensures { OnOk result (string_bytes text.new
-        ≡ string_bytes text.old ++ numbers_and_path bus path.now) }
+    ensures { OnOk result (Adds text.old text.new (numbers_and_path bus path.now)) }
 {
     push_address(text, bus, path.last())?;
     text.push(' ')?;

@@ -1,5 +1,6 @@
 //! The whole text.
-ghost use Rattle.std.specs.Prelude.{◌≡◌, ◌++◌, OnOk, IfOk, not, count_by, string_bytes};
+ghost use Rattle.std.specs.Prelude.{◌≡◌, OnOk, IfOk, not, count_by, string_bytes};
+ghost use Rattle.lists.specs.Texts.{Adds};
 ghost use Rattle.model_board.specs.Board.{is_bridge};
 ghost use Rattle.model_guests.specs.World.{World};
 ghost use Rattle.model_handoff.specs.Report.{report};
@@ -36,8 +37,7 @@ fn bridges(rows: &[FunctionRow]) -> usize
 
 /// Appends the line that counts endpoints and bridges.
 fn push_counts(text: &mut String, rows: &[FunctionRow]) -> Result<(), AllocError>
-    ensures { OnOk result (string_bytes text.new
-        ≡ string_bytes text.old ++ ended (count_line rows.now)) }
+    ensures { OnOk result (Adds text.old text.new (ended (count_line rows.now))) }
 {
     let endpoints = endpoints(rows);
     let bridges = bridges(rows);
@@ -50,8 +50,7 @@ fn push_functions(
     rows: &[FunctionRow],
     settings: &[Setting],
 ) -> Result<(), AllocError>
-    ensures { OnOk result (string_bytes text.new
-        ≡ string_bytes text.old ++ rows_text rows.now settings.now) }
+    ensures { OnOk result (Adds text.old text.new (rows_text rows.now settings.now)) }
 {
     for (row, setting) in rows.iter().zip(settings) {
         push_function(text, row, &setting.writes)?;
@@ -61,8 +60,7 @@ fn push_functions(
 
 /// Appends the lines of all guests.
 fn push_guests(text: &mut String, guests: &[GuestDecl]) -> Result<(), AllocError>
-    ensures { OnOk result (string_bytes text.new
-        ≡ string_bytes text.old ++ guests_text guests.now) }
+    ensures { OnOk result (Adds text.old text.new (guests_text guests.now)) }
 {
     for guest in guests {
         push_guest(text, guest)?;

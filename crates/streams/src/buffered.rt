@@ -51,7 +51,8 @@ impl<W: Writer + Drop> BufferedWriter<W> {
     /// Fails without a call of the writer behind.
     fn refuse(&mut self) -> Failed
         requires { self.old.refusals < 2 ^ 64 - 1 }
-        ensures { self.new ≡ record self.old { stopped = true; refusals = self.old.refusals + 1 } }
+        ensures { self.new
+            ≡ record self.old { stopped = true; refusals = self.old.refusals + 1 } }
     {
         self.stopped = true;
         self.refusals += 1;
@@ -64,8 +65,10 @@ impl<W: Writer + Drop> BufferedWriter<W> {
         ensures bytes { Keeps (append_known (W.written self.old.inner) self.old.kept.bytes)
             (append_known (W.written self.new.inner) self.new.kept.bytes) }
         ensures less { OnOk result (length self.new.kept.bytes < length self.old.kept.bytes) }
-        ensures same { self.new ≡ record self.old { inner = self.new.inner; kept = self.new.kept } }
-        ensures failures { W.failures self.new.inner ≡ W.failures self.old.inner + failures_of result }
+        ensures same { self.new
+            ≡ record self.old { inner = self.new.inner; kept = self.new.kept } }
+        ensures failures { W.failures self.new.inner
+            ≡ W.failures self.old.inner + failures_of result }
     {
         let n = self.inner.write(self.kept.bytes())?;
         if n == 0 {
@@ -80,11 +83,13 @@ impl<W: Writer + Drop> BufferedWriter<W> {
         requires room { W.failures self.old.inner < 2 ^ 64 - 1 }
         ensures bytes { Keeps (append_known (W.written self.old.inner) self.old.kept.bytes)
             (append_known (W.written self.new.inner) self.new.kept.bytes) }
-        ensures empty { OnOk result (self.new.kept ≡ record self.new.kept { bytes = []; room = self.new.kept.capacity }) }
+        ensures empty { OnOk result (self.new.kept
+            ≡ record self.new.kept { bytes = []; room = self.new.kept.capacity }) }
         ensures goes_on { OnOk result (self.new.stopped ≡ false) }
         ensures stops { OnErr result (self.new.stopped ≡ true) }
         ensures refusals { self.new.refusals ≡ self.old.refusals }
-        ensures failures { W.failures self.new.inner ≡ W.failures self.old.inner + failures_of result }
+        ensures failures { W.failures self.new.inner
+            ≡ W.failures self.old.inner + failures_of result }
     {
         self.stopped = true;
         while !self.kept.bytes().is_empty() {

@@ -31,7 +31,8 @@ impl Model for Kept {
 impl Kept {
     /// Room for `capacity` bytes.
     pub(crate) fn with_capacity(alloc: Global, capacity: usize) -> Result<Kept, AllocError>
-        ensures { IfOk result (λ k. k ≡ record { bytes = []; room = capacity; capacity = capacity }) }
+        ensures { IfOk result (λ k.
+            k ≡ record { bytes = []; room = capacity; capacity = capacity }) }
     {
         Ok(Kept {
             place: Vec::with_capacity(alloc, capacity)?,

@@ -45,7 +45,8 @@ fn on_bus(rows: &[FunctionRow], above: &[Above], bus: usize) -> Above
     requires known { bus ≤ length above.now }
     requires there { length above.now ≤ length rows.now }
     ensures root { bus ≡ 0 → result ≡ nothing_above }
-    ensures others { (n : ℕ) (r : TableRow) (up : AboveValue) → bus ≡ suc n → slice_get rows.now n ≡ Some r
+    ensures others { (n : ℕ) (r : TableRow) (up : AboveValue) → bus ≡ suc n →
+        slice_get rows.now n ≡ Some r
         → slice_get above.now n ≡ Some up → result ≡ behind bus r.decl up }
 {
     if bus == 0 {

@@ -36,7 +36,8 @@ impl Plan {
     /// The plan with these settings, of functions at these paths.
     pub(crate) fn new(paths: Vec<Path>, placement: Placement, settings: Vec<Setting>) -> Plan
         requires { AreListable paths.items placement }
-        ensures { result ≡ record { rows = rows_of paths.items placement; settings = settings.items } }
+        ensures { result
+            ≡ record { rows = rows_of paths.items placement; settings = settings.items } }
     {
         Plan {
             paths,

@@ -1,5 +1,6 @@
 //! What the functions of a bus have there.
 ghost use Rattle.std.specs.Prelude.{◌≡◌, ◌++◌, ◌≤◌, ◌^◌, List, [], ◌∷◌, IfOk};
+ghost use Rattle.lists.specs.Texts.{Adds};
 ghost use Rattle.model_registers.specs.Declarations.{Bridge};
 ghost use Rattle.window_packing.specs.Plans.{named_pool};
 ghost use Rattle.window_packing.specs.Packs.{IsOver, pool_items, regions_from, window_of, own_items};
@@ -28,7 +29,8 @@ fn push_region(
 ) -> Result<(), AllocError>
     ensures { IfOk result (λ _. (ds : List Bridge) → IsOver ds above.now
         → into.new.items
-        ≡ into.old.items ++ pool_items apertures.now ds (named_pool pool) part (regions_from index (bar ∷ []))) }
+        ≡ into.old.items
+        ++ pool_items apertures.now ds (named_pool pool) part (regions_from index (bar ∷ []))) }
 {
     if let Some(bar) = bar
         && pool_of(apertures, above, bar.kind()) == pool
@@ -54,7 +56,8 @@ fn push_regions(
 ) -> Result<(), AllocError>
     ensures { IfOk result (λ _. (ds : List Bridge) → IsOver ds above.now
         → into.new.items
-        ≡ into.old.items ++ pool_items apertures.now ds (named_pool pool) part (regions_from 0 bars.now)) }
+        ≡ into.old.items
+        ++ pool_items apertures.now ds (named_pool pool) part (regions_from 0 bars.now)) }
 {
     'registers: for index in 0..6u8 {
         push_region(
@@ -79,7 +82,8 @@ fn push_window(
 ) -> Result<(), AllocError>
     requires { behind.now.end ≤ 2 ^ 63 }
     ensures { IfOk result (λ _.
-        into.new.items ≡ into.old.items ++ window_of (unit_of (named_pool pool)) part behind.now behind.now.spots) }
+        into.new.items ≡ into.old.items
+        ++ window_of (unit_of (named_pool pool)) part behind.now behind.now.spots) }
 {
     if !behind.spots.is_empty() {
         into.push(Item {
@@ -105,7 +109,8 @@ pub(crate) fn push_own(
     requires { behind.now.end ≤ 2 ^ 63 }
     ensures { IfOk result (λ _. (ds : List Bridge) → IsOver ds above.now
         → into.new.items
-        ≡ into.old.items ++ own_items apertures.now ds (named_pool pool) row.now.path row.now.decl behind.now) }
+        ≡ into.old.items
+        ++ own_items apertures.now ds (named_pool pool) row.now.path row.now.decl behind.now) }
 {
     let part = row.path.last();
     match &row.found {

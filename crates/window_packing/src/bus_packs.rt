@@ -52,7 +52,8 @@ pub(crate) fn pack_pool(
         (IsFalse (fits (board_in rows.now) apertures.now (named_pool pool)))
         (λ packs. packs.items ≡ packs_of (board_in rows.now) apertures.now (named_pool pool))) }
     ensures large { IfOk result (λ r.
-        IsNone r → 2 ^ 63 < (pack_of (board_in rows.now) apertures.now (named_pool pool) []).end) }
+        IsNone r → 2 ^ 63
+        < (pack_of (board_in rows.now) apertures.now (named_pool pool) []).end) }
     ensures bounded { IfOk result (λ r. IfSome r (λ packs. Each IsBounded packs.items)) }
 {
     let unit = pool.unit();

@@ -56,7 +56,8 @@ fn place(at: u64, item: &Item) -> Option<u64>
 fn place_all(alloc: Global, items: &[Item]) -> Result<Option<(Vec<Spot>, u64)>, AllocError>
     requires { Each HasLawfulAlign items.now }
     ensures { IfOk result (λ r. MatchOption r (2 ^ 63 < end_from 0 items.now) (λ p.
-        (p.0.items ≡ spots_from 0 items.now) × (p.1 ≡ end_from 0 items.now) × (p.1 ≤ 2 ^ 63))) }
+        (p.0.items ≡ spots_from 0 items.now) × (p.1 ≡ end_from 0 items.now)
+        × (p.1 ≤ 2 ^ 63))) }
 {
     let mut spots = Vec::with_capacity(alloc, items.len())?;
     let mut at = 0;
@@ -90,7 +91,8 @@ pub(crate) fn pack_bus(
 ) -> Result<Option<BusPack>, AllocError>
     requires { IsPackable items.items }
     ensures packed { IfOk result (λ r.
-        MatchOption r (2 ^ 63 < end_from 0 (in_order items.items)) (λ p. p ≡ pack_items unit items.items)) }
+        MatchOption r (2 ^ 63 < end_from 0 (in_order items.items)) (λ p.
+        p ≡ pack_items unit items.items)) }
     ensures within { IfOk result (λ r. IfSome r (λ p. p.end ≤ 2 ^ 63)) }
 {
     let mut items = items;

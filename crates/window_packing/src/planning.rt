@@ -81,7 +81,8 @@ fn place_board(
     requires declarations { HasLawfulDecls (board_in rows.now) }
     requires above { AreAbove (board_in rows.now) above.now }
     ensures placed { IfOk result (λ p. IsPlacement (board_in rows.now) apertures.now p) }
-    ensures kept { IfOk result (λ _. first_broken (placement_rules (board_in rows.now) apertures.now) ≡ None) }
+    ensures kept { IfOk result (λ _.
+        first_broken (placement_rules (board_in rows.now) apertures.now) ≡ None) }
     ensures refused { IfErr result (λ f. IsRefusal (board_in rows.now) apertures.now f) }
 {
     if !has_io_paths(rows, above) {
@@ -108,10 +109,14 @@ pub fn plan(alloc: Global, table: &FunctionTable, apertures: &Apertures) -> Resu
     requires { IsTableOf (board_in table.now) table.now }
 
     // Of whatever board this is the table.
-    ensures planned { IfOk result (λ p. (b : Board) → IsTableOf b table.now → p ≡ planned b apertures.now) }
-    ensures lawful { IfOk result (λ p. (b : Board) → IsTableOf b table.now → IsLawful b apertures.now p.rows) }
-    ensures placeable { IfOk result (λ _. (b : Board) → IsTableOf b table.now → CanBePlaced b apertures.now) }
-    ensures refused { IfErr result (λ f. (b : Board) → IsTableOf b table.now → IsRefusal b apertures.now f) }
+    ensures planned { IfOk result (λ p.
+        (b : Board) → IsTableOf b table.now → p ≡ planned b apertures.now) }
+    ensures lawful { IfOk result (λ p.
+        (b : Board) → IsTableOf b table.now → IsLawful b apertures.now p.rows) }
+    ensures placeable { IfOk result (λ _.
+        (b : Board) → IsTableOf b table.now → CanBePlaced b apertures.now) }
+    ensures refused { IfErr result (λ f.
+        (b : Board) → IsTableOf b table.now → IsRefusal b apertures.now f) }
 {
     let rows = table.rows();
     let above = all_above(alloc, rows)?;

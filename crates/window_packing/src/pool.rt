@@ -33,7 +33,8 @@ impl Pool {
 /// Whether the bridges above a prefetchable region forward addresses of the prefetchable aperture: those
 /// below 4 GB, or for a region of 64 bits those above.
 fn pref_reaches(aperture: &Aperture, above: &Above, wide: bool) -> bool
-    ensures { (ds : List Bridge) → IsOver ds above.now → result ≡ pref_reaches aperture.now ds wide }
+    ensures { (ds : List Bridge) → IsOver ds above.now →
+        result ≡ pref_reaches aperture.now ds wide }
 {
     if aperture.last < 1 << 32 {
         above.pref
@@ -44,7 +45,8 @@ fn pref_reaches(aperture: &Aperture, above: &Above, wide: bool) -> bool
 
 /// The pool of a prefetchable memory region.
 fn pref_or_mem(apertures: &Apertures, above: &Above, wide: bool) -> Pool
-    ensures { (ds : List Bridge) → IsOver ds above.now → named_pool result ≡ pref_or_mem apertures.now.pref ds wide }
+    ensures { (ds : List Bridge) → IsOver ds above.now →
+        named_pool result ≡ pref_or_mem apertures.now.pref ds wide }
 {
     match apertures.pref() {
         Some(aperture) if pref_reaches(&aperture, above, wide) => Pool::Pref,
@@ -54,7 +56,8 @@ fn pref_or_mem(apertures: &Apertures, above: &Above, wide: bool) -> Pool
 
 /// The pool of a region of this kind, behind these bridges.
 pub(crate) fn pool_of(apertures: &Apertures, above: &Above, kind: Kind) -> Pool
-    ensures { (ds : List Bridge) → IsOver ds above.now → named_pool result ≡ pool_of apertures.now ds (kind_of kind) }
+    ensures { (ds : List Bridge) → IsOver ds above.now →
+        named_pool result ≡ pool_of apertures.now ds (kind_of kind) }
 {
     match kind {
         Kind::Io => Pool::Io,

@@ -195,9 +195,11 @@ pub(crate) fn place_pool(
     requires board { IsBoard (board_in rows.now) }
     requires declarations { HasLawfulDecls (board_in rows.now) }
     requires above { AreAbove (board_in rows.now) above.now }
-    ensures placed { IfOk result (λ p. IsPlaced (board_in rows.now) apertures.now (named_pool pool) p) }
+    ensures placed { IfOk result (λ p.
+        IsPlaced (board_in rows.now) apertures.now (named_pool pool) p) }
     ensures refused { IfErr result (λ f.
-        (f ≡ Memory) ⊎ ((f ≡ fault_of pool) × IsFalse (fits (board_in rows.now) apertures.now (named_pool pool)))) }
+        (f ≡ Memory) ⊎ ((f ≡ fault_of pool)
+        × IsFalse (fits (board_in rows.now) apertures.now (named_pool pool)))) }
 {
     let end = aperture_end(apertures, pool);
     let Some(packs) = pack_pool(alloc, pool, rows, above, apertures)? else {

@@ -82,7 +82,8 @@ pub fn enumerate(alloc: Global, host: &mut Host) -> Result<FunctionTable, Fault>
     ensures found { IfOk result (λ t. IsEnumerated host.old host.new t) }
     ensures fault { IfErr result (λ f. (f ≡ Memory) ⊎ (f ≡ Buses)) }
     ensures refused { IfErr result (λ f. (f ≡ Memory) ⊎
-        (first_broken (set_up_rules (board_below host.old) host.old.apertures) ≡ Some (number_of f))) }
+        (first_broken (set_up_rules (board_below host.old) host.old.apertures)
+        ≡ Some (number_of f))) }
 {
     let mut table = scan(alloc, host)?;
     size_all(host, &mut table);
@@ -94,9 +95,11 @@ pub fn enumerate(alloc: Global, host: &mut Host) -> Result<FunctionTable, Fault>
 /// the board.
 pub fn set_up(alloc: Global, host: Host) -> Result<Ready, Fault>
     requires { IsAtReset host.state }
-    ensures ready { IfOk result (λ r. r.host ≡ record host { state = set_up_state (board_below host) host.apertures }) }
+    ensures ready { IfOk result (λ r.
+        r.host ≡ record host { state = set_up_state (board_below host) host.apertures }) }
     ensures board { IfOk result (λ r. board_below r.host ≡ board_below host) }
-    ensures kept { IfOk result (λ _. first_broken (set_up_rules (board_below host) host.apertures) ≡ None) }
+    ensures kept { IfOk result (λ _.
+        first_broken (set_up_rules (board_below host) host.apertures) ≡ None) }
     ensures claims { IfOk result (λ r. OwnClaims r.host) }
     ensures refused { IfErr result (λ f. (f ≡ Memory) ⊎
         (first_broken (set_up_rules (board_below host) host.apertures) ≡ Some (number_of f))) }

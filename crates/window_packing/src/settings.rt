@@ -53,7 +53,8 @@ fn bit(on: bool, value: u16) -> u16
 /// The Command register of an endpoint: bit 0 where it has I/O regions, bit 1 where it has memory
 /// regions (PCI Local Bus 3.0, section 6.2.2).
 fn command_of(bars: &[Option<BarDecl>; 6]) -> u16
-    ensures { (d : EndpointValue) → d.regions ≡ regions_of bars.now → result ≡ command_of d }
+    ensures { (d : EndpointValue) → d.regions ≡ regions_of bars.now →
+        result ≡ command_of d }
 {
     bit(opens(bars, Space::Io), 1) + bit(opens(bars, Space::Mem), 2)
 }
@@ -64,7 +65,8 @@ fn based(part: Part, index: u8, bar: BarDecl, first: u64, pack: &BusPack) -> Bas
     requires align { Each (λ s. IsTrue (is_item part (a_region index) s.item)
         → s.item.align ≡ bar.size) pack.now.spots }
     requires room { first + offset_in pack.now.spots part (a_region index) < 2 ^ 64 }
-    ensures { result ≡ record { decl = bar; base = first + offset_in pack.now.spots part (a_region index) } }
+    ensures { result
+        ≡ record { decl = bar; base = first + offset_in pack.now.spots part (a_region index) } }
 {
     let size = bar.size();
     let key = Item {
@@ -97,7 +99,8 @@ fn base_of(
     requires found { Each (IsRegionAt (board_in rows.now) i) (regions_from index (bar ∷ [])) }
     ensures { (r : Row) → slice_get (board_in rows.now) i ≡ Some r
         → bases_from index (result ∷ [])
-        ≡ map (placed_base (board_in rows.now) apertures.now r.path) (regions_from index (bar ∷ [])) }
+        ≡ map (placed_base (board_in rows.now) apertures.now r.path) (regions_from index (bar
+        ∷ [])) }
 {
     let bar = bar?;
     let row = &rows[i];
@@ -123,7 +126,8 @@ fn bases_of(
     requires above { IsAboveAt (board_in rows.now) i above.now }
     requires found { Each (IsRegionAt (board_in rows.now) i) (regions_of bars.now) }
     ensures { (r : Row) → slice_get (board_in rows.now) i ≡ Some r
-        → bases_from 0 result ≡ map (placed_base (board_in rows.now) apertures.now r.path) (regions_of bars.now) }
+        → bases_from 0 result
+        ≡ map (placed_base (board_in rows.now) apertures.now r.path) (regions_of bars.now) }
 {
     let mut bases = [None; 6];
     for index in 0..6u8 {
@@ -137,8 +141,10 @@ fn bases_of(
 /// that its register names, and its last address at 0.
 fn window_of(pool: Pool, closed: u64, first: u64, pack: &BusPack) -> Window
     requires closed { closed < 2 ^ 12 }
-    requires some { Each (λ s. 0 < round_up (unit_of (named_pool pool)) pack.now.end) pack.now.spots }
-    requires room { Each (λ s. first + round_up (unit_of (named_pool pool)) pack.now.end ≤ 2 ^ 63) pack.now.spots }
+    requires some { Each (λ s. 0
+        < round_up (unit_of (named_pool pool)) pack.now.end) pack.now.spots }
+    requires room { Each (λ s. first + round_up (unit_of (named_pool pool)) pack.now.end
+        ≤ 2 ^ 63) pack.now.spots }
     ensures { (is : List ItemValue) → pack.now ≡ pack_items (unit_of (named_pool pool)) is
         → result ≡ window_of (unit_of (named_pool pool)) closed first is }
 {

@@ -57,7 +57,8 @@ fn rows_use(
     requires board { IsBoard (board_in rows.now) }
     requires declarations { HasLawfulDecls (board_in rows.now) }
     requires above { AreAbove (board_in rows.now) above.now }
-    ensures { IfOk result (λ u. u ≡ told_use (board_in rows.now) apertures.now (named_pool pool)) }
+    ensures { IfOk result (λ u.
+        u ≡ told_use (board_in rows.now) apertures.now (named_pool pool)) }
 {
     let end = aperture_end(apertures, pool);
     match pack_pool(alloc, pool, rows, above, apertures)? {
@@ -78,7 +79,8 @@ pub fn pool_use(
 
     // Of whatever board this is the table. The pool fits where it takes no more than there is.
     ensures value { IfOk result (λ u.
-        (b : Board) → IsTableOf b table.now → u ≡ told_use b apertures.now (named_pool pool)) }
+        (b : Board) → IsTableOf b table.now →
+        u ≡ told_use b apertures.now (named_pool pool)) }
     ensures fits { IfOk result (λ r. IfSome r (λ u. (b : Board) → IsTableOf b table.now →
         fits b apertures.now (named_pool pool) ≡ nat_le u.extent u.room)) }
 {
