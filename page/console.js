@@ -12,7 +12,7 @@ export class Console {
   // `parts` are its elements, and `box` the one in which lines are typed; `machine` gives what answers lines, or null; `whose` tells
   // whose lines they are; `moved` is told of each move that was done, `heard` of each reply, and `ran` of each line.
   constructor(parts, box, { machine, whose, moved, heard, ran }) {
-    Object.assign(this, { parts, box, machine, whose, moved, heard, ran, marks: new Map(), before: [], back: 0, playing: 0, said: [] });
+    Object.assign(this, { parts, box, machine, whose, moved, heard, ran, marks: new Map(), before: [], back: 0, playing: 0, said: [], scrolls: false });
     parts.entry.addEventListener('submit', event => { event.preventDefault(); this.enter(); });
     parts.line.addEventListener('keydown', event => this.recall(event));
   }
@@ -30,8 +30,15 @@ export class Console {
   put(name, text) {
     const one = make('div', name, text);
     this.parts.transcript.append(one);
-    this.parts.transcript.scrollTop = this.parts.transcript.scrollHeight;
+    this.scroll();
     return one;
+  }
+
+  // Shows the last line, once for all that are put at once.
+  scroll() {
+    if (this.scrolls) return;
+    this.scrolls = true;
+    queueMicrotask(() => { this.scrolls = false; this.parts.transcript.scrollTop = this.parts.transcript.scrollHeight; });
   }
 
   // The lines that were run, as a script.
@@ -60,7 +67,6 @@ export class Console {
     one.classList.toggle('refused', reply.includes(': refused '));
     const { as, guests } = this.whose(), why = why_refused(line, reply, guests, as);
     if (why !== null) this.put('why', why);
-    this.parts.transcript.scrollTop = this.parts.transcript.scrollHeight;
     this.follow_move(line, reply);
     this.heard(reply);
   }

@@ -37,7 +37,8 @@ export class LessonView {
     this.parts.progress.textContent = `${done} of ${this.tasks.length} done${kept}`;
     this.parts.steps.replaceChildren(...this.tasks.map((task, nth) => {
       const item = make('li', ''), is_done = lessons.is_done(task);
-      const button = task_button(`${nth + 1} ${task.title}${is_done ? ' ✓' : ''}`, `Lesson ${nth + 1}: ${task.title}${is_done ? ', done' : ''}`, () => this.acts.begin(nth));
+      const button = task_button(`${nth + 1}`, `Lesson ${nth + 1}: ${task.title}${is_done ? ', done' : ''}`, () => this.acts.begin(nth));
+      button.append(make('span', 'title', ` ${task.title}`), is_done ? ' ✓' : '');
       if (task === lessons.task) button.setAttribute('aria-current', 'step');
       item.append(button);
       return item;

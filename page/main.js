@@ -43,6 +43,8 @@ const lacks = () => (firmware.now === null ? ['the board is refused'] : lacks_of
 const lessons = new Lessons(part, TASKS, { open: open_task, held: answers, guests, left: set_up, lacks });
 const held = () => ({ board: part.board.value, script: script_console.script(), as, task: lessons.kept() });
 new TaskForm(part, () => ({ ...held(), guests: guests() }));
+// The width up to which guests' registers begin folded.
+const NARROW = 640;
 let following = false, unseen = false;
 
 // What one may type about: the functions with their numbers as they are now, and where regions stand.
@@ -200,6 +202,7 @@ function tell(wrong, text) {
 function be(whom) {
   as = whom === 'firmware' ? whom : 'guests';
   document.body.dataset.as = as;
+  part.written.open = as === 'firmware' || innerWidth > NARROW;
   for (const one of part.as.querySelectorAll('input')) one.checked = one.value === as;
 }
 
@@ -258,7 +261,10 @@ function wire() {
   part.link.addEventListener('click', hand_out);
   part.open.addEventListener('change', async () => show_text(await part.open.files[0].text()));
   for (const button of part.jump.querySelectorAll('button')) {
-    button.addEventListener('click', () => part[button.dataset.to].scrollIntoView({ block: 'start' }));
+    button.addEventListener('click', () => {
+      if (button.dataset.to === 'chosen') part.written.open = true;
+      part[button.dataset.to].scrollIntoView({ block: 'start' });
+    });
   }
   part.stories.append('Stories: ', ...STORIES.map(({ title }) => {
     const button = Object.assign(document.createElement('button'), { type: 'button', textContent: title });

@@ -19,7 +19,8 @@ export function bytes_of(held, who, where) {
 // A function with what such bytes say of it: where its regions stand and which windows are open.
 export function seen_in(one, bytes, decodes) {
   const view = new DataView(bytes.buffer), values = new Map(ALL_DWORDS.map(offset => [offset, view.getUint32(offset, true)]));
-  return { ...one, values, decodes, all_regions: regions_now(one, values), all_windows: one.kind === 'bridge' ? windows_now(decodes, values) : [] };
+  const regions = regions_now({ regions: one.all_regions ?? one.regions }, values);
+  return { ...one, values, decodes, all_regions: regions, all_windows: one.kind === 'bridge' ? windows_now(decodes, values) : [] };
 }
 
 const labelled = (name, input) => { const label = make('label', ''); label.append(...(input.type === 'checkbox' ? [input, name] : [name, input])); return label; };
