@@ -1,7 +1,7 @@
 mod FunctionRows
 mod FaultNumbers
-mod Blocks
 mod Kept
 mod Moved
+mod OpenFaults
 mod Options
 mod Words
