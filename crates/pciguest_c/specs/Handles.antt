@@ -3,8 +3,8 @@
 --     machine_of h      the machine of a session whose board is given to its guests
 --     board_of h      the board of a session that firmware drives
 use Rattle.std.specs.Prelude.{Option, Some, None}
-use Rattle.model_giving.specs.Changes.{MachineNow}
-use Rattle.model_sessions.specs.Sessions.{DrivenNow, SessionNow, driven, given}
+use Rattle.model_handoff.specs.Changes.{MachineNow}
+use Rattle.model_lines.specs.Sessions.{DrivenNow, SessionNow, driven, given}
 use Rattle.pciguest_c.specs.declared.handle.Handle.{Handle}
 
 abbrev pub session_of : Handle → Option SessionNow

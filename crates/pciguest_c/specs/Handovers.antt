@@ -2,7 +2,7 @@
 --     IsRefusalOf b n      the number of its first fault, or of no memory
 use Rattle.std.specs.Prelude.{◌≡◌, ℕ, Some, IfSome}
 use Rattle.model_handoff.specs.Regions.{first_fault}
-use Rattle.model_sessions.specs.Sessions.{DrivenNow}
+use Rattle.model_lines.specs.Sessions.{DrivenNow}
 use Rattle.monitor.specs.declared.handover.HandoverFault.{HandoverFault}
 use Rattle.monitor.specs.Handovers.{number_of, handoff_fault}
 

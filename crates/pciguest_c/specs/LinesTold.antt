@@ -4,7 +4,7 @@
 --         and what it writes may be longer than a line
 use Rattle.std.specs.Prelude.{Bool, false, ◌||◌, ◌++◌, drop, length}
 use Rattle.model_guests.specs.Text.{Text}
-use Rattle.model_sessions.specs.Sessions.{is_audit, is_handover, SessionNow, driven, given}
+use Rattle.model_lines.specs.Sessions.{is_audit, is_handover, SessionNow, driven, given}
 
 abbrev pub at_front : Text → Text → Text
 at_front text out = text ++ drop (length text) out

@@ -2,8 +2,8 @@
 ghost use Rattle.std.specs.Prelude.{◌≡◌, ◌≢◌, None, Some, IfNone, IfSome};
 ghost use Rattle.model_guests.specs.Accesses.{reads, writes};
 ghost use Rattle.model_guests.specs.Grammar.{HostTarget};
-ghost use Rattle.model_firmware.specs.HostAccesses.{HostAccess as Asked, answer};
-ghost use Rattle.model_sessions.specs.Sessions.{after_board_access};
+ghost use Rattle.model_lines.specs.HostAccesses.{HostAccess as Asked, answer};
+ghost use Rattle.model_lines.specs.Sessions.{after_board_access};
 ghost use Rattle.pciguest_c.specs.Handles.{session_of, board_of};
 ghost use Rattle.pciguest_c.specs.Told.{at_bus, number_told, value_told, host_target_told};
 

@@ -1,7 +1,7 @@
 //! The board of a handle, as firmware left it, given to the guests of its file.
 ghost use Rattle.std.specs.Prelude.{◌≡◌, ◌≢◌, None, Some, IfNone, IfSome, IsSome};
-ghost use Rattle.model_sessions.specs.GivenLaws.{IsGiven};
-ghost use Rattle.model_giving.specs.Changes.{BeginsIn};
+ghost use Rattle.model_lines.specs.GivenLaws.{IsGiven};
+ghost use Rattle.model_handoff.specs.Changes.{BeginsIn};
 ghost use Rattle.pciguest_c.specs.Handles.{session_of, machine_of, board_of};
 ghost use Rattle.pciguest_c.specs.Handovers.{IsRefusalOf};
 

@@ -1,6 +1,6 @@
 //! How C makes a board at reset, and frees it.
 ghost use Rattle.std.specs.Prelude.{◌≡◌, ◌≢◌, ◌≤◌, ◌<◌, None, IfSome, IfNone, IsSome};
-ghost use Rattle.model_sessions.specs.Sessions.{at_reset};
+ghost use Rattle.model_lines.specs.Sessions.{at_reset};
 ghost use Rattle.session.specs.Files.{Declares, Refuses};
 ghost use Rattle.pciguest_c.specs.Handles.{session_of, board_of};
 

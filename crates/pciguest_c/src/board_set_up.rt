@@ -1,8 +1,8 @@
 //! Our own set-up of a board at reset, for C.
 ghost use Rattle.std.specs.Prelude.{◌≡◌, ◌≢◌, ◌<◌, ◌≤◌, ◌⊎◌, true, false, IfNone, IfSome, IfOk, IfErr};
 ghost use Rattle.std.specs.Prelude.{IsErrOf, IsFalse, IsSome, IsTrue};
-ghost use Rattle.model_giving.specs.Changes.{MachineNow, BeginsIn};
-ghost use Rattle.model_sessions.specs.Sessions.{given};
+ghost use Rattle.model_handoff.specs.Changes.{MachineNow, BeginsIn};
+ghost use Rattle.model_lines.specs.Sessions.{given};
 ghost use Rattle.session.specs.Files.{BreaksRule, IsAtFirst};
 ghost use Rattle.pciguest_c.specs.Handles.{session_of, machine_of, board_of};
 

@@ -1,7 +1,7 @@
 //! What is asked of the functions of the board: how many there are, and what is told of each.
 ghost use Rattle.std.specs.Prelude.{◌≡◌, ◌≢◌, ◌<◌, ◌≤◌, IfNone, IfSome, length};
 ghost use Rattle.model_guests.specs.WorldNow.{board_state};
-ghost use Rattle.model_queries.specs.Functions.{function_nth};
+ghost use Rattle.model_handoff.specs.Functions.{function_nth};
 ghost use Rattle.pciguest_c.specs.Handles.{session_of, machine_of};
 ghost use Rattle.pciguest_c.specs.QueriesTold.{number_answered};
 ghost use Rattle.pciguest_c.specs.FunctionsTold.{function_number, found_left, slot_asked, row_left};
@@ -22,7 +22,10 @@ pub extern "C" fn pciguest_raw_count(alloc: Global, handle: &mut Handle, count: 
     ensures untold { result ≢ 0 → count.new ≡ count.old }
     ensures kept { session_of handle.new ≡ session_of handle.old }
 {
-    put_result(handle.ask_machine(alloc, |machine| Ok(machine.count())), count)
+    put_result(
+        handle.ask_machine(alloc, |machine| Ok(machine.count())),
+        count,
+    )
 }
 
 /// What is told of the function at an index, in path order.

@@ -2,8 +2,8 @@
 ghost use Rattle.std.specs.Prelude.{◌≡◌, Some, None, IfSome, IfNone, Err, is_some};
 ghost use Rattle.std.specs.Bool.{OnFalse};
 ghost use Rattle.std.specs.Fn.{FnOnceReturnsAtMut};
-ghost use Rattle.model_giving.specs.Changes.{MachineNow};
-ghost use Rattle.model_sessions.specs.Sessions.{DrivenNow};
+ghost use Rattle.model_handoff.specs.Changes.{MachineNow};
+ghost use Rattle.model_lines.specs.Sessions.{DrivenNow};
 ghost use Rattle.pciguest_c.specs.Handles.{session_of, machine_of, board_of};
 
 use crate::numbers::NO_MACHINE;

@@ -1,6 +1,6 @@
 //! How C makes a machine, and frees it.
 ghost use Rattle.std.specs.Prelude.{◌≡◌, ◌≢◌, ◌≤◌, ◌<◌, None, IfSome, IfNone, IsSome};
-ghost use Rattle.model_giving.specs.Changes.{BeginsIn};
+ghost use Rattle.model_handoff.specs.Changes.{BeginsIn};
 ghost use Rattle.session.specs.Files.{Refuses, Breaks, IsOpened};
 ghost use Rattle.pciguest_c.specs.Handles.{session_of, machine_of};
 

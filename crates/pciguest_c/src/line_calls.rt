@@ -1,8 +1,8 @@
 //! What a line does and writes, for C.
 ghost use Rattle.std.specs.Prelude.{◌≡◌, ◌≢◌, ◌<◌, ◌≤◌, ◌⊎◌, Some, IfNone, IfSome, IfOk, IfErr, IsFalse, length};
 ghost use Rattle.model_guests.specs.WorldNow.{line_output};
-ghost use Rattle.model_giving.specs.Changes.{after_line_on_machine};
-ghost use Rattle.model_sessions.specs.Sessions.{session_output, after_session_line};
+ghost use Rattle.model_handoff.specs.Changes.{after_line_on_machine};
+ghost use Rattle.model_lines.specs.Sessions.{session_output, after_session_line};
 ghost use Rattle.pciguest_c.specs.Handles.{session_of, machine_of};
 ghost use Rattle.pciguest_c.specs.LinesTold.{at_front, asks_for_more};
 
