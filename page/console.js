@@ -44,10 +44,13 @@ export class Console {
     this.ran();
   }
 
-  // The reply of a line.
+  // The reply of a line, which may have more than one line: an audit, or why a board is not given.
   tell(line, machine) {
-    const reply = new TextDecoder().decode(machine.answer(new TextEncoder().encode(line))).trimEnd();
-    if (reply === '') return;
+    const text = new TextDecoder().decode(machine.answer(new TextEncoder().encode(line))).trimEnd();
+    for (const reply of text === '' ? [] : text.split('\n')) this.tell_reply(line, reply);
+  }
+
+  tell_reply(line, reply) {
     const who = reply.slice(0, reply.indexOf(':'));
     const one = this.put(who === 'host' ? 'reply host' : 'reply', reply);
     if (this.marks.has(who)) one.style.setProperty('--hue', this.marks.get(who).hue);

@@ -3,7 +3,7 @@ ghost use Rattle.std.specs.Prelude.{◌≡◌, ◌≢◌, None, Some, IfNone, If
 ghost use Rattle.model_lines.specs.GivenLaws.{IsGiven};
 ghost use Rattle.model_handoff.specs.Changes.{BeginsIn};
 ghost use Rattle.pciguest_c.specs.Handles.{session_of, machine_of, board_of};
-ghost use Rattle.pciguest_c.specs.Handovers.{IsRefusalOf};
+ghost use Rattle.pciguest_c.specs.Handovers.{IsNumberOfRefusal};
 
 use crate::handle::Handle;
 use crate::numbers::{IN_USE, NO_MACHINE};
@@ -27,7 +27,7 @@ pub extern "C" fn pciguest_raw_board_guests(
     ensures given { IfSome (board_of handle.old) (λ b. result ≡ 0 →
         IfSome (machine_of machine.new) (BeginsIn (IsGiven b.world b.state))) }
     ensures faults { IfSome (board_of handle.old) (λ b. IfNone (session_of machine.old)
-        (result ≢ 0 → IsRefusalOf b result)) }
+        (result ≢ 0 → IsNumberOfRefusal b result)) }
     ensures moved { IfSome (machine_of handle.old) (λ m. IfNone (session_of machine.old)
         ((result ≡ 0) × (machine_of machine.new ≡ Some m))) }
     ensures taken { result ≡ 0 → session_of handle.new ≡ None }
