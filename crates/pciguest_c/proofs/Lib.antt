@@ -1,5 +1,6 @@
 mod FunctionRows
 mod FaultNumbers
+mod Held
 mod Kept
 mod Moved
 mod OpenFaults
