@@ -1,5 +1,4 @@
 -- The numbers of the program's faults, of which C is told.
---     file_is_small, set_up_is_large      those of a file are 101 to 199, and those of its board 201 to 299
 --     is_small      those of both are at most 299
 --     refused, broken      what is said of a refusal, by its number
 --     known      the fault of which a check tells is none of memory
@@ -19,14 +18,7 @@ use Rattle.simulation.specs.declared.fault.Fault.{Fault}
 use Rattle.simulation.specs.declared.fault.Fault.TheVariants.{File, SetUp}
 use Rattle.simulation.specs.Faults.{number_of, IsOfBoard, IsOutOfMemory, OnFile, OnSetUp}
 use Rattle.simulation.specs.Checking.{IsCheckText}
-
-pub file_is_small : (b : BoardFault) → (101 ≤ board_file.number_of b) × (board_file.number_of b ≤ 199)
-file_is_small file.NotToml = (lit≤ tt, lit≤ tt)
-file_is_small _ = (lit≤ tt, lit≤ tt)
-
-pub set_up_is_large : (s : SetUpFault) → (201 ≤ bus_scan.number_of s) × (bus_scan.number_of s ≤ 299)
-set_up_is_large set_up.Buses = (lit≤ tt, lit≤ tt)
-set_up_is_large _ = (lit≤ tt, lit≤ tt)
+use Rattle.pciguest_c.proofs.OpenFaults.{file_is_small, set_up_is_large}
 
 pub is_small : (f : Fault) → IsOfBoard f → (101 ≤ number_of f) × (number_of f ≤ 299)
 is_small (File b) is = let small = file_is_small b in (small.0, omega arith)

@@ -4,7 +4,6 @@ ghost use Rattle.std.specs.Bool.{OnFalse};
 ghost use Rattle.std.specs.Fn.{FnOnceReturnsAtMut};
 ghost use Rattle.model_handoff.specs.Changes.{MachineNow};
 ghost use Rattle.model_lines.specs.Sessions.{DrivenNow};
-ghost use Rattle.pciguest_c.specs.Handles.{session_of, machine_of, board_of};
 
 use crate::numbers::NO_MACHINE;
 use crate::owner::Owner;
@@ -24,6 +23,8 @@ pub struct Handle {
 }
 
 impl Handle {
+    ghost use Rattle.pciguest_c.specs.Handles.{session_of, machine_of, board_of};
+
     /// No session.
     fn none(alloc: Global) -> Handle
         ensures { session_of result ≡ None }
