@@ -12,17 +12,17 @@ LIBDIR := lib
 INSTALL := PREFIX='$(PREFIX)' DESTDIR='$(DESTDIR)' LIBDIR='$(LIBDIR)' tools/install
 
 # the board of `make list` and `make lspci`, unless they are given one
-BOARD := crates/examples/data/main.toml
+BOARD := boards/main.toml
 
 .PHONY: demo list lspci has-lspci has-qemu has-firmware has-kit has-peers gate test edits build library install \
   uninstall dist deb deb-test bench bench-peers hostile fuzz qemu firmware kit corpus peers page browse outside try quick clean
 
 # Proves and builds the program, and runs a script over the demo board.
 demo: build
-	@echo; echo '$$ cat examples/demo.script'; cat examples/demo.script
-	@echo; echo '$$ ./pciguest demo < examples/demo.script'; ./pciguest demo < examples/demo.script
+	@echo; echo '$$ cat boards/demo.script'; cat boards/demo.script
+	@echo; echo '$$ ./pciguest demo < boards/demo.script'; ./pciguest demo < boards/demo.script
 
-# The report of a board file: make list BOARD=crates/examples/data/main.toml
+# The report of a board file: make list BOARD=boards/main.toml
 list: pciguest
 	@./pciguest list $(BOARD)
 
@@ -40,7 +40,7 @@ pciguest:
 # the must-fail edits, the tests and the programs; then the proved program as its user runs it, the commands that the
 # documents print, and each growth of memory refused in turn on the main board. At the end stands how long each took.
 GATE := tests/documents.sh tests/kit.sh tests/tools.sh tests/prove.sh 'rm -rf .prove; rt ci' tests/program.sh \
-  tests/commands.sh 'python3 tests/hostile/growths.py crates/pciguest/out/pciguest --quick --arrays crates/examples/out/examples'
+  tests/commands.sh 'python3 tests/hostile/growths.py crates/pciguest/out/pciguest --quick --arrays crates/test_landings/out/test_landings'
 gate:
 	@tests/parts.py $(GATE)
 
@@ -102,7 +102,7 @@ bench: build
 	@echo; bench/audits crates/pciguest/out/pciguest crates/bench_accesses/out/boards
 	@echo; tools/library
 	@$(CC) -O2 -Ilibrary -o crates/pciguest_c/out/calls bench/calls.c library/libpciguest.a
-	@bench/calls crates/pciguest_c/out/calls crates/examples/data/main.toml
+	@bench/calls crates/pciguest_c/out/calls boards/main.toml
 
 # What a read of configuration space takes by lines of firmware, and by QEMU's qtest protocol. It takes Debian's
 # qemu-system-x86.
@@ -206,7 +206,7 @@ quick:
 # The demo in about a minute: nothing is proved.
 try:
 	@echo 'This run proves nothing: it only compiles the program and runs it. `make demo` proves it first.'
-	@cd crates/pciguest && rt try -- demo < ../../examples/demo.script
+	@cd crates/pciguest && rt try -- demo < ../../boards/demo.script
 
 clean:
 	rm -rf crates/*/out page/out library/rust/target .prove corpus pciguest pciguest.html library/libpciguest.a library/libpciguest.so.0

@@ -15,7 +15,7 @@ export function decodes_of(machine, place) {
 }
 
 // Where a function's regions stand by its base address registers, and whether Command opens them.
-function regions_now(one, values) {
+export function regions_now(one, values) {
   return one.regions.map(region => {
     const space = region.kind === 'io' ? 'io' : 'mem', offset = FIRST_BASE + 4 * Number(region.name.slice(3));
     const low = BigInt(values.get(offset)) & (space === 'io' ? ~3n : ~15n);
@@ -25,7 +25,7 @@ function regions_now(one, values) {
 }
 
 // A bridge's windows by its base and limit registers: PCI-to-PCI Bridge Architecture 1.2, chapter 3.2.5.
-function windows_now({ io, pref }, values) {
+export function windows_now({ io, pref }, values) {
   const command = values.get(COMMAND), [ports, mem, far] = [0x1c, 0x20, 0x24].map(offset => values.get(offset));
   const upper = io === 32 ? values.get(0x30) : 0, [above, end_above] = pref === 64 ? [values.get(0x28), values.get(0x2c)] : [0, 0];
   const memory = word => [(word & 0xfff0) * 2 ** 16, (word >>> 16 & 0xfff0) * 2 ** 16 + 0xfffff];

@@ -70,12 +70,18 @@ class Browser:
             time.sleep(0.05)
         sys.exit(f'{address} does not come up')
 
+    def insert(self, text):
+        self.ask('Input.insertText', text=text)
+
+    def press(self, key):
+        press(self, key, '\r' if key == 'Enter' else '')
+
     def picture(self, file):
         file.write_bytes(base64.b64decode(self.ask('Page.captureScreenshot', format='png')['data']))
 
 
 def press(browser, key, text=''):
-    codes = {'Enter': 13, 'Escape': 27, 'ArrowRight': 39}
+    codes = {'Tab': 9, 'Enter': 13, 'Escape': 27, 'ArrowUp': 38, 'ArrowRight': 39, 'ArrowDown': 40}
     browser.ask('Input.dispatchKeyEvent', type='keyDown', key=key, code=key, windowsVirtualKeyCode=codes[key], **({'text': text} if text else {}))
     browser.ask('Input.dispatchKeyEvent', type='keyUp', key=key, code=key, windowsVirtualKeyCode=codes[key])
 

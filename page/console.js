@@ -1,14 +1,18 @@
-// The script's console: lines in, replies out, and stories that play themselves.
+// The script's console: lines in, each reply beside its line, and stories that play themselves.
+
+import { count_in_words } from './report.js';
+import { make } from './marks.js';
+import { why_refused } from './reasons.js';
 
 const PAUSE = 650;
 const LONGEST = 500;
 const NOTED = 4;
 
 export class Console {
-  // `parts` are its elements; `machine` gives what answers lines, or null; `moved` is told of each move that was done, and
-  // `ran` after each line.
-  constructor(parts, machine, moved, ran) {
-    Object.assign(this, { parts, machine, moved, ran, marks: new Map(), before: [], back: 0, playing: 0, said: [] });
+  // `parts` are its elements, and `box` the one in which lines are typed; `machine` gives what answers lines, or null; `whose` tells
+  // whose lines they are; `moved` is told of each move that was done, `heard` of each reply, and `ran` after each line.
+  constructor(parts, box, { machine, whose, moved, heard, ran }) {
+    Object.assign(this, { parts, box, machine, whose, moved, heard, ran, marks: new Map(), before: [], back: 0, playing: 0, said: [] });
     parts.entry.addEventListener('submit', event => { event.preventDefault(); this.enter(); });
     parts.line.addEventListener('keydown', event => this.recall(event));
   }
@@ -19,13 +23,12 @@ export class Console {
     this.marks = marks;
     this.said = [];
     this.parts.line.placeholder = first;
+    this.box.clear();
     this.parts.transcript.replaceChildren();
   }
 
   put(name, text) {
-    const one = document.createElement('div');
-    one.className = name;
-    one.textContent = text;
+    const one = make('div', name, text);
     this.parts.transcript.append(one);
     this.parts.transcript.scrollTop = this.parts.transcript.scrollHeight;
     return one;
@@ -39,26 +42,44 @@ export class Console {
     if (machine === null) { this.put('refused', 'The board is refused, so there is nothing to run.'); return; }
     this.said = [...this.said, line].slice(-LONGEST);
     if (line.trimStart().startsWith('#')) { this.put('remark', line.trimStart().slice(1).trim()); return; }
-    this.put('said', line);
-    this.tell(line, machine);
+    const row = this.put('row', '');
+    row.append(make('span', 'said', line));
+    this.tell(line, machine, row);
     this.ran();
   }
 
-  // The reply of a line, which may have more than one line: an audit, or why a board is not given.
-  tell(line, machine) {
-    const text = new TextDecoder().decode(machine.answer(new TextEncoder().encode(line))).trimEnd();
-    for (const reply of text === '' ? [] : text.split('\n')) this.tell_reply(line, reply);
-  }
+  reply_of(line, machine) { return new TextDecoder().decode(machine.answer(new TextEncoder().encode(line))).trimEnd(); }
 
-  tell_reply(line, reply) {
-    const who = reply.slice(0, reply.indexOf(':'));
-    const one = this.put(who === 'host' ? 'reply host' : 'reply', reply);
+  // The reply of a line, beside it, and why it is refused below it.
+  tell(line, machine, row) {
+    const reply = this.reply_of(line, machine);
+    if (reply === '') return;
+    const who = reply.slice(0, reply.indexOf(':')), one = make('span', who === 'host' ? 'reply host' : 'reply', reply);
+    row.append(' ', one);
     if (this.marks.has(who)) one.style.setProperty('--hue', this.marks.get(who).hue);
     one.classList.toggle('refused', reply.includes(': refused '));
+    const { as, guests } = this.whose(), why = why_refused(line, reply, guests, as);
+    if (why !== null) this.put('why', why);
+    this.parts.transcript.scrollTop = this.parts.transcript.scrollHeight;
+    this.follow_move(line, reply);
+    this.heard(reply);
+  }
+
+  follow_move(line, reply) {
     const words = line.trim().split(/\s+/);
     if (words[0] === 'host' && words[1] === 'move' && reply === 'host: ok') {
       this.moved({ guest: words[2], slot: Number(words[3]) }, { guest: words[4], slot: Number(words[5]) });
     }
+  }
+
+  // Runs the lines that stand before a task, which are shown folded or only counted, and are none of the reader's.
+  prepare(script, shows) {
+    const machine = this.machine(), lines = script.split('\n').filter(line => line.trim() !== '');
+    if (machine === null || lines.length === 0) return;
+    const told = `${count_in_words(lines.filter(line => !line.startsWith('#')).length, 'line')} ran before`, before = make(shows ? 'details' : 'div', 'before');
+    before.append(...(shows ? [make('summary', '', told), make('pre', '', lines.join('\n'))] : [told]));
+    this.parts.transcript.append(before);
+    for (const line of lines) this.follow_move(line, this.reply_of(line, machine));
   }
 
   enter() {
@@ -66,7 +87,7 @@ export class Console {
     if (line.trim() === '') return;
     this.before.push(line);
     this.back = 0;
-    this.parts.line.value = '';
+    this.box.clear();
     this.give(line);
   }
 
@@ -90,6 +111,7 @@ export class Console {
     if (step === undefined) return;
     event.preventDefault();
     this.back = Math.min(Math.max(this.back + step, 0), this.before.length);
+    this.box.clear();
     this.parts.line.value = this.back === 0 ? '' : this.before[this.before.length - this.back];
   }
 

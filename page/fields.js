@@ -1,114 +1,77 @@
-// The registers of one function as fields. What is written into one is a line of firmware, or two where a register has
-// an upper part.
+// The registers of one function as named fields, in groups, and what each writes. What is written into one is a line, or two where a
+// register has an upper part.
 
 import { hex, size_in_words } from './report.js';
-import { make } from './marks.js';
 
-const SWITCHES = [['I/O space', 1], ['Memory space', 2], ['Bus master', 4]];
+const COMMAND_BITS = [['I/O space', 0], ['Memory space', 1], ['Bus master', 2], ['Parity error response', 6], ['SERR# enable', 8], ['Interrupt disable', 10]];
+const STATUS_BITS = [['Master data parity error', 8], ['Signaled target abort', 11], ['Received target abort', 12], ['Received master abort', 13],
+  ['Signaled system error', 14], ['Detected parity error', 15]];
+const SECONDARY_STATUS_BITS = STATUS_BITS.map(([name, bit]) => [bit === 14 ? 'Received system error' : name, bit]);
 
-const byte = (name, title, offset, one) => ({ name, title: `${title}, offset ${offset.toString(16)}h`, most: 0xffn,
-  now: BigInt(one.values.get(offset & ~3) >>> 8 * (offset & 3) & 0xff), writes: value => [[offset, 1, value]] });
+const at_offset = (title, ...places) => `${title}, offset ${places.map(([offset]) => `${offset.toString(16)}h`).join(' and ')}`;
+
+const number_in = (values, offset, width) => BigInt(values.get(offset & ~3) >>> 8 * (offset & 3) & (2 ** (8 * width) - 1));
+
+const byte = (name, title, offset, { values }) => ({ name, places: [[offset, 1]], title: at_offset(title, [offset]), most: 0xffn, now: number_in(values, offset, 1),
+  writes: value => [[offset, 1, value]] });
+
+// Bits of a register of two bytes as switches. Of those that writing a one clears, only one that is set can be written.
+function bits_of(title, names, offset, { values }, clears) {
+  const now = Number(number_in(values, offset, 2));
+  return { title, told: `0x${now.toString(16).padStart(4, '0')}${clears ? ', writing a one clears' : ''}`, fields: [], switches: names.map(([name, bit]) => {
+    const on = (now >> bit & 1) !== 0;
+    return { name, on, title: `bit ${bit} of ${at_offset(title, [offset])}`, places: [[offset, 2]], shut: clears && !on, writes: () => [[offset, 2, clears ? 1 << bit : now ^ 1 << bit]] };
+  }) };
+}
 
 // Base or limit of a window: its low register takes the bits from `shift` on, and the upper one, if there is one, the rest.
-const end_of = (name, title, now, offset, { width, shift, mask }, upper) => ({ name, now, most: upper ? (1n << BigInt(upper[2])) - 1n : (1n << (width === 1 ? 16n : 32n)) - 1n,
-  title: `${title}, offset ${offset.toString(16)}h${upper ? ` and ${upper[0].toString(16)}h` : ''}`,
-  writes: value => [[offset, width, value >> shift & mask], ...(upper ? [[upper[0], upper[1], value >> (upper[1] === 2 ? 16n : 32n)]] : [])] });
+function end_of(name, title, now, offset, { width, shift, mask }, upper) {
+  const places = [[offset, width], ...(upper ? [upper.slice(0, 2)] : [])];
+  return { name, now, places, title: at_offset(title, ...places), most: upper ? (1n << BigInt(upper[2])) - 1n : (1n << (width === 1 ? 16n : 32n)) - 1n,
+    writes: value => [[offset, width, value >> shift & mask], ...(upper ? [[upper[0], upper[1], value >> (upper[1] === 2 ? 16n : 32n)]] : [])] };
+}
 
 const PORTS = { width: 1, shift: 8n, mask: 0xf0n }, MEMORY = { width: 2, shift: 16n, mask: 0xfff0n };
 
-function fields_of_window({ space, first, last, open }, { io, pref }) {
+function window_of({ space, first, last, open }, { io, pref }) {
   const [title, name, offset, form, upper] = {
     io: ['I/O window', 'I/O', 0x1c, PORTS, io === 32 && [0x30, 2, 32]],
     mem: ['Memory window', 'Memory', 0x20, MEMORY, null],
     pref: ['Prefetchable window', 'Prefetchable Memory', 0x24, MEMORY, pref === 64 && [0x28, 4, 64]],
   }[space];
   const above = upper ? [upper[0] + upper[1], upper[1], upper[2]] : null;
-  return { title, told: open ? size_in_words(last - first + 1n) : first > last ? 'shut by Limit' : 'shut by Command',
+  return { title, told: open ? size_in_words(last - first + 1n) : first > last ? 'shut by Limit' : 'shut by Command', switches: [],
     fields: [end_of('first', `${name} Base`, first, offset, form, upper), end_of('last', `${name} Limit`, last, offset + form.width, form, above)] };
 }
 
-function field_of_region({ name, kind, first, size, open }) {
+function base_of({ name, kind, first, size, open }) {
   const offset = 0x10 + 4 * Number(name.slice(3)), wide = kind.startsWith('mem64');
-  return { title: `${name} ${kind}, ${size_in_words(size)}`, told: open ? 'open' : 'shut by Command', fields: [{ name: 'base', now: first, most: (1n << (wide ? 64n : 32n)) - 1n,
-    title: `Base Address Register ${name.slice(3)}, offset ${offset.toString(16)}h`,
+  const places = [[offset, 4], ...(wide ? [[offset + 4, 4]] : [])];
+  return { title: `${name} ${kind}, ${size_in_words(size)}`, told: open ? 'open' : 'shut by Command', switches: [], fields: [{ name: 'base', now: first, places,
+    most: (1n << (wide ? 64n : 32n)) - 1n, title: at_offset(`Base Address Register ${name.slice(3)}`, ...places),
     writes: value => [[offset, 4, value & 0xffffffffn], ...(wide ? [[offset + 4, 4, value >> 32n]] : [])] }] };
 }
 
-// The groups of fields of a function: { title, told, fields }.
-function groups_of(one) {
-  if (one.kind !== 'bridge') return one.all_regions.map(field_of_region);
-  const buses = [byte('Primary', 'Primary Bus Number', 0x18, one), byte('Secondary', 'Secondary Bus Number', 0x19, one),
-    byte('Subordinate', 'Subordinate Bus Number', 0x1a, one)];
-  return [{ title: 'Buses', told: '', fields: buses }, ...one.all_windows.map(window => fields_of_window(window, one.decodes))];
+// The groups of fields of a function: { title, told, switches, fields, bytes }.
+export function groups_of(one) {
+  const bridge = one.kind === 'bridge', own = (title, ...fields) => ({ title, told: '', switches: [], fields, bytes: true });
+  const shared = [bits_of('Command', bridge ? COMMAND_BITS.slice(0, 5) : COMMAND_BITS, 4, one, false), bits_of('Status', STATUS_BITS, 6, one, true)];
+  const others = [byte('Line', 'Interrupt Line', 0x3c, one), byte('Cache', 'Cache Line Size', 0x0c, one), byte('Latency', 'Latency Timer', 0x0d, one)];
+  if (!bridge) return [...shared, ...one.all_regions.map(base_of), own('Other bytes', ...others)];
+  const buses = own('Buses', byte('Primary', 'Primary Bus Number', 0x18, one), byte('Secondary', 'Secondary Bus Number', 0x19, one),
+    byte('Subordinate', 'Subordinate Bus Number', 0x1a, one));
+  return [shared[0], buses, ...one.all_windows.map(window => window_of(window, one.decodes)), shared[1],
+    bits_of('Secondary Status', SECONDARY_STATUS_BITS, 0x1e, one, true), own('Other bytes', ...others, byte('2nd latency', 'Secondary Latency Timer', 0x1b, one))];
 }
 
-const number_in = text => (/^\s*(0x[0-9a-f]+|\d+)\s*$/i.test(text) ? BigInt(text) : null);
-
-export class Fields {
-  // `parts` are the elements `chosen`, `lost` and `fields`; `write` is given a line, and `choose` a path.
-  constructor(parts, write, choose) {
-    Object.assign(this, { parts, write, seen: '', inputs: [] });
-    parts.chosen.addEventListener('change', () => choose(parts.chosen.value));
-  }
-
-  draw(functions, path) {
-    const one = functions.find(each => each.path === path), listed = functions.map(each => each.path).join(' ');
-    if (one === undefined) { this.parts.fields.replaceChildren(); this.seen = ''; return; }
-    if (this.listed !== listed) {
-      this.listed = listed;
-      this.parts.chosen.replaceChildren(...functions.map(each => new Option(`${each.path} ${each.words}`, each.path)));
-    }
-    this.parts.chosen.value = path;
-    this.parts.lost.textContent = one.lost === null ? '' : `No cycle finds it, so nothing can be written: ${one.lost}`;
-    const groups = groups_of(one), form = path + groups.map(group => group.title);
-    if (this.seen !== form) { this.seen = form; this.build(groups); }
-    this.show(one, groups);
-  }
-
-  // A fieldset for Command, and one for each group.
-  build(groups) {
-    this.inputs = groups.map(group => group.fields.map(() => Object.assign(make('input', ''), { type: 'text', spellcheck: false, autocomplete: 'off' })));
-    this.boxes = SWITCHES.map(() => Object.assign(make('input', ''), { type: 'checkbox' }));
-    const titled = (title, children) => {
-      const set = make('fieldset', title === 'Buses' ? 'bytes' : ''), legend = make('legend', '', title), told = make('small', '');
-      legend.append(told);
-      set.append(legend, ...children);
-      return set;
-    };
-    const labelled = (name, input) => { const label = make('label', ''); label.append(...(input.type === 'checkbox' ? [input, name] : [name, input])); return label; };
-    this.parts.fields.replaceChildren(titled('Command', SWITCHES.map(([name], nth) => labelled(name, this.boxes[nth]))),
-      ...groups.map((group, nth) => titled(group.title, group.fields.map((field, at) => labelled(field.name, this.inputs[nth][at])))));
-    this.told = [...this.parts.fields.querySelectorAll('legend small')];
-  }
-
-  // What the registers hold now. What one is typing in a field stays.
-  show(one, groups) {
-    const command = one.values.get(4) & 0xffff, sets = [...this.parts.fields.children];
-    const write = ([offset, width, value]) => this.write(`host cw ${one.place} ${hex(offset)} ${width} ${hex(value)}`);
-    for (const set of sets) set.disabled = one.lost !== null;
-    this.told[0].textContent = ` 0x${command.toString(16).padStart(4, '0')}`;
-    this.boxes.forEach((box, nth) => {
-      box.checked = (command & SWITCHES[nth][1]) !== 0;
-      box.onchange = () => write([4, 2, command ^ SWITCHES[nth][1]]);
-    });
-    groups.forEach((group, nth) => {
-      this.told[nth + 1].textContent = group.told && ` ${group.told}`;
-      group.fields.forEach((field, at) => this.show_field(field, this.inputs[nth][at], write));
-    });
-  }
-
-  show_field(field, input, write) {
-    const width = field.most === 0xffn ? 2 : 0;
-    if (document.activeElement !== input || input.value === input.dataset.shown) input.value = `0x${field.now.toString(16).padStart(width, '0')}`;
-    input.dataset.shown = input.value;
-    input.title = field.title;
-    input.onchange = () => {
-      const value = number_in(input.value), fits = value !== null && value <= field.most;
-      input.setAttribute('aria-invalid', !fits);
-      input.setCustomValidity(fits ? '' : `a number from 0 to ${hex(field.most)}`);
-      if (!fits) { input.reportValidity(); return; }
-      input.dataset.shown = input.value;
-      for (const line of field.writes(value)) write(line);
-    };
-  }
+// What no field writes, in words.
+export function identity_of(one) {
+  const word = (offset, width) => number_in(one.values, offset, width).toString(16).padStart(2 * width, '0');
+  const pin = Number(number_in(one.values, 0x3c + 1, 1)), [base, sub, interfaces] = [0x0b, 0x0a, 0x09].map(offset => word(offset, 1));
+  const more = (number_in(one.values, 0x0e, 1) & 0x80n) !== 0n ? ', one of several functions' : '';
+  const subsystem = one.kind === 'bridge' ? '' : `, subsystem ${word(0x2c, 2)}:${word(0x2e, 2)}`;
+  return `${word(0, 2)}:${word(2, 2)}${subsystem}, revision ${word(8, 1)}, class ${base} ${sub} ${interfaces} (${one.words}), header type ${word(0x0e, 1)}`
+    + `${more}, ${pin === 0 ? 'no interrupt pin' : `pin INT${'?ABCD'[pin]}#`}`;
 }
+
+export const hex_line = (who, where, [offset, width, value]) => `${who} cw ${where} ${hex(offset)} ${width} ${hex(value)}`;

@@ -3,14 +3,15 @@
 import { AtReset, decodes_of } from './at_reset.js';
 import { troubles_of } from './audit.js';
 import { Audit } from './audit_view.js';
-import { Fields } from './fields.js';
+import { hex_line } from './fields.js';
+import { keeping_latch } from './asked.js';
+import { bytes_of, seen_in } from './registers.js';
 
 export class Firmware {
   // `give` runs a line in the console.
-  constructor(parts, board, addresses, light, give) {
-    Object.assign(this, { board, addresses, driven: null, now: null, came: [] });
+  constructor(parts, board, addresses, registers, light, give) {
+    Object.assign(this, { board, addresses, registers, give, driven: null, now: null, came: [] });
     this.audit = new Audit(parts, light, path => this.choose(path));
-    this.fields = new Fields(parts, give, path => this.choose(path));
   }
 
   // A board at reset, with the functions of its report and its machine after set-up; without a report nothing is drawn.
@@ -43,7 +44,16 @@ export class Firmware {
     if (functions.length === 0) return;
     this.board.draw(functions, nobody, nobody, troubles_of(problems));
     this.addresses.draw(functions, apertures, nobody, nobody, problems, 'No region and no window is open.');
-    this.fields.draw(functions, this.board.chosen);
+    this.draw_registers();
+  }
+
+  // The registers of the selected function, with its bytes where a cycle finds it.
+  draw_registers() {
+    const { functions } = this.now, one = functions.find(each => each.path === this.board.chosen);
+    if (one === undefined) { this.registers.clear(); return; }
+    const bytes = one.lost === null ? keeping_latch(this.driven, () => bytes_of(this.driven, 'host', one.place)) : null;
+    this.registers.draw(functions, bytes === null ? one : seen_in(one, bytes, one.decodes), { bytes, whose: 'host', write: each => this.give(hex_line('host', one.place, each)),
+      note: one.lost === null ? '' : `No cycle finds it, so nothing can be written: ${one.lost}` });
   }
 
   choose(path) {
@@ -51,7 +61,7 @@ export class Firmware {
     this.board.chosen = path;
     this.board.redraw();
     document.querySelector(`#tree [data-path="${path}"]`)?.focus({ preventScroll: true });
-    this.fields.draw(this.now.functions, path);
+    this.draw_registers();
   }
 
   // A bridge's Secondary Bus Number, or what the first function is; nothing where the board is refused.

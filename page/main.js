@@ -8,25 +8,51 @@ import { patterns } from './bars.js';
 import { Board, LARGE } from './board_view.js';
 import { Addresses } from './address_view.js';
 import { GuestMaps } from './guest_view.js';
+import { all_open } from './guest_map.js';
 import { Console } from './console.js';
+import { ScriptBox } from './script_box.js';
+import { Registers } from './registers.js';
+import { GuestRegisters } from './guest_registers.js';
 import { Firmware } from './firmware_view.js';
-import { fragment_of, keep, kept, kept_in } from './keep.js';
+import { fragment_of, keep, kept, kept_in, task_in } from './keep.js';
+import { lacks_of } from './ready.js';
+import { Lessons } from './lessons.js';
+import { TaskForm } from './task_form.js';
+import { places_on } from './places.js';
 
 const part = Object.fromEntries([...document.querySelectorAll('[id]')].map(one => [one.id, one]));
 const still = matchMedia('(prefers-reduced-motion: reduce)').matches;
 const wanted = () => new URLSearchParams(location.hash.slice(1));
 let engine = null, machine = null, functions = [], owners = new Map(), marks = new Map(), apertures = {}, as = 'guests';
 
-const board = new Board({ tree: part.tree, told: part.told, table: part.functions }, light, path => firmware.choose(path));
+const choose = path => (as === 'firmware' ? firmware : guest_registers).choose(path);
+const give = line => script_console.give(line);
+const answers = () => (as === 'firmware' ? firmware.driven : machine);
+const guests = () => (as === 'firmware' ? [] : [...marks.keys()]);
+const board = new Board({ tree: part.tree, told: part.told, table: part.functions }, light, choose);
 const addresses = new Addresses(part.addresses, light);
 const maps = new GuestMaps(part.maps, light);
-const firmware = new Firmware(part, board, addresses, light, line => script_console.give(line));
-const script_console = new Console(part, () => (as === 'firmware' ? firmware.driven : machine), (from, to) => {
+const registers = new Registers(part, choose);
+const guest_registers = new GuestRegisters(part, registers, board, give);
+const firmware = new Firmware(part, board, addresses, registers, light, give);
+const box = new ScriptBox(part, known);
+const script_console = new Console(part, box, { machine: answers, whose: () => ({ as, guests: guests() }), moved, heard: reply => lessons.hear(reply), ran });
+const lessons = new Lessons(part, TASKS, { open: open_task, held: answers, guests, left: set_up, lacks: () => (firmware.now === null ? [] : lacks_of(firmware.driven, firmware.now, apertures)) });
+const held = () => ({ board: part.board.value, script: script_console.script(), as, task: lessons.kept() });
+new TaskForm(part, () => ({ ...held(), guests: guests() }));
+let following = false;
+
+// What one may type about: the functions with their numbers as they are now, and where regions stand.
+function known() {
+  if (answers() === null) return null;
+  const those = as === 'firmware' ? firmware.now?.functions ?? [] : functions;
+  return { as, guests: guests(), functions: those, owners, places: who => (as === 'firmware' || who === 'host' ? places_on(those) : places_on(all_open(machine, functions, owners).filter(one => one.owner.guest === who))) };
+}
+
+function moved(from, to) {
   const path = [...owners].find(([, owner]) => owner.guest === from.guest && owner.slot === from.slot)?.[0];
   if (path !== undefined) { owners.set(path, to); draw(); }
-}, ran);
-const held = () => ({ board: part.board.value, script: script_console.script(), as });
-let following = false;
+}
 
 // What is wrong after a line of firmware is noted under it; on a large board, after all that run at once.
 function ran() {
@@ -45,9 +71,15 @@ function follow() {
   following = true;
   queueMicrotask(() => {
     following = false;
-    if (as === 'firmware') { if (functions.length > LARGE) note(); firmware.draw(apertures); } else if (machine !== null) maps.draw(machine, functions, owners, marks);
+    if (as === 'firmware') { if (functions.length > LARGE) note(); firmware.draw(apertures); } else if (machine !== null) draw_guests();
+    lessons.look();
     keep(held());
   });
+}
+
+function draw_guests() {
+  maps.draw(machine, functions, owners, marks);
+  guest_registers.draw(machine, functions, owners);
 }
 
 // Marks functions where they are drawn; of one behind a folded bus, the bridge before it.
@@ -125,8 +157,9 @@ function take(text, file) {
   tell(false, `${as === 'firmware' ? 'Driven by firmware' : 'Set up'}: ${counts.map(([count, name]) => count_in_words(count, name)).join(', ')}`);
 }
 
-// Sets the board up anew, and draws it.
+// Sets the board up anew, and draws it. A task ends there, but for its own beginning.
 function set_up() {
+  lessons.leave();
   if (machine !== null) machine.close();
   machine = null;
   firmware.close();
@@ -140,6 +173,7 @@ function set_up() {
     tell(true, `${report.number} ${WORDS[report.number] ?? ''}`);
   }
   if (as === 'firmware') firmware.open(engine.open_at_reset(file).made, machine, machine === null ? [] : functions);
+  else guest_registers.open(machine === null ? [] : functions, owners);
   if (machine !== null) draw();
   script_console.clear(marks, first_line());
   follow();
@@ -166,6 +200,15 @@ function show_text(text, whom = as) {
   set_up();
 }
 
+// The board of a task, with the lines that stand before it; some tasks don't show them.
+function open_task(text, whom, lines, shows) {
+  show_text(text, whom);
+  script_console.prepare(lines, shows);
+  if (as === 'firmware') firmware.look();
+  registers.forget();
+  follow();
+}
+
 function tell_story(title) {
   const story = STORIES.find(one => one.title === title);
   show_text(BOARDS[story.board], story.as);
@@ -186,6 +229,9 @@ async function hand_out() {
 async function begin() {
   const asked = wanted(), before = asked.has('kept') ? await kept_in(asked.get('kept')) : asked.size > 0 ? null : kept();
   if (asked.has('story')) { tell_story(asked.get('story')); return; }
+  if (asked.has('lesson')) { lessons.begin_lesson(TASKS.findIndex(one => one.name === asked.get('lesson')), Number(asked.get('part') ?? 1) - 1); return; }
+  if (asked.has('task') && lessons.take_up(await task_in(asked.get('task')))) return;
+  if (before?.task && lessons.take_up(before.task)) { script_console.play(before.script, true); return; }
   show_text(before?.board ?? BOARDS[asked.get('board') ?? Object.keys(BOARDS)[0]] ?? '', before?.as ?? asked.get('as'));
   if (before) script_console.play(before.script, true);
 }
@@ -196,7 +242,7 @@ function wire() {
   part.boards.addEventListener('change', () => show_text(BOARDS[part.boards.value]));
   part.board.addEventListener('input', set_up);
   part.board.addEventListener('scroll', () => { part.numbers.scrollTop = part.board.scrollTop; });
-  part.restart.addEventListener('click', set_up);
+  part.restart.addEventListener('click', () => (lessons.task === null ? set_up() : lessons.begin(lessons.task, lessons.part)));
   part.as.addEventListener('change', event => { be(event.target.value); set_up(); });
   part.link.addEventListener('click', hand_out);
   part.open.addEventListener('change', async () => show_text(await part.open.files[0].text()));

@@ -54,6 +54,8 @@ export const parent_of = path => (path.includes('/') ? path.slice(0, path.lastIn
 
 export const hex = value => '0x' + value.toString(16);
 
+export const two_digits = value => value.toString(16).padStart(2, '0');
+
 export const count_in_words = (count, name) => `${count} ${name}${count === 1 ? '' : 's'}`;
 
 // To one place after the point; sizes of regions and of apertures are whole.

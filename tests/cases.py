@@ -1,6 +1,6 @@
 #!/usr/bin/env python3
-"""What the program is asked, and what it has to answer: the demo, the files of tests/rows, and the boards, scripts,
-sessions and audits of the examples, with what stands beside them.
+"""What the program is asked, and what it has to answer: the demo, the files of tests/rows, the boards and scripts of
+`boards`, and the sessions and audits of the examples, with what stands beside them.
 
     tests/cases.py PROGRAM [LONE_ANSWERS]
 
@@ -8,14 +8,14 @@ asks all of that of a program. LONE_ANSWERS, the program of the crate test_lone_
 whose board has a file of guests beside it. The last line is 'N passed, M failed'. tests/program.sh asks the proved
 program so, and tests/quick.py one that was only compiled.
 
-In crates/examples/stdout a section begins with '== BOARD' (its report), '== check BOARD', '== check BOARD with excerpts'
-(on a terminal), '== SCRIPT over BOARD' or '== SCRIPT over BOARD at reset' (firmware's lines), and ends with a line
-'fault N WORDS' where the program does.
+In boards/expected.txt, and in boards/refused for the boards that are refused, a section begins with '== BOARD' (its
+report), '== check BOARD', '== check BOARD with excerpts' (on a terminal), '== SCRIPT over BOARD' or '== SCRIPT over BOARD at
+reset' (firmware's lines), and ends with a line 'fault N WORDS' where the program does.
 
 In tests/rows a section begins with '== run BOARD: TITLE' or '== firmware BOARD: TITLE' and has rows 'LINE -> REPLY', of
 one script; or with '== list BOARD: TITLE' and has rows 'OLD | NEW | FAULT', each of a board that is refused. NEW stands
 in the place where OLD stood first in the board's file, as it does after a row 'with OLD | NEW' for the whole section. A
-board lies in tests/rows or among the examples.
+board lies in tests/rows or in boards.
 """
 import dataclasses
 import os
@@ -27,17 +27,15 @@ import tempfile
 from concurrent.futures import ThreadPoolExecutor
 
 TOP = pathlib.Path(__file__).resolve().parent.parent
-ROWS, EXAMPLES = TOP / "tests/rows", TOP / "crates/examples"
+ROWS, BOARDS, REFUSED = TOP / "tests/rows", TOP / "boards", TOP / "boards/refused"
 # the seconds that the program has for a case
 SECONDS = 60
-# the heads of sections in crates/examples/stdout
+# the heads of sections of boards/expected.txt
 FORMS = [
     r"(?P<board>\S+)",
     r"(?P<check>check) (?P<board>\S+)(?P<excerpts> with excerpts)?",
     r"(?P<script>\S+) over (?P<board>\S+)(?P<reset> at reset)?",
 ]
-# how the heads of those begin that no run of the program answers
-OTHERS = "regions of guests"
 # a command of examples/audit/README.md, and what it prints
 AUDIT = re.compile(
     r"^\$ cat examples/audit/\{?([\w,]+)\}?\.script \| \./pciguest audit \S+ \| grep audit\n((?:audit: .*\n)+)", re.M)
@@ -81,7 +79,7 @@ def sections_of(file):
 
 def board_files(name, text=None):
     """The file of a board, with this text in place of its own; none, where there is no such board."""
-    file = next((it / name for it in (ROWS, EXAMPLES / "data") if (it / name).is_file()), None)
+    file = next((it / name for it in (ROWS, BOARDS, REFUSED) if (it / name).is_file()), None)
     return {name: file.read_bytes() if text is None else text.encode()} if file else {}
 
 
@@ -97,24 +95,24 @@ def without_fault(lines):
     return lines, ""
 
 
-def examples():
-    """The boards and scripts of the examples, with crates/examples/stdout."""
-    sections = dict(sections_of(EXAMPLES / "stdout"))
-    for head, lines in sections.items():
-        found = next((it for it in (re.fullmatch(form, head) for form in FORMS) if it), None)
-        if found:
-            yield from example(found.groupdict(), lines, sections)
-        elif not head.startswith(OTHERS):
-            raise ValueError(f"crates/examples/stdout: a section of no form: {head}")
+def boards():
+    """The boards and scripts of `boards`, with what is expected beside them."""
+    for file in (BOARDS / "expected.txt", REFUSED / "expected.txt"):
+        sections = dict(sections_of(file))
+        for head, lines in sections.items():
+            found = next((it for it in (re.fullmatch(form, head) for form in FORMS) if it), None)
+            if not found:
+                raise ValueError(f"{file}: a section of no form: {head}")
+            yield from board_cases(found.groupdict(), lines, sections)
 
 
-def example(said, lines, sections):
-    """The cases of a section of crates/examples/stdout."""
+def board_cases(said, lines, sections):
+    """The cases of such a section."""
     board, script = said["board"], said.get("script")
     verb = ("firmware" if said["reset"] else "run") if script else "check" if said.get("check") else "list"
     name, given = f"{verb} {board}", b""
     if script:
-        name, given = f"{name} < {script}", (EXAMPLES / "data" / script).read_bytes()
+        name, given = f"{name} < {script}", (BOARDS / script).read_bytes()
     wanted, fault = without_fault(lines)
     case = Case(name, [verb, board], given, wanted, board_files(board), fault)
     if not said.get("excerpts"):
@@ -221,7 +219,7 @@ def rows():
 
 
 def cases():
-    return [*demo(), *rows(), *examples(), *session(), *audits()]
+    return [*demo(), *rows(), *boards(), *session(), *audits()]
 
 
 # ---- what is told of an answer

@@ -11,12 +11,12 @@ cd "$(dirname "$0")/.."
 top=$PWD
 program=$(readlink -f "${1:-crates/pciguest/out/pciguest}")
 [ -x "$program" ] || { echo "no program at $program: make build"; echo '0 passed, 1 failed'; exit 1; }
-documents=(README.md docs/ARCHITECTURE.md docs/FORMATS.md docs/LSPCI.md examples/audit/README.md man/pciguest.1)
+documents=(README.md docs/ARCHITECTURE.md docs/FORMATS.md docs/reports/LSPCI.md docs/lessons/*.md examples/audit/README.md man/pciguest.1)
 
 room=$(mktemp -d)
 trap 'rm -rf "$room"' EXIT
 ln -s "$program" "$room/pciguest"
-for name in README.md crates docs examples tools; do ln -s "$top/$name" "$room/$name"; done
+for name in README.md boards crates docs examples tools; do ln -s "$top/$name" "$room/$name"; done
 passed=0
 failed=0
 
@@ -93,7 +93,7 @@ document() {
 }
 
 for name in "${documents[@]}"; do document "$name"; done
-for target in $(grep -ohE '(^|`|\$ )make [a-z]+' README.md CONTRIBUTING.md docs/*.md examples/README.md | sed 's/.*make //' | sort -u); do
+for target in $(grep -ohE '(^|`|\$ )make [a-z]+' README.md CONTRIBUTING.md docs/*.md docs/reports/*.md {boards,examples}/README.md | sed 's/.*make //' | sort -u); do
   tell "make $target" "$target" "$(has_target "$target")"
 done
 

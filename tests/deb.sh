@@ -39,17 +39,18 @@ if [ -n "${ROOT-}" ]; then cp -a "$ROOT" "$root"
 else holds 'a root' debootstrap --variant=minbase --include=python3,gcc,libc6-dev,pkg-config bookworm "$root"; fi
 inside() { chroot "$root" env -i PATH=/usr/bin:/bin:/usr/sbin:/sbin HOME=/root "$@"; }
 mkdir -p "$root/packages" && cp $(files) "$root/packages/"
-cp tests/library/device.stdout examples/demo.script "$root/packages/"
+cp tests/library/device.stdout boards/demo.script "$root/packages/"
 holds 'they are installed' inside sh -c 'dpkg -i /packages/*.deb'
 holds 'none is broken' inside sh -c 'test -z "$(dpkg --audit)"'
 
-"$top/pciguest" list crates/examples/data/main.toml > "$room/report"
-examples=/usr/share/doc/pciguest/examples
-holds 'the program' same "$room/report" inside pciguest list $examples/boards/main.toml
+"$top/pciguest" list boards/main.toml > "$room/report"
+doc=/usr/share/doc/pciguest
+examples=$doc/examples boards=$doc/boards
+holds 'the program' same "$room/report" inside pciguest list $boards/main.toml
 holds 'C' inside sh -c "cc -o /tmp/device $examples/c/device.c \$(pkg-config --cflags --libs pciguest)"
 holds 'over the shared library' same tests/library/device.stdout inside /tmp/device $examples/device.toml
 holds 'Python' same tests/library/device.stdout inside python3 $examples/python/device.py $examples/device.toml
-holds 'its prompt' inside sh -c "echo a.vendor | python3 -m pciguest $examples/boards/main.toml | grep -qx 'a: 0x1234'"
+holds 'its prompt' inside sh -c "echo a.vendor | python3 -m pciguest $boards/main.toml | grep -qx 'a: 0x1234'"
 firmware=$examples/firmware
 holds 'firmware' inside cc -o /tmp/enumerator $firmware/enumerator.c
 holds 'a test of firmware' same <(echo '16 boards: the firmware leaves each of them ready') \
@@ -58,7 +59,7 @@ holds 'firmware with a mistake' inside sh -c "
   cd /tmp && python3 $firmware/edited.py $firmware/mistakes/multifunction_bit.edit > mistake.c && cc -o mistake mistake.c
   pciguest-firmware-test -- ./mistake > told; [ \$? = 1 ] && cat told && grep -qF 'on this board (2 functions)' told"
 holds 'a transcript' inside sh -c "
-  cd /tmp && cp $examples/boards/main.toml . && echo a cr 0 0 4 | python3 -m pciguest.transcript record run main.toml > one.rows
+  cd /tmp && cp $boards/main.toml . && echo a cr 0 0 4 | python3 -m pciguest.transcript record run main.toml > one.rows
   python3 -m pciguest.transcript replay one.rows | grep -qx '1 transcripts: 1 agree, 0 differ'
   sed -i 's/-> a: 0x00011234/-> a: 0x00011235/' one.rows
   python3 -m pciguest.transcript replay one.rows | grep -q 'PROFILE.md, section'"

@@ -1,12 +1,15 @@
 #!/usr/bin/env bash
-# Checks what the documents say of files: the index of definitions is complete, each link leads somewhere, and each file
-# that is named is there, so each edit and test that refuses a body, and each edit of the tests can be made. It needs no program. The last line is 'N passed, M failed'.
+# Checks what the documents say of files: definitions have headings, each link leads somewhere, each file that is named is
+# there, so each edit and test that refuses a body, and each edit of the tests can be made. It needs no program. The last
+# line is 'N passed, M failed'.
 set -u
 cd "$(dirname "$0")/.."
 passed=0
 failed=0
-documents=(*.md docs/*.md examples/README.md examples/audit/README.md tests/README.md)
+documents=(*.md docs/*.md docs/{reports,lessons}/*.md {boards,examples,examples/audit,tests}/README.md)
 index=docs/DEFINITIONS.md
+room=$(mktemp -d)
+trap 'rm -rf "$room"' EXIT
 
 # holds NAME CHECK..: the check writes nothing
 holds() {
@@ -21,29 +24,46 @@ holds() {
   fi
 }
 
-# ---- definitions: the index has one row for each file of specs/
-specs() { find crates -path '*/specs/*.antt' -not -path '*/out/*' -not -name Lib.antt | sort; }
-# file, subject and chapters of each row
-rows() { sed -n 's/^| \[`[^`]*`\](\.\.\/\([^)]*\)) | \(.*\) | \(.*\) |$/\1\t\2\t\3/p' "$index"; }
-listed() { rows | cut -f1 | sort; }
-missing() { comm -23 <(specs) <(listed | uniq); }
-gone() { comm -13 <(specs) <(listed | uniq); }
-doubled() { listed | uniq -d; }
-long_subjects() { rows | awk -F'\t' 'split($2, words, " ") > 10 { print $1 ": " $2 }'; }
-# The heading of a file names each chapter that its row gives.
-unnamed_chapters() {
-  rows | while IFS=$'\t' read -r file _ chapters; do
-    heading=$(awk '!/^--/ || /^--     / { exit } { print }' "$file" 2> /dev/null)
-    for chapter in $(grep -oE '[0-9]+(\.[0-9]+)*' <<< "$chapters"); do
-      grep -qE "(^|[^0-9.])${chapter//./\\.}(\$|[^0-9.]|\\.( |\$))" <<< "$heading" || echo "$file: $chapter"
+# ---- definitions: each file of specs/ has a heading, which is its entry in the index; of those of a crate of definitions
+# it lists words. The page has a section for each such crate, whose words and chapters stand in those headings
+specs() { find "${1:-crates}" -path '*/specs/*.antt' -not -path '*/out/*' -not -name Lib.antt | sort; }
+heading() { awk '!/^--/ { exit } { print }' "$1"; }
+bare_specs() {
+  specs | while read -r file; do
+    heading "$file" | grep -q '^-- [A-Z`]' || echo "$file: no heading"
+    [[ $file != crates/model_* ]] || heading "$file" | grep -q '^--     ' || echo "$file: no words in its heading"
+  done
+}
+# the crates of the page, and the text below the heading of one
+listed() { sed -n 's/^## \(model_[a-z_]*\): .*/\1/p' "$index" | sort; }
+section() { awk -v head="## $1: " '/^## / { inside = index($0, head) == 1; next } inside' "$index"; }
+other_crates() { diff <(cd crates && ls -d model_*) <(listed); }
+# of each crate a row for each file that is linked, with the words after it
+strange_words() {
+  local crate file word words
+  for crate in $(listed); do
+    section "$crate" | grep '^- ' | tr ';' '\n' | while read -r row; do
+      file=$(sed -n 's/.*](\.\.\/\([^)]*\)): .*/\1/p' <<< "$row") words=${row#*): }
+      [[ $file == crates/$crate/specs/* ]] || echo "$crate: no file in '$row'"
+      for word in $(grep -o '`[^`]*`' <<< "$words" | tr -d '`'); do
+        heading "$file" | grep -qE "(^|[ ,(])$word([ ,)]|\$)" || echo "$file: $word"
+      done
     done
   done
 }
-holds 'definitions that the index lacks' missing
-holds 'definitions in the index that are gone' gone
-holds 'definitions that stand twice in the index' doubled
-holds 'subjects of more than ten words in the index' long_subjects
-holds 'chapters in the index that the file does not name' unnamed_chapters
+strange_chapters() {
+  local crate chapter
+  for crate in $(listed); do
+    specs "crates/$crate" | while read -r file; do heading "$file"; done > "$room/headings"
+    for chapter in $(section "$crate" | sed -n 's/\(.*\) Begin with:$/\1/p' | grep -oE '(PCI|Bridge|Firmware)( (and )?[0-9]+(\.[0-9]+)*,?)+' | grep -oE '[0-9]+(\.[0-9]+)*'); do
+      grep -qE "(^|[^0-9.])${chapter//./\\.}(\$|[^0-9.]|\\.( |\$))" "$room/headings" || echo "$crate: $chapter"
+    done
+  done
+}
+holds 'definitions without a heading' bare_specs
+holds 'crates of definitions that the page lacks, or that are gone' other_crates
+holds 'words of the page that their file does not list' strange_words
+holds 'chapters of the page that no file names' strange_chapters
 
 # ---- links, and the headings that they name
 anchors() { grep '^#' "$1" | sed 's/^#* //' | tr '[:upper:]' '[:lower:]' | sed 's/[^a-z0-9 _-]//g; s/ /-/g'; }
@@ -60,16 +80,43 @@ broken_links() {
 }
 holds 'links that lead nowhere' broken_links
 
+# ---- each crate has its row in docs/ARCHITECTURE.md
+other_rows() {
+  diff <(sed -n 's/^\([a-z_]*\)\( staticlib\)\?:.*/\1/p' crates.txt | sort) \
+    <(sed -n '/^## Crates/,/^### What/s/^| `\([a-z_]*\)` |.*/\1/p' docs/ARCHITECTURE.md | sort)
+}
+holds 'crates that docs/ARCHITECTURE.md lacks, or that are gone' other_rows
+
+# ---- the list of documents has each
+unlisted() {
+  local file
+  for file in docs/*.md docs/reports/*.md; do
+    [ "$file" = docs/README.md ] || grep -qF "](${file#docs/})" docs/README.md || echo "$file"
+  done
+}
+holds 'documents that docs/README.md lacks' unlisted
+
 # ---- files that are named in the text, from the top; a star may stand in them
 lost_files() {
   for document in "${documents[@]}"; do
-    grep -oE '`(crates|docs|tests|tools|examples|bench)/[A-Za-z0-9_./*-]*`' "$document" | tr -d '`' | sort -u |
+    grep -oE '`(boards|crates|docs|tests|tools|examples|bench)/[A-Za-z0-9_./*-]*`' "$document" | tr -d '`' | sort -u |
       while read -r name; do
         [[ $name == */out* ]] || compgen -G "$name" > /dev/null || echo "$document: $name"
       done
   done
 }
 holds 'files that are not there' lost_files
+
+# ---- boards and scripts: each has a section of what is expected beside it, and a row in boards/README.md
+unexpected() {
+  local file name
+  for file in boards/*.{toml,script} boards/refused/*.toml; do
+    name=$(basename "$file")
+    grep -qE "^== (check |[a-z_]+\.script over )?$name( |\$)" "$(dirname "$file")/expected.txt" || echo "$file: no section"
+    [[ $file == boards/refused/* ]] || grep -qF "| \`$name\` |" boards/README.md || echo "$file: not in boards/README.md"
+  done
+}
+holds 'boards and scripts of which nothing is expected' unexpected
 
 # ---- bodies that are refused: each row names an edit of the gate, or a test with words that stand in it
 lost_bodies() {
@@ -103,7 +150,7 @@ holds 'examples in headings that no test runs' strange_examples
 # ---- the page on a crate of one's own: its code stands in that crate
 strange_code() {
   local code block
-  code=$(find crates/presence -not -path '*/out/*' \( -name '*.rt' -o -name '*.antt' -o -name '*.edit' \) -exec cat {} +)
+  code=$(find crates/example_presence -not -path '*/out/*' \( -name '*.rt' -o -name '*.antt' -o -name '*.edit' \) -exec cat {} +)
   awk '/^```$/ { if (inside) printf "%c", 0; inside = 0; next } /^```(rust|antt|edit)$/ { inside = 1; next } inside' docs/OWN_CRATE.md |
     while IFS= read -r -d '' block; do
       [[ $code == *"${block%$'\n'}"* ]] || echo "docs/OWN_CRATE.md: ${block%%$'\n'*}"
@@ -122,6 +169,10 @@ lacking_calls() {
 }
 holds 'numbers that the manual lacks' lacking_numbers
 holds 'calls that the manual lacks' lacking_calls
+
+# ---- the kit: the README names the one that is here, where there is one
+other_kit() { grep -qxF "Proved with \`$(rt version)\`." README.md || echo "README.md: not proved with $(rt version)"; }
+! command -v rt > /dev/null || holds 'the kit that the README names' other_kit
 
 # ---- edits that the gate doesn't try: each text that one replaces stands once in its file
 lost_edits() {

@@ -37,9 +37,9 @@ at=$room/package/usr
 for file in bin/pciguest include/pciguest.h lib/x86_64-linux-gnu/libpciguest.a lib/x86_64-linux-gnu/libpciguest.so.0 \
   lib/x86_64-linux-gnu/libpciguest.so lib/x86_64-linux-gnu/pkgconfig/pciguest.pc share/man/man1/pciguest.1 \
   share/man/man1/pciguest-firmware-test.1 share/man/man3/libpciguest.3 share/bash-completion/completions/pciguest share/zsh/site-functions/_pciguest \
-  share/fish/vendor_completions.d/pciguest.fish share/doc/pciguest/docs/FORMATS.md share/pciguest/board.schema.json \
+  share/fish/vendor_completions.d/pciguest.fish share/doc/pciguest/docs/FORMATS.md share/doc/pciguest/docs/reports/SPEED.md share/pciguest/board.schema.json \
   share/pciguest/rust/Cargo.toml share/pciguest/rust/src/lib.rs share/pciguest/python/pyproject.toml \
-  share/pciguest/python/pciguest/py.typed share/doc/pciguest/examples/session/session.stdout \
+  share/pciguest/python/pciguest/py.typed share/doc/pciguest/examples/session/session.stdout share/doc/pciguest/boards/main.toml \
   include/pciguest_ops.h bin/pciguest-firmware-test share/pciguest/python/pciguest/firmware_test.py share/pciguest/own.toml; do
   holds "$file is installed" test -e "$at/$file"
 done
@@ -55,7 +55,7 @@ completed() {
 }
 holds 'all words' same 'audit check demo firmware list run --help' completed pciguest ''
 holds 'a word' same 'list' completed pciguest l
-board=$top/crates/examples/data/chain.toml
+board=$top/boards/chain.toml
 holds 'a board' test "$(completed pciguest list "${board%ain.toml}")" = "$board"
 holds 'a board for firmware' test "$(completed pciguest firmware "${board%ain.toml}")" = "$board"
 holds 'a word of a check' same '--plain' completed pciguest check --p
@@ -121,9 +121,9 @@ holds 'the sums' outside sha256sum --quiet -c SHA256SUMS
 all_but_sums() { find . -type f ! -name SHA256SUMS | sed 's|^\./||' | LC_ALL=C sort; }
 holds 'a sum for each file' test "$(all_but_sums)" = "$(sed 's/^[^ ]*  //' SHA256SUMS)"
 command -v rt > /dev/null && holds 'the line of the kit' grep -qxF "proved with $(rt version)" VERSION
-holds 'the demo' same <("$top/pciguest" demo < "$top/examples/demo.script") outside bin/pciguest demo < examples/demo.script
-"$top/pciguest" list "$top/crates/examples/data/main.toml" > "$room/report"
-holds 'a report' same "$room/report" outside bin/pciguest list examples/boards/main.toml
+holds 'the demo' same <("$top/pciguest" demo < "$top/boards/demo.script") outside bin/pciguest demo < boards/demo.script
+"$top/pciguest" list "$top/boards/main.toml" > "$room/report"
+holds 'a report' same "$room/report" outside bin/pciguest list boards/main.toml
 if command -v python3 > /dev/null; then
   told='import ctypes; n = ctypes.CDLL("lib/libpciguest.so.0").pciguest_version(); print(f"{n // 10000}.{n // 100 % 100}.{n % 100}")'
   holds 'the version that the library tells' same "$(sed -n 's/^pciguest //p' VERSION)" outside "$(command -v python3)" -c "$told"

@@ -9,7 +9,7 @@ set -u
 cd "$(dirname "$0")/.."
 top=$PWD
 program=$(readlink -f "${1:-crates/pciguest/out/pciguest}")
-board=$top/crates/examples/data/main.toml
+board=$top/boards/main.toml
 compile=${CC:-cc}
 [ -x "$program" ] || { echo "no program at $program: make build"; echo '0 passed, 1 failed'; exit 1; }
 command -v "$compile" > /dev/null || { echo 'no C compiler: the library for C is not tried'; echo '0 passed, 0 failed'; exit 0; }
@@ -93,7 +93,7 @@ for kind in "${kinds[@]}"; do
   holds "$kind: the firmware" cmp "firmware.$kind.out" "$top/tests/library/firmware.stdout"
 
   holds "$kind: the checks are built" build "checks.$kind" "$top/tests/library/checks.c" "${words[@]}"
-  for file in "$top"/crates/examples/data/*.toml; do
+  for file in "$top"/boards/*.toml "$top"/boards/refused/*.toml; do
     cp "$file" board.toml
     "$program" check board.toml > wanted.text 2> wanted.fault
     "./checks.$kind" board.toml > found.text 2> found.fault

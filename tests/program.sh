@@ -6,7 +6,7 @@ set -u
 cd "$(dirname "$0")/.."
 top=$PWD
 program=$(readlink -f "${1:-crates/pciguest/out/pciguest}")
-boards=$top/crates/examples/data
+boards=$top/boards
 [ -x "$program" ] || { echo "no program at $program: make build"; echo '0 passed, 1 failed'; exit 1; }
 
 room=$(mktemp -d)
@@ -74,7 +74,7 @@ timeout 60 "$program" demo < long 2> err | head -c 0; status=${PIPESTATUS[0]}
 : > out; : > wanted.out; echo 'pciguest: fault 502 write failed' > wanted.err; wanted=1
 tell 'demo, its reader gone'
 
-# ---- the rows of tests/rows, and the boards, scripts, sessions and audits of the examples
+# ---- the rows of tests/rows, the boards and scripts of boards, and the sessions and audits of the examples
 lone=$top/crates/test_lone_answers/out/test_lone_answers
 [ -x "$lone" ] || lone=
 python3 "$top/tests/cases.py" "$program" ${lone:+"$lone"} > told; status=$?
@@ -87,8 +87,31 @@ else
   echo "FAILED: tests/cases.py ended with status $status"
 fi
 
-# section HEAD: what crates/examples/stdout has below it
-section() { awk -v head="== $1" '/^== / { inside = $0 == head; next } inside' "$top/crates/examples/stdout"; }
+# ---- the regions of guests, through the monitor and at the places where set-up put them
+landings=$top/crates/test_landings/out/test_landings
+if [ -x "$landings" ]; then
+  cat > wanted.out <<'END'
+main.toml: 5 regions, 645 accesses, 0 different
+demo.toml: 0 regions, 0 accesses, 0 different
+host_alone.toml: 0 regions, 0 accesses, 0 different
+second_bridge.toml: 5 regions, 645 accesses, 0 different
+guest_elsewhere.toml: 2 regions, 254 accesses, 0 different
+chain.toml: 0 regions, 0 accesses, 0 different
+kinds.toml: 7 regions, 915 accesses, 0 different
+server.toml: 15 regions, 2219 accesses, 0 different
+largest.toml: 0 regions, 0 accesses, 0 different
+END
+  for board in main demo host_alone second_bridge guest_elsewhere chain kinds server largest; do
+    (cd "$boards" && timeout 60 "$landings" "$board.toml")
+  done > out 2> err; status=$?
+  : > wanted.err; wanted=0
+  tell 'the regions of guests, by two ways'
+else
+  echo 'no crates/test_landings/out/test_landings: the regions of guests are not asked for by two ways'
+fi
+
+# section HEAD: what boards/expected.txt has below it
+section() { awk -v head="== $1" '/^== / { inside = $0 == head; next } inside' "$boards/expected.txt"; }
 
 # ---- list
 : > empty.toml
@@ -114,7 +137,7 @@ ends_with 'check, and then --plain' check main.toml --plain
 rm main.toml
 
 full 'check' check "$boards/main.toml"
-full 'check, a board that is refused' check "$boards/size.toml"
+full 'check, a board that is refused' check "$boards/refused/size.toml"
 
 # ---- run: guests, a move, and what the host sees
 cat > run.script <<'END'
@@ -161,19 +184,17 @@ ends_with 'run, a line of 100000 bytes and a last line without a line feed' run 
 ends_with 'run, an empty script' run "$boards/main.toml" < /dev/null
 fails_with 'run, a script that is a folder' '501 read failed' run "$boards/main.toml" < /
 full 'run' run "$boards/main.toml" < run.script
-fails_with 'run, a faulty file' '107 size' run "$boards/size.toml" < run.script
-fails_with 'run, a board that does not fit' '204 memory pool' run "$boards/memory_pool.toml" < run.script
+fails_with 'run, a faulty file' '107 size' run "$boards/refused/size.toml" < run.script
+fails_with 'run, a board that does not fit' '204 memory pool' run "$boards/refused/memory_pool.toml" < run.script
 fails_with 'run, no such file' '702 board file' run nothing.toml < run.script
 
-# ---- firmware: its script of the examples, over a board at reset
+# ---- firmware: over a board at reset
 full 'firmware' firmware "$boards/main.toml" < "$boards/firmware.script"
-printf 'host: %s\n' 0xffffffff ok ok 0x00031234 ok ok 0xffffffff ok ok ok ok 0x00000000 ok ok ok 0x00000000 > wanted.out
-ends_with 'firmware, a bridge and its window' firmware "$boards/main.toml" < "$boards/bridge.script"
 : > wanted.out
-ends_with 'firmware, a board that does not fit' firmware "$boards/memory_pool.toml" < /dev/null
+ends_with 'firmware, a board that does not fit' firmware "$boards/refused/memory_pool.toml" < /dev/null
 echo '?: refused 402 unknown guest' > wanted.out
 ends_with 'firmware, a line of a guest of the file' firmware "$boards/main.toml" <<< 'a cr 0 0 4'
-fails_with 'firmware, a faulty file' '107 size' firmware "$boards/size.toml" < "$boards/firmware.script"
+fails_with 'firmware, a faulty file' '107 size' firmware "$boards/refused/size.toml" < "$boards/firmware.script"
 fails_with 'firmware, no such file' '702 board file' firmware nothing.toml < /dev/null
 fails_with 'firmware, standard input closed' '501 read failed' firmware "$boards/main.toml" <&-
 
@@ -196,7 +217,7 @@ ends_with 'audit, a board at reset' audit "$boards/main.toml" < /dev/null
 { echo 'host: ok'; cat wanted.out; } > wanted.more; mv wanted.more wanted.out
 ends_with 'audit, a last line without a line feed' audit "$boards/main.toml" < <(printf 'host mw 0 4 1')
 ends_with 'audit, a register that routes nothing' audit "$boards/main.toml" <<< 'host cw 00:02.0 0x18 1 7'
-fails_with 'audit, a faulty file' '107 size' audit "$boards/size.toml" < /dev/null
+fails_with 'audit, a faulty file' '107 size' audit "$boards/refused/size.toml" < /dev/null
 fails_with 'audit, no such file' '702 board file' audit nothing.toml < /dev/null
 fails_with 'audit, standard input closed' '501 read failed' audit "$boards/main.toml" <&-
 

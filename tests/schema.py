@@ -1,6 +1,6 @@
 #!/usr/bin/env python3
 """Holds examples/board.schema.json, by which editors complete and judge board files, against the program: over all boards
-of the examples, and over random boards with mistakes.
+of the folders boards and examples, and over random boards with mistakes.
 
     tests/schema.py PROGRAM [--files N] [--seed S]
 
@@ -124,7 +124,7 @@ class Tests:
         return None
 
     def examples(self):
-        boards = [*TOP.glob("crates/examples/data/*.toml"), *TOP.glob("examples/**/*.toml")]
+        boards = [*TOP.glob("boards/**/*.toml"), *TOP.glob("examples/**/*.toml")]
         for path in sorted(boards):
             self.holds(path.name, self.differs(path))
 
@@ -140,10 +140,10 @@ class Tests:
         print(f"the schema accepts {accepted} boards and refuses {refused}")
 
     def directives(self):
-        """Each board outside crates names the schema, and each name leads to it."""
+        """Each board of the examples names the schema, and each name leads to it."""
         for path in sorted(TOP.glob("examples/**/*.toml")):
             self.holds(f"{path.name} names the schema", not path.read_text().startswith("#:schema ") and "it does not")
-        for path in [*TOP.glob("examples/**/*.toml"), *TOP.glob("crates/examples/data/*.toml")]:
+        for path in [*TOP.glob("examples/**/*.toml"), *TOP.glob("boards/**/*.toml")]:
             named = re.match(r"#:schema (.*)\n", path.read_text(errors="replace"))
             lost = named and not (path.parent / named[1]).resolve().samefile(TOP / "examples" / "board.schema.json")
             self.holds(f"what {path.name} names", lost and named[1])

@@ -37,7 +37,7 @@ has() { command -v "$1" > /dev/null; }
 holds 'no kit' outside sh -c '! command -v rt'
 
 # ---- all: what the README that was packed says is run there
-readme=share/doc/pciguest/README.md
+readme=README.md
 # saved NAME: the block under the line that says to save it so
 saved() { awk -v name="Save this as \`$1\`" 'index($0, name) { on = 1 } on && /^```/ { if (inside) exit; inside = 1; next } inside' "$readme"; }
 # shown COMMAND: what the README prints under it
@@ -57,7 +57,7 @@ holds 'a session' same examples/session/session.stdout \
   outside sh -c './pciguest firmware examples/session/board.toml < examples/session/session.script'
 
 # ---- firmware: an enumerator on many boards, and with each of its mistakes, by the words of TESTING_YOURS.md
-testing=share/doc/pciguest/docs/TESTING_YOURS.md
+testing=docs/TESTING_YOURS.md
 tested() { outside env -u PYTHONPATH "$@"; }
 # typed PATTERN: the command that the page gives for the tarball
 typed() { grep -oE '`[^`]*`' "$testing" | tr -d '`' | grep -m1 -E "$1"; }
@@ -108,13 +108,13 @@ if has python3; then
   outside python3 examples/python/doorbell.py > rings
   holds 'the device in Python' grep -qx 'driver: 2 rings, status 1' rings
   holds 'the device model in Python' same "$device" outside python3 examples/python/device.py examples/device.toml
-  printf 'a.vendor\ntree\n' | outside python3 -m pciguest examples/boards/main.toml > answers
+  printf 'a.vendor\ntree\n' | outside python3 -m pciguest boards/main.toml > answers
   holds 'the prompt' grep -qx 'a: 0x1234' answers
 else
   echo 'no Python 3: its module is not tried'
 fi
 holds 'the schema that boards name' test -e examples/board.schema.json
-for board in examples/*.toml examples/*/*.toml; do
+for board in boards/*.toml examples/*.toml examples/*/*.toml; do
   named=$(sed -n '1s/^#:schema //p' "$board")
   [ -z "$named" ] || holds "$board names it" test -e "$(dirname "$board")/$named"
 done

@@ -22,7 +22,7 @@ from boot import SEABIOS, paths
 from guests import Given
 from pc import PC
 
-SERVER = Path(__file__).resolve().parents[2] / "crates/examples/data/server.toml"
+SERVER = Path(__file__).resolve().parents[2] / "boards/server.toml"
 NOT_FORWARDED = re.compile(r"audit: \S+ bar\d at (\S+) size (\S+): (\S+) is not forwarded by \S+")
 BOTH_ANSWER = re.compile(r"audit: (\S+) and (\S+) both answer memory (\S+)")
 NOT_FOUND = re.compile(r"audit: \S+: a cycle for (\w+):(\w+)\.(\w) reaches (\S+)")

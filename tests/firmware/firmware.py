@@ -4,7 +4,7 @@ QEMU.
 
     firmware.py PROGRAM [--trees N] [--seed S] [--keep FOLDER]
 
-First each firmware boots on boards of the examples. Then it boots on N random trees (30), here and in QEMU's machine,
+First each firmware boots on boards of the folder boards. Then it boots on N random trees (30), here and in QEMU's machine,
 and the configuration bytes of all functions are compared; the same seed makes the same trees. After each boot the
 program audits what the firmware left, and what is wrong there is told; then the board is given to the guests of its
 file, or refused, and scripts are told what they are after our own set-up. With --keep the consoles and the boards of the
@@ -23,7 +23,7 @@ from machine import Machine, MachineError
 from rules import Comparison
 from trees import Reading, Tree
 
-EXAMPLES = Path(__file__).resolve().parents[2] / "crates/examples/data"
+FOLDER = Path(__file__).resolve().parents[2] / "boards"
 # U-Boot stops before its first words on the other two
 BOARDS = {SEABIOS: ["main", "server", "second_bridge", "kinds", "chain", "largest"],
           UBOOT: ["main", "server", "second_bridge", "kinds"]}
@@ -104,7 +104,7 @@ def examine(options, room):
     run, comparison = Run(options, room), Comparison()
     for firmware in (SEABIOS, UBOOT):
         for name in BOARDS[firmware]:
-            run.boot(name, EXAMPLES / f"{name}.toml", firmware)
+            run.boot(name, FOLDER / f"{name}.toml", firmware)
     for seed in range(options.seed, options.seed + options.trees):
         try:
             run.compare(seed, comparison)

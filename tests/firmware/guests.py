@@ -8,7 +8,7 @@ from pathlib import Path
 from board import pciguest
 
 TOP = Path(__file__).resolve().parents[2]
-SCRIPTS = [TOP / "examples/demo.script", *sorted((TOP / "crates/examples/data").glob("*.script"))]
+SCRIPTS = sorted((TOP / "boards").glob("*.script"))
 MOST = 8  # endpoints that are given, of a board
 
 
@@ -51,7 +51,7 @@ def is_of_guests(line):
 
 
 def scripts(file):
-    """The script of the board and then those of the examples, without the host's reads."""
+    """The script of the board and then those of the folder boards, without the host's reads."""
     texts = [script_of(tomllib.loads(Path(file).read_text()))]
     texts += [script.read_text().splitlines() for script in SCRIPTS]
     return [[line for line in lines if is_of_guests(line)] for lines in texts]

@@ -1,19 +1,19 @@
 """Each growth of memory refused in turn: to the one growth alone, and to it and all after it. Each has a number of its own
 that it answers, by what the program is doing then.
 
-    growths.py PROGRAM [--quick] [--arrays EXAMPLES]
+    growths.py PROGRAM [--quick] [--arrays LANDINGS]
 
-With --quick the largest board is left out. EXAMPLES is the program of the crate examples, which runs a script from an array
-into an array."""
+With --quick the largest board is left out. LANDINGS is the program of the crate test_landings, which runs a script from
+an array into an array."""
 import collections
 import os
 import sys
 
-from harness import AUDIT, DATA, LARGEST, MAIN, PLACES, Room, fault_line
+from harness import AUDIT, BOARDS, LARGEST, MAIN, PLACES, Room, fault_line
 
 SCRIPTS = ["guest.script", "two_guests.script", "raise.script", "host.script", "ports.script", "move.script"]
 BROKEN = ["set_up", "limit_short", "half_base", "same_secondary"]
-DEMO = str(DATA / "demo.toml")
+DEMO = str(BOARDS / "demo.toml")
 
 
 def growths_of_board(room, board):
@@ -75,10 +75,10 @@ def same_count(room, name, words, scripts):
     print(f"| {name} | {empty.growths} growths with an empty script and with {len(scripts)} others |", flush=True)
 
 
-def same_count_in_arrays(room, examples, scripts):
+def same_count_in_arrays(room, landings, scripts):
     """A script that stands in an array, whose output goes into an array, takes as many growths as an empty one. What is
     written is what the program writes."""
-    program, room.program = room.program, examples
+    program, room.program = room.program, landings
     asked = [(name, script, room.counted([MAIN, room.write("asked", script)], b"")) for name, script in scripts]
     room.program = program
     growths = {counts.growths for _, _, (_, counts) in asked}
@@ -91,8 +91,8 @@ def same_count_in_arrays(room, examples, scripts):
 
 
 def long_scripts():
-    """The scripts of the examples, and long ones with every kind of line."""
-    scripts = [(name, (DATA / name).read_bytes()) for name in SCRIPTS]
+    """Scripts of the folder boards, and long ones with every kind of line."""
+    scripts = [(name, (BOARDS / name).read_bytes()) for name in SCRIPTS]
     every = b"".join(content + b"\n" for _, content in scripts)
     scripts.append(("all of them a hundred times", every * 100))
     scripts.append(("a line of a million bytes", b"x" * 1000000 + b"\na cr 0 0 4\n"))
@@ -106,7 +106,7 @@ def main(program, *options):
     every = b"".join(content + b"\n" for _, content in scripts[:-2])
     broken = b"".join((AUDIT / f"{name}.script").read_bytes() for name in BROKEN)
     for mode in ["onward", "once"]:
-        refuse_each(room, "demo", ["demo"], (DATA / "guest.script").read_bytes(), mode, DEMO)
+        refuse_each(room, "demo", ["demo"], (BOARDS / "guest.script").read_bytes(), mode, DEMO)
         refuse_each(room, "list, main board", ["list", MAIN], b"", mode)
         refuse_each(room, "check, main board", ["check", MAIN], b"", mode)
         refuse_each(room, "check, many places", ["check", PLACES], b"", mode, PLACES, "105")
@@ -120,8 +120,8 @@ def main(program, *options):
     if largest:
         same_count(room, "run, largest board", ["run", LARGEST], scripts)
     if "--arrays" in options:
-        examples = os.path.abspath(options[options.index("--arrays") + 1])
-        same_count_in_arrays(room, examples, [("an empty script", b""), *scripts[:-2]])
+        landings = os.path.abspath(options[options.index("--arrays") + 1])
+        same_count_in_arrays(room, landings, [("an empty script", b""), *scripts[:-2]])
     return room.end()
 
 

@@ -8,11 +8,11 @@ from pathlib import Path
 
 HERE = Path(__file__).resolve().parent
 TOP = HERE.parent.parent
-DATA = TOP / "crates" / "examples" / "data"
+BOARDS = TOP / "boards"
 AUDIT = TOP / "examples" / "audit"
-MAIN = str(DATA / "main.toml")
-LARGEST = str(DATA / "largest.toml")
-PLACES = str(DATA / "many_places.toml")
+MAIN = str(BOARDS / "main.toml")
+LARGEST = str(BOARDS / "largest.toml")
+PLACES = str(BOARDS / "refused" / "many_places.toml")
 
 FAULTS = {
     101: "not TOML", 102: "key", 103: "unknown key", 104: "number", 105: "place", 106: "register",

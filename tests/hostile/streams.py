@@ -2,7 +2,7 @@
 import errno
 import sys
 
-from harness import DATA, MAIN, Room
+from harness import BOARDS, MAIN, Room
 
 SCRIPTS = ["two_guests.script", "move.script"]
 ERRORS = [errno.EIO, errno.EAGAIN, errno.EBADF]
@@ -63,7 +63,7 @@ def short_calls(room, name, words, script):
 def main(program):
     room = Room(program, "reads and writes failing")
     for script_name in SCRIPTS:
-        script = (DATA / script_name).read_bytes()
+        script = (BOARDS / script_name).read_bytes()
         name, words = f"run, main board, {script_name}", ["run", MAIN]
         for step in [1, 7, 4096]:
             each_read(room, name, words, script, step)

@@ -6,7 +6,7 @@ import subprocess
 import sys
 import time
 
-from harness import DATA, MAIN, Room, fault_line, memory_of
+from harness import BOARDS, MAIN, Room, fault_line, memory_of
 
 LINE = b"a cr 0 0 4\n"
 REPLY = b"a: 0x00011234\n"
@@ -127,7 +127,7 @@ def as_nobody(room):
 def board_paths(room):
     """What a path may lead to."""
     report = room.run(["list", MAIN]).out
-    folder, line = str(DATA), room.path("pipe")
+    folder, line = str(BOARDS), room.path("pipe")
     for name, path in [("a folder", folder), ("no file", room.path("none")), ("below a file", MAIN + "/x"),
                        ("an empty path", ""), ("a path of 5000 bytes", "x" * 5000),
                        ("memory that can't be read", "/proc/self/mem")]:

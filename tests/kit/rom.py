@@ -5,11 +5,11 @@
 
 The PC is that of tests/firmware: a processor (the Unicorn engine), 128 MB of memory, a timer, clock memory, interrupt masks
 and a console at the ports 3F8h and 402h. The ROM stands below 4 GB, and its last 256 KB below 1 MB too. Each other port and
-address is the board's: by default one of the examples after the other. The addresses that the ROM may give out are those
-of such a PC, 1000h to FFFFh and 80000000h to FEBFFFFFh, unless others are given. A boot ends where the console has told the last
-words (--ending), where the processor halts with interrupts off, or, if no last words are given, once its time is over (30
-seconds). --old is a processor without time stamps and APIC. Status 1 says that a boot went wrong or that a board isn't
-ready."""
+address is the board's: by default six of the folder boards, one after the other. The addresses that the ROM may give out
+are those of such a PC, 1000h to FFFFh and 80000000h to FEBFFFFFh, unless others are given. A boot ends where the console
+has told the last words (--ending), where the processor halts with interrupts off, or, if no last words are given, once its
+time is over (30 seconds). --old is a processor without time stamps and APIC. Status 1 says that a boot went wrong or that a
+board isn't ready."""
 import argparse
 import sys
 import tomllib

@@ -12,7 +12,7 @@ from pciguest._lacks import lacks
 from pciguest._shrink import shrunk
 from second_hand import SecondHand, SecondHandBoard
 
-DATA = places.TOP / "crates/examples/data"
+BOARDS = places.TOP / "boards"
 AUDITED = tomllib.loads((places.TOP / "examples/audit/board.toml").read_text())
 AUDITED["host"]["pref"] = [0x400000000, 0x4FFFFFFFF]
 SET_UP = (places.TOP / "examples/audit/set_up.script").read_text().splitlines()
@@ -33,7 +33,7 @@ def lacking(*lines):
 class Documents(unittest.TestCase):
     def test_examples_stay_the_same(self):
         for name in ("main", "server", "kinds", "chain", "largest"):
-            document = tomllib.loads((DATA / f"{name}.toml").read_text())
+            document = tomllib.loads((BOARDS / f"{name}.toml").read_text())
             again = tomllib.loads(text_of(document))
             for key in document:
                 self.assertCountEqual(again[key], document[key], (name, key))
@@ -68,19 +68,19 @@ class Shrinking(unittest.TestCase):
         return shrunk(document, asked, 60)
 
     def test_to_a_bridge_behind_a_bridge(self):
-        document = tomllib.loads((DATA / "server.toml").read_text())
+        document = tomllib.loads((BOARDS / "server.toml").read_text())
         found = self.shrunk(document, lambda smaller: any(one.is_bridge and len(one.path) > 1 for one in functions(smaller)))
         self.assertEqual([one.at for one in functions(found)], ["1.0", "1.0/0.0"])
         self.assertNotIn("guest", found)
 
     def test_to_a_second_function(self):
-        document = tomllib.loads((DATA / "server.toml").read_text())
+        document = tomllib.loads((BOARDS / "server.toml").read_text())
         found = self.shrunk(document, lambda smaller: any(one.path[-1][1] and one.regions() for one in functions(smaller)))
         self.assertEqual([one.at for one in functions(found)], ["1.0", "1.1"])
         self.assertEqual([len(one.regions()) for one in functions(found)], [0, 1])
 
     def test_to_a_kind_of_region(self):
-        document = tomllib.loads((DATA / "kinds.toml").read_text())
+        document = tomllib.loads((BOARDS / "kinds.toml").read_text())
         found = self.shrunk(document, lambda smaller: any("mem64p" == region.kind for one in functions(smaller)
                                                           for region in one.regions()))
         self.assertEqual([one.regions() for one in functions(found)], [[(0, "mem64p", 16)]])

@@ -1,4 +1,4 @@
-/* Firmware of ten accesses, by calls: it numbers the bridge of the main board of the examples, places one region behind
+/* Firmware of ten accesses, by calls: it numbers the bridge of boards/main.toml, places one region behind
  * it by hand, and reads the region's first bytes.
  *
  *     firmware BOARD

@@ -3,7 +3,7 @@
  *
  *     functions BOARD COUNT SEED
  *
- * BOARD is crates/examples/data/main.toml.
+ * BOARD is boards/main.toml.
  */
 #include "pciguest.h"
 

@@ -3,7 +3,7 @@
  *
  *     given BOARD
  *
- * BOARD is the main board of the examples. It is linked with --wrap for malloc, realloc and free. The exit status is 1
+ * BOARD is boards/main.toml. It is linked with --wrap for malloc, realloc and free. The exit status is 1
  * where an answer is wrong, or memory is lost. */
 #include "pciguest.h"
 #include "refusing.h"

@@ -4,7 +4,7 @@
  *
  *     queries BOARD COUNT SEED
  *
- * BOARD is crates/examples/data/main.toml.
+ * BOARD is boards/main.toml.
  */
 #include "pciguest.h"
 

@@ -15,7 +15,8 @@ use Rattle.model_board.proofs.PathOrder.{path_same}
 use Rattle.model_audit.specs.Agents.{Extent, Agent, answers}
 use Rattle.model_audit.specs.Orderly.{AreAlone}
 use Rattle.model_audit.specs.Problems.{contention, contentions}
-use Rattle.model_audit.proofs.Problems.{Within, by_extent, none_front, none_each, each_none, no_contentions}
+use Rattle.model_audit.proofs.Problems.{Within, by_extent, no_contentions}
+use Rattle.lists.proofs.Members.{none_front, none_each, each_none}
 use Rattle.board_audit.specs.declared.span.Span.{Span}
 use Rattle.board_audit.specs.Spans.{bus_key, space_key, group_of, extent_span, agent_spans, spans_from, place_of, key_of, crowds, AreApartBut, is_crowded}
 

@@ -14,7 +14,7 @@ use Rattle.model_registers.specs.Registers.{Place, config, block, after, PlacedC
 use Rattle.model_registers.specs.FileLaws.{has_place, HasNone, IsConfig, IsConfigFile}
 use Rattle.model_registers.specs.Declarations.{Region, Endpoint, HasLawfulRegions, IsLawfulRegion}
 use Rattle.model_registers.specs.EndpointTable.{BaseAddress, register_cells, base_file, opened}
-use Rattle.model_registers.proofs.Files.{joined_write, joined_change, read_none, write_none, change_none, region_has_no_config, region_has_no_other, config_has_no_block, region_write, region_change, config_without_block, config_stays, places_stay, change_keeps_places, changed_config, cell_none}
+use Rattle.model_registers.proofs.Files.{joined_write, joined_change, read_none, write_none, change_none, region_has_no_config, region_has_no_other, config_has_no_block, region_write, region_change, config_without_block, config_stays, places_stay, change_keeps_places, changed_config, cell_none, places_changed, places_written}
 use Rattle.model_registers.proofs.Parts.{write_apart, change_outside}
 use Rattle.config_bytes.specs.CellFile.{CellFile, places_of}
 use Rattle.lists.proofs.EachLemmas.{each_append}
@@ -76,15 +76,6 @@ distinct_opened [] h = tt
 distinct_opened (b ∷ bs) h = (later b bs h.0, distinct_opened bs h.1)
 
 -- ---- places stay
-
-pub places_changed : (f : Cell → Cell) (p : Place) (xs : File) → places_of (changed f p xs) ≡ places_of xs
-places_changed f p [] = refl
-places_changed f p (x ∷ xs) = search (rules, places_changed f p xs)
-
-pub places_written : (ons : List Bool) (v : ℕ) (p : Place) (xs : File) → places_of (write ons v p xs) ≡ places_of xs
-places_written [] v p xs = refl
-places_written (true ∷ ons) v p xs = places_written ons (v / 256) (after p) (changed (written (v % 256)) p xs) ∙ places_changed (written (v % 256)) p xs
-places_written (false ∷ ons) v p xs = places_written ons (v / 256) (after p) xs
 
 -- what a change of one block's cells does to each part
 pub record IsBlockChange (n : ℕ) (change inner : File → File) : Type 0 where

@@ -16,7 +16,7 @@ use Rattle.lists.proofs.Members.{any_in, from_any}
 use Rattle.model_board.proofs.PathOrder.{path_same}
 use Rattle.model_board.proofs.PathEnds.{path_self}
 use Rattle.model_set_up.proofs.Partings.{one_row, bridge_at}
-use Rattle.model_set_up.proofs.Routes.{found}
+use Rattle.lists.proofs.FirstFound.{found}
 use Rattle.bus_scan.specs.Scans.{given, StandsAt}
 use Rattle.bus_scan.proofs.BridgeNumbers.{numbers_word, FitBytes, bridge_written}
 

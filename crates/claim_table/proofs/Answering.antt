@@ -5,7 +5,7 @@ use Rattle.std.specs.Option.{option_map}
 use Rattle.std.proofs.lemmas.List.{map-append}
 use Rattle.std.proofs.lemmas.Simd.{map-map}
 use Rattle.lists.specs.Elements.{Each, first_of_two, first_some}
-use Rattle.lists.proofs.EachLemmas.{each_parts}
+use Rattle.lists.proofs.EachLemmas.{each_parts, each_from_map}
 use Rattle.model_registers.specs.Decoding.{Space, io, memory}
 use Rattle.model_board.specs.Paths.{Path}
 use Rattle.model_board.specs.State.{BoardFunction}
@@ -22,7 +22,6 @@ use Rattle.claim_table.specs.Tables.{TableEntry, table_claim, IsOfFunction, Fits
 use Rattle.claim_table.specs.Entries.{lies_in, by_space, AreEntries, path_nth, table_entry, table_of}
 use Rattle.claim_table.specs.Fitting.{paths, nth_path}
 use Rattle.claim_table.proofs.Listing.{region_of}
-use Rattle.claim_table.proofs.Listing.{each_unmap}
 
 -- ---- the functions
 
@@ -101,8 +100,8 @@ module _ (qs : List Path) (ports mems : List RegionEntry) (t : List TableEntry) 
   parts = each_parts (IsOfFunction hosted) (map (table_entry qs io) ports) (map (table_entry qs memory) mems) of_all
 
   of_space : (space : Space) → Each (λ (e : RegionEntry). IsOfFunction hosted (table_entry qs space e)) (by_space space ports mems)
-  of_space io = each_unmap (IsOfFunction hosted) (table_entry qs io) ports parts.0
-  of_space memory = each_unmap (IsOfFunction hosted) (table_entry qs memory) mems parts.1
+  of_space io = each_from_map (IsOfFunction hosted) (table_entry qs io) ports parts.0
+  of_space memory = each_from_map (IsOfFunction hosted) (table_entry qs memory) mems parts.1
 
   module _ (space : Space) (n : ℕ) (e : RegionEntry) (found : find (lies_in n) (by_space space ports mems) ≡ Some e) where
     pub from : e.first ≤ n

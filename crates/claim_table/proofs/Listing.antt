@@ -7,7 +7,7 @@ use Rattle.std.specs.List.Sorted.{IsPermutation, IsNonDecreasingBy}
 use Rattle.std.proofs.lemmas.List.{map-append}
 use Rattle.std.proofs.lemmas.Simd.{map-map}
 use Rattle.lists.specs.Elements.{Each, EachPair, first_some, IsIn}
-use Rattle.lists.proofs.EachLemmas.{each_permutation, pairs_map, pairs_filter, each_filter}
+use Rattle.lists.proofs.EachLemmas.{each_permutation, pairs_map, pairs_filter, each_filter, each_from_map, pairs_from_map}
 use Rattle.lists.proofs.Members.{in_front, in_back, front_or_back, in_map, from_map, in_filter, from_filter}
 use Rattle.model_registers.specs.Decoding.{Space, io, memory, same_space}
 use Rattle.model_board.specs.Paths.{Path}
@@ -29,16 +29,6 @@ pub record IsSortedOf (es fs : List RegionEntry) : Type 0 where
   pub all : IsPermutation es fs
   pub rising : IsNonDecreasingBy (λ (e : RegionEntry). e.first) fs
 
--- ---- what holds of the values of a map holds of its elements
-
-pub each_unmap : {A B : Type 0} (P : B → Type 0) (f : A → B) (xs : List A) → Each P (map f xs) → Each (λ x. P (f x)) xs
-each_unmap P f [] h = tt
-each_unmap P f (x ∷ xs) h = (h.0, each_unmap P f xs h.1)
-
-pairs_unmap : {A B : Type 0} (R : B → B → Type 0) (f : A → B) (xs : List A) → EachPair R (map f xs) → EachPair (λ x y. R (f x) (f y)) xs
-pairs_unmap R f [] h = tt
-pairs_unmap R f (x ∷ xs) h = (each_unmap (R (f x)) f xs h.0, pairs_unmap R f xs h.1)
-
 -- ---- the regions rs, gathered by space
 
 pub record AreGathered (ps : List Path) (rs : List PlacedRegion) (all_of : Space → List RegionEntry) : Type 0 where
@@ -49,13 +39,13 @@ pub record AreGathered (ps : List Path) (rs : List PlacedRegion) (all_of : Space
 
 module _ (ps : List Path) (rs : List PlacedRegion) (all_of : Space → List RegionEntry) (of : AreGathered ps rs all_of) where
   sizes : (space : Space) → Each (λ (e : RegionEntry). 0 < e.size) (all_of space)
-  sizes space = each_unmap (λ (q : PlacedRegion). 0 < q.size) (region_of ps space) (all_of space)
+  sizes space = each_from_map (λ (q : PlacedRegion). 0 < q.size) (region_of ps space) (all_of space)
       (subst (Each (λ (q : PlacedRegion). 0 < q.size)) (sym (of.regions space)) (each_filter (λ (q : PlacedRegion). 0 < q.size) (is_of space) rs of.sized))
 
   disjoint : (space : Space) → EachPair Disjoint (all_of space)
   disjoint space =
       pairs_map (λ (d e : RegionEntry). ShareNone (region_of ps space d) (region_of ps space e)) Disjoint (all_of space) (λ d e none. none (self_space space))
-      (pairs_unmap ShareNone (region_of ps space) (all_of space) (subst (EachPair ShareNone) (sym (of.regions space)) (pairs_filter ShareNone (is_of space) rs of.apart)))
+      (pairs_from_map ShareNone (region_of ps space) (all_of space) (subst (EachPair ShareNone) (sym (of.regions space)) (pairs_filter ShareNone (is_of space) rs of.apart)))
 
   pub entries_are : (space : Space) (fs : List RegionEntry) → IsSortedOf (all_of space) fs → AreEntries ps fs
   entries_are space fs h = record {

@@ -3,6 +3,7 @@ use Rattle.std.proofs.Common.{◌≡◌, ℕ, ◌⊎◌, Bool, true, false, ◌&
 use Rattle.std.specs.Prelude.{find, slice_get, unwrap_or, IsTrue}
 use Rattle.std.specs.Option.{option_map_or}
 use Rattle.lists.specs.Elements.{IsIn}
+use Rattle.lists.proofs.EachLemmas.{pairs_from_map}
 use Rattle.model_board.specs.Paths.{Path, path_eq, path_before}
 use Rattle.model_board.proofs.PathOrder.{path_same}
 use Rattle.model_board.proofs.PathEnds.{not_before_itself}
@@ -11,9 +12,9 @@ use Rattle.model_board.specs.State.{BoardFunction, row_at}
 use Rattle.model_board.specs.Cycles.{secondary_register}
 use Rattle.model_audit.specs.Orderly.{IsStateOfBoard}
 use Rattle.model_audit.specs.Found.{is_bridge_at, bus_now}
-use Rattle.model_audit.proofs.Found.{found_in, is_found_at}
-use Rattle.model_audit.proofs.Pairs.{pairs_from_map}
-use Rattle.model_set_up.proofs.Partings.{pair_in}
+use Rattle.lists.proofs.FirstFound.{found_in}
+use Rattle.model_audit.proofs.Found.{is_found_at}
+use Rattle.lists.proofs.Members.{pair_in}
 use Rattle.bridge_forward.specs.RoutingRows.{secondary_of, secondary_nth}
 
 abbrev stands_at : Path → BoardFunction → Bool

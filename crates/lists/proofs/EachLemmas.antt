@@ -61,6 +61,14 @@ pub each_of_map : {A B : Type 0} (P : B → Type 0) (f : A → B) (xs : List A) 
 each_of_map P f [] h = tt
 each_of_map P f (x ∷ xs) h = (h.0, each_of_map P f xs h.1)
 
+pub each_from_map : {A B : Type 0} (P : B → Type 0) (f : A → B) (xs : List A) → Each P (map f xs) → Each (λ x. P (f x)) xs
+each_from_map P f [] h = tt
+each_from_map P f (x ∷ xs) h = (h.0, each_from_map P f xs h.1)
+
+pub pairs_from_map : {A B : Type 0} (R : B → B → Type 0) (f : A → B) (xs : List A) → EachPair R (map f xs) → EachPair (λ x y. R (f x) (f y)) xs
+pairs_from_map R f [] h = tt
+pairs_from_map R f (x ∷ xs) h = (each_from_map (R (f x)) f xs h.0, pairs_from_map R f xs h.1)
+
 pub each_filter : {A : Type 0} (P : A → Type 0) (p : A → Bool) (xs : List A) → Each P xs → Each P (filter p xs)
 each_filter P p [] h = tt
 each_filter P p (x ∷ xs) h = grind (arith, each_filter P p xs)

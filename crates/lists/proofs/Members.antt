@@ -1,9 +1,12 @@
 -- Membership, and facts on pairs of elements, through filters, maps and lists end to end.
-use Rattle.std.proofs.Common.{◌≡◌, ◌⊎◌, inl, inr, Bool, true, false, cond, List, [], ◌∷◌, ◌++◌, refl, sym, ap₂, subst, arith}
+use Rattle.std.proofs.Common.{◌≡◌, ◌⊎◌, inl, inr, Bool, true, false, cond, List, [], ◌∷◌, ◌++◌, Option, Some, refl, sym, ap, ap₂, ◌∙◌, subst, arith}
 use Rattle.std.specs.Prelude.{map, filter, flat_map}
 use Rattle.std.specs.List.{list_any, list_all}
+use Rattle.std.specs.Option.{option_to_list}
+use Rattle.std.proofs.lemmas.Grind.{flat_map-append}
 use Rattle.std.proofs.lemmas.Bool.{or_right}
 use Rattle.lists.specs.Elements.{IsIn, Each, EachPair}
+use Rattle.lists.proofs.EachLemmas.{pair_parts}
 use Rattle.lists.proofs.Indices.{any_at, index_in}
 use Rattle.lists.proofs.Tests.{left_true, right_true}
 
@@ -67,6 +70,9 @@ from_filter p x [] m = absurd m
 from_filter p x (y ∷ xs) m = grind (arith, from_filter p x xs)
 
 -- what one element passes, some element passes, and the other way round
+pub from_option : {A : Type 0} (o : Option A) (x : A) → IsIn x (option_to_list o) → o ≡ Some x
+from_option o x m = grind arith
+
 pub any_in : {A : Type 0} (p : A → Bool) (x : A) (xs : List A) → IsIn x xs → p x ≡ true → list_any p xs ≡ true
 any_in p x [] m h = absurd m
 any_in p x (y ∷ xs) m h = grind (arith, or_right, any_in p x xs)
@@ -86,6 +92,14 @@ all_from p (x ∷ xs) h = rw (h x (inl refl)) (all_from p xs (λ y m. h y (inr m
 pub filter_same : {A : Type 0} (p q : A → Bool) (xs : List A) → ((x : A) → IsIn x xs → p x ≡ q x) → filter p xs ≡ filter q xs
 filter_same p q [] h = refl
 filter_same p q (x ∷ xs) h = ap₂ (λ t ys. cond t (x ∷ ys) ys) (h x (inl refl)) (filter_same p q xs (λ y m. h y (inr m)))
+
+pub flat_map_map : {A B C : Type 0} (f : B → List C) (g : A → B) (xs : List A) → flat_map f (map g xs) ≡ flat_map (λ x. f (g x)) xs
+flat_map_map f g [] = refl
+flat_map_map f g (x ∷ xs) = ap (λ ys. f (g x) ++ ys) (flat_map_map f g xs)
+
+pub flat_map_flat : {A B C : Type 0} (f : B → List C) (g : A → List B) (xs : List A) → flat_map f (flat_map g xs) ≡ flat_map (λ x. flat_map f (g x)) xs
+flat_map_flat f g [] = refl
+flat_map_flat f g (x ∷ xs) = flat_map-append f (g x) (flat_map g xs) ∙ ap (λ ys. flat_map f (g x) ++ ys) (flat_map_flat f g xs)
 
 pub flat_map_same : {A B : Type 0} (f g : A → List B) (xs : List A) → ((x : A) → IsIn x xs → f x ≡ g x) → flat_map f xs ≡ flat_map g xs
 flat_map_same f g [] h = refl
@@ -116,6 +130,17 @@ pairs_flat_map {A} {B} Q R f (x ∷ xs) q one two =
     later : (r s : B) → IsIn r (f x) → (y : A) × IsIn y xs × IsIn s (f y) → R r s
     later r s m (y, k, l) = two x y (inl refl) (inr k) (each_in (Q x) y xs q.0 k) r s m l
 
+pub pair_in : {A : Type 0} (R : A → A → Type 0) (x y : A) (xs : List A) → EachPair R xs → IsIn x xs → IsIn y xs → (x ≡ y) ⊎ (R x y ⊎ R y x)
+pair_in R x y [] h m k = absurd m
+pair_in R x y (z ∷ zs) h (inl e) k = grind (arith, each_in)
+pair_in R x y (z ∷ zs) h (inr m) k = grind (arith, each_in, pair_in R x y zs)
+
+-- pairs of the whole are pairs of each part
+pub pairs_of_part : {A B : Type 0} (R : B → B → Type 0) (f : A → List B) (x : A) (xs : List A) → EachPair R (flat_map f xs) → IsIn x xs → EachPair R (f x)
+pairs_of_part R f x [] h m = absurd m
+pairs_of_part R f x (y ∷ xs) h (inl e) = (pair_parts R (f x) (flat_map f xs) (subst (λ z. EachPair R (f z ++ flat_map f xs)) (sym e) h)).first
+pairs_of_part R f x (y ∷ xs) h (inr m) = pairs_of_part R f x xs (pair_parts R (f y) (flat_map f xs) h).second m
+
 pub pairs_of_map : {A B : Type 0} (R : B → B → Type 0) (f : A → B) (xs : List A) → EachPair (λ x y. R (f x) (f y)) xs → EachPair R (map f xs)
 pairs_of_map R f [] h = tt
 pairs_of_map {A} {B} R f (x ∷ xs) h = (each_from (R (f x)) (map f xs) (λ y m. of_map y (from_map f y xs m)), pairs_of_map R f xs h.1)
@@ -134,3 +159,25 @@ pub one_passes : {A : Type 0} (p : A → Bool) (R : A → A → Type 0) (x : A) 
     → p x ≡ true → IsIn x xs → filter p xs ≡ x ∷ []
 one_passes p R x [] h after before here m = absurd m
 one_passes p R x (y ∷ xs) h after before here m = grind (arith, none_pass, each_in, one_passes p R x xs)
+
+-- ---- lists without elements
+
+pub none_front : {A : Type 0} (xs ys : List A) → xs ++ ys ≡ [] → xs ≡ []
+none_front [] ys h = refl
+none_front (x ∷ xs) ys h = cc
+
+pub none_back : {A : Type 0} (xs ys : List A) → xs ++ ys ≡ [] → ys ≡ []
+none_back [] ys h = h
+none_back (x ∷ xs) ys h = cc
+
+pub none_each : {A B : Type 0} (f : A → List B) (xs : List A) → flat_map f xs ≡ [] → Each (λ x. f x ≡ []) xs
+none_each f [] h = tt
+none_each f (x ∷ xs) h = (none_front (f x) (flat_map f xs) h, none_each f xs (none_back (f x) (flat_map f xs) h))
+
+pub each_none : {A B : Type 0} (f : A → List B) (xs : List A) → Each (λ x. f x ≡ []) xs → flat_map f xs ≡ []
+each_none f [] h = refl
+each_none f (x ∷ xs) h = ap₂ ◌++◌ h.0 (each_none f xs h.1)
+
+pub no_elements : {A : Type 0} (xs : List A) → ((x : A) → IsIn x xs → ⊥) → xs ≡ []
+no_elements [] h = refl
+no_elements (x ∷ xs) h = absurd (h x (inl refl))

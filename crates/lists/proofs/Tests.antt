@@ -1,5 +1,6 @@
 -- Tests of two parts.
-use Rattle.std.proofs.Common.{◌≡◌, Bool, true, false, not, ◌&&◌, ◌||◌, arith}
+use Rattle.std.proofs.Common.{◌≡◌, Bool, true, false, not, ◌&&◌, ◌||◌, Option, Some, arith}
+use Rattle.std.specs.Prelude.{is_some}
 
 pub left_true : (a b : Bool) → (a && b) ≡ true → a ≡ true
 left_true a b h = grind arith
@@ -15,6 +16,9 @@ same_test a b f g = grind arith
 pub asked_false : (a b : Bool) → a ≡ true → b ≡ false → (not a || b) ≡ false
 asked_false a b h k = rw (h, k)
 
+pub asked_true : (a b : Bool) → a ≡ true → (not a || b) ≡ true → b ≡ true
+asked_true a b h k = grind arith
+
 pub asked_parts : (a b : Bool) → (not a || b) ≡ false → (a ≡ true) × (b ≡ false)
 asked_parts a b h = grind arith
 
@@ -23,3 +27,9 @@ and_true a = grind arith
 
 pub and_false : (a : Bool) → (a && false) ≡ false
 and_false a = grind arith
+
+pub or_false : (a : Bool) → (a || false) ≡ a
+or_false a = grind arith
+
+pub some_there : {A : Type 0} (o : Option A) → is_some o ≡ true → (x : A) × (o ≡ Some x)
+some_there o h = grind arith

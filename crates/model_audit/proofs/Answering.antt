@@ -9,9 +9,7 @@ use Rattle.model_board.specs.Routing.{Ranges, regions, windows, RoutingRow, row_
 use Rattle.model_set_up.specs.PlacedRegions.{PlacedRegion, holds}
 use Rattle.model_set_up.proofs.Holders.{self_space}
 use Rattle.model_audit.specs.Agents.{extent_holds, window_extent, forwarded_extents, region_agent, bridge_agent, answers}
-
-or_false : (a : Bool) → (a || false) ≡ a
-or_false a = grind arith
+use Rattle.lists.proofs.Tests.{or_false}
 
 window_held : (n : ℕ) (w : Option Window) → list_any (extent_holds n) (window_extent w) ≡ is_in n w
 window_held n None = refl

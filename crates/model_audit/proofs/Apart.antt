@@ -4,8 +4,10 @@ use Rattle.std.proofs.Common.{◌≡◌, ℕ, ◌+◌, ◌≤◌, ◌<◌, ◌�
 use Rattle.std.proofs.lemmas.Bool.Decides.{nat_tests}
 use Rattle.std.proofs.lemmas.Bool.{leb-true}
 use Rattle.std.specs.Prelude.{map, IsTrue}
-use Rattle.lists.proofs.Members.{pairs_of_map, each_in, in_map, from_map, from_filter, in_flat_map, pairs_weaker, pairs_flat_map, all_in}
+use Rattle.lists.proofs.Members.{pairs_of_map, each_in, in_map, from_map, from_filter, in_flat_map, pairs_weaker, pairs_flat_map, all_in, pairs_of_part}
 use Rattle.lists.specs.Elements.{EachPair, IsIn}
+use Rattle.lists.proofs.EachLemmas.{each_from_map, pairs_from_map}
+use Rattle.lists.proofs.Tests.{asked_true}
 use Rattle.model_board.proofs.PathOrder.{part_self}
 use Rattle.model_registers.specs.Declarations.{Kind, Region, least_size, Endpoint}
 use Rattle.model_registers.specs.Decoding.{Space, same_space, base_address}
@@ -19,12 +21,12 @@ use Rattle.model_board.specs.Routing.{RoutingRow, row_of, routing, row_forwards,
 use Rattle.model_set_up.specs.PlacedRegions.{PlacedRegion, holds}
 use Rattle.model_set_up.specs.UniqueClaimant.{ShareNone}
 use Rattle.model_board.proofs.PathEnds.{path_self, parent_snoc, last_snoc, length_snoc, not_before_itself}
-use Rattle.model_set_up.proofs.Partings.{Meeting, Same, Above, Below, Parting, meet, leads_down, pair_in, one_row, BridgeAt, bridge_above}
+use Rattle.model_set_up.proofs.Partings.{Meeting, Same, Above, Below, Parting, meet, leads_down, one_row, BridgeAt, bridge_above}
+use Rattle.lists.proofs.Members.{pair_in}
 use Rattle.model_set_up.proofs.Holders.{is_held, self_space}
 use Rattle.model_audit.specs.OpenRegions.{region_now, open_of, open_regions}
 use Rattle.model_audit.specs.Agents.{Agent, region_agent, bridge_agent, agents_of, agents, answers}
 use Rattle.model_audit.specs.Orderly.{IsForwarded, AreAlone, IsOrderly, IsStateOfBoard}
-use Rattle.model_audit.proofs.Pairs.{each_of_map, pairs_from_map, pairs_of_part}
 use Rattle.model_audit.proofs.Answering.{bridge_answers, region_answers}
 
 -- ---- where an open region comes from
@@ -55,7 +57,7 @@ module _ (fs : List BoardFunction) (state : IsStateOfBoard fs) (orderly : IsOrde
   b = map row_at fs
 
   sized : (f : BoardFunction) (q : PlacedRegion) → IsIn f fs → OpenOf f q → 0 < q.size
-  sized f q m s = grind (arith, each_in, each_of_map, least_is_some)
+  sized f q m s = grind (arith, each_in, each_from_map, least_is_some)
 
   -- what the bridges above forward, and what holds an address, are agents of their buses
   record AgentOn (bus : Path) (x : Part) (space : Space) (n : ℕ) : Type 0 where
@@ -93,17 +95,13 @@ module _ (fs : List BoardFunction) (state : IsStateOfBoard fs) (orderly : IsOrde
       routed : is_routed rows q.path q.space n ≡ true
       routed = each_in (IsForwarded rows) q (open_regions rows) orderly.forwarded (in_flat_map open_of (row_of f) q rows (in_map row_of f fs m) k) n h
 
-      by_test : (t u : Bool) → t ≡ true → (not t || u) ≡ true → u ≡ true
-      by_test true u a b = b
-      by_test false u a b = cc
-
       of_bridge : (r : Row) → (g : BoardFunction) × IsIn g fs × (r ≡ row_at g) → is_bridge r.decl ≡ true → r.path ≡ bus ++ x ∷ [] → AgentOn bus x q.space n
       of_bridge r (g, there, same) is at =
           let path : g.path ≡ bus ++ x ∷ [] = ap (λ (y : Row). y.path) (sym same) ∙ at in
           let is_one : is_bridge g.decl ≡ true = ap (λ (y : Row). is_bridge y.decl) (sym same) ∙ is in
           let q_path : q.path ≡ f.path = ap (λ (y : PlacedRegion). y.path) s.is in
           let over : leads_to g.path q.path ≡ true = ap (λ (y : Path). leads_to y q.path) path ∙ ap (leads_to (bus ++ x ∷ [])) q_path ∙ leads in
-          let forwards : row_forwards q.space n (row_of g) ≡ true = by_test (leads_to g.path q.path) (row_forwards q.space n (row_of g)) over (all_in (λ (y : RoutingRow). not (leads_to y.path q.path) || row_forwards q.space n y) (row_of g) rows routed (in_map row_of g fs there)) in
+          let forwards : row_forwards q.space n (row_of g) ≡ true = asked_true (leads_to g.path q.path) (row_forwards q.space n (row_of g)) over (all_in (λ (y : RoutingRow). not (leads_to y.path q.path) || row_forwards q.space n y) (row_of g) rows routed (in_map row_of g fs there)) in
           record {
             agent = bridge_agent (row_of g) q.space;
             there = in_flat_map agents_of (row_of g) (bridge_agent (row_of g) q.space) rows (in_map row_of g fs there) (bridge_in g.path g.decl g.file q.space is_one);

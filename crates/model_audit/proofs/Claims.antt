@@ -14,15 +14,13 @@ use Rattle.model_set_up.specs.PlacedRegions.{PlacedRegion, holds, claim_in}
 use Rattle.model_set_up.specs.UniqueClaimant.{IsClaimed, ShareNone}
 use Rattle.lists.proofs.Members.{each_in, each_from, in_map, in_filter, in_flat_map}
 use Rattle.model_set_up.proofs.Holders.{Holds, holds_is, is_held, self_space, claims_in, one_at_most, holder_first}
+use Rattle.model_set_up.proofs.UniqueClaimant.{no_claims}
 use Rattle.model_board.proofs.Routing.{first_listed, first_of_claims, forwarded_by_routing, claims_by_routing}
 use Rattle.model_audit.specs.OpenRegions.{region_now, open_of, open_regions, open_claim}
 use Rattle.model_audit.specs.Orderly.{IsForwarded, OrderlyClaims}
 use Rattle.model_audit.proofs.Apart.{open_apart}
 
 -- ---- one function
-
-no_claims : (t : Bool) → cond {A = List Claim} t [] [] ≡ []
-no_claims t = grind arith
 
 tests : (o p s u v : Bool) → (s ≡ true → o ≡ p) → (((o && s) && u) && v) ≡ (p && ((s && u) && v))
 tests o p s u v h = grind arith

@@ -17,15 +17,17 @@ use Rattle.lists.proofs.Indices.{found_at, index_in}
 use Rattle.lists.proofs.Members.{each_in, each_from, in_map, from_map, any_in}
 use Rattle.model_board.proofs.PathEnds.{path_self, not_before_itself, snoc_some}
 use Rattle.model_board.proofs.PathOrder.{path_same}
-use Rattle.model_set_up.proofs.Partings.{BridgeAt, bridge_at, pair_in}
-use Rattle.model_set_up.proofs.Routes.{found, reached_by_numbers, ends_is_last, last_flag}
+use Rattle.model_set_up.proofs.Partings.{BridgeAt, bridge_at}
+use Rattle.lists.proofs.Members.{pair_in}
+use Rattle.lists.proofs.FirstFound.{found}
+use Rattle.model_set_up.proofs.Routes.{reached_by_numbers, ends_is_last, last_flag}
 use Rattle.model_audit.specs.Orderly.{IsStateOfBoard}
 use Rattle.model_audit.specs.Found.{is_bridge_at, bus_now, address_now, path_reached, FoundOnce, NumbersOfBoard}
 use Rattle.model_audit.specs.Problems.{Problem, not_found, numbering_problem}
 use Rattle.model_audit.specs.Witnesses.{IsNotFound, NumberingDecides}
-use Rattle.model_audit.proofs.Pairs.{pairs_from_map}
-use Rattle.model_audit.proofs.Problems.{none_each, each_none}
-use Rattle.lists.proofs.EachLemmas.{each_map}
+use Rattle.lists.proofs.Members.{none_each, each_none}
+use Rattle.lists.proofs.EachLemmas.{each_map, pairs_from_map}
+use Rattle.lists.proofs.FirstFound.{found_in}
 
 -- ---- what is told of one function
 
@@ -56,9 +58,6 @@ pub numbering_decides : NumberingDecides
 numbering_decides fs = grind (arith, each_map, reached_if_none, none_each, each_none, none_if_reached)
 
 -- ---- the one address of a function
-
-pub found_in : {A : Type 0} (t : A → Bool) (xs : List A) (y : A) → find t xs ≡ Some y → IsIn y xs × (t y ≡ true)
-found_in t xs y e = let f = found_at t xs y e in (index_in xs f.1.0 y f.1.1, f.0)
 
 module _ (fs : List BoardFunction) (state : IsStateOfBoard fs) where
   -- one function stands at a path

@@ -25,26 +25,25 @@ use Rattle.model_set_up.specs.PlacedRegions.{pool_space, PlacedRegion, placed, p
 use Rattle.model_set_up.specs.UniqueClaimant.{CanBePlaced}
 use Rattle.lists.proofs.Members.{each_in, in_flat_map, from_map, from_filter}
 use Rattle.model_board.proofs.PathEnds.{path_self, not_before_itself}
-use Rattle.model_set_up.proofs.Partings.{pair_in}
+use Rattle.lists.proofs.Members.{pair_in}
 use Rattle.model_set_up.proofs.Holders.{Holds, holds_is}
 use Rattle.model_set_up.proofs.PlacedApart.{pool_of_space}
-use Rattle.model_set_up.proofs.PlacedRegions.{region_there}
+use Rattle.model_set_up.proofs.PlacedRegions.{region_there, each_pool}
 use Rattle.model_set_up.proofs.DeclaredRows.{has_window_row}
 use Rattle.model_set_up.proofs.Items.{some_end, end_below_need, items_placeable}
 use Rattle.model_set_up.proofs.Nesting.{HasItems}
 use Rattle.model_set_up.proofs.Packing.{unit_positive}
+use Rattle.model_set_up.proofs.LawfulPlacement.{pool_self}
+use Rattle.model_set_up.proofs.UniqueClaimant.{left}
 use Rattle.model_audit.specs.OpenRegions.{open_of, regions_of}
 use Rattle.model_audit.specs.Agents.{Agent, region_agent, bridge_agent, agents_of, answers, extent_holds, forwarded_extents}
 use Rattle.model_audit.proofs.Answering.{bridge_answers, region_answers}
-use Rattle.model_audit.proofs.Placing.{left, regions_placed}
+use Rattle.model_audit.proofs.Placing.{regions_placed}
 
 -- ---- rows of one bus
 
 pools_same : (p q : Pool) → pool_space p ≡ pool_space q → (p ≡ q) ⊎ (((p ≡ mem_pool) × (q ≡ pref_pool)) ⊎ ((p ≡ pref_pool) × (q ≡ mem_pool)))
 pools_same p q e = grind arith
-
-pool_self : (p : Pool) → same_pool p p ≡ true
-pool_self p = grind arith
 
 -- a row of the layout that holds an address of a space, at a path
 pub record HeldAt (b : Board) (a : Apertures) (p : Path) (space : Space) (n : ℕ) : Type 0 where
@@ -69,9 +68,6 @@ module _ (b : Board) (a : Apertures) (apertures : IsLawfulApertures a) (lawful :
   one_holds p q space n before bus v w = grind (arith, pools_same, not_before_itself, pool_self, path_self, not_apart, pair_in, mem_or_pref, each_in)
 
 -- ---- agents
-
-each_pool : (pool : Pool) → IsIn pool (io_pool ∷ mem_pool ∷ pref_pool ∷ [])
-each_pool pool = grind arith
 
 module _ (b : Board) (a : Apertures) (can : CanBePlaced b a) (lawful : IsLawful b a (layout b a)) (has : HasRows b a) (windows : Each (λ r. HasPlacedWindows b a r.path r.decl) b) where
   -- a placed region

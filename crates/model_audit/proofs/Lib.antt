@@ -1,4 +1,3 @@
-pub mod Pairs
 pub mod Answering
 pub mod Apart
 pub mod Claims

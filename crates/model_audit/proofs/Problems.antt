@@ -9,12 +9,13 @@ use Rattle.std.proofs.lemmas.Bool.{leb-true, ltb-true, le-leb, lt-ltb, and_from}
 use Rattle.lists.specs.Elements.{Each, EachPair, first_of_two, first_some, IsIn}
 use Rattle.model_registers.specs.Decoding.{Space, same_space}
 use Rattle.model_registers.proofs.HitRegions.{space_same}
-use Rattle.lists.proofs.Tests.{left_true, right_true}
+use Rattle.lists.proofs.Tests.{left_true, right_true, asked_false}
 use Rattle.lists.proofs.EachLemmas.{each_map}
 use Rattle.model_board.specs.Paths.{leads_to}
 use Rattle.model_board.specs.Routing.{RoutingRow, row_forwards, is_routed}
 use Rattle.model_set_up.specs.PlacedRegions.{PlacedRegion, holds}
-use Rattle.lists.proofs.Members.{each_in, each_from, in_map, in_filter, from_filter, in_front, in_back, front_or_back, from_flat_map, any_in, from_any, all_from}
+use Rattle.lists.proofs.Members.{each_in, each_from, in_map, in_filter, from_filter, in_front, in_back, front_or_back, from_flat_map, any_in, from_any, all_from, from_option, none_front, none_back, none_each, each_none, no_elements}
+use Rattle.lists.proofs.FirstFound.{IsFirstTold, first_from}
 use Rattle.model_set_up.proofs.Holders.{Holds, holds_is, is_held, self_space}
 use Rattle.model_audit.specs.OpenRegions.{open_regions}
 use Rattle.model_audit.specs.Agents.{Extent, extent_holds, forwarded_extents, Agent, agents, answers, on_one_bus}
@@ -22,28 +23,6 @@ use Rattle.model_audit.specs.Orderly.{IsForwarded, AreAlone, IsOrderly}
 use Rattle.model_audit.specs.Problems.{least, unforwarded, shared, Problem, not_forwarded, contended, not_found, blame, forwarding_problem, contention, contentions, routing_problems}
 use Rattle.model_audit.specs.Witnesses.{ForwardsAll, IsNotForwarded, IsBefore, IsContended, RoutingDecides}
 use Rattle.model_audit.proofs.Answering.{forwards_extents}
-
--- ---- lists without elements
-
-pub none_front : {A : Type 0} (xs ys : List A) → xs ++ ys ≡ [] → xs ≡ []
-none_front [] ys h = refl
-none_front (x ∷ xs) ys h = cc
-
-pub none_back : {A : Type 0} (xs ys : List A) → xs ++ ys ≡ [] → ys ≡ []
-none_back [] ys h = h
-none_back (x ∷ xs) ys h = cc
-
-pub none_each : {A B : Type 0} (f : A → List B) (xs : List A) → flat_map f xs ≡ [] → Each (λ x. f x ≡ []) xs
-none_each f [] h = tt
-none_each f (x ∷ xs) h = (none_front (f x) (flat_map f xs) h, none_each f xs (none_back (f x) (flat_map f xs) h))
-
-pub each_none : {A B : Type 0} (f : A → List B) (xs : List A) → Each (λ x. f x ≡ []) xs → flat_map f xs ≡ []
-each_none f [] h = refl
-each_none f (x ∷ xs) h = ap₂ ◌++◌ h.0 (each_none f xs h.1)
-
-pub no_elements : {A : Type 0} (xs : List A) → ((x : A) → IsIn x xs → ⊥) → xs ≡ []
-no_elements [] h = refl
-no_elements (x ∷ xs) h = absurd (h x (inl refl))
 
 -- ---- the least of some numbers
 
@@ -147,33 +126,6 @@ unforwarded_finds r q n h gone =
 
 -- ---- the first that is there
 
--- the first element of which it is told, with those before it, of which nothing is told
-pub record IsFirstTold {A B : Type 0} (f : A → Option B) (xs : List A) (y : B) : Type 0 where
-  pub element : A
-  pub before : List A
-  pub after : List A
-  pub list_is : xs ≡ before ++ element ∷ after
-  pub none : Each (λ x. f x ≡ None) before
-  pub told : f element ≡ Some y
-
-pub first_from : {A B : Type 0} (f : A → Option B) (xs : List A) (y : B) → first_some f xs ≡ Some y → IsFirstTold f xs y
-first_from f [] y h = cc
-first_from {A} {B} f (x ∷ xs) y h = by (f x) refl h (first_from f xs y)
-  where
-    later : f x ≡ None → IsFirstTold f xs y → IsFirstTold f (x ∷ xs) y
-    later e m = record {
-      element = m.element;
-      before = x ∷ m.before;
-      after = m.after;
-      list_is = ap (λ zs. x ∷ zs) m.list_is;
-      none = (e, m.none);
-      told = m.told;
-    }
-
-    by : (o : Option B) → f x ≡ o → first_of_two o (first_some f xs) ≡ Some y → (first_some f xs ≡ Some y → IsFirstTold f xs y) → IsFirstTold f (x ∷ xs) y
-    by None e g more = later e (more g)
-    by (Some z) e g more = record { element = x; before = []; after = xs; list_is = refl; none = tt; told = e ∙ g }
-
 first_there : {A B : Type 0} (f : A → Option B) (x : A) (xs : List A) (y : B) → IsIn x xs → f x ≡ Some y → first_some f xs ≡ None → ⊥
 first_there f x [] y m h none = m
 first_there {A} {B} f x (z ∷ xs) y m h none = grind (arith, first_there f x xs y)
@@ -223,9 +175,6 @@ lost_is rows before after q r n m split none over found =
       lost = (lost_byte q r n found).1;
       least = λ k h gone. let s = lost_start r q k h gone k q.first (inl refl) (omega arith) (holds_is q.space k q h).from (omega arith) in omega (arith, l.below s.0 s.1, s.2);
     }
-
-from_option : {A : Type 0} (o : Option A) (x : A) → IsIn x (option_to_list o) → o ≡ Some x
-from_option o x m = grind arith
 
 forwarding_real : (rows : List RoutingRow) (p : Problem) → IsIn p (flat_map (forwarding_problem rows) (open_regions rows)) → IsRouted rows p
 forwarding_real rows p m = of_region (from_flat_map (forwarding_problem rows) p (open_regions rows) m)
@@ -384,11 +333,8 @@ is_orderly rows h = ap₂ ◌++◌ (each_none (forwarding_problem rows) (open_re
             let l = lost_byte q f.element g.1 g.2 in
             let routed : is_routed rows q.path q.space g.1 ≡ true = each_in (IsForwarded rows) q (open_regions rows) h.forwarded m g.1 l.0 in
             let there : IsIn f.element rows = subst (IsIn f.element) (sym f.list_is) (in_back f.element f.before (f.element ∷ f.after) (inl refl)) in
-            let no : is_routed rows q.path q.space g.1 ≡ false = all_false (λ s. not (leads_to s.path q.path) || row_forwards q.space g.1 s) f.element rows there (neither (leads_to f.element.path q.path) (row_forwards q.space g.1 f.element) g.0 l.1) in
+            let no : is_routed rows q.path q.space g.1 ≡ false = all_false (λ s. not (leads_to s.path q.path) || row_forwards q.space g.1 s) f.element rows there (asked_false (leads_to f.element.path q.path) (row_forwards q.space g.1 f.element) g.0 l.1) in
             let no_way : true ≡ false = sym routed ∙ no in cc
-          where
-            neither : (a b : Bool) → a ≡ true → b ≡ false → (not a || b) ≡ false
-            neither a b h k = rw (h, k)
 
 pub routing_decides : RoutingDecides
 routing_decides rows = (orderly_is rows, is_orderly rows)

@@ -10,7 +10,8 @@ use Rattle.model_board.specs.State.{BoardFunction, row_at}
 use Rattle.model_board.specs.Cycles.{secondary_register, BusAddress, reached}
 use Rattle.lists.proofs.Members.{each_in, each_from, in_map, in_flat_map}
 use Rattle.model_audit.specs.Found.{is_bridge_at, bus_now, address_now, IsFoundOnce, address_at, scan_order, scanned, ScanFindsAll}
-use Rattle.model_audit.proofs.Found.{found_in, found_once}
+use Rattle.lists.proofs.FirstFound.{found_in}
+use Rattle.model_audit.proofs.Found.{found_once}
 
 in_range : (a n k : ℕ) → k < n → IsIn (a + k) (range_with_len a n)
 in_range a zero k h = absurd (omega arith)

@@ -1,7 +1,7 @@
 -- What set-up leaves has no problem.
 use Rattle.std.proofs.Common.{◌≡◌, ℕ, ◌+◌, ◌-◌, ◌<◌, Bool, true, false, List, [], ◌∷◌, ◌++◌, refl, sym, ap, ◌∙◌, subst, arith}
 use Rattle.std.specs.Prelude.{map, flat_map, IsTrue}
-use Rattle.lists.proofs.Members.{pairs_of_map, each_in, each_from, in_flat_map, from_flat_map, from_map, from_filter, pairs_weaker, pairs_flat_map}
+use Rattle.lists.proofs.Members.{pairs_of_map, each_in, each_from, in_flat_map, from_flat_map, from_map, from_filter, pairs_weaker, pairs_flat_map, pairs_of_part}
 use Rattle.lists.specs.Elements.{Each, EachPair, IsIn}
 use Rattle.model_registers.specs.Decoding.{io, memory, opens_space}
 use Rattle.model_registers.proofs.HitRegions.{space_same}
@@ -25,16 +25,15 @@ use Rattle.model_set_up.proofs.LawfulPlacement.{layout_is_lawful}
 use Rattle.model_set_up.proofs.DeclaredRows.{rows_are_declared}
 use Rattle.model_set_up.proofs.BoardWindows.{set_up_windows}
 use Rattle.model_set_up.proofs.SetUpNumbers.{set_up_has_numbers}
-use Rattle.model_set_up.proofs.UniqueClaimant.{unique_claimant}
+use Rattle.model_set_up.proofs.UniqueClaimant.{unique_claimant, left}
 use Rattle.model_audit.specs.OpenRegions.{open_of, open_regions, regions_of}
 use Rattle.model_audit.specs.Agents.{Agent, region_agent, bridge_agent, agents_of, agents, answers}
 use Rattle.model_audit.specs.Orderly.{IsForwarded, AreAlone, IsOrderly}
 use Rattle.model_audit.proofs.Answering.{region_answers}
 use Rattle.model_audit.proofs.Found.{numbers_of_board}
-use Rattle.model_audit.proofs.Pairs.{pairs_of_part}
 use Rattle.model_audit.proofs.Witnesses.{problems_decide}
 use Rattle.model_audit.specs.SetUpPasses.{SetUpPasses, RoutedAsSetUp}
-use Rattle.model_audit.proofs.Placing.{left, regions_placed}
+use Rattle.model_audit.proofs.Placing.{regions_placed}
 use Rattle.model_audit.proofs.Holding.{HeldAt, one_holds, agent_held}
 
 module _ (b : Board) (a : Apertures) (can : CanBePlaced b a) (lawful : IsLawful b a (layout b a)) (has : HasRows b a) (windows : Each (λ r. HasPlacedWindows b a r.path r.decl) b) (unique : HasUniqueClaims b a (set_up_state b a).functions) where

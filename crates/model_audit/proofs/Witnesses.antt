@@ -6,7 +6,8 @@ use Rattle.model_board.specs.Routing.{routing}
 use Rattle.lists.proofs.Members.{each_from, front_or_back, from_flat_map}
 use Rattle.model_audit.specs.Problems.{Problem, numbering_problems}
 use Rattle.model_audit.specs.Witnesses.{IsReal, ProblemsAreReal, ProblemsDecide}
-use Rattle.model_audit.proofs.Problems.{IsRouted, routing_is_real, routing_decides, none_front, none_back}
+use Rattle.model_audit.proofs.Problems.{IsRouted, routing_is_real, routing_decides}
+use Rattle.lists.proofs.Members.{none_front, none_back}
 use Rattle.model_audit.proofs.Found.{lost_function, numbering_decides}
 
 of_routing : (fs : List BoardFunction) (p : Problem) → IsRouted (routing fs) p → IsReal fs p

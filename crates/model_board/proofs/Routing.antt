@@ -4,6 +4,7 @@ use Rattle.std.specs.Prelude.{map, flat_map, slice_get, IsTrue}
 use Rattle.std.specs.Option.{option_map_or, option_to_list}
 use Rattle.std.proofs.lemmas.Bool.Decides.{nat_tests}
 use Rattle.lists.specs.Elements.{Each, first_of_two, first_some}
+use Rattle.lists.proofs.Members.{flat_map_map}
 use Rattle.model_registers.specs.Registers.{config, File, cell_at, number}
 use Rattle.model_registers.specs.Declarations.{Region, IsLawfulRegion, Endpoint, IoDecode, PrefDecode, Bridge}
 use Rattle.model_registers.specs.Decoding.{Space, base_address, Hit}
@@ -21,10 +22,6 @@ use Rattle.model_board.specs.RoutingLaws.{is_routing_register, HasSameRouting, S
 pub forwarded_by_routing : ForwardedByRouting
 forwarded_by_routing [] p space a = refl
 forwarded_by_routing (f ∷ fs) p space a = grind (arith, forwarded_by_routing fs p space a)
-
-pub flat_map_map : {A B C : Type 0} (f : B → List C) (g : A → B) (xs : List A) → flat_map f (map g xs) ≡ flat_map (λ x. f (g x)) xs
-flat_map_map f g [] = refl
-flat_map_map f g (x ∷ xs) = ap (λ ys. f (g x) ++ ys) (flat_map_map f g xs)
 
 claims_rows : (all : List BoardFunction) (space : Space) (a : ℕ) (fs : List BoardFunction) → flat_map (claims_of all space a) fs ≡ flat_map (row_claims (routing all) space a) (routing fs)
 claims_rows all space a [] = refl

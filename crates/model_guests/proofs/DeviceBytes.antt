@@ -29,7 +29,7 @@ use Rattle.model_guests.proofs.GuestsByName.{function_of, function_named}
 use Rattle.model_guests.proofs.Changes.{one_file_of, file_before, file_after, file_others}
 use Rattle.model_guests.specs.DeviceEvents.{DeviceByte, device_reads, device_writes, if_device_byte, device_place, byte_landing, byte_fault, byte_in, with_byte, device_fault, device_answer, after_device_event, device_after, after_guest_device}
 use Rattle.model_guests.specs.DeviceByteLaws.{ReadsLeaveGuests, ReadsWritten, byte_change, WriteReachesBoard}
-use Rattle.model_guests.proofs.OneGuest.{lone_found, with_alike}
+use Rattle.model_guests.proofs.OneGuest.{lone_found, with_alike, guest_of_function}
 
 -- ---- the place
 
@@ -94,9 +94,6 @@ board_byte f p other (e ∷ es) own stands = grind (arith, board_byte f p other 
 
 pub bytes_alike : (v : ℕ) (p : Place) → is_device_byte p ≡ true → (own left : File) → agreed_file left (set_value v p own) ≡ byte_change own v p (agreed_file left own)
 bytes_alike v p reaches own left = grind (arith, board_byte, device_not_own, change_none)
-
-guest_of_function : (o : Option GuestNow) (n : ℕ) (f : Function) → function_of o n ≡ Some f → (x : GuestNow) × (o ≡ Some x)
-guest_of_function o n f h = grind arith
 
 module _ (b : Board) (gs : GuestsNow) (seated : AreSeated b gs) (name : Text) (d : DeviceByte) (v : ℕ) (fault : device_fault (lone_of gs name).slots (device_writes d v) ≡ None)
     (p : Path) (f : Function) (q : Place) (path : path_in gs name d.slot ≡ Some p) (is : function_in gs name d.slot ≡ Some f) (at : device_place f d.part d.offset ≡ Some q) where

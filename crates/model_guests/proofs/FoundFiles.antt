@@ -37,7 +37,7 @@ skip : (o : Option Path) (f : Option Function) (qs : List (Option Path)) (fs : S
 skip o f qs fs q h = grind arith
 
 -- a path that is put where it stands
-put_back : (qs : List (Option Path)) (n : ℕ) → slice_set qs n (path_at qs n) ≡ qs
+pub put_back : (qs : List (Option Path)) (n : ℕ) → slice_set qs n (path_at qs n) ≡ qs
 put_back qs n = ap (slice_set qs n) (unwrap_or-slice_get qs n None) ∙ set-get_or qs n None
 
 -- another slot, set anew
@@ -98,7 +98,7 @@ pub seated_file : (b : Board) (s : GuestsNow) (p : Path) (file : File) → Each 
 seated_file b [] p file all e = cc
 seated_file b (t ∷ ts) p file all e = grind (arith, seated_file b ts p file, seat_file)
 
-in_rest : (t : GuestNow) (ts : GuestsNow) (a : Text) (n : ℕ) (p : Path) → Each (λ (v : GuestNow). IsFalse (bytes_eq t.name v.name)) ts → path_in ts a n ≡ Some p → path_in (t ∷ ts) a n ≡ Some p
+pub in_rest : (t : GuestNow) (ts : GuestsNow) (a : Text) (n : ℕ) (p : Path) → Each (λ (v : GuestNow). IsFalse (bytes_eq t.name v.name)) ts → path_in ts a n ≡ Some p → path_in (t ∷ ts) a n ≡ Some p
 in_rest t ts a n p apart h = grind (arith, past_first)
 
 rest_apart : (t : GuestNow) (ts : GuestsNow) → NamesApart (t ∷ ts) → PathsApart (t ∷ ts) → PathsApart ts

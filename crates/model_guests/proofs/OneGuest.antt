@@ -6,12 +6,13 @@ use Rattle.std.specs.Str.{bytes_eq}
 use Rattle.lists.specs.Elements.{EachPair}
 use Rattle.lists.proofs.FirstFound.{found_passes}
 use Rattle.lists.proofs.Indices.{set_same, found_at}
+use Rattle.model_registers.specs.Decoding.{Function}
 use Rattle.model_guests.specs.Text.{Text}
 use Rattle.model_guests.specs.Lone.{LoneGuest, reset_guest}
 use Rattle.model_guests.specs.Guests.{GuestNow, GuestsNow, guest_named, lone_of, with_guest}
 use Rattle.model_guests.proofs.Names.{equal_texts, same_text}
 use Rattle.model_guests.proofs.Along.{by_index}
-use Rattle.model_guests.proofs.GuestsByName.{Keeps, one, one_name, named_with}
+use Rattle.model_guests.proofs.GuestsByName.{function_of, Keeps, one, one_name, named_with}
 
 abbrev pub AreApart : GuestsNow → Type 0
 AreApart gs = EachPair (λ (g h : GuestNow). IsFalse (bytes_eq g.name h.name)) gs
@@ -21,6 +22,9 @@ name_found gs name x at = equal_texts x.name name (found_passes (λ (u : GuestNo
 
 pub lone_found : (gs : GuestsNow) (name : Text) (x : GuestNow) → guest_named gs name ≡ Some x → lone_of gs name ≡ x.lone
 lone_found gs name x at = ap (λ (o : Option GuestNow). option_map_or (λ (g : GuestNow). g.lone) o (reset_guest [])) at
+
+pub guest_of_function : (o : Option GuestNow) (n : ℕ) (f : Function) → function_of o n ≡ Some f → (x : GuestNow) × (o ≡ Some x)
+guest_of_function o n f h = grind arith
 
 module _ (gs : GuestsNow) (apart : AreApart gs) (name : Text) (x : GuestNow) (at : guest_named gs name ≡ Some x) where
   place : (i : ℕ) × (slice_get gs i ≡ Some x)

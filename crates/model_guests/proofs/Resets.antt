@@ -27,8 +27,10 @@ use Rattle.model_guests.proofs.MoveIndices.{moved_function}
 use Rattle.model_guests.proofs.Changes.{changes_one_function, resets_alike}
 use Rattle.model_guests.specs.DeviceEvents.{resets, slot_fault, after_device_event, device_answer, device_after, after_guest_device}
 use Rattle.model_guests.specs.DeviceLaws.{between, IsMoveAndBack, ResetByMoves, ResetReachesBoard}
-use Rattle.model_guests.proofs.OneGuest.{lone_found, with_alike, with_none, with_twice}
-use Rattle.model_guests.proofs.DeviceSeats.{set_own}
+use Rattle.model_guests.proofs.OneGuest.{lone_found, with_alike, with_none, with_twice, guest_of_function}
+use Rattle.model_guests.proofs.Seats.{no_path, some_path}
+use Rattle.model_guests.proofs.FoundFiles.{put_back}
+use Rattle.lists.proofs.Tests.{some_there}
 
 -- ---- lists
 
@@ -55,7 +57,7 @@ answer_there g n f low at = ap (λ (o : Option ℕ). option_map_or refused o don
 -- out of a slot and in again
 in_again : (x : GuestNow) (n : ℕ) (p : Path) (f : Function) → nat_le 32 n ≡ false → path_at x.paths n ≡ Some p → slot_at x.lone.slots n ≡ Some f
     → with_slot_filled n (Some p) f.decl (with_slot_emptied n x) ≡ device_after (resets n) x
-in_again x n p f low path at = grind (arith, set-set, set_own, reset_there)
+in_again x n p f low path at = grind (arith, set-set, put_back, reset_there)
 
 -- into an empty slot and out again
 out_again : (y : GuestNow) (m : ℕ) (p : Option Path) (f : Function) → path_at y.paths m ≡ None → slot_at y.lone.slots m ≡ None
@@ -84,29 +86,14 @@ moved_as gs m fault p f path function = grind arith
 no_function : (b : Board) (q : Option Path) (o : Option Function) → IsSeat b q o → q ≡ None → o ≡ None
 no_function b q o h e = grind arith
 
-no_path : (b : Board) (q : Option Path) (o : Option Function) → IsSeat b q o → o ≡ None → q ≡ None
-no_path b q o h e = grind arith
-
-path_seated : (b : Board) (q : Option Path) (f : Function) → IsSeat b q (Some f) → (p : Path) × (q ≡ Some p)
-path_seated b q f h = grind arith
-
 pub none_is_some : {A : Type 0} (x : A) → None ≡ Some x → ⊥
 none_is_some x h = cc
 
 none_of : {A : Type 0} (o : Option A) → ((x : A) → o ≡ Some x → ⊥) → o ≡ None
 none_of o h = grind arith
 
-function_found : (o : Option Function) → is_some o ≡ true → (f : Function) × (o ≡ Some f)
-function_found o h = grind arith
-
-guest_found : (o : Option GuestNow) → IsSome o → (x : GuestNow) × (o ≡ Some x)
-guest_found o h = grind arith
-
 one_there_still : (g : GuestNow → GuestNow) (name : Text) (o : Option GuestNow) → IsSome o → IsSome (option_map (one g name) o)
 one_there_still g name o h = grind arith
-
-guest_of_function : (o : Option GuestNow) (n : ℕ) (f : Function) → function_of o n ≡ Some f → (x : GuestNow) × (o ≡ Some x)
-guest_of_function o n f h = grind arith
 
 module _ (b : Board) (gs : GuestsNow) (seated : AreSeated b gs) (name : Text) (n : ℕ) (f : Function) (is : function_in gs name n ≡ Some f) (p : Path) (path : path_in gs name n ≡ Some p) where
   one_there : (x : GuestNow) × (guest_named gs name ≡ Some x)
@@ -148,13 +135,13 @@ module _ (b : Board) (gs : GuestsNow) (seated : AreSeated b gs) (name to : Text)
   ok = passed gs away fault
 
   the_function : (f : Function) × (function_in gs name n ≡ Some f)
-  the_function = function_found (function_in gs name n) ok.function
+  the_function = some_there (function_in gs name n) ok.function
 
   abbrev f : Function
   f = the_function.0
 
   the_path : (p : Path) × (path_in gs name n ≡ Some p)
-  the_path = path_seated b (path_in gs name n) f (subst (IsSeat b (path_in gs name n)) the_function.1 (seat_in b gs seated.guests name n))
+  the_path = some_path b (path_in gs name n) f (subst (IsSeat b (path_in gs name n)) the_function.1 (seat_in b gs seated.guests name n))
 
   abbrev p : Path
   p = the_path.0
@@ -186,7 +173,7 @@ module _ (b : Board) (gs : GuestsNow) (seated : AreSeated b gs) (name to : Text)
   free_function = no_function b (path_in left to m) (function_in left to m) (seat_in b left (left_guests b gs seated away f the_function.1) to m) free_path
 
   taker : (y : GuestNow) × (guest_named left to ≡ Some y)
-  taker = guest_found (guest_named left to) (subst IsSome (sym (named_with (with_slot_emptied n) (λ t. refl) name to gs)) (one_there_still (with_slot_emptied n) name (guest_named gs to) there))
+  taker = some_there (guest_named left to) (subst IsSome (sym (named_with (with_slot_emptied n) (λ t. refl) name to gs)) (one_there_still (with_slot_emptied n) name (guest_named gs to) there))
 
   third : with_guest (with_slot_emptied m) to (with_guest (with_slot_filled m (Some p) f.decl) to left) ≡ left
   third =

@@ -13,7 +13,7 @@ use Rattle.model_guests.specs.Guests.{GuestNow, GuestsNow, Move, function_in, gu
 use Rattle.model_guests.specs.Seated.{AreSeated, IsSeat, IsSeatedGuest, SeatedAfterMoves}
 use Rattle.model_guests.proofs.Names.{equal_texts, same_text}
 use Rattle.model_guests.proofs.GuestsByName.{path_at, Keeps, one, named_with, found, path_of, function_named}
-use Rattle.model_guests.proofs.Seats.{seats_at, seats_set, names_stay, guests_stay}
+use Rattle.model_guests.proofs.Seats.{seats_at, seats_set, names_stay, guests_stay, at_reset_there}
 
 pub seat_in : (b : Board) (s : GuestsNow) → Each (IsSeatedGuest b) s → (a : Text) (n : ℕ) → IsSeat b (path_in s a n) (function_in s a n)
 seat_in b s all a n = grind (arith, function_named, seats_at, found)
@@ -63,9 +63,6 @@ placed g n x keeps sets s name a k q h = cases (guest_named s a) refl (sym (ap (
 
 same_count : (qs : List (Option Path)) (n : ℕ) (x : Option Path) → length qs ≡ 32 → length (slice_set qs n x) ≡ 32
 same_count qs n x h = simp length-set h
-
-at_reset_there : (b : Board) (p : Option Path) (f : Function) → IsSeat b p (Some f) → IsSeat b p (reset_function (Some f.decl))
-at_reset_there b p f h = grind arith
 
 module _ (b : Board) (s : GuestsNow) (seated : AreSeated b s) (m : Move) (f : Function) (is : function_in s m.from m.slot ≡ Some f) where
   abbrev left : GuestsNow

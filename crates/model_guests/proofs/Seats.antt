@@ -1,5 +1,5 @@
 -- Guests stay seated.
-use Rattle.std.proofs.Common.{◌≡◌, ℕ, zero, suc, ◌/◌, ◌%◌, Bool, cond, List, [], ◌∷◌, length, Some, Option, refl, ap, ap₂, ◌∙◌, arith}
+use Rattle.std.proofs.Common.{◌≡◌, ℕ, zero, suc, ◌/◌, ◌%◌, Bool, cond, List, [], ◌∷◌, length, Some, None, Option, refl, ap, ap₂, ◌∙◌, arith}
 use Rattle.std.specs.Prelude.{slice_set, IsFalse}
 use Rattle.std.specs.Str.{bytes_eq}
 use Rattle.lists.specs.Elements.{Each, EachPair}
@@ -9,7 +9,7 @@ use Rattle.model_registers.specs.Decoding.{Function}
 use Rattle.model_board.specs.Paths.{Path}
 use Rattle.model_board.specs.Board.{Board}
 use Rattle.model_guests.specs.Accesses.{Event}
-use Rattle.model_guests.specs.Slots.{Slots, slot_at, with_file}
+use Rattle.model_guests.specs.Slots.{Slots, slot_at, reset_function, with_file}
 use Rattle.model_guests.specs.Lone.{LoneGuest, changed_by}
 use Rattle.model_guests.specs.Text.{Text}
 use Rattle.model_guests.specs.Guests.{GuestNow, GuestsNow, path_in, with_guest}
@@ -85,3 +85,14 @@ paths_stay g keeps same n a k s = grind (arith, named_with)
 
 pub seated_after_events : SeatedAfterEvents
 seated_after_events b s seated name e = grind (arith, names_stay, guests_stay, paths_stay, changed_seats)
+
+-- ---- one seat
+
+pub no_path : (b : Board) (q : Option Path) (o : Option Function) → IsSeat b q o → o ≡ None → q ≡ None
+no_path b q o h e = grind arith
+
+pub some_path : (b : Board) (q : Option Path) (f : Function) → IsSeat b q (Some f) → (p : Path) × (q ≡ Some p)
+some_path b q f h = grind arith
+
+pub at_reset_there : (b : Board) (p : Option Path) (f : Function) → IsSeat b p (Some f) → IsSeat b p (reset_function (Some f.decl))
+at_reset_there b p f h = grind arith

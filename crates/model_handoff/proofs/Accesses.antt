@@ -18,7 +18,7 @@ use Rattle.model_board.specs.Ports.{file_at, claim_reply, after_claim_write, tar
 use Rattle.model_board.specs.State.{BoardFunction, State, with_file}
 use Rattle.model_audit.specs.Found.{address_now, IsNumbered, path_reached}
 use Rattle.model_audit.specs.Orderly.{IsStateOfBoard}
-use Rattle.model_audit.proofs.Found.{found_in}
+use Rattle.lists.proofs.FirstFound.{found_in}
 use Rattle.model_guests.specs.Guests.{GuestsNow, file_of}
 use Rattle.model_guests.specs.AgreedBoard.{agreed_function, state_over}
 use Rattle.model_guests.specs.ChangeLaws.{ChangesAlike}

@@ -32,6 +32,8 @@ use Rattle.model_handoff.specs.Changes.{moves_own, moves_by_call, changes, chang
 use Rattle.model_handoff.specs.CountLaws.{HaveSameAnswers, RegionsStayAlong, ChangesTouchSlots, IsCounted, CountsGrow, AnswersStay}
 use Rattle.model_handoff.proofs.Actions.{there_after}
 use Rattle.model_handoff.proofs.Giving.{lawful_after_gift, lawful_after_taking, others_after_gift, others_after_taking}
+use Rattle.lists.proofs.Tests.{and_false}
+use Rattle.model_registers.proofs.RegisterFiles.{self}
 
 -- ---- one call
 
@@ -55,11 +57,7 @@ module _ (w : WorldNow) (h : IsLawfulOver w) (name : Text) (there : IsSome (gues
   kept_if t g e = grind arith
 
   by_own : (who : Text) (e : Event) → who ≡ name → moves_own (lone_of w.guests who) e ≡ false → Stays (after_call w (asks (guest_event who e)))
-  by_own who (raises r) is none = untouched (asks (guest_event who (raises r))) (λ slot. never (bytes_eq who name))
-    where
-      never : (u : Bool) → (u && false) ≡ false
-      never true = refl
-      never false = refl
+  by_own who (raises r) is none = untouched (asks (guest_event who (raises r))) (λ slot. and_false (bytes_eq who name))
   by_own who (access a) is none = cases (is_some (fault_of a)) refl
     where
       of_slot : (slot : ℕ) (t : Bool) → rewrites slot (lone_of w.guests name) (access a) ≡ false → (t && rewrites slot (lone_of w.guests name) (access a)) ≡ false
@@ -134,9 +132,6 @@ regions_stay_along w h name there (a ∷ more) none slot n =
 
 -- ---- what changes a guest touches a slot
 
-eqb_same : (n : ℕ) → eqb n n ≡ true
-eqb_same n = grind (arith, nat_tests)
-
 touched_write : (name who : Text) (w : WorldNow) (a : Access) → bytes_eq who name ≡ true → moves_own (lone_of w.guests name) (access a) ≡ true
     → (slot : ℕ) × (moves_regions name slot w.guests (asks (guest_event who (access a))) ≡ true)
 touched_write name who w a same moves = by (is_write a.op) (not (is_some (fault_of a))) (located (lone_of w.guests name) a.target) refl refl moves
@@ -151,7 +146,7 @@ touched_write name who w a same moves = by (is_write a.op) (not (is_some (fault_
       l.slot,
       ap₂ (λ (t u : Bool). t && (u && option_map_or (λ (x : Landing). eqb x.slot l.slot && any_tells a.width x.place) (located (lone_of w.guests name) a.target) false)) same e
           ∙ ap (λ (o : Option Landing). option_map_or (λ (x : Landing). eqb x.slot l.slot && any_tells a.width x.place) o false) f
-          ∙ ap₂ (λ (t u : Bool). t && u) (eqb_same l.slot) k,
+          ∙ ap₂ (λ (t u : Bool). t && u) (self l.slot) k,
     )
 
 pub changes_touch_slots : ChangesTouchSlots
@@ -170,17 +165,17 @@ changes_touch_slots name w (asks (host_move m)) moves = by (not (is_some (move_f
     by true true b e f g k = (
       m.slot,
       ap₂ (λ (t u : Bool). t && ((u && eqb m.slot m.slot) || (bytes_eq m.to name && eqb m.target m.slot))) e f
-          ∙ ap (λ (u : Bool). u || (bytes_eq m.to name && eqb m.target m.slot)) (eqb_same m.slot),
+          ∙ ap (λ (u : Bool). u || (bytes_eq m.to name && eqb m.target m.slot)) (self m.slot),
     )
     by true false true e f g k = (
       m.target,
       ap₂ (λ (t u : Bool). t && ((u && eqb m.slot m.target) || (bytes_eq m.to name && eqb m.target m.target))) e f
-          ∙ ap₂ (λ (t u : Bool). t && u) g (eqb_same m.target),
+          ∙ ap₂ (λ (t u : Bool). t && u) g (self m.target),
     )
 changes_touch_slots name w (asks (bad who k)) moves = cc
 changes_touch_slots name w (at_device who (resets k)) moves =
     let parts = and_parts (bytes_eq who name) (not (is_some (slot_fault (lone_of w.guests who).slots k))) moves in
-    (k, ap₂ (λ (t u : Bool). t && u) parts.0 (eqb_same k))
+    (k, ap₂ (λ (t u : Bool). t && u) parts.0 (self k))
 changes_touch_slots name w who moves = cc
 
 -- ---- counts

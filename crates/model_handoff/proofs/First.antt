@@ -27,9 +27,6 @@ use Rattle.model_handoff.specs.AgreementLaws.{FirstIsReset, FirstIsHandoff}
 use Rattle.model_handoff.proofs.Functions.{Facts, facts}
 use Rattle.model_handoff.proofs.Agreement.{distinct_left}
 
-pub any_append : {A : Type 0} (t : A → Bool) (xs ys : List A) → list_any t (xs ++ ys) ≡ (list_any t xs || list_any t ys)
-any_append t xs ys = list_any-append t xs ys
-
 module _ (w : World) (p : Path) where
   abbrev reset_here : Option File
   reset_here = option_map file_at_reset (declared w.board p)
@@ -48,7 +45,7 @@ module _ (w : World) (p : Path) where
 
   in_guests : (gs : List Guest) → file_of (map (guest_at_first w) gs) p ≡ cond (among (flat_map (λ (g : Guest). g.slots) gs)) reset_here None
   in_guests [] = refl
-  in_guests (g ∷ gs) = grind (arith, in_guests gs, in_slots, any_append)
+  in_guests (g ∷ gs) = grind (arith, in_guests gs, in_slots, list_any-append)
 
 pub first_is_reset : FirstIsReset
 first_is_reset w s =

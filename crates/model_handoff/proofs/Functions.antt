@@ -1,7 +1,7 @@
 -- The functions of a state of a lawful board, with the guests that are seated there.
 use Rattle.std.proofs.Common.{◌≡◌, true, List, Some, None, Option, refl, ap, ◌∙◌, arith}
 use Rattle.lists.specs.Elements.{Each}
-use Rattle.lists.proofs.EachLemmas.{each_both, each_map}
+use Rattle.lists.proofs.EachLemmas.{each_both, each_map, each_from_map}
 use Rattle.model_registers.specs.Registers.{File}
 use Rattle.model_registers.specs.CopiedFiles.{places_of}
 use Rattle.model_board.specs.Board.{Decl, endpoint, bridge, Row, Board, is_bridge}
@@ -9,7 +9,6 @@ use Rattle.model_board.specs.AtReset.{board_at}
 use Rattle.model_board.specs.State.{BoardFunction, row_at}
 use Rattle.model_board.specs.Lawful.{IsLawfulDecl}
 use Rattle.model_audit.specs.Orderly.{IsStateOfBoard}
-use Rattle.model_audit.proofs.Pairs.{each_of_map}
 use Rattle.model_guests.specs.World.{declared, endpoint_of}
 use Rattle.model_guests.specs.Guests.{GuestsNow, file_of}
 use Rattle.model_guests.specs.AgreedBoard.{agreed_function}
@@ -28,8 +27,8 @@ facts fs state =
     each_map (λ f. (declared (board_at fs) f.path ≡ endpoint_of (row_at f)) × IsLawfulDecl f.decl) (Facts (board_at fs)) fs
     (λ f h. record { found = h.0; lawful = h.1 })
     (each_both (λ f. declared (board_at fs) f.path ≡ endpoint_of (row_at f)) (λ f. IsLawfulDecl f.decl) fs
-    (each_of_map (λ (r : Row). declared (board_at fs) r.path ≡ endpoint_of r) row_at fs (rows_found (board_at fs) state.places.in_order))
-    (each_of_map (λ (r : Row). IsLawfulDecl r.decl) row_at fs state.declarations))
+    (each_from_map (λ (r : Row). declared (board_at fs) r.path ≡ endpoint_of r) row_at fs (rows_found (board_at fs) state.places.in_order))
+    (each_from_map (λ (r : Row). IsLawfulDecl r.decl) row_at fs state.declarations))
 
 no_bridge_declared : (f : BoardFunction) (d : Decl) → f.decl ≡ d → is_bridge d ≡ true → endpoint_of (row_at f) ≡ None
 no_bridge_declared f (endpoint d) e h = cc

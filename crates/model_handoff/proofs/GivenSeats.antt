@@ -18,12 +18,12 @@ use Rattle.model_guests.specs.Text.{Text}
 use Rattle.model_guests.specs.World.{declared}
 use Rattle.model_guests.specs.Guests.{GuestNow, GuestsNow, file_of, function_in, guest_named, path_in, with_guest, with_slot_emptied, with_slot_filled}
 use Rattle.model_guests.specs.Seated.{AreSeated, IsSeat, IsSeatedGuest}
-use Rattle.model_guests.proofs.FoundFiles.{file_found, file_past, file_stays}
+use Rattle.model_guests.proofs.FoundFiles.{file_found, file_past, file_stays, in_rest}
 use Rattle.model_guests.proofs.GuestsByName.{found, function_named, function_of, named_with, past_first, path_at, path_of}
 use Rattle.model_guests.proofs.Names.{same_text}
 use Rattle.model_guests.proofs.SeatedMoves.{Placed, placed, put_there, was_there, seat_in}
 use Rattle.model_guests.proofs.MovedFunctions.{put_at}
-use Rattle.model_guests.proofs.Seats.{as_many, guests_stay, names_stay, seats_set}
+use Rattle.model_guests.proofs.Seats.{as_many, guests_stay, names_stay, seats_set, no_path}
 use Rattle.model_guests.proofs.Resets.{none_is_some}
 use Rattle.model_handoff.specs.ViewLaws.{is_at, sits}
 use Rattle.model_handoff.proofs.Views.{sits_is}
@@ -39,14 +39,8 @@ below n h = grind (arith, nat_tests)
 
 -- ---- seats
 
-pub no_path : (b : Board) (q : Option Path) (o : Option Function) → IsSeat b q o → o ≡ None → q ≡ None
-no_path b q o h e = grind arith
-
 pub some_function : (b : Board) (q : Option Path) (o : Option Function) (p : Path) → IsSeat b q o → q ≡ Some p → (f : Function) × (o ≡ Some f)
 some_function b q o p h e = grind arith
-
-pub some_path : (b : Board) (q : Option Path) (f : Function) → IsSeat b q (Some f) → (p : Path) × (q ≡ Some p)
-some_path b q f h = grind arith
 
 pub declared_there : (b : Board) (q : Option Path) (o : Option Function) (p : Path) (f : Function) → IsSeat b q o → q ≡ Some p → o ≡ Some f → declared b p ≡ Some f.decl
 declared_there b q o p f h e i = (subst (λ (x : Option Path). IsSeat b x (Some f)) e (subst (IsSeat b q) i h)).decl
@@ -61,9 +55,6 @@ none_in (Some q ∷ qs) p h = by (path_eq q p) refl (none_in qs p (λ m. h (suc 
     by : (t : Bool) → path_eq q p ≡ t → list_any (is_at p) qs ≡ false → (t || list_any (is_at p) qs) ≡ false
     by true e more = absurd (h zero (ap Some (path_same q p e)))
     by false e more = more
-
-in_rest : (t : GuestNow) (ts : GuestsNow) (a : Text) (n : ℕ) (p : Path) → Each (λ (v : GuestNow). IsFalse (bytes_eq t.name v.name)) ts → path_in ts a n ≡ Some p → path_in (t ∷ ts) a n ≡ Some p
-in_rest t ts a n p apart h = grind (arith, past_first)
 
 nobody : (gs : GuestsNow) (p : Path) → EachPair (λ (t u : GuestNow). IsFalse (bytes_eq t.name u.name)) gs → ((a : Text) (m : ℕ) → path_in gs a m ≡ Some p → ⊥) → sits gs p ≡ false
 nobody [] p names free = refl

@@ -4,6 +4,7 @@ use Rattle.std.specs.Prelude.{map, option_map, is_some, nat_le, IsTrue, IsSome}
 use Rattle.std.specs.List.{list_any}
 use Rattle.std.specs.Option.{option_map_or}
 use Rattle.lists.specs.Elements.{Each}
+use Rattle.lists.proofs.Tests.{some_there}
 use Rattle.model_registers.specs.Registers.{File}
 use Rattle.model_registers.specs.Declarations.{Region, Endpoint}
 use Rattle.model_registers.specs.EndpointTable.{endpoint_reset}
@@ -35,11 +36,12 @@ use Rattle.model_handoff.proofs.Functions.{path_stays}
 use Rattle.model_handoff.proofs.Keeping.{keeps_board, rows_stay}
 use Rattle.model_handoff.proofs.Views.{sits_is}
 use Rattle.model_guests.proofs.Resets.{set_back}
+use Rattle.model_guests.proofs.Seats.{no_path, some_path}
 use Rattle.model_handoff.specs.Giving.{Gift, with_reset_at, has_closed_region, give_fault, take_fault, given, taken, after_give, after_take}
 use Rattle.model_handoff.specs.GivingLaws.{BoardAfterGift, BoardAfterTaking, LawfulAfterGift, LawfulAfterTaking, ShownAfterGift, ShownAfterTaking, GivenFunction, GivenBack, OthersAfterGift, OthersAfterTaking}
 use Rattle.model_handoff.proofs.OneReset.{alike, reset_is}
 use Rattle.model_handoff.proofs.Alike.{IsAlike}
-use Rattle.model_handoff.proofs.GivenSeats.{fresh, no_path, some_path, declared_there, sits_nowhere, came_seated, came_path, came_function, came_file, came_others, left, left_was, left_seated, left_file, left_others}
+use Rattle.model_handoff.proofs.GivenSeats.{fresh, declared_there, sits_nowhere, came_seated, came_path, came_function, came_file, came_others, left, left_was, left_seated, left_file, left_others}
 
 -- ---- files of which one is reset beneath
 
@@ -305,9 +307,6 @@ others_after_taking w name n other apart = grind (arith, lone_other)
 out_again : (y : GuestNow) (m : ℕ) (p : Option Path) (d : Endpoint) → path_at y.paths m ≡ None → slot_at y.lone.slots m ≡ None → with_slot_emptied m (with_slot_filled m p d y) ≡ y
 out_again y m p d path at = grind (arith, set_back)
 
-guest_there : (o : Option GuestNow) → IsSome o → (x : GuestNow) × (o ≡ Some x)
-guest_there o h = grind arith
-
 pub given_back : GivenBack
 given_back w h g there fault =
     let can = can_give w g fault in
@@ -315,6 +314,6 @@ given_back w h g there fault =
     let v : WorldNow = record { handoff = with_reset_at g.path w.handoff; guests = with_guest (with_slot_filled g.slot (Some g.path) d) g.to w.guests } in
     let is : after_give w g ≡ v = given_is w g d fault can.1.declares in
     let path : path_in v.guests g.to g.slot ≡ Some g.path = path_now w h g d can.1 there in
-    let x = guest_there (guest_named w.guests g.to) there in
+    let x = some_there (guest_named w.guests g.to) there in
     let was : path_in w.guests g.to g.slot ≡ None = no_path (board_at w.handoff.functions) (path_in w.guests g.to g.slot) (function_in w.guests g.to g.slot) (seat_in (board_at w.handoff.functions) w.guests h.seated.guests g.to g.slot) can.1.empty in
     grind (arith, taken_is, with_twice, with_none, out_again, function_named, function_now)

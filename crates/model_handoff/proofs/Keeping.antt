@@ -6,6 +6,7 @@ use Rattle.std.specs.Option.{option_map, option_map_or}
 use Rattle.lists.specs.Elements.{Each}
 use Rattle.lists.proofs.EachLemmas.{each_both, each_map, each_of_map}
 use Rattle.lists.proofs.Tests.{and_false}
+use Rattle.lists.proofs.Members.{flat_map_map}
 use Rattle.model_registers.specs.Registers.{config, File, cell_at}
 use Rattle.model_registers.specs.Declarations.{Endpoint}
 use Rattle.model_registers.specs.CopiedFiles.{agreed_file}
@@ -20,7 +21,7 @@ use Rattle.model_board.specs.Lawful.{IsLawfulDecl}
 use Rattle.model_board.specs.Routing.{routing}
 use Rattle.model_board.specs.RoutingLaws.{is_routing_register, HasSameRouting}
 use Rattle.model_board.specs.State.{BoardFunction, State, row_at}
-use Rattle.model_board.proofs.Routing.{flat_map_map, routing_of_change}
+use Rattle.model_board.proofs.Routing.{routing_of_change}
 use Rattle.model_audit.specs.Found.{address_now, path_reached}
 use Rattle.model_audit.specs.Problems.{Problem, not_found, numbering_problems}
 use Rattle.model_audit.proofs.Witnesses.{problems_decide}

@@ -24,14 +24,15 @@ use Rattle.model_set_up.proofs.Holders.{self_space}
 use Rattle.model_set_up.proofs.LawfulPlacement.{layout_is_lawful}
 use Rattle.model_set_up.proofs.SetUpNumbers.{set_up_has_numbers}
 use Rattle.model_set_up.proofs.SetUpRegisters.{endpoint_opens}
+use Rattle.model_set_up.proofs.UniqueClaimant.{left}
 use Rattle.model_audit.specs.OpenRegions.{region_now, closed_of, closed_regions}
 use Rattle.model_audit.specs.Orderly.{IsStateOfBoard}
 use Rattle.model_audit.proofs.Found.{numbers_of_board}
 use Rattle.model_audit.proofs.Witnesses.{problems_decide}
-use Rattle.model_audit.proofs.Placing.{left, regions_placed}
+use Rattle.model_audit.proofs.Placing.{regions_placed}
 use Rattle.model_audit.proofs.SetUpPasses.{set_up_passes}
 use Rattle.model_guests.proofs.TablePlaces.{Alike, alike_places, alike_tables}
-use Rattle.model_audit.proofs.Problems.{no_elements}
+use Rattle.lists.proofs.Members.{no_elements}
 use Rattle.model_handoff.specs.Handoffs.{HasPlacesOf, is_given}
 use Rattle.model_handoff.specs.Regions.{closed_given}
 use Rattle.model_handoff.specs.SetUpCase.{SetUpIsHandoff, SetUpIsInOrder, SetUpCanBeGiven, SetUpPlaces, SetUpAddresses}

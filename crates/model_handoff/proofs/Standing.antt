@@ -3,6 +3,7 @@ use Rattle.std.proofs.Common.{◌≡◌, Bool, List, [], ◌∷◌, Some, arith}
 use Rattle.std.specs.Prelude.{find, IsTrue}
 use Rattle.lists.specs.Elements.{EachPair, IsIn}
 use Rattle.lists.proofs.Members.{each_in, from_map}
+use Rattle.lists.proofs.EachLemmas.{pairs_from_map}
 use Rattle.model_registers.specs.Registers.{File}
 use Rattle.model_registers.specs.Declarations.{Endpoint}
 use Rattle.model_board.specs.Paths.{Path, path_eq, path_before}
@@ -13,7 +14,6 @@ use Rattle.model_board.specs.State.{BoardFunction, row_at}
 use Rattle.model_board.proofs.PathEnds.{path_self}
 use Rattle.model_board.proofs.PlacesLaw.{before_apart}
 use Rattle.model_audit.specs.Orderly.{IsStateOfBoard}
-use Rattle.model_audit.proofs.Pairs.{pairs_from_map}
 
 abbrev pub at_path : Path → BoardFunction → Bool
 at_path p f = path_eq f.path p

@@ -2,6 +2,7 @@
 use Rattle.std.proofs.Common.{◌≡◌, ℕ, zero, suc, ◌-◌, Bool, true, false, ◌||◌, cond, List, [], ◌∷◌, ◌++◌, length, Some, None, Option, refl, sym, ap, ap₂, ◌∙◌, subst, arith}
 use Rattle.std.specs.Prelude.{map, flat_map, replicate, is_some, option_map, IsSome}
 use Rattle.std.specs.List.{list_any}
+use Rattle.std.proofs.lemmas.List.Folds.{list_any-append}
 use Rattle.lists.specs.Elements.{Each}
 use Rattle.model_registers.specs.Registers.{File}
 use Rattle.model_registers.specs.Decoding.{Function}
@@ -21,7 +22,6 @@ use Rattle.model_guests.proofs.MovedFunctions.{NoFault, no_fault, moved, moved_s
 use Rattle.model_board.proofs.PathOrder.{path_same}
 use Rattle.model_handoff.specs.Handoffs.{file_at_reset, reset_files}
 use Rattle.model_handoff.specs.ViewLaws.{is_at, sits, seated_files, with_seated_reset, OverReset, ResetShown, ResetAtFirst, ResetAfterEvents, ResetAfterMoves}
-use Rattle.model_handoff.proofs.First.{any_append}
 use Rattle.model_handoff.proofs.Functions.{path_stays}
 use Rattle.model_handoff.proofs.Keeping.{keeps_board}
 use Rattle.model_guests.proofs.SeatedMoves.{seat_in}
@@ -89,7 +89,7 @@ some_paths (q ∷ qs) k p = ap (λ t. path_eq q p || t) (some_paths qs k p)
 sits_first : (w : World) (gs : List Guest) (p : Path) → sits (map (guest_at_first w) gs) p ≡ list_any (λ q. path_eq q p) (flat_map (λ (g : Guest). g.slots) gs)
 sits_first w [] p = refl
 sits_first w (g ∷ gs) p =
-    ap₂ ◌||◌ (some_paths g.slots (32 - length g.slots) p) (sits_first w gs p) ∙ sym (any_append (λ q. path_eq q p) g.slots (flat_map (λ (h : Guest). h.slots) gs))
+    ap₂ ◌||◌ (some_paths g.slots (32 - length g.slots) p) (sits_first w gs p) ∙ sym (list_any-append (λ q. path_eq q p) g.slots (flat_map (λ (h : Guest). h.slots) gs))
 
 same_reset : (s : State) (one other : Path → Option File) → ((p : Path) → other p ≡ one p)
     → with_files other s ≡ with_files one s

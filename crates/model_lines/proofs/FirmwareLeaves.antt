@@ -12,6 +12,7 @@ use Rattle.model_board.specs.Cycles.{reached}
 use Rattle.model_board.specs.Ports.{PortTarget, config_address, config_data, ordinary, port_target, after_claim_write, after_target_write}
 use Rattle.model_board.specs.State.{BoardFunction, State, with_file, row_at}
 use Rattle.model_registers.specs.Decoding.{io, memory}
+use Rattle.model_registers.proofs.Files.{places_written}
 use Rattle.model_guests.specs.Accesses.{Op, reads, writes}
 use Rattle.model_guests.specs.Grammar.{HostTarget, host_configuration, host_port, host_address}
 use Rattle.model_guests.specs.LineRuns.{after_lines}
@@ -19,16 +20,6 @@ use Rattle.model_lines.specs.FirmwareLines.{Meaning, nothing, asked, bad, meanin
 use Rattle.model_lines.specs.HostAccesses.{HostAccess, effect, fault_of, after_access}
 use Rattle.model_handoff.specs.Handoffs.{HasDeclaredPlaces, IsHandoff}
 use Rattle.model_lines.specs.FirmwareLeaves.{IsHandoffAlike, AccessLeaves, LinesLeave}
-
--- ---- a write moves no cell
-
-changed_places : (f : Cell → Cell) (p : Place) (file : File) → places_of (changed f p file) ≡ places_of file
-changed_places f p [] = refl
-changed_places f p (e ∷ es) = grind (arith, changed_places f p es)
-
-written_places : (ons : List Bool) (v : ℕ) (p : Place) (file : File) → places_of (write ons v p file) ≡ places_of file
-written_places [] v p file = refl
-written_places (on ∷ ons) v p file = grind (arith, written_places ons (v / 256) (after p) (cond on (changed (written (v % 256)) p file) file), changed_places)
 
 -- the same functions, with their cells at the same places
 record Alike (fs gs : List BoardFunction) : Type 0 where
@@ -55,11 +46,11 @@ module _ (g : File → File) (stays : (file : File) → places_of (g file) ≡ p
 
 config_alike : (fs : List BoardFunction) (off : ℕ) (ons : List Bool) (v : ℕ) (o : Option BoardFunction) → Alike fs (option_map_or (λ (f : BoardFunction). with_file (write ons v (config off)) f.path fs) o fs)
 config_alike fs off ons v None = unchanged fs
-config_alike fs off ons v (Some f) = with_file_alike (write ons v (config off)) (written_places ons v (config off)) f.path fs
+config_alike fs off ons v (Some f) = with_file_alike (write ons v (config off)) (places_written ons v (config off)) f.path fs
 
 claim_alike : (fs : List BoardFunction) (w v : ℕ) (o : Option Claim) → Alike fs (after_claim_write fs w v o)
 claim_alike fs w v None = unchanged fs
-claim_alike fs w v (Some c) = with_file_alike (write (all_bytes w) v (block c.index c.offset)) (written_places (all_bytes w) v (block c.index c.offset)) c.path fs
+claim_alike fs w v (Some c) = with_file_alike (write (all_bytes w) v (block c.index c.offset)) (places_written (all_bytes w) v (block c.index c.offset)) c.path fs
 
 target_alike : (s : State) (a w v : ℕ) (t : PortTarget) → Alike s.functions (after_target_write s a w v t).functions
 target_alike s a w v config_address = unchanged s.functions

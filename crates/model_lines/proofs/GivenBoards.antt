@@ -3,11 +3,13 @@ use Rattle.std.proofs.Common.{List, refl, sym, ap₂, ◌∙◌, subst}
 use Rattle.model_guests.specs.Text.{Text, lines}
 use Rattle.model_guests.specs.Guests.{guests_at_first}
 use Rattle.model_guests.specs.World.{World}
-use Rattle.model_guests.specs.WorldNow.{WorldNow, world_at_first}
+use Rattle.model_guests.specs.WorldNow.{WorldNow}
+use Rattle.model_handoff.specs.AfterSetUp.{world_at_first}
 use Rattle.model_guests.specs.Inputs.{Input, inputs, lone_output, after_inputs}
 use Rattle.model_guests.specs.Isolation.{IsDecidedBy, AgreeOn}
 use Rattle.model_guests.specs.Lone.{reset_guest}
-use Rattle.model_guests.proofs.Isolation.{isolated, isolated_over}
+use Rattle.model_handoff.proofs.AfterSetUp.{set_up_isolates}
+use Rattle.model_guests.proofs.Isolation.{isolated_over}
 use Rattle.model_audit.proofs.Witnesses.{problems_decide}
 use Rattle.model_handoff.specs.Handoffs.{taken_over}
 use Rattle.model_handoff.specs.Kept.{IsLawfulOver}
@@ -39,7 +41,7 @@ pub given_as_set_up : GivenAsSetUp
 given_as_set_up w s m given name script there =
     alike name w w m (world_at_first w) script script (record { in_first = there; in_second = there; declarations = refl; inputs = refl })
     (given_isolated w s m given name script there)
-    (isolated w given.lawful.guests.lawful_names name script there)
+    (set_up_isolates w given.lawful.guests.lawful_names name script there)
 
 pub given_stays : GivenStays
 given_stays w s m given ls =

@@ -15,7 +15,8 @@ use Rattle.model_guests.specs.Grammar.{has_name}
 use Rattle.model_guests.specs.World.{World, names, IsLawfulWorld}
 use Rattle.model_guests.specs.Replies.{reply_lines}
 use Rattle.model_guests.specs.Guests.{guests_at_first, lone_of}
-use Rattle.model_guests.specs.WorldNow.{WorldNow, world_over, world_at_first, board_state, output, after_lines}
+use Rattle.model_guests.specs.WorldNow.{WorldNow, world_over, board_state, output, after_lines}
+use Rattle.model_handoff.specs.AfterSetUp.{world_at_first}
 use Rattle.model_guests.specs.Inputs.{inputs}
 use Rattle.model_guests.specs.Isolation.{IsDecidedBy, AgreeOn}
 use Rattle.model_audit.specs.Problems.{problems}

@@ -25,7 +25,7 @@ use Rattle.model_guests.specs.Grammar.{on_word, host, is_long}
 use Rattle.model_guests.specs.Guests.{GuestNow}
 use Rattle.model_guests.specs.Accesses.{Reply, answered, done, refused}
 use Rattle.model_guests.specs.Replies.{line_text}
-use Rattle.model_guests.specs.Report.{path_text}
+use Rattle.model_guests.specs.PathTexts.{path_text}
 use Rattle.model_guests.specs.World.{World}
 use Rattle.model_guests.specs.WorldNow.{WorldNow, world_over, board_state}
 use Rattle.model_guests.specs.WorldNow as script

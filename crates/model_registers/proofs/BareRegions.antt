@@ -4,7 +4,7 @@ use Rattle.lists.specs.Elements.{Each, EachPair}
 use Rattle.model_registers.specs.Declarations.{Region, registers_of, IsLawfulRegion, HasLawfulRegions}
 use Rattle.model_registers.specs.OwnCopies.{bare}
 
-bare_each : (rs : List Region) → Each IsLawfulRegion rs → Each IsLawfulRegion (map bare rs)
+pub bare_each : (rs : List Region) → Each IsLawfulRegion rs → Each IsLawfulRegion (map bare rs)
 bare_each [] h = tt
 bare_each (r ∷ rs) h = (record { registers = h.0.registers; size_is_lawful = h.0.size_is_lawful; block_fits = omega arith }, bare_each rs h.1)
 
@@ -15,7 +15,7 @@ bare_after : (r : Region) (rs : List Region) → Each (Follows r) rs → Each (F
 bare_after r [] h = tt
 bare_after r (s ∷ rs) h = (h.0, bare_after r rs h.1)
 
-bare_order : (rs : List Region) → EachPair Follows rs → EachPair Follows (map bare rs)
+pub bare_order : (rs : List Region) → EachPair Follows rs → EachPair Follows (map bare rs)
 bare_order [] h = tt
 bare_order (r ∷ rs) h = (bare_after r rs h.0, bare_order rs h.1)
 

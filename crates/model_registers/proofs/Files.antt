@@ -1,9 +1,10 @@
 -- Joined files, and the cells of a block as those of a region.
-use Rattle.std.proofs.Common.{◌≡◌, ◌≢◌, ℕ, ◌+◌, ◌*◌, ◌/◌, ◌%◌, Bool, true, false, ◌||◌, ◌&&◌, cond, eqb, [], ◌∷◌, refl, sym, ap, ap₂, ◌∙◌, subst, arith}
+use Rattle.std.proofs.Common.{◌≡◌, ◌≢◌, ℕ, ◌+◌, ◌*◌, ◌/◌, ◌%◌, Bool, true, false, ◌||◌, ◌&&◌, cond, eqb, List, [], ◌∷◌, refl, sym, ap, ap₂, ◌∙◌, subst, arith}
 use Rattle.std.proofs.lemmas.Bool.{ne_eqb, eq-eqb, or_parts}
 use Rattle.model_registers.specs.Cell.{Cell, no_cell, written}
 use Rattle.model_registers.specs.Registers.{Place, config, block, place_eq, after, offset_of, PlacedCell, File, cell_at, changed, write, in_region}
 use Rattle.model_registers.specs.FileLaws.{has_place, IsConfig, IsConfigFile, JoinedCell, JoinedChange, JoinedWrite, ReadNone, WriteNone, ReadSecond, ReadFirst, PlacesStay, RegionCells, RegionCell, RegionRead, RegionChange, RegionWrite, RegionHasNoConfig, RegionHasNoOther, ConfigHasNoBlock, ConfigStays}
+use Rattle.model_registers.specs.CopiedFiles.{places_of}
 
 -- ---- joined files
 
@@ -127,3 +128,13 @@ pub region_write : RegionWrite
 region_write [] v n a file h = refl
 region_write (true ∷ ons) v n a file h = grind (arith, region_write ons (v / 256) n (a + 1) (changed (written (v % 256)) (config a) file), region_change, changed_config)
 region_write (false ∷ ons) v n a file h = region_write ons (v / 256) n (a + 1) file h
+
+-- ---- a write moves no cell
+
+pub places_changed : (f : Cell → Cell) (p : Place) (file : File) → places_of (changed f p file) ≡ places_of file
+places_changed f p [] = refl
+places_changed f p (e ∷ es) = grind (arith, places_changed f p es)
+
+pub places_written : (ons : List Bool) (v : ℕ) (p : Place) (file : File) → places_of (write ons v p file) ≡ places_of file
+places_written [] v p file = refl
+places_written (on ∷ ons) v p file = grind (arith, places_written ons (v / 256) (after p) (cond on (changed (written (v % 256)) p file) file), places_changed)

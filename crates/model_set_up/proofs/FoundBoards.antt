@@ -21,6 +21,7 @@ use Rattle.model_board.proofs.BusNumbers.{bridges, bridges-cons}
 use Rattle.model_board.proofs.PathOrder.{one}
 use Rattle.model_registers.specs.Decoding.{io, memory, space_of, same_space}
 use Rattle.model_registers.specs.EndpointTable.{BaseAddress}
+use Rattle.model_registers.proofs.BareRegions.{bare_each, bare_order}
 use Rattle.model_set_up.specs.Placement.{Item, a_region, a_window, region_item, window_items, items_of, items_within, items_on, root_first, fits, fits_items, spots, offset_in, offset_on, first_below, bus_first, region_first}
 use Rattle.model_set_up.specs.Layout.{row_of, bus_rows, buses, pool_rows, layout}
 use Rattle.model_set_up.specs.SetUp.{first_of, command_of, window_of, set_up_window}
@@ -57,12 +58,6 @@ bare_twice (r ∷ rs) = ap (λ (ss : List Region). bare r ∷ ss) (bare_twice rs
 
 pub found_twice : (d : Decl) → found_decl (found_decl d) ≡ found_decl d
 found_twice d = grind (arith, bare_twice)
-
-bare_each : (rs : List Region) → Each IsLawfulRegion rs → Each IsLawfulRegion (map bare rs)
-bare_each rs h = grind (arith, each_of_map, each_map)
-
-bare_order : (rs : List Region) → EachPair (λ r s. r.index + registers_of r.kind ≤ s.index) rs → EachPair (λ r s. r.index + registers_of r.kind ≤ s.index) (map bare rs)
-bare_order rs h = pairs_of_map (λ r s. r.index + registers_of r.kind ≤ s.index) bare rs h
 
 bare_blocks : (rs : List Region) → Each (λ r. length r.cells ≤ 4096) (map bare rs)
 bare_blocks [] = tt

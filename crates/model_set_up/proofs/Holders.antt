@@ -12,7 +12,7 @@ use Rattle.model_board.specs.Claims.{Claim}
 use Rattle.model_set_up.specs.PlacedRegions.{PlacedRegion, holds, claim_in}
 use Rattle.model_set_up.specs.UniqueClaimant.{ShareNone}
 use Rattle.lists.proofs.Members.{each_in, any_in, from_any}
-use Rattle.model_set_up.proofs.Partings.{pair_in}
+use Rattle.lists.proofs.Members.{pair_in}
 
 pub record Holds (space : Space) (n : ℕ) (q : PlacedRegion) : Type 0 where
   pub space_is : same_space q.space space ≡ true

@@ -6,7 +6,7 @@ use Rattle.lists.specs.Elements.{EachPair, IsIn}
 use Rattle.lists.proofs.Tests.{left_true, right_true}
 use Rattle.model_board.specs.Board.{Board, Row, is_bridge, is_bridge_at, IsBoard}
 use Rattle.model_board.specs.Paths.{Part, Path, part_eq, leads_to, parent, last_part}
-use Rattle.lists.proofs.Members.{each_in, from_any}
+use Rattle.lists.proofs.Members.{each_in, from_any, pair_in}
 use Rattle.model_board.proofs.PathOrder.{part_same, path_same, part_self}
 use Rattle.model_board.proofs.PathEnds.{snoc, length_snoc, leads_up, not_before_itself, leads_longer}
 
@@ -36,11 +36,6 @@ leads_down [] x z zs = and_from (part_eq x x) true (part_self x) refl
 leads_down (b ∷ bus) x z zs = and_from (part_eq b b) (leads_to (bus ++ x ∷ []) (bus ++ x ∷ z ∷ zs)) (part_self b) (leads_down bus x z zs)
 
 -- ---- the functions of a board
-
-pub pair_in : {A : Type 0} (R : A → A → Type 0) (x y : A) (xs : List A) → EachPair R xs → IsIn x xs → IsIn y xs → (x ≡ y) ⊎ (R x y ⊎ R y x)
-pair_in R x y [] h m k = absurd m
-pair_in R x y (z ∷ zs) h (inl e) k = grind (arith, each_in)
-pair_in R x y (z ∷ zs) h (inr m) k = grind (arith, each_in, pair_in R x y zs)
 
 module _ (b : Board) (lawful : IsBoard b) where
   -- one function stands at a path

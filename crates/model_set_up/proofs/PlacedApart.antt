@@ -17,7 +17,8 @@ use Rattle.model_set_up.specs.PlacedRegions.{pool_space}
 use Rattle.lists.proofs.Members.{each_in, from_any}
 use Rattle.model_board.proofs.PathOrder.{path_same, part_self}
 use Rattle.model_board.proofs.PathEnds.{path_self, parent_snoc, last_snoc, length_snoc}
-use Rattle.model_set_up.proofs.Partings.{Meeting, Same, Above, Below, Parting, meet, leads_down, pair_in, one_row, BridgeAt, bridge_above}
+use Rattle.model_set_up.proofs.Partings.{Meeting, Same, Above, Below, Parting, meet, leads_down, one_row, BridgeAt, bridge_above}
+use Rattle.lists.proofs.Members.{pair_in}
 
 -- ---- pools
 

@@ -10,7 +10,7 @@ use Rattle.std.proofs.lemmas.Bool.{leb-true, and_from, le-leb, eqb-true}
 use Rattle.lists.specs.Elements.{Each, IsIn}
 use Rattle.lists.proofs.Tests.{left_true, right_true, same_test}
 use Rattle.lists.proofs.EachLemmas.{each_map}
-use Rattle.lists.proofs.FirstFound.{found_passes, each_found}
+use Rattle.lists.proofs.FirstFound.{found_passes, each_found, found}
 use Rattle.model_board.specs.Board.{Board, Row, is_bridge, is_bridge_at, IsBoard}
 use Rattle.model_board.specs.Paths.{Part, Path, part_eq, path_eq, path_before, leads_to, parent, last_part, IsPath}
 use Rattle.model_board.specs.BusNumbers.{secondary, subordinate, bus_behind, bus_of}
@@ -19,7 +19,7 @@ use Rattle.model_board.specs.Cycles.{is_route, takes, taker, covers, ends_in, se
 use Rattle.model_board.specs.Numbering.{NumbersLead}
 use Rattle.model_set_up.specs.Reach.{HasNumbers, ReachedByNumbers, address_of, OnlyNamed}
 use Rattle.lists.proofs.Members.{each_in, in_map, from_map, any_in, from_any}
-use Rattle.model_registers.proofs.RegisterFiles.{self}
+use Rattle.model_registers.proofs.RegisterFiles.{self, below}
 use Rattle.model_board.proofs.PathOrder.{part_same, path_same, part_self}
 use Rattle.model_board.proofs.PathEnds.{path_self, snoc, parent_snoc, snoc_some}
 use Rattle.model_set_up.proofs.Partings.{BridgeAt, bridge_at, bridge_above, leads_down}
@@ -27,10 +27,6 @@ use Rattle.model_board.proofs.PlacesLaw.{path_total}
 use Rattle.model_board.proofs.BusNumbers.{numbering}
 
 -- ---- find
-
-pub found : {A : Type 0} (t : A → Bool) (xs : List A) → list_any t xs ≡ true → (f : A) × (find t xs ≡ Some f) × IsIn f xs × (t f ≡ true)
-found t [] h = cc
-found {A} t (x ∷ xs) h = search (rules, found t xs)
 
 find_same : {A : Type 0} (s t : A → Bool) → ((x : A) → s x ≡ t x) → (xs : List A) → find s xs ≡ find t xs
 find_same s t h [] = refl
@@ -49,9 +45,6 @@ next_equal (a ∷ above) x p rest h = next_equal above x p rest (right_true (par
 
 positive : (n : ℕ) → 0 < n → eqb n 0 ≡ false
 positive n h = grind (arith, nat_tests)
-
-differs : (m n : ℕ) → m < n → eqb m n ≡ false
-differs m n h = grind (arith, nat_tests)
 
 -- ---- at most one route, in any register state
 
@@ -194,7 +187,7 @@ module _ (b : Board) (lawful : IsBoard b) (fs : List BoardFunction) (rows : map 
         let g = stands_on_way above p (q ∷ rest) e in
         let h : is_bridge_at b (above ++ p ∷ []) ≡ true = subst (λ (x : Path). is_bridge_at b x ≡ true) g.3 (bridge_of g.0 g.1 g.2) in
         let leads : leads_to (above ++ p ∷ []) target ≡ true = subst (λ (x : Path). leads_to (above ++ p ∷ []) x ≡ true) (sym e) (leads_down above p q rest) in
-        let other : eqb (secondary b (above ++ p ∷ [])) goal ≡ false = differs (secondary b (above ++ p ∷ [])) goal ((numbering b lawful (above ++ p ∷ []) target h is_target).inside leads).0 in
+        let other : eqb (secondary b (above ++ p ∷ [])) goal ≡ false = below goal (secondary b (above ++ p ∷ [])) ((numbering b lawful (above ++ p ∷ []) target h is_target).inside leads).0 in
         takes_by above p false (taken above p (q ∷ rest) e) (rw other)
 
     route : (rs : Path) (p t : Part) (above : Path) → target ≡ above ++ p ∷ rs → is_route fs goal above (p ∷ rs ++ t ∷ []) ≡ true

@@ -10,7 +10,7 @@ use Rattle.model_board.specs.Board.{Board, Row, is_bridge, is_bridge_at, stands_
 use Rattle.model_set_up.specs.Scanning.{no_numbers, board_numbers, open_numbers}
 use Rattle.model_set_up.specs.ScanOrder.{nth_part, on, next_part, met, MeetsInPathOrder, GivesNumbersInPathOrder, ScanMeetsInPathOrder, ScanGivesNumbersInPathOrder}
 use Rattle.lists.proofs.Members.{each_in, any_in, none_pass, filter_same}
-use Rattle.lists.proofs.Tests.{same_test}
+use Rattle.lists.proofs.Tests.{same_test, and_true}
 use Rattle.model_board.proofs.PathOrder.{one, exclusive, part_same, path_same, part_self}
 use Rattle.model_board.proofs.PathEnds.{path_self, length_snoc, not_before_itself, leads_longer, snoc_some}
 use Rattle.model_set_up.proofs.Partings.{one_row, bridge_at, bridge_above}
@@ -142,10 +142,6 @@ module _ (b : Board) (lawful : IsBoard b) where
   counted_met here [] = refl
   counted_met here (r ∷ bs) = bridges-cons (λ x. path_before x here) r bs ∙ by_test (path_before r.path here) (counted_met here bs)
     where
-      and_true : (t : Bool) → (t && true) ≡ t
-      and_true true = refl
-      and_true false = refl
-
       by_test : (t : Bool) → bridges (λ x. path_before x here) bs ≡ count_by (λ s. is_bridge s.decl) (met bs here)
           → one (is_bridge r.decl && t) + bridges (λ x. path_before x here) bs ≡ count_by (λ s. is_bridge s.decl) (cond t (r ∷ met bs here) (met bs here))
       by_test true e = ap₂ (λ t n. one t + n) (and_true (is_bridge r.decl)) e ∙ sym (sum_by-cons (λ (s : Row). one (is_bridge s.decl)) r (met bs here))

@@ -10,16 +10,13 @@ use Rattle.model_registers.specs.Declarations.{Kind, io_kind, mem32, mem64, Regi
 use Rattle.model_registers.specs.EndpointTable.{base_register, base_cells, region_cells, block_cells, header_cells, endpoint_file}
 use Rattle.model_registers.specs.BridgeTable.{BridgeValues, bridge_file, address_bits}
 use Rattle.model_registers.specs.Decoding.{Space, io, base, is_open}
-use Rattle.model_registers.proofs.RegisterFiles.{field_reads}
+use Rattle.model_registers.proofs.RegisterFiles.{field_reads, below}
 use Rattle.model_set_up.specs.SetUp.{opens, command_of}
 use Rattle.model_board.proofs.Routing.{same_number}
 use Rattle.model_board.specs.Windows.{Window, window, io_window, mem_window, pref_window}
 use Rattle.model_set_up.specs.Pools.{has_io, has_pref, has_pref64}
 
 -- ---- a register is read past cells of other places
-
-other : (a b : ℕ) → a < b → eqb a b ≡ false
-other a b h = grind (arith, nat_tests)
 
 past_blocks : (bs : List ConfigBlock) (k : ℕ) (rest : File) → Each (λ b. 0x40 ≤ b.offset) bs → k < 0x40 → cell_at (flat_map block_cells bs ++ rest) (config k) ≡ cell_at rest (config k)
 past_blocks [] k rest h l = refl
@@ -40,7 +37,7 @@ base_here : (kind : Kind) (n size b : ℕ) (rest : File) → number (base_cells 
 base_here kind n size b rest = grind (arith, field_reads)
 
 past_base : (kind : Kind) (n size b k : ℕ) (rest : File) → 16 + 4 * (n + registers_of kind) ≤ k → cell_at (base_cells n kind size b ++ rest) (config k) ≡ cell_at rest (config k)
-past_base kind n size b k rest h = grind (arith, other)
+past_base kind n size b k rest h = grind (arith, below)
 
 module _ (bases : Region → ℕ) where
   split : (r : Region) (rest : File) → region_cells bases r ++ rest ≡ base_cells r.index r.kind r.size (bases r) ++ (cells_from (block r.index 0) r.cells ++ rest)

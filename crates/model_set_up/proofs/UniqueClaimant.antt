@@ -28,9 +28,9 @@ use Rattle.model_set_up.specs.PlacementLaws.{region_row, window_row, HasRows}
 use Rattle.model_set_up.specs.PlacedRegions.{pool_space, PlacedRegion, placed, placed_at, placed_regions, holds, claim_in, placed_claim}
 use Rattle.model_set_up.specs.UniqueClaimant.{CanBePlaced, IsClaimed, ShareNone, HasUniqueClaims, UniqueClaimant, ClaimOfRegion, ClaimInAnyOrder, RowsArePlaced}
 use Rattle.model_set_up.specs.WindowLaws.{HasPlacedWindows}
-use Rattle.lists.proofs.Members.{each_in, each_from, any_in, in_map, in_flat_map, all_from, flat_map_same}
+use Rattle.lists.proofs.Members.{each_in, each_from, any_in, in_map, in_flat_map, all_from, flat_map_same, flat_map_map, flat_map_flat}
 use Rattle.model_set_up.proofs.Holders.{Holds, holds_is, is_held, self_space, claims_in, one_at_most, holder_first, same_members}
-use Rattle.model_board.proofs.Routing.{flat_map_map, first_listed, first_of_claims, forwarded_by_routing, claims_by_routing}
+use Rattle.model_board.proofs.Routing.{first_listed, first_of_claims, forwarded_by_routing, claims_by_routing}
 use Rattle.model_set_up.proofs.SetUpRegisters.{FitsRegister, bases_read, endpoint_opens, bridge_opens}
 use Rattle.model_set_up.proofs.LawfulPlacement.{layout_is_lawful}
 use Rattle.model_set_up.proofs.DeclaredRows.{rows_are_declared}
@@ -49,15 +49,11 @@ by_region t p hit claim [] h = grind arith
 by_region t p hit claim (g ∷ gs) h = grind (arith, map-append, by_region true p hit claim gs, by_region false p hit claim gs)
 
 -- a function with the cells that set-up leaves
-abbrev left : Board → Apertures → Row → BoardFunction
+abbrev pub left : Board → Apertures → Row → BoardFunction
 left b a r = record { path = r.path; decl = r.decl; file = set_up_file b a r.path r.decl }
 
-no_claims : (t : Bool) → cond {A = List Claim} t [] [] ≡ []
+pub no_claims : (t : Bool) → cond {A = List Claim} t [] [] ≡ []
 no_claims t = grind arith
-
-flat_map_flat : {A B C : Type 0} (f : B → List C) (g : A → List B) (xs : List A) → flat_map f (flat_map g xs) ≡ flat_map (λ x. flat_map f (g x)) xs
-flat_map_flat f g [] = refl
-flat_map_flat f g (x ∷ xs) = flat_map-append f (g x) (flat_map g xs) ∙ ap (λ ys. flat_map f (g x) ++ ys) (flat_map_flat f g xs)
 
 module _ (b : Board) (a : Apertures) (can : CanBePlaced b a) (lawful : IsLawful b a (layout b a)) (has : HasRows b a) where
   pub bases : (r : Row) (e : Endpoint) → IsIn r b → r.decl ≡ endpoint e → Each (λ g. base (set_up_file b a r.path (endpoint e)) g.index g.kind ≡ first_of b a r.path g) e.regions

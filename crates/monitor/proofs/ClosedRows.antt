@@ -4,6 +4,7 @@ use Rattle.std.proofs.Math.Seq.{drop-cons}
 use Rattle.std.proofs.lemmas.List.Elements.{filter-append}
 use Rattle.std.specs.Prelude.{map, flat_map, filter, slice_get}
 use Rattle.std.specs.List.{list_any}
+use Rattle.std.proofs.lemmas.List.Folds.{list_any-append}
 use Rattle.lists.specs.Elements.{Each, first_of_two}
 use Rattle.lists.proofs.EachLemmas.{each_of_map, each_filter}
 use Rattle.model_registers.specs.EndpointTable.{BaseAddress}
@@ -13,7 +14,6 @@ use Rattle.model_board.specs.Routing.{Ranges, regions, windows, RoutingRow}
 use Rattle.model_set_up.specs.PlacedRegions.{PlacedRegion}
 use Rattle.model_audit.specs.OpenRegions.{region_now, closed_of, closed_regions}
 use Rattle.model_guests.specs.World.{Guest}
-use Rattle.model_handoff.proofs.First.{any_append}
 use Rattle.monitor.specs.Handovers.{closed_if_given, is_among, first_closed_at}
 
 dropped : {A : Type 0} (xs : List A) (i : ℕ) (x : A) → i < length xs → x ≡ get_or xs i x → drop i xs ≡ x ∷ drop (i + 1) xs
@@ -23,7 +23,7 @@ dropped xs i x h e = rw (add-one, drop-cons xs i x) (ap (λ y. y ∷ drop (suc i
 
 pub among_guests : (p : Path) (gs : List Guest) → list_any (λ (g : Guest). list_any (λ q. path_eq q p) g.slots) gs ≡ list_any (λ q. path_eq q p) (flat_map (λ (g : Guest). g.slots) gs)
 among_guests p [] = refl
-among_guests p (g ∷ gs) = ap (λ t. list_any (λ q. path_eq q p) g.slots || t) (among_guests p gs) ∙ sym (any_append (λ q. path_eq q p) g.slots (flat_map (λ (h : Guest). h.slots) gs))
+among_guests p (g ∷ gs) = ap (λ t. list_any (λ q. path_eq q p) g.slots || t) (among_guests p gs) ∙ sym (list_any-append (λ q. path_eq q p) g.slots (flat_map (λ (h : Guest). h.slots) gs))
 
 -- ---- a row
 

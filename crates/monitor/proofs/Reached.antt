@@ -6,7 +6,6 @@ use Rattle.std.proofs.lemmas.Option.{slice_get_within}
 use Rattle.lists.specs.Elements.{EachPair}
 use Rattle.lists.proofs.Tests.{and_true}
 use Rattle.model_audit.specs.Found.{address_now}
-use Rattle.model_audit.proofs.Pairs.{pairs_from_map}
 use Rattle.model_registers.specs.Registers.{Place, block, File, read, all_bytes, number}
 use Rattle.model_registers.specs.ByteEnables.{IsWidth}
 use Rattle.model_registers.specs.OwnCopies.{handed_on}
@@ -24,6 +23,7 @@ use Rattle.model_guests.specs.AgreedBoard.{with_change_at}
 use Rattle.model_guests.specs.Seated.{IsSeat, IsSeatedAt, IsSeatedGuest}
 use Rattle.model_guests.proofs.GuestsByName.{path_at}
 use Rattle.lists.proofs.Indices.{each_at}
+use Rattle.lists.proofs.EachLemmas.{pairs_from_map}
 use Rattle.model_registers.specs.DeclarationRules.{IsLawfulEndpoint}
 use Rattle.model_guests.proofs.Seats.{seats_at}
 use Rattle.model_guests.proofs.AgreedFiles.{shows_file}

@@ -5,6 +5,7 @@ use Rattle.std.specs.List.{list_any}
 use Rattle.std.specs.Option.{option_map_or}
 use Rattle.std.proofs.lemmas.List.{append-nil}
 use Rattle.std.proofs.lemmas.List.Concat.{flat_map-append}
+use Rattle.std.proofs.lemmas.List.Folds.{list_any-append}
 use Rattle.lists.proofs.FirstFound.{found_passes}
 use Rattle.lists.proofs.Indices.{at_map}
 use Rattle.model_registers.specs.Declarations.{Endpoint}
@@ -19,7 +20,7 @@ use Rattle.model_guests.specs.World.{Guest, declared}
 use Rattle.model_guests.specs.AgreedBoard.{agreed_function}
 use Rattle.model_guests.proofs.Changes.{agreed_twice}
 use Rattle.model_handoff.specs.Handoffs.{files_given}
-use Rattle.model_handoff.proofs.First.{any_append, one_given}
+use Rattle.model_handoff.proofs.First.{one_given}
 use Rattle.model_handoff.proofs.Functions.{path_stays}
 use Rattle.model_handoff.proofs.Keeping.{rows_stay}
 use Rattle.bridge_forward.specs.Lending.{as_endpoint, endpoint_at, with_endpoint_reset}
@@ -35,7 +36,7 @@ among ps p = list_any (λ q. path_eq q p) ps
 
 pub files_joined : (b : Board) (ps qs : List Path) (fs : List BoardFunction) → map (agreed_function (files_given b qs)) (map (agreed_function (files_given b ps)) fs) ≡ map (agreed_function (files_given b (ps ++ qs))) fs
 files_joined b ps qs [] = refl
-files_joined b ps qs (f ∷ fs) = grind (arith, files_joined b ps qs fs, path_stays, any_append, agreed_twice)
+files_joined b ps qs (f ∷ fs) = grind (arith, files_joined b ps qs fs, path_stays, list_any-append, agreed_twice)
 
 pub no_files : (b : Board) (fs : List BoardFunction) → map (agreed_function (files_given b [])) fs ≡ fs
 no_files b [] = refl

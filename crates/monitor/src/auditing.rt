@@ -13,7 +13,8 @@ impl<R: Route> Engine<R> {
     /// All that is wrong in the registers of the board as they stand. Nothing changes. Whatever guests, their
     /// devices and the host did, there is nothing.
     pub fn problems(&mut self, alloc: Global) -> Result<Vec<Problem>, AllocError>
-        ensures told { IfOk result (λ v. map problem_of v.items ≡ problems (board_state self.old.world).functions) }
+        ensures told { IfOk result (λ v.
+            map problem_of v.items ≡ problems (board_state self.old.world).functions) }
         ensures in_order { problems (board_state self.old.world).functions ≡ [] }
         ensures after { self.new ≡ self.old }
     {

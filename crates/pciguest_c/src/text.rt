@@ -2,7 +2,7 @@
 ghost use Rattle.std.specs.Prelude.{◌≡◌, ◌≢◌, ◌⊎◌, ◌≤◌, ◌<◌, IfOk, IfErr, string_bytes};
 ghost use Rattle.std.specs.Option.{option_map_or};
 ghost use Rattle.model_guests.specs.World.{World};
-ghost use Rattle.model_guests.specs.Report.{report};
+ghost use Rattle.model_handoff.specs.Report.{report};
 ghost use Rattle.simulation.specs.Faults.{number_of};
 ghost use Rattle.session.specs.Files.{Refuses, Breaks, IsSetUp};
 ghost use Rattle.pciguest_c.specs.Checks.{IsCheckOf};

@@ -3,7 +3,7 @@ ghost use Rattle.std.specs.Prelude.{◌≡◌, ◌≢◌, ◌<◌, ◌≤◌, �
 ghost use Rattle.std.specs.Bool.{OnTrue, OnFalse};
 ghost use Rattle.model_guests.specs.Text.{Text};
 ghost use Rattle.model_guests.specs.World.{World};
-ghost use Rattle.model_guests.specs.Report.{report};
+ghost use Rattle.model_handoff.specs.Report.{report};
 ghost use Rattle.session.specs.Files.{Refuses, Breaks, IsSetUp};
 ghost use Rattle.pciguest_c.specs.Checks.{IsCheckOf};
 ghost use Rattle.pciguest_c.specs.LinesTold.{at_front};

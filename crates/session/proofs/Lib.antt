@@ -1,2 +1,3 @@
-pub mod DrivenBoards
+pub mod Declared
+pub mod Handed
 pub mod Refusals

@@ -17,7 +17,8 @@ pub struct Audit {
 impl Audit {
     /// The audit that tells of these problems.
     pub(crate) fn of(alloc: Global, problems: &[Problem]) -> Result<Audit, AllocError>
-        ensures text { IfOk result (λ a. string_bytes a.text ≡ audit_text (map problem_of problems.now)) }
+        ensures text { IfOk result (λ a.
+            string_bytes a.text ≡ audit_text (map problem_of problems.now)) }
         ensures problems { IfOk result (λ a. a.problems ≡ length (map problem_of problems.now)) }
     {
         let text = problems_text(alloc, problems)?;

@@ -1,10 +1,11 @@
 //! A board that firmware drives.
 ghost use Rattle.std.specs.Prelude.{◌≡◌, ◌≢◌, ◌≤◌, ◌++◌, ◌∷◌, [], false, not, codes, length};
-ghost use Rattle.std.specs.Prelude.{MatchOption, IfOk, IfErr, IfSome, map, string_bytes};
+ghost use Rattle.std.specs.Prelude.{MatchOption, IfOk, IfErr, IfSome, string_bytes};
 ghost use Rattle.std.specs.Bool.{OnTrue};
 ghost use Rattle.model_guests.specs.Accesses.{reads, writes};
 ghost use Rattle.model_guests.specs.Replies.{reply_text};
 ghost use Rattle.model_guests.specs.Text.{Text};
+ghost use Rattle.model_guests.specs.World.{IsLawfulWorld};
 ghost use Rattle.model_audit.specs.AuditText.{audit};
 ghost use Rattle.model_audit.specs.Problems.{problems};
 ghost use Rattle.model_handoff.specs.Changes.{BeginsIn};
@@ -26,7 +27,6 @@ use crate::accessing;
 use crate::audit::Audit;
 use crate::opening::{self, OpenFault};
 use accesses::{GuestDecl, HostAccess, Refusal, Reply};
-use audit_text::problems_text;
 use board_audit::problems;
 use board_file::{BoardFault, read_board};
 use host_bridge::Host;
@@ -61,6 +61,7 @@ impl Board {
     /// given to them. Refused are the file (101 to 112) and lack of memory (199).
     pub fn open(alloc: Global, file: &[u8]) -> Result<Board, BoardFault>
         ensures declared { IfOk result (λ b. Declares file.now b.world) }
+        ensures lawful { IfOk result (λ b. IsLawfulWorld b.world) }
         ensures reset { IfOk result (λ b. b ≡ at_reset b.world) }
         ensures refused { IfErr result (λ f. f ≢ Memory → Refuses file.now (file_number f)) }
     {
@@ -208,7 +209,8 @@ impl Board {
     /// is out.
     pub fn audit(&mut self, alloc: Global) -> Result<Audit, AllocError>
         ensures text { IfOk result (λ a. string_bytes a.text ≡ audit self.old.state.functions) }
-        ensures problems { IfOk result (λ a. a.problems ≡ length (problems self.old.state.functions)) }
+        ensures problems { IfOk result (λ a.
+            a.problems ≡ length (problems self.old.state.functions)) }
         ensures after { self.new ≡ self.old }
     {
         let found = problems(alloc, &mut self.host)?;

@@ -1,18 +1,7 @@
 //! Sessions over a board: firmware's lines from reset on, audits among them, and the handover of the board to its
 //! guests, whose script the lines are from there on.
 //!
-//! A session runs lines, and lends the board as long as firmware drives it:
-//!
-//! ```
-//! let mut session = Session::open(alloc, file)?;
-//! let mut text = LineText::new();
-//! let more = session.run_line(b"host cr 00:02.0 0 4", &mut text)?;
-//! if let Some(board) = session.board() {
-//!     let number = board.read(HostAccess { at, width: 4 });
-//! }
-//! ```
-//!
-//! The same of a host bridge: a bridge is numbered, and a function behind it is found.
+//! A bridge is numbered by a call, a function behind it found by a line, and the registers audited:
 //!
 //! ```
 //! let bridge = Bdf {
@@ -25,8 +14,12 @@
 //!     off: 0x18,
 //! };
 //! let numbers = HostAccess { at, width: 4 };
-//! let numbered = write(&mut host, numbers, 0x0001_0100);
-//! let numbers = read(&mut host, numbers);
+//! let numbered = session
+//!     .board()
+//!     .map(|board| board.write(numbers, 0x0001_0100));
+//! let mut text = LineText::new();
+//! let more = session.run_line(b"host cr 01:00.0 0 4", &mut text)?;
+//! let audit = session.audit(alloc)?;
 //! ```
 #![tactic(auto)]
 

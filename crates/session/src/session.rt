@@ -4,7 +4,7 @@ ghost use Rattle.std.specs.Prelude.{IfOk, IfErr, IfSome, OnOk, OnErr};
 ghost use Rattle.std.specs.Borrow.{sem};
 ghost use Rattle.std.specs.Option.{option_copied_mut};
 ghost use Rattle.model_guests.specs.Text.{Text};
-ghost use Rattle.model_guests.specs.World.{World};
+ghost use Rattle.model_guests.specs.World.{World, IsLawfulWorld};
 ghost use Rattle.model_audit.specs.AuditText.{audit};
 ghost use Rattle.model_audit.specs.Problems.{problems};
 ghost use Rattle.model_lines.specs.Sessions.{driven, given, at_reset, session_functions, session_protocol};
@@ -51,7 +51,8 @@ impl Session {
     /// A session over the board of a board file, at reset. Refused are the file (101 to 112) and lack of
     /// memory (199).
     pub fn open(alloc: Global, file: &[u8]) -> Result<Session, BoardFault>
-        ensures reset { IfOk result (λ x. (w : World) × Declares file.now w × (x ≡ driven (at_reset w))) }
+        ensures reset { IfOk result (λ x.
+            (w : World) × Declares file.now w × IsLawfulWorld w × (x ≡ driven (at_reset w))) }
         ensures refused { IfErr result (λ f. f ≢ Memory → Refuses file.now (file_number f)) }
     {
         let board = Board::open(alloc, file)?;
@@ -137,7 +138,8 @@ impl Session {
     /// where memory is out.
     pub fn audit(&mut self, alloc: Global) -> Result<Audit, AllocError>
         ensures text { IfOk result (λ a. string_bytes a.text ≡ audit (session_functions self.old)) }
-        ensures problems { IfOk result (λ a. a.problems ≡ length (problems (session_functions self.old))) }
+        ensures problems { IfOk result (λ a.
+            a.problems ≡ length (problems (session_functions self.old))) }
         ensures after { self.new ≡ self.old }
     {
         match &mut self.stage {

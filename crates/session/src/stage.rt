@@ -37,7 +37,8 @@ pub(crate) fn hand_over(
         with_more text.new.items (option_map string_bytes more) ≡ session_output (session_now stage.old) line) }
     ensures after { OnOk result ((line : Text) → IsTrue (is_handover line) →
         session_now stage.new ≡ after_session_line (session_now stage.old) line) }
-    ensures more { IfOk result (λ more. IfSome more (λ _. session_now stage.new ≡ session_now stage.old)) }
+    ensures more { IfOk result (λ more.
+        IfSome more (λ _. session_now stage.new ≡ session_now stage.old)) }
     ensures kept { OnErr result ((stage.new ≡ stage.old) × (text.new ≡ text.old)) }
     ensures at_line { IsAtLine stage.new }
 {

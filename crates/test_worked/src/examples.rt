@@ -1,12 +1,12 @@
-//! The examples that `host_bridge`, `firmware`, `window_packing` and `monitor` show in their headings, as
+//! The examples that `host_bridge`, `session`, `window_packing` and `monitor` show in their headings, as
 //! tests.
 ghost use Rattle.std.specs.Prelude.{◌≡◌, length};
 
 use accesses::{Access, At, HostAccess, HostAt, Op, Reply};
 use board_file::read_board;
-use firmware::{read, run_line, write};
 use host_bridge::{Bdf, TreeWalk};
 use monitor::{Engine, Monitor};
+use session::{LineText, Session};
 use std::test::Fail;
 use window_packing::set_up;
 
@@ -97,7 +97,8 @@ fn cycles_and_accesses_of_a_host(rt: HostRuntime) -> Result<(), Fail> {
 
 #[test]
 fn a_bridge_is_numbered_by_hand(rt: HostRuntime) -> Result<(), Fail> {
-    let (mut host, _) = read_board(rt.alloc(), MAIN.as_bytes())?;
+    let alloc = rt.alloc();
+    let mut session = Session::open(alloc, MAIN.as_bytes())?;
     let bridge = Bdf {
         bus: 0,
         device: 2,
@@ -108,12 +109,17 @@ fn a_bridge_is_numbered_by_hand(rt: HostRuntime) -> Result<(), Fail> {
         off: 0x18,
     };
     let numbers = HostAccess { at, width: 4 };
-    let numbered = write(&mut host, numbers, 0x0001_0100);
-    let numbers = read(&mut host, numbers);
-    let behind = run_line(&mut host, b"host cr 01:00.0 0 4");
-    assert!(rt; numbered == Reply::Done);
-    assert!(rt; numbers == Reply::Value(0x0001_0100, 4));
-    assert_eq!(rt; behind.as_slice(), b"host: 0x00031234\n".as_slice());
+    let numbered = session
+        .board()
+        .map(|board| board.write(numbers, 0x0001_0100));
+    let mut text = LineText::new();
+    let more = session.run_line(b"host cr 01:00.0 0 4", &mut text)?;
+    let audit = session.audit(alloc)?;
+    assert!(rt; numbered == Some(Reply::Done));
+    assert!(rt; more.is_none());
+    assert_eq!(rt; text.as_slice(), b"host: 0x00031234\n".as_slice());
+    assert_eq!(rt; audit.text.as_str(), "audit: ok\n");
+    assert_eq!(rt; audit.problems, 0);
     Ok(())
 }
 

@@ -13,7 +13,7 @@ use Rattle.model_set_up.specs.Pools.{bridge_of, bridges_above, has_io, has_pref,
 use Rattle.model_board.proofs.PathEnds.{snoc, leads_up, leads_self, leads_trans, not_before_itself}
 use Rattle.lists.proofs.Members.{each_in, from_flat_map, in_flat_map, from_filter, in_filter, all_in, all_from}
 use Rattle.lists.proofs.Indices.{index_in}
-use Rattle.model_set_up.proofs.Partings.{pair_in}
+use Rattle.lists.proofs.Members.{pair_in}
 use Rattle.window_packing.specs.declared.above.Above.{Above}
 use Rattle.window_packing.specs.Buses.{bus_path, nothing_above, behind}
 

@@ -18,7 +18,7 @@ use Rattle.model_board.specs.Lawful.{IsLawfulDecl, HasLawfulDecls}
 use Rattle.lists.proofs.Members.{each_in, each_from}
 use Rattle.model_board.proofs.PathOrder.{part_same}
 use Rattle.model_board.proofs.PathEnds.{snoc, length_snoc}
-use Rattle.model_set_up.proofs.Partings.{pair_in}
+use Rattle.lists.proofs.Members.{pair_in}
 use Rattle.model_set_up.proofs.Packing.{unit_positive}
 use Rattle.model_set_up.proofs.Items.{item_of, some_end, end_below_need, items_placeable, region_of_item, Origin, origin}
 use Rattle.model_set_up.proofs.ItemOrder.{Strictly, items_strict}

@@ -27,7 +27,7 @@ from ._firmware_run import Firmware, Run, since
 from ._judge import KINDS
 from ._shrink import shrunk
 
-#: boards of the examples, each of which can be set up
+#: boards of the folder `boards`, each of which can be set up
 EXAMPLES = ["main", "server", "second_bridge", "kinds", "chain", "guest_elsewhere"]
 
 
@@ -200,9 +200,9 @@ def counted(number: int, word: str) -> str:
 
 
 def example_files() -> List[Path]:
-    """The boards of the examples, as they stand in the repository or where they are installed."""
+    """Boards of the folder `boards`, as they stand in the repository or where they are installed."""
     try:
-        folder = find("crates/examples/data", "boards")
+        folder = find("boards", "boards")
     except FileNotFoundError:  # as where pip installed the module alone
         return []
     return [folder / f"{name}.toml" for name in EXAMPLES]

@@ -1,7 +1,8 @@
-"""The boards of the examples."""
+"""The boards of the folder `boards`, and those of them that are refused."""
 
 from pathlib import Path
 
 TOP = Path(__file__).resolve().parents[3]
-DATA = TOP / "crates" / "examples" / "data"
-MAIN = (DATA / "main.toml").read_text()
+BOARDS = TOP / "boards"
+REFUSED = BOARDS / "refused"
+MAIN = (BOARDS / "main.toml").read_text()

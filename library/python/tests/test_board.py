@@ -1,9 +1,9 @@
-"""Firmware on the main board of the examples, by calls and by lines, and what is refused."""
+"""Firmware on `boards/main.toml`, by calls and by lines, and what is refused."""
 
 import random
 import unittest
 
-from boards import DATA, MAIN
+from boards import BOARDS, MAIN, REFUSED
 from pciguest import Board, Machine, Refusal
 
 
@@ -77,7 +77,7 @@ class Audits(Case):
         self.assertEqual(self.board.run_line("host audit"), "audit: ok")
 
     def test_long_texts_come_whole(self):
-        with Board((DATA / "largest.toml").read_bytes()) as board:
+        with Board((BOARDS / "largest.toml").read_bytes()) as board:
             audit = board.audit()
             self.assertEqual(board.run_line("host audit"), audit.text.rstrip("\n"))
         self.assertGreater(len(audit.text), 4096)
@@ -100,7 +100,7 @@ class SetUp(Case):
         self.assertEqual(str(self.refused(904, self.board.set_up)), "904 not at reset")
 
     def test_a_board_that_does_not_fit(self):
-        with Board((DATA / "io_pool.toml").read_bytes()) as board:
+        with Board((REFUSED / "io_pool.toml").read_bytes()) as board:
             self.refused(203, board.set_up)
 
 

@@ -1,11 +1,11 @@
-"""Each call on the main board of the examples, and what is refused."""
+"""Each call on `boards/main.toml`, and what is refused."""
 
 import gc
 import threading
 import unittest
 import unittest.mock
 
-from boards import DATA, MAIN
+from boards import MAIN, REFUSED
 from pciguest import Bar, Machine, Refusal
 from pciguest._library import CALLS
 
@@ -214,7 +214,7 @@ class Refusals(Case):
         self.assertTrue(str(self.refused(101, Machine, "x")).startswith("101 not TOML\nboard.toml:1: refused"))
         self.refused(101, Machine, b"\xff")
         self.refused(102, Machine, "")
-        self.assertEqual(self.refused(203, Machine, (DATA / "io_pool.toml").read_text()).words, "I/O pool")
+        self.assertEqual(self.refused(203, Machine, (REFUSED / "io_pool.toml").read_text()).words, "I/O pool")
 
     def test_numbers_that_do_not_fit(self):
         space = self.a.config[0]

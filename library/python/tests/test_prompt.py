@@ -8,7 +8,7 @@ import sys
 import tempfile
 import unittest
 
-from boards import DATA, MAIN, TOP
+from boards import BOARDS, MAIN, REFUSED, TOP
 from pciguest import Machine
 from pciguest._explain import why_bad
 from pciguest._prompt import Prompt
@@ -157,13 +157,13 @@ class AsAProgram(unittest.TestCase):
                               timeout=60, env=environment)
 
     def test_lines_from_a_pipe(self):
-        done = self.run_it([str(DATA / "main.toml")], "a.vendor\na mr\nquit\na.vendor\n")
+        done = self.run_it([str(BOARDS / "main.toml")], "a.vendor\na mr\nquit\na.vendor\n")
         self.assertEqual((done.returncode, done.stderr), (0, ""))
         self.assertEqual(done.stdout.splitlines()[:3], ["a cr 0 0x0 2", "a: 0x1234", "a: refused 401 bad line"])
         self.assertEqual(len(done.stdout.splitlines()), 4)
 
     def test_a_board_that_is_refused(self):
-        place = str(DATA / "place.toml")
+        place = str(REFUSED / "place.toml")
         done = self.run_it([place], "")
         self.assertEqual((done.returncode, done.stdout), (1, ""))
         self.assertTrue(done.stderr.startswith(f"{place}:"))
@@ -181,7 +181,7 @@ class AsAProgram(unittest.TestCase):
         with tempfile.TemporaryDirectory() as folder:
             environment = {**os.environ, "PYTHONPATH": str(TOP / "library" / "python"), "XDG_STATE_HOME": folder, "TERM": "dumb"}
             leader, follower = pty.openpty()
-            done = subprocess.Popen([sys.executable, "-m", "pciguest", str(DATA / "main.toml")], stdin=follower,
+            done = subprocess.Popen([sys.executable, "-m", "pciguest", str(BOARDS / "main.toml")], stdin=follower,
                                     stdout=follower, stderr=follower, env=environment)
             os.close(follower)
             os.write(leader, b"a.subv\t\nquit\n")

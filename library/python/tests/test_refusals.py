@@ -4,7 +4,7 @@ import tempfile
 import unittest
 from pathlib import Path
 
-from boards import DATA, MAIN
+from boards import BOARDS, MAIN, REFUSED
 from pciguest import Board, BoardRefusal, Machine, Refusal, check, report
 
 
@@ -16,7 +16,7 @@ class Refused(unittest.TestCase):
 
     def test_all_boards_tell_what_a_check_says(self):
         refused = 0
-        for path in sorted(DATA.glob("*.toml")):
+        for path in sorted(BOARDS.rglob("*.toml")):
             told = check(path.read_bytes())
             if told.refusal is None:
                 continue
@@ -30,21 +30,21 @@ class Refused(unittest.TestCase):
         self.assertGreater(refused, 30)
 
     def test_lines(self):
-        problems = self.raised(Machine, (DATA / "many_places.toml").read_bytes()).problems
+        problems = self.raised(Machine, (REFUSED / "many_places.toml").read_bytes()).problems
         self.assertEqual([problem.line for problem in problems], [13, 19, 25, 31])
         self.assertTrue(problems[0].text.startswith('endpoint[1].at = "01.0": is no path'))
-        pool = self.raised(Machine, (DATA / "io_pool.toml").read_bytes())
+        pool = self.raised(Machine, (REFUSED / "io_pool.toml").read_bytes())
         self.assertEqual((pool.number, [problem.line for problem in pool.problems]), (203, [None, 14, 32, None, None]))
 
     def test_a_board_of_firmware(self):
         self.assertEqual(self.raised(Board, "x = 1").number, 102)
-        with Board((DATA / "io_pool.toml").read_bytes(), "mine.toml") as board:
+        with Board((REFUSED / "io_pool.toml").read_bytes(), "mine.toml") as board:
             error = self.raised(board.set_up)
         self.assertEqual(error.number, 203)
         self.assertTrue(error.text.startswith("mine.toml: the I/O pool needs "))
 
     def test_warnings_are_no_refusal(self):
-        told = check((DATA / "warnings.toml").read_bytes())
+        told = check((BOARDS / "warnings.toml").read_bytes())
         self.assertIsNone(told.refusal)
         self.assertTrue(all(problem.text.startswith("warning: ") for problem in told.problems))
         self.assertEqual(len(told.problems), 4)
@@ -52,7 +52,7 @@ class Refused(unittest.TestCase):
 
 class Loaded(unittest.TestCase):
     def test_a_file(self):
-        with Machine.load(DATA / "main.toml") as machine, Board.load(str(DATA / "main.toml")) as board:
+        with Machine.load(BOARDS / "main.toml") as machine, Board.load(str(BOARDS / "main.toml")) as board:
             self.assertEqual(machine.run_line("a cr 0 0 4"), "a: 0x00011234")
             self.assertEqual(board.run_line("host cr 00:02.0 0 4"), "host: 0x00021234")
 

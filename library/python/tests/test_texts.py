@@ -1,9 +1,9 @@
-"""Reports, checks and words over all boards of the examples; and the examples in docstrings."""
+"""Reports, checks and words over all boards of the folder `boards`; and the examples in docstrings."""
 
 import doctest
 import unittest
 
-from boards import DATA, MAIN
+from boards import BOARDS, MAIN
 from pciguest import Machine, Refusal, Register, check, report, words
 
 
@@ -25,7 +25,7 @@ def number(call, board):
 
 class Texts(unittest.TestCase):
     def test_a_check_a_report_and_a_machine_agree(self):
-        boards = sorted(DATA.glob("*.toml"))
+        boards = sorted(BOARDS.rglob("*.toml"))
         self.assertGreater(len(boards), 20)
         for path in boards:
             with self.subTest(board=path.name):
@@ -38,7 +38,7 @@ class Texts(unittest.TestCase):
                 self.assertTrue(told.text.endswith("\n"))
 
     def test_long_texts_come_whole(self):
-        text = report((DATA / "largest.toml").read_bytes())
+        text = report((BOARDS / "largest.toml").read_bytes())
         self.assertGreater(len(text), 4096)
         self.assertTrue(text.startswith("endpoints 769 bridges 255\n") and text.endswith("\n"))
 

@@ -1,11 +1,11 @@
-//! Firmware on the main board of the examples, by calls, and what is refused.
+//! Firmware on `boards/main.toml`, by calls, and what is refused.
 
 use pciguest::{Board, Error, HostAt, Machine};
 use std::thread;
 
-const BOARD: &str = include_str!("../../../crates/examples/data/main.toml");
-const LARGEST: &str = include_str!("../../../crates/examples/data/largest.toml");
-const IO_POOL: &str = include_str!("../../../crates/examples/data/io_pool.toml");
+const BOARD: &str = include_str!("../../../boards/main.toml");
+const LARGEST: &str = include_str!("../../../boards/largest.toml");
+const IO_POOL: &str = include_str!("../../../boards/refused/io_pool.toml");
 
 fn config(bus: u8, device: u8, offset: u64) -> HostAt {
     HostAt::Config {

@@ -1,18 +1,20 @@
-//! Reports, checks and words, over all boards of the examples.
+//! Reports, checks and words, over all boards of the folder `boards`.
 
 use pciguest::{check, report, words, Machine};
 use std::ffi::OsStr;
 use std::fs;
 use std::path::{Path, PathBuf};
 
-fn examples() -> PathBuf {
-    Path::new(env!("CARGO_MANIFEST_DIR")).join("../../crates/examples")
+fn folder() -> PathBuf {
+    Path::new(env!("CARGO_MANIFEST_DIR")).join("../../boards")
 }
 
-/// Each board of the examples: its name and its bytes.
+/// Each board of the folder, and each that is refused: its name and its bytes.
 fn boards() -> Vec<(String, Vec<u8>)> {
-    let entries = fs::read_dir(examples().join("data")).expect("the examples");
-    let mut boards: Vec<_> = entries
+    let boards = fs::read_dir(folder()).expect("the boards");
+    let refused = fs::read_dir(folder().join("refused")).expect("the boards that are refused");
+    let mut boards: Vec<_> = boards
+        .chain(refused)
         .map(|entry| entry.expect("a file").path())
         .filter(|path| path.extension() == Some(OsStr::new("toml")))
         .map(|path| {
@@ -41,7 +43,7 @@ fn a_check_a_report_and_a_machine_agree() {
 
 #[test]
 fn long_texts_come_whole() {
-    let board = fs::read(examples().join("data/largest.toml")).unwrap();
+    let board = fs::read(folder().join("largest.toml")).unwrap();
     let report = report(board).unwrap();
     assert!(report.len() > 4096 && report.starts_with("endpoints 769 bridges 255\n"));
     assert!(report.ends_with('\n'));

@@ -1,0 +1,53 @@
+// The 256 bytes of a function's configuration space, beside its fields: those of a field are marked with it, and those that changed.
+
+import { two_digits } from './report.js';
+import { make } from './marks.js';
+import { register_at } from './register_names.js';
+
+const ACROSS = 16, HEADER = 64;
+
+export class Bytes {
+  // `told` is where the name of a byte is told that is pointed at; `mark` is given the offset, or null.
+  constructor(into, told, mark) { Object.assign(this, { into, told, mark, cells: [], before: null, of: '' }); }
+
+  // Rows of the header, and of what is behind it where a byte isn't 0.
+  draw(bytes, one, whose) {
+    if (bytes === null) { this.into.replaceChildren(); this.cells = []; this.of = ''; return; }
+    const rows = [...Array(256 / ACROSS).keys()].filter(row => row * ACROSS < HEADER || bytes.subarray(row * ACROSS, row * ACROSS + ACROSS).some(byte => byte !== 0));
+    const of = `${one.path} ${whose} ${rows}`;
+    if (of !== this.of) this.build(rows, one.kind);
+    for (const [offset, cell] of this.cells) {
+      cell.textContent = two_digits(bytes[offset]);
+      cell.classList.toggle('changed', of === this.of && this.before[offset] !== bytes[offset]);
+      cell.classList.toggle('zero', bytes[offset] === 0);
+    }
+    Object.assign(this, { of, before: bytes });
+  }
+
+  build(rows, kind) {
+    const head = make('tr', ''), corner = make('th', '', 'h');
+    head.append(corner, ...Array.from({ length: ACROSS }, (_, nth) => make('th', '', nth.toString(16))));
+    this.cells = [];
+    this.into.replaceChildren(head, ...rows.map(row => {
+      const line = make('tr', ''), name = make('th', '', two_digits(row * ACROSS));
+      name.scope = 'row';
+      line.append(name, ...Array.from({ length: ACROSS }, (_, nth) => this.cell_of(row * ACROSS + nth, kind)));
+      return line;
+    }));
+  }
+
+  cell_of(offset, kind) {
+    const cell = make('td', ''), register = register_at(kind, offset);
+    const name = register === null ? (offset < HEADER ? 'reserved' : "the device's own") : register.title;
+    cell.title = `${two_digits(offset)}h: ${name}`;
+    cell.addEventListener('pointerenter', () => { this.told.textContent = cell.title; this.mark(offset); });
+    cell.addEventListener('pointerleave', () => { this.told.textContent = ''; this.mark(null); });
+    this.cells.push([offset, cell]);
+    return cell;
+  }
+
+  // Marks the bytes of some places.
+  light(places) {
+    for (const [offset, cell] of this.cells) cell.classList.toggle('lit', places.some(([first, width]) => first <= offset && offset < first + width));
+  }
+}

@@ -1,0 +1,63 @@
+// The words that may stand where one types in a line: guests, what they do, functions by path or number, registers by name.
+
+import { hex } from './report.js';
+import { forms_of, number_of, shape_of, words_in } from './reasons.js';
+import { register_at, registers_of } from './register_names.js';
+
+const DOES = { cr: 'reads configuration bytes', cw: 'writes configuration bytes', ir: 'reads ports', iw: 'writes ports', mr: 'reads memory', mw: 'writes memory',
+  raise: 'its device raises bits', move: 'gives a function to a guest' };
+
+// An offer has what is put in, what is told beside it, and the names by which it is found.
+const offer = (text, told, ...names) => ({ text, told, names: [text, ...names] });
+
+const SPACE = { i: 'io', m: 'mem' };
+
+// The function that a line speaks of: by its number, or by a guest's slot.
+function function_in(words, { functions, owners }) {
+  if (words[0].word === 'host') return functions.find(one => one.place.toLowerCase() === words[2].word.toLowerCase());
+  return functions.find(one => owners.get(one.path)?.guest === words[0].word && BigInt(owners.get(one.path).slot) === number_of(words[2].word));
+}
+
+const registers_in = kind => registers_of(kind).map(({ name, title, offset, width }) => offer(`${hex(offset)} ${width}`, `${name}: ${title}`, name, offset.toString(16).padStart(2, '0')));
+
+// Where regions stand: on the board, or in a guest's own view.
+const regions_in = (space, { places }, who) => places(who).filter(one => one.space === space).map(({ first, told, names }) => offer(hex(first), told, ...names));
+
+// What may stand in the place of a word of a form.
+function offers_for({ name, words: those = [] }, words, board) {
+  const who = words[0].word, verb = words[1].word;
+  if (name === 'the function') return board.functions.filter(one => !one.lost).map(one => offer(one.place, `${one.path} ${one.words}`, one.path));
+  if (name === 'the slot' && verb !== 'move') {
+    return board.functions.flatMap(one => (board.owners.get(one.path)?.guest === who ? [offer(`${board.owners.get(one.path).slot}`, `${one.path} ${one.words}`, one.path)] : []));
+  }
+  if (name === 'the offset' && /^c[rw]$/.test(verb)) return registers_in(function_in(words, board)?.kind ?? 'endpoint');
+  if (name === 'the width' && /^c[rw]$/.test(verb)) {
+    const one = function_in(words, board), register = one && register_at(one.kind, Number(number_of(words[3].word) ?? 256n));
+    return register ? [offer(`${register.width}`, `bytes of ${register.title}`)] : [];
+  }
+  if (name === 'the address' || name === 'the port') return regions_in(SPACE[verb[0]], board, who);
+  return those.map(one => offer(one, ''));
+}
+
+function offers_at(nth, words, board) {
+  const names = board.as === 'firmware' ? [] : board.guests;
+  if (nth === 0) return [...names.map(one => offer(one, 'guest')), offer('host', board.as === 'firmware' ? 'firmware' : 'the host')];
+  const forms = forms_of(words[0].word, names, board.as);
+  if (forms === null) return [];
+  if (nth === 1) return Object.entries(forms).map(([verb, form]) => offer(verb, `${DOES[verb] ?? ''}: ${shape_of([words[0].word, verb], form)}`));
+  const word = forms[words[1].word]?.[nth - 2];
+  return word === undefined ? [] : offers_for(word, words, board);
+}
+
+// What may be put in at the end of a line: { from, offers }, where `from` is where the word begins that is being typed. `board` has
+// `as`, `guests`, `functions`, `owners`, and `places`, which tells the regions that somebody can reach.
+export function completions(line, board) {
+  const words = words_in(line), typed = /[ \t\r]$/.test(line) || words.length === 0 ? null : words[words.length - 1];
+  const before = typed ? words.slice(0, -1) : words, begun = (typed?.word ?? '').toLowerCase();
+  if (before[0]?.word.startsWith('#') || begun.startsWith('#')) return { from: line.length, offers: [] };
+  const offers = offers_at(before.length, before, board).filter(one => one.names.some(name => name.toLowerCase().startsWith(begun)) && !(offers_end(one, begun)));
+  return { from: typed?.at ?? line.length, offers };
+}
+
+// A word that is there already is no offer.
+const offers_end = (one, begun) => one.text.toLowerCase() === begun;

@@ -1,0 +1,92 @@
+"""Headless Firefox, as page/browse uses it: by Marionette, its own protocol."""
+import base64
+import json
+import pathlib
+import shutil
+import socket
+import subprocess
+import sys
+import time
+
+PREFERENCES = {'browser.shell.checkDefaultBrowser': False, 'datareporting.policy.dataSubmissionEnabled': False, 'app.update.enabled': False,
+               'browser.startup.page': 0, 'toolkit.telemetry.enabled': False, 'marionette.port': 0}
+KEYS = {'Enter': '\ue007', 'Escape': '\ue00c', 'ArrowRight': '\ue014', 'ArrowDown': '\ue015', 'ArrowUp': '\ue013', 'Tab': '\ue004'}
+# Makes the page's place in the window as wide and high as is asked, as a window of its own can't be narrow.
+PLACE = """const [width, height, dark] = arguments; const one = gBrowser.selectedBrowser;
+  for (const [name, value] of [['width', width], ['height', height]]) for (const kind of ['', 'min-', 'max-']) one.style.setProperty(kind + name, `${value}px`);
+  Services.prefs.setIntPref('layout.css.prefers-color-scheme.content-override', dark ? 0 : 1);"""
+
+
+class Browser:
+    def __init__(self, room):
+        lines = [f'user_pref({json.dumps(name)}, {json.dumps(value)});\n' for name, value in PREFERENCES.items()]
+        (pathlib.Path(room) / 'user.js').write_text(''.join(lines))
+        words = [shutil.which('firefox-esr') or shutil.which('firefox'), '--headless', '--marionette', '--remote-allow-system-access', '--no-remote', '--profile', room,
+                 '--width', '1500', '--height', '2800']
+        self.process = subprocess.Popen(words, stderr=subprocess.DEVNULL, stdout=subprocess.DEVNULL)
+        self.socket, self.rest, self.count = socket.create_connection(('127.0.0.1', self.port(room))), b'', 0
+        self.message()
+        self.ask('WebDriver:NewSession', capabilities={'alwaysMatch': {'acceptInsecureCerts': True}})
+        self.ask('WebDriver:SetTimeouts', script=60000, pageLoad=60000, implicit=0)
+
+    def port(self, room):
+        file = pathlib.Path(room) / 'MarionetteActivePort'
+        for _ in range(600):
+            if file.exists() and file.read_text().strip():
+                return int(file.read_text())
+            time.sleep(0.1)
+        sys.exit('Firefox does not come up')
+
+    def message(self):
+        """A message: its length, a colon, and a text."""
+        while b':' not in self.rest or len(self.rest) < self.rest.index(b':') + 1 + int(self.rest[:self.rest.index(b':')]):
+            came = self.socket.recv(1 << 20)
+            if not came:
+                sys.exit('Firefox has ended')
+            self.rest += came
+        length, rest = self.rest.split(b':', 1)
+        text, self.rest = rest[:int(length)], rest[int(length):]
+        return json.loads(text)
+
+    def ask(self, name, **parameters):
+        self.count += 1
+        text = json.dumps([0, self.count, name, parameters]).encode()
+        self.socket.sendall(str(len(text)).encode() + b':' + text)
+        _, _, wrong, answer = self.message()
+        if wrong:
+            sys.exit(f'{name}: {wrong["message"]}')
+        return answer
+
+    def close(self):
+        try:
+            self.ask('Marionette:Quit', flags=['eForceQuit'])
+            self.process.wait(60)
+        except (OSError, subprocess.TimeoutExpired, SystemExit):
+            self.process.kill()
+            self.process.wait()
+
+    def run(self, script):
+        """What an expression is, in the page."""
+        return self.ask('WebDriver:ExecuteScript', script=f'return window.eval({json.dumps(script)});', args=[])['value']
+
+    def open(self, address, width=1100, height=1000, scheme='light'):
+        self.ask('Marionette:SetContext', value='chrome')
+        self.ask('WebDriver:ExecuteScript', script=PLACE, args=[width, height, scheme == 'dark'])
+        self.ask('Marionette:SetContext', value='content')
+        for one in ('about:blank', address):
+            self.ask('WebDriver:Navigate', url=one)
+        for _ in range(200):
+            if self.run("document.getElementById('verdict')?.textContent !== ''") is True:
+                return
+            time.sleep(0.05)
+        sys.exit(f'{address} does not come up')
+
+    def insert(self, text):
+        self.run(f"document.execCommand('insertText', false, {json.dumps(text)})")
+
+    def press(self, key):
+        acts = [{'type': kind, 'value': KEYS[key]} for kind in ('keyDown', 'keyUp')]
+        self.ask('WebDriver:PerformActions', actions=[{'type': 'key', 'id': 'keys', 'actions': acts}])
+
+    def picture(self, file):
+        file.write_bytes(base64.b64decode(self.ask('WebDriver:TakeScreenshot', full=False)['value']))

@@ -1,0 +1,62 @@
+// What a task wants, as conditions that the proved code judges, one a line, each with words behind ' # ' that are told in its place:
+//   ready            the board is ready
+//   audit: TEXT      a line of the audit of the registers as they stand; `audit: ok` where nothing is wrong
+//   LINE -> REPLY    a read is answered so now
+//   -> REPLY         a line of the reader's was answered so since the task began
+
+import { asked_of, keeping_latch } from './asked.js';
+import { why_bad } from './reasons.js';
+
+const ARROW = /^(.*?)\s*->\s*(.+)$/;
+
+const IN_WORDS = {
+  ready: () => 'The board is ready',
+  audit: ({ text }) => `The audit says ${text.slice('audit: '.length)}`,
+  read: ({ line, reply }) => `${line} is answered ${reply}`,
+  told: ({ reply }) => `A line of yours is answered ${reply}`,
+};
+
+function condition_of(text) {
+  if (text === 'ready') return { kind: 'ready', text };
+  if (text.startsWith('audit: ')) return { kind: 'audit', text };
+  const [, line, reply] = ARROW.exec(text) ?? [];
+  if (reply === undefined) return { kind: null, text };
+  return line === '' ? { kind: 'told', text, reply } : { kind: 'read', text, line, reply };
+}
+
+// Why a condition is none, or null.
+function why_none({ kind, line }, guests, as) {
+  if (kind === null) return 'write ready, audit: ok, LINE -> REPLY or -> REPLY';
+  if (kind !== 'read') return kind !== 'told' && as !== 'firmware' ? 'of firmware alone an audit is asked' : null;
+  const bad = why_bad(line, guests, as);
+  if (bad !== null) return bad.why;
+  return /^\s*\S+\s+[cim]r\s/.test(line) ? null : 'what is asked has to be a read, since it is asked after each line';
+}
+
+// The conditions of a goal, and what is wrong with it: { rows, wrong }.
+export function read_goal(text, guests, as) {
+  const rows = text.split('\n').map(line => line.trim()).filter(line => line !== '' && !line.startsWith('#')).map(line => {
+    const [condition, ...words] = line.split(/\s+#\s+/), one = condition_of(condition);
+    return { ...one, words: words.join(' # ') || (one.kind === null ? line : IN_WORDS[one.kind](one)) };
+  });
+  const wrong = rows.flatMap(one => { const why = why_none(one, guests, as); return why === null ? [] : [`${one.text}: ${why}`]; });
+  return { rows, wrong: rows.length === 0 ? ['a goal has a condition, each on a line of its own'] : wrong };
+}
+
+export class Goals {
+  constructor(text, guests, as) { Object.assign(this, { rows: read_goal(text, guests, as).rows, as, told: new Set(), lacks: [] }); }
+
+  // A reply to a line of the reader's.
+  hear(reply) { this.told.add(reply); }
+
+  // Which conditions hold now. `held` answers lines, and `ready` tells what a board lacks.
+  look(held, ready) {
+    const needs = kind => this.rows.some(one => one.kind === kind);
+    const audit = needs('audit') ? new TextDecoder().decode(held.audit() ?? new Uint8Array()).split('\n') : [];
+    this.lacks = needs('ready') ? ready() : [];
+    const is_met = { ready: () => this.lacks.length === 0, audit: one => audit.includes(one.text), told: one => this.told.has(one.reply),
+      read: one => asked_of(held, one.line) === one.reply };
+    const look = () => this.rows.map(one => ({ words: one.words, met: is_met[one.kind]?.(one) ?? false }));
+    return this.as === 'firmware' ? keeping_latch(held, look) : look();
+  }
+}

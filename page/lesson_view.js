@@ -1,0 +1,107 @@
+// The lessons as a row of numbers, and the task that one is at: its words, and what is done of its goal.
+
+import { count_in_words } from './report.js';
+import { make } from './marks.js';
+
+const LACKS_SHOWN = 4;
+
+// A text with code between backticks, and an empty line between paragraphs.
+function paragraphs_of(text) {
+  return text.trim().split(/\n\s*\n/).map(one => {
+    const paragraph = make('p', '');
+    paragraph.append(...one.split('`').map((part, nth) => (nth % 2 === 1 ? make('code', '', part) : part)));
+    return paragraph;
+  });
+}
+
+function task_button(text, words, act) {
+  const button = Object.assign(make('button', '', text), { type: 'button' });
+  if (words) button.setAttribute('aria-label', words);
+  button.addEventListener('click', act);
+  return button;
+}
+
+export class LessonView {
+  // `acts` has `begin`, which is given the number of a lesson and of its part, `again` and `leave`.
+  constructor(parts, tasks, acts) {
+    Object.assign(this, { parts, tasks, acts });
+    parts.again.addEventListener('click', acts.again);
+    parts.leave.addEventListener('click', acts.leave);
+    parts.next.addEventListener('click', () => acts.begin(Number(parts.next.dataset.nth), parts.next.dataset.part ? Number(parts.next.dataset.part) : undefined));
+  }
+
+  // The numbers of the lessons, with those that are done.
+  draw_steps(lessons) {
+    const done = this.tasks.filter(one => lessons.is_done(one)).length;
+    this.parts.progress.textContent = `${done} of ${this.tasks.length} done${lessons.progress.keeps ? '' : '. This browser keeps nothing: what is done is known as long as the page is open'}`;
+    this.parts.steps.replaceChildren(...this.tasks.map((task, nth) => {
+      const item = make('li', ''), is_done = lessons.is_done(task);
+      const button = task_button(`${nth + 1} ${task.title}${is_done ? ' ✓' : ''}`, `Lesson ${nth + 1}: ${task.title}${is_done ? ', done' : ''}`, () => this.acts.begin(nth));
+      if (task === lessons.task) button.setAttribute('aria-current', 'step');
+      item.append(button);
+      return item;
+    }));
+    this.draw_parts(lessons);
+  }
+
+  draw_parts(lessons) {
+    const { task, part } = lessons, nth = this.tasks.indexOf(task), those = task === null ? [] : lessons.parts_of(task);
+    this.parts.parts.hidden = those.length === 0;
+    this.parts.parts.replaceChildren(...those.map((one, at) => {
+      const item = make('li', ''), button = task_button(`${one.title}${one.done ? ' ✓' : ''}`, `${one.title}${one.done ? ', done' : ''}`, () => this.acts.begin(nth, at));
+      if (at === part) button.setAttribute('aria-current', 'step');
+      item.append(button);
+      return item;
+    }));
+  }
+
+  draw_task(lessons) {
+    const { task, part } = lessons, nth = this.tasks.indexOf(task);
+    document.body.classList.add('at-task');
+    this.parts.task.hidden = false;
+    this.parts.task_title.textContent = `${nth < 0 ? 'Task' : `Lesson ${nth + 1}`}: ${task.title}${task.parts ? `, ${task.parts[part].title}` : ''}`;
+    this.parts.task_text.replaceChildren(...paragraphs_of(task.text));
+    this.parts.hint.hidden = task.hint === '';
+    this.parts.hint.open = false;
+    this.parts.hint_text.replaceChildren(...(task.hint ? paragraphs_of(task.hint) : []));
+    this.draw_steps(lessons);
+  }
+
+  // Each condition with whether it holds, and what the board lacks where the goal asks for that.
+  draw_goal(lessons, rows, done) {
+    this.parts.goals.replaceChildren(...rows.map(({ words, met }) => {
+      const item = make('li', met ? 'met' : ''), mark = make('span', 'mark', met ? '✓' : '○');
+      mark.setAttribute('aria-hidden', true);
+      item.append(mark, make('span', 'unseen', met ? 'done: ' : 'not yet: '), words);
+      return item;
+    }));
+    const { lacks } = lessons.goals, more = lacks.length > LACKS_SHOWN ? [`${lacks.length - LACKS_SHOWN} more`] : [];
+    this.parts.lacks.replaceChildren(...[...lacks.slice(0, LACKS_SHOWN), ...more].map(one => make('li', '', one)));
+    const state = done ? 'Done.' : `${rows.filter(one => one.met).length} of ${count_in_words(rows.length, 'condition')} met`;
+    if (this.parts.task_state.textContent !== state) this.parts.task_state.textContent = state;
+    this.parts.task.classList.toggle('done', done);
+    if (done) this.draw_steps(lessons);
+    this.offer_next(lessons, done);
+  }
+
+  // The next part that isn't done, or the next lesson.
+  offer_next(lessons, done) {
+    const nth = this.tasks.indexOf(lessons.task), part = nth < 0 ? -1 : lessons.parts_of(lessons.task).findIndex(one => !one.done);
+    const { next } = this.parts, last = part < 0 && nth === this.tasks.length - 1;
+    next.hidden = !done || nth < 0 || last;
+    next.dataset.nth = part < 0 ? nth + 1 : nth;
+    next.dataset.part = part < 0 ? '' : part;
+    next.textContent = part < 0 ? 'Next lesson' : `Next: ${lessons.task.parts[part].title}`;
+  }
+
+  close() {
+    document.body.classList.remove('at-task');
+    this.parts.task.hidden = true;
+  }
+
+  // Leads to the task that was begun.
+  show() {
+    this.parts.task_title.focus({ preventScroll: true });
+    this.parts.lessons.scrollIntoView({ block: 'start' });
+  }
+}

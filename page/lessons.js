@@ -1,0 +1,81 @@
+// Tasks: each a board, a state and a goal. Eight stand in the page, and a link may bring another one.
+
+import { Goals } from './goals.js';
+import { Progress } from './progress.js';
+import { LessonView } from './lesson_view.js';
+
+// A task of a link or of what was kept, or null: { title, text, board, as, lines, goal }, all of them texts.
+export function read_task(found) {
+  const names = ['title', 'text', 'board', 'as', 'lines', 'goal'];
+  if (typeof found !== 'object' || found === null || names.some(name => typeof found[name] !== 'string')) return null;
+  return { ...Object.fromEntries(names.map(name => [name, found[name]])), as: found.as === 'firmware' ? found.as : 'guests', hint: '' };
+}
+
+export class Lessons {
+  // `tasks` are those of the page. `page` has `open`, which shows a board as somebody and runs lines that stand before; `held`, which
+  // gives what answers lines; `guests`, their names; and `lacks`, what the board lacks until it is ready.
+  constructor(parts, tasks, page) {
+    Object.assign(this, { tasks, page, progress: new Progress(), task: null, part: 0, goals: null, key: '', opening: false });
+    this.view = new LessonView(parts, tasks, {
+      begin: (nth, part) => this.begin_lesson(nth, part), again: () => this.begin(this.task, this.part), leave: () => { this.leave(); page.left(); },
+    });
+    this.view.draw_steps(this);
+  }
+
+  key_of(task, part) { return task.parts ? `${task.name}/${task.parts[part].name}` : task.name; }
+
+  is_done(task) { return task.parts ? task.parts.every((_, part) => this.progress.has(this.key_of(task, part))) : this.progress.has(task.name); }
+
+  // The parts of a task, with whether they are done.
+  parts_of(task) { return (task.parts ?? []).map((part, nth) => ({ ...part, done: this.progress.has(this.key_of(task, nth)) })); }
+
+  begin_lesson(nth, part = 0) {
+    const task = this.tasks[nth], open = this.parts_of(task).findIndex(one => !one.done);
+    this.begin(task, part ?? Math.max(open, 0));
+    this.view.show();
+  }
+
+  // A task from its beginning. One of a link has no name, and its being done isn't kept.
+  begin(task, part = 0) {
+    const of = task.parts?.[part] ?? task;
+    this.opening = true;
+    this.page.open(task.board, task.as, of.lines, task.parts === undefined);
+    this.opening = false;
+    Object.assign(this, { task, part, key: task.name ? this.key_of(task, part) : '', goals: new Goals(task.goal, this.page.guests(), task.as) });
+    this.view.draw_task(this);
+    this.look();
+  }
+
+  // Another board, or another reader, ends the task.
+  leave() {
+    if (this.opening || this.task === null) return;
+    Object.assign(this, { task: null, goals: null, key: '' });
+    this.view.draw_steps(this);
+    this.view.close();
+  }
+
+  hear(reply) { if (!this.opening) this.goals?.hear(reply); }
+
+  // After lines that ran: what is done of the goal.
+  look() {
+    const held = this.page.held();
+    if (this.goals === null || held === null) return;
+    const rows = this.goals.look(held, () => this.page.lacks()), done = rows.length > 0 && rows.every(one => one.met);
+    if (done && this.key !== '' && !this.progress.has(this.key)) this.progress.add(this.key);
+    this.view.draw_goal(this, rows, done);
+  }
+
+  // What is kept with the board and the script: the name of a lesson and its part, or a task of a link.
+  kept() {
+    if (this.task === null) return undefined;
+    return this.task.name ? { name: this.task.name, part: this.part } : this.task;
+  }
+
+  // Takes up what was kept; whether it was a task.
+  take_up(found) {
+    const nth = this.tasks.findIndex(one => one.name === found?.name), task = nth >= 0 ? this.tasks[nth] : read_task(found);
+    if (task === null) return false;
+    this.begin(task, task.parts?.[found.part] ? found.part : 0);
+    return true;
+  }
+}

@@ -1,0 +1,122 @@
+// The registers of the selected function: named fields, in which one writes, beside its bytes.
+
+import { hex } from './report.js';
+import { make } from './marks.js';
+import { number_of } from './reasons.js';
+import { groups_of, identity_of } from './fields.js';
+import { Bytes } from './bytes_view.js';
+import { regions_now, windows_now } from './at_reset.js';
+
+const ALL_DWORDS = Array.from({ length: 64 }, (_, nth) => 4 * nth);
+
+// The 256 bytes that somebody reads of a function.
+export function bytes_of(held, who, where) {
+  const bytes = new Uint8Array(256), view = new DataView(bytes.buffer);
+  for (const offset of ALL_DWORDS) view.setUint32(offset, Number(held.number(`${who} cr ${where} ${hex(offset)} 4`)), true);
+  return bytes;
+}
+
+// A function with what such bytes say of it: where its regions stand and which windows are open.
+export function seen_in(one, bytes, decodes) {
+  const view = new DataView(bytes.buffer), values = new Map(ALL_DWORDS.map(offset => [offset, view.getUint32(offset, true)]));
+  return { ...one, values, decodes, all_regions: regions_now(one, values), all_windows: one.kind === 'bridge' ? windows_now(decodes, values) : [] };
+}
+
+const labelled = (name, input) => { const label = make('label', ''); label.append(...(input.type === 'checkbox' ? [input, name] : [name, input])); return label; };
+
+export class Registers {
+  // `parts` are the elements `chosen`, `lost`, `identity`, `fields`, `bytes` and `byte`; `choose` is given a path.
+  constructor(parts, choose) {
+    Object.assign(this, { parts, seen: '', listed: '', marked: [] });
+    this.bytes = new Bytes(parts.bytes, parts.byte, offset => this.light_fields(offset));
+    parts.chosen.addEventListener('change', () => choose(parts.chosen.value));
+  }
+
+  // What changes from here on is marked.
+  forget() { this.bytes.of = ''; }
+
+  clear() {
+    for (const one of [this.parts.fields, this.parts.bytes]) one.replaceChildren();
+    this.parts.lost.textContent = this.parts.identity.textContent = '';
+    this.seen = '';
+    this.forget();
+  }
+
+  // Shows `one` of some functions: `bytes` are its 256 bytes or null, `note` says why nothing can be written, or nothing; `write` is given
+  // an offset, a width and a value.
+  draw(functions, one, { bytes, note, whose, write }) {
+    const listed = functions.map(each => each.path).join(' ');
+    if (this.listed !== listed) {
+      this.listed = listed;
+      this.parts.chosen.replaceChildren(...functions.map(each => new Option(`${each.path} ${each.words}`, each.path)));
+    }
+    this.parts.chosen.value = one.path;
+    this.parts.lost.textContent = note;
+    this.parts.identity.textContent = bytes === null ? '' : identity_of(one);
+    const groups = groups_of(one), form = [one.path, whose, ...groups.map(group => group.title)].join();
+    if (this.seen !== form) { this.seen = form; this.build(groups); }
+    this.bytes.draw(bytes, one, whose);
+    this.show(groups, note !== '', write);
+  }
+
+  // A fieldset for each group.
+  build(groups) {
+    const box = (type, name) => Object.assign(make('input', ''), type === 'text' ? { type, spellcheck: false, autocomplete: 'off' } : { type, name });
+    this.inputs = groups.map(group => [...group.switches.map(({ name }) => box('checkbox', name)), ...group.fields.map(() => box('text'))]);
+    this.parts.fields.replaceChildren(...groups.map((group, nth) => {
+      const set = make('fieldset', group.bytes ? 'bytes' : ''), legend = make('legend', '', group.title);
+      legend.append(make('small', ''));
+      set.append(legend, ...[...group.switches, ...group.fields].map(({ name }, at) => labelled(name, this.inputs[nth][at])));
+      return set;
+    }));
+    this.told = [...this.parts.fields.querySelectorAll('legend small')];
+  }
+
+  // What the registers hold now. What one is typing in a field stays.
+  show(groups, shut, write) {
+    this.marked = [];
+    groups.forEach((group, nth) => {
+      this.told[nth].textContent = group.told && ` ${group.told}`;
+      [...group.switches, ...group.fields].forEach((field, at) => {
+        const input = this.inputs[nth][at];
+        if (at < group.switches.length) this.show_switch(field, input, shut, write);
+        else this.show_field(field, input, shut, write);
+        input.title = field.title;
+        this.follow(field, input);
+      });
+    });
+  }
+
+  show_switch(field, input, shut, write) {
+    input.checked = field.on;
+    input.disabled = shut || Boolean(field.shut);
+    input.onchange = () => { for (const each of field.writes()) write(each); };
+  }
+
+  show_field(field, input, shut, write) {
+    const width = field.most === 0xffn ? 2 : 0;
+    if (document.activeElement !== input || input.value === input.dataset.shown) input.value = `0x${field.now.toString(16).padStart(width, '0')}`;
+    input.dataset.shown = input.value;
+    input.readOnly = shut;
+    input.onchange = () => {
+      const value = number_of(input.value.trim()), fits = value !== null && value <= field.most;
+      input.setAttribute('aria-invalid', !fits);
+      input.setCustomValidity(fits ? '' : `a number from 0 to ${hex(field.most)}`);
+      if (!fits) { input.reportValidity(); return; }
+      input.dataset.shown = input.value;
+      for (const each of field.writes(value)) write(each);
+    };
+  }
+
+  // The bytes of a field are marked while one is at it, and a field while one points at a byte of it.
+  follow(field, input) {
+    const label = input.parentElement, tell = on => () => { this.bytes.light(on ? field.places : []); this.parts.byte.textContent = on ? field.title : ''; };
+    this.marked.push([label, field.places]);
+    label.onpointerenter = input.onfocus = tell(true);
+    label.onpointerleave = input.onblur = tell(false);
+  }
+
+  light_fields(offset) {
+    for (const [label, places] of this.marked) label.classList.toggle('lit', offset !== null && places.some(([first, width]) => first <= offset && offset < first + width));
+  }
+}
