@@ -8,4 +8,4 @@ pub mod QueriesTold
 pub mod FunctionsTold
 pub mod Handles
 pub mod Handovers
-pub mod LinesTold
+pub mod TextsTold

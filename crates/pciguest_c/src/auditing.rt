@@ -3,7 +3,7 @@ ghost use Rattle.std.specs.Prelude.{◌≡◌, ◌≢◌, ◌<◌, ◌⊎◌, If
 ghost use Rattle.model_audit.specs.AuditText.{audit};
 ghost use Rattle.model_audit.specs.Problems.{problems};
 ghost use Rattle.pciguest_c.specs.Handles.{session_of, board_of};
-ghost use Rattle.pciguest_c.specs.LinesTold.{at_front};
+ghost use Rattle.pciguest_c.specs.TextsTold.{at_front};
 
 use crate::handle::Handle;
 use crate::numbers::{ARGUMENT, MEMORY};

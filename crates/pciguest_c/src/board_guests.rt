@@ -1,7 +1,7 @@
 //! The board of a handle, as firmware left it, given to the guests of its file.
-ghost use Rattle.std.specs.Prelude.{◌≡◌, ◌≢◌, None, Some, IfNone, IfSome, IsSome};
+ghost use Rattle.std.specs.Prelude.{◌≡◌, ◌≢◌, None, Some, IfNone, IfSome};
 ghost use Rattle.model_lines.specs.GivenLaws.{IsGiven};
-ghost use Rattle.model_handoff.specs.Changes.{BeginsIn};
+ghost use Rattle.model_lines.specs.Sessions.{handed_over};
 ghost use Rattle.pciguest_c.specs.Handles.{session_of, machine_of, board_of};
 ghost use Rattle.pciguest_c.specs.Handovers.{IsNumberOfRefusal};
 
@@ -23,9 +23,10 @@ pub extern "C" fn pciguest_raw_board_guests(
     ensures none { IfNone (session_of handle.old) (result ≡ 901) }
     ensures in_use { IfSome (session_of handle.old) (λ _.
         IfSome (session_of machine.old) (λ _. result ≡ 903)) }
-    ensures made { result ≡ 0 → IsSome (machine_of machine.new) }
+    ensures made { IfSome (board_of handle.old) (λ b. result ≡ 0 →
+        machine_of machine.new ≡ Some (handed_over b)) }
     ensures given { IfSome (board_of handle.old) (λ b. result ≡ 0 →
-        IfSome (machine_of machine.new) (BeginsIn (IsGiven b.world b.state))) }
+        IsGiven b.world b.state (handed_over b).world) }
     ensures faults { IfSome (board_of handle.old) (λ b. IfNone (session_of machine.old)
         (result ≢ 0 → IsNumberOfRefusal b result)) }
     ensures moved { IfSome (machine_of handle.old) (λ m. IfNone (session_of machine.old)
@@ -41,7 +42,7 @@ pub extern "C" fn pciguest_raw_board_guests(
         *handle = Handle::of(session);
         return IN_USE;
     }
-    match session.hand_over() {
+    match session.hand_over(alloc) {
         Ok(()) => {
             *machine = Handle::of(session);
             0

@@ -1,16 +1,33 @@
 //! What is asked of the functions of the board: how many there are, and what is told of each.
-ghost use Rattle.std.specs.Prelude.{◌≡◌, ◌≢◌, ◌<◌, ◌≤◌, IfNone, IfSome, length};
+ghost use Rattle.std.specs.Prelude.{◌≡◌, ◌≢◌, ◌<◌, ◌≤◌, Err, IfNone, IfSome, IfOk, IfErr, length};
+ghost use Rattle.std.specs.Prelude.{IsErrOf, IsOkAnd};
 ghost use Rattle.model_guests.specs.WorldNow.{board_state};
 ghost use Rattle.model_handoff.specs.Functions.{function_nth};
 ghost use Rattle.pciguest_c.specs.Handles.{session_of, machine_of};
 ghost use Rattle.pciguest_c.specs.QueriesTold.{number_answered};
-ghost use Rattle.pciguest_c.specs.FunctionsTold.{function_number, found_left, slot_asked, row_left};
+ghost use Rattle.pciguest_c.specs.FunctionsTold.{function_row, function_number, found_left, slot_asked, row_left};
 
 use crate::asking::check_guest;
 use crate::function_row::{FunctionRow, function_row};
 use crate::handle::Handle;
 use crate::numbers::{ARGUMENT, put_result};
+use monitor::Monitor;
 use std::alloc::Global;
+
+/// The function in a slot of a guest, for C.
+fn slot_row(machine: &Monitor, guest: usize, slot: u64) -> Result<FunctionRow, u32>
+    ensures guest { length machine.now.world.guests ≤ guest → IsErrOf result 902 }
+    ensures row { guest < length machine.now.world.guests → IfOk result (λ row.
+        IsOkAnd (slot_asked machine.now.world guest slot) (λ f. row ≡ function_row f)) }
+    ensures refused { guest < length machine.now.world.guests → IfErr result (λ n.
+        slot_asked machine.now.world guest slot ≡ Err n) }
+{
+    check_guest(machine, guest)?;
+    match machine.slot_function(guest, slot) {
+        Ok(function) => Ok(function_row(&function)),
+        Err(number) => Err(u32::from(number)),
+    }
+}
 
 /// How many functions the board has.
 #[unsafe(no_mangle)]
@@ -67,12 +84,6 @@ pub extern "C" fn pciguest_raw_slot(
     ensures untold { result ≢ 0 → told.new ≡ told.old }
     ensures kept { session_of handle.new ≡ session_of handle.old }
 {
-    let answer = handle.ask_machine(alloc, |machine| {
-        check_guest(machine, guest)?;
-        match machine.slot_function(guest, slot) {
-            Ok(function) => Ok(function_row(&function)),
-            Err(number) => Err(u32::from(number)),
-        }
-    });
+    let answer = handle.ask_machine(alloc, |machine| slot_row(machine, guest, slot));
     put_result(answer, told)
 }

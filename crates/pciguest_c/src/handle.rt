@@ -82,10 +82,11 @@ impl Handle {
         let Some(mut session) = self.take(alloc) else {
             return Err(NO_MACHINE);
         };
-        let answer = match session.monitor() {
-            Some(machine) => question(machine),
-            None => Err(NO_MACHINE),
+        let Some(machine) = session.monitor() else {
+            *self = Handle::of(session);
+            return Err(NO_MACHINE);
         };
+        let answer = question(machine);
         *self = Handle::of(session);
         answer
     }
@@ -106,10 +107,11 @@ impl Handle {
         let Some(mut session) = self.take(alloc) else {
             return Err(NO_MACHINE);
         };
-        let answer = match session.board() {
-            Some(board) => question(board),
-            None => Err(NO_MACHINE),
+        let Some(board) = session.board() else {
+            *self = Handle::of(session);
+            return Err(NO_MACHINE);
         };
+        let answer = question(board);
         *self = Handle::of(session);
         answer
     }

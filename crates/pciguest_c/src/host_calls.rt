@@ -1,12 +1,13 @@
 //! What C asks as the host. Each call answers 0, or the number of a refusal.
 ghost use Rattle.std.specs.Prelude.{◌≡◌, ◌≢◌, ◌<◌, ◌≤◌, None, Some, IfNone, IfSome, length, option_map};
+ghost use Rattle.std.specs.Prelude.{IsErrOf, IsOkAnd};
 ghost use Rattle.model_guests.specs.Grammar.{HostTarget};
 ghost use Rattle.model_guests.specs.Lines.{host_move};
 ghost use Rattle.model_guests.specs.WorldNow.{move_reply, host_reply};
 ghost use Rattle.model_guests.specs.Calls.{asks};
 ghost use Rattle.model_handoff.specs.Actions.{calls};
 ghost use Rattle.model_handoff.specs.Changes.{after_on_machine};
-ghost use Rattle.accesses.specs.Accesses.{host_target_of};
+ghost use Rattle.accesses.specs.Accesses.{host_target_of, reply_of};
 ghost use Rattle.monitor.specs.Moves.{move_nth};
 ghost use Rattle.pciguest_c.specs.Handles.{session_of, machine_of};
 ghost use Rattle.pciguest_c.specs.Told.{at_bus, number_told, value_told, host_target_told};
@@ -14,7 +15,8 @@ ghost use Rattle.pciguest_c.specs.Told.{at_bus, number_told, value_told, host_ta
 use crate::asking::check_guest;
 use crate::handle::Handle;
 use crate::numbers::{ARGUMENT, number_of, put_value};
-use accesses::{Bdf, HostAccess, HostAt};
+use accesses::{Bdf, HostAccess, HostAt, Reply};
+use monitor::Monitor;
 use std::alloc::Global;
 
 /// Where an access of the host goes, if there is such a space and such a physical number.
@@ -37,6 +39,29 @@ pub fn host_at(space: u32, bus: u8, device: u8, function: u8, place: u64) -> Opt
         2 => Some(HostAt::Mem { addr: place }),
         _ => None,
     }
+}
+
+/// What a read of the host is answered.
+fn host_read(
+    machine: &mut Monitor,
+    space: u32,
+    bus: u8,
+    device: u8,
+    function: u8,
+    place: u64,
+    width: u64,
+) -> Result<Reply, u32>
+    ensures place { host_target_told space (at_bus bus device function) place ≡ None →
+        IsErrOf result 902 }
+    ensures read { (t : HostTarget) → host_target_told space (at_bus bus device function) place ≡ Some t →
+        IsOkAnd result (λ r.
+        reply_of r ≡ host_reply machine.old.world (record { target = t; width = width })) }
+    ensures kept { machine.new ≡ machine.old }
+{
+    let Some(at) = host_at(space, bus, device, function, place) else {
+        return Err(ARGUMENT);
+    };
+    Ok(machine.host_read(HostAccess { at, width }))
 }
 
 /// Reads 1, 2 or 4 bytes as the host does: what the board shows at physical numbers. Bus, device and
@@ -64,11 +89,8 @@ pub extern "C" fn pciguest_raw_host_read(
     ensures kept { session_of handle.new ≡ session_of handle.old }
 {
     let answer = handle.ask_machine(alloc, |machine| {
-        let Some(at) = host_at(space, bus, device, function, place) else {
-            return Err(ARGUMENT);
-        };
         let width = u64::from(width);
-        Ok(machine.host_read(HostAccess { at, width }))
+        host_read(machine, space, bus, device, function, place, width)
     });
     put_value(answer, value)
 }

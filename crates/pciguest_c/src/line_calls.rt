@@ -4,7 +4,8 @@ ghost use Rattle.model_guests.specs.WorldNow.{line_output};
 ghost use Rattle.model_handoff.specs.Changes.{after_line_on_machine};
 ghost use Rattle.model_lines.specs.Sessions.{session_output, after_session_line};
 ghost use Rattle.pciguest_c.specs.Handles.{session_of, machine_of};
-ghost use Rattle.pciguest_c.specs.LinesTold.{at_front, asks_for_more};
+ghost use Rattle.session.specs.Stages.{asks_for_more};
+ghost use Rattle.pciguest_c.specs.TextsTold.{at_front};
 
 use crate::handle::Handle;
 use crate::numbers::{ARGUMENT, MEMORY, NO_MACHINE};

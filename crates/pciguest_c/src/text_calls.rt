@@ -6,7 +6,7 @@ ghost use Rattle.model_guests.specs.World.{World};
 ghost use Rattle.model_handoff.specs.Report.{report};
 ghost use Rattle.session.specs.Files.{Refuses, Breaks, IsSetUp};
 ghost use Rattle.pciguest_c.specs.Checks.{IsCheckOf};
-ghost use Rattle.pciguest_c.specs.LinesTold.{at_front};
+ghost use Rattle.pciguest_c.specs.TextsTold.{at_front};
 ghost use Rattle.pciguest_c.specs.NumberWords.{words_of_number};
 
 use crate::number_words::words_of;
