@@ -1,22 +1,23 @@
 //! What C asks as the host. Each call answers 0, or the number of a refusal.
 ghost use Rattle.std.specs.Prelude.{◌≡◌, ◌≢◌, ◌<◌, ◌≤◌, None, Some, IfNone, IfSome, length, option_map};
-ghost use Rattle.std.specs.Prelude.{IsErrOf, IsOkAnd};
 ghost use Rattle.model_guests.specs.Grammar.{HostTarget};
 ghost use Rattle.model_guests.specs.Lines.{host_move};
 ghost use Rattle.model_guests.specs.WorldNow.{move_reply, host_reply};
 ghost use Rattle.model_guests.specs.Calls.{asks};
 ghost use Rattle.model_handoff.specs.Actions.{calls};
 ghost use Rattle.model_handoff.specs.Changes.{after_on_machine};
-ghost use Rattle.accesses.specs.Accesses.{host_target_of, reply_of};
+ghost use Rattle.accesses.specs.Accesses.{host_target_of};
 ghost use Rattle.monitor.specs.Moves.{move_nth};
+ghost use Rattle.session.specs.Stages.{machine_in};
 ghost use Rattle.pciguest_c.specs.Handles.{session_of, machine_of};
 ghost use Rattle.pciguest_c.specs.Told.{at_bus, number_told, value_told, host_target_told};
 
 use crate::asking::check_guest;
 use crate::handle::Handle;
-use crate::numbers::{ARGUMENT, number_of, put_value};
-use accesses::{Bdf, HostAccess, HostAt, Reply};
+use crate::numbers::{ARGUMENT, NO_MACHINE, number_of, put_value};
+use accesses::{Bdf, HostAccess, HostAt};
 use monitor::Monitor;
+use session::Session;
 use std::alloc::Global;
 
 /// Where an access of the host goes, if there is such a space and such a physical number.
@@ -41,7 +42,7 @@ pub fn host_at(space: u32, bus: u8, device: u8, function: u8, place: u64) -> Opt
     }
 }
 
-/// What a read of the host is answered.
+/// Reads as the host.
 fn host_read(
     machine: &mut Monitor,
     space: u32,
@@ -50,18 +51,48 @@ fn host_read(
     function: u8,
     place: u64,
     width: u64,
-) -> Result<Reply, u32>
-    ensures place { host_target_told space (at_bus bus device function) place ≡ None →
-        IsErrOf result 902 }
+    value: &mut u32,
+) -> u32
+    ensures place { host_target_told space (at_bus bus device function) place ≡ None → result ≡ 902 }
     ensures read { (t : HostTarget) → host_target_told space (at_bus bus device function) place ≡ Some t →
-        IsOkAnd result (λ r.
-        reply_of r ≡ host_reply machine.old.world (record { target = t; width = width })) }
+        let r = host_reply machine.old.world (record { target = t; width = width }) in
+        (result ≡ number_told r) × (value.new ≡ value_told value.old r) }
+    ensures unread { result ≢ 0 → value.new ≡ value.old }
     ensures kept { machine.new ≡ machine.old }
 {
     let Some(at) = host_at(space, bus, device, function, place) else {
-        return Err(ARGUMENT);
+        return ARGUMENT;
     };
-    Ok(machine.host_read(HostAccess { at, width }))
+    put_value(Ok(machine.host_read(HostAccess { at, width })), value)
+}
+
+/// The same in a session, or 901 where no guests have its board.
+fn host_read_in(
+    session: &mut Session,
+    space: u32,
+    bus: u8,
+    device: u8,
+    function: u8,
+    place: u64,
+    width: u64,
+    value: &mut u32,
+) -> u32
+    ensures none { IfNone (machine_in session.old) (result ≡ 901) }
+    ensures place { IfSome (machine_in session.old) (λ _.
+        host_target_told space (at_bus bus device function) place ≡ None → result ≡ 902) }
+    ensures read { IfSome (machine_in session.old) (λ m.
+        (t : HostTarget) → host_target_told space (at_bus bus device function) place ≡ Some t →
+        let r = host_reply m.world (record { target = t; width = width }) in
+        (result ≡ number_told r) × (value.new ≡ value_told value.old r)) }
+    ensures unread { result ≢ 0 → value.new ≡ value.old }
+    ensures kept { session.new ≡ session.old }
+{
+    match session.monitor() {
+        Some(machine) => {
+            host_read(machine, space, bus, device, function, place, width, value)
+        }
+        None => NO_MACHINE,
+    }
 }
 
 /// Reads 1, 2 or 4 bytes as the host does: what the board shows at physical numbers. Bus, device and
@@ -88,11 +119,22 @@ pub extern "C" fn pciguest_raw_host_read(
     ensures unread { result ≢ 0 → value.new ≡ value.old }
     ensures kept { session_of handle.new ≡ session_of handle.old }
 {
-    let answer = handle.ask_machine(alloc, |machine| {
-        let width = u64::from(width);
-        host_read(machine, space, bus, device, function, place, width)
-    });
-    put_value(answer, value)
+    let Some(mut session) = handle.take(alloc) else {
+        return NO_MACHINE;
+    };
+    let width = u64::from(width);
+    let number = host_read_in(
+        &mut session,
+        space,
+        bus,
+        device,
+        function,
+        place,
+        width,
+        value,
+    );
+    *handle = Handle::of(session);
+    number
 }
 
 /// Moves the function in a slot of a guest to a slot of another, or of the same. It is then at reset.
