@@ -1,4 +1,4 @@
-use Rattle.std.proofs.Common.{Option, sym, ap, ◌∙◌}
+use Rattle.std.proofs.Common.{rules, Option, sym, ap, ◌∙◌}
 use Rattle.std.specs.Prelude.{option_and_then}
 use Rattle.model_lines.specs.Sessions.{SessionNow}
 use Rattle.session.specs.Stages.{board_in}
@@ -12,5 +12,5 @@ returns-clause-asked g c =
     where_some _ (board_of c.args.self.now) lent.board.now
     (ap (λ (o : Option SessionNow). option_and_then board_in o) c.in-Some.ensures.session
     ∙ sym (lent.ensures.value ∙ ap board_in c.deref_mut.ensures.value))
-    (c.question-answer.new.arg2, c.question-answer.ensures,
+    (c.question-answer.new.arg2, search rules,
     ap (λ (o : Option SessionNow). option_and_then board_in o) c.of-2.ensures)
