@@ -90,7 +90,7 @@ holds 'crates that docs/ARCHITECTURE.md lacks, or that are gone' other_rows
 # ---- the list of documents has each
 unlisted() {
   local file
-  for file in docs/*.md docs/reports/*.md; do
+  for file in docs/*.md docs/reports/*.md docs/lessons/README.md; do
     [ "$file" = docs/README.md ] || grep -qF "](${file#docs/})" docs/README.md || echo "$file"
   done
 }
@@ -173,6 +173,14 @@ holds 'calls that the manual lacks' lacking_calls
 # ---- the kit: the README names the one that is here, where there is one
 other_kit() { grep -qxF "Proved with \`$(rt version)\`." README.md || echo "README.md: not proved with $(rt version)"; }
 ! command -v rt > /dev/null || holds 'the kit that the README names' other_kit
+
+# ---- the crates of the kit that README names as trusted are those on which crates.txt has something stand
+other_kit_crates() {
+  diff <(sed 's/^[^:]*://' crates.txt | tr ' ' '\n' | grep -vE '^(|core|std_.*)$' | sort -u |
+      comm -23 - <(sed 's/[: ].*//' crates.txt | sort)) \
+    <(grep '^The Rattle toolchain' README.md | grep -o '`[a-z_]*`' | tr -d '`' | sort)
+}
+holds 'crates of the kit that the README names' other_kit_crates
 
 # ---- edits that the gate doesn't try: each text that one replaces stands once in its file
 lost_edits() {

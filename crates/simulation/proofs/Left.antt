@@ -24,8 +24,8 @@ IsBegun board x = (w : World) × Declares board w × IsLawfulWorld w × (x ≡ d
 abbrev pub session_over : {T : Type 0} (board : Text) (x end : SessionNow) (at : Ends) (r : Result T RunFault) → IsBegun board x
     → Runs session_protocol x end at r → IsSession board at r
 session_over board x end at r begun ran = record {
-  over = runs_over session_protocol at_first end r begun.1.0 begun.1.1.1 ran;
-  isolated = isolated_sessions begun.0 begun.1.1.0.guests.lawful_names;
+  over = runs_over session_protocol at_first end r begun.1 begun.3 ran;
+  isolated = isolated_sessions begun.0 begun.2.guests.lawful_names;
 }
 
 pub left_at_end : (board : Text) (x end : SessionNow) (at : Ends) → IsBegun board x → Runs {T = Unit {0}} session_protocol x end at (Ok tt) → IsLeft board at (Ok end)
@@ -53,16 +53,16 @@ session_early {T} board at e l =
       isolated = l.session.isolated;
     }
 
-session_fault : {T : Type 0} (board : Text) (at : Ends) (f : Fault) → IsOfSession f → OnSession {T = SessionNow} (IsLeft board at) (Err f) → OnSession {T = T} (IsSession board at) (Err f)
-session_fault board at Read of l = session_early board at _ l
-session_fault board at Write of l = session_early board at _ l
-session_fault board at (SetUp set_up.Memory) of l = session_early board at _ l
-session_fault board at (SetUp s) of l = tt
-session_fault board at (File b) of l = tt
-session_fault board at _ of l = absurd of
+session_fault : (T : Type 0) (board : Text) (at : Ends) (f : Fault) → IsOfSession f → OnSession {T = SessionNow} (IsLeft board at) (Err f) → OnSession {T = T} (IsSession board at) (Err f)
+session_fault T board at Read of l = session_early board at _ l
+session_fault T board at Write of l = session_early board at _ l
+session_fault T board at (SetUp set_up.Memory) of l = session_early board at _ l
+session_fault T board at (SetUp s) of l = tt
+session_fault T board at (File b) of l = tt
+session_fault T board at _ of l = absurd of
 
 -- the fault that a `?` hands on
 pub same_session : {T : Type 0} (board : Text) (at : Ends) (r : Result T Fault) (f : Fault) → IsErrAnd r (λ e. e ≡ f) → IsOfSession f
     → OnSession {T = SessionNow} (IsLeft board at) (Err f) → OnSession (IsSession board at) r
 same_session board at (Ok x) f h of l = absurd h
-same_session {T} board at (Err e) f h of l = subst (λ x. OnSession {T = T} (IsSession board at) (Err x)) (sym h) (session_fault board at f of l)
+same_session {T} board at (Err e) f h of l = subst (λ x. OnSession {T = T} (IsSession board at) (Err x)) (sym h) (session_fault T board at f of l)

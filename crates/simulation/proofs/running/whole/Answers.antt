@@ -26,7 +26,7 @@ returns-in_err-run-clause-writes g c = written_again c.from_residual-in_err-run.
 
 pub returns-in_err-run-clause-runs : goal.returns-in_err-run-clause-runs
 returns-in_err-run-clause-runs g c =
-    let opened = c.in_ok-monitor.ensures in
+    let opened = c.in_ok-monitor.ensures.opened in
     let at = ends (g.R.Reader.rest c.args.reader.now) (g.R.Reader.rest c.run.new.reader) (g.W.Writer.written c.args.writer.now) (g.W.Writer.written c.run.new.writer) (g.W.Writer.flushed c.run.new.writer) in
     ran (IsRun c.args.board.now at) c.from_residual-in_err-run.result _ c.from_residual-in_err-run.ensures.1
     (is_run c.args.board.now _ c.run.new.monitor at _ opened c.in_err-run.ensures.runs)
@@ -34,5 +34,5 @@ returns-in_err-run-clause-runs g c =
 pub returns-clause-runs : goal.returns-clause-runs
 returns-clause-runs g c =
     let at = ends (g.R.Reader.rest c.args.reader.now) (g.R.Reader.rest c.run.new.reader) (g.W.Writer.written c.args.writer.now) (g.W.Writer.written c.run.new.writer) (g.W.Writer.flushed c.run.new.writer) in
-    let opened = c.in_ok-monitor.ensures in
+    let opened = c.in_ok-monitor.ensures.opened in
     is_run c.args.board.now _ c.run.new.monitor at _ opened c.in_ok-run.ensures.runs
