@@ -78,6 +78,8 @@ def a_lesson_leads_on(browser, page):
     browser.run("document.querySelector('#steps button').click()")
     holds('a number begins its lesson', text_of(browser, 'task_title') == 'Lesson 1: Read a board', text_of(browser, 'task_title'))
     holds('the lesson has the keys', browser.run("document.activeElement.id") == 'task_title')
+    browser.run("document.getElementById('to_line').click()")
+    holds('a button leads to the box for lines', browser.run("document.activeElement.id") == 'line')
     for line in SOLUTIONS['read'][:2]:
         type_line(browser, line)
     met = browser.run("[...document.querySelectorAll('#goals li')].map(one => one.className)")
