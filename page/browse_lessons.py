@@ -97,6 +97,15 @@ def a_lesson_leads_on(browser, page):
     browser.run("document.getElementById('board').focus()")
     browser.insert('# ')
     holds('another board ends the lesson', browser.run("document.getElementById('task').checkVisibility()") is False)
+    holds('which is told', text_of(browser, 'progress').endswith('which ended the lesson'), text_of(browser, 'progress'))
+    browser.open(f'{page}#lesson=wrong&part=1')
+    type_line(browser, SOLUTIONS['wrong/limit_short'][0])
+    browser.run("document.getElementById('next').click()")
+    holds('the next part is offered', text_of(browser, 'task_title').endswith('Firmware 2'), text_of(browser, 'task_title'))
+    browser.run("document.querySelectorAll('#steps button')[4].click()")
+    holds('a lesson goes on with what is not done', text_of(browser, 'task_title').endswith('Firmware 2'), text_of(browser, 'task_title'))
+    browser.open(f'{page}#lesson=nothing')
+    holds('a lesson that is none is no lesson', browser.run("document.getElementById('task').checkVisibility()") is False)
     browser.run(FORGET)
 
 

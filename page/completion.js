@@ -1,11 +1,12 @@
 // The words that may stand where one types in a line: guests, what they do, functions by path or number, registers by name.
 
-import { hex } from './report.js';
+import { hex, two_digits } from './report.js';
 import { forms_of, number_of, shape_of, words_in } from './reasons.js';
 import { register_at, registers_of } from './register_names.js';
 
 const DOES = { cr: 'reads configuration bytes', cw: 'writes configuration bytes', ir: 'reads ports', iw: 'writes ports', mr: 'reads memory', mw: 'writes memory',
-  raise: 'its device raises bits', move: 'gives a function to a guest' };
+  raise: 'its device raises bits', move: 'gives a function to a guest',
+  audit: 'tells what is wrong', guests: 'gives the board to its guests' };
 
 // An offer has what is put in, what is told beside it, and the names by which it is found.
 const offer = (text, told, ...names) => ({ text, told, names: [text, ...names] });
@@ -18,7 +19,8 @@ function function_in(words, { functions, owners }) {
   return functions.find(one => owners.get(one.path)?.guest === words[0].word && BigInt(owners.get(one.path).slot) === number_of(words[2].word));
 }
 
-const registers_in = kind => registers_of(kind).map(({ name, title, offset, width }) => offer(`${hex(offset)} ${width}`, `${name}: ${title}`, name, offset.toString(16).padStart(2, '0')));
+const registers_in = kind => registers_of(kind)
+  .map(({ name, title, offset, width }) => offer(`${hex(offset)} ${width}`, `${name}: ${title}`, name, two_digits(offset)));
 
 // Where regions stand: on the board, or in a guest's own view.
 const regions_in = (space, { places }, who) => places(who).filter(one => one.space === space).map(({ first, told, names }) => offer(hex(first), told, ...names));
@@ -28,7 +30,8 @@ function offers_for({ name, words: those = [] }, words, board) {
   const who = words[0].word, verb = words[1].word;
   if (name === 'the function') return board.functions.filter(one => !one.lost).map(one => offer(one.place, `${one.path} ${one.words}`, one.path));
   if (name === 'the slot' && verb !== 'move') {
-    return board.functions.flatMap(one => (board.owners.get(one.path)?.guest === who ? [offer(`${board.owners.get(one.path).slot}`, `${one.path} ${one.words}`, one.path)] : []));
+    return board.functions.filter(one => board.owners.get(one.path)?.guest === who)
+      .map(one => offer(`${board.owners.get(one.path).slot}`, `${one.path} ${one.words}`, one.path));
   }
   if (name === 'the offset' && /^c[rw]$/.test(verb)) return registers_in(function_in(words, board)?.kind ?? 'endpoint');
   if (name === 'the width' && /^c[rw]$/.test(verb)) {
@@ -55,9 +58,6 @@ export function completions(line, board) {
   const words = words_in(line), typed = /[ \t\r]$/.test(line) || words.length === 0 ? null : words[words.length - 1];
   const before = typed ? words.slice(0, -1) : words, begun = (typed?.word ?? '').toLowerCase();
   if (before[0]?.word.startsWith('#') || begun.startsWith('#')) return { from: line.length, offers: [] };
-  const offers = offers_at(before.length, before, board).filter(one => one.names.some(name => name.toLowerCase().startsWith(begun)) && !(offers_end(one, begun)));
-  return { from: typed?.at ?? line.length, offers };
+  const fits = one => one.names.some(name => name.toLowerCase().startsWith(begun)) && one.text.toLowerCase() !== begun;
+  return { from: typed?.at ?? line.length, offers: offers_at(before.length, before, board).filter(fits) };
 }
-
-// A word that is there already is no offer.
-const offers_end = (one, begun) => one.text.toLowerCase() === begun;

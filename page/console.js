@@ -10,7 +10,7 @@ const NOTED = 4;
 
 export class Console {
   // `parts` are its elements, and `box` the one in which lines are typed; `machine` gives what answers lines, or null; `whose` tells
-  // whose lines they are; `moved` is told of each move that was done, `heard` of each reply, and `ran` after each line.
+  // whose lines they are; `moved` is told of each move that was done, `heard` of each reply, and `ran` of each line.
   constructor(parts, box, { machine, whose, moved, heard, ran }) {
     Object.assign(this, { parts, box, machine, whose, moved, heard, ran, marks: new Map(), before: [], back: 0, playing: 0, said: [] });
     parts.entry.addEventListener('submit', event => { event.preventDefault(); this.enter(); });
@@ -45,7 +45,7 @@ export class Console {
     const row = this.put('row', '');
     row.append(make('span', 'said', line));
     this.tell(line, machine, row);
-    this.ran();
+    this.ran(line);
   }
 
   reply_of(line, machine) { return new TextDecoder().decode(machine.answer(new TextEncoder().encode(line))).trimEnd(); }

@@ -18,10 +18,12 @@ const byte = (name, title, offset, { values }) => ({ name, places: [[offset, 1]]
 // Bits of a register of two bytes as switches. Of those that writing a one clears, only one that is set can be written.
 function bits_of(title, names, offset, { values }, clears) {
   const now = Number(number_in(values, offset, 2));
-  return { title, told: `0x${now.toString(16).padStart(4, '0')}${clears ? ', writing a one clears' : ''}`, fields: [], switches: names.map(([name, bit]) => {
-    const on = (now >> bit & 1) !== 0;
-    return { name, on, title: `bit ${bit} of ${at_offset(title, [offset])}`, places: [[offset, 2]], shut: clears && !on, writes: () => [[offset, 2, clears ? 1 << bit : now ^ 1 << bit]] };
-  }) };
+  const told = `0x${now.toString(16).padStart(4, '0')}${clears ? ', writing a one clears' : ''}`;
+  const switches = names.map(([name, bit]) => {
+    const on = (now >> bit & 1) !== 0, place = at_offset(title, [offset]);
+    return { name, on, title: `bit ${bit} of ${place}`, places: [[offset, 2]], shut: clears && !on, writes: () => [[offset, 2, clears ? 1 << bit : now ^ 1 << bit]] };
+  });
+  return { title, told, fields: [], switches };
 }
 
 // Base or limit of a window: its low register takes the bits from `shift` on, and the upper one, if there is one, the rest.

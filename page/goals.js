@@ -43,6 +43,12 @@ export function read_goal(text, guests, as) {
   return { rows, wrong: rows.length === 0 ? ['a goal has a condition, each on a line of its own'] : wrong };
 }
 
+// A board that was given to its guests was in order then, and stays so; it is asked no more.
+function lines_of_audit(held) {
+  const told = held.audit();
+  return told === null ? ['audit: ok'] : new TextDecoder().decode(told).split('\n');
+}
+
 export class Goals {
   constructor(text, guests, as) { Object.assign(this, { rows: read_goal(text, guests, as).rows, as, told: new Set(), lacks: [] }); }
 
@@ -52,7 +58,7 @@ export class Goals {
   // Which conditions hold now. `held` answers lines, and `ready` tells what a board lacks.
   look(held, ready) {
     const needs = kind => this.rows.some(one => one.kind === kind);
-    const audit = needs('audit') ? new TextDecoder().decode(held.audit()).split('\n') : [];
+    const audit = needs('audit') ? lines_of_audit(held) : [];
     this.lacks = needs('ready') ? ready() : [];
     const is_met = { ready: () => this.lacks.length === 0, audit: one => audit.includes(one.text), told: one => this.told.has(one.reply),
       read: one => asked_of(held, one.line) === one.reply };

@@ -33,7 +33,8 @@ export class LessonView {
   // The numbers of the lessons, with those that are done.
   draw_steps(lessons) {
     const done = this.tasks.filter(one => lessons.is_done(one)).length;
-    this.parts.progress.textContent = `${done} of ${this.tasks.length} done${lessons.progress.keeps ? '' : '. This browser keeps nothing: what is done is known as long as the page is open'}`;
+    const kept = lessons.progress.keeps ? '' : '. This browser keeps nothing: what is done is known as long as the page is open';
+    this.parts.progress.textContent = `${done} of ${this.tasks.length} done${kept}`;
     this.parts.steps.replaceChildren(...this.tasks.map((task, nth) => {
       const item = make('li', ''), is_done = lessons.is_done(task);
       const button = task_button(`${nth + 1} ${task.title}${is_done ? ' ✓' : ''}`, `Lesson ${nth + 1}: ${task.title}${is_done ? ', done' : ''}`, () => this.acts.begin(nth));
@@ -94,7 +95,8 @@ export class LessonView {
     next.textContent = part < 0 ? 'Next lesson' : `Next: ${lessons.task.parts[part].title}`;
   }
 
-  close() {
+  close(told) {
+    this.parts.progress.textContent += told;
     document.body.classList.remove('at-task');
     this.parts.task.hidden = true;
   }

@@ -17,7 +17,7 @@ export class Lessons {
   constructor(parts, tasks, page) {
     Object.assign(this, { tasks, page, progress: new Progress(), task: null, part: 0, goals: null, key: '', opening: false });
     this.view = new LessonView(parts, tasks, {
-      begin: (nth, part) => this.begin_lesson(nth, part), again: () => this.begin(this.task, this.part), leave: () => { this.leave(); page.left(); },
+      begin: (nth, part) => this.begin_lesson(nth, part), again: () => this.begin(this.task, this.part), leave: () => { this.leave(''); page.left(); },
     });
     this.view.draw_steps(this);
   }
@@ -29,10 +29,17 @@ export class Lessons {
   // The parts of a task, with whether they are done.
   parts_of(task) { return (task.parts ?? []).map((part, nth) => ({ ...part, done: this.progress.has(this.key_of(task, nth)) })); }
 
-  begin_lesson(nth, part = 0) {
+  // A lesson of the page; of one with parts, the part that is asked for, or else the first that isn't done.
+  begin_lesson(nth, part) {
     const task = this.tasks[nth], open = this.parts_of(task).findIndex(one => !one.done);
-    this.begin(task, part ?? Math.max(open, 0));
+    this.begin(task, task.parts?.[part] ? part : Math.max(open, 0));
     this.view.show();
+  }
+
+  begin_by_name(name, part) {
+    const nth = this.tasks.findIndex(one => one.name === name);
+    if (nth >= 0) this.begin_lesson(nth, part);
+    return nth >= 0;
   }
 
   // A task from its beginning. One of a link has no name, and its being done isn't kept.
@@ -46,12 +53,12 @@ export class Lessons {
     this.look();
   }
 
-  // Another board, or another reader, ends the task.
-  leave() {
+  // Another board, or another reader, ends the task, which is told.
+  leave(told = '. The board was set up anew, which ended the lesson') {
     if (this.opening || this.task === null) return;
     Object.assign(this, { task: null, goals: null, key: '' });
     this.view.draw_steps(this);
-    this.view.close();
+    this.view.close(told);
   }
 
   hear(reply) { if (!this.opening) this.goals?.hear(reply); }

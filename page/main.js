@@ -28,7 +28,9 @@ let engine = null, machine = null, functions = [], owners = new Map(), marks = n
 const choose = path => (as === 'firmware' ? firmware : guest_registers).choose(path);
 const give = line => script_console.give(line);
 const answers = () => (as === 'firmware' ? firmware.driven : machine);
-const guests = () => (as === 'firmware' ? [] : [...marks.keys()]);
+// Once firmware has given its board to guests, its lines are a script's.
+const speaking = () => (as === 'firmware' && !firmware.now?.given ? as : 'guests');
+const guests = () => (speaking() === 'firmware' ? [] : [...marks.keys()]);
 const board = new Board({ tree: part.tree, told: part.told, table: part.functions }, light, choose);
 const addresses = new Addresses(part.addresses, light);
 const maps = new GuestMaps(part.maps, light);
@@ -36,17 +38,19 @@ const registers = new Registers(part, choose);
 const guest_registers = new GuestRegisters(part, registers, board, give);
 const firmware = new Firmware(part, board, addresses, registers, light, give);
 const box = new ScriptBox(part, known);
-const script_console = new Console(part, box, { machine: answers, whose: () => ({ as, guests: guests() }), moved, heard: reply => lessons.hear(reply), ran });
-const lessons = new Lessons(part, TASKS, { open: open_task, held: answers, guests, left: set_up, lacks: () => (firmware.now === null ? [] : lacks_of(firmware.driven, firmware.now, apertures)) });
+const script_console = new Console(part, box, { machine: answers, whose: () => ({ as: speaking(), guests: guests() }), moved, heard: reply => lessons.hear(reply), ran });
+const lacks = () => (firmware.now === null ? ['the board is refused'] : lacks_of(firmware.driven, firmware.now, apertures));
+const lessons = new Lessons(part, TASKS, { open: open_task, held: answers, guests, left: set_up, lacks });
 const held = () => ({ board: part.board.value, script: script_console.script(), as, task: lessons.kept() });
 new TaskForm(part, () => ({ ...held(), guests: guests() }));
-let following = false;
+let following = false, unseen = false;
 
 // What one may type about: the functions with their numbers as they are now, and where regions stand.
 function known() {
   if (answers() === null) return null;
   const those = as === 'firmware' ? firmware.now?.functions ?? [] : functions;
-  return { as, guests: guests(), functions: those, owners, places: who => (as === 'firmware' || who === 'host' ? places_on(those) : places_on(all_open(machine, functions, owners).filter(one => one.owner.guest === who))) };
+  const open_of = who => all_open(machine, functions, owners).filter(one => one.owner.guest === who);
+  return { as: speaking(), guests: guests(), functions: those, owners, places: who => places_on(as === 'firmware' || who === 'host' ? those : open_of(who)) };
 }
 
 function moved(from, to) {
@@ -54,13 +58,16 @@ function moved(from, to) {
   if (path !== undefined) { owners.set(path, to); draw(); }
 }
 
-// What is wrong after a line of firmware is noted under it; on a large board, after all that run at once.
-function ran() {
+// What is wrong after a line of firmware is noted under it; on a large board, after all that run at once. A read changes nothing.
+function ran(line) {
+  unseen ||= !/^\s*\S+\s+[cim]r\s/.test(line);
   if (as === 'firmware' && functions.length <= LARGE) note();
   follow();
 }
 
 function note() {
+  if (!unseen) return;
+  unseen = false;
   const { came, gone } = firmware.look();
   script_console.note(came, gone);
 }
@@ -71,7 +78,10 @@ function follow() {
   following = true;
   queueMicrotask(() => {
     following = false;
-    if (as === 'firmware') { if (functions.length > LARGE) note(); firmware.draw(apertures); } else if (machine !== null) draw_guests();
+    if (as === 'firmware') {
+      if (functions.length > LARGE) note();
+      firmware.draw(apertures);
+    } else if (machine !== null) draw_guests();
     lessons.look();
     keep(held());
   });
@@ -205,6 +215,7 @@ function open_task(text, whom, lines, shows) {
   show_text(text, whom);
   script_console.prepare(lines, shows);
   if (as === 'firmware') firmware.look();
+  part.line.placeholder = functions.length > 0 ? `host cr ${functions[0].place} 0 4` : '';
   registers.forget();
   follow();
 }
@@ -229,7 +240,7 @@ async function hand_out() {
 async function begin() {
   const asked = wanted(), before = asked.has('kept') ? await kept_in(asked.get('kept')) : asked.size > 0 ? null : kept();
   if (asked.has('story')) { tell_story(asked.get('story')); return; }
-  if (asked.has('lesson')) { lessons.begin_lesson(TASKS.findIndex(one => one.name === asked.get('lesson')), Number(asked.get('part') ?? 1) - 1); return; }
+  if (asked.has('lesson') && lessons.begin_by_name(asked.get('lesson'), Number(asked.get('part')) - 1)) return;
   if (asked.has('task') && lessons.take_up(await task_in(asked.get('task')))) return;
   if (before?.task && lessons.take_up(before.task)) { script_console.play(before.script, true); return; }
   show_text(before?.board ?? BOARDS[asked.get('board') ?? Object.keys(BOARDS)[0]] ?? '', before?.as ?? asked.get('as'));

@@ -10,4 +10,5 @@ export function places_on(those) {
   });
 }
 
-const offered_place = (first, { kind, name, size }, { path }, told) => ({ first, space: kind === 'io' ? 'io' : 'mem', told: `${told}, ${size_in_words(size)}`, names: [`${path}.${name}`] });
+const offered_place = (first, { kind, name, size }, { path }, told) => ({ first, space: kind === 'io' ? 'io' : 'mem',
+  told: `${told}, ${size_in_words(size)}`, names: [`${path}.${name}`] });

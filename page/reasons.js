@@ -41,7 +41,7 @@ function forms_of_host(guests) {
 }
 
 const FIRMWARE = { cr: [FUNCTION, OFFSET, WIDTH], cw: [FUNCTION, OFFSET, WIDTH, VALUE], ir: [PORT, WIDTH], iw: [PORT, WIDTH, VALUE],
-  mr: [ADDRESS, WIDTH], mw: [ADDRESS, WIDTH, VALUE] };
+  mr: [ADDRESS, WIDTH], mw: [ADDRESS, WIDTH, VALUE], audit: [], guests: [] };
 
 // What a name may do: each second word with the words after it. Firmware is alone on its board.
 export function forms_of(name, guests, as) {
@@ -74,11 +74,12 @@ export function why_bad(line, guests, as) {
   const words = words_in(line), names = as === 'firmware' ? [] : guests;
   if (words.length === 0 || words[0].word.startsWith('#')) return null;
   const who = words[0].word, forms = forms_of(who, names, as), last = nth => words.length === nth + 1 && !/\s$/.test(line);
-  if (forms === null) return { why: `'${who}' is no guest: ${[...names, 'host'].join(', ')}`, word: words[0], begun: last(0) && [...names, 'host'].some(one => one.startsWith(who)) };
-  const known = Object.keys(forms);
-  if (words.length < 2) return { why: `the second word is missing: ${known.join(', ')}`, word: null, begun: true };
+  const begins = (all, word, nth) => last(nth) && all.some(one => one.startsWith(word)), all = [...names, 'host'];
+  if (forms === null) return { why: `'${who}' is no guest: ${all.join(', ')}`, word: words[0], begun: begins(all, who, 0) };
+  const verbs = Object.keys(forms);
+  if (words.length < 2) return { why: `the second word is missing: ${verbs.join(', ')}`, word: null, begun: true };
   const verb = words[1].word;
-  if (!known.includes(verb)) return { why: `'${verb}' is nothing that ${who} does: ${known.join(', ')}`, word: words[1], begun: last(1) && known.some(one => one.startsWith(verb)) };
+  if (!verbs.includes(verb)) return { why: `'${verb}' is nothing that ${who} does: ${verbs.join(', ')}`, word: words[1], begun: begins(verbs, verb, 1) };
   const found = wrong_word(words, forms[verb]);
   return found && { ...found, begun: found.begun && (found.word === null || last(words.indexOf(found.word))) };
 }

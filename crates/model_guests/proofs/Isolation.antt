@@ -26,19 +26,12 @@ use Rattle.model_guests.proofs.GuestFiles.{other_name}
 use Rattle.model_guests.proofs.GuestsByName.{Keeps}
 use Rattle.model_guests.proofs.Along.{names_with, names_stay, names_at_first}
 use Rattle.model_guests.proofs.WrittenLines.{written_along, lines_written}
+use Rattle.model_guests.proofs.OneGuest.{lone_by, named_there, touched}
 
 -- ---- one guest among all
 
 abbrev has : GuestsNow → Text → Bool
 has s name = has_name (names_of s) name
-
-abbrev Does : (GuestNow → GuestNow) → (LoneGuest → LoneGuest) → Type 0
-Does g k = (t : GuestNow) → (g t).lone ≡ k t.lone
-
-lone_with : (g : GuestNow → GuestNow) (k : LoneGuest → LoneGuest) → Keeps g → Does g k → (n name : Text) (s : GuestsNow) → has s name ≡ true
-    → lone_of (with_guest g n s) name ≡ cond (bytes_eq n name) (k (lone_of s name)) (lone_of s name)
-lone_with g k keeps does n name [] h = cc
-lone_with g k keeps does n name (t ∷ ts) h = grind (arith, lone_with g k keeps does n name ts, equal_texts)
 
 abbrev slots_named : List Guest → Text → List Path
 slots_named gs name = option_map_or (λ (g : Guest). g.slots) (find (λ (g : Guest). bytes_eq g.name name) gs) []
@@ -46,22 +39,6 @@ slots_named gs name = option_map_or (λ (g : Guest). g.slots) (find (λ (g : Gue
 first_lone : (w : World) (gs : List Guest) (name : Text) → lone_of (map (guest_at_first w) gs) name ≡ reset_guest (map (declared w.board) (slots_named gs name))
 first_lone w [] name = refl
 first_lone w (g ∷ gs) name = grind (arith, first_lone w gs name)
-
--- ---- moves
-
-touched : (name : Text) (m : Move) (p : Option Path) (o : Option Function) (s : GuestsNow) → has s name ≡ true
-    → lone_of (handed_over m p o s) name ≡ after_inputs (lone_of s name) (inputs_of_move name m o)
-touched name m p None s h = refl
-touched name m p (Some f) s h =
-    let mid : GuestsNow = with_guest (with_slot_emptied m.slot) m.from s in
-    let there : has mid name ≡ true = ap (λ (ns : List Text). has_name ns name) (names_with (with_slot_emptied m.slot) (λ t. refl) m.from s) ∙ h in
-    lone_with (with_slot_filled m.target p f.decl) (filled m.target f.decl) (λ t. refl) (λ t. refl) m.to name mid there
-    ∙ ap (λ (g : LoneGuest). cond (bytes_eq m.to name) (filled m.target f.decl g) g) (lone_with (with_slot_emptied m.slot) (emptied m.slot) (λ t. refl) (λ t. refl) m.from name s h)
-    ∙ cases (bytes_eq m.from name) (bytes_eq m.to name)
-  where
-    cases : (u v : Bool) → cond v (filled m.target f.decl (cond u (emptied m.slot (lone_of s name)) (lone_of s name))) (cond u (emptied m.slot (lone_of s name)) (lone_of s name))
-        ≡ after_inputs (lone_of s name) (cond u (loses m.slot ∷ []) [] ++ cond v (gets m.target f.decl ∷ []) [])
-    cases u v = grind arith
 
 -- ---- an own line
 
@@ -89,7 +66,7 @@ own_after : (w : WorldNow) (name : Text) (o : Option Event) → has w.guests nam
 own_after w name None h = refl
 own_after w name (Some e) h =
     let same = same_text name in
-    lone_with (guest_after e) (λ g. after_event g e) (λ t. refl) (λ t. refl) name name w.guests h ∙ rw same refl
+    lone_by (guest_after e) (λ t. refl) (λ (g : LoneGuest). after_event g e) (λ t. refl) name name w.guests (named_there w.guests name h) ∙ rw same refl
 
 -- ---- a line of another
 
@@ -132,9 +109,9 @@ other_after : (w : WorldNow) (name : Text) (m : Meaning) → has w.guests name �
 other_after w name nothing h f = refl
 other_after w name (guest_event n e) h f =
     let other : bytes_eq n name ≡ false = other_name name n f.0 in
-    lone_with (guest_after e) (λ g. after_event g e) (λ t. refl) (λ t. refl) n name w.guests h ∙ rw other refl
+    lone_by (guest_after e) (λ t. refl) (λ (g : LoneGuest). after_event g e) (λ t. refl) n name w.guests (named_there w.guests name h) ∙ rw other refl
 other_after w name (host_read r) h f = refl
-other_after w name who h f = grind (arith, touched)
+other_after w name who h f = grind (arith, touched, named_there)
 
 other_is_silent : (gs : GuestsNow) (name : Text) (m : Meaning) (g : LoneGuest) (more : List Input)
     → lone_output name g (inputs_of_meaning name gs m ++ more) ≡ lone_output name (after_inputs g (inputs_of_meaning name gs m)) more

@@ -1,5 +1,5 @@
 -- One guest among all, by its name: where it stands, and what changes of it come to.
-use Rattle.std.proofs.Common.{◌≡◌, ℕ, false, [], ◌∷◌, Some, Option, refl, sym, ap, ◌∙◌, arith}
+use Rattle.std.proofs.Common.{◌≡◌, ℕ, Bool, true, false, cond, [], ◌∷◌, ◌++◌, Some, None, Option, refl, sym, ap, ◌∙◌, arith}
 use Rattle.std.specs.Prelude.{slice_get, slice_set, IsFalse, IsSome}
 use Rattle.std.specs.Option.{option_map_or}
 use Rattle.std.specs.Str.{bytes_eq}
@@ -7,9 +7,13 @@ use Rattle.lists.specs.Elements.{EachPair}
 use Rattle.lists.proofs.FirstFound.{found_passes}
 use Rattle.lists.proofs.Indices.{set_same, found_at}
 use Rattle.model_registers.specs.Decoding.{Function}
+use Rattle.model_board.specs.Paths.{Path}
 use Rattle.model_guests.specs.Text.{Text}
-use Rattle.model_guests.specs.Lone.{LoneGuest, reset_guest}
-use Rattle.model_guests.specs.Guests.{GuestNow, GuestsNow, guest_named, lone_of, with_guest}
+use Rattle.model_guests.specs.Grammar.{has_name}
+use Rattle.model_guests.specs.Lone.{LoneGuest, emptied, filled, reset_guest}
+use Rattle.model_guests.specs.Guests.{GuestNow, GuestsNow, guest_named, handed_over, lone_of, Move, with_guest, with_slot_emptied, with_slot_filled}
+use Rattle.model_guests.specs.WorldNow.{names_of}
+use Rattle.model_guests.specs.Inputs.{after_inputs, gets, inputs_of_move, loses}
 use Rattle.model_guests.proofs.Names.{equal_texts, same_text}
 use Rattle.model_guests.proofs.Along.{by_index}
 use Rattle.model_guests.proofs.GuestsByName.{function_of, Keeps, one, one_name, named_with}
@@ -54,3 +58,33 @@ lone_own f keeps k does name gs there = grind (arith, named_with, name_found, sa
 
 pub lone_other : (f : GuestNow → GuestNow) → Keeps f → (name other : Text) (gs : GuestsNow) → bytes_eq name other ≡ false → lone_of (with_guest f name gs) other ≡ lone_of gs other
 lone_other f keeps name other gs apart = grind (arith, named_with, name_found)
+
+pub lone_by : (f : GuestNow → GuestNow) → Keeps f → (k : LoneGuest → LoneGuest) → ((t : GuestNow) → (f t).lone ≡ k t.lone) → (n name : Text) (gs : GuestsNow) → IsSome (guest_named gs name)
+    → lone_of (with_guest f n gs) name ≡ cond (bytes_eq n name) (k (lone_of gs name)) (lone_of gs name)
+lone_by f keeps k does n name gs there = cases (bytes_eq n name) refl
+  where
+    cases : (t : Bool) → bytes_eq n name ≡ t → lone_of (with_guest f n gs) name ≡ cond t (k (lone_of gs name)) (lone_of gs name)
+    cases true e = ap (λ (x : Text). lone_of (with_guest f x gs) name) (equal_texts n name e) ∙ lone_own f keeps k does name gs there
+    cases false e = lone_other f keeps n name gs e
+
+pub still : (f : GuestNow → GuestNow) → Keeps f → (n name : Text) (gs : GuestsNow) → IsSome (guest_named gs name) → IsSome (guest_named (with_guest f n gs) name)
+still f keeps n name gs there = grind (arith, named_with)
+
+pub named_there : (gs : GuestsNow) (name : Text) → has_name (names_of gs) name ≡ true → IsSome (guest_named gs name)
+named_there [] name h = h
+named_there (t ∷ ts) name h = grind (arith, named_there ts name)
+
+-- ---- moves
+
+pub touched : (name : Text) (m : Move) (p : Option Path) (o : Option Function) (gs : GuestsNow) → IsSome (guest_named gs name)
+    → lone_of (handed_over m p o gs) name ≡ after_inputs (lone_of gs name) (inputs_of_move name m o)
+touched name m p None gs there = refl
+touched name m p (Some f) gs there =
+    let mid : GuestsNow = with_guest (with_slot_emptied m.slot) m.from gs in
+    lone_by (with_slot_filled m.target p f.decl) (λ t. refl) (filled m.target f.decl) (λ t. refl) m.to name mid (still (with_slot_emptied m.slot) (λ t. refl) m.from name gs there)
+    ∙ ap (λ (g : LoneGuest). cond (bytes_eq m.to name) (filled m.target f.decl g) g) (lone_by (with_slot_emptied m.slot) (λ t. refl) (emptied m.slot) (λ t. refl) m.from name gs there)
+    ∙ cases (bytes_eq m.from name) (bytes_eq m.to name)
+  where
+    cases : (u v : Bool) → cond v (filled m.target f.decl (cond u (emptied m.slot (lone_of gs name)) (lone_of gs name))) (cond u (emptied m.slot (lone_of gs name)) (lone_of gs name))
+        ≡ after_inputs (lone_of gs name) (cond u (loses m.slot ∷ []) [] ++ cond v (gets m.target f.decl ∷ []) [])
+    cases u v = grind arith

@@ -1,18 +1,18 @@
--- Isolation along calls: lines and events at devices, in any order. What a guest is told, and what it holds then, depends
--- on its own functions, its own events, those at its devices and the moves that touch it alone.
+-- Calls: lines and events at devices. What a guest is told of one, and what it holds then, is told by what is its own of
+-- it: its own events, those at its devices and the moves that touch it.
 --     Call      what a line means, or an event at the device of a guest's function
---     after_call, after_calls      the world after it, and after calls
---     told, all_told      what a guest is told
---     CallInput, inputs_of_call, call_inputs      what is a guest's own of a call, and of calls
---     alone_told, after_own_calls      what these come to over the guest alone
---     IsolatedByCalls      they decide
-use Rattle.std.specs.Prelude.{List, [], ◌∷◌, ◌++◌, ◌≡◌, ℕ, if◌then◌else◌, map, IsSome}
+--     after_call      the world after it
+--     told      what a guest is told
+--     CallInput, inputs_of_call      what is a guest's own of a call
+--     alone_told, after_own_call      what such an input comes to over the guest alone
+--     all_alone_told, after_own_calls      and what such inputs do, one after the other
+use Rattle.std.specs.Prelude.{List, [], ◌∷◌, ◌++◌, ℕ, if◌then◌else◌, map}
 use Rattle.std.specs.Str.{bytes_eq}
 use Rattle.model_guests.specs.Accesses.{Event, Reply, refused}
 use Rattle.model_guests.specs.Text.{Text}
 use Rattle.model_guests.specs.Grammar.{guest, host, nobody}
 use Rattle.model_guests.specs.Lone.{LoneGuest, answer, after_event}
-use Rattle.model_guests.specs.Guests.{GuestsNow, guest_named, lone_of}
+use Rattle.model_guests.specs.Guests.{GuestsNow, lone_of}
 use Rattle.model_guests.specs.Lines.{Meaning, nothing, guest_event, host_read, host_move, bad}
 use Rattle.model_guests.specs.WorldNow.{WorldNow, after_meaning}
 use Rattle.model_guests.specs.Inputs.{Input, inputs_of_meaning, after_input}
@@ -26,10 +26,6 @@ abbrev pub after_call : WorldNow → Call → WorldNow
 after_call w (asks m) = after_meaning w m
 after_call w (at_device n e) = after_device w n e
 
-abbrev pub after_calls : WorldNow → List Call → WorldNow
-after_calls w [] = w
-after_calls w (c ∷ cs) = after_calls (after_call w c) cs
-
 -- a reply goes to the guest whose event it answers
 abbrev pub told : Text → WorldNow → Call → List Reply
 told name w (asks nothing) = []
@@ -40,10 +36,6 @@ told name w (asks (bad (guest n) k)) = if bytes_eq n name then refused k ∷ [] 
 told name w (asks (bad host k)) = []
 told name w (asks (bad nobody k)) = []
 told name w (at_device n e) = if bytes_eq n name then device_answer (lone_of w.guests n) e ∷ [] else []
-
-abbrev pub all_told : Text → WorldNow → List Call → List Reply
-all_told name w [] = []
-all_told name w (c ∷ cs) = told name w c ++ all_told name (after_call w c) cs
 
 -- ---- what is the guest's own
 
@@ -62,10 +54,6 @@ inputs_of_call name gs (asks (bad (guest n) k)) = if bytes_eq n name then own_ba
 inputs_of_call name gs (asks (bad host k)) = []
 inputs_of_call name gs (asks (bad nobody k)) = []
 inputs_of_call name gs (at_device n e) = if bytes_eq n name then own_device e ∷ [] else []
-
-abbrev pub call_inputs : Text → WorldNow → List Call → List CallInput
-call_inputs name w [] = []
-call_inputs name w (c ∷ cs) = inputs_of_call name w.guests c ++ call_inputs name (after_call w c) cs
 
 -- ---- over the guest alone
 
@@ -88,12 +76,3 @@ all_alone_told g (i ∷ is) = alone_told g i ++ all_alone_told (after_own_call g
 abbrev pub after_own_calls : LoneGuest → List CallInput → LoneGuest
 after_own_calls g [] = g
 after_own_calls g (i ∷ is) = after_own_calls (after_own_call g i) is
-
-pub record AreDecidedBy (is : List CallInput) (w : WorldNow) (name : Text) (cs : List Call) : Type 0 where
-  pub replies : all_told name w cs ≡ all_alone_told (lone_of w.guests name) is
-  pub holds : lone_of (after_calls w cs).guests name ≡ after_own_calls (lone_of w.guests name) is
-
--- in any world as it is now
-abbrev pub IsolatedByCalls : Type 0
-IsolatedByCalls = (w : WorldNow) (name : Text) → IsSome (guest_named w.guests name) → (cs : List Call)
-    → AreDecidedBy (call_inputs name w cs) w name cs

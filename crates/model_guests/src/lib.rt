@@ -11,7 +11,6 @@ ghost use Rattle.model_guests.specs.MoveLaws.{InputsWithin, MoveBetween, MoveWit
 ghost use Rattle.model_guests.specs.LineRuns.{AfterAlong, CutIsBeginning, LinesOfPieces, OutputAlong, StoppedIsBeginning};
 ghost use Rattle.model_guests.specs.WorldNow.{world_protocol};
 ghost use Rattle.model_guests.specs.WorldLaws.{HandoffStays, LongLinesAlike, NamesAlong, NamesStay};
-ghost use Rattle.model_guests.specs.Calls.{IsolatedByCalls};
 ghost use Rattle.model_guests.specs.DeviceByteLaws.{ReadsLeaveGuests, ReadsWritten, WriteReachesBoard};
 ghost use Rattle.model_guests.specs.DeviceExamples.{CountingDevice};
 ghost use Rattle.model_guests.specs.DeviceLaws.{NamesAfterDevices, OthersAfterDevice, OwnAfterDevice, ResetByMoves, ResetReachesBoard, SeatedAfterDevices};
@@ -117,12 +116,6 @@ pub fn devices_own_bytes()
     ensures reads { ReadsLeaveGuests }
     ensures written { ReadsWritten }
     ensures board { WriteReachesBoard }
-{}
-
-/// Along any calls, lines and events at devices alike, what a guest is told and what it holds are those
-/// of its own events, those at its devices and the moves that touch it, over what it held before.
-pub fn calls_are_isolated()
-    ensures { IsolatedByCalls }
 {}
 
 /// A device that counts in a register that its driver only reads.

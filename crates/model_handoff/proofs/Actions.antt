@@ -11,8 +11,8 @@ use Rattle.model_guests.specs.Lone.{emptied, filled}
 use Rattle.model_guests.specs.Inputs.{loses, gets}
 use Rattle.model_guests.specs.Guests.{guest_named, lone_of, with_slot_emptied, with_slot_filled}
 use Rattle.model_guests.specs.Calls.{told, moved, inputs_of_call, all_alone_told, after_own_calls}
-use Rattle.model_guests.proofs.Calls.{lone_by, still}
 use Rattle.model_guests.proofs.Calls as device_calls
+use Rattle.model_guests.proofs.OneGuest.{lone_by, still}
 use Rattle.model_handoff.specs.Giving.{give_fault, take_fault, given, taken}
 use Rattle.model_handoff.specs.Actions.{Action, calls, gives, takes, after_action, after_actions, told_by, all_told_by, inputs_of_gift, inputs_of_action, action_inputs, IsolatedByActions}
 

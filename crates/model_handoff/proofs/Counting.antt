@@ -17,7 +17,6 @@ use Rattle.model_guests.proofs.Along.{names_with}
 use Rattle.model_guests.proofs.Names.{equal_texts, same_text}
 use Rattle.model_guests.specs.DeviceEvents.{resets, device_reads, device_writes, slot_fault, device_after, after_device_event, reset_in}
 use Rattle.model_guests.specs.Calls.{Call, asks, at_device, after_call}
-use Rattle.model_guests.proofs.Calls.{lone_by}
 use Rattle.model_handoff.specs.GuestRegions.{region_answer}
 use Rattle.model_handoff.specs.Located.{located}
 use Rattle.model_handoff.specs.StayLaws.{any_tells, is_write, rewrites, touches, moves_regions}
@@ -27,6 +26,7 @@ use Rattle.model_guests.specs.WorldNow.{WorldNow, names_now}
 use Rattle.model_handoff.proofs.DevicesOver.{lawful_after_devices}
 use Rattle.model_handoff.proofs.Kept.{lawful_after_meaning}
 use Rattle.model_guests.proofs.Along.{names_meaning}
+use Rattle.model_guests.proofs.OneGuest.{lone_by}
 use Rattle.model_handoff.specs.Actions.{Action, calls, gives, takes, after_action, after_actions}
 use Rattle.model_handoff.specs.Changes.{moves_own, moves_by_call, changes, changes_along, after_change, counts_where, MachineNow, after_on_machine, after_all_on_machine}
 use Rattle.model_handoff.specs.CountLaws.{HaveSameAnswers, RegionsStayAlong, ChangesTouchSlots, IsCounted, CountsGrow, AnswersStay}

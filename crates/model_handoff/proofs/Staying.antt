@@ -35,7 +35,7 @@ use Rattle.model_guests.specs.Calls.{asks, at_device}
 use Rattle.model_registers.specs.DeviceBytes.{is_device_byte, with_value, set_value}
 use Rattle.model_registers.proofs.DeviceBytes.{device_not_own, change_beside}
 use Rattle.model_guests.proofs.DeviceBytes.{reached, read_leaves}
-use Rattle.model_guests.proofs.Calls.{lone_by, still}
+use Rattle.model_guests.proofs.OneGuest.{lone_by, still}
 use Rattle.model_handoff.specs.GuestRegions.{RegionNow, region_of, region_answer}
 use Rattle.model_handoff.specs.StayLaws.{tells_regions, any_tells, rewrites, RegionsStay}
 use Rattle.model_handoff.proofs.Landings.{same_destination, byte_goes, changed_there}

@@ -3,9 +3,9 @@
 --     refused_by, refused_file      a file that is refused, by what reading it answers
 --     began      a monitor of a board that is set up begins with the world of its file
 --     same_world      a file declares one world
---     first_of, breaks_rule, accepted      what is opened of a file, in terms of its world
+--     made_of, breaks_rule, accepted      what is opened of a file, in terms of its world
 use Rattle.std.proofs.Common.{◌≡◌, ℕ, Result, Ok, Err, sym, ap, ap₂, ◌∙◌, subst}
-use Rattle.std.specs.Prelude.{◌≢◌, List, IfErr, IsUtf8}
+use Rattle.std.specs.Prelude.{◌≢◌, List, IfErr, IfOk, IsUtf8}
 use Rattle.std.specs.Result.{IsErrAnd}
 use Rattle.toml.specs.Parse.{parse_document}
 use Rattle.model_board.specs.Board.{Board}
@@ -14,13 +14,13 @@ use Rattle.model_guests.specs.Text.{Text}
 use Rattle.model_guests.specs.World.{Guest, World}
 use Rattle.model_guests.specs.WorldNow.{WorldNow}
 use Rattle.model_handoff.specs.AfterSetUp.{world_at_first}
+use Rattle.model_handoff.specs.Changes.{MachineNow, BeginsIn}
 use Rattle.host_bridge.specs.HostState.{HostState}
 use Rattle.window_packing.specs.Readies.{ReadyBoard, board_below}
 use Rattle.board_file.specs.declared.fault.BoardFault.{BoardFault}
 use Rattle.board_file.specs.declared.fault.BoardFault.TheVariants as file
 use Rattle.board_file.specs.Faults as board_file
 use Rattle.board_file.specs.Meaning.{world_in, document_meaning}
-use Rattle.bus_scan.specs.declared.fault.Fault.TheVariants as set_up
 use Rattle.monitor.specs.Beginnings.{world_of}
 use Rattle.session.specs.declared.opening.OpenFault.{OpenFault}
 use Rattle.session.specs.declared.opening.OpenFault.TheVariants.{File, SetUp}
@@ -73,10 +73,14 @@ not_both m w n good bad = absurd (let wrong : Ok w ≡ Err n = sym good ∙ bad 
 declared : (bytes : Text) (w : World) (n : ℕ) → Declares bytes w → Refuses bytes n → ⊥
 declared bytes w n d r = not_both (document_meaning (parse_document bytes)) w n d.meaning (r.meaning d.is_text)
 
-pub first_of : (bytes : Text) (w : World) (m : WorldNow) → Declares bytes w → IsOpened bytes m → IsAtFirst w m
+first_of : (bytes : Text) (w : World) (m : WorldNow) → Declares bytes w → IsOpened bytes m → IsAtFirst w m
 first_of bytes w m d opened =
     subst (λ (v : World). IsAtFirst v m) (same_world bytes opened.world w opened.set_up.declared d)
     (record { fits = opened.set_up.fits; lawful = opened.lawful; begins = opened.begins })
+
+pub made_of : (bytes : Text) (w : World) → Declares bytes w → (r : Result MachineNow OpenFault) → IfOk r (BeginsIn (IsOpened bytes)) → IfOk r (BeginsIn (IsAtFirst w))
+made_of bytes w d (Ok m) opened = record { world = first_of bytes w m.world d opened.world; counts = opened.counts }
+made_of bytes w d (Err f) opened = tt
 
 breaks : (bytes : Text) (w : World) (n : ℕ) → Declares bytes w → Breaks bytes n → BreaksRule w n
 breaks bytes w n d (v, other, broken) = subst (λ (x : World). BreaksRule x n) (same_world bytes v w other d) broken

@@ -1,3 +1,4 @@
 pub mod Declared
 pub mod Handed
 pub mod Refusals
+pub mod Stages

@@ -4,9 +4,11 @@
 --     board_in x, machine_in x      the board, where firmware drives it, and the guests, where they have it
 --     IsDriven x, IsGiven x      which of the two it is
 --     asks_audit, asks_guests      what a line asks for
-use Rattle.std.specs.Prelude.{Bool, true, false, [], Option, None, Some, IsSome, ⊤}
+--     asks_for_more x line      it asks for an audit or for guests, while firmware drives the board
+use Rattle.std.specs.Prelude.{◌||◌, Bool, true, false, [], Option, None, Some, IsSome, ⊤}
 use Rattle.model_handoff.specs.Changes.{MachineNow}
-use Rattle.model_lines.specs.Sessions.{DrivenNow, SessionNow, driven, given}
+use Rattle.model_guests.specs.Text.{Text}
+use Rattle.model_lines.specs.Sessions.{DrivenNow, SessionNow, driven, given, is_audit, is_handover}
 use Rattle.session.specs.declared.asking.Asked.{Asked}
 use Rattle.session.specs.declared.asking.Asked.TheVariants.{Access, Audit, Handover}
 use Rattle.session.specs.declared.stage.Stage.{Stage}
@@ -37,6 +39,11 @@ IsDriven x = IsSome (board_in x)
 
 abbrev pub IsGiven : SessionNow → Type 0
 IsGiven x = IsSome (machine_in x)
+
+-- all other lines take no memory
+abbrev pub asks_for_more : SessionNow → Text → Bool
+asks_for_more (driven b) line = is_audit line || is_handover line
+asks_for_more (given m) line = false
 
 abbrev pub asks_audit : Asked → Bool
 asks_audit Access = false

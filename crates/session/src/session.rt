@@ -1,6 +1,6 @@
 //! A session over a board.
 ghost use Rattle.std.specs.Prelude.{◌≡◌, ◌≢◌, ◌++◌, [], ⊤, length, option_map, string_bytes, is_some};
-ghost use Rattle.std.specs.Prelude.{IfOk, IfErr, IfSome, OnOk, OnErr};
+ghost use Rattle.std.specs.Prelude.{Ok, None, IsOk, IfOk, IfErr, IfSome, OnOk, OnErr, IsFalse};
 ghost use Rattle.std.specs.Borrow.{sem};
 ghost use Rattle.std.specs.Option.{option_copied_mut};
 ghost use Rattle.model_guests.specs.Text.{Text};
@@ -13,16 +13,17 @@ ghost use Rattle.line_runs.specs.Pieces.{IsBefore, with_more};
 ghost use Rattle.board_file.specs.declared.fault.BoardFault.TheVariants.{Memory};
 ghost use Rattle.board_file.specs.Faults.{number_of as file_number};
 ghost use Rattle.session.specs.Files.{Declares, Refuses};
-ghost use Rattle.session.specs.Stages.{board_in, machine_in, IsDriven, IsGiven};
+ghost use Rattle.session.specs.Boards.{IsHandedOverAs, IsRefusalOf};
+ghost use Rattle.session.specs.Stages.{board_in, machine_in, asks_for_more, IsDriven, IsGiven};
 
 use crate::asking::{Asked, asked_by};
 use crate::audit::Audit;
 use crate::board::Board;
-use crate::stage::{Stage, hand_over};
+use crate::stage::{Stage, answer_handover, hand_over};
 use board_file::BoardFault;
 use line_runs::Answers;
 use lines::LineText;
-use monitor::Monitor;
+use monitor::{HandoverFault, Monitor};
 use std::alloc::{AllocError, Global};
 use std::marker::Model;
 
@@ -114,9 +115,10 @@ impl Session {
         ensures kept { IfErr result (λ x. x ≡ self) }
         ensures given { IfErr result IsGiven }
     {
-        match self.stage {
+        let Session { alloc, stage } = self;
+        match stage {
             Stage::Driven(board) => Ok(board),
-            Stage::Given(monitor) => Err(Session::of(self.alloc, monitor)),
+            Stage::Given(monitor) => Err(Session::of(alloc, monitor)),
             Stage::Between => unreachable!(),
         }
     }
@@ -127,11 +129,27 @@ impl Session {
         ensures kept { IfErr result (λ x. x ≡ self) }
         ensures driven { IfErr result IsDriven }
     {
-        match self.stage {
-            Stage::Driven(board) => Err(Session::over(self.alloc, board)),
+        let Session { alloc, stage } = self;
+        match stage {
+            Stage::Driven(board) => Err(Session::over(alloc, board)),
             Stage::Given(monitor) => Ok(monitor),
             Stage::Between => unreachable!(),
         }
+    }
+
+    /// Hands the board to its guests as it stands, whoever set it up, as [`Board::hand_over`] does; where they have
+    /// it, nothing changes. Refused are a problem that the audit tells (207), a closed region of a given function
+    /// (206), and lack of memory (299): then the board stays as it was.
+    pub fn hand_over(&mut self, alloc: Global) -> Result<(), HandoverFault>
+        ensures given { OnOk result (IfSome (board_in self.old) (λ b. IsHandedOverAs b self.new)) }
+        ensures stays { IfSome (machine_in self.old) (λ _. IsOk result × (self.new ≡ self.old)) }
+        ensures kept { OnErr result (self.new ≡ self.old) }
+        ensures refused { IfErr result (λ f. IfSome (board_in self.old) (λ b. IsRefusalOf b f)) }
+    {
+        if !self.is_driven() {
+            return Ok(());
+        }
+        hand_over(alloc, &mut self.stage)
     }
 
     /// All that is wrong in the registers of the board as they stand, whoever wrote them. Nothing changes, also
@@ -164,8 +182,11 @@ impl Session {
             with_more text.new.items (option_map string_bytes more) ≡ session_output self.old (before ++ line.now)) }
         ensures after { OnOk result ((before : Text) → IsBefore long before →
             self.new ≡ after_session_line self.old (before ++ line.now)) }
-        ensures more { IfOk result (λ more. IfSome more (λ _. self.new ≡ self.old)) }
+        ensures more { IfOk result (λ more.
+            IfSome more (λ _. (self.new ≡ self.old) × (text.new ≡ text.old))) }
         ensures kept { OnErr result ((self.new ≡ self.old) × (text.new ≡ text.old)) }
+        ensures plain { (before : Text) → IsBefore long before →
+            IsFalse (asks_for_more self.old (before ++ line.now)) → result ≡ Ok None }
     {
         match &mut self.stage {
             Stage::Given(monitor) => {
@@ -181,7 +202,7 @@ impl Session {
                     let told = board.audit(self.alloc)?;
                     Ok(Some(told.text))
                 }
-                Asked::Handover => hand_over(self.alloc, &mut self.stage, text),
+                Asked::Handover => answer_handover(self.alloc, &mut self.stage, text),
             },
             Stage::Between => unreachable!(),
         }
@@ -189,8 +210,8 @@ impl Session {
 
     /// Runs a line, which is given without its line feed, and writes what the line writes into an empty text:
     /// nothing, or one line with its line feed. What is longer is given behind it, and then the session is as it
-    /// was: it is the text of an audit, or of a handover that is refused. Where memory is out, no event runs and
-    /// nothing is written.
+    /// was: it is the text of an audit, or of a handover that is refused, and no other line takes memory. Where
+    /// memory is out, no event runs and nothing is written.
     pub fn run_line(
         &mut self,
         line: &[u8],
@@ -200,8 +221,10 @@ impl Session {
         ensures text { IfOk result (λ more.
             with_more text.new.items (option_map string_bytes more) ≡ session_output self.old line.now) }
         ensures after { OnOk result (self.new ≡ after_session_line self.old line.now) }
-        ensures more { IfOk result (λ more. IfSome more (λ _. self.new ≡ self.old)) }
+        ensures more { IfOk result (λ more.
+            IfSome more (λ _. (self.new ≡ self.old) × (text.new ≡ text.old))) }
         ensures kept { OnErr result ((self.new ≡ self.old) × (text.new ≡ text.old)) }
+        ensures plain { IsFalse (asks_for_more self.old line.now) → result ≡ Ok None }
     {
         self.answer_line(line, false, text)
     }

@@ -1,15 +1,17 @@
 //! How far a session came.
-ghost use Rattle.std.specs.Prelude.{◌≡◌, ◌++◌, [], option_map, string_bytes, IfOk, OnOk, OnErr, IfSome, IsTrue};
+ghost use Rattle.std.specs.Prelude.{◌≡◌, ◌++◌, [], option_map, string_bytes, IsTrue};
+ghost use Rattle.std.specs.Prelude.{IfOk, IfErr, OnOk, OnErr, IfSome};
 ghost use Rattle.model_guests.specs.Text.{Text};
 ghost use Rattle.model_lines.specs.Sessions.{is_handover, session_output, after_session_line};
 ghost use Rattle.line_runs.specs.Pieces.{with_more};
-ghost use Rattle.session.specs.Stages.{session_now, IsAtLine, IsDriven};
+ghost use Rattle.session.specs.Boards.{IsHandedOverAs, IsRefusalOf};
+ghost use Rattle.session.specs.Stages.{session_now, board_in, IsAtLine, IsDriven};
 
 use crate::board::Board;
 use crate::telling::handover_refusal;
 use accesses::Reply;
 use lines::{LineText, push_named};
-use monitor::{Monitor, Refused};
+use monitor::{HandoverFault, Monitor, Refused};
 use std::alloc::{AllocError, Global};
 use std::mem;
 
@@ -24,8 +26,34 @@ pub(crate) enum Stage {
     Between,
 }
 
-/// Hands the board to its guests, and writes that it did; or tells why it doesn't, and leaves it as it was.
-pub(crate) fn hand_over(
+/// Hands the board to its guests, or tells why it doesn't, and leaves it as it was.
+pub(crate) fn hand_over(alloc: Global, stage: &mut Stage) -> Result<(), HandoverFault>
+    requires driven { IsDriven (session_now stage.old) }
+    requires at_line { IsAtLine stage.old }
+    ensures given { OnOk result (IfSome (board_in (session_now stage.old)) (λ b.
+        IsHandedOverAs b (session_now stage.new))) }
+    ensures kept { OnErr result (stage.new ≡ stage.old) }
+    ensures refused { IfErr result (λ f. IfSome (board_in (session_now stage.old)) (λ b. IsRefusalOf b f)) }
+    ensures at_line { IsAtLine stage.new }
+{
+    let Stage::Driven(board) = mem::replace(stage, Stage::Between) else {
+        unreachable!()
+    };
+    match board.hand_over(alloc) {
+        Ok(monitor) => {
+            *stage = Stage::Given(monitor);
+            Ok(())
+        }
+        Err(refused) => {
+            let Refused { board, fault } = refused;
+            *stage = Stage::Driven(board);
+            Err(fault)
+        }
+    }
+}
+
+/// Hands the board to its guests, and writes that it did; or tells why it doesn't.
+pub(crate) fn answer_handover(
     alloc: Global,
     stage: &mut Stage,
     text: &mut LineText,
@@ -38,22 +66,16 @@ pub(crate) fn hand_over(
     ensures after { OnOk result ((line : Text) → IsTrue (is_handover line) →
         session_now stage.new ≡ after_session_line (session_now stage.old) line) }
     ensures more { IfOk result (λ more.
-        IfSome more (λ _. session_now stage.new ≡ session_now stage.old)) }
+        IfSome more (λ _. (session_now stage.new ≡ session_now stage.old) × (text.new ≡ text.old))) }
     ensures kept { OnErr result ((stage.new ≡ stage.old) × (text.new ≡ text.old)) }
     ensures at_line { IsAtLine stage.new }
 {
-    let Stage::Driven(board) = mem::replace(stage, Stage::Between) else {
-        unreachable!()
-    };
-    match board.hand_over(alloc) {
-        Ok(monitor) => {
-            *stage = Stage::Given(monitor);
+    match hand_over(alloc, stage) {
+        Ok(()) => {
             push_named(text, b"host", Reply::Done);
             Ok(None)
         }
-        Err(refused) => {
-            let Refused { board, fault } = refused;
-            *stage = Stage::Driven(board);
+        Err(fault) => {
             let told = handover_refusal(alloc, &fault)?;
             Ok(Some(told))
         }

@@ -1,4 +1,4 @@
-use Rattle.std.proofs.Common.{◌≡◌, ◌*◌, ◌/◌, ap, ap₂, sym, ◌∙◌}
+use Rattle.std.proofs.Common.{◌*◌, ◌/◌, ap, ap₂, sym, ◌∙◌}
 use Rattle.std.specs.Prelude.{List}
 use Rattle.model_registers.specs.ByteEnables.{lanes, enables_of, into_lanes}
 use Rattle.model_board.specs.State.{BoardFunction}

@@ -1,0 +1,52 @@
+-- Where a session hands its board over, and where it doesn't.
+--     handed_over_as      the session that a machine makes, which guests have
+--     IsAnswered, answered      what the line of a handover that is done writes and leaves
+use Rattle.std.proofs.Common.{◌≡◌, ℕ, Bool, false, true, cond, None, List, refl, sym, ap, ap₂, ◌∙◌, map}
+use Rattle.std.specs.Prelude.{IsTrue, IfSome}
+use Rattle.model_guests.specs.Text.{Text}
+use Rattle.model_guests.specs.Guests.{GuestNow}
+use Rattle.model_guests.specs.WorldNow.{WorldNow}
+use Rattle.model_audit.specs.AuditText.{audit}
+use Rattle.model_handoff.specs.Changes.{MachineNow, BeginsIn}
+use Rattle.model_handoff.specs.Regions.{first_fault}
+use Rattle.model_handoff.proofs.Served.{fault_decides}
+use Rattle.model_lines.specs.FirmwareLines.{line_output}
+use Rattle.model_lines.specs.GivenLaws.{IsGiven}
+use Rattle.model_lines.specs.Sessions.{DrivenNow, SessionNow, driven, given, is_handover, handed_over, after_handover, handover_output}
+use Rattle.model_lines.specs.Sessions.{after_session_line, session_output}
+use Rattle.model_lines.proofs.SessionLines.{no_audit, handover_leaves}
+use Rattle.session.specs.Boards.{IsHandedOverAs}
+use Rattle.session.specs.Stages.{board_in, IsDriven}
+
+machine_is : (m : MachineNow) (w : WorldNow) → m.world ≡ w → m.counts ≡ map (λ (g : GuestNow). 0) m.world.guests
+    → m ≡ record { world = w; counts = map (λ (g : GuestNow). 0) w.guests }
+machine_is m w is counts =
+    ap₂ (λ (v : WorldNow) (ns : List ℕ). let n : MachineNow = record { world = v; counts = ns } in n) is
+    (counts ∙ ap (λ (v : WorldNow). map (λ (g : GuestNow). 0) v.guests) is)
+
+pub handed_over_as : (b : DrivenNow) (m : MachineNow) → BeginsIn (IsGiven b.world b.state) m → IsHandedOverAs b (given m)
+handed_over_as b m begins =
+    let is = begins.world in
+    record {
+      lawful = record { lawful = is.lawful; board = is.board; handoff = is.handoff; can = is.can; begins = refl };
+      now = ap given (machine_is m (handed_over b).world is.begins begins.counts);
+    }
+
+-- ---- the line
+
+pub record IsAnswered (x new : SessionNow) (line : Text) : Type 0 where
+  pub writes : handover_output None ≡ session_output x line
+  pub leaves : new ≡ after_session_line x line
+
+handover_writes : (b : DrivenNow) (line : Text) → IsTrue (is_handover line) → session_output (driven b) line ≡ handover_output (first_fault b.world b.state)
+handover_writes b line asks =
+    ap₂ (λ (t u : Bool). cond t (audit b.state.functions) (cond u (handover_output (first_fault b.world b.state)) (line_output b.state line))) (no_audit line asks) asks
+
+pub answered : (x new : SessionNow) → IsDriven x → IfSome (board_in x) (λ b. IsHandedOverAs b new) → (line : Text) → IsTrue (is_handover line) → IsAnswered x new line
+answered (driven b) new is handed line asks =
+    let none : first_fault b.world b.state ≡ None = (fault_decides b.world b.state).1 handed.lawful.can in
+    record {
+      writes = sym (handover_writes b line asks ∙ ap handover_output none);
+      leaves = handed.now ∙ sym (handover_leaves b line asks ∙ ap (after_handover b) none);
+    }
+answered (given m) new is handed line asks = absurd (let wrong : false ≡ true = is in cc)
