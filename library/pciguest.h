@@ -39,9 +39,9 @@ struct pciguest {
 
 #define PCIGUEST_INIT {false, NULL}
 
-/* What a program holds of a board that its own firmware drives, from reset on. It begins as
- * `struct pciguest_board board = PCIGUEST_BOARD_INIT;`, or with all bytes 0, and then holds none. What is said of the
- * struct above holds for it too. */
+/* What a program holds of a board that its own firmware drives, from reset on, and, once a line handed it to its guests,
+ * of the machine that they are over it. It begins as `struct pciguest_board board = PCIGUEST_BOARD_INIT;`, or with all
+ * bytes 0, and then holds none. What is said of the struct above holds for it too. */
 struct pciguest_board {
     bool live;
     void *at;
@@ -549,7 +549,8 @@ PCIGUEST_CALL uint32_t pciguest_board_new(struct pciguest_board *board, const vo
     return pciguest_raw_board_new(board, file ? (const uint8_t *)file : (const uint8_t *)"", length);
 }
 
-/* Frees the board. The struct then holds none, and may be used for a new one. Where it held none, nothing happens. */
+/* Frees the board, or the machine that a line made of it. The struct then holds none, and may be used for a new one. Where
+ * it held none, nothing happens. */
 PCIGUEST_CALL void pciguest_board_free(struct pciguest_board *board)
 {
     if (board)
@@ -580,9 +581,15 @@ PCIGUEST_CALL uint32_t pciguest_board_write(struct pciguest_board *board, uint32
     return pciguest_raw_board_write(board, space, bus, device, function, place, width, value);
 }
 
-/* Runs one line of firmware, as `pciguest firmware` does, with its line feed or without. `host audit` and `host guests`
- * are bad lines here: pciguest_board_audit and pciguest_board_guests do the same. The reply and 902 are as for
- * pciguest_run_line. */
+/* Runs one line of a session, as `pciguest firmware` does, with its line feed or without: a line of firmware; `host audit`,
+ * whose reply is the text of pciguest_board_audit; `host guests`, which gives the board to the guests of its file or says
+ * why it doesn't, as pciguest_board_guests does; and once it is given, a line of a script. The struct then holds the
+ * machine: pciguest_board_guests moves it to a struct of its own, and the other calls of a board answer 901. A line that is
+ * refused is answered by its reply, and the call by 0.
+ * The reply is one line with its line feed, or nothing, but for an audit and a board that isn't given: these may have more
+ * lines. It has no 0 at its end, and `written` tells its length.
+ * 902: there is less room than PCIGUEST_REPLY, or than a reply of more lines needs, whose length alone is told; nothing
+ * happened. 299: out of memory for one of these two lines, and nothing happened; no other line takes memory. */
 PCIGUEST_CALL uint32_t pciguest_board_run_line(struct pciguest_board *board, const char *line, size_t length,
                                                char *reply, size_t room, size_t *written)
 {
@@ -621,8 +628,9 @@ PCIGUEST_CALL uint32_t pciguest_set_up(struct pciguest_board *board, struct pcig
 
 /* Gives the functions of a board to the guests of its file as the board stands, whoever set it up: where its audit tells
  * no problem and each region of their functions is open, the machine is then over this board. Each function that is given
- * is reset first, but for what guests have copies of, and the board's CONFIG_ADDRESS is cleared. The struct of the board
- * then holds none. Where it is refused, both structs are as they were.
+ * is reset first, but for what guests have copies of, and the board's CONFIG_ADDRESS is cleared. Where a line gave the
+ * board to its guests before, the machine is the one that they are, as it is now. The struct of the board then holds none.
+ * Where it is refused, both structs are as they were.
  * 901: there is no board. 903: the struct of the machine holds one already. 207: the audit tells a problem. 206: a region
  * of a function that is to be given is closed. 299: out of memory. 901, 903 and 207 come in this order before 206;
  * pciguest_board_audit tells the problems of 207. */

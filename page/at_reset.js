@@ -49,14 +49,16 @@ export class AtReset {
   tell(line) { return new TextDecoder().decode(this.driven.answer(new TextEncoder().encode(line))).trimEnd(); }
 
   // Looks at all registers, and tells which problems came and which went. A cycle by number leaves 0 in CONFIG_ADDRESS, so what
-  // stood there is written back.
+  // stood there is written back; once the board is given to its guests, the host's reads change nothing.
   look() {
     const latch = this.driven.number('host ir 0xcf8 4'), before = this.problems;
-    this.problems = read_audit(new TextDecoder().decode(this.driven.audit()));
+    const told = this.driven.audit();
+    this.given = told === null;
+    this.problems = this.given ? [] : read_audit(new TextDecoder().decode(told));
     const lost = new Map(this.problems.filter(one => one.number !== null).map(one => [one.of[0].path, one]));
     const buses = new Map([['', 0]]);
     this.functions = this.declared.map(one => this.function_now(one, lost.get(one.path), buses));
-    if (latch !== 0n) this.tell(`host iw 0xcf8 4 ${hex(latch)}`);
+    if (latch !== 0n && !this.given) this.tell(`host iw 0xcf8 4 ${hex(latch)}`);
     for (const one of this.problems) one.space ??= this.space_of(one);
     const [old, now] = [before, this.problems].map(those => new Set(those.map(one => one.text)));
     return { came: [...now].filter(text => !old.has(text)), gone: [...old].filter(text => !now.has(text)) };

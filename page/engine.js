@@ -1,6 +1,7 @@
 // The library's module, called from JavaScript: addresses and lengths are BigInts, since its memory has 64-bit addresses.
 
 const HANDLE = 16;
+const NONE_THERE = 901;
 const TOO_SMALL = 902;
 const LONGEST_REPLY = 48;
 const LONGEST_LINE = 256;
@@ -86,11 +87,19 @@ class Held {
   }
 
   answer_in(text, line) {
-    const { engine, handle, out, written } = this;
+    const { engine, out } = this;
     engine.bytes(text, line.length).set(line);
-    this.run_line(handle, text, BigInt(line.length), out, BigInt(LONGEST_REPLY), written);
-    return engine.bytes(out, engine.word(written)).slice();
+    const number = this.run_in(text, line.length, out, LONGEST_REPLY);
+    if (number !== TOO_SMALL) return this.written_in(out, number);
+    // an audit, or why a board is not given: nothing has happened, and the room that it needs is told
+    const size = engine.word(this.written);
+    return engine.with_rooms([size], longer => this.written_in(longer, this.run_in(text, line.length, longer, size)));
   }
+
+  run_in(text, length, out, size) { return this.run_line(this.handle, text, BigInt(length), out, BigInt(size), this.written); }
+
+  // What a line wrote; nothing where it was refused for want of memory.
+  written_in(out, number) { return this.engine.bytes(out, number === 0 ? this.engine.word(this.written) : 0).slice(); }
 
   // The number that a line reads.
   number(line) {
@@ -129,17 +138,19 @@ class Machine extends Held {
   }
 }
 
+// A board that firmware drives, and once a line hands it over, that of its guests.
 class Driven extends Held {
   run_line(...words) { return this.engine.exports.pciguest_raw_board_run_line(...words); }
 
   free(handle) { this.engine.exports.pciguest_raw_board_free(handle); }
 
-  // What is wrong in the registers as they stand: a line for each problem, and one that counts them.
+  // What is wrong in the registers as they stand: a line for each problem, and one that counts them. Null once the board is
+  // given to its guests: it was in order then, and stays so.
   audit() {
     const { exports } = this.engine;
     const { number, text } = this.engine.told((...rooms) => exports.pciguest_raw_board_audit(this.handle, ...rooms, this.written));
-    if (number !== 0) throw new Error(`the audit is refused: ${number}`);
-    return text;
+    if (number !== 0 && number !== NONE_THERE) throw new Error(`the audit is refused: ${number}`);
+    return number === 0 ? text : null;
   }
 }
 

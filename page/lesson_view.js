@@ -27,6 +27,7 @@ export class LessonView {
     Object.assign(this, { parts, tasks, acts });
     parts.again.addEventListener('click', acts.again);
     parts.leave.addEventListener('click', acts.leave);
+    parts.to_line.addEventListener('click', () => parts.line.focus());
     parts.next.addEventListener('click', () => acts.begin(Number(parts.next.dataset.nth), parts.next.dataset.part ? Number(parts.next.dataset.part) : undefined));
   }
 

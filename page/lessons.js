@@ -72,6 +72,9 @@ export class Lessons {
     this.view.draw_goal(this, rows, done);
   }
 
+  // The lines that stand before the task that one is at.
+  lines() { return this.task === null ? '' : (this.task.parts?.[this.part] ?? this.task).lines.trimEnd(); }
+
   // What is kept with the board and the script: the name of a lesson and its part, or a task of a link.
   kept() {
     if (this.task === null) return undefined;

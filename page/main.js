@@ -42,7 +42,8 @@ const script_console = new Console(part, box, { machine: answers, whose: () => (
 const lacks = () => (firmware.now === null ? ['the board is refused'] : lacks_of(firmware.driven, firmware.now, apertures));
 const lessons = new Lessons(part, TASKS, { open: open_task, held: answers, guests, left: set_up, lacks });
 const held = () => ({ board: part.board.value, script: script_console.script(), as, task: lessons.kept() });
-new TaskForm(part, () => ({ ...held(), guests: guests() }));
+const all_lines = () => [lessons.lines(), script_console.script()].filter(one => one !== '').join('\n');
+new TaskForm(part, () => ({ ...held(), script: all_lines(), guests: guests() }));
 // The width up to which guests' registers begin folded.
 const NARROW = 640;
 let following = false, unseen = false;

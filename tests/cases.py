@@ -131,12 +131,14 @@ def board_cases(said, lines, sections):
 
 
 def session():
-    """The board that firmware numbers by hand and hands over to guests."""
+    """The board that firmware numbers by hand and hands over to guests; and an audit of it as guests have it."""
     folder = TOP / "examples/session"
     script, board = (folder / "session.script").read_bytes(), (folder / "board.toml").read_bytes()
     files = {"session/board.toml": board}
     wanted = lines_of(folder / "session.stdout")
     yield Case("firmware examples/session/board.toml < session.script", ["firmware", *files], script, wanted, files)
+    audited = [*wanted, "audit: ok"]
+    yield Case("audit examples/session/board.toml < session.script", ["audit", *files], script, audited, files)
 
 
 def audits():

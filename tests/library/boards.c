@@ -192,6 +192,39 @@ static void audits(void)
     pciguest_board_free(&board);
 }
 
+/* A line asks for the text of an audit; where that has too little room, or no memory, nothing happens. */
+static void audit_lines(void)
+{
+    struct pciguest_board board = PCIGUEST_BOARD_INIT;
+    char text[256] = {0}, wanted[256] = {0};
+    size_t needed = 0, written = 7, count = 0;
+    uint32_t fault = 299;
+    long kept;
+
+    IS(pciguest_board_new(&board, file, length), 0);
+    IS(pciguest_board_audit(&board, wanted, sizeof wanted, &needed, &count), 0);
+    memset(text, '?', sizeof text);
+    IS(pciguest_board_run_line(&board, "host audit", 10, text, PCIGUEST_REPLY - 1, &written), 902);
+    IS(written, 7);
+    IS(pciguest_board_run_line(&board, "host audit", 10, text, PCIGUEST_REPLY, &written), 902);
+    IS(written, needed);
+    IS(pciguest_board_run_line(&board, "host audit\n", 11, text, needed - 1, &written), 902);
+    IS(text[0], '?');
+    kept = blocks;
+    for (long left = 1; fault == 299; left++) {
+        written = 7;
+        calls_left = left;
+        fault = pciguest_board_run_line(&board, "host audit\n", 11, text, needed, &written);
+        calls_left = -1;
+        IS(fault == 0 || (fault == 299 && written == 7 && text[0] == '?'), 1);
+        IS((uint64_t)blocks, (uint64_t)kept);
+    }
+    IS(written, needed);
+    IS(memcmp(text, wanted, needed), 0);
+    IS(text[needed], '?');
+    pciguest_board_free(&board);
+}
+
 /* A board that can't be set up is a board all the same. */
 static void unfit(void)
 {
@@ -318,6 +351,7 @@ int main(int argc, char **argv)
     pciguest_board_free(&board);
     unfit();
     audits();
+    audit_lines();
     out_of_memory();
     IS(pciguest_board_new(&board, file, length), 0);
     set_up_out_of_memory(&board);

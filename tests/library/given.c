@@ -100,6 +100,84 @@ static void given(struct pciguest_board *board, struct pciguest *machine)
     IS(pciguest_board_read(board, PCIGUEST_IO, 0, 0, 0, 0, 1, &value), 901);
 }
 
+static uint32_t line(struct pciguest_board *board, const char *text, char *reply, size_t room, size_t *written)
+{
+    return pciguest_board_run_line(board, text, strlen(text), reply, room, written);
+}
+
+/* A line that is refused leaves the board as it is, also where its reply has too little room, and each allocation fails in
+ * turn, until the board is given. */
+static void handed_over_by_a_line(struct pciguest_board *board)
+{
+    static const char closed[] = "closed: 2.0/1.0 bar0\nhost: refused 206 closed region\n";
+    char reply[128] = {0};
+    size_t written = 7;
+    uint32_t fault = 299;
+    long count = 0, before;
+
+    IS(pciguest_board_new(board, file, length), 0);
+    set_up_by_hand(board);
+    IS(line(board, "host guests", reply, PCIGUEST_REPLY - 1, &written), 902);
+    IS(written, 7);
+    IS(line(board, "host guests", reply, PCIGUEST_REPLY, &written), 902);
+    IS(written, strlen(closed));
+    IS(reply[0], 0);
+    IS(line(board, "host guests\n", reply, strlen(closed), &written), 0);
+    IS(written, strlen(closed));
+    IS(memcmp(reply, closed, sizeof closed), 0);
+    IS(pciguest_board_write(board, PCIGUEST_CONFIG, 1, 1, 0, 4, 2, 2), 0);
+    before = blocks;
+    for (; fault != 0; count++) {
+        IS(config_read(board, 1, 1, 0x10), 0xd200000c);
+        IS((uint64_t)blocks, (uint64_t)before);
+        calls_left = count + 1;
+        fault = line(board, "host guests", reply, sizeof reply, &written);
+        calls_left = -1;
+        if (fault != 0)
+            IS(fault, 299);
+    }
+    IS(count > 20, 1);
+    IS(written, 9);
+    IS(memcmp(reply, "host: ok\n", 9), 0);
+}
+
+/* Lines are a script's then, and firmware's calls find no board; its machine moves to a struct of its own as it is, and no
+ * memory is taken for it. */
+static void given_by_a_line(void)
+{
+    struct pciguest_board board = PCIGUEST_BOARD_INIT;
+    struct pciguest machine = PCIGUEST_INIT, other = PCIGUEST_INIT;
+    char reply[PCIGUEST_REPLY] = {0};
+    size_t written = 7, count = 8;
+    uint32_t value = 9;
+
+    handed_over_by_a_line(&board);
+    IS(line(&board, "host audit", reply, sizeof reply, &written), 0);
+    IS(memcmp(reply, "host: refused 401 bad line\n", written), 0);
+    IS(line(&board, "a cw 1 4 2 2", reply, sizeof reply, &written), 0);
+    IS(memcmp(reply, "a: ok\n", written), 0);
+    IS(pciguest_board_read(&board, PCIGUEST_IO, 0, 0, 0, 0, 1, &value), 901);
+    IS(pciguest_board_write(&board, PCIGUEST_IO, 0, 0, 0, 0, 1, 0), 901);
+    IS(pciguest_board_audit(&board, reply, sizeof reply, &written, &count), 901);
+    IS(pciguest_set_up(&board, &machine), 901);
+    IS(pciguest_board_new(&board, file, length), 903);
+    IS(pciguest_new(&other, file, length), 0);
+    IS(pciguest_board_guests(&board, &other), 903);
+    pciguest_free(&other);
+    calls_left = 1;
+    IS(pciguest_board_guests(&board, &machine), 0);
+    calls_left = -1;
+    IS(board.live, 0);
+    IS(value, 9);
+    IS(count, 8);
+    IS(pciguest_read(&machine, 0, PCIGUEST_CONFIG, 1, 4, 2, &value), 0);
+    IS(value, 2);
+    pciguest_free(&machine);
+    handed_over_by_a_line(&board);
+    pciguest_board_free(&board);
+    IS(board.live, 0);
+}
+
 int main(int argc, char **argv)
 {
     struct pciguest_board board = PCIGUEST_BOARD_INIT;
@@ -123,6 +201,7 @@ int main(int argc, char **argv)
     pciguest_free(&machine);
     pciguest_free(&other);
     pciguest_board_free(&board);
+    given_by_a_line();
     IS((uint64_t)blocks, 0);
     return wrong;
 }

@@ -1,7 +1,6 @@
 -- The numbers of the program's faults, of which C is told.
---     is_small      those of a file and its board are at most 299
+--     is_small      those of both are at most 299
 --     refused, broken      what is said of a refusal, by its number
---     accepted      where the file isn't refused, the number isn't one of its checks
 --     known      the fault of which a check tells is none of memory
 --     out_of_memory      one of memory is 199 or 299
 use Rattle.std.proofs.Common.{◌≡◌, ◌≤◌, ◌<◌, ◌⊎◌, ℕ, Option, Some, None, refl, ap, inl, inr, lit≤, lit<, arith}
@@ -19,14 +18,7 @@ use Rattle.simulation.specs.declared.fault.Fault.{Fault}
 use Rattle.simulation.specs.declared.fault.Fault.TheVariants.{File, SetUp}
 use Rattle.simulation.specs.Faults.{number_of, IsOfBoard, IsOutOfMemory, OnFile, OnSetUp}
 use Rattle.simulation.specs.Checking.{IsCheckText}
-
-file_is_small : (b : BoardFault) → (101 ≤ board_file.number_of b) × (board_file.number_of b ≤ 199)
-file_is_small file.NotToml = (lit≤ tt, lit≤ tt)
-file_is_small _ = (lit≤ tt, lit≤ tt)
-
-set_up_is_large : (s : SetUpFault) → (201 ≤ bus_scan.number_of s) × (bus_scan.number_of s ≤ 299)
-set_up_is_large set_up.Buses = (lit≤ tt, lit≤ tt)
-set_up_is_large _ = (lit≤ tt, lit≤ tt)
+use Rattle.pciguest_c.proofs.OpenFaults.{file_is_small, set_up_is_large}
 
 pub is_small : (f : Fault) → IsOfBoard f → (101 ≤ number_of f) × (number_of f ≤ 299)
 is_small (File b) is = let small = file_is_small b in (small.0, omega arith)
@@ -42,15 +34,6 @@ pub broken : (P : ℕ → Type 0) (f : Fault) → IsOfBoard f → OnSetUp P f �
 broken P (File b) is said large small = absurd (let less = file_is_small b in omega arith)
 broken P (SetUp s) is said large small = said (λ memory. let full : bus_scan.number_of s ≡ 299 = ap bus_scan.number_of memory in omega arith)
 broken P _ is said large small = absurd is
-
-accepted_file : (b : BoardFault) → ¬ (b ≢ file.Memory) → 199 ≤ board_file.number_of b
-accepted_file file.Memory known = lit≤ tt
-accepted_file _ known = absurd (known (λ memory. cc))
-
-pub accepted : (f : Fault) → IsOfBoard f → OnFile (λ _. ⊥) f → 199 ≤ number_of f
-accepted (File b) is said = accepted_file b said
-accepted (SetUp s) is said = let large = set_up_is_large s in omega arith
-accepted _ is said = absurd is
 
 known_file : (b : BoardFault) → b ≢ file.Memory → (board_file.number_of b < 299) × (board_file.number_of b ≢ 199)
 known_file file.Memory other = absurd (other refl)

@@ -1,7 +1,8 @@
 mod FunctionRows
 mod FaultNumbers
-mod Blocks
+mod Held
 mod Kept
 mod Moved
+mod OpenFaults
 mod Options
 mod Words

@@ -5,6 +5,7 @@
 --     text_room, text_row t      a text at the front of the bytes that are there for it, the others 0
 --     function_row f      all that is told of a function
 --     function_number f      0 where there is a function, or 902
+--     slot_asked w guest slot      the function in a slot of a guest by its index, or why there is none
 --     found_left old f, row_left old r      what a call leaves where an answer goes: the answer, or what stood there
 use Rattle.std.specs.Prelude.{◌==◌, ◌-◌, ◌++◌, ℕ, List, [], ◌∷◌, map, length, replicate, find, is_some}
 use Rattle.std.specs.Prelude.{Option, Some, None, Result, Ok, Err}
@@ -16,8 +17,10 @@ use Rattle.model_board.specs.Windows.{Window}
 use Rattle.model_board.specs.Routing.{Ranges, regions, windows}
 use Rattle.model_guests.specs.Text.{Text}
 use Rattle.model_guests.specs.PathTexts.{path_text}
+use Rattle.model_guests.specs.WorldNow.{WorldNow, board_state}
 use Rattle.model_handoff.specs.GuestRegions.{is_prefetchable}
-use Rattle.model_handoff.specs.Functions.{FunctionNow, Seat}
+use Rattle.model_handoff.specs.Functions.{FunctionNow, Seat, slot_answer}
+use Rattle.monitor.specs.ByIndex.{name_nth}
 use Rattle.pciguest_c.specs.QueriesTold.{one_if, space_number}
 use Rattle.pciguest_c.specs.declared.function_row.RegionRow.{RegionRow}
 use Rattle.pciguest_c.specs.declared.function_row.WindowRow.{WindowRow}
@@ -86,6 +89,9 @@ function_row f = record {
 abbrev pub function_number : Option FunctionNow → ℕ
 function_number None = 902
 function_number (Some f) = 0
+
+abbrev pub slot_asked : WorldNow → ℕ → ℕ → Result FunctionNow ℕ
+slot_asked w guest slot = slot_answer (board_state w) w.guests (name_nth w guest) slot
 
 abbrev pub found_left : FunctionRow → Option FunctionNow → FunctionRow
 found_left old None = old

@@ -6,4 +6,6 @@ pub mod DevicesTold
 pub mod SeatingsTold
 pub mod QueriesTold
 pub mod FunctionsTold
-pub mod Giving
+pub mod Handles
+pub mod Handovers
+pub mod TextsTold

@@ -1,5 +1,6 @@
 -- What C is told, in the words of guests' definitions.
 --     number_told      the number of a reply: 0, or that of its refusal
+--     index_asked w name      the index of the first guest of a name
 --     index_told i      0 where a guest of a name is there, or 902
 --     value_told old r      what a call leaves where a value goes: what was read, or what stood there
 --     target_told space slot n      where an access goes: 0 configuration space, 1 ports, 2 memory
@@ -7,16 +8,18 @@
 --     host_target_told space at n      the same of a read by the host
 --     part_told n      where a raise goes: a region by its register, or configuration space
 --     reply_asked, after_asked      a guest's event by its index: the reply, and the machine after it
-use Rattle.std.specs.Prelude.{ℕ, ◌==◌, if◌then◌else◌, nat_lt, Option, Some, None}
+use Rattle.std.specs.Prelude.{ℕ, ◌==◌, if◌then◌else◌, nat_lt, Option, Some, None, position}
+use Rattle.std.specs.Str.{bytes_eq}
 use Rattle.model_board.specs.Cycles.{BusAddress}
 use Rattle.model_guests.specs.Accesses.{Target, configuration, port, address, RaisePlace, in_config, in_region}
 use Rattle.model_guests.specs.Accesses.{Event, Reply, answered, done, refused}
 use Rattle.model_guests.specs.Grammar.{HostTarget, host_configuration, host_port, host_address}
 use Rattle.model_guests.specs.Lone.{answer}
+use Rattle.model_guests.specs.Text.{Text}
 use Rattle.model_guests.specs.Guests.{lone_of}
 use Rattle.model_guests.specs.Lines.{guest_event}
 use Rattle.model_guests.specs.Calls.{asks}
-use Rattle.model_guests.specs.WorldNow.{WorldNow}
+use Rattle.model_guests.specs.WorldNow.{WorldNow, names_now}
 use Rattle.model_handoff.specs.Actions.{calls}
 use Rattle.model_handoff.specs.Changes.{MachineNow, after_on_machine}
 use Rattle.monitor.specs.ByIndex.{name_nth}
@@ -25,6 +28,9 @@ abbrev pub number_told : Reply → ℕ
 number_told (answered v w) = 0
 number_told done = 0
 number_told (refused n) = n
+
+abbrev pub index_asked : WorldNow → Text → Option ℕ
+index_asked w name = position (λ n. bytes_eq n name) (names_now w)
 
 abbrev pub index_told : Option ℕ → ℕ
 index_told None = 902

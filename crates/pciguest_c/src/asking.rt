@@ -1,9 +1,8 @@
 //! What is asked of a machine, from what C says of it.
 ghost use Rattle.std.specs.Prelude.{◌≡◌, ◌<◌, ◌≤◌, IfOk, IfErr, length, option_map, position};
 ghost use Rattle.std.specs.Str.{bytes_eq};
-ghost use Rattle.model_guests.specs.WorldNow.{names_now};
 ghost use Rattle.accesses.specs.Accesses.{target_of, part_of};
-ghost use Rattle.pciguest_c.specs.Told.{target_told, part_told};
+ghost use Rattle.pciguest_c.specs.Told.{index_asked, target_told, part_told};
 
 use crate::numbers::ARGUMENT;
 use accesses::{At, Names, Place};
@@ -53,7 +52,7 @@ fn place_among(name: &[u8], names: &Names) -> Option<usize>
 
 /// The index of the first guest of a name.
 pub fn index_named(machine: &Monitor, name: &[u8]) -> Option<usize>
-    ensures { result ≡ position (λ n. bytes_eq n name.now) (names_now machine.now.world) }
+    ensures { result ≡ index_asked machine.now.world name.now }
 {
     place_among(name, machine.names())
 }

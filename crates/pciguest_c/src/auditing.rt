@@ -1,12 +1,14 @@
 //! What C is told of all that is wrong in the registers of a board.
-ghost use Rattle.std.specs.Prelude.{◌≡◌, ◌≢◌, ◌<◌, ◌++◌, ◌⊎◌, IfNone, IfSome, drop, length};
+ghost use Rattle.std.specs.Prelude.{◌≡◌, ◌≢◌, ◌<◌, ◌⊎◌, IfNone, IfSome, length};
 ghost use Rattle.model_audit.specs.AuditText.{audit};
 ghost use Rattle.model_audit.specs.Problems.{problems};
+ghost use Rattle.pciguest_c.specs.Handles.{session_of, board_of};
+ghost use Rattle.pciguest_c.specs.TextsTold.{at_front};
 
-use crate::board_handle::BoardHandle;
+use crate::handle::Handle;
 use crate::numbers::{ARGUMENT, MEMORY};
 use crate::text_calls::tell;
-use driven_board::Audit;
+use session::Audit;
 use std::alloc::Global;
 
 /// Writes what is wrong in the registers of a board as they stand to the front of `out`, and tells how many
@@ -15,24 +17,24 @@ use std::alloc::Global;
 #[unsafe(no_mangle)]
 pub extern "C" fn pciguest_raw_board_audit(
     alloc: Global,
-    handle: &mut BoardHandle,
+    handle: &mut Handle,
     out: &mut [u8],
     needed: &mut usize,
     count: &mut usize,
 ) -> u32
-    ensures none { IfNone handle.old.owner.value (result ≡ 901) }
-    ensures text { IfSome handle.old.owner.value (λ b. result ≡ 0 → let text = audit b.host.state.functions in
-        (out.new ≡ text ++ drop (length text) out.old) × (needed.new ≡ length text)) }
-    ensures count { IfSome handle.old.owner.value (λ b. result ≡ 0 →
-        count.new ≡ length (problems b.host.state.functions)) }
-    ensures room { IfSome handle.old.owner.value (λ b. result ≡ 902 → let text = audit b.host.state.functions in
+    ensures none { IfNone (board_of handle.old) (result ≡ 901) }
+    ensures text { IfSome (board_of handle.old) (λ b. result ≡ 0 → let text = audit b.state.functions in
+        (out.new ≡ at_front text out.old) × (needed.new ≡ length text)) }
+    ensures count { IfSome (board_of handle.old) (λ b. result ≡ 0 →
+        count.new ≡ length (problems b.state.functions)) }
+    ensures room { IfSome (board_of handle.old) (λ b. result ≡ 902 → let text = audit b.state.functions in
         (length out.old < length text) × (needed.new ≡ length text)) }
-    ensures numbers { IfSome handle.old.owner.value (λ _. (result ≡ 0) ⊎ (result ≡ 299) ⊎ (result ≡ 902)) }
-    ensures kept { handle.new.owner.value ≡ handle.old.owner.value }
+    ensures numbers { IfSome (board_of handle.old) (λ _. (result ≡ 0) ⊎ (result ≡ 299) ⊎ (result ≡ 902)) }
+    ensures kept { session_of handle.new ≡ session_of handle.old }
     ensures refused { result ≢ 0 → (out.new ≡ out.old) × (count.new ≡ count.old) }
     ensures untold { result ≢ 0 → result ≢ 902 → needed.new ≡ needed.old }
 {
-    let answer = handle.ask(alloc, |board| match board.audit(alloc) {
+    let answer = handle.ask_board(alloc, |board| match board.audit(alloc) {
         Ok(audit) => Ok(audit),
         Err(_) => Err(MEMORY),
     });

@@ -1,18 +1,16 @@
 //! What C asks of a board as firmware does. Each call answers 0, or the number of a refusal.
-ghost use Rattle.std.specs.Prelude.{◌≡◌, ◌≢◌, ◌<◌, ◌≤◌, ◌++◌, None, Some, IfNone, IfSome, drop, length};
+ghost use Rattle.std.specs.Prelude.{◌≡◌, ◌≢◌, None, Some, IfNone, IfSome};
 ghost use Rattle.model_guests.specs.Accesses.{reads, writes};
 ghost use Rattle.model_guests.specs.Grammar.{HostTarget};
 ghost use Rattle.model_lines.specs.HostAccesses.{HostAccess as Asked, answer};
-ghost use Rattle.model_lines.specs.FirmwareLines.{line_output};
-ghost use Rattle.driven_board.specs.Boards.{after_read, after_write, after_line};
+ghost use Rattle.model_lines.specs.Sessions.{after_board_access};
+ghost use Rattle.pciguest_c.specs.Handles.{session_of, board_of};
 ghost use Rattle.pciguest_c.specs.Told.{at_bus, number_told, value_told, host_target_told};
 
-use crate::board_handle::BoardHandle;
+use crate::handle::Handle;
 use crate::host_calls::host_at;
 use crate::numbers::{ARGUMENT, number_of, put_value};
-use crate::text_calls::put_line;
-use driven_board::HostAccess;
-use lines::LONGEST_REPLY;
+use accesses::HostAccess;
 use std::alloc::Global;
 
 /// Reads 1, 2 or 4 bytes as firmware does, in any state of the registers. Bus, device and function are
@@ -20,7 +18,7 @@ use std::alloc::Global;
 #[unsafe(no_mangle)]
 pub extern "C" fn pciguest_raw_board_read(
     alloc: Global,
-    handle: &mut BoardHandle,
+    handle: &mut Handle,
     space: u32,
     bus: u8,
     device: u8,
@@ -29,21 +27,21 @@ pub extern "C" fn pciguest_raw_board_read(
     width: u32,
     value: &mut u32,
 ) -> u32
-    ensures none { IfNone handle.old.owner.value ((result ≡ 901) × (value.new ≡ value.old)) }
-    ensures place { IfSome handle.old.owner.value (λ _. host_target_told space (at_bus bus device function) place ≡ None →
-        (result ≡ 902) × (value.new ≡ value.old)) }
-    ensures read { IfSome handle.old.owner.value (λ b.
+    ensures none { IfNone (board_of handle.old) (result ≡ 901) }
+    ensures place { IfSome (board_of handle.old) (λ _.
+        host_target_told space (at_bus bus device function) place ≡ None → result ≡ 902) }
+    ensures read { IfSome (board_of handle.old) (λ b.
         (t : HostTarget) → host_target_told space (at_bus bus device function) place ≡ Some t →
-        let a : Asked = record { target = t; width = width; op = reads } in
-        let r = answer b.host.state a in
+        let a : Asked = record { target = t; width = width; op = reads } in let r = answer b.state a in
         (result ≡ number_told r) × (value.new ≡ value_told value.old r)
-        × (handle.new.owner.value ≡ Some (after_read b a))) }
-    ensures refused { result ≢ 0 → handle.new.owner.value ≡ handle.old.owner.value }
+        × (board_of handle.new ≡ Some (after_board_access b a))) }
+    ensures unread { result ≢ 0 → value.new ≡ value.old }
+    ensures refused { result ≢ 0 → session_of handle.new ≡ session_of handle.old }
 {
-    let Some(at) = host_at(space, bus, device, function, place) else {
-        return handle.refusal();
-    };
-    let answer = handle.ask(alloc, |board| {
+    let answer = handle.ask_board(alloc, |board| {
+        let Some(at) = host_at(space, bus, device, function, place) else {
+            return Err(ARGUMENT);
+        };
         let width = u64::from(width);
         Ok(board.read(HostAccess { at, width }))
     });
@@ -54,7 +52,7 @@ pub extern "C" fn pciguest_raw_board_read(
 #[unsafe(no_mangle)]
 pub extern "C" fn pciguest_raw_board_write(
     alloc: Global,
-    handle: &mut BoardHandle,
+    handle: &mut Handle,
     space: u32,
     bus: u8,
     device: u8,
@@ -63,51 +61,21 @@ pub extern "C" fn pciguest_raw_board_write(
     width: u32,
     value: u32,
 ) -> u32
-    ensures none { IfNone handle.old.owner.value (result ≡ 901) }
-    ensures place { IfSome handle.old.owner.value (λ _. host_target_told space (at_bus bus device function) place ≡ None →
-        result ≡ 902) }
-    ensures written { IfSome handle.old.owner.value (λ b.
+    ensures none { IfNone (board_of handle.old) (result ≡ 901) }
+    ensures place { IfSome (board_of handle.old) (λ _.
+        host_target_told space (at_bus bus device function) place ≡ None → result ≡ 902) }
+    ensures written { IfSome (board_of handle.old) (λ b.
         (t : HostTarget) → host_target_told space (at_bus bus device function) place ≡ Some t →
         let a : Asked = record { target = t; width = width; op = writes value } in
-        (result ≡ number_told (answer b.host.state a)) × (handle.new.owner.value ≡ Some (after_write b a))) }
-    ensures refused { result ≢ 0 → handle.new.owner.value ≡ handle.old.owner.value }
+        (result ≡ number_told (answer b.state a))
+        × (board_of handle.new ≡ Some (after_board_access b a))) }
+    ensures refused { result ≢ 0 → session_of handle.new ≡ session_of handle.old }
 {
-    let Some(at) = host_at(space, bus, device, function, place) else {
-        return handle.refusal();
-    };
-    number_of(handle.ask(alloc, |board| {
+    number_of(handle.ask_board(alloc, |board| {
+        let Some(at) = host_at(space, bus, device, function, place) else {
+            return Err(ARGUMENT);
+        };
         let width = u64::from(width);
         Ok(board.write(HostAccess { at, width }, value))
     }))
-}
-
-/// Runs one line of firmware, which is given without its line feed. What it writes, nothing or one line with
-/// a line feed, is put at the front of `out`, which needs room for 48 bytes, and its length is told.
-#[unsafe(no_mangle)]
-pub extern "C" fn pciguest_raw_board_run_line(
-    alloc: Global,
-    handle: &mut BoardHandle,
-    line: &[u8],
-    out: &mut [u8],
-    written: &mut usize,
-) -> u32
-    ensures none { IfNone handle.old.owner.value (result ≡ 901) }
-    ensures room { IfSome handle.old.owner.value (λ _. length out.old < 48 → result ≡ 902) }
-    ensures ran { IfSome handle.old.owner.value (λ b. 48 ≤ length out.old →
-        (result ≡ 0) × (handle.new.owner.value ≡ Some (after_line b line.now))) }
-    ensures text { IfSome handle.old.owner.value (λ b. 48 ≤ length out.old →
-        let text = line_output b.host.state line.now in
-        (out.new ≡ text ++ drop (length text) out.old) × (written.new ≡ length text)) }
-    ensures refused { result ≢ 0 → handle.new.owner.value ≡ handle.old.owner.value }
-    ensures unwritten { result ≢ 0 → (out.new ≡ out.old) × (written.new ≡ written.old) }
-{
-    let has_room = LONGEST_REPLY <= out.len();
-    let answer = handle.ask(alloc, |board| {
-        if has_room {
-            Ok(board.run_line(line))
-        } else {
-            Err(ARGUMENT)
-        }
-    });
-    put_line(answer, out, written)
 }

@@ -1,36 +1,33 @@
 //! How C makes a board at reset, and frees it.
-ghost use Rattle.std.specs.Prelude.{◌≡◌, ◌≢◌, ◌≤◌, ◌<◌, None, false, IfSome, IfNone, IsSome};
-ghost use Rattle.simulation.specs.Listing.{Refuses};
-ghost use Rattle.driven_board.specs.Boards.{IsResetBoard};
+ghost use Rattle.std.specs.Prelude.{◌≡◌, ◌≢◌, ◌≤◌, ◌<◌, None, IfSome, IfNone, IsSome};
+ghost use Rattle.model_lines.specs.Sessions.{at_reset};
+ghost use Rattle.session.specs.Files.{Declares, Refuses};
+ghost use Rattle.pciguest_c.specs.Handles.{session_of, board_of};
 
-use crate::board_handle::BoardHandle;
+use crate::handle::Handle;
 use crate::numbers::{FILE_MEMORY, IN_USE};
-use driven_board::Board;
+use session::Session;
 use std::alloc::Global;
 
 /// Makes the board of a board file, at reset, before any access of firmware. A refusal is the file's (101
 /// to 112), out of memory (199), or 903 where the handle holds a board already.
 #[unsafe(no_mangle)]
-pub extern "C" fn pciguest_raw_board_new(
-    alloc: Global,
-    handle: &mut BoardHandle,
-    file: &[u8],
-) -> u32
-    ensures made { result ≡ 0 → IsSome handle.new.owner.value }
-    ensures reset { result ≡ 0 → IfSome handle.new.owner.value (λ b.
-        (b.file ≡ file.now) × (b.written ≡ false) × IsResetBoard file.now b.host) }
-    ensures refused { result ≢ 0 → handle.new.owner.value ≡ handle.old.owner.value }
-    ensures in_use { IfSome handle.old.owner.value (λ _. result ≡ 903) }
-    ensures numbers { IfNone handle.old.owner.value (result ≤ 199) }
+pub extern "C" fn pciguest_raw_board_new(alloc: Global, handle: &mut Handle, file: &[u8]) -> u32
+    ensures made { result ≡ 0 → IsSome (board_of handle.new) }
+    ensures declared { result ≡ 0 → IfSome (board_of handle.new) (λ b. Declares file.now b.world) }
+    ensures reset { result ≡ 0 → IfSome (board_of handle.new) (λ b. b ≡ at_reset b.world) }
+    ensures refused { result ≢ 0 → session_of handle.new ≡ session_of handle.old }
+    ensures in_use { IfSome (session_of handle.old) (λ _. result ≡ 903) }
+    ensures numbers { IfNone (session_of handle.old) (result ≤ 199) }
     ensures file { result ≢ 0 → result < 199 → Refuses file.now result }
 {
     if handle.is_live() {
         return IN_USE;
     }
-    match Board::open(alloc, file) {
-        Ok(board) => match Box::new(alloc, board) {
-            Ok(board) => {
-                *handle = BoardHandle::of(board);
+    match Session::open(alloc, file) {
+        Ok(session) => match Box::new(alloc, session) {
+            Ok(session) => {
+                *handle = Handle::of(session);
                 0
             }
             Err(_) => FILE_MEMORY,
@@ -39,11 +36,11 @@ pub extern "C" fn pciguest_raw_board_new(
     }
 }
 
-/// Frees the board. The handle then holds none, and may be used for a new one; where it held none, nothing
-/// changes.
+/// Frees the board, or the machine that its guests have since a line handed it over. The handle then holds
+/// none, and may be used for a new one; where it held none, nothing changes.
 #[unsafe(no_mangle)]
-pub extern "C" fn pciguest_raw_board_free(alloc: Global, handle: &mut BoardHandle)
-    ensures { handle.new.owner.value ≡ None }
+pub extern "C" fn pciguest_raw_board_free(alloc: Global, handle: &mut Handle)
+    ensures { session_of handle.new ≡ None }
 {
     drop(handle.take(alloc));
 }

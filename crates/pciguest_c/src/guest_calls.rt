@@ -1,14 +1,14 @@
 //! What C asks as a guest. Each call answers 0, or the number of a refusal.
-ghost use Rattle.std.specs.Prelude.{◌≡◌, ◌≢◌, ◌<◌, ◌≤◌, None, Some, IfNone, IfSome, length, position, unwrap_or};
-ghost use Rattle.std.specs.Str.{bytes_eq};
+ghost use Rattle.std.specs.Prelude.{◌≡◌, ◌≢◌, ◌<◌, ◌≤◌, None, Some, IfNone, IfSome, length, unwrap_or};
 ghost use Rattle.model_guests.specs.Accesses.{Target, RaisePlace, access, raises, reads, writes};
-ghost use Rattle.model_guests.specs.WorldNow.{names_now};
 ghost use Rattle.accesses.specs.Accesses.{reply_of, target_of};
-ghost use Rattle.pciguest_c.specs.Told.{index_told, number_told, value_told, target_told, part_told, reply_asked, after_asked};
+ghost use Rattle.pciguest_c.specs.Handles.{session_of, machine_of};
+ghost use Rattle.pciguest_c.specs.Told.{index_asked, index_told, number_told, value_told, target_told, part_told};
+ghost use Rattle.pciguest_c.specs.Told.{reply_asked, after_asked};
 
 use crate::asking::{at_of, check_guest, index_named, place_of};
 use crate::handle::Handle;
-use crate::numbers::{ARGUMENT, number_of, put_value};
+use crate::numbers::{ARGUMENT, number_of, put_result, put_value};
 use accesses::{Access, At, Op, Reply};
 use monitor::Monitor;
 use std::alloc::Global;
@@ -36,21 +36,21 @@ pub extern "C" fn pciguest_raw_read(
     width: u32,
     value: &mut u32,
 ) -> u32
-    ensures none { IfNone handle.old.owner.value ((result ≡ 901) × (value.new ≡ value.old)) }
-    ensures space { IfSome handle.old.owner.value (λ _. target_told space slot place ≡ None →
-        (result ≡ 902) × (value.new ≡ value.old)) }
-    ensures guest { IfSome handle.old.owner.value (λ m. length m.world.guests ≤ guest →
-        (result ≡ 902) × (value.new ≡ value.old)) }
-    ensures read { IfSome handle.old.owner.value (λ m. guest < length m.world.guests →
+    ensures none { IfNone (machine_of handle.old) (result ≡ 901) }
+    ensures space { IfSome (machine_of handle.old) (λ _. target_told space slot place ≡ None → result ≡ 902) }
+    ensures guest { IfSome (machine_of handle.old) (λ m. length m.world.guests ≤ guest → result ≡ 902) }
+    ensures read { IfSome (machine_of handle.old) (λ m. guest < length m.world.guests →
         (t : Target) → target_told space slot place ≡ Some t →
-        let r = reply_asked m.world guest (access (record { target = t; width = width; op = reads })) in
+        let e = access (record { target = t; width = width; op = reads }) in
+        let r = reply_asked m.world guest e in
         (result ≡ number_told r) × (value.new ≡ value_told value.old r)) }
-    ensures kept { handle.new.owner.value ≡ handle.old.owner.value }
+    ensures unread { result ≢ 0 → value.new ≡ value.old }
+    ensures kept { session_of handle.new ≡ session_of handle.old }
 {
-    let Some(at) = at_of(space, slot, place) else {
-        return handle.refusal();
-    };
-    let answer = handle.ask(alloc, |machine| {
+    let answer = handle.ask_machine(alloc, |machine| {
+        let Some(at) = at_of(space, slot, place) else {
+            return Err(ARGUMENT);
+        };
         check_guest(machine, guest)?;
         Ok(read(machine, guest, at, u64::from(width)))
     });
@@ -69,19 +69,20 @@ pub extern "C" fn pciguest_raw_write(
     width: u32,
     value: u32,
 ) -> u32
-    ensures none { IfNone handle.old.owner.value (result ≡ 901) }
-    ensures space { IfSome handle.old.owner.value (λ _. target_told space slot place ≡ None → result ≡ 902) }
-    ensures guest { IfSome handle.old.owner.value (λ m. length m.world.guests ≤ guest → result ≡ 902) }
-    ensures written { IfSome handle.old.owner.value (λ m. guest < length m.world.guests →
+    ensures none { IfNone (machine_of handle.old) (result ≡ 901) }
+    ensures space { IfSome (machine_of handle.old) (λ _. target_told space slot place ≡ None → result ≡ 902) }
+    ensures guest { IfSome (machine_of handle.old) (λ m. length m.world.guests ≤ guest → result ≡ 902) }
+    ensures written { IfSome (machine_of handle.old) (λ m. guest < length m.world.guests →
         (t : Target) → target_told space slot place ≡ Some t →
         let e = access (record { target = t; width = width; op = writes value }) in
-        (result ≡ number_told (reply_asked m.world guest e)) × (handle.new.owner.value ≡ Some (after_asked m guest e))) }
-    ensures refused { result ≢ 0 → handle.new.owner.value ≡ handle.old.owner.value }
+        (result ≡ number_told (reply_asked m.world guest e))
+        × (machine_of handle.new ≡ Some (after_asked m guest e))) }
+    ensures refused { result ≢ 0 → session_of handle.new ≡ session_of handle.old }
 {
-    let Some(at) = at_of(space, slot, place) else {
-        return handle.refusal();
-    };
-    number_of(handle.ask(alloc, |machine| {
+    number_of(handle.ask_machine(alloc, |machine| {
+        let Some(at) = at_of(space, slot, place) else {
+            return Err(ARGUMENT);
+        };
         check_guest(machine, guest)?;
         let width = u64::from(width);
         let op = Op::Write(value);
@@ -101,21 +102,20 @@ pub extern "C" fn pciguest_raw_raise(
     offset: u64,
     mask: u8,
 ) -> u32
-    ensures none { IfNone handle.old.owner.value ((result ≡ 901) × (handle.new.owner.value ≡ None)) }
-    ensures part { IfSome handle.old.owner.value (λ m. part_told part ≡ None →
-        (result ≡ 902) × (handle.new.owner.value ≡ Some m)) }
-    ensures guest { IfSome handle.old.owner.value (λ m. length m.world.guests ≤ guest →
-        (result ≡ 902) × (handle.new.owner.value ≡ Some m)) }
-    ensures raised { IfSome handle.old.owner.value (λ m. guest < length m.world.guests →
+    ensures none { IfNone (machine_of handle.old) (result ≡ 901) }
+    ensures part { IfSome (machine_of handle.old) (λ _. part_told part ≡ None → result ≡ 902) }
+    ensures guest { IfSome (machine_of handle.old) (λ m. length m.world.guests ≤ guest → result ≡ 902) }
+    ensures raised { IfSome (machine_of handle.old) (λ m. guest < length m.world.guests →
         (p : RaisePlace) → part_told part ≡ Some p →
         let e = raises (record { slot = slot; part = p; offset = offset; mask = mask }) in
-        (result ≡ number_told (reply_asked m.world guest e)) × (handle.new.owner.value ≡ Some (after_asked m guest e))) }
-    ensures refused { result ≢ 0 → handle.new.owner.value ≡ handle.old.owner.value }
+        (result ≡ number_told (reply_asked m.world guest e))
+        × (machine_of handle.new ≡ Some (after_asked m guest e))) }
+    ensures refused { result ≢ 0 → session_of handle.new ≡ session_of handle.old }
 {
-    let Some(place) = place_of(part) else {
-        return handle.refusal();
-    };
-    number_of(handle.ask(alloc, |machine| {
+    number_of(handle.ask_machine(alloc, |machine| {
+        let Some(place) = place_of(part) else {
+            return Err(ARGUMENT);
+        };
         check_guest(machine, guest)?;
         Ok(machine.raise(guest, slot, place, offset, mask))
     }))
@@ -129,17 +129,15 @@ pub extern "C" fn pciguest_raw_guest(
     name: &[u8],
     guest: &mut usize,
 ) -> u32
-    ensures none { IfNone handle.old.owner.value ((result ≡ 901) × (guest.new ≡ guest.old)) }
-    ensures named { IfSome handle.old.owner.value (λ m. let i = position (λ n. bytes_eq n name.now) (names_now m.world) in
+    ensures none { IfNone (machine_of handle.old) (result ≡ 901) }
+    ensures named { IfSome (machine_of handle.old) (λ m. let i = index_asked m.world name.now in
         (result ≡ index_told i) × (guest.new ≡ unwrap_or i guest.old)) }
-    ensures kept { handle.new.owner.value ≡ handle.old.owner.value }
+    ensures untold { result ≢ 0 → guest.new ≡ guest.old }
+    ensures kept { session_of handle.new ≡ session_of handle.old }
 {
-    match handle.ask(alloc, |machine| Ok(index_named(machine, name))) {
-        Ok(Some(index)) => {
-            *guest = index;
-            0
-        }
-        Ok(None) => ARGUMENT,
-        Err(number) => number,
-    }
+    let answer = handle.ask_machine(alloc, |machine| match index_named(machine, name) {
+        Some(index) => Ok(index),
+        None => Err(ARGUMENT),
+    });
+    put_result(answer, guest)
 }

@@ -3,27 +3,31 @@ ghost use Rattle.std.specs.Prelude.{◌≡◌, Some, None, IfSome, IfNone, Err, 
 ghost use Rattle.std.specs.Bool.{OnFalse};
 ghost use Rattle.std.specs.Fn.{FnOnceReturnsAtMut};
 ghost use Rattle.model_handoff.specs.Changes.{MachineNow};
+ghost use Rattle.model_lines.specs.Sessions.{DrivenNow};
 
-use crate::numbers::{ARGUMENT, NO_MACHINE};
+use crate::numbers::NO_MACHINE;
 use crate::owner::Owner;
 use crate::unboxed::Unboxed;
 use monitor::Monitor;
+use session::{Board, Session};
 use std::alloc::Global;
 use std::mem::replace;
 
-/// A machine, or none. All bytes 0 are none.
+/// A session, or none. All bytes 0 are none.
 #[repr(C)]
 #[derive(Drop)]
 pub struct Handle {
     live: bool,
-    pub owner: Owner,
+    owner: Owner,
     ghost flag: { live ≡ is_some owner.value },
 }
 
 impl Handle {
-    /// No machine.
+    ghost use Rattle.pciguest_c.specs.Handles.{session_of, machine_of, board_of};
+
+    /// No session.
     fn none(alloc: Global) -> Handle
-        ensures { result.owner.value ≡ None }
+        ensures { session_of result ≡ None }
     {
         Handle {
             live: false,
@@ -31,37 +35,29 @@ impl Handle {
         }
     }
 
-    /// A machine.
-    pub fn of(machine: Box<Monitor>) -> Handle
-        ensures { result.owner.value ≡ Some machine.value }
+    /// A session.
+    pub fn of(session: Box<Session>) -> Handle
+        ensures { session_of result ≡ Some session.value }
     {
         Handle {
             live: true,
-            owner: Owner::of(Unboxed::of(machine)),
+            owner: Owner::of(Unboxed::of(session)),
         }
     }
 
-    /// Whether there is a machine.
+    /// Whether there is a session.
     pub fn is_live(&self) -> bool
-        ensures told { result ≡ is_some self.now.owner.value }
-        ensures none { OnFalse result (self.now.owner.value ≡ None) }
+        ensures told { result ≡ is_some (session_of self.now) }
+        ensures none { OnFalse result (session_of self.now ≡ None) }
     {
         self.live
     }
 
-    /// 902, or 901 where there is no machine.
-    pub fn refusal(&self) -> u32
-        ensures there { IfSome self.now.owner.value (λ _. result ≡ 902) }
-        ensures none { IfNone self.now.owner.value (result ≡ 901) }
-    {
-        if self.live { ARGUMENT } else { NO_MACHINE }
-    }
-
-    /// Takes the machine out, and leaves none.
-    pub fn take(&mut self, alloc: Global) -> Option<Box<Monitor>>
-        ensures left { self.new.owner.value ≡ None }
-        ensures machine { IfSome result (λ b. self.old.owner.value ≡ Some b.value) }
-        ensures nothing { IfNone result (self.old.owner.value ≡ None) }
+    /// Takes the session out, and leaves none.
+    pub fn take(&mut self, alloc: Global) -> Option<Box<Session>>
+        ensures left { session_of self.new ≡ None }
+        ensures session { IfSome result (λ b. session_of self.old ≡ Some b.value) }
+        ensures nothing { IfNone result (session_of self.old ≡ None) }
     {
         let old = replace(self, Handle::none(alloc));
         if !old.live {
@@ -71,23 +67,52 @@ impl Handle {
     }
 
     /// What the machine answers, or 901 where there is none.
-    pub fn ask<T, F: FnOnce(&mut Monitor) -> Result<T, u32>>(
+    pub fn ask_machine<T, F: FnOnce(&mut Monitor) -> Result<T, u32>>(
         &mut self,
         alloc: Global,
         question: F,
     ) -> Result<T, u32>
         requires { F.IsAlwaysCallable question }
-        ensures none { IfNone self.old.owner.value ((result ≡ Err 901) × (self.new.owner.value ≡ None)) }
-        ensures asked { IfSome self.old.owner.value (λ m. (after : MachineNow)
-            × FnOnceReturnsAtMut F.FnOnce question m result after × (self.new.owner.value ≡ Some after)) }
+        ensures none { IfNone (machine_of self.old)
+            ((result ≡ Err 901) × (session_of self.new ≡ session_of self.old)) }
+        ensures asked { IfSome (machine_of self.old) (λ m. (after : MachineNow)
+            × FnOnceReturnsAtMut F.FnOnce question m result after × (machine_of self.new ≡ Some after)) }
+        ensures kept { machine_of self.new ≡ machine_of self.old → session_of self.new ≡ session_of self.old }
     {
-        match self.take(alloc) {
-            Some(mut machine) => {
-                let answer = question(&mut machine);
-                *self = Handle::of(machine);
-                answer
-            }
-            None => Err(NO_MACHINE),
-        }
+        let Some(mut session) = self.take(alloc) else {
+            return Err(NO_MACHINE);
+        };
+        let Some(machine) = session.monitor() else {
+            *self = Handle::of(session);
+            return Err(NO_MACHINE);
+        };
+        let answer = question(machine);
+        *self = Handle::of(session);
+        answer
+    }
+
+    /// What the board that firmware drives answers, or 901 where there is none.
+    pub fn ask_board<T, F: FnOnce(&mut Board) -> Result<T, u32>>(
+        &mut self,
+        alloc: Global,
+        question: F,
+    ) -> Result<T, u32>
+        requires { F.IsAlwaysCallable question }
+        ensures none { IfNone (board_of self.old)
+            ((result ≡ Err 901) × (session_of self.new ≡ session_of self.old)) }
+        ensures asked { IfSome (board_of self.old) (λ b. (after : DrivenNow)
+            × FnOnceReturnsAtMut F.FnOnce question b result after × (board_of self.new ≡ Some after)) }
+        ensures kept { board_of self.new ≡ board_of self.old → session_of self.new ≡ session_of self.old }
+    {
+        let Some(mut session) = self.take(alloc) else {
+            return Err(NO_MACHINE);
+        };
+        let Some(board) = session.board() else {
+            *self = Handle::of(session);
+            return Err(NO_MACHINE);
+        };
+        let answer = question(board);
+        *self = Handle::of(session);
+        answer
     }
 }

@@ -8,6 +8,8 @@ ghost use Rattle.model_handoff.specs.Actions.{calls};
 ghost use Rattle.model_handoff.specs.Changes.{after_on_machine};
 ghost use Rattle.accesses.specs.Accesses.{host_target_of};
 ghost use Rattle.monitor.specs.Moves.{move_nth};
+ghost use Rattle.session.specs.Stages.{machine_in};
+ghost use Rattle.pciguest_c.specs.Handles.{session_of, machine_of};
 ghost use Rattle.pciguest_c.specs.Told.{at_bus, number_told, value_told, host_target_told};
 
 use crate::asking::check_guest;
@@ -15,6 +17,7 @@ use crate::handle::Handle;
 use crate::numbers::{ARGUMENT, NO_MACHINE, number_of, put_value};
 use accesses::{Bdf, HostAccess, HostAt};
 use monitor::Monitor;
+use session::Session;
 use std::alloc::Global;
 
 /// Where an access of the host goes, if there is such a space and such a physical number.
@@ -50,17 +53,46 @@ fn host_read(
     width: u64,
     value: &mut u32,
 ) -> u32
-    ensures place { host_target_told space (at_bus bus device function) place ≡ None →
-        (result ≡ 902) × (value.new ≡ value.old) }
+    ensures place { host_target_told space (at_bus bus device function) place ≡ None → result ≡ 902 }
     ensures read { (t : HostTarget) → host_target_told space (at_bus bus device function) place ≡ Some t →
         let r = host_reply machine.old.world (record { target = t; width = width }) in
         (result ≡ number_told r) × (value.new ≡ value_told value.old r) }
+    ensures unread { result ≢ 0 → value.new ≡ value.old }
     ensures kept { machine.new ≡ machine.old }
 {
     let Some(at) = host_at(space, bus, device, function, place) else {
         return ARGUMENT;
     };
     put_value(Ok(machine.host_read(HostAccess { at, width })), value)
+}
+
+/// The same in a session, or 901 where no guests have its board.
+fn host_read_in(
+    session: &mut Session,
+    space: u32,
+    bus: u8,
+    device: u8,
+    function: u8,
+    place: u64,
+    width: u64,
+    value: &mut u32,
+) -> u32
+    ensures none { IfNone (machine_in session.old) (result ≡ 901) }
+    ensures place { IfSome (machine_in session.old) (λ _.
+        host_target_told space (at_bus bus device function) place ≡ None → result ≡ 902) }
+    ensures read { IfSome (machine_in session.old) (λ m.
+        (t : HostTarget) → host_target_told space (at_bus bus device function) place ≡ Some t →
+        let r = host_reply m.world (record { target = t; width = width }) in
+        (result ≡ number_told r) × (value.new ≡ value_told value.old r)) }
+    ensures unread { result ≢ 0 → value.new ≡ value.old }
+    ensures kept { session.new ≡ session.old }
+{
+    match session.monitor() {
+        Some(machine) => {
+            host_read(machine, space, bus, device, function, place, width, value)
+        }
+        None => NO_MACHINE,
+    }
 }
 
 /// Reads 1, 2 or 4 bytes as the host does: what the board shows at physical numbers. Bus, device and
@@ -77,33 +109,32 @@ pub extern "C" fn pciguest_raw_host_read(
     width: u32,
     value: &mut u32,
 ) -> u32
-    ensures none { IfNone handle.old.owner.value ((result ≡ 901) × (value.new ≡ value.old)) }
-    ensures place { IfSome handle.old.owner.value (λ _. host_target_told space (at_bus bus device function) place ≡ None →
-        (result ≡ 902) × (value.new ≡ value.old)) }
-    ensures read { IfSome handle.old.owner.value (λ m.
+    ensures none { IfNone (machine_of handle.old) (result ≡ 901) }
+    ensures place { IfSome (machine_of handle.old) (λ _.
+        host_target_told space (at_bus bus device function) place ≡ None → result ≡ 902) }
+    ensures read { IfSome (machine_of handle.old) (λ m.
         (t : HostTarget) → host_target_told space (at_bus bus device function) place ≡ Some t →
         let r = host_reply m.world (record { target = t; width = width }) in
         (result ≡ number_told r) × (value.new ≡ value_told value.old r)) }
-    ensures kept { handle.new.owner.value ≡ handle.old.owner.value }
+    ensures unread { result ≢ 0 → value.new ≡ value.old }
+    ensures kept { session_of handle.new ≡ session_of handle.old }
 {
-    match handle.take(alloc) {
-        Some(mut machine) => {
-            let width = u64::from(width);
-            let number = host_read(
-                &mut machine,
-                space,
-                bus,
-                device,
-                function,
-                place,
-                width,
-                value,
-            );
-            *handle = Handle::of(machine);
-            number
-        }
-        None => NO_MACHINE,
-    }
+    let Some(mut session) = handle.take(alloc) else {
+        return NO_MACHINE;
+    };
+    let width = u64::from(width);
+    let number = host_read_in(
+        &mut session,
+        space,
+        bus,
+        device,
+        function,
+        place,
+        width,
+        value,
+    );
+    *handle = Handle::of(session);
+    number
 }
 
 /// Moves the function in a slot of a guest to a slot of another, or of the same. It is then at reset.
@@ -116,16 +147,17 @@ pub extern "C" fn pciguest_raw_move(
     to: usize,
     target: u64,
 ) -> u32
-    ensures none { IfNone handle.old.owner.value (result ≡ 901) }
-    ensures from { IfSome handle.old.owner.value (λ m. length m.world.guests ≤ from → result ≡ 902) }
-    ensures to { IfSome handle.old.owner.value (λ m. length m.world.guests ≤ to → result ≡ 902) }
-    ensures moved { IfSome handle.old.owner.value (λ m. from < length m.world.guests → to < length m.world.guests →
+    ensures none { IfNone (machine_of handle.old) (result ≡ 901) }
+    ensures from { IfSome (machine_of handle.old) (λ m. length m.world.guests ≤ from → result ≡ 902) }
+    ensures to { IfSome (machine_of handle.old) (λ m. length m.world.guests ≤ to → result ≡ 902) }
+    ensures moved { IfSome (machine_of handle.old) (λ m.
+        from < length m.world.guests → to < length m.world.guests →
         let v = move_nth m.world from slot to target in
         (result ≡ number_told (move_reply m.world.guests v))
-        × (handle.new.owner.value ≡ Some (after_on_machine m (calls (asks (host_move v)))))) }
-    ensures refused { result ≢ 0 → handle.new.owner.value ≡ handle.old.owner.value }
+        × (machine_of handle.new ≡ Some (after_on_machine m (calls (asks (host_move v)))))) }
+    ensures refused { result ≢ 0 → session_of handle.new ≡ session_of handle.old }
 {
-    number_of(handle.ask(alloc, |machine| {
+    number_of(handle.ask_machine(alloc, |machine| {
         check_guest(machine, from)?;
         check_guest(machine, to)?;
         Ok(machine.move_function(from, slot, to, target))

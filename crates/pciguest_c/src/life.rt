@@ -1,12 +1,12 @@
 //! How C makes a machine, and frees it.
-ghost use Rattle.std.specs.Prelude.{◌≡◌, ◌≢◌, ◌≤◌, ◌<◌, ◌⊎◌, None, Some, IfSome, IfNone, IsSome};
-ghost use Rattle.simulation.specs.Listing.{Refuses, Breaks};
-ghost use Rattle.simulation.specs.Running.{IsOpened};
+ghost use Rattle.std.specs.Prelude.{◌≡◌, ◌≢◌, ◌≤◌, ◌<◌, None, IfSome, IfNone, IsSome};
 ghost use Rattle.model_handoff.specs.Changes.{BeginsIn};
+ghost use Rattle.session.specs.Files.{Refuses, Breaks, IsOpened};
+ghost use Rattle.pciguest_c.specs.Handles.{session_of, machine_of};
 
 use crate::handle::Handle;
 use crate::numbers::{IN_USE, MEMORY};
-use simulation::open;
+use session::{Session, open};
 use std::alloc::Global;
 
 /// Sets up the board of a board file, and gives its functions to the guests of the file. A refusal is
@@ -14,10 +14,11 @@ use std::alloc::Global;
 /// handle holds a machine already.
 #[unsafe(no_mangle)]
 pub extern "C" fn pciguest_raw_new(alloc: Global, handle: &mut Handle, board: &[u8]) -> u32
-    ensures made { result ≡ 0 → IfSome handle.new.owner.value (BeginsIn (IsOpened board.now)) × IsSome handle.new.owner.value }
-    ensures refused { result ≢ 0 → handle.new.owner.value ≡ handle.old.owner.value }
-    ensures in_use { IfSome handle.old.owner.value (λ _. result ≡ 903) }
-    ensures numbers { IfNone handle.old.owner.value (result ≤ 299) }
+    ensures made { result ≡ 0 → IsSome (machine_of handle.new) }
+    ensures begins { result ≡ 0 → IfSome (machine_of handle.new) (BeginsIn (IsOpened board.now)) }
+    ensures refused { result ≢ 0 → session_of handle.new ≡ session_of handle.old }
+    ensures in_use { IfSome (session_of handle.old) (λ _. result ≡ 903) }
+    ensures numbers { IfNone (session_of handle.old) (result ≤ 299) }
     ensures file { result ≢ 0 → result < 199 → Refuses board.now result }
     ensures placement { 199 < result → result < 299 → Breaks board.now result }
 {
@@ -25,9 +26,9 @@ pub extern "C" fn pciguest_raw_new(alloc: Global, handle: &mut Handle, board: &[
         return IN_USE;
     }
     match open(alloc, board) {
-        Ok(monitor) => match Box::new(alloc, monitor) {
-            Ok(machine) => {
-                *handle = Handle::of(machine);
+        Ok(monitor) => match Box::new(alloc, Session::of(alloc, monitor)) {
+            Ok(session) => {
+                *handle = Handle::of(session);
                 0
             }
             Err(_) => MEMORY,
@@ -40,7 +41,7 @@ pub extern "C" fn pciguest_raw_new(alloc: Global, handle: &mut Handle, board: &[
 /// nothing changes.
 #[unsafe(no_mangle)]
 pub extern "C" fn pciguest_raw_free(alloc: Global, handle: &mut Handle)
-    ensures { handle.new.owner.value ≡ None }
+    ensures { session_of handle.new ≡ None }
 {
     drop(handle.take(alloc));
 }

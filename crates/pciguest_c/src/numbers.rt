@@ -39,10 +39,12 @@ pub fn number_of(answer: Result<Reply, u32>) -> u32
 
 /// The same, and puts what was read where the value goes.
 pub fn put_value(answer: Result<Reply, u32>, value: &mut u32) -> u32
-    ensures told { IfOk answer (λ r.
-        (result ≡ number_told (reply_of r)) × (value.new ≡ value_told value.old (reply_of r))) }
+    ensures told { IfOk answer (λ r. result ≡ number_told (reply_of r)) }
+    ensures value { IfOk answer (λ r. value.new ≡ value_told value.old (reply_of r)) }
     ensures refused { IfOk answer (λ r. result ≢ 0 → IsRefusal r) }
-    ensures unasked { IfErr answer (λ n. (result ≡ n) × (value.new ≡ value.old)) }
+    ensures unasked { IfErr answer (λ n. result ≡ n) }
+    ensures unread { result ≢ 0 → value.new ≡ value.old }
+    ensures untouched { IfErr answer (λ _. value.new ≡ value.old) }
 {
     if let Ok(Reply::Value(read, _)) = answer {
         *value = read;

@@ -1,23 +1,23 @@
 //! The pointer that C holds.
 ghost use Rattle.std.specs.Prelude.{◌≡◌, Option, Some, None, IsSome};
 ghost use Rattle.std.specs.Coded.{coded_option};
-ghost use Rattle.model_handoff.specs.Changes.{MachineNow};
-ghost use Rattle.pciguest_c.specs.Owning.{machine_coded, owner_owns};
+ghost use Rattle.model_lines.specs.Sessions.{SessionNow};
+ghost use Rattle.pciguest_c.specs.Owning.{session_coded, owner_owns};
 
 use crate::unboxed::Unboxed;
-use monitor::Monitor;
+use session::Session;
 use std::alloc::Global;
 use std::marker::Model;
 use std::ptr::null_mut;
 
-/// A machine on the heap, or nothing. Its fields name no type that holds a `Vec`, since C may hold no
-/// pointer to one. Dropping it frees nothing: a machine that is to be freed is taken out before.
+/// A session on the heap, or nothing. Its fields name no type that holds a `Vec`, since C may hold no
+/// pointer to one. Dropping it frees nothing: a session that is to be freed is taken out before.
 #[repr(C)]
 #[derive(Drop)]
 pub struct Owner {
     at: *mut (),
     alloc: Global,
-    pub ghost value: { Option MachineNow } by { coded_option machine_coded },
+    pub ghost value: { Option SessionNow } by { coded_option session_coded },
 }
 
 impl Model for Owner {
@@ -35,29 +35,29 @@ impl Owner {
         }
     }
 
-    /// A machine.
-    pub fn of(machine: Unboxed<Monitor, Global>) -> Owner
-        ensures { result.value ≡ Some machine.value }
+    /// A session.
+    pub fn of(session: Unboxed<Session, Global>) -> Owner
+        ensures { result.value ≡ Some session.value }
     {
-        let Unboxed { at, alloc } = machine;
+        let Unboxed { at, alloc } = session;
         Owner {
             at: at as *mut (),
             alloc,
         }
     }
 
-    /// The machine.
-    pub fn into_unboxed(self) -> Unboxed<Monitor, Global>
+    /// The session.
+    pub fn into_unboxed(self) -> Unboxed<Session, Global>
         requires { IsSome self.value }
         ensures { self.value ≡ Some result.value }
     {
         let Owner { at, alloc } = self;
         Unboxed {
-            at: at as *mut Monitor,
+            at: at as *mut Session,
             alloc,
         }
     }
 }
 
-// C may hand a machine on to another thread.
+// C may hand a session on to another thread.
 unsafe impl Send for Owner {}

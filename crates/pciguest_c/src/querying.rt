@@ -1,14 +1,16 @@
 //! Where the regions of guests' functions stand, how often they may have come to stand elsewhere, and what guests'
 //! accesses hit.
-ghost use Rattle.std.specs.Prelude.{◌≡◌, ◌<◌, ◌≤◌, None, Some, IfNone, IfSome, length, option_map, slice_get};
+ghost use Rattle.std.specs.Prelude.{◌≡◌, ◌≢◌, ◌<◌, ◌≤◌, None, Some, IfNone, IfSome, length, option_map, slice_get};
 ghost use Rattle.model_guests.specs.Accesses.{Target};
 ghost use Rattle.monitor.specs.Queries.{region_named, hit_named};
+ghost use Rattle.pciguest_c.specs.Handles.{session_of, machine_of};
 ghost use Rattle.pciguest_c.specs.Told.{target_told};
-ghost use Rattle.pciguest_c.specs.QueriesTold.{number_answered, region_asked, hit_asked, region_told, region_left, hit_told, hit_left};
+ghost use Rattle.pciguest_c.specs.QueriesTold.{number_answered, region_asked, hit_asked};
+ghost use Rattle.pciguest_c.specs.QueriesTold.{region_told, region_left, hit_told, hit_left};
 
 use crate::asking::{at_of, check_guest};
 use crate::handle::Handle;
-use crate::numbers::put_result;
+use crate::numbers::{ARGUMENT, put_result};
 use accesses::Place;
 use monitor::{Hit, RegionNow, Space};
 use std::alloc::Global;
@@ -84,14 +86,15 @@ pub extern "C" fn pciguest_raw_region(
     bar: u32,
     told: &mut RegionTold,
 ) -> u32
-    ensures none { IfNone handle.old.owner.value ((result ≡ 901) × (told.new ≡ told.old)) }
-    ensures guest { IfSome handle.old.owner.value (λ m. length m.world.guests ≤ guest →
-        (result ≡ 902) × (told.new ≡ told.old)) }
-    ensures told { IfSome handle.old.owner.value (λ m. guest < length m.world.guests → let r = region_asked m.world guest slot bar in
+    ensures none { IfNone (machine_of handle.old) (result ≡ 901) }
+    ensures guest { IfSome (machine_of handle.old) (λ m. length m.world.guests ≤ guest → result ≡ 902) }
+    ensures told { IfSome (machine_of handle.old) (λ m. guest < length m.world.guests →
+        let r = region_asked m.world guest slot bar in
         (result ≡ number_answered r) × (told.new ≡ region_left told.old r)) }
-    ensures kept { handle.new.owner.value ≡ handle.old.owner.value }
+    ensures untold { result ≢ 0 → told.new ≡ told.old }
+    ensures kept { session_of handle.new ≡ session_of handle.old }
 {
-    let answer = handle.ask(alloc, |machine| {
+    let answer = handle.ask_machine(alloc, |machine| {
         check_guest(machine, guest)?;
         match machine.region(guest, slot, u64::from(bar)) {
             Ok(region) => Ok(region_for(region)),
@@ -109,14 +112,14 @@ pub extern "C" fn pciguest_raw_changed(
     guest: usize,
     count: &mut u64,
 ) -> u32
-    ensures none { IfNone handle.old.owner.value ((result ≡ 901) × (count.new ≡ count.old)) }
-    ensures guest { IfSome handle.old.owner.value (λ m. length m.world.guests ≤ guest →
-        (result ≡ 902) × (count.new ≡ count.old)) }
-    ensures told { IfSome handle.old.owner.value (λ m. guest < length m.world.guests →
+    ensures none { IfNone (machine_of handle.old) (result ≡ 901) }
+    ensures guest { IfSome (machine_of handle.old) (λ m. length m.world.guests ≤ guest → result ≡ 902) }
+    ensures told { IfSome (machine_of handle.old) (λ m. guest < length m.world.guests →
         (result ≡ 0) × (slice_get m.counts guest ≡ Some count.new)) }
-    ensures kept { handle.new.owner.value ≡ handle.old.owner.value }
+    ensures untold { result ≢ 0 → count.new ≡ count.old }
+    ensures kept { session_of handle.new ≡ session_of handle.old }
 {
-    let answer = handle.ask(alloc, |machine| {
+    let answer = handle.ask_machine(alloc, |machine| {
         check_guest(machine, guest)?;
         Ok(machine.changed(guest))
     });
@@ -134,20 +137,19 @@ pub extern "C" fn pciguest_raw_locate(
     place: u64,
     told: &mut HitTold,
 ) -> u32
-    ensures none { IfNone handle.old.owner.value ((result ≡ 901) × (told.new ≡ told.old)) }
-    ensures space { IfSome handle.old.owner.value (λ _. target_told space slot place ≡ None →
-        (result ≡ 902) × (told.new ≡ told.old)) }
-    ensures guest { IfSome handle.old.owner.value (λ m. length m.world.guests ≤ guest →
-        (result ≡ 902) × (told.new ≡ told.old)) }
-    ensures told { IfSome handle.old.owner.value (λ m. guest < length m.world.guests →
+    ensures none { IfNone (machine_of handle.old) (result ≡ 901) }
+    ensures space { IfSome (machine_of handle.old) (λ _. target_told space slot place ≡ None → result ≡ 902) }
+    ensures guest { IfSome (machine_of handle.old) (λ m. length m.world.guests ≤ guest → result ≡ 902) }
+    ensures told { IfSome (machine_of handle.old) (λ m. guest < length m.world.guests →
         (t : Target) → target_told space slot place ≡ Some t → let r = hit_asked m.world guest t in
         (result ≡ number_answered r) × (told.new ≡ hit_left told.old r)) }
-    ensures kept { handle.new.owner.value ≡ handle.old.owner.value }
+    ensures untold { result ≢ 0 → told.new ≡ told.old }
+    ensures kept { session_of handle.new ≡ session_of handle.old }
 {
-    let Some(at) = at_of(space, slot, place) else {
-        return handle.refusal();
-    };
-    let answer = handle.ask(alloc, |machine| {
+    let answer = handle.ask_machine(alloc, |machine| {
+        let Some(at) = at_of(space, slot, place) else {
+            return Err(ARGUMENT);
+        };
         check_guest(machine, guest)?;
         match machine.locate(guest, at) {
             Ok(hit) => Ok(hit_for(hit)),

@@ -1,6 +1,7 @@
 //! Functions of guests that are reset where they are.
-ghost use Rattle.std.specs.Prelude.{◌≡◌, ◌≢◌, ◌<◌, ◌≤◌, None, Some, IfNone, IfSome, length};
+ghost use Rattle.std.specs.Prelude.{◌≡◌, ◌≢◌, ◌<◌, ◌≤◌, Some, IfNone, IfSome, length};
 ghost use Rattle.model_guests.specs.DeviceEvents.{resets};
+ghost use Rattle.pciguest_c.specs.Handles.{session_of, machine_of};
 ghost use Rattle.pciguest_c.specs.Told.{number_told};
 ghost use Rattle.pciguest_c.specs.DevicesTold.{reply_at_device, after_at_device};
 
@@ -17,15 +18,14 @@ pub extern "C" fn pciguest_raw_reset(
     guest: usize,
     slot: u64,
 ) -> u32
-    ensures none { IfNone handle.old.owner.value ((result ≡ 901) × (handle.new.owner.value ≡ None)) }
-    ensures guest { IfSome handle.old.owner.value (λ m. length m.world.guests ≤ guest →
-        (result ≡ 902) × (handle.new.owner.value ≡ Some m)) }
-    ensures reset { IfSome handle.old.owner.value (λ m. guest < length m.world.guests → let e = resets slot in
-        (result ≡ number_told (reply_at_device m.world guest e))
-        × (handle.new.owner.value ≡ Some (after_at_device m guest e))) }
-    ensures refused { result ≢ 0 → handle.new.owner.value ≡ handle.old.owner.value }
+    ensures none { IfNone (machine_of handle.old) (result ≡ 901) }
+    ensures guest { IfSome (machine_of handle.old) (λ m. length m.world.guests ≤ guest → result ≡ 902) }
+    ensures reset { IfSome (machine_of handle.old) (λ m. guest < length m.world.guests →
+        (result ≡ number_told (reply_at_device m.world guest (resets slot)))
+        × (machine_of handle.new ≡ Some (after_at_device m guest (resets slot)))) }
+    ensures refused { result ≢ 0 → session_of handle.new ≡ session_of handle.old }
 {
-    number_of(handle.ask(alloc, |machine| {
+    number_of(handle.ask_machine(alloc, |machine| {
         check_guest(machine, guest)?;
         Ok(machine.reset(guest, slot))
     }))

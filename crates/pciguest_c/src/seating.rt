@@ -1,5 +1,6 @@
 //! Functions of the board that come to a guest from none, or leave it for no other.
-ghost use Rattle.std.specs.Prelude.{◌≡◌, ◌≢◌, ◌<◌, ◌≤◌, None, Some, IfNone, IfSome, length};
+ghost use Rattle.std.specs.Prelude.{◌≡◌, ◌≢◌, ◌<◌, ◌≤◌, Some, IfNone, IfSome, length};
+ghost use Rattle.pciguest_c.specs.Handles.{session_of, machine_of};
 ghost use Rattle.pciguest_c.specs.Told.{number_told};
 ghost use Rattle.pciguest_c.specs.SeatingsTold.{gift_reply, after_gift, taking_reply, after_taking};
 
@@ -21,15 +22,14 @@ pub extern "C" fn pciguest_raw_give(
     guest: usize,
     slot: u64,
 ) -> u32
-    ensures none { IfNone handle.old.owner.value ((result ≡ 901) × (handle.new.owner.value ≡ None)) }
-    ensures guest { IfSome handle.old.owner.value (λ m. length m.world.guests ≤ guest →
-        (result ≡ 902) × (handle.new.owner.value ≡ Some m)) }
-    ensures given { IfSome handle.old.owner.value (λ m. guest < length m.world.guests →
+    ensures none { IfNone (machine_of handle.old) (result ≡ 901) }
+    ensures guest { IfSome (machine_of handle.old) (λ m. length m.world.guests ≤ guest → result ≡ 902) }
+    ensures given { IfSome (machine_of handle.old) (λ m. guest < length m.world.guests →
         (result ≡ number_told (gift_reply m.world path.now guest slot))
-        × (handle.new.owner.value ≡ Some (after_gift m path.now guest slot))) }
-    ensures refused { result ≢ 0 → handle.new.owner.value ≡ handle.old.owner.value }
+        × (machine_of handle.new ≡ Some (after_gift m path.now guest slot))) }
+    ensures refused { result ≢ 0 → session_of handle.new ≡ session_of handle.old }
 {
-    let answer = handle.ask(alloc, |machine| {
+    let answer = handle.ask_machine(alloc, |machine| {
         check_guest(machine, guest)?;
         // No endpoint stands at a text that is no path.
         let Some(path) = path_of(path) else {
@@ -51,15 +51,14 @@ pub extern "C" fn pciguest_raw_take(
     guest: usize,
     slot: u64,
 ) -> u32
-    ensures none { IfNone handle.old.owner.value ((result ≡ 901) × (handle.new.owner.value ≡ None)) }
-    ensures guest { IfSome handle.old.owner.value (λ m. length m.world.guests ≤ guest →
-        (result ≡ 902) × (handle.new.owner.value ≡ Some m)) }
-    ensures taken { IfSome handle.old.owner.value (λ m. guest < length m.world.guests →
+    ensures none { IfNone (machine_of handle.old) (result ≡ 901) }
+    ensures guest { IfSome (machine_of handle.old) (λ m. length m.world.guests ≤ guest → result ≡ 902) }
+    ensures taken { IfSome (machine_of handle.old) (λ m. guest < length m.world.guests →
         (result ≡ number_told (taking_reply m.world guest slot))
-        × (handle.new.owner.value ≡ Some (after_taking m guest slot))) }
-    ensures refused { result ≢ 0 → handle.new.owner.value ≡ handle.old.owner.value }
+        × (machine_of handle.new ≡ Some (after_taking m guest slot))) }
+    ensures refused { result ≢ 0 → session_of handle.new ≡ session_of handle.old }
 {
-    number_of(handle.ask(alloc, |machine| {
+    number_of(handle.ask_machine(alloc, |machine| {
         check_guest(machine, guest)?;
         Ok(machine.take(guest, slot))
     }))

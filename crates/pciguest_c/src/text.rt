@@ -1,12 +1,10 @@
 //! The report of a board file, and what a check says of it.
-ghost use Rattle.std.specs.Prelude.{◌≡◌, ◌≢◌, ◌⊎◌, ◌≤◌, ◌<◌, None, IfOk, IfErr, string_bytes};
+ghost use Rattle.std.specs.Prelude.{◌≡◌, ◌≢◌, ◌⊎◌, ◌≤◌, ◌<◌, IfOk, IfErr, string_bytes};
 ghost use Rattle.std.specs.Option.{option_map_or};
-ghost use Rattle.model_registers.specs.DeclarationRules.{first_broken};
-ghost use Rattle.model_set_up.specs.SetUpWrites.{set_up_rules};
 ghost use Rattle.model_guests.specs.World.{World};
 ghost use Rattle.model_handoff.specs.Report.{report};
 ghost use Rattle.simulation.specs.Faults.{number_of};
-ghost use Rattle.simulation.specs.Listing.{Declares, Refuses, Breaks};
+ghost use Rattle.session.specs.Files.{Refuses, Breaks, IsSetUp};
 ghost use Rattle.pciguest_c.specs.Checks.{IsCheckOf};
 
 use simulation::{Fault, Style, check_text, list_text};
@@ -14,8 +12,7 @@ use std::alloc::Global;
 
 /// The report of a board file, or the number of its refusal.
 pub fn report_of(alloc: Global, board: &[u8]) -> Result<String, u32>
-    ensures report { IfOk result (λ t. (w : World) × Declares board.now w
-        × (first_broken (set_up_rules w.board w.apertures) ≡ None) × (string_bytes t ≡ report w)) }
+    ensures report { IfOk result (λ t. (w : World) × IsSetUp board.now w × (string_bytes t ≡ report w)) }
     ensures file { IfErr result (λ n. n < 199 → Refuses board.now n) }
     ensures placement { IfErr result (λ n. 199 < n → n < 299 → Breaks board.now n) }
     ensures numbers { IfErr result (λ n. (n ≢ 0) × (n ≤ 299)) }

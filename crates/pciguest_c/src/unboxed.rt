@@ -4,7 +4,6 @@ ghost use Rattle.std.specs.Box.Ownership.{box_owns};
 
 use std::alloc::Allocator;
 use std::marker::Model;
-use std_alloc::room::Vacant;
 
 /// What a box holds, by its pointer, with the allocator that frees it.
 pub struct Unboxed<T, A: Allocator> {
@@ -37,25 +36,5 @@ impl<T, A: Allocator> Unboxed<T, A> {
     {
         let Unboxed { at, alloc } = self;
         unsafe { Box::from_raw(alloc, at) }
-    }
-
-    /// What the box holds, and its block, which is not freed.
-    pub fn empty(self) -> (T, Vacant<T, A>)
-        ensures { result.0 ≡ self.value }
-    {
-        let Unboxed { at, alloc } = self;
-        let value = unsafe { at.read() };
-        (value, Vacant { ptr: at, alloc })
-    }
-
-    /// A value, in a block that held none.
-    pub fn fill(room: Vacant<T, A>, value: T) -> Unboxed<T, A>
-        ensures { result.value ≡ value }
-    {
-        let Vacant { ptr, alloc } = room;
-        unsafe {
-            ptr.write(value);
-        }
-        Unboxed { at: ptr, alloc }
     }
 }

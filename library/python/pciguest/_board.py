@@ -81,11 +81,20 @@ class Board(Held):
         return self._space(MEMORY, 0, 0, 0)
 
     def run_line(self, line: Union[str, bytes]) -> Optional[str]:
-        """Runs one line of firmware, as `pciguest firmware` does, but for `host audit` and `host guests`, which are bad
-        lines here: `audit` and `into_guests` do the same. Line and reply are as those of `Machine.run_line`.
+        """Runs one line of a session, as `pciguest firmware` does: a line of firmware; `host audit`, whose reply is the
+        text of an audit; `host guests`, which gives the board to the guests of its file or says why it doesn't; and once
+        it is given, a line of a script. The board is then that of its guests: `into_guests` makes a machine of it, and
+        its other calls are refused by 901.
 
-        >>> Board(BOARD).run_line("host cr 00:01.0 0 4")
+        Line and reply are as those of `Machine.run_line`; an audit, and why a board is not given, may have more than one
+        line. 299: memory is out for one of these two, and nothing happened.
+
+        >>> board = Board(BOARD)
+        >>> board.run_line("host cr 00:01.0 0 4")
         'host: 0x00011234'
+        >>> print(board.run_line("host guests"))
+        audit: 2.0/0.0: a cycle for 00:00.0 reaches nothing
+        host: refused 207 not in order
         """
         return self._reply("board_run_line", line)
 
@@ -112,9 +121,10 @@ class Board(Held):
 
     def into_guests(self) -> Machine:
         """The board with its functions given to the guests of its file, as it stands, whoever set it up. Each function
-        that is given is reset first, but for what guests have copies of. The board is then the machine's: each call of
-        it is refused by 901. Where it is refused, the board stays as it is: 207, its audit tells a problem; 206, a
-        region of a function that is to be given is closed; 299, memory is out.
+        that is given is reset first, but for what guests have copies of. Where a line gave the board before, the machine
+        is the one that its guests are, as it is now. The board is then the machine's: each call of it is refused by 901.
+        Where it is refused, the board stays as it is: 207, its audit tells a problem; 206, a region of a function that
+        is to be given is closed; 299, memory is out.
 
         >>> board = Board(BOARD)
         >>> board.config[0, 2, 0][0x18:4] = 0x00010100  # the bridge's buses: 0 above it, 1 behind it

@@ -76,9 +76,9 @@ class Handle(ctypes.Structure):
 
 
 class BoardHandle(ctypes.Structure):
-    """What a program holds of a board that its own firmware drives, from reset on. It begins as `struct pciguest_board
-    board = PCIGUEST_BOARD_INIT;`, or with all bytes 0, and then holds none. What is said of the struct above holds for
-    it too."""
+    """What a program holds of a board that its own firmware drives, from reset on, and, once a line handed it to its
+    guests, of the machine that they are over it. It begins as `struct pciguest_board board = PCIGUEST_BOARD_INIT;`, or
+    with all bytes 0, and then holds none. What is said of the struct above holds for it too."""
 
     _fields_ = [
         ("live", c_bool),
@@ -302,7 +302,8 @@ DECLARED: Dict[str, Tuple[Any, Tuple[Any, ...]]] = {
     # 0: the struct holds the board. 101 to 112: the number of the first check that the file fails. 199: out of memory.
     # 903: the struct holds a board already.
     "board_new": (c_uint32, (POINTER(BoardHandle), c_char_p, c_size_t)),
-    # Frees the board. The struct then holds none, and may be used for a new one. Where it held none, nothing happens.
+    # Frees the board, or the machine that a line made of it. The struct then holds none, and may be used for a new one.
+    # Where it held none, nothing happens.
     "board_free": (None, (POINTER(BoardHandle),)),
     # Reads as firmware does, in whatever state the registers are: configuration space by bus, device, function and byte
     # offset, I/O by port, or memory by address; all ones where nothing answers. Bus, device and function are looked at
@@ -320,9 +321,15 @@ DECLARED: Dict[str, Tuple[Any, Tuple[Any, ...]]] = {
         c_uint32,
         (POINTER(BoardHandle), c_uint32, c_uint8, c_uint8, c_uint8, c_uint64, c_uint32, c_uint32),
     ),
-    # Runs one line of firmware, as `pciguest firmware` does, with its line feed or without. `host audit` and `host
-    # guests` are bad lines here: pciguest_board_audit and pciguest_board_guests do the same. The reply and 902 are as
-    # for pciguest_run_line.
+    # Runs one line of a session, as `pciguest firmware` does, with its line feed or without: a line of firmware; `host
+    # audit`, whose reply is the text of pciguest_board_audit; `host guests`, which gives the board to the guests of its
+    # file or says why it doesn't, as pciguest_board_guests does; and once it is given, a line of a script. The struct
+    # then holds the machine: pciguest_board_guests moves it to a struct of its own, and the other calls of a board
+    # answer 901. A line that is refused is answered by its reply, and the call by 0. The reply is one line with its
+    # line feed, or nothing, but for an audit and a board that isn't given: these may have more lines. It has no 0 at
+    # its end, and `written` tells its length.
+    # 902: there is less room than PCIGUEST_REPLY, or than a reply of more lines needs, whose length alone is told;
+    # nothing happened. 299: out of memory for one of these two lines, and nothing happened; no other line takes memory.
     "board_run_line": (
         c_uint32,
         (POINTER(BoardHandle), c_char_p, c_size_t, POINTER(c_char), c_size_t, POINTER(c_size_t)),
@@ -341,8 +348,9 @@ DECLARED: Dict[str, Tuple[Any, Tuple[Any, ...]]] = {
     "set_up": (c_uint32, (POINTER(BoardHandle), POINTER(Handle))),
     # Gives the functions of a board to the guests of its file as the board stands, whoever set it up: where its audit
     # tells no problem and each region of their functions is open, the machine is then over this board. Each function
-    # that is given is reset first, but for what guests have copies of, and the board's CONFIG_ADDRESS is cleared. The
-    # struct of the board then holds none. Where it is refused, both structs are as they were.
+    # that is given is reset first, but for what guests have copies of, and the board's CONFIG_ADDRESS is cleared. Where
+    # a line gave the board to its guests before, the machine is the one that they are, as it is now. The struct of the
+    # board then holds none. Where it is refused, both structs are as they were.
     # 901: there is no board. 903: the struct of the machine holds one already. 207: the audit tells a problem. 206: a
     # region of a function that is to be given is closed. 299: out of memory. 901, 903 and 207 come in this order before
     # 206; pciguest_board_audit tells the problems of 207.

@@ -5,12 +5,12 @@ from __future__ import annotations
 import ctypes
 import threading
 import weakref
-from ctypes import byref, c_size_t
+from ctypes import byref
 from types import TracebackType
 from typing import Any, Callable, Optional, Type, TypeVar, Union
 
 from ._calls import REPLY
-from ._library import CALLS
+from ._library import CALLS, told
 from ._refusal import answered
 
 Self = TypeVar("Self", bound="Held")
@@ -56,10 +56,11 @@ class Held:
         answered(answer)
 
     def _reply(self, name: str, line: Union[str, bytes]) -> Optional[str]:
-        """Runs a line by a call, which takes it with its line feed or without."""
+        """Runs a line by a call, which takes it with its line feed or without. Where its reply needs more room, nothing
+        happened, and it runs once more."""
         text = as_bytes(line)
-        reply, written = ctypes.create_string_buffer(REPLY), c_size_t(0)
-        self._call(name, text, len(text), reply, REPLY, byref(written))
-        if written.value == 0:
-            return None
-        return reply.raw[: written.value - 1].decode("ascii", "replace")
+        call: Callable[..., int] = CALLS[name]
+        with self._lock:
+            answer, reply = told(REPLY, lambda *room: call(byref(self._handle), text, len(text), *room))
+        answered(answer)
+        return reply[:-1] if reply else None

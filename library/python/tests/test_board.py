@@ -71,9 +71,15 @@ class Audits(Case):
         self.board.config[0, 2, 0][0x18:4] = 0x00010100
         self.assertEqual(self.board.audit(), ("audit: ok\n", 0))
 
+    def test_a_line_asks_for_an_audit(self):
+        self.assertEqual(self.board.run_line("host audit"), self.board.audit().text.rstrip("\n"))
+        self.board.config[0, 2, 0][0x18:4] = 0x00010100
+        self.assertEqual(self.board.run_line("host audit"), "audit: ok")
+
     def test_long_texts_come_whole(self):
         with Board((BOARDS / "largest.toml").read_bytes()) as board:
             audit = board.audit()
+            self.assertEqual(board.run_line("host audit"), audit.text.rstrip("\n"))
         self.assertGreater(len(audit.text), 4096)
         self.assertEqual(audit.text.count("\n"), audit.problems + 1)
 
@@ -128,6 +134,32 @@ class Guests(Case):
             self.assertEqual(machine.host.config[1, 1, 0][0x10:4], 0xD200000C)
         self.refused(901, self.board.audit)
         self.refused(901, self.board.into_guests)
+
+    def test_a_line_hands_the_board_over(self):
+        self.set_up_by_hand()
+        run = self.board.run_line
+        self.assertEqual(run("host guests\n"), "closed: 2.0/1.0 bar0\nhost: refused 206 closed region")
+        self.board.config[1, 1, 0][4:2] = 2
+        self.assertEqual(run("host guests"), "host: ok")
+        # its lines are a script's now, and firmware's calls find no board
+        self.assertEqual(run("a cr 0 0 4"), "a: 0x00011234")
+        self.assertEqual(run("host audit"), "host: refused 401 bad line")
+        self.refused(901, lambda: self.board.config[0, 1, 0][0:4])
+        self.refused(901, self.board.config[0, 1, 0].__setitem__, slice(4, 2), 0)
+        self.refused(901, self.board.audit)
+        self.refused(901, self.board.set_up)
+        # the machine is as its guests left it
+        self.assertEqual(run("a cw 1 4 2 2"), "a: ok")
+        with self.board.into_guests() as machine:
+            self.assertEqual(machine.run_line("a cr 1 4 2"), "a: 0x0002")
+        self.refused(901, run, "a cr 0 0 4")
+
+    def test_a_board_that_a_line_gave_is_freed(self):
+        self.set_up_by_hand()
+        self.board.config[1, 1, 0][4:2] = 2
+        self.assertEqual(self.board.run_line("host guests"), "host: ok")
+        self.board.close()
+        self.refused(901, self.board.run_line, "a cr 0 0 4")
 
     def test_a_board_that_is_not_in_order_stays(self):
         self.assertEqual(str(self.refused(207, self.board.into_guests)), "207 not in order")

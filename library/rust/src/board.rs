@@ -133,15 +133,25 @@ impl Board {
         })
     }
 
-    /// Runs one line of firmware, as `pciguest firmware` does, with its line feed or without. `host audit` and
-    /// `host guests` are bad lines here: [`audit`](Board::audit) and [`into_guests`](Board::into_guests) do the same. The
-    /// reply is as that of [`Machine::run_line`].
+    /// Runs one line of a session, as `pciguest firmware` does, with its line feed or without: a line of firmware;
+    /// `host audit`, whose reply is the text of an [audit](Board::audit); `host guests`, which gives the board to the guests
+    /// of its file or says why it doesn't; and once it is given, a line of a script. The board is then that of its guests:
+    /// [`into_guests`](Board::into_guests) makes a [`Machine`] of it, and its other calls are refused by 901.
+    ///
+    /// The reply is as that of [`Machine::run_line`]; an audit, and why a board is not given, may have more than one line.
+    ///
+    /// # Errors
+    ///
+    /// 299: memory is out for an audit, or for giving the board, and nothing happened.
     ///
     /// ```
     /// # const BOARD: &str = include_str!("board.toml");
     /// let mut board = pciguest::Board::new(BOARD)?;
     /// assert_eq!(board.run_line("host cw 00:01.0 4 2 2")?.as_deref(), Some("host: ok"));
     /// assert_eq!(board.run_line("host cr 00:01.0 4 2")?.as_deref(), Some("host: 0x0002"));
+    /// assert_eq!(board.run_line("host audit")?.as_deref(), Some("audit: ok"));
+    /// assert_eq!(board.run_line("host guests")?.as_deref(), Some("host: ok"));
+    /// assert_eq!(board.run_line("a cr 0 0 4")?.as_deref(), Some("a: 0x00011234"));
     /// # Ok::<(), pciguest::Error>(())
     /// ```
     pub fn run_line(&mut self, line: impl AsRef<[u8]>) -> Result<Option<String>, Error> {
@@ -202,7 +212,8 @@ impl Board {
     }
 
     /// The board with its functions given to the guests of its file, as it stands, whoever set it up. Each function that
-    /// is given is reset first, but for what guests have copies of.
+    /// is given is reset first, but for what guests have copies of. Where a [line](Board::run_line) gave the board before,
+    /// the machine is the one that its guests are, as it is now.
     ///
     /// # Errors
     ///

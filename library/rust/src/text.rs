@@ -91,16 +91,14 @@ pub(crate) fn told(
     (number, String::from_utf8_lossy(&text).into_owned())
 }
 
-/// Runs a line by a call, which takes it with its line feed or without. The reply stands without its line feed, and a
-/// blank line or a comment has none.
+/// Runs a line by a call, which takes it with its line feed or without; where its reply needs more room, nothing happened,
+/// and it runs once more. The reply stands without its line feed, and a blank line or a comment has none.
 pub(crate) fn reply_to(
     line: &[u8],
-    call: impl FnOnce(*const u8, usize, *mut u8, usize, &mut usize) -> u32,
+    mut call: impl FnMut(*const u8, usize, *mut u8, usize, &mut usize) -> u32,
 ) -> Result<Option<String>, Error> {
-    let mut reply = [0; REPLY];
-    let mut written = 0;
-    let (at, room) = (reply.as_mut_ptr(), reply.len());
-    answered(call(line.as_ptr(), line.len(), at, room, &mut written))?;
-    let reply = reply[..written].strip_suffix(b"\n");
-    Ok(reply.map(|text| String::from_utf8_lossy(text).into_owned()))
+    let (number, text) = told(REPLY, |text, room, needed| {
+        call(line.as_ptr(), line.len(), text, room, needed)
+    });
+    answered(number).map(|()| text.strip_suffix('\n').map(str::to_owned))
 }

@@ -119,6 +119,44 @@ fn guests_over_a_board_of_ones_own() -> Result<(), Error> {
 }
 
 #[test]
+fn a_line_hands_the_board_over() -> Result<(), Error> {
+    let mut board = set_up_by_hand()?;
+    let reply = board.run_line("host guests\n")?;
+    let wanted = "closed: 2.0/1.0 bar0\nhost: refused 206 closed region";
+    assert_eq!(reply.as_deref(), Some(wanted));
+    board.write(config(1, 1, 4), 2, 2)?;
+    assert_eq!(board.run_line("host guests")?.as_deref(), Some("host: ok"));
+    // its lines are a script's now, and firmware's calls find no board
+    let reply = board.run_line("a cr 0 0 4")?;
+    assert_eq!(reply.as_deref(), Some("a: 0x00011234"));
+    let reply = board.run_line("host audit")?;
+    assert_eq!(reply.as_deref(), Some("host: refused 401 bad line"));
+    assert_eq!(number(board.read(config(0, 1, 0), 4)), 901);
+    assert_eq!(number(board.write(config(0, 1, 4), 2, 0)), 901);
+    assert_eq!(number(board.audit()), 901);
+    assert_eq!(number(board.set_up()), 901);
+    // the machine is as its guests left it
+    assert_eq!(board.run_line("a cw 1 4 2 2")?.as_deref(), Some("a: ok"));
+    let mut machine = board.into_guests()?;
+    assert_eq!(machine.run_line("a cr 1 4 2")?.as_deref(), Some("a: 0x0002"));
+    Ok(())
+}
+
+#[test]
+fn a_long_reply_comes_whole() -> Result<(), Error> {
+    let mut board = Board::new(BOARD)?;
+    let wanted = board.audit()?.text;
+    assert!(wanted.len() > 48);
+    assert_eq!(board.run_line("host audit")?.as_deref(), wanted.strip_suffix('\n'));
+    let mut largest = Board::new(LARGEST)?;
+    let wanted = largest.audit()?.text;
+    assert_eq!(largest.run_line("host audit")?.as_deref(), wanted.strip_suffix('\n'));
+    board.write(config(0, 2, 0x18), 4, 0x0001_0100)?;
+    assert_eq!(board.run_line("host audit")?.as_deref(), Some("audit: ok"));
+    Ok(())
+}
+
+#[test]
 fn an_audit_tells_what_is_wrong() -> Result<(), Error> {
     let mut board = Board::new(BOARD)?;
     let audit = board.audit()?;

@@ -1,5 +1,5 @@
 use Rattle.std.proofs.Common.{arith}
-use Rattle.simulation.specs.Listing.{Refuses, Breaks}
+use Rattle.session.specs.Files.{Refuses, Breaks}
 use Rattle.pciguest_c.proofs.FaultNumbers.{is_small, refused, broken}
 use Rattle.pciguest_c.proofs.text.report_of.Goals as goal
 

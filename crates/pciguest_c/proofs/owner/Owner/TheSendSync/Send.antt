@@ -1,19 +1,16 @@
--- What an owner owns may go to another thread: nothing, or a machine with the right to free its block.
+-- What an owner owns may go to another thread: nothing, or a session with the right to free its block.
 use denote.Struct.Struct.{exits_of}
 use denote.Struct.Owning.{shape, fields, to}
 use denote.Param.Send.{IsSend, AllSend, owning_send, struct_send, sendable}
 use Rattle.std_alloc.proofs.SendSync.{quiet}
 use Rattle.std_heap.proofs.Global.TheSendSync as handle
-use Rattle.claim_table.specs.contracts.table.Table as Table
-use Rattle.claim_table.specs.contracts.table.TableRoute.TheImpl as route
-use Rattle.claim_table.proofs.table.Table.TheSendSync.{the_send as table_send}
-use Rattle.monitor.proofs.engine.Engine.TheSendSync.{the_send as engine_send}
-use Rattle.pciguest_c.specs.Owning.{machine_row}
+use Rattle.session.specs.contracts.session.Session as Session
+use Rattle.session.proofs.session.Session.TheSendSync.{the_send as session_send}
 use Rattle.pciguest_c.proofs.Moved.{keyless}
 use Rattle.pciguest_c.specs.contracts.owner.Owner.{the_row, the_type}
 
 pub send : IsSend the_row
 send =
     let all : AllSend (fields the_type) = (search sendable, (handle.the_field_send, tt)) in
-    owning_send the_type all (λ d. keyless machine_row (engine_send Table.the_row route.ghosts table_send) d.alloc d.at d.value)
+    owning_send the_type all (λ d. keyless session_send d.alloc d.at d.value)
     (λ k. quiet (to the_type) (exits_of k (fields the_type)) ((struct_send (shape the_type) all).leaving k))

@@ -1,4 +1,4 @@
--- `into_unboxed` moves two fields back; what the pointer owns is a machine, as there is one.
+-- `into_unboxed` moves two fields back; what the pointer owns is a session, as there is one.
 use mathlib.Core.List.{[], ◌∷◌}
 use mathlib.Core.Path.{refl}
 use base.Logic.{id⊢}
@@ -14,7 +14,7 @@ use denote.RawPtr.{rawptr_Lawful}
 use denote.Steps.{nothing, heard}
 use denote.Triple.Walked.{Stays, stay_dropped, walk_of, says, Goes-dropped, ends_at}
 use Rattle.std.proofs.raw_atomic.Walks.{proved}
-use Rattle.pciguest_c.specs.Owning.{machine_row}
+use Rattle.session.specs.contracts.session.Session as Session
 use Rattle.pciguest_c.proofs.owner.Owner.TheLaws as owner
 use Rattle.std.specs.Prelude.{Option, IsSome}
 use Rattle.pciguest_c.proofs.Moved.{Ours, some_of}
@@ -40,7 +40,7 @@ into_unboxed_spec 𝓤 𝓛 𝓜 𝓡 wired =
     move ! (1 ∷ []) $ heard ! _ (λ is_some. let there = some_of d.value is_some in
     let made : Ours.Denot = record { at = d.at; alloc = d.alloc; value = there.0 } in
     split ! $ drop ! $ split ! $
-    rewrite ! 0 (λ (v : Option machine_row.Denot). ‵ (Owner.own_val (record d { value = v }) (w ∷ []))) there.1 refl $
+    rewrite ! 0 (λ (v : Option Session.the_row.Denot). ‵ (Owner.own_val (record d { value = v }) (w ∷ []))) there.1 refl $
     use1 𝓛 (‵ (Ours.own_val made (w ∷ []))) (id⊢ 𝓤 _) $ move ! (1 ∷ []) $ drop ! $
     enter ! _ _ _ _ _ $ alloc_all ! (λ l. pass_all ! refl typed $
     sets ! (of_opd ! (get_in ! (fld ! refl (stop !)) (sub ! 0 refl (whole !)))) refl pointer.0 $

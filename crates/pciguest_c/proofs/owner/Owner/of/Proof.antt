@@ -16,11 +16,8 @@ use Rattle.std.proofs.raw_atomic.Walks.{proved}
 use Rattle.std_heap.specs.contracts.Global as Heap
 use Rattle.std_heap.specs.contracts.GlobalAllocator.TheImpl.{ghosts}
 use Rattle.std_heap.proofs.Global.TheLaws as heap
-use Rattle.claim_table.specs.contracts.table.Table as Table
-use Rattle.claim_table.specs.contracts.table.TableRoute.TheImpl as route
-use Rattle.claim_table.proofs.table.Table.TheLaws as table
-use Rattle.monitor.proofs.engine.Engine.TheLaws as engine
-use Rattle.pciguest_c.specs.Owning.{machine_row}
+use Rattle.session.specs.contracts.session.Session as Session
+use Rattle.session.proofs.session.Session.TheLaws as session
 use Rattle.pciguest_c.proofs.unboxed.Unboxed.TheLaws as unboxed
 use Rattle.std.specs.Prelude.{Some}
 use Rattle.pciguest_c.proofs.Moved.{Ours, ours_val}
@@ -35,15 +32,14 @@ stayed = (stay_dropped _ yes, tt)
 pub of_spec : {M : Type 1} → statement M
 of_spec 𝓤 𝓛 𝓜 𝓡 wired =
     let c = f.clauses 𝓛 𝓜.mem 𝓡.returns in let W = walk_of 𝓛 f.ended stayed c in
-    let machine_laws = engine.the_row_laws Table.the_row route.ghosts table.the_row_laws in
-    let laws = unboxed.lowers machine_row Heap.the_row ghosts machine_laws heap.the_row_laws heap.the_told in
+    let laws = unboxed.lowers Session.the_row Heap.the_row ghosts session.the_row_laws heap.the_row_laws heap.the_told in
     proved 𝓛 f.ended stayed c 𝓜 𝓡 (Goes-dropped 𝓛 0 (plain (λ _. Ours)) yes (λ κs x w. refl), tt)
     f.Key.name code.function (code.unfolded 𝓤 𝓛.H 𝓜 𝓡 wired)
     (λ κs. ((λ d. ours_val d ∷ []), tt)) (λ κs. (laws.val_is, tt)) (λ κs qs bounds a _ are.
     let d = a.0 in let w = ours_val d in
     let y : W.Ghost = ((κs, qs, bounds, a, (w ∷ [], tt)), tt) in
     let made : Owner.Denot = record { at = d.at; alloc = d.alloc; value = Some d.value } in
-    let typed = ((unboxed.the_row_laws machine_row Heap.the_row ghosts machine_laws heap.the_row_laws).lawful 𝓛).typed d (w ∷ []) are.0 in
+    let typed = ((unboxed.the_row_laws Session.the_row Heap.the_row ghosts session.the_row_laws heap.the_row_laws).lawful 𝓛).typed d (w ∷ []) are.0 in
     let pointer = (rawptr_Lawful 𝓛).typed d.at _ refl in
     qed 𝓛 ((‵ ftrue ⊛ (‵ (Ours.own_val d (w ∷ [])) ⊛ ‵ ftrue)) ∷ ‵ ftrue ∷ []) ∵
     split ! $ drop ! $ split ! $ use1 𝓛 (‵ (Owner.own_val made (w ∷ []))) (id⊢ 𝓤 _) $ move ! (1 ∷ 2 ∷ []) $ drop ! $ drop ! $
