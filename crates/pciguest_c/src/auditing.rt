@@ -23,13 +23,16 @@ pub extern "C" fn pciguest_raw_board_audit(
     count: &mut usize,
 ) -> u32
     ensures none { IfNone (board_of handle.old) (result ≡ 901) }
-    ensures text { IfSome (board_of handle.old) (λ b. result ≡ 0 → let text = audit b.state.functions in
+    ensures text { IfSome (board_of handle.old) (λ b.
+        result ≡ 0 → let text = audit b.state.functions in
         (out.new ≡ at_front text out.old) × (needed.new ≡ length text)) }
     ensures count { IfSome (board_of handle.old) (λ b. result ≡ 0 →
         count.new ≡ length (problems b.state.functions)) }
-    ensures room { IfSome (board_of handle.old) (λ b. result ≡ 902 → let text = audit b.state.functions in
+    ensures room { IfSome (board_of handle.old) (λ b.
+        result ≡ 902 → let text = audit b.state.functions in
         (length out.old < length text) × (needed.new ≡ length text)) }
-    ensures numbers { IfSome (board_of handle.old) (λ _. (result ≡ 0) ⊎ (result ≡ 299) ⊎ (result ≡ 902)) }
+    ensures numbers { IfSome (board_of handle.old) (λ _.
+        (result ≡ 0) ⊎ (result ≡ 299) ⊎ (result ≡ 902)) }
     ensures kept { session_of handle.new ≡ session_of handle.old }
     ensures refused { result ≢ 0 → (out.new ≡ out.old) × (count.new ≡ count.old) }
     ensures untold { result ≢ 0 → result ≢ 902 → needed.new ≡ needed.old }

@@ -31,7 +31,8 @@ pub extern "C" fn pciguest_raw_board_read(
     ensures place { IfSome (board_of handle.old) (λ _.
         host_target_told space (at_bus bus device function) place ≡ None → result ≡ 902) }
     ensures read { IfSome (board_of handle.old) (λ b.
-        (t : HostTarget) → host_target_told space (at_bus bus device function) place ≡ Some t →
+        (t : HostTarget) →
+        host_target_told space (at_bus bus device function) place ≡ Some t →
         let a : Asked = record { target = t; width = width; op = reads } in let r = answer b.state a in
         (result ≡ number_told r) × (value.new ≡ value_told value.old r)
         × (board_of handle.new ≡ Some (after_board_access b a))) }
@@ -65,7 +66,8 @@ pub extern "C" fn pciguest_raw_board_write(
     ensures place { IfSome (board_of handle.old) (λ _.
         host_target_told space (at_bus bus device function) place ≡ None → result ≡ 902) }
     ensures written { IfSome (board_of handle.old) (λ b.
-        (t : HostTarget) → host_target_told space (at_bus bus device function) place ≡ Some t →
+        (t : HostTarget) →
+        host_target_told space (at_bus bus device function) place ≡ Some t →
         let a : Asked = record { target = t; width = width; op = writes value } in
         (result ≡ number_told (answer b.state a))
         × (board_of handle.new ≡ Some (after_board_access b a))) }

@@ -14,7 +14,8 @@ use std::alloc::Global;
 #[unsafe(no_mangle)]
 pub extern "C" fn pciguest_raw_board_new(alloc: Global, handle: &mut Handle, file: &[u8]) -> u32
     ensures made { result ≡ 0 → IsSome (board_of handle.new) }
-    ensures declared { result ≡ 0 → IfSome (board_of handle.new) (λ b. Declares file.now b.world) }
+    ensures declared { result ≡ 0 → IfSome (board_of handle.new) (λ b.
+        Declares file.now b.world) }
     ensures reset { result ≡ 0 → IfSome (board_of handle.new) (λ b. b ≡ at_reset b.world) }
     ensures refused { result ≢ 0 → session_of handle.new ≡ session_of handle.old }
     ensures in_use { IfSome (session_of handle.old) (λ _. result ≡ 903) }

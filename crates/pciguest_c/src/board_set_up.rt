@@ -45,7 +45,8 @@ fn set_up_of(alloc: Global, session: &mut Session, in_use: bool) -> Result<Box<S
     ensures written { IfSome (board_in session.old) (λ b.
         IsFalse in_use → b.written ≡ true → IsErrOf result 904) }
     ensures at_reset { IfSome (board_in session.old) (λ b.
-        IsFalse in_use → b.written ≡ false → IfErr result (λ n. (199 ≤ n) × (n ≤ 299))) }
+        IsFalse in_use → b.written ≡ false →
+        IfErr result (λ n. (199 ≤ n) × (n ≤ 299))) }
     ensures made { IfOk result (λ s. IsSome (machine_in s.value)) }
     ensures begins { IfSome (board_in session.old) (λ b.
         IfOk result (λ s. IfSome (machine_in s.value) (BeginsIn (IsAtFirst b.world)))) }

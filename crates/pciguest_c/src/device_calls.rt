@@ -24,8 +24,10 @@ pub extern "C" fn pciguest_raw_device_read(
     value: &mut u32,
 ) -> u32
     ensures none { IfNone (machine_of handle.old) (result ≡ 901) }
-    ensures part { IfSome (machine_of handle.old) (λ _. part_told part ≡ None → result ≡ 902) }
-    ensures guest { IfSome (machine_of handle.old) (λ m. length m.world.guests ≤ guest → result ≡ 902) }
+    ensures part { IfSome (machine_of handle.old) (λ _.
+        part_told part ≡ None → result ≡ 902) }
+    ensures guest { IfSome (machine_of handle.old) (λ m.
+        length m.world.guests ≤ guest → result ≡ 902) }
     ensures read { IfSome (machine_of handle.old) (λ m. guest < length m.world.guests →
         (p : RaisePlace) → part_told part ≡ Some p →
         let e = device_reads (record { slot = slot; part = p; offset = offset }) in
@@ -56,8 +58,10 @@ pub extern "C" fn pciguest_raw_device_write(
     value: u8,
 ) -> u32
     ensures none { IfNone (machine_of handle.old) (result ≡ 901) }
-    ensures part { IfSome (machine_of handle.old) (λ _. part_told part ≡ None → result ≡ 902) }
-    ensures guest { IfSome (machine_of handle.old) (λ m. length m.world.guests ≤ guest → result ≡ 902) }
+    ensures part { IfSome (machine_of handle.old) (λ _.
+        part_told part ≡ None → result ≡ 902) }
+    ensures guest { IfSome (machine_of handle.old) (λ m.
+        length m.world.guests ≤ guest → result ≡ 902) }
     ensures written { IfSome (machine_of handle.old) (λ m. guest < length m.world.guests →
         (p : RaisePlace) → part_told part ≡ Some p →
         let e = device_writes (record { slot = slot; part = p; offset = offset }) value in

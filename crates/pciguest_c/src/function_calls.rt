@@ -100,7 +100,8 @@ pub extern "C" fn pciguest_raw_slot(
     told: &mut FunctionRow,
 ) -> u32
     ensures none { IfNone (machine_of handle.old) (result ≡ 901) }
-    ensures guest { IfSome (machine_of handle.old) (λ m. length m.world.guests ≤ guest → result ≡ 902) }
+    ensures guest { IfSome (machine_of handle.old) (λ m.
+        length m.world.guests ≤ guest → result ≡ 902) }
     ensures told { IfSome (machine_of handle.old) (λ m. guest < length m.world.guests →
         let r = slot_asked m.world guest slot in
         (result ≡ number_answered r) × (told.new ≡ row_left told.old r)) }

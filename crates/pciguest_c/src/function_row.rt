@@ -10,7 +10,8 @@ ghost use Rattle.bridge_forward.specs.RoutingRows.{window_of};
 ghost use Rattle.bridge_forward.specs.ByIndex.{ranges_told};
 ghost use Rattle.monitor.specs.FunctionsTold.{function_named};
 ghost use Rattle.pciguest_c.specs.QueriesTold.{one_if};
-ghost use Rattle.pciguest_c.specs.FunctionsTold.{no_region, region_row, region_rows, window_row, window_rows, bridge_number, text_row, function_row};
+ghost use Rattle.pciguest_c.specs.FunctionsTold.{no_region, region_row, region_rows, window_row};
+ghost use Rattle.pciguest_c.specs.FunctionsTold.{window_rows, bridge_number, text_row, function_row};
 
 use crate::text_calls::put;
 use bars::{BasedRegion, Kind, Space};
@@ -84,7 +85,8 @@ fn prefetchable_of(kind: Kind) -> u32
 
 /// The region that begins at a register.
 fn region_row(slot: Option<BasedRegion>) -> RegionRow
-    ensures { result ≡ option_map_or (λ (r : BasedRegion). region_row (placed 0 r)) slot no_region }
+    ensures { result
+        ≡ option_map_or (λ (r : BasedRegion). region_row (placed 0 r)) slot no_region }
 {
     let Some(region) = slot else {
         return NO_REGION;

@@ -37,8 +37,10 @@ pub extern "C" fn pciguest_raw_read(
     value: &mut u32,
 ) -> u32
     ensures none { IfNone (machine_of handle.old) (result ≡ 901) }
-    ensures space { IfSome (machine_of handle.old) (λ _. target_told space slot place ≡ None → result ≡ 902) }
-    ensures guest { IfSome (machine_of handle.old) (λ m. length m.world.guests ≤ guest → result ≡ 902) }
+    ensures space { IfSome (machine_of handle.old) (λ _.
+        target_told space slot place ≡ None → result ≡ 902) }
+    ensures guest { IfSome (machine_of handle.old) (λ m.
+        length m.world.guests ≤ guest → result ≡ 902) }
     ensures read { IfSome (machine_of handle.old) (λ m. guest < length m.world.guests →
         (t : Target) → target_told space slot place ≡ Some t →
         let e = access (record { target = t; width = width; op = reads }) in
@@ -70,8 +72,10 @@ pub extern "C" fn pciguest_raw_write(
     value: u32,
 ) -> u32
     ensures none { IfNone (machine_of handle.old) (result ≡ 901) }
-    ensures space { IfSome (machine_of handle.old) (λ _. target_told space slot place ≡ None → result ≡ 902) }
-    ensures guest { IfSome (machine_of handle.old) (λ m. length m.world.guests ≤ guest → result ≡ 902) }
+    ensures space { IfSome (machine_of handle.old) (λ _.
+        target_told space slot place ≡ None → result ≡ 902) }
+    ensures guest { IfSome (machine_of handle.old) (λ m.
+        length m.world.guests ≤ guest → result ≡ 902) }
     ensures written { IfSome (machine_of handle.old) (λ m. guest < length m.world.guests →
         (t : Target) → target_told space slot place ≡ Some t →
         let e = access (record { target = t; width = width; op = writes value }) in
@@ -103,8 +107,10 @@ pub extern "C" fn pciguest_raw_raise(
     mask: u8,
 ) -> u32
     ensures none { IfNone (machine_of handle.old) (result ≡ 901) }
-    ensures part { IfSome (machine_of handle.old) (λ _. part_told part ≡ None → result ≡ 902) }
-    ensures guest { IfSome (machine_of handle.old) (λ m. length m.world.guests ≤ guest → result ≡ 902) }
+    ensures part { IfSome (machine_of handle.old) (λ _.
+        part_told part ≡ None → result ≡ 902) }
+    ensures guest { IfSome (machine_of handle.old) (λ m.
+        length m.world.guests ≤ guest → result ≡ 902) }
     ensures raised { IfSome (machine_of handle.old) (λ m. guest < length m.world.guests →
         (p : RaisePlace) → part_told part ≡ Some p →
         let e = raises (record { slot = slot; part = p; offset = offset; mask = mask }) in

@@ -76,8 +76,10 @@ impl Handle {
         ensures none { IfNone (machine_of self.old)
             ((result ≡ Err 901) × (session_of self.new ≡ session_of self.old)) }
         ensures asked { IfSome (machine_of self.old) (λ m. (after : MachineNow)
-            × FnOnceReturnsAtMut F.FnOnce question m result after × (machine_of self.new ≡ Some after)) }
-        ensures kept { machine_of self.new ≡ machine_of self.old → session_of self.new ≡ session_of self.old }
+            × FnOnceReturnsAtMut F.FnOnce question m result after
+            × (machine_of self.new ≡ Some after)) }
+        ensures kept { machine_of self.new ≡ machine_of self.old →
+            session_of self.new ≡ session_of self.old }
     {
         let Some(mut session) = self.take(alloc) else {
             return Err(NO_MACHINE);
@@ -101,8 +103,10 @@ impl Handle {
         ensures none { IfNone (board_of self.old)
             ((result ≡ Err 901) × (session_of self.new ≡ session_of self.old)) }
         ensures asked { IfSome (board_of self.old) (λ b. (after : DrivenNow)
-            × FnOnceReturnsAtMut F.FnOnce question b result after × (board_of self.new ≡ Some after)) }
-        ensures kept { board_of self.new ≡ board_of self.old → session_of self.new ≡ session_of self.old }
+            × FnOnceReturnsAtMut F.FnOnce question b result after
+            × (board_of self.new ≡ Some after)) }
+        ensures kept { board_of self.new ≡ board_of self.old →
+            session_of self.new ≡ session_of self.old }
     {
         let Some(mut session) = self.take(alloc) else {
             return Err(NO_MACHINE);

@@ -22,7 +22,8 @@ use std::alloc::Global;
 
 /// Where an access of the host goes, if there is such a space and such a physical number.
 pub fn host_at(space: u32, bus: u8, device: u8, function: u8, place: u64) -> Option<HostAt>
-    ensures { option_map host_target_of result ≡ host_target_told space (at_bus bus device function) place }
+    ensures { option_map host_target_of result
+        ≡ host_target_told space (at_bus bus device function) place }
 {
     match space {
         0 => {
@@ -53,8 +54,10 @@ fn host_read(
     width: u64,
     value: &mut u32,
 ) -> u32
-    ensures place { host_target_told space (at_bus bus device function) place ≡ None → result ≡ 902 }
-    ensures read { (t : HostTarget) → host_target_told space (at_bus bus device function) place ≡ Some t →
+    ensures place { host_target_told space (at_bus bus device function) place ≡ None →
+        result ≡ 902 }
+    ensures read { (t : HostTarget) →
+        host_target_told space (at_bus bus device function) place ≡ Some t →
         let r = host_reply machine.old.world (record { target = t; width = width }) in
         (result ≡ number_told r) × (value.new ≡ value_told value.old r) }
     ensures unread { result ≢ 0 → value.new ≡ value.old }
@@ -81,16 +84,15 @@ fn host_read_in(
     ensures place { IfSome (machine_in session.old) (λ _.
         host_target_told space (at_bus bus device function) place ≡ None → result ≡ 902) }
     ensures read { IfSome (machine_in session.old) (λ m.
-        (t : HostTarget) → host_target_told space (at_bus bus device function) place ≡ Some t →
+        (t : HostTarget) →
+        host_target_told space (at_bus bus device function) place ≡ Some t →
         let r = host_reply m.world (record { target = t; width = width }) in
         (result ≡ number_told r) × (value.new ≡ value_told value.old r)) }
     ensures unread { result ≢ 0 → value.new ≡ value.old }
     ensures kept { session.new ≡ session.old }
 {
     match session.monitor() {
-        Some(machine) => {
-            host_read(machine, space, bus, device, function, place, width, value)
-        }
+        Some(machine) => { host_read(machine, space, bus, device, function, place, width, value) }
         None => NO_MACHINE,
     }
 }
@@ -113,7 +115,8 @@ pub extern "C" fn pciguest_raw_host_read(
     ensures place { IfSome (machine_of handle.old) (λ _.
         host_target_told space (at_bus bus device function) place ≡ None → result ≡ 902) }
     ensures read { IfSome (machine_of handle.old) (λ m.
-        (t : HostTarget) → host_target_told space (at_bus bus device function) place ≡ Some t →
+        (t : HostTarget) →
+        host_target_told space (at_bus bus device function) place ≡ Some t →
         let r = host_reply m.world (record { target = t; width = width }) in
         (result ≡ number_told r) × (value.new ≡ value_told value.old r)) }
     ensures unread { result ≢ 0 → value.new ≡ value.old }
@@ -148,8 +151,10 @@ pub extern "C" fn pciguest_raw_move(
     target: u64,
 ) -> u32
     ensures none { IfNone (machine_of handle.old) (result ≡ 901) }
-    ensures from { IfSome (machine_of handle.old) (λ m. length m.world.guests ≤ from → result ≡ 902) }
-    ensures to { IfSome (machine_of handle.old) (λ m. length m.world.guests ≤ to → result ≡ 902) }
+    ensures from { IfSome (machine_of handle.old) (λ m.
+        length m.world.guests ≤ from → result ≡ 902) }
+    ensures to { IfSome (machine_of handle.old) (λ m.
+        length m.world.guests ≤ to → result ≡ 902) }
     ensures moved { IfSome (machine_of handle.old) (λ m.
         from < length m.world.guests → to < length m.world.guests →
         let v = move_nth m.world from slot to target in

@@ -15,7 +15,8 @@ use std::alloc::Global;
 #[unsafe(no_mangle)]
 pub extern "C" fn pciguest_raw_new(alloc: Global, handle: &mut Handle, board: &[u8]) -> u32
     ensures made { result ≡ 0 → IsSome (machine_of handle.new) }
-    ensures begins { result ≡ 0 → IfSome (machine_of handle.new) (BeginsIn (IsOpened board.now)) }
+    ensures begins { result ≡ 0 →
+        IfSome (machine_of handle.new) (BeginsIn (IsOpened board.now)) }
     ensures refused { result ≢ 0 → session_of handle.new ≡ session_of handle.old }
     ensures in_use { IfSome (session_of handle.old) (λ _. result ≡ 903) }
     ensures numbers { IfNone (session_of handle.old) (result ≤ 299) }

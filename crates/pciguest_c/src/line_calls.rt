@@ -20,7 +20,8 @@ fn put_line(answer: Result<LineText, u32>, out: &mut [u8], written: &mut usize) 
     requires { IfOk answer (λ _. 48 ≤ length out.old) }
     ensures told { IfOk answer (λ t. (result ≡ 0) × (out.new ≡ at_front t.items out.old)
         × (written.new ≡ length t.items)) }
-    ensures refused { IfErr answer (λ n. (result ≡ n) × (out.new ≡ out.old) × (written.new ≡ written.old)) }
+    ensures refused { IfErr answer (λ n.
+        (result ≡ n) × (out.new ≡ out.old) × (written.new ≡ written.old)) }
 {
     match answer {
         Ok(text) => {
@@ -66,7 +67,8 @@ pub extern "C" fn pciguest_raw_run_line(
 /// Runs a line of a session, and puts what it writes at the front of a buffer that has room for it.
 fn run_on(session: &mut Session, line: &[u8], out: &mut [u8], written: &mut usize) -> u32
     ensures room { length out.old < 48 → result ≡ 902 }
-    ensures plain { 48 ≤ length out.old → IsFalse (asks_for_more session.old line.now) → result ≡ 0 }
+    ensures plain { 48 ≤ length out.old → IsFalse (asks_for_more session.old line.now) →
+        result ≡ 0 }
     ensures ran { result ≡ 0 → session.new ≡ after_session_line session.old line.now }
     ensures text { result ≡ 0 → let text = session_output session.old line.now in
         (out.new ≡ at_front text out.old) × (written.new ≡ length text) }
@@ -116,7 +118,8 @@ pub extern "C" fn pciguest_raw_board_run_line(
     ensures text { IfSome (session_of handle.old) (λ s. result ≡ 0 →
         let text = session_output s line.now in
         (out.new ≡ at_front text out.old) × (written.new ≡ length text)) }
-    ensures longer { IfSome (session_of handle.old) (λ s. result ≡ 902 → 48 ≤ length out.old →
+    ensures longer { IfSome (session_of handle.old) (λ s.
+        result ≡ 902 → 48 ≤ length out.old →
         let text = session_output s line.now in
         (length out.old < length text) × (written.new ≡ length text)) }
     ensures numbers { IfSome (session_of handle.old) (λ _.

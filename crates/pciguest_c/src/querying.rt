@@ -87,7 +87,8 @@ pub extern "C" fn pciguest_raw_region(
     told: &mut RegionTold,
 ) -> u32
     ensures none { IfNone (machine_of handle.old) (result ≡ 901) }
-    ensures guest { IfSome (machine_of handle.old) (λ m. length m.world.guests ≤ guest → result ≡ 902) }
+    ensures guest { IfSome (machine_of handle.old) (λ m.
+        length m.world.guests ≤ guest → result ≡ 902) }
     ensures told { IfSome (machine_of handle.old) (λ m. guest < length m.world.guests →
         let r = region_asked m.world guest slot bar in
         (result ≡ number_answered r) × (told.new ≡ region_left told.old r)) }
@@ -113,7 +114,8 @@ pub extern "C" fn pciguest_raw_changed(
     count: &mut u64,
 ) -> u32
     ensures none { IfNone (machine_of handle.old) (result ≡ 901) }
-    ensures guest { IfSome (machine_of handle.old) (λ m. length m.world.guests ≤ guest → result ≡ 902) }
+    ensures guest { IfSome (machine_of handle.old) (λ m.
+        length m.world.guests ≤ guest → result ≡ 902) }
     ensures told { IfSome (machine_of handle.old) (λ m. guest < length m.world.guests →
         (result ≡ 0) × (slice_get m.counts guest ≡ Some count.new)) }
     ensures untold { result ≢ 0 → count.new ≡ count.old }
@@ -138,10 +140,13 @@ pub extern "C" fn pciguest_raw_locate(
     told: &mut HitTold,
 ) -> u32
     ensures none { IfNone (machine_of handle.old) (result ≡ 901) }
-    ensures space { IfSome (machine_of handle.old) (λ _. target_told space slot place ≡ None → result ≡ 902) }
-    ensures guest { IfSome (machine_of handle.old) (λ m. length m.world.guests ≤ guest → result ≡ 902) }
+    ensures space { IfSome (machine_of handle.old) (λ _.
+        target_told space slot place ≡ None → result ≡ 902) }
+    ensures guest { IfSome (machine_of handle.old) (λ m.
+        length m.world.guests ≤ guest → result ≡ 902) }
     ensures told { IfSome (machine_of handle.old) (λ m. guest < length m.world.guests →
-        (t : Target) → target_told space slot place ≡ Some t → let r = hit_asked m.world guest t in
+        (t : Target) → target_told space slot place ≡ Some t →
+        let r = hit_asked m.world guest t in
         (result ≡ number_answered r) × (told.new ≡ hit_left told.old r)) }
     ensures untold { result ≢ 0 → told.new ≡ told.old }
     ensures kept { session_of handle.new ≡ session_of handle.old }

@@ -19,7 +19,8 @@ pub extern "C" fn pciguest_raw_reset(
     slot: u64,
 ) -> u32
     ensures none { IfNone (machine_of handle.old) (result ≡ 901) }
-    ensures guest { IfSome (machine_of handle.old) (λ m. length m.world.guests ≤ guest → result ≡ 902) }
+    ensures guest { IfSome (machine_of handle.old) (λ m.
+        length m.world.guests ≤ guest → result ≡ 902) }
     ensures reset { IfSome (machine_of handle.old) (λ m. guest < length m.world.guests →
         (result ≡ number_told (reply_at_device m.world guest (resets slot)))
         × (machine_of handle.new ≡ Some (after_at_device m guest (resets slot)))) }

@@ -23,7 +23,8 @@ pub extern "C" fn pciguest_raw_give(
     slot: u64,
 ) -> u32
     ensures none { IfNone (machine_of handle.old) (result ≡ 901) }
-    ensures guest { IfSome (machine_of handle.old) (λ m. length m.world.guests ≤ guest → result ≡ 902) }
+    ensures guest { IfSome (machine_of handle.old) (λ m.
+        length m.world.guests ≤ guest → result ≡ 902) }
     ensures given { IfSome (machine_of handle.old) (λ m. guest < length m.world.guests →
         (result ≡ number_told (gift_reply m.world path.now guest slot))
         × (machine_of handle.new ≡ Some (after_gift m path.now guest slot))) }
@@ -52,7 +53,8 @@ pub extern "C" fn pciguest_raw_take(
     slot: u64,
 ) -> u32
     ensures none { IfNone (machine_of handle.old) (result ≡ 901) }
-    ensures guest { IfSome (machine_of handle.old) (λ m. length m.world.guests ≤ guest → result ≡ 902) }
+    ensures guest { IfSome (machine_of handle.old) (λ m.
+        length m.world.guests ≤ guest → result ≡ 902) }
     ensures taken { IfSome (machine_of handle.old) (λ m. guest < length m.world.guests →
         (result ≡ number_told (taking_reply m.world guest slot))
         × (machine_of handle.new ≡ Some (after_taking m guest slot))) }

@@ -12,7 +12,8 @@ use std::alloc::Global;
 
 /// The report of a board file, or the number of its refusal.
 pub fn report_of(alloc: Global, board: &[u8]) -> Result<String, u32>
-    ensures report { IfOk result (λ t. (w : World) × IsSetUp board.now w × (string_bytes t ≡ report w)) }
+    ensures report { IfOk result (λ t.
+        (w : World) × IsSetUp board.now w × (string_bytes t ≡ report w)) }
     ensures file { IfErr result (λ n. n < 199 → Refuses board.now n) }
     ensures placement { IfErr result (λ n. 199 < n → n < 299 → Breaks board.now n) }
     ensures numbers { IfErr result (λ n. (n ≢ 0) × (n ≤ 299)) }

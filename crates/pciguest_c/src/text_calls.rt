@@ -77,12 +77,14 @@ pub extern "C" fn pciguest_raw_check(
     out: &mut [u8],
     needed: &mut usize,
 ) -> u32
-    ensures told { result < 299 → result ≢ 199 → (text : Text) × IsCheckOf board.now result text
+    ensures told { result < 299 → result ≢ 199 →
+        (text : Text) × IsCheckOf board.now result text
         × (out.new ≡ at_front text out.old) × (needed.new ≡ length text) }
     ensures room { result ≡ 902 → (n : ℕ) × (text : Text) × IsCheckOf board.now n text
         × (length out.old < length text) × (needed.new ≡ length text) }
     ensures numbers { (result ≤ 299) ⊎ (result ≡ 902) }
-    ensures unwritten { (result ≡ 199) ⊎ (result ≡ 299) ⊎ (result ≡ 902) → out.new ≡ out.old }
+    ensures unwritten { (result ≡ 199) ⊎ (result ≡ 299) ⊎ (result ≡ 902) →
+        out.new ≡ out.old }
     ensures untold { (result ≡ 199) ⊎ (result ≡ 299) → needed.new ≡ needed.old }
 {
     match check_of(alloc, board) {

@@ -11,6 +11,8 @@ returns-clause-asked g c =
     let lent = c.in-Some-board in
     where_some _ (board_of c.args.self.now) lent.board.now
     (ap (λ (o : Option SessionNow). option_and_then board_in o) c.in-Some.ensures.session
-    ∙ sym (lent.ensures.board ∙ ap board_in c.deref_mut.ensures.value))
-    (c.question-answer.new.arg2, search rules,
-    ap (λ (o : Option SessionNow). option_and_then board_in o) c.of-2.ensures)
+    ∙ sym (lent.ensures.board ∙ ap board_in c.deref_mut.ensures.value)) (
+      c.question-answer.new.arg2,
+      search rules,
+      ap (λ (o : Option SessionNow). option_and_then board_in o) c.of-2.ensures,
+    )

@@ -11,6 +11,8 @@ returns-clause-asked g c =
     let lent = c.in-Some-monitor in
     where_some _ (machine_of c.args.self.now) lent.machine.now
     (ap (λ (o : Option SessionNow). option_and_then machine_in o) c.in-Some.ensures.session
-    ∙ sym (lent.ensures.machine ∙ ap machine_in c.deref_mut.ensures.value))
-    (c.question-answer.new.arg2, search rules,
-    ap (λ (o : Option SessionNow). option_and_then machine_in o) c.of-2.ensures)
+    ∙ sym (lent.ensures.machine ∙ ap machine_in c.deref_mut.ensures.value)) (
+      c.question-answer.new.arg2,
+      search rules,
+      ap (λ (o : Option SessionNow). option_and_then machine_in o) c.of-2.ensures,
+    )
