@@ -76,8 +76,9 @@ pub fn run_line(monitor: &mut Monitor, line: &[u8]) -> LineText
 }
 
 /// Runs the event of a line, and writes what the line writes into an empty text: nothing, or one line with
-/// its line feed. If `long`, bytes of the line were passed over. No memory is taken.
-#[inline(always)]
+/// its line feed. If `long`, bytes of the line were passed over. No memory is taken. It is compiled once, for
+/// scripts and for sessions, and what it calls into it: that is faster.
+#[inline(never)]
 pub fn answer_line(monitor: &mut Monitor, line: &[u8], long: bool, text: &mut LineText)
     requires { text.old.items ≡ [] }
     ensures text { (before : Text) → IsBefore long before →
@@ -106,6 +107,7 @@ impl Answers<Script> for Monitor {
 
     ghost TakesMemory = { ⊥ };
 
+    #[inline(always)]
     fn answer(
         &mut self,
         line: &[u8],
