@@ -4,7 +4,16 @@ import { hex, parent_of } from './report.js';
 import { read_audit } from './audit.js';
 
 const COMMAND = 0x04, FIRST_BASE = 0x10, BUSES = 0x18;
-const DWORDS = [COMMAND, FIRST_BASE, 0x14, BUSES, 0x1c, 0x20, 0x24, 0x28, 0x2c, 0x30];
+const OF_BRIDGE = [COMMAND, BUSES, 0x1c, 0x20, 0x24, 0x28, 0x2c, 0x30];
+
+// The registers that say where a function stands and what it opens, by their first bytes.
+function dwords_of({ kind, regions }) {
+  if (kind === 'bridge') return OF_BRIDGE;
+  return [COMMAND, ...regions.flatMap(region => {
+    const offset = FIRST_BASE + 4 * Number(region.name.slice(3));
+    return region.kind.startsWith('mem64') ? [offset, offset + 4] : [offset];
+  })];
+}
 const two = value => value.toString(16).padStart(2, '0');
 const bits = { io: 1, mem: 2, pref: 2 };
 
@@ -74,7 +83,7 @@ export class AtReset {
   // A function that no cycle finds has the registers that were read last, since nothing wrote them since.
   function_now(one, lost, buses) {
     const bus = buses.get(parent_of(one.path)), place = lost?.number ?? `${two(bus)}:${one.place.slice(3)}`;
-    const values = lost ? this.read.get(one.path) ?? new Map(DWORDS.map(offset => [offset, 0])) : this.values_at(place);
+    const values = lost ? this.read.get(one.path) ?? new Map(dwords_of(one).map(offset => [offset, 0])) : this.values_at(place, one);
     this.read.set(one.path, values);
     const now = { ...one, place, bus: bus === 0 && one.depth > 0 ? '–' : two(bus), lost: lost?.text ?? null, values };
     const all_regions = regions_now(one, values), all_windows = one.kind === 'bridge' ? windows_now(this.decodes.get(one.path), values) : [];
@@ -87,5 +96,5 @@ export class AtReset {
       decodes: this.decodes.get(one.path) };
   }
 
-  values_at(place) { return new Map(DWORDS.map(offset => [offset, Number(this.driven.number(`host cr ${place} ${hex(offset)} 4`))])); }
+  values_at(place, one) { return new Map(dwords_of(one).map(offset => [offset, Number(this.driven.number(`host cr ${place} ${hex(offset)} 4`))])); }
 }

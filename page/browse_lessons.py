@@ -34,7 +34,7 @@ SOLUTIONS = {
     'ready': ['host cw 00:02.0 0x18 4 0x00010100', 'host cw 01:00.0 0x10 4 0xc0000000', 'host cw 01:00.0 0x14 4 0x1000', 'host cw 01:01.0 0x24 4 0xc0020000',
               'host cw 00:01.0 0x10 4 0x2000', 'host cw 00:02.0 0x20 4 0xc000c000', 'host cw 00:02.0 0x1c 2 0x1010', 'host cw 00:02.0 4 2 3',
               'host cw 01:00.0 4 2 3', 'host cw 01:01.0 4 2 2', 'host cw 00:01.0 4 2 1'],
-    'neighbour': ['store mr 0x80000010 4', 'store cw 0 0x24 4 0x80000000', 'store cw 0 4 2 2', 'store mw 0x80000010 4 0x0bad0bad'],
+    'neighbour': ['host guests', 'web cw 0 0x10 4 0x80000000', 'web cw 0 4 2 2', 'web mw 0x80000010 4 0x600d600d', 'store mr 0x80000010 4', 'store cw 0 0x24 4 0x80000000', 'store cw 0 4 2 2', 'store mw 0x80000010 4 0x0bad0bad'],
     'move': ['host move web 0 store 2', 'store cr 2 0x10 4', 'store cw 2 0x10 4 0x90000000', 'store cw 2 4 2 2'],
 }
 # What mends nothing: closing what is wrong.

@@ -107,17 +107,6 @@ class Held {
     return BigInt(reply.slice(reply.indexOf(':') + 2).trimEnd());
   }
 
-  close() {
-    this.free(this.handle);
-    for (const room of [this.handle, this.text, this.out, this.written]) this.engine.exports.rattle_dealloc(room);
-  }
-}
-
-class Machine extends Held {
-  run_line(...words) { return this.engine.exports.pciguest_raw_run_line(...words); }
-
-  free(handle) { this.engine.exports.pciguest_raw_free(handle); }
-
   // The place of a guest's name among all names.
   guest(name) {
     const { engine, handle, text, written } = this, bytes = new TextEncoder().encode(name);
@@ -136,6 +125,17 @@ class Machine extends Held {
     return { first: told.getBigUint64(0, true), size: told.getBigUint64(8, true), space: told.getUint32(16, true) === 1 ? 'io' : 'mem',
       open: told.getUint32(24, true) !== 0 };
   }
+
+  close() {
+    this.free(this.handle);
+    for (const room of [this.handle, this.text, this.out, this.written]) this.engine.exports.rattle_dealloc(room);
+  }
+}
+
+class Machine extends Held {
+  run_line(...words) { return this.engine.exports.pciguest_raw_run_line(...words); }
+
+  free(handle) { this.engine.exports.pciguest_raw_free(handle); }
 }
 
 // A board that firmware drives, and once a line hands it over, that of its guests.

@@ -37,14 +37,15 @@ export class Firmware {
     return found;
   }
 
-  draw(apertures) {
+  // `owners` and `marks` are those of guests, who have nothing until the board is given to them.
+  draw(apertures, owners, marks) {
     if (this.now === null) return;
-    const { functions, problems } = this.now, nobody = new Map();
+    const { functions, problems, given } = this.now, nobody = new Map(), whose = given ? [owners, marks] : [nobody, nobody];
     this.audit.draw(problems, this.came);
     if (functions.length === 0) return;
-    this.board.draw(functions, nobody, nobody, troubles_of(problems));
-    this.addresses.draw(functions, apertures, nobody, nobody, problems, 'No region and no window is open.');
-    this.draw_registers();
+    this.board.draw(functions, ...whose, troubles_of(problems));
+    this.addresses.draw(functions, apertures, ...whose, problems, 'No region and no window is open.');
+    if (!given) this.draw_registers();
   }
 
   // The registers of the selected function, with its bytes where a cycle finds it.
@@ -53,9 +54,8 @@ export class Firmware {
     if (one === undefined) { this.registers.clear(); return; }
     const bytes = one.lost === null ? keeping_latch(this.driven, () => bytes_of(this.driven, 'host', one.place)) : null;
     const lost = one.lost === null ? '' : `No cycle finds it, so nothing can be written: ${one.lost}`;
-    const note = this.now.given ? 'The board was given to its guests, and here the host only reads.' : lost;
     this.registers.draw(functions, bytes === null ? one : seen_in(one, bytes, one.decodes),
-      { bytes, note, whose: 'host', write: each => this.give(hex_line('host', one.place, each)) });
+      { bytes, note: lost, whose: 'host', write: each => this.give(hex_line('host', one.place, each)) });
   }
 
   choose(path) {

@@ -28,7 +28,7 @@ export class GuestRegisters {
     const as_guest = owner !== undefined && this.parts.view.value === 'guest', [who, where] = as_guest ? [owner.guest, owner.slot] : ['host', one.place];
     const bytes = bytes_of(machine, who, where), decodes = one.kind === 'bridge' ? decodes_of(machine, one.place) : null;
     this.registers.draw(functions, seen_in(one, bytes, decodes), { bytes, whose: who, write: each => this.give(hex_line(who, where, each)),
-      note: as_guest ? '' : 'The board, as the host reads it: set-up wrote these registers, and here nobody else does.' });
+      note: as_guest ? '' : 'The board, as the host reads it: firmware wrote these registers, and now nobody does.' });
   }
 
   redraw() { if (this.last !== null) this.draw(this.last.machine, this.last.functions, this.last.owners); }

@@ -25,11 +25,12 @@ const still = matchMedia('(prefers-reduced-motion: reduce)').matches;
 const wanted = () => new URLSearchParams(location.hash.slice(1));
 let engine = null, machine = null, functions = [], owners = new Map(), marks = new Map(), apertures = {}, as = 'guests';
 
-const choose = path => (as === 'firmware' ? firmware : guest_registers).choose(path);
+// Whether firmware has given its board to the guests of the file: its lines are a script's from there on.
+const given = () => as === 'firmware' && Boolean(firmware.now?.given);
+const choose = path => (as === 'firmware' && !given() ? firmware : guest_registers).choose(path);
 const give = line => script_console.give(line);
 const answers = () => (as === 'firmware' ? firmware.driven : machine);
-// Once firmware has given its board to guests, its lines are a script's.
-const speaking = () => (as === 'firmware' && !firmware.now?.given ? as : 'guests');
+const speaking = () => (given() ? 'guests' : as);
 const guests = () => (speaking() === 'firmware' ? [] : [...marks.keys()]);
 const board = new Board({ tree: part.tree, told: part.told, table: part.functions }, light, choose);
 const addresses = new Addresses(part.addresses, light);
@@ -52,8 +53,8 @@ let following = false, unseen = false;
 function known() {
   if (answers() === null) return null;
   const those = as === 'firmware' ? firmware.now?.functions ?? [] : functions;
-  const open_of = who => all_open(machine, functions, owners).filter(one => one.owner.guest === who);
-  return { as: speaking(), guests: guests(), functions: those, owners, places: who => places_on(as === 'firmware' || who === 'host' ? those : open_of(who)) };
+  const open_of = who => all_open(answers(), those, owners).filter(one => one.owner.guest === who);
+  return { as: speaking(), guests: guests(), functions: those, owners, places: who => places_on(who === 'host' ? those : open_of(who)) };
 }
 
 function moved(from, to) {
@@ -83,16 +84,23 @@ function follow() {
     following = false;
     if (as === 'firmware') {
       if (functions.length > LARGE) note();
-      firmware.draw(apertures);
-    } else if (machine !== null) draw_guests();
+      draw_firmware();
+    } else if (machine !== null) draw_guests(machine, functions);
     lessons.look();
     keep(held());
   });
 }
 
-function draw_guests() {
-  maps.draw(machine, functions, owners, marks);
-  guest_registers.draw(machine, functions, owners);
+function draw_guests(held, those) {
+  maps.draw(held, those, owners, marks);
+  guest_registers.draw(held, those, owners);
+}
+
+// What firmware sees, and the guests' part beside it once they have the board.
+function draw_firmware() {
+  firmware.draw(apertures, owners, marks);
+  document.body.toggleAttribute('data-given', given());
+  if (given()) draw_guests(firmware.driven, firmware.now.functions);
 }
 
 // Marks functions where they are drawn; of one behind a folded bus, the bridge before it.
@@ -106,8 +114,9 @@ function light(...paths) {
 }
 
 function draw() {
-  if (as === 'firmware') { firmware.draw(apertures); return; }
+  document.body.toggleAttribute('data-given', given());
   draw_key(part.guests, marks, functions.some(one => one.kind !== 'bridge' && !owners.has(one.path)));
+  if (as === 'firmware') { draw_firmware(); return; }
   board.draw(functions, owners, marks);
   addresses.draw(functions, apertures, owners, marks);
 }
