@@ -14,7 +14,9 @@ use crate::pending::Pending;
 use lines::{LineText, line_feed_in};
 use streams::{Failed, Writer, write_all};
 
-/// The first line that a line feed ends, without it, and what comes after it.
+/// The first line that a line feed ends, without it, and what comes after it. It is compiled into the loop over
+/// lines.
+#[inline(always)]
 fn whole_line(text: &[u8]) -> Option<(&[u8], &[u8])>
     ensures line { MatchOption result (HasNoEnd text.now) (λ p.
         HasNoEnd p.0.now × (text.now ≡ p.0.now ++ 10 ∷ p.1.now)) }
