@@ -3,7 +3,7 @@
 --     refused, broken      what is said of a refusal, by its number
 --     known      the fault of which a check tells is none of memory
 --     out_of_memory      one of memory is 199 or 299
-use Rattle.std.proofs.Common.{◌≡◌, ◌≤◌, ◌<◌, ◌⊎◌, ℕ, Option, Some, None, refl, ap, inl, inr, lit≤, lit<, arith}
+use Rattle.std.proofs.Common.{◌≡◌, ◌≤◌, ◌<◌, ◌⊎◌, ℕ, Option, Some, None, refl, ap, inl, inr, lit<, arith}
 use Rattle.std.specs.Prelude.{◌≢◌}
 use Rattle.std.specs.Option.{option_map_or}
 use Rattle.model_guests.specs.Text.{Text}

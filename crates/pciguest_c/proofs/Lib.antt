@@ -1,6 +1,5 @@
 mod FunctionRows
 mod FaultNumbers
-mod Held
 mod Kept
 mod Moved
 mod OpenFaults

@@ -1,10 +1,7 @@
 -- The numbers of why the board of a file is not set up, of which C is told.
 --     file_is_small, set_up_is_large      those of a file are 101 to 199, and those of its board 201 to 299
---     is_small      all of them
 --     refused, broken      what is said of a refusal, by its number
---     accepted      where the file isn't refused, the number isn't one of its checks
 use Rattle.std.proofs.Common.{◌≡◌, ◌≤◌, ◌<◌, ℕ, ap, lit≤, arith}
-use Rattle.std.specs.Prelude.{◌≢◌}
 use Rattle.board_file.specs.declared.fault.BoardFault.{BoardFault}
 use Rattle.board_file.specs.declared.fault.BoardFault.TheVariants as file
 use Rattle.board_file.specs.Faults as board_file
@@ -23,10 +20,6 @@ pub set_up_is_large : (s : SetUpFault) → (201 ≤ bus_scan.number_of s) × (bu
 set_up_is_large set_up.Buses = (lit≤ tt, lit≤ tt)
 set_up_is_large _ = (lit≤ tt, lit≤ tt)
 
-pub is_small : (f : OpenFault) → (101 ≤ number_of f) × (number_of f ≤ 299)
-is_small (File b) = let small = file_is_small b in (small.0, omega arith)
-is_small (SetUp s) = let large = set_up_is_large s in (omega arith, large.1)
-
 pub refused : (P : ℕ → Type 0) (f : OpenFault) → OnFile P f → number_of f < 199 → P (number_of f)
 refused P (File b) said small = said (λ memory. let full : board_file.number_of b ≡ 199 = ap board_file.number_of memory in omega arith)
 refused P (SetUp s) said small = absurd (let large = set_up_is_large s in omega arith)
@@ -34,11 +27,3 @@ refused P (SetUp s) said small = absurd (let large = set_up_is_large s in omega 
 pub broken : (P : ℕ → Type 0) (f : OpenFault) → OnSetUp P f → 199 < number_of f → number_of f < 299 → P (number_of f)
 broken P (File b) said large small = absurd (let less = file_is_small b in omega arith)
 broken P (SetUp s) said large small = said (λ memory. let full : bus_scan.number_of s ≡ 299 = ap bus_scan.number_of memory in omega arith)
-
-accepted_file : (b : BoardFault) → ¬ (b ≢ file.Memory) → 199 ≤ board_file.number_of b
-accepted_file file.Memory known = lit≤ tt
-accepted_file _ known = absurd (known (λ memory. cc))
-
-pub accepted : (f : OpenFault) → OnFile (λ _. ⊥) f → 199 ≤ number_of f
-accepted (File b) said = accepted_file b said
-accepted (SetUp s) said = let large = set_up_is_large s in omega arith

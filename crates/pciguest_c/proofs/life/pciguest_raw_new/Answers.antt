@@ -1,7 +1,5 @@
-use Rattle.std.proofs.Common.{arith}
 use Rattle.session.specs.Files.{Refuses, Breaks}
-use Rattle.pciguest_c.proofs.OpenFaults.{is_small, refused, broken}
-use Rattle.pciguest_c.proofs.Options.{where_none}
+use Rattle.pciguest_c.proofs.OpenFaults.{refused, broken}
 use Rattle.pciguest_c.proofs.life.pciguest_raw_new.Goals as goal
 
 pub returns-clause-file : goal.returns-clause-file
