@@ -8,7 +8,7 @@ use Rattle.model_registers.specs.EndpointTable.{BaseAddress}
 use Rattle.model_registers.specs.Decoding.{Space, space_of, opens_space, hit_at}
 use Rattle.model_registers.proofs.HitRegions.{space_same}
 use Rattle.model_board.specs.Paths.{Path}
-use Rattle.model_board.specs.Claims.{Claim, claim_at, claims, first_claim}
+use Rattle.model_board.specs.Claims.{claim_at, claims, first_claim}
 use Rattle.model_board.specs.Routing.{Ranges, regions, windows, RoutingRow, routing, is_routed, row_claims, routed_claims}
 use Rattle.model_set_up.specs.PlacedRegions.{PlacedRegion, holds, claim_in}
 use Rattle.model_set_up.specs.UniqueClaimant.{IsClaimed, ShareNone}

@@ -1,6 +1,6 @@
 -- Where no function is told as not found, a state is numbered: each function is reached by its address alone. A board
 -- that holds its own numbers is numbered.
-use Rattle.std.proofs.Common.{◌≡◌, ℕ, ◌<◌, ◌⊎◌, inl, inr, Bool, true, false, ◌&&◌, not, List, [], ◌∷◌, ◌++◌, length, Option, Some, None, refl, sym, ap, ◌∙◌, subst, arith, append_assoc}
+use Rattle.std.proofs.Common.{◌≡◌, ℕ, ◌<◌, ◌⊎◌, inl, inr, Bool, true, false, ◌&&◌, List, [], ◌∷◌, ◌++◌, length, Option, Some, None, refl, sym, ap, ◌∙◌, subst, arith, append_assoc}
 use Rattle.std.specs.Prelude.{find, IsTrue}
 use Rattle.std.specs.Option.{option_map, option_map_or}
 use Rattle.std.proofs.lemmas.Bool.{eqb-true, and_from}
@@ -13,7 +13,6 @@ use Rattle.model_board.specs.BusNumbers.{secondary, subordinate, bus_behind}
 use Rattle.model_board.specs.State.{BoardFunction, row_at}
 use Rattle.model_board.specs.Cycles.{secondary_register, subordinate_register, takes, is_route, ends_in, reached_type0, reached_type1, BusAddress, reached}
 use Rattle.model_set_up.specs.Reach.{HasNumbers, address_of}
-use Rattle.lists.proofs.Indices.{found_at, index_in}
 use Rattle.lists.proofs.Members.{each_in, each_from, in_map, from_map, any_in}
 use Rattle.model_board.proofs.PathEnds.{path_self, not_before_itself, snoc_some}
 use Rattle.model_board.proofs.PathOrder.{path_same}

@@ -12,7 +12,7 @@ use Rattle.model_registers.proofs.HitRegions.{space_same}
 use Rattle.lists.proofs.Tests.{left_true, right_true}
 use Rattle.model_board.specs.Board.{Board, Row, Decl, endpoint, bridge}
 use Rattle.model_board.specs.Paths.{Path, path_before, parent, IsPath}
-use Rattle.model_set_up.specs.Pools.{Pool, io_pool, mem_pool, pref_pool, same_pool, unit_of, bridges_above}
+use Rattle.model_set_up.specs.Pools.{Pool, io_pool, mem_pool, pref_pool, unit_of, bridges_above}
 use Rattle.model_set_up.specs.Extents.{IsInside, AreApart}
 use Rattle.model_set_up.specs.Placement.{Item, need, items_on, bus_first}
 use Rattle.model_set_up.specs.Layout.{LayoutRow, IsLawful, pool_rows, layout}

@@ -1,25 +1,18 @@
 -- After set-up the regions of a function stand where they were placed.
-use Rattle.std.proofs.Common.{◌≡◌, ◌+◌, ◌≤◌, List, [], ◌∷◌, refl, ap, ap₂}
+use Rattle.std.proofs.Common.{◌≡◌, List, [], ◌∷◌, refl, ap, ap₂}
 use Rattle.std.specs.Prelude.{map}
 use Rattle.lists.specs.Elements.{Each, IsIn}
-use Rattle.model_registers.specs.Declarations.{registers_of, IsLawfulRegion, HasLawfulRegions, Endpoint}
-use Rattle.model_registers.specs.DeclarationRules.{IsConfigBlock}
 use Rattle.model_registers.specs.Decoding.{base, base_address}
-use Rattle.model_board.specs.Board.{Board, Row, Decl, endpoint, bridge, is_multifunction}
+use Rattle.model_board.specs.Board.{Board, Decl, endpoint, bridge}
 use Rattle.model_board.specs.Paths.{Path}
-use Rattle.model_board.specs.State.{BoardFunction}
 use Rattle.model_registers.specs.Apertures.{Apertures}
-use Rattle.model_set_up.specs.Pools.{bridges_above}
-use Rattle.model_set_up.specs.Layout.{LayoutRow, IsAligned, IsLawful, layout}
-use Rattle.model_set_up.specs.PlacementLaws.{region_row, HasRows}
-use Rattle.model_set_up.specs.SetUp.{first_of, command_of, set_up_file}
+use Rattle.model_set_up.specs.Layout.{IsLawful, layout}
+use Rattle.model_set_up.specs.PlacementLaws.{HasRows}
+use Rattle.model_set_up.specs.SetUp.{first_of, set_up_file}
 use Rattle.model_board.specs.Routing.{row_of}
 use Rattle.model_set_up.specs.PlacedRegions.{placed, placed_at}
 use Rattle.model_set_up.specs.UniqueClaimant.{CanBePlaced}
 use Rattle.lists.proofs.Members.{each_in, each_from}
-use Rattle.model_set_up.proofs.SetUpRegisters.{FitsRegister, bases_read}
-use Rattle.model_set_up.proofs.PlacedRegions.{lawful_decl, lawful_regions, region_there}
-use Rattle.model_set_up.proofs.PlacedReads.{InAperture, fits_register}
 use Rattle.model_set_up.proofs.UniqueClaimant.{left, bases}
 use Rattle.model_audit.specs.OpenRegions.{region_now, regions_of}
 

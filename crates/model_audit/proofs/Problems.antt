@@ -1,12 +1,12 @@
 -- A state without problems is orderly, and what a problem says is so.
-use Rattle.std.proofs.Common.{◌≡◌, ℕ, zero, suc, ◌+◌, ◌≤◌, ◌<◌, ◌⊎◌, inl, inr, Bool, true, false, ◌&&◌, ◌||◌, cond, List, [], ◌∷◌, ◌++◌, Option, Some, None, refl, sym, ap, ap₂, ◌∙◌, subst, arith, leb, ltb}
+use Rattle.std.proofs.Common.{◌≡◌, ℕ, zero, suc, ◌+◌, ◌≤◌, ◌<◌, ◌⊎◌, inl, inr, Bool, true, false, ◌&&◌, ◌||◌, cond, List, [], ◌∷◌, ◌++◌, Option, Some, None, refl, sym, ap₂, ◌∙◌, subst, arith, leb, ltb}
 use Rattle.std.specs.Prelude.{not, map, filter, flat_map, IsTrue}
 use Rattle.std.specs.List.{list_all, list_any}
 use Rattle.std.specs.Option.{option_map, option_to_list}
 use Rattle.std.proofs.Math.Nat.{min-le_left, min-le_right}
 use Rattle.std.proofs.lemmas.Bool.Decides.{nat_tests}
 use Rattle.std.proofs.lemmas.Bool.{leb-true, ltb-true, le-leb, lt-ltb, and_from}
-use Rattle.lists.specs.Elements.{Each, EachPair, first_of_two, first_some, IsIn}
+use Rattle.lists.specs.Elements.{Each, EachPair, first_some, IsIn}
 use Rattle.model_registers.specs.Decoding.{Space, same_space}
 use Rattle.model_registers.proofs.HitRegions.{space_same}
 use Rattle.lists.proofs.Tests.{left_true, right_true, asked_false}

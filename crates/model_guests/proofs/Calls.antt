@@ -1,22 +1,19 @@
 -- What a guest is told by a call, and holds after it, is that of its own.
-use Rattle.std.proofs.Common.{◌≡◌, Bool, true, false, cond, List, [], ◌∷◌, ◌++◌, Some, None, Option, refl, sym, ap, ◌∙◌, arith}
+use Rattle.std.proofs.Common.{◌≡◌, Bool, true, false, cond, List, [], ◌∷◌, ◌++◌, refl, sym, ap, ◌∙◌, arith}
 use Rattle.std.specs.Prelude.{map, IsSome}
 use Rattle.std.specs.Str.{bytes_eq}
-use Rattle.model_registers.specs.Decoding.{Function}
-use Rattle.model_board.specs.Paths.{Path}
 use Rattle.model_guests.specs.Accesses.{Reply, refused}
 use Rattle.model_guests.specs.Text.{Text}
 use Rattle.model_guests.specs.Grammar.{guest, host, nobody}
-use Rattle.model_guests.specs.Lone.{LoneGuest, answer, after_event, filled, emptied}
-use Rattle.model_guests.specs.Guests.{GuestNow, GuestsNow, guest_named, lone_of, with_guest, guest_after, Move, handed_over, with_slot_emptied, with_slot_filled}
+use Rattle.model_guests.specs.Lone.{LoneGuest, answer, after_event}
+use Rattle.model_guests.specs.Guests.{GuestsNow, guest_named, lone_of, guest_after}
 use Rattle.model_guests.specs.Lines.{nothing, guest_event, host_read, host_move, bad}
 use Rattle.model_guests.specs.WorldNow.{WorldNow}
-use Rattle.model_guests.specs.Inputs.{Input, loses, gets, inputs_of_move, after_input, after_inputs}
+use Rattle.model_guests.specs.Inputs.{Input, after_input, after_inputs}
 use Rattle.model_guests.proofs.Names.{equal_texts}
-use Rattle.model_guests.proofs.GuestsByName.{Keeps, named_with}
 use Rattle.model_guests.specs.DeviceEvents.{device_answer, after_device_event, device_after}
 use Rattle.model_guests.specs.Calls.{Call, asks, at_device, after_call, told, CallInput, own_event, own_bad, own_device, moved, inputs_of_call, alone_told, after_own_call, all_alone_told, after_own_calls}
-use Rattle.model_guests.proofs.OneGuest.{lone_own, lone_other, lone_by, still, touched}
+use Rattle.model_guests.proofs.OneGuest.{lone_by, still, touched}
 
 -- ---- moves
 

@@ -1,7 +1,6 @@
 -- Statements that are false, each with what shows it.
-use Rattle.std.proofs.Common.{◌≡◌, ℕ, true, false, cond, [], ◌∷◌, Some, None, refl, ap, ◌∙◌, arith, eqb, lit≤}
+use Rattle.std.proofs.Common.{◌≡◌, ℕ, true, false, cond, [], ◌∷◌, Some, None, refl, ap, ◌∙◌, eqb, lit≤}
 use Rattle.std.specs.Prelude.{map, codes, sum}
-use Rattle.std.proofs.lemmas.Bool.Decides.{nat_tests}
 use Rattle.model_registers.specs.Registers.{config, place_eq, PlacedCell, File, cell_at, raise}
 use Rattle.model_registers.specs.Declarations.{Endpoint}
 use Rattle.model_registers.specs.EndpointTable.{endpoint_reset}

@@ -25,7 +25,7 @@ use Rattle.model_guests.specs.AgreedBoard.{state_over, with_change_at}
 use Rattle.model_guests.specs.ChangeLaws.{with_slot_changed}
 use Rattle.model_guests.specs.Seated.{AreSeated}
 use Rattle.model_guests.proofs.GuestFiles.{slot_set, with_file_there}
-use Rattle.model_guests.proofs.GuestsByName.{function_of, function_named}
+use Rattle.model_guests.proofs.GuestsByName.{function_named}
 use Rattle.model_guests.proofs.Changes.{one_file_of, file_before, file_after, file_others}
 use Rattle.model_guests.specs.DeviceEvents.{DeviceByte, device_reads, device_writes, if_device_byte, device_place, byte_landing, byte_fault, byte_in, with_byte, device_fault, device_answer, after_device_event, device_after, after_guest_device}
 use Rattle.model_guests.specs.DeviceByteLaws.{ReadsLeaveGuests, ReadsWritten, byte_change, WriteReachesBoard}

@@ -1,17 +1,14 @@
 -- After an event at a device guests stay seated, and hold what the law says.
-use Rattle.std.proofs.Common.{◌≡◌, ℕ, zero, suc, List, [], ◌∷◌, Some, None, Option, refl, ap, ap₂, subst, arith}
+use Rattle.std.proofs.Common.{◌≡◌, ℕ, List, Some, None, Option, refl, subst, arith}
 use Rattle.std.specs.Prelude.{slice_set}
 use Rattle.std.specs.Option.{option_map_or}
 use Rattle.model_registers.specs.Decoding.{Function}
 use Rattle.model_board.specs.Paths.{Path}
 use Rattle.model_board.specs.Board.{Board}
 use Rattle.model_guests.specs.Slots.{slot_at, reset_function}
-use Rattle.model_guests.specs.Text.{Text}
 use Rattle.model_guests.specs.Lone.{LoneGuest, filled}
-use Rattle.model_guests.specs.Guests.{GuestNow, GuestsNow, with_guest}
-use Rattle.model_guests.specs.WorldNow.{names_of}
 use Rattle.model_guests.specs.Seated.{AreSeats, IsSeat}
-use Rattle.model_guests.proofs.GuestsByName.{path_at, Keeps, one_name}
+use Rattle.model_guests.proofs.GuestsByName.{path_at}
 use Rattle.model_guests.proofs.Seats.{seats_at, seats_set, changed_shape, with_file_seats, names_stay, guests_stay, paths_stay, at_reset_there}
 use Rattle.model_guests.specs.DeviceEvents.{DeviceEvent, device_changed, reset_in, after_device_event, device_after}
 use Rattle.model_guests.specs.DeviceLaws.{NamesAfterDevices, OthersAfterDevice, OwnAfterDevice, SeatedAfterDevices}

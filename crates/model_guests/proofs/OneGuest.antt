@@ -16,7 +16,7 @@ use Rattle.model_guests.specs.WorldNow.{names_of}
 use Rattle.model_guests.specs.Inputs.{after_inputs, gets, inputs_of_move, loses}
 use Rattle.model_guests.proofs.Names.{equal_texts, same_text}
 use Rattle.model_guests.proofs.Along.{by_index}
-use Rattle.model_guests.proofs.GuestsByName.{function_of, Keeps, one, one_name, named_with}
+use Rattle.model_guests.proofs.GuestsByName.{function_of, Keeps, one_name, named_with}
 
 abbrev pub AreApart : GuestsNow → Type 0
 AreApart gs = EachPair (λ (g h : GuestNow). IsFalse (bytes_eq g.name h.name)) gs

@@ -7,7 +7,6 @@ use Rattle.lists.specs.Elements.{Each, EachPair}
 use Rattle.model_registers.specs.Decoding.{Function}
 use Rattle.model_board.specs.Paths.{Path}
 use Rattle.model_board.specs.Board.{Board}
-use Rattle.model_guests.specs.Slots.{reset_function}
 use Rattle.model_guests.specs.Text.{Text}
 use Rattle.model_guests.specs.Guests.{GuestNow, GuestsNow, Move, function_in, guest_named, handed_over, move_fault, path_in, with_guest, with_slot_emptied, with_slot_filled}
 use Rattle.model_guests.specs.Seated.{AreSeated, IsSeat, IsSeatedGuest, SeatedAfterMoves}

@@ -19,7 +19,7 @@ use Rattle.model_guests.specs.World.{declared}
 use Rattle.model_guests.specs.Guests.{GuestNow, GuestsNow, file_of, function_in, guest_named, path_in, with_guest, with_slot_emptied, with_slot_filled}
 use Rattle.model_guests.specs.Seated.{AreSeated, IsSeat, IsSeatedGuest}
 use Rattle.model_guests.proofs.FoundFiles.{file_found, file_past, file_stays, in_rest}
-use Rattle.model_guests.proofs.GuestsByName.{found, function_named, function_of, named_with, past_first, path_at, path_of}
+use Rattle.model_guests.proofs.GuestsByName.{found, function_named, function_of, named_with, path_at, path_of}
 use Rattle.model_guests.proofs.Names.{same_text}
 use Rattle.model_guests.proofs.SeatedMoves.{Placed, placed, put_there, was_there, seat_in}
 use Rattle.model_guests.proofs.MovedFunctions.{put_at}

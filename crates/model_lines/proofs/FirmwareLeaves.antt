@@ -1,10 +1,9 @@
 -- Whatever firmware does to a handoff, it leaves one.
-use Rattle.std.proofs.Common.{◌≡◌, ℕ, ◌/◌, ◌%◌, Bool, true, false, cond, List, [], ◌∷◌, Some, None, Option, refl, ◌∙◌, arith}
+use Rattle.std.proofs.Common.{◌≡◌, ℕ, Bool, true, false, cond, List, [], ◌∷◌, Some, None, Option, refl, ◌∙◌, arith}
 use Rattle.std.specs.Prelude.{map, is_some}
 use Rattle.std.specs.Option.{option_map_or}
 use Rattle.lists.specs.Elements.{Each}
-use Rattle.model_registers.specs.Cell.{Cell, written}
-use Rattle.model_registers.specs.Registers.{Place, config, block, after, File, changed, write, all_bytes}
+use Rattle.model_registers.specs.Registers.{config, block, File, write, all_bytes}
 use Rattle.model_registers.specs.CopiedFiles.{places_of}
 use Rattle.model_board.specs.Paths.{Path, path_eq}
 use Rattle.model_board.specs.Claims.{Claim, first_claim}

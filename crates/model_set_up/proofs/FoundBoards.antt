@@ -4,11 +4,11 @@ use Rattle.std.specs.Prelude.{map, filter, flat_map, IsTrue, count_by}
 use Rattle.std.specs.List.{list_all, list_any}
 use Rattle.std.proofs.lemmas.List.{map-append}
 use Rattle.std.proofs.lemmas.List.Folds.{list_all-map, flat_map-map}
-use Rattle.lists.proofs.EachLemmas.{each_map, each_of_map}
+use Rattle.lists.proofs.EachLemmas.{each_of_map}
 use Rattle.lists.proofs.Members.{pairs_of_map}
 use Rattle.std.proofs.lemmas.List.Sums.{sum_by-cons}
-use Rattle.lists.specs.Elements.{Each, EachPair}
-use Rattle.model_registers.specs.Declarations.{Kind, Region, IsLawfulRegion, registers_of, Endpoint, Bridge}
+use Rattle.lists.specs.Elements.{Each}
+use Rattle.model_registers.specs.Declarations.{Kind, Region, Endpoint, Bridge}
 use Rattle.model_registers.specs.OwnCopies.{bare}
 use Rattle.model_board.specs.Paths.{Path, path_eq, path_before, leads_to, parent, IsPath, function_zero, last_part}
 use Rattle.model_board.specs.Board.{Decl, endpoint, bridge, is_bridge, Row, Board, stands_at, is_bridge_at, IsBoard, rows_on}

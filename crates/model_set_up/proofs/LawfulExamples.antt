@@ -1,17 +1,13 @@
 -- Layouts that are not lawful, one rule at a time; and the main board keeps what the laws of placement ask for.
-use Rattle.std.proofs.Common.{◌≡◌, ℕ, ◌≤◌, ◌<◌, ◌^◌, ◌⊎◌, inl, inr, List, [], ◌∷◌, length, true, false, refl, arith, lit<, lit≤}
-use Rattle.std.specs.Prelude.{IsTrue, bit_and}
-use Rattle.lists.specs.Elements.{Each}
-use Rattle.model_registers.specs.Declarations.{Region, HasLawfulRegions}
-use Rattle.model_registers.specs.DeclarationRules.{IsLawfulEndpoint}
+use Rattle.std.proofs.Common.{◌≡◌, ℕ, ◌≤◌, ◌<◌, ◌⊎◌, inl, inr, List, [], ◌∷◌, true, false, refl, arith, lit<, lit≤}
+use Rattle.std.specs.Prelude.{IsTrue}
 use Rattle.model_registers.specs.Apertures.{IsLawfulApertures}
-use Rattle.model_board.specs.Paths.{Path, IsPart, IsPath}
-use Rattle.model_board.specs.Board.{Board, bridge, IsBoard}
+use Rattle.model_board.specs.Paths.{Path}
+use Rattle.model_board.specs.Board.{Board, bridge}
 use Rattle.model_set_up.specs.Pools.{Pool, io_pool, mem_pool, pref_pool}
 use Rattle.model_set_up.specs.Placement.{a_region, a_window, fits}
 use Rattle.model_set_up.specs.Layout.{LayoutRow, IsLawful, layout}
-use Rattle.model_board.specs.Lawful.{HasLawfulDecls}
-use Rattle.model_board.specs.Examples.{part, function_at, plain, first_endpoint, second_endpoint, third_endpoint, main_board, main_apertures, memory_bridge}
+use Rattle.model_board.specs.Examples.{part, function_at, main_board, main_apertures, memory_bridge}
 use Rattle.model_board.proofs.LawfulBoards.{main_is_board, main_decls_lawful}
 use Rattle.model_set_up.proofs.LawfulPlacement.{layout_is_lawful}
 
