@@ -224,7 +224,7 @@ lost_is rows before after q r n m split none over found =
       least = λ k h gone. let s = lost_start r q k h gone k q.first (inl refl) (omega arith) (holds_is q.space k q h).from (omega arith) in omega (arith, l.below s.0 s.1, s.2);
     }
 
-from_option : {A : Type 0} (o : Option A) (x : A) → IsIn x (option_to_list o) → o ≡ Some x
+pub from_option : {A : Type 0} (o : Option A) (x : A) → IsIn x (option_to_list o) → o ≡ Some x
 from_option o x m = grind arith
 
 forwarding_real : (rows : List RoutingRow) (p : Problem) → IsIn p (flat_map (forwarding_problem rows) (open_regions rows)) → IsRouted rows p
