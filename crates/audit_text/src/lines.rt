@@ -9,13 +9,13 @@ ghost use Rattle.board_audit.specs.Told.{problem_of};
 ghost use Rattle.report.specs.Found.{ended};
 
 use bars::Space;
-use board_audit::{Agent, OpenRegion, Problem};
+use board_audit::{Agent, RegionNow, Problem};
 use paths::{Bdf, Path};
 use report::push_path;
 use std::alloc::AllocError;
 
 /// Appends the path of a region, its register, and where it stands.
-fn push_region(text: &mut String, region: &OpenRegion) -> Result<(), AllocError>
+fn push_region(text: &mut String, region: &RegionNow) -> Result<(), AllocError>
     ensures { OnOk result (string_bytes text.new ≡ string_bytes text.old ++ region_text region.now) }
 {
     push_path(text, &region.path)?;
@@ -75,7 +75,7 @@ fn push_reached(text: &mut String, path: &Option<Path>) -> Result<(), AllocError
 /// Appends what is wrong with the forwarding to a region.
 fn push_not_forwarded(
     text: &mut String,
-    region: &OpenRegion,
+    region: &RegionNow,
     bridge: &Path,
     address: u64,
 ) -> Result<(), AllocError>

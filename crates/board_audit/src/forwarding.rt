@@ -11,12 +11,12 @@ ghost use Rattle.board_audit.specs.Told.{problem_of};
 use crate::finding::blame;
 use crate::gather::add_open;
 use crate::problem::Problem;
-use crate::region::OpenRegion;
+use crate::region::RegionNow;
 use bridge_forward::{Path, RoutingRow};
 use std::alloc::{AllocError, Global};
 
 /// The indices of the rows that lead to a path. They are asked once for all regions of a function.
-fn rows_above(alloc: Global, rows: &[RoutingRow], path: &Path) -> Result<Vec<usize>, AllocError>
+pub fn rows_above(alloc: Global, rows: &[RoutingRow], path: &Path) -> Result<Vec<usize>, AllocError>
     ensures { IfOk result (λ v. rows_nth rows.now v.items ≡ filter (λ r. leads_to r.path path.now) rows.now) }
 {
     let mut above = Vec::new(alloc);
@@ -30,7 +30,7 @@ fn rows_above(alloc: Global, rows: &[RoutingRow], path: &Path) -> Result<Vec<usi
 }
 
 /// What is wrong of a region under the bridge at an index.
-fn blame_nth(rows: &[RoutingRow], index: usize, region: &OpenRegion) -> Option<Problem>
+fn blame_nth(rows: &[RoutingRow], index: usize, region: &RegionNow) -> Option<Problem>
     ensures { option_map problem_of result
         ≡ first_some (blame region.now) (option_to_list (slice_get rows.now index)) }
 {
@@ -41,7 +41,7 @@ fn blame_nth(rows: &[RoutingRow], index: usize, region: &OpenRegion) -> Option<P
 }
 
 /// The first bridge above a region that doesn't forward all of it.
-fn first_blame(rows: &[RoutingRow], above: &[usize], region: &OpenRegion) -> Option<Problem>
+fn first_blame(rows: &[RoutingRow], above: &[usize], region: &RegionNow) -> Option<Problem>
     ensures { option_map problem_of result ≡ first_some (blame region.now) (rows_nth rows.now above.now) }
 {
     for index in above {
@@ -57,7 +57,7 @@ fn add_blames(
     told: &mut Vec<Problem>,
     rows: &[RoutingRow],
     above: &[usize],
-    regions: &[OpenRegion],
+    regions: &[RegionNow],
 ) -> Result<(), AllocError>
     ensures { OnOk result (map problem_of told.new.items ≡ map problem_of told.old.items
         ++ flat_map (λ q. option_to_list (first_some (blame q) (rows_nth rows.now above.now))) regions.now) }
