@@ -7,10 +7,10 @@ use Rattle.model_board.specs.Board.{Board}
 use Rattle.model_board.specs.State.{State}
 use Rattle.model_guests.specs.Text.{Text}
 use Rattle.model_guests.specs.World.{Guest, World, IsLawfulWorld}
-use Rattle.model_firmware.specs.FirmwareLines.{after_line}
-use Rattle.model_firmware.specs.HostAccesses.{HostAccess, after_access}
-use Rattle.model_handoff.specs.Sessions.{IsHandoffAlike}
-use Rattle.model_handoff.proofs.Sessions.{access_leaves, lines_leave}
+use Rattle.model_lines.specs.FirmwareLines.{after_line}
+use Rattle.model_lines.specs.HostAccesses.{HostAccess, after_access}
+use Rattle.model_lines.specs.FirmwareLeaves.{IsHandoffAlike}
+use Rattle.model_lines.proofs.FirmwareLeaves.{access_leaves, lines_leave}
 use Rattle.host_bridge.specs.HostState.{HostState}
 use Rattle.firmware.specs.Hosts.{after_asked, host_protocol}
 use Rattle.simulation.specs.Listing.{Declares}

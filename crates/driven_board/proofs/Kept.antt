@@ -8,8 +8,8 @@ use Rattle.model_guests.specs.Accesses.{Op, reads, writes, refused, done}
 use Rattle.model_guests.specs.Grammar.{HostTarget, host_configuration, host_port, host_address, host}
 use Rattle.model_guests.specs.Replies.{line_text}
 use Rattle.model_guests.specs.Text.{Text, text_of_lines}
-use Rattle.model_firmware.specs.HostAccesses.{HostAccess, fault_of, perform, effect, answer, after_access}
-use Rattle.model_firmware.specs.FirmwareLines.{Meaning, nothing, asked, bad, meaning, written_by, after_meaning, after_line, line_output}
+use Rattle.model_lines.specs.HostAccesses.{HostAccess, fault_of, perform, effect, answer, after_access}
+use Rattle.model_lines.specs.FirmwareLines.{Meaning, nothing, asked, bad, meaning, written_by, after_meaning, after_line, line_output}
 use Rattle.driven_board.specs.Boards.{is_done, tells_done}
 
 read_effect : (s : State) (w : ℕ) (at : HostTarget) → s.latch ≡ 0 → effect s w at reads ≡ s

@@ -10,8 +10,8 @@ use Rattle.std.specs.Str.{bytes_eq}
 use Rattle.model_guests.specs.Accesses.{Reply, answered, done, refused}
 use Rattle.model_guests.specs.Text.{Text}
 use Rattle.model_guests.specs.World.{Guest, World, IsLawfulWorld}
-use Rattle.model_firmware.specs.HostAccesses.{HostAccess, answer}
-use Rattle.model_firmware.specs.FirmwareLines.{line_output}
+use Rattle.model_lines.specs.HostAccesses.{HostAccess, answer}
+use Rattle.model_lines.specs.FirmwareLines.{line_output}
 use Rattle.model_handoff.specs.Handoffs.{IsHandoff}
 use Rattle.host_bridge.specs.HostState.{HostState}
 use Rattle.monitor.specs.Beginnings.{world_on}

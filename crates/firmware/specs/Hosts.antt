@@ -2,8 +2,8 @@
 --     after_asked h a      the host bridge after an access
 --     host_protocol      what a line writes, and the host bridge after it
 use Rattle.model_guests.specs.LineRuns.{Protocol}
-use Rattle.model_firmware.specs.HostAccesses.{HostAccess, after_access}
-use Rattle.model_firmware.specs.FirmwareLines.{line_output, after_line}
+use Rattle.model_lines.specs.HostAccesses.{HostAccess, after_access}
+use Rattle.model_lines.specs.FirmwareLines.{line_output, after_line}
 use Rattle.host_bridge.specs.HostState.{HostState}
 
 abbrev pub after_asked : HostState → HostAccess → HostState

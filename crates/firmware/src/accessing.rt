@@ -4,7 +4,7 @@ ghost use Rattle.model_registers.specs.Registers.{all_bytes};
 ghost use Rattle.model_registers.specs.ByteEnables.{IsWidth};
 ghost use Rattle.model_board.specs.Ports.{config_reply, after_config_write};
 ghost use Rattle.model_guests.specs.Accesses.{reads, writes};
-ghost use Rattle.model_firmware.specs.HostAccesses.{answer};
+ghost use Rattle.model_lines.specs.HostAccesses.{answer};
 ghost use Rattle.paths.specs.BusAddresses.{bus_address_of};
 ghost use Rattle.host_bridge.specs.HostState.{with_functions, with_latch};
 ghost use Rattle.accesses.specs.Accesses.{reply_of};

@@ -1,7 +1,7 @@
 //! What a line of firmware does and writes.
 ghost use Rattle.std.specs.Prelude.{◌≡◌, ◌≤◌, ◌++◌, ◌∷◌, [], codes, length, MatchOption, IfSome};
 ghost use Rattle.model_guests.specs.Replies.{reply_text};
-ghost use Rattle.model_firmware.specs.FirmwareLines.{line_output, after_line};
+ghost use Rattle.model_lines.specs.FirmwareLines.{line_output, after_line};
 ghost use Rattle.accesses.specs.Accesses.{reply_of};
 ghost use Rattle.accesses.specs.Replies.{IsShown};
 ghost use Rattle.firmware.specs.Hosts.{host_protocol};

@@ -3,7 +3,7 @@
 --     identity_nth fs i      that of the function at an index of the list
 use Rattle.std.specs.Prelude.{List, ℕ, Option, option_map, slice_get}
 use Rattle.model_board.specs.State.{BoardFunction}
-use Rattle.model_queries.specs.Functions as model
+use Rattle.model_handoff.specs.Functions as model
 use Rattle.function_identity.specs.declared.identity.Identity.{Identity}
 
 abbrev pub identity_told : Identity → model.Identity

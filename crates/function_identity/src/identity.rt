@@ -1,7 +1,7 @@
 //! Who made a function and what it is (PCI Local Bus 3.0, chapters 6.2.1 and 6.2.4).
 ghost use Rattle.std.specs.Prelude.{◌≡◌, ◌≤◌, ◌+◌, ◌%◌, option_map, slice_get};
 ghost use Rattle.model_board.specs.State.{BoardFunction};
-ghost use Rattle.model_queries.specs.Functions.{subsystem_number};
+ghost use Rattle.model_handoff.specs.Functions.{subsystem_number};
 ghost use Rattle.function_identity.specs.Identities.{identity_told, identity_nth};
 
 use host_bridge::Host;

@@ -1,7 +1,7 @@
 -- Writes of firmware with too few words or too many. `ws` are references to the words.
 use Rattle.std.proofs.Common.{◌≡◌, ◌<◌, ◌≤◌, List, [], ◌∷◌, None, length, take, Bor, refl, arith}
 use Rattle.model_guests.specs.Text.{Text}
-use Rattle.model_firmware.specs.FirmwareLines.{host_write_of, host_access_of}
+use Rattle.model_lines.specs.FirmwareLines.{host_write_of, host_access_of}
 use Rattle.lines.proofs.Counts.{texts}
 
 pub host_write_of_few : (ws : List (Bor Text)) → length ws < 4 → None ≡ host_write_of (texts ws)

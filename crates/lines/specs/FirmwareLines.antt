@@ -3,8 +3,8 @@
 --     firmware_meaning_of what      what a line means
 use Rattle.model_guests.specs.Accesses.{Op, reads, writes}
 use Rattle.model_guests.specs.Grammar.{host, nobody}
-use Rattle.model_firmware.specs.HostAccesses as firmware
-use Rattle.model_firmware.specs.FirmwareLines.{Meaning, nothing, asked, bad}
+use Rattle.model_lines.specs.HostAccesses as firmware
+use Rattle.model_lines.specs.FirmwareLines.{Meaning, nothing, asked, bad}
 use Rattle.accesses.specs.Accesses.{host_target_of}
 use Rattle.accesses.specs.Refusals.{number_of}
 use Rattle.accesses.specs.declared.access.HostAccess.{HostAccess}

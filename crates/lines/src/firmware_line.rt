@@ -3,9 +3,9 @@ ghost use Rattle.std.specs.Prelude.{◌≡◌, [], ◌∷◌, map, option_map, �
 ghost use Rattle.model_guests.specs.Grammar.{host_port, host_address, host_at};
 ghost use Rattle.model_guests.specs.Numbers.{below, number_of};
 ghost use Rattle.model_guests.specs.Text.{words};
-ghost use Rattle.model_firmware.specs.FirmwareLines.{asked, config_place, written_at, host_write_of};
-ghost use Rattle.model_firmware.specs.FirmwareLines.{host_access_of as access_of_words, access_or_bad};
-ghost use Rattle.model_firmware.specs.FirmwareLines.{meaning_of_words, meaning};
+ghost use Rattle.model_lines.specs.FirmwareLines.{asked, config_place, written_at, host_write_of};
+ghost use Rattle.model_lines.specs.FirmwareLines.{host_access_of as access_of_words, access_or_bad};
+ghost use Rattle.model_lines.specs.FirmwareLines.{meaning_of_words, meaning};
 ghost use Rattle.accesses.specs.Accesses.{host_access_of};
 ghost use Rattle.lines.specs.FirmwareLines.{firmware_meaning_of};
 

@@ -1,6 +1,6 @@
 //! Lines of two words, of which the first is `host`.
 ghost use Rattle.std.specs.Prelude.{◌≡◌, option_map};
-ghost use Rattle.model_sessions.specs.Sessions.{host_word};
+ghost use Rattle.model_lines.specs.Sessions.{host_word};
 
 use crate::cursor::{form_word, is_end, name_word};
 use crate::line::LONGEST_LINE;

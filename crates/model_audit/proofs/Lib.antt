@@ -7,3 +7,6 @@ pub mod Found
 pub mod Scan
 pub mod Witnesses
 pub mod Examples
+pub mod Placing
+pub mod Holding
+pub mod SetUpPasses

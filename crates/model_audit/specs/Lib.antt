@@ -7,3 +7,4 @@ pub mod Witnesses
 pub mod Notes
 pub mod AuditText
 pub mod Examples
+pub mod SetUpPasses

@@ -1,11 +1,12 @@
 //! An audit of a board in any register state: definitions, and laws about them. Does every address reach one place,
-//! can every function be found, and if not, which bridge and which address?
+//! can every function be found, and if not, which bridge and which address? What our own set-up leaves passes.
 #![tactic(auto)]
 
 ghost use Rattle.model_audit.specs.Examples.{WorkedExamples};
 ghost use Rattle.model_audit.specs.Found.{FoundOnce, NumbersOfBoard, ScanFindsAll};
 ghost use Rattle.model_audit.specs.Orderly.{OrderlyClaims};
 ghost use Rattle.model_audit.specs.Witnesses.{NumberingDecides, ProblemsAreReal, ProblemsDecide, RoutingDecides};
+ghost use Rattle.model_audit.specs.SetUpPasses.{RoutedAsSetUp, SetUpPasses};
 
 /// In an orderly state an address has the claim of the open region that holds it and no other, and each byte of an
 /// open region is claimed through every bridge above it.
@@ -32,4 +33,11 @@ pub fn problems_decide()
 /// What is told of some states.
 pub fn worked_examples()
     ensures { WorkedExamples }
+{}
+
+/// On every board that set-up takes, what it leaves has no problem; nor has any later state with the same routing
+/// registers and bus numbers.
+pub fn set_up_passes()
+    ensures set_up { SetUpPasses }
+    ensures later { RoutedAsSetUp }
 {}

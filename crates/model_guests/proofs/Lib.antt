@@ -39,3 +39,9 @@ pub mod RowsOfLimits
 pub mod RowsOfLatches
 pub mod RowsOfMoves
 pub mod RowsOfRuns
+pub mod OneGuest
+pub mod Resets
+pub mod DeviceSeats
+pub mod DeviceBytes
+pub mod Calls
+pub mod DeviceExamples

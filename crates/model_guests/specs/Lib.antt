@@ -22,3 +22,8 @@ pub mod LineRuns
 pub mod WorldLaws
 pub mod Report
 pub mod Examples
+pub mod DeviceEvents
+pub mod DeviceLaws
+pub mod DeviceByteLaws
+pub mod Calls
+pub mod DeviceExamples

@@ -1,4 +1,5 @@
-//! What guests, their scripts and replies are, as definitions, and laws about them.
+//! What guests, their scripts and replies are, and what happens to their functions at the devices, as definitions, and
+//! laws about them.
 #![tactic(auto)]
 
 ghost use Rattle.model_guests.specs.Isolation.{Isolated, IsolatedByOwnLines, IsolatedOver, OwnLinesAlone, TwoHandoffs, TwoWorlds, TwoWorldsByOwnLines};
@@ -10,6 +11,10 @@ ghost use Rattle.model_guests.specs.MoveLaws.{InputsWithin, MoveBetween, MoveWit
 ghost use Rattle.model_guests.specs.LineRuns.{AfterAlong, CutIsBeginning, LinesOfPieces, OutputAlong, StoppedIsBeginning};
 ghost use Rattle.model_guests.specs.WorldNow.{world_protocol};
 ghost use Rattle.model_guests.specs.WorldLaws.{HandoffStays, LongLinesAlike, NamesAlong, NamesStay};
+ghost use Rattle.model_guests.specs.Calls.{IsolatedByCalls};
+ghost use Rattle.model_guests.specs.DeviceByteLaws.{ReadsLeaveGuests, ReadsWritten, WriteReachesBoard};
+ghost use Rattle.model_guests.specs.DeviceExamples.{CountingDevice};
+ghost use Rattle.model_guests.specs.DeviceLaws.{NamesAfterDevices, OthersAfterDevice, OwnAfterDevice, ResetByMoves, ResetReachesBoard, SeatedAfterDevices};
 
 /// To each guest a script's replies, and what it then holds, are those of its own functions and
 /// latch alone, to its own lines and the moves that touch it, after set-up as over any handoff.
@@ -90,4 +95,39 @@ pub fn runs_in_pieces()
     ensures long { LongLinesAlike }
     ensures stopped { StoppedIsBeginning world_protocol }
     ensures cut { CutIsBeginning world_protocol }
+{}
+
+/// A reset of a function leaves what a move to an empty slot and back leaves, and reaches the board by
+/// the bytes of which the guest has no copy.
+pub fn resets_as_moves()
+    ensures moves { ResetByMoves }
+    ensures board { ResetReachesBoard }
+{}
+
+/// What a guest holds after an event at its device is told by what it held, and no other guest holds
+/// anything else than before. All stay seated and keep their names.
+pub fn devices_keep_guests()
+    ensures own { OwnAfterDevice }
+    ensures others { OthersAfterDevice }
+    ensures seated { SeatedAfterDevices }
+    ensures names { NamesAfterDevices }
+{}
+
+/// What a device reads changes nothing. What it writes is read again where a cell stands, and changes the
+/// board in its function alone, by that byte.
+pub fn devices_own_bytes()
+    ensures reads { ReadsLeaveGuests }
+    ensures written { ReadsWritten }
+    ensures board { WriteReachesBoard }
+{}
+
+/// Along any calls, lines and events at devices alike, what a guest is told and what it holds are those
+/// of its own events, those at its devices and the moves that touch it, over what it held before.
+pub fn calls_are_isolated()
+    ensures { IsolatedByCalls }
+{}
+
+/// A device that counts in a register that its driver only reads.
+pub fn counting_device()
+    ensures { CountingDevice }
 {}

@@ -1,7 +1,7 @@
 -- What happens at devices leaves the world lawful.
 use Rattle.std.proofs.Common.{refl, arith}
-use Rattle.model_devices.specs.DeviceEvents.{device_after}
-use Rattle.model_devices.proofs.Seats.{seated_after}
+use Rattle.model_guests.specs.DeviceEvents.{device_after}
+use Rattle.model_guests.proofs.DeviceSeats.{seated_after}
 use Rattle.model_handoff.specs.DevicesOver.{LawfulAfterDevices, ResetAfterDevices}
 use Rattle.model_handoff.proofs.Served.{served_with}
 use Rattle.model_handoff.proofs.Views.{reset_with}

@@ -12,5 +12,16 @@ pub mod Examples
 pub mod Kept
 pub mod Views
 pub mod Alike
-pub mod Sessions
+pub mod ResetCase
 pub mod DevicesOver
+pub mod Landings
+pub mod Inside
+pub mod Staying
+mod FunctionSeats
+mod FunctionExamples
+pub mod OneReset
+pub mod GivenSeats
+pub mod Giving
+pub mod Actions
+pub mod Counting
+pub mod Aside

@@ -28,8 +28,8 @@ use Rattle.model_audit.specs.OpenRegions.{region_now, closed_of, closed_regions}
 use Rattle.model_audit.specs.Orderly.{IsStateOfBoard}
 use Rattle.model_audit.proofs.Found.{numbers_of_board}
 use Rattle.model_audit.proofs.Witnesses.{problems_decide}
-use Rattle.model_set_up_audit.proofs.Placing.{left, regions_placed}
-use Rattle.model_set_up_audit.proofs.SetUpPasses.{set_up_passes}
+use Rattle.model_audit.proofs.Placing.{left, regions_placed}
+use Rattle.model_audit.proofs.SetUpPasses.{set_up_passes}
 use Rattle.model_guests.proofs.TablePlaces.{Alike, alike_places, alike_tables}
 use Rattle.model_audit.proofs.Problems.{no_elements}
 use Rattle.model_handoff.specs.Handoffs.{HasPlacesOf, is_given}

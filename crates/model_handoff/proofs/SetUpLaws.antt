@@ -19,7 +19,7 @@ use Rattle.model_set_up.specs.SetUp.{set_up_file, set_up_state}
 use Rattle.model_set_up.proofs.PlacedRegions.{placed_within}
 use Rattle.model_set_up.proofs.SetUpNumbers.{set_up_has_numbers}
 use Rattle.model_set_up.proofs.UniqueClaimant.{claim_of_region}
-use Rattle.model_set_up_audit.proofs.Placing.{left}
+use Rattle.model_audit.proofs.Placing.{left}
 use Rattle.model_guests.specs.Guests.{GuestsNow}
 use Rattle.model_guests.specs.AgreedBoard.{state_over}
 use Rattle.model_guests.specs.AgreedLaws.{Agrees}

@@ -6,7 +6,7 @@ use Rattle.model_board.specs.State.{State}
 use Rattle.model_guests.specs.Text.{Text}
 use Rattle.model_guests.specs.Guests.{GuestsNow}
 use Rattle.model_guests.specs.WorldNow.{WorldNow}
-use Rattle.model_devices.specs.DeviceEvents.{DeviceEvent, after_guest_device, after_device}
+use Rattle.model_guests.specs.DeviceEvents.{DeviceEvent, after_guest_device, after_device}
 use Rattle.model_handoff.specs.Kept.{IsLawfulOver}
 use Rattle.model_handoff.specs.ViewLaws.{with_seated_reset}
 

@@ -1,4 +1,6 @@
-//! Guests over a board in the state in which any firmware hands it over, as definitions, and laws about them.
+//! Guests over a board in the state in which any firmware hands it over, as definitions, and laws about them: what their
+//! accesses come to there, where the regions of their functions stand, what is told of each function of the board, and
+//! functions that are given to guests and taken from them.
 #![tactic(auto)]
 
 ghost use Rattle.model_handoff.specs.AgreementLaws.{FirstIsHandoff, FirstIsReset, KeepsAddresses, KeepsBoard};
@@ -10,10 +12,19 @@ ghost use Rattle.model_handoff.specs.RegionLaws.{RegionWrites, ServedAfterEvents
 ghost use Rattle.model_handoff.specs.SetUpCase.{SetUpAddresses, SetUpCanBeGiven, SetUpIsHandoff, SetUpIsInOrder, SetUpPlaces};
 ghost use Rattle.model_handoff.specs.SetUpLaws.{HitReachesRegion, SetUpAgrees, SetUpAtFirst, SetUpIsOnly, SetUpKeepsNumbers, SetUpKeepsRouting};
 ghost use Rattle.model_handoff.specs.ViewLaws.{OverReset, ResetAfterEvents, ResetAfterMoves, ResetAtFirst, ResetShown};
-ghost use Rattle.model_handoff.specs.Sessions.{AccessLeaves, LinesLeave, ResetIsHandoff};
+ghost use Rattle.model_handoff.specs.ResetCase.{ResetIsHandoff};
 ghost use Rattle.model_handoff.specs.DevicesOver.{LawfulAfterDevices, ResetAfterDevices};
 ghost use Rattle.model_handoff.specs.Kept.{LawfulAfter, LawfulAlong, LawfulAtFirst};
 ghost use Rattle.model_handoff.specs.Examples.{WorkedExamples};
+ghost use Rattle.model_handoff.specs.FunctionExamples.{ToldFunctions};
+ghost use Rattle.model_handoff.specs.FunctionLaws.{NoSeatHolds, SeatsHold};
+ghost use Rattle.model_handoff.specs.QueryLaws.{AccessLands, HitIsInside, InsideIsHit, NothingHit};
+ghost use Rattle.model_handoff.specs.StayLaws.{RegionsStay};
+ghost use Rattle.model_handoff.specs.Actions.{IsolatedByActions};
+ghost use Rattle.model_handoff.specs.CountLaws.{AnswersStay, ChangesTouchSlots, CountsGrow, RegionsStayAlong};
+ghost use Rattle.model_handoff.specs.GivingLaws.{BoardAfterGift, BoardAfterTaking, GivenBack, GivenFunction};
+ghost use Rattle.model_handoff.specs.GivingLaws.{LawfulAfterGift, LawfulAfterTaking, OthersAfterGift, OthersAfterTaking};
+ghost use Rattle.model_handoff.specs.GivingLaws.{ShownAfterGift, ShownAfterTaking};
 
 /// Just one state of the board agrees with the guests over a handoff; before any event it is the handoff with each
 /// given function at reset.
@@ -67,11 +78,9 @@ pub fn given_are_served()
     ensures lawful_along { LawfulAlong }
 {}
 
-/// Whatever firmware does to a board at reset, it hands over a handoff of that board.
-pub fn firmware_hands_over()
-    ensures reset { ResetIsHandoff }
-    ensures access { AccessLeaves }
-    ensures lines { LinesLeave }
+/// A board at reset is a handoff.
+pub fn reset_is_a_case()
+    ensures { ResetIsHandoff }
 {}
 
 /// With each function in a slot at reset the board shows over which handoff its guests are, whatever they did.
@@ -113,4 +122,75 @@ pub fn agreement_after_set_up()
 /// What guests see over some handoffs.
 pub fn worked_examples()
     ensures { WorkedExamples }
+{}
+
+/// What is told of a place is what an access there does: of any width, but for the one that is the
+/// guest's own address latch.
+pub fn accesses_land()
+    ensures lands { AccessLands }
+    ensures nothing { NothingHit }
+{}
+
+/// A hit lies in a region that is told there and is open, and each address of such a region hits
+/// something.
+pub fn hits_lie_in_regions()
+    ensures inside { HitIsInside }
+    ensures hit { InsideIsHit }
+{}
+
+/// Where a region of a guest's function stands changes by nothing else than the guest's own writes of
+/// Command or of base address registers, moves that touch its slot, and resets at its device.
+pub fn regions_stay()
+    ensures { RegionsStay }
+{}
+
+/// A seat that is told of a function holds it, and where none is told no slot of a guest does.
+pub fn seats_hold()
+    ensures held { SeatsHold }
+    ensures none { NoSeatHolds }
+{}
+
+/// Functions of a board that is set up, as they are told once one of them was moved.
+pub fn told_functions()
+    ensures { ToldFunctions }
+{}
+
+/// A function that is given to a guest is at reset in its slot and on the board, which is else as it was. The world
+/// stays lawful, and the handoff is shown as before but for this function.
+pub fn gifts_reset_functions()
+    ensures board { BoardAfterGift }
+    ensures lawful { LawfulAfterGift }
+    ensures shown { ShownAfterGift }
+    ensures function { GivenFunction }
+{}
+
+/// A function that is taken from a guest is at reset on the board, which is else as it was. The world stays lawful, and
+/// the same handoff is shown.
+pub fn takings_reset_functions()
+    ensures board { BoardAfterTaking }
+    ensures lawful { LawfulAfterTaking }
+    ensures shown { ShownAfterTaking }
+{}
+
+/// No other guest holds anything else after a gift or a taking, and a gift that is taken again leaves all guests as they
+/// were.
+pub fn gifts_touch_one_guest()
+    ensures gift { OthersAfterGift }
+    ensures taking { OthersAfterTaking }
+    ensures back { GivenBack }
+{}
+
+/// Along any calls, gifts and takings, what a guest is told and what it holds are those of its own events, those at its
+/// devices, and the moves, gifts and takings that touch it, over what it held before.
+pub fn actions_are_isolated()
+    ensures { IsolatedByActions }
+{}
+
+/// A guest's count grows by one with each action that touches a slot of it in the sense in which an answer may change.
+/// While it stays, each answer stays where the regions of the guest's functions stand.
+pub fn counts_tell_changes()
+    ensures along { RegionsStayAlong }
+    ensures touched { ChangesTouchSlots }
+    ensures counts { CountsGrow }
+    ensures stay { AnswersStay }
 {}

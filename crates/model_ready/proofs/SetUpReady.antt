@@ -44,8 +44,8 @@ use Rattle.model_audit.specs.OpenRegions.{region_now, regions_of, open_of, open_
 use Rattle.model_audit.specs.Found.{bus_now, address_now}
 use Rattle.model_audit.proofs.Found.{numbers_of_board}
 use Rattle.model_audit.proofs.Problems.{none_front, each_none}
-use Rattle.model_set_up_audit.proofs.Placing.{left, regions_placed}
-use Rattle.model_set_up_audit.proofs.SetUpPasses.{set_up_passes, routed_as_set_up}
+use Rattle.model_audit.proofs.Placing.{left, regions_placed}
+use Rattle.model_audit.proofs.SetUpPasses.{set_up_passes, routed_as_set_up}
 use Rattle.model_ready.specs.Lacks.{primary_register, is_in_apertures, is_plain, plain_of, plain_regions, prefetches, other_primary, primary_lack, routing_lacks, lacks}
 use Rattle.model_ready.specs.ReadyLaws.{IsWithinApertures, PrefetchesNone, LacksNothing, SetUpIsReady, ReadyAsSetUp}
 use Rattle.model_ready.proofs.Lacks.{nothing_lacking, none_primary}

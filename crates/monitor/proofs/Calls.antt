@@ -5,7 +5,7 @@ use Rattle.std.proofs.lemmas.Option.{slice_get_read}
 use Rattle.model_board.specs.Routing.{routing}
 use Rattle.model_guests.specs.Text.{Text}
 use Rattle.model_guests.specs.WorldNow.{WorldNow}
-use Rattle.model_giving.specs.Changes.{MachineNow}
+use Rattle.model_handoff.specs.Changes.{MachineNow}
 use Rattle.model_handoff.proofs.Keeping.{keeps_routing}
 use Rattle.host_bridge.specs.HostState.{HostState}
 use Rattle.monitor.specs.declared.guest.Guest.{Guest}

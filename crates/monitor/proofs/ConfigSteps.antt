@@ -12,7 +12,7 @@ use Rattle.model_guests.specs.Accesses.{answered, reads, writes, configuration}
 use Rattle.model_guests.specs.Slots.{Landing, landing, perform, effect, slot_at}
 use Rattle.model_guests.specs.Lone.{at_target, reply_at, after_access_at}
 use Rattle.model_guests.specs.WorldNow.{WorldNow}
-use Rattle.model_queries.specs.StayLaws.{any_tells}
+use Rattle.model_handoff.specs.StayLaws.{any_tells}
 use Rattle.model_guests.specs.ChangeLaws.{with_slot_changed}
 use Rattle.model_guests.proofs.AgreedFiles.{writes_alike}
 use Rattle.model_guests.specs.AgreedBoard.{with_change_at}

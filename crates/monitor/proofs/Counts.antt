@@ -13,7 +13,7 @@ use Rattle.model_guests.specs.Text.{Text}
 use Rattle.model_guests.specs.Guests.{GuestNow, GuestsNow}
 use Rattle.model_guests.specs.WorldNow.{names_of}
 use Rattle.model_guests.proofs.Names.{equal_texts, same_text}
-use Rattle.model_giving.specs.Changes.{after_change, counts_where}
+use Rattle.model_handoff.specs.Changes.{after_change, counts_where}
 use Rattle.monitor.specs.declared.guest.Guest.{Guest}
 use Rattle.monitor.specs.Counts.{counts_of, counted_nth, counted_both}
 

@@ -24,13 +24,13 @@ use Rattle.model_guests.specs.AgreedBoard.{with_change_at}
 use Rattle.model_guests.proofs.AgreedFiles.{stands, agreed_places, agreed_common}
 use Rattle.model_guests.proofs.GuestFiles.{with_file_there}
 use Rattle.model_guests.specs.Text.{Text}
-use Rattle.model_devices.specs.DeviceEvents.{DeviceByte, device_reads, device_writes, device_place, byte_fault, device_fault, device_answer, device_after, byte_landing}
-use Rattle.model_devices.specs.DeviceByteLaws.{byte_change}
-use Rattle.model_devices.proofs.Bytes.{passes, read_there, write_answered, written_there}
-use Rattle.model_devices.proofs.Seats.{seated_after}
+use Rattle.model_guests.specs.DeviceEvents.{DeviceByte, device_reads, device_writes, device_place, byte_fault, device_fault, device_answer, device_after, byte_landing}
+use Rattle.model_guests.specs.DeviceByteLaws.{byte_change}
+use Rattle.model_guests.proofs.DeviceBytes.{passes, read_there, write_answered, written_there}
+use Rattle.model_guests.proofs.DeviceSeats.{seated_after}
 use Rattle.model_guests.specs.WorldNow.{WorldNow, board_state}
-use Rattle.model_devices.proofs.Bytes.{write_reaches_board}
-use Rattle.model_devices.specs.DeviceEvents.{after_device}
+use Rattle.model_guests.proofs.DeviceBytes.{write_reaches_board}
+use Rattle.model_guests.specs.DeviceEvents.{after_device}
 use Rattle.headers.specs.declared.place.Place as headers
 use Rattle.headers.specs.Places.{place_of}
 use Rattle.bridge_forward.specs.Lending.{as_endpoint, endpoint_at, endpoint_nth, with_endpoint}

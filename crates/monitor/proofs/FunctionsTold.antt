@@ -16,7 +16,7 @@ use Rattle.model_guests.specs.Slots.{Slots, slot_at}
 use Rattle.model_guests.specs.Guests.{GuestsNow, path_in}
 use Rattle.model_guests.proofs.GuestsByName.{path_at}
 use Rattle.model_guests.specs.WorldNow.{WorldNow, board_state}
-use Rattle.model_queries.specs.Functions.{Seat, seat_from, seat_of, FunctionNow, function_now, function_nth, function_at, slot_answer}
+use Rattle.model_handoff.specs.Functions.{Seat, seat_from, seat_of, FunctionNow, function_now, function_nth, function_at, slot_answer}
 use Rattle.host_bridge.specs.HostState.{HostState}
 use Rattle.monitor.specs.declared.guest.Held.{Held}
 use Rattle.monitor.specs.declared.guest.Guest.{Guest}

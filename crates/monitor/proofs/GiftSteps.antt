@@ -30,7 +30,7 @@ use Rattle.model_guests.specs.WorldNow.{WorldNow, board_state}
 use Rattle.model_handoff.proofs.Keeping.{keeps_board, keeps_routing}
 use Rattle.model_handoff.proofs.Regions.{state_stays}
 use Rattle.model_handoff.proofs.Standing.{at_path}
-use Rattle.model_giving.specs.Giving.{has_closed_region, give_fault, endpoint_fault}
+use Rattle.model_handoff.specs.Giving.{has_closed_region, give_fault, endpoint_fault}
 use Rattle.model_handoff.proofs.Alike.{command_at}
 use Rattle.bars.specs.declared.region.BasedRegion.{BasedRegion}
 use Rattle.bars.specs.Resets.{with_no_base}

@@ -17,10 +17,10 @@ use Rattle.model_handoff.specs.ViewLaws.{with_seated_reset}
 use Rattle.model_guests.specs.WorldNow.{WorldNow, board_state}
 use Rattle.model_handoff.proofs.Keeping.{keeps_board}
 use Rattle.model_handoff.proofs.Regions.{state_stays}
-use Rattle.model_giving.specs.Giving.{Gift, with_reset_at, give_fault, after_give, given}
+use Rattle.model_handoff.specs.Giving.{Gift, with_reset_at, give_fault, after_give, given}
 use Rattle.model_handoff.proofs.Alike.{IsAlike}
-use Rattle.model_giving.proofs.Giving.{CanGive, can_give, given_is, is_alike, board_after_gift, lawful_after_gift, shown_after_gift}
-use Rattle.model_giving.proofs.Seats.{below}
+use Rattle.model_handoff.proofs.Giving.{CanGive, can_give, given_is, is_alike, board_after_gift, lawful_after_gift, shown_after_gift}
+use Rattle.model_handoff.proofs.GivenSeats.{below}
 use Rattle.host_bridge.specs.ByIndex.{with_reset_nth}
 use Rattle.host_bridge.specs.HostState.{HostState, with_functions}
 use Rattle.monitor.specs.declared.guest.Held.{Held}

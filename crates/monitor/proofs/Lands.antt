@@ -11,9 +11,9 @@ use Rattle.model_registers.specs.Decoding.{Space, io, memory, Hit, lone_claim}
 use Rattle.model_guests.specs.Accesses.{Target, Access, access, configuration, port, address, Op, reads, writes}
 use Rattle.model_guests.specs.Slots.{Slots, Landing, landing_from, fault_of}
 use Rattle.model_guests.specs.Lone.{LoneGuest, Destination, own_latch, no_function, at_target, destination, ordinary, Select, select_at, by_select, changed_by}
-use Rattle.model_queries.specs.Located.{landing_at}
-use Rattle.model_queries.specs.StayLaws.{any_tells}
-use Rattle.model_giving.specs.Changes.{MachineNow, lands_own, moves_own}
+use Rattle.model_handoff.specs.Located.{landing_at}
+use Rattle.model_handoff.specs.StayLaws.{any_tells}
+use Rattle.model_handoff.specs.Changes.{MachineNow, lands_own, moves_own}
 use Rattle.monitor.specs.ByIndex.{lone_nth}
 use Rattle.monitor.specs.Counts.{changes_at, after_nth, after_access_nth, after_event_nth}
 use Rattle.monitor.specs.Reaches.{target_in}

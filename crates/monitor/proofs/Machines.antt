@@ -19,12 +19,12 @@ use Rattle.model_guests.specs.Lone.{LoneGuest, Destination, after_event, changed
 use Rattle.model_guests.specs.World.{Guest as Declared, World}
 use Rattle.model_guests.specs.Guests.{GuestNow, GuestsNow, guest_at_first}
 use Rattle.model_guests.specs.WorldNow.{WorldNow, names_now, world_over}
-use Rattle.model_devices.specs.DeviceEvents.{DeviceByte, DeviceEvent, device_reads}
-use Rattle.model_devices.proofs.Bytes.{reads_leave_guests}
-use Rattle.model_devices.specs.Calls.{asks, at_device}
-use Rattle.model_queries.specs.StayLaws.{is_write}
-use Rattle.model_giving.specs.Actions.{Action, calls, after_action}
-use Rattle.model_giving.specs.Changes.{MachineNow, BeginsIn, after_on_machine, changes, counts_where, lands_own, moves_own}
+use Rattle.model_guests.specs.DeviceEvents.{DeviceByte, DeviceEvent, device_reads}
+use Rattle.model_guests.proofs.DeviceBytes.{reads_leave_guests}
+use Rattle.model_guests.specs.Calls.{asks, at_device}
+use Rattle.model_handoff.specs.StayLaws.{is_write}
+use Rattle.model_handoff.specs.Actions.{Action, calls, after_action}
+use Rattle.model_handoff.specs.Changes.{MachineNow, BeginsIn, after_on_machine, changes, counts_where, lands_own, moves_own}
 use Rattle.host_bridge.specs.HostState.{HostState}
 use Rattle.monitor.specs.declared.guest.Guest.{Guest}
 use Rattle.monitor.specs.ByIndex.{lone_nth, name_nth, with_lone_nth}

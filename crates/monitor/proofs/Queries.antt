@@ -17,7 +17,7 @@ use Rattle.model_board.specs.Ports.{file_at}
 use Rattle.model_guests.specs.Slots.{slot_at}
 use Rattle.model_guests.specs.Text.{Text}
 use Rattle.model_guests.specs.WorldNow.{WorldNow}
-use Rattle.model_queries.specs.Regions.{RegionNow, is_prefetchable, region_now, region_at, region_of, region_answer}
+use Rattle.model_handoff.specs.GuestRegions.{RegionNow, is_prefetchable, region_now, region_at, region_of, region_answer}
 use Rattle.bars.specs.declared.region.BasedRegion.{BasedRegion}
 use Rattle.bars.specs.Slots as bars
 use Rattle.host_bridge.specs.HostState.{HostState}

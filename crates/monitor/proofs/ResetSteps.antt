@@ -19,11 +19,11 @@ use Rattle.model_board.specs.AtReset.{board_at}
 use Rattle.model_board.specs.State.{State}
 use Rattle.model_board.specs.Paths.{Path}
 use Rattle.model_guests.specs.Text.{Text}
-use Rattle.model_devices.specs.DeviceEvents.{resets, slot_fault, device_answer, after_device_event, device_after, DeviceEvent, device_changed, device_fault, device_performed}
-use Rattle.model_devices.proofs.Resets.{taken_passes, reset_there, answer_there}
-use Rattle.model_devices.proofs.Seats.{seated_after}
-use Rattle.model_devices.proofs.Resets.{reset_reaches_board}
-use Rattle.model_devices.specs.DeviceEvents.{after_device}
+use Rattle.model_guests.specs.DeviceEvents.{resets, slot_fault, device_answer, after_device_event, device_after, DeviceEvent, device_changed, device_fault, device_performed}
+use Rattle.model_guests.proofs.Resets.{taken_passes, reset_there, answer_there}
+use Rattle.model_guests.proofs.DeviceSeats.{seated_after}
+use Rattle.model_guests.proofs.Resets.{reset_reaches_board}
+use Rattle.model_guests.specs.DeviceEvents.{after_device}
 use Rattle.bars.proofs.Regions.{no_base_opened}
 use Rattle.guest_functions.proofs.ResetCopies.{closed_as_opened}
 use Rattle.host_bridge.specs.ByIndex.{with_reset_nth}

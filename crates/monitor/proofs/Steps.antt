@@ -24,7 +24,7 @@ use Rattle.model_guests.proofs.GuestsByName.{Keeps, path_at, path_of}
 use Rattle.model_guests.proofs.Seats.{names_stay, guests_stay, paths_stay, with_file_seats}
 use Rattle.model_guests.proofs.Along.{by_index}
 use Rattle.model_guests.specs.Lone.{LoneGuest, reset_guest}
-use Rattle.model_devices.specs.DeviceEvents.{slot_fault}
+use Rattle.model_guests.specs.DeviceEvents.{slot_fault}
 use Rattle.model_guests.specs.AgreedBoard.{state_over}
 use Rattle.model_guests.proofs.Changes.{changes_one_function, latch_keeps_board}
 use Rattle.model_handoff.proofs.Served.{served_with}

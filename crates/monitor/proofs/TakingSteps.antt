@@ -16,15 +16,15 @@ use Rattle.model_guests.specs.Lone.{LoneGuest}
 use Rattle.model_guests.specs.Guests.{GuestsNow, function_in, path_in, with_guest, with_slot_emptied}
 use Rattle.model_guests.specs.AgreedBoard.{with_change_at}
 use Rattle.model_guests.proofs.SeatedMoves.{seat_in}
-use Rattle.model_devices.specs.DeviceEvents.{slot_fault}
-use Rattle.model_devices.proofs.Resets.{taken_passes}
+use Rattle.model_guests.specs.DeviceEvents.{slot_fault}
+use Rattle.model_guests.proofs.Resets.{taken_passes}
 use Rattle.model_handoff.specs.Kept.{IsLawfulOver}
 use Rattle.model_handoff.specs.ViewLaws.{with_seated_reset}
 use Rattle.model_guests.specs.WorldNow.{WorldNow, board_state}
 use Rattle.model_handoff.proofs.Keeping.{keeps_board}
-use Rattle.model_giving.specs.Giving.{with_reset_at, take_fault, take_reply, taken, after_take}
-use Rattle.model_giving.proofs.Giving.{can_take, taken_is, seated_is, board_after_taking, lawful_after_taking, shown_after_taking}
-use Rattle.model_giving.proofs.Seats.{declared_there}
+use Rattle.model_handoff.specs.Giving.{with_reset_at, take_fault, take_reply, taken, after_take}
+use Rattle.model_handoff.proofs.Giving.{can_take, taken_is, seated_is, board_after_taking, lawful_after_taking, shown_after_taking}
+use Rattle.model_handoff.proofs.GivenSeats.{declared_there}
 use Rattle.host_bridge.specs.ByIndex.{with_reset_nth}
 use Rattle.host_bridge.specs.HostState.{HostState, with_functions}
 use Rattle.monitor.specs.declared.guest.Held.{Held}

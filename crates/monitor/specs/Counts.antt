@@ -11,9 +11,9 @@ use Rattle.std.specs.Option.{option_map_or}
 use Rattle.model_guests.specs.Accesses.{Event, Op, reads, writes}
 use Rattle.model_guests.specs.Slots.{Landing}
 use Rattle.model_guests.specs.Lone.{LoneGuest, Destination, after_access_at, after_event}
-use Rattle.model_queries.specs.Located.{landing_at}
-use Rattle.model_queries.specs.StayLaws.{any_tells}
-use Rattle.model_giving.specs.Changes.{MachineNow, after_change, moves_own}
+use Rattle.model_handoff.specs.Located.{landing_at}
+use Rattle.model_handoff.specs.StayLaws.{any_tells}
+use Rattle.model_handoff.specs.Changes.{MachineNow, after_change, moves_own}
 use Rattle.monitor.specs.declared.guest.Guest.{Guest}
 use Rattle.monitor.specs.ByIndex.{lone_nth, with_lone_nth}
 

@@ -8,7 +8,7 @@ use Rattle.model_registers.specs.Decoding.{Function}
 use Rattle.model_board.specs.Paths.{Path}
 use Rattle.model_board.specs.State.{State}
 use Rattle.model_guests.specs.Slots.{Slots}
-use Rattle.model_devices.specs.DeviceEvents.{DeviceByte, device_place, byte_fault}
+use Rattle.model_guests.specs.DeviceEvents.{DeviceByte, device_place, byte_fault}
 use Rattle.headers.specs.declared.place.Place.{Place}
 use Rattle.headers.specs.Places.{place_of}
 use Rattle.accesses.specs.Accesses.{part_of}

@@ -3,7 +3,7 @@
 --     seat_kept i k gs      the seat of the function at an index among kept guests; k is the index of the first of them
 use Rattle.std.specs.Prelude.{ℕ, ◌+◌, List, [], ◌∷◌, Option, None, option_map, position}
 use Rattle.lists.specs.Elements.{first_of_two}
-use Rattle.model_queries.specs.Functions as model
+use Rattle.model_handoff.specs.Functions as model
 use Rattle.paths.specs.BusAddresses.{bus_address_of}
 use Rattle.bridge_forward.specs.ByIndex.{ranges_told}
 use Rattle.function_identity.specs.Identities.{identity_told}

@@ -7,7 +7,7 @@ use Rattle.std.specs.Option.{option_map_or}
 use Rattle.model_board.specs.Paths.{Path}
 use Rattle.model_board.specs.State.{State}
 use Rattle.model_guests.specs.Slots.{Slots}
-use Rattle.model_devices.specs.DeviceEvents.{slot_fault}
+use Rattle.model_guests.specs.DeviceEvents.{slot_fault}
 use Rattle.monitor.specs.declared.guest.Held.{Held}
 use Rattle.monitor.specs.Keeping.{AreSlots}
 

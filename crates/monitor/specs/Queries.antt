@@ -8,7 +8,7 @@ use Rattle.model_registers.specs.OwnCopies.{IsLawfulOwn}
 use Rattle.model_guests.specs.Slots.{Landing}
 use Rattle.model_guests.specs.Guests.{lone_of}
 use Rattle.model_guests.specs.WorldNow.{WorldNow}
-use Rattle.model_queries.specs.Regions as model
+use Rattle.model_handoff.specs.GuestRegions as model
 use Rattle.monitor.specs.declared.guest.Held.{Held}
 use Rattle.monitor.specs.declared.guest.Guest.{Guest}
 use Rattle.monitor.specs.declared.regions.RegionNow.{RegionNow}

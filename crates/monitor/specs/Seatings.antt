@@ -22,7 +22,7 @@ use Rattle.model_board.specs.State.{State}
 use Rattle.model_guests.specs.Slots.{reset_function}
 use Rattle.model_guests.specs.World.{declared}
 use Rattle.model_guests.specs.WorldNow.{WorldNow}
-use Rattle.model_giving.specs.Giving.{Gift, give_fault}
+use Rattle.model_handoff.specs.Giving.{Gift, give_fault}
 use Rattle.monitor.specs.declared.guest.Held.{Held}
 use Rattle.monitor.specs.declared.guest.Guest.{Guest}
 use Rattle.monitor.specs.declared.withheld.Withheld.{Withheld}

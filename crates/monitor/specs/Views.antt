@@ -19,7 +19,7 @@ use Rattle.model_registers.specs.CopiedFiles.{with_copies}
 use Rattle.model_guests.specs.Guests.{GuestNow, GuestsNow}
 use Rattle.model_handoff.specs.ViewLaws.{with_seated_reset}
 use Rattle.model_guests.specs.WorldNow.{WorldNow}
-use Rattle.model_giving.specs.Changes.{MachineNow}
+use Rattle.model_handoff.specs.Changes.{MachineNow}
 use Rattle.bridge_forward.specs.Lending.{endpoint_nth}
 use Rattle.host_bridge.specs.HostState.{HostState}
 use Rattle.monitor.specs.declared.guest.Held.{Held}

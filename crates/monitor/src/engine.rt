@@ -9,9 +9,9 @@ ghost use Rattle.model_guests.specs.Lone.{answer, own_latch, at_target, destinat
 ghost use Rattle.model_guests.specs.Guests.{lone_of};
 ghost use Rattle.model_guests.specs.Lines.{guest_event, host_move};
 ghost use Rattle.model_guests.specs.WorldNow.{move_reply, names_now, host_reply};
-ghost use Rattle.model_devices.specs.Calls.{asks};
-ghost use Rattle.model_giving.specs.Actions.{calls};
-ghost use Rattle.model_giving.specs.Changes.{after_on_machine};
+ghost use Rattle.model_guests.specs.Calls.{asks};
+ghost use Rattle.model_handoff.specs.Actions.{calls};
+ghost use Rattle.model_handoff.specs.Changes.{after_on_machine};
 ghost use Rattle.bars.specs.Kinds.{named_space};
 ghost use Rattle.paths.specs.BusAddresses.{bus_address_of};
 ghost use Rattle.accesses.specs.Accesses.{access_of, host_access_of, op_of, part_of, reply_of};
@@ -48,7 +48,7 @@ pub struct Engine<R: Route> {
 }
 
 impl<R: Route> Model for Engine<R> {
-    ghost use Rattle.model_giving.specs.Changes.{MachineNow};
+    ghost use Rattle.model_handoff.specs.Changes.{MachineNow};
 
     ghost Value = { MachineNow };
 

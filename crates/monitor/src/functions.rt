@@ -6,7 +6,7 @@ ghost use Rattle.model_board.specs.State.{BoardFunction};
 ghost use Rattle.model_audit.specs.Orderly.{IsStateOfBoard};
 ghost use Rattle.model_guests.specs.Guests.{GuestsNow};
 ghost use Rattle.model_guests.specs.WorldNow.{board_state};
-ghost use Rattle.model_queries.specs.Functions.{seat_of, function_nth, slot_answer};
+ghost use Rattle.model_handoff.specs.Functions.{seat_of, function_nth, slot_answer};
 ghost use Rattle.monitor.specs.ByIndex.{name_nth};
 ghost use Rattle.monitor.specs.FunctionsTold.{function_named, seat_kept};
 

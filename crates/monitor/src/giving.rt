@@ -4,7 +4,7 @@ ghost use Rattle.model_guests.specs.World.{HasLawfulGuests};
 ghost use Rattle.model_guests.specs.WorldNow.{world_at_first, world_over};
 ghost use Rattle.model_handoff.specs.Handoffs.{IsHandoff, taken_over};
 ghost use Rattle.model_handoff.specs.Regions.{CanBeGiven};
-ghost use Rattle.model_giving.specs.Changes.{BeginsIn};
+ghost use Rattle.model_handoff.specs.Changes.{BeginsIn};
 ghost use Rattle.monitor.specs.Beginnings.{world_on, world_of};
 
 use crate::beginning::{guests_of, names_of};

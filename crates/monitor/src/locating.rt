@@ -7,7 +7,7 @@ ghost use Rattle.model_guests.specs.Accesses.{configuration};
 ghost use Rattle.model_guests.specs.Slots.{Slots, landing, landing_from};
 ghost use Rattle.model_guests.specs.Guests.{lone_of};
 ghost use Rattle.model_guests.specs.WorldNow.{WorldNow};
-ghost use Rattle.model_queries.specs.Located.{located, location};
+ghost use Rattle.model_handoff.specs.Located.{located, location};
 ghost use Rattle.bars.specs.Kinds.{named_space};
 ghost use Rattle.accesses.specs.Accesses.{target_of};
 ghost use Rattle.accesses.specs.Refusals.{number_of};

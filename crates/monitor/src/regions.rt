@@ -9,7 +9,7 @@ ghost use Rattle.model_board.specs.Paths.{Path};
 ghost use Rattle.model_board.specs.State.{State};
 ghost use Rattle.model_guests.specs.Guests.{lone_of};
 ghost use Rattle.model_guests.specs.WorldNow.{WorldNow};
-ghost use Rattle.model_queries.specs.Regions.{is_prefetchable, region_now, region_at, region_answer};
+ghost use Rattle.model_handoff.specs.GuestRegions.{is_prefetchable, region_now, region_at, region_answer};
 ghost use Rattle.accesses.specs.Refusals.{number_of};
 ghost use Rattle.bars.specs.Kinds.{kind_of, named_space};
 ghost use Rattle.monitor.specs.Keeping.{IsHeld};

@@ -1,10 +1,10 @@
 //! Functions that are reset where they are.
 ghost use Rattle.std.specs.Prelude.{◌≡◌, ◌<◌, length};
 ghost use Rattle.model_guests.specs.Guests.{lone_of};
-ghost use Rattle.model_devices.specs.DeviceEvents.{resets, device_answer};
-ghost use Rattle.model_devices.specs.Calls.{at_device};
-ghost use Rattle.model_giving.specs.Actions.{calls};
-ghost use Rattle.model_giving.specs.Changes.{after_on_machine};
+ghost use Rattle.model_guests.specs.DeviceEvents.{resets, device_answer};
+ghost use Rattle.model_guests.specs.Calls.{at_device};
+ghost use Rattle.model_handoff.specs.Actions.{calls};
+ghost use Rattle.model_handoff.specs.Changes.{after_on_machine};
 ghost use Rattle.accesses.specs.Accesses.{reply_of};
 ghost use Rattle.accesses.specs.Replies.{IsRefusal, IsShown};
 ghost use Rattle.monitor.specs.ByIndex.{name_nth};

@@ -1,8 +1,8 @@
 //! Functions of the board that come to a guest from none, and leave it for none.
 ghost use Rattle.std.specs.Prelude.{◌≡◌, ◌<◌, length, IfErr};
-ghost use Rattle.model_giving.specs.Giving.{give_fault, take_reply};
-ghost use Rattle.model_giving.specs.Actions.{gives, takes};
-ghost use Rattle.model_giving.specs.Changes.{after_on_machine};
+ghost use Rattle.model_handoff.specs.Giving.{give_fault, take_reply};
+ghost use Rattle.model_handoff.specs.Actions.{gives, takes};
+ghost use Rattle.model_handoff.specs.Changes.{after_on_machine};
 ghost use Rattle.accesses.specs.Accesses.{reply_of};
 ghost use Rattle.accesses.specs.Replies.{IsRefusal, IsShown};
 ghost use Rattle.monitor.specs.ByIndex.{name_nth};

@@ -4,10 +4,10 @@ use Rattle.std.specs.Prelude.{ℕ}
 use Rattle.model_guests.specs.Accesses.{Reply}
 use Rattle.model_guests.specs.Guests.{lone_of}
 use Rattle.model_guests.specs.WorldNow.{WorldNow}
-use Rattle.model_devices.specs.Calls.{at_device}
-use Rattle.model_devices.specs.DeviceEvents.{DeviceEvent, device_answer}
-use Rattle.model_giving.specs.Actions.{calls}
-use Rattle.model_giving.specs.Changes.{MachineNow, after_on_machine}
+use Rattle.model_guests.specs.Calls.{at_device}
+use Rattle.model_guests.specs.DeviceEvents.{DeviceEvent, device_answer}
+use Rattle.model_handoff.specs.Actions.{calls}
+use Rattle.model_handoff.specs.Changes.{MachineNow, after_on_machine}
 use Rattle.monitor.specs.ByIndex.{name_nth}
 
 abbrev pub reply_at_device : WorldNow → ℕ → DeviceEvent → Reply

@@ -16,8 +16,8 @@ use Rattle.model_board.specs.Windows.{Window}
 use Rattle.model_board.specs.Routing.{Ranges, regions, windows}
 use Rattle.model_guests.specs.Text.{Text}
 use Rattle.model_guests.specs.Report.{path_text}
-use Rattle.model_queries.specs.Regions.{is_prefetchable}
-use Rattle.model_queries.specs.Functions.{FunctionNow, Seat}
+use Rattle.model_handoff.specs.GuestRegions.{is_prefetchable}
+use Rattle.model_handoff.specs.Functions.{FunctionNow, Seat}
 use Rattle.pciguest_c.specs.QueriesTold.{one_if, space_number}
 use Rattle.pciguest_c.specs.declared.function_row.RegionRow.{RegionRow}
 use Rattle.pciguest_c.specs.declared.function_row.WindowRow.{WindowRow}

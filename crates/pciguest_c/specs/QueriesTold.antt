@@ -11,9 +11,9 @@ use Rattle.model_guests.specs.Accesses.{Target}
 use Rattle.model_guests.specs.Slots.{Landing}
 use Rattle.model_guests.specs.Guests.{lone_of}
 use Rattle.model_guests.specs.WorldNow.{WorldNow}
-use Rattle.model_queries.specs.Regions.{region_answer}
-use Rattle.model_queries.specs.Regions as model
-use Rattle.model_queries.specs.Located.{location}
+use Rattle.model_handoff.specs.GuestRegions.{region_answer}
+use Rattle.model_handoff.specs.GuestRegions as model
+use Rattle.model_handoff.specs.Located.{location}
 use Rattle.monitor.specs.ByIndex.{name_nth}
 use Rattle.pciguest_c.specs.declared.querying.RegionTold.{RegionTold}
 use Rattle.pciguest_c.specs.declared.querying.HitTold.{HitTold}

@@ -6,9 +6,9 @@ use Rattle.std.specs.Option.{option_map_or}
 use Rattle.model_guests.specs.Text.{Text}
 use Rattle.model_guests.specs.Accesses.{Reply, refused}
 use Rattle.model_guests.specs.WorldNow.{WorldNow}
-use Rattle.model_giving.specs.Giving.{give_reply, take_reply}
-use Rattle.model_giving.specs.Actions.{gives, takes}
-use Rattle.model_giving.specs.Changes.{MachineNow, after_on_machine}
+use Rattle.model_handoff.specs.Giving.{give_reply, take_reply}
+use Rattle.model_handoff.specs.Actions.{gives, takes}
+use Rattle.model_handoff.specs.Changes.{MachineNow, after_on_machine}
 use Rattle.board_file.specs.PathTexts.{path_of}
 use Rattle.monitor.specs.ByIndex.{name_nth}
 use Rattle.monitor.specs.Seatings.{gift_nth}

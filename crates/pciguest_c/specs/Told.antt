@@ -15,10 +15,10 @@ use Rattle.model_guests.specs.Grammar.{HostTarget, host_configuration, host_port
 use Rattle.model_guests.specs.Lone.{answer}
 use Rattle.model_guests.specs.Guests.{lone_of}
 use Rattle.model_guests.specs.Lines.{guest_event}
-use Rattle.model_devices.specs.Calls.{asks}
+use Rattle.model_guests.specs.Calls.{asks}
 use Rattle.model_guests.specs.WorldNow.{WorldNow}
-use Rattle.model_giving.specs.Actions.{calls}
-use Rattle.model_giving.specs.Changes.{MachineNow, after_on_machine}
+use Rattle.model_handoff.specs.Actions.{calls}
+use Rattle.model_handoff.specs.Changes.{MachineNow, after_on_machine}
 use Rattle.monitor.specs.ByIndex.{name_nth}
 
 abbrev pub number_told : Reply → ℕ

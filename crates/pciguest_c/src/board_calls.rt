@@ -2,8 +2,8 @@
 ghost use Rattle.std.specs.Prelude.{◌≡◌, ◌≢◌, ◌<◌, ◌≤◌, ◌++◌, None, Some, IfNone, IfSome, drop, length};
 ghost use Rattle.model_guests.specs.Accesses.{reads, writes};
 ghost use Rattle.model_guests.specs.Grammar.{HostTarget};
-ghost use Rattle.model_firmware.specs.HostAccesses.{HostAccess as Asked, answer};
-ghost use Rattle.model_firmware.specs.FirmwareLines.{line_output};
+ghost use Rattle.model_lines.specs.HostAccesses.{HostAccess as Asked, answer};
+ghost use Rattle.model_lines.specs.FirmwareLines.{line_output};
 ghost use Rattle.driven_board.specs.Boards.{after_read, after_write, after_line};
 ghost use Rattle.pciguest_c.specs.Told.{at_bus, number_told, value_told, host_target_told};
 

@@ -2,7 +2,7 @@
 ghost use Rattle.std.specs.Prelude.{◌≡◌, ◌≢◌, None, IfNone, IfSome, IsSome, IfOk, IfErr};
 ghost use Rattle.driven_board.specs.Giving.{IsGiven, IsRefusalOf};
 ghost use Rattle.pciguest_c.specs.Giving.{IsNumberOfRefusal};
-ghost use Rattle.model_giving.specs.Changes.{BeginsIn};
+ghost use Rattle.model_handoff.specs.Changes.{BeginsIn};
 
 use crate::board_handle::BoardHandle;
 use crate::handle::Handle;

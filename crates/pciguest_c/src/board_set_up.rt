@@ -2,7 +2,7 @@
 ghost use Rattle.std.specs.Prelude.{◌≡◌, ◌≢◌, ◌<◌, ◌≤◌, ◌⊎◌, true, false, Some, IfNone, IfSome, IsSome};
 ghost use Rattle.simulation.specs.Listing.{Breaks};
 ghost use Rattle.simulation.specs.Running.{IsOpened};
-ghost use Rattle.model_giving.specs.Changes.{BeginsIn};
+ghost use Rattle.model_handoff.specs.Changes.{BeginsIn};
 
 use crate::board_handle::BoardHandle;
 use crate::handle::Handle;

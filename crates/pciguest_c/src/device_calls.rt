@@ -1,7 +1,7 @@
 //! What a device itself reads and writes of a guest's function.
 ghost use Rattle.std.specs.Prelude.{◌≡◌, ◌≢◌, ◌<◌, ◌≤◌, None, Some, IfNone, IfSome, length};
 ghost use Rattle.model_guests.specs.Accesses.{RaisePlace};
-ghost use Rattle.model_devices.specs.DeviceEvents.{device_reads, device_writes};
+ghost use Rattle.model_guests.specs.DeviceEvents.{device_reads, device_writes};
 ghost use Rattle.pciguest_c.specs.Told.{number_told, part_told, value_told};
 ghost use Rattle.pciguest_c.specs.DevicesTold.{reply_at_device, after_at_device};
 

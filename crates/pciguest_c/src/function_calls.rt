@@ -1,7 +1,7 @@
 //! What is asked of the functions of the board: how many there are, and what is told of each.
 ghost use Rattle.std.specs.Prelude.{◌≡◌, ◌<◌, ◌≤◌, IfNone, IfSome, length};
 ghost use Rattle.model_guests.specs.WorldNow.{board_state};
-ghost use Rattle.model_queries.specs.Functions.{function_nth, slot_answer};
+ghost use Rattle.model_handoff.specs.Functions.{function_nth, slot_answer};
 ghost use Rattle.monitor.specs.ByIndex.{name_nth};
 ghost use Rattle.pciguest_c.specs.QueriesTold.{number_answered};
 ghost use Rattle.pciguest_c.specs.FunctionsTold.{function_number, found_left, row_left};

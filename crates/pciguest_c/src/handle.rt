@@ -2,7 +2,7 @@
 ghost use Rattle.std.specs.Prelude.{◌≡◌, Some, None, IfSome, IfNone, Err, is_some};
 ghost use Rattle.std.specs.Bool.{OnFalse};
 ghost use Rattle.std.specs.Fn.{FnOnceReturnsAtMut};
-ghost use Rattle.model_giving.specs.Changes.{MachineNow};
+ghost use Rattle.model_handoff.specs.Changes.{MachineNow};
 
 use crate::numbers::{ARGUMENT, NO_MACHINE};
 use crate::owner::Owner;

@@ -3,9 +3,9 @@ ghost use Rattle.std.specs.Prelude.{◌≡◌, ◌≢◌, ◌<◌, ◌≤◌, No
 ghost use Rattle.model_guests.specs.Grammar.{HostTarget};
 ghost use Rattle.model_guests.specs.Lines.{host_move};
 ghost use Rattle.model_guests.specs.WorldNow.{move_reply, host_reply};
-ghost use Rattle.model_devices.specs.Calls.{asks};
-ghost use Rattle.model_giving.specs.Actions.{calls};
-ghost use Rattle.model_giving.specs.Changes.{after_on_machine};
+ghost use Rattle.model_guests.specs.Calls.{asks};
+ghost use Rattle.model_handoff.specs.Actions.{calls};
+ghost use Rattle.model_handoff.specs.Changes.{after_on_machine};
 ghost use Rattle.accesses.specs.Accesses.{host_target_of};
 ghost use Rattle.monitor.specs.Moves.{move_nth};
 ghost use Rattle.pciguest_c.specs.Told.{at_bus, number_told, value_told, host_target_told};

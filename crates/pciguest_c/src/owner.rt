@@ -1,7 +1,7 @@
 //! The pointer that C holds.
 ghost use Rattle.std.specs.Prelude.{◌≡◌, Option, Some, None, IsSome};
 ghost use Rattle.std.specs.Coded.{coded_option};
-ghost use Rattle.model_giving.specs.Changes.{MachineNow};
+ghost use Rattle.model_handoff.specs.Changes.{MachineNow};
 ghost use Rattle.pciguest_c.specs.Owning.{machine_coded, owner_owns};
 
 use crate::unboxed::Unboxed;

@@ -1,6 +1,6 @@
 //! Functions of guests that are reset where they are.
 ghost use Rattle.std.specs.Prelude.{◌≡◌, ◌≢◌, ◌<◌, ◌≤◌, None, Some, IfNone, IfSome, length};
-ghost use Rattle.model_devices.specs.DeviceEvents.{resets};
+ghost use Rattle.model_guests.specs.DeviceEvents.{resets};
 ghost use Rattle.pciguest_c.specs.Told.{number_told};
 ghost use Rattle.pciguest_c.specs.DevicesTold.{reply_at_device, after_at_device};
 

@@ -7,7 +7,7 @@ ghost use Rattle.model_guests.specs.Text.{Text};
 ghost use Rattle.model_guests.specs.World.{World};
 ghost use Rattle.model_guests.specs.Report.{report};
 ghost use Rattle.model_guests.specs.WorldNow.{line_output};
-ghost use Rattle.model_giving.specs.Changes.{after_line_on_machine};
+ghost use Rattle.model_handoff.specs.Changes.{after_line_on_machine};
 ghost use Rattle.simulation.specs.Listing.{Declares, Refuses, Breaks};
 ghost use Rattle.pciguest_c.specs.Checks.{IsCheckOf};
 ghost use Rattle.pciguest_c.specs.NumberWords.{words_of_number};

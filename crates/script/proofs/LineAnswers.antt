@@ -8,9 +8,9 @@ use Rattle.model_guests.specs.Lone.{answer}
 use Rattle.model_guests.specs.Replies.{line_text}
 use Rattle.model_guests.specs.Lines.{Meaning, bad, guest_event, host_move, meaning_of_words}
 use Rattle.model_guests.specs.WorldNow.{WorldNow, guests_after, move_reply, names_now, written_by, after_meaning}
-use Rattle.model_devices.specs.Calls.{asks}
-use Rattle.model_giving.specs.Actions.{calls}
-use Rattle.model_giving.specs.Changes.{MachineNow, after_line_on_machine, after_on_machine, moves_by_call}
+use Rattle.model_guests.specs.Calls.{asks}
+use Rattle.model_handoff.specs.Actions.{calls}
+use Rattle.model_handoff.specs.Changes.{MachineNow, after_line_on_machine, after_on_machine, moves_by_call}
 use Rattle.model_guests.proofs.Along.{names_meaning}
 use Rattle.lines.specs.Lines.{name_of}
 use Rattle.lines.proofs.GuestNames.{name_of-now}

@@ -2,9 +2,9 @@
 ghost use Rattle.std.specs.Prelude.{◌≡◌, ◌<◌, ◌∷◌, [], length, MatchOption, IfSome};
 ghost use Rattle.model_guests.specs.Replies.{line_text};
 ghost use Rattle.model_guests.specs.WorldNow.{names_now, written_by, line_output};
-ghost use Rattle.model_devices.specs.Calls.{asks};
-ghost use Rattle.model_giving.specs.Actions.{calls};
-ghost use Rattle.model_giving.specs.Changes.{after_on_machine, after_line_on_machine, machine_protocol};
+ghost use Rattle.model_guests.specs.Calls.{asks};
+ghost use Rattle.model_handoff.specs.Actions.{calls};
+ghost use Rattle.model_handoff.specs.Changes.{after_on_machine, after_line_on_machine, machine_protocol};
 ghost use Rattle.accesses.specs.Accesses.{reply_of};
 ghost use Rattle.accesses.specs.Replies.{IsShown};
 ghost use Rattle.lines.specs.Lines.{who_of, meaning_of, GuestIs, GuestsAre};

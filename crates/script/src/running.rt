@@ -1,6 +1,6 @@
 //! A run of a whole script.
 ghost use Rattle.std.specs.Prelude.{◌≡◌, ◌+◌, ◌-◌, ◌^◌, ◌<◌, IsErrOf};
-ghost use Rattle.model_giving.specs.Changes.{machine_protocol};
+ghost use Rattle.model_handoff.specs.Changes.{machine_protocol};
 ghost use Rattle.line_runs.specs.Faults.{read_failures_of, write_failures_of};
 ghost use Rattle.line_runs.specs.Runs.{Runs, ends};
 

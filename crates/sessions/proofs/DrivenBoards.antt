@@ -4,13 +4,13 @@ use Rattle.std.specs.Prelude.{OnOk, OnErr}
 use Rattle.model_board.specs.Board.{Board}
 use Rattle.model_guests.specs.Text.{Text}
 use Rattle.model_guests.specs.World.{Guest, World, HasLawfulGuests}
-use Rattle.model_firmware.specs.FirmwareLines.{after_line}
+use Rattle.model_lines.specs.FirmwareLines.{after_line}
 use Rattle.model_handoff.specs.Handoffs.{IsHandoff}
-use Rattle.model_handoff.specs.Sessions.{IsHandoffAlike}
-use Rattle.model_handoff.proofs.Sessions.{lines_leave}
-use Rattle.model_sessions.specs.Sessions.{SessionNow, driven, after_session_line}
-use Rattle.model_sessions.specs.SessionLaws.{IsPlain}
-use Rattle.model_sessions.proofs.SessionLines.{plain_after}
+use Rattle.model_lines.specs.FirmwareLeaves.{IsHandoffAlike}
+use Rattle.model_lines.proofs.FirmwareLeaves.{lines_leave}
+use Rattle.model_lines.specs.Sessions.{SessionNow, driven, after_session_line}
+use Rattle.model_lines.specs.SessionLaws.{IsPlain}
+use Rattle.model_lines.proofs.SessionLines.{plain_after}
 use Rattle.host_bridge.specs.HostState.{HostState}
 use Rattle.line_runs.specs.Pieces.{IsBefore}
 use Rattle.firmware.specs.Hosts.{host_protocol}

@@ -4,7 +4,7 @@
 use Rattle.std.proofs.Common.{◌≡◌, true, false, [], ◌++◌, sym, ap, ◌∙◌, append-nil}
 use Rattle.std.specs.Prelude.{IfSome, IsSome}
 use Rattle.model_guests.specs.Text.{Text}
-use Rattle.model_sessions.specs.Sessions.{refused_line, handover_output}
+use Rattle.model_lines.specs.Sessions.{refused_line, handover_output}
 use Rattle.report.specs.Found.{ended}
 use Rattle.monitor.specs.declared.handover.HandoverFault.{HandoverFault}
 use Rattle.monitor.specs.declared.handover.HandoverFault.TheVariants.{NotInOrder, Closed, Memory}

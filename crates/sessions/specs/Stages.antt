@@ -6,7 +6,7 @@
 use Rattle.std.specs.Prelude.{Bool, true, false, [], ⊤}
 use Rattle.model_guests.specs.World.{HasLawfulGuests}
 use Rattle.model_handoff.specs.Handoffs.{IsHandoff}
-use Rattle.model_sessions.specs.Sessions.{SessionNow, driven, given}
+use Rattle.model_lines.specs.Sessions.{SessionNow, driven, given}
 use Rattle.monitor.specs.Beginnings.{world_on}
 use Rattle.sessions.specs.declared.asking.Asked.{Asked}
 use Rattle.sessions.specs.declared.asking.Asked.TheVariants.{Access, Audit, Handover}

@@ -3,7 +3,7 @@
 use Rattle.model_guests.specs.Text.{Text}
 use Rattle.model_audit.specs.AuditText.{audit_line, problem_text}
 use Rattle.model_handoff.specs.Regions.{HandoffFault, in_disorder, closed_region}
-use Rattle.model_sessions.specs.Sessions.{closed_text}
+use Rattle.model_lines.specs.Sessions.{closed_text}
 
 abbrev pub cause_text : HandoffFault → Text
 cause_text (in_disorder p) = audit_line (problem_text p)

@@ -4,7 +4,7 @@ ghost use Rattle.model_guests.specs.Text.{Text};
 ghost use Rattle.model_guests.specs.World.{HasLawfulGuests};
 ghost use Rattle.model_handoff.specs.Handoffs.{IsHandoff};
 ghost use Rattle.model_audit.specs.AuditText.{audit};
-ghost use Rattle.model_sessions.specs.Sessions.{driven, session_protocol};
+ghost use Rattle.model_lines.specs.Sessions.{driven, session_protocol};
 ghost use Rattle.monitor.specs.Beginnings.{world_on};
 
 use crate::asking::{Asked, asked_by};
@@ -28,7 +28,7 @@ pub struct Session {
 }
 
 impl Model for Session {
-    ghost use Rattle.model_sessions.specs.Sessions.{SessionNow};
+    ghost use Rattle.model_lines.specs.Sessions.{SessionNow};
     ghost use Rattle.sessions.specs.Stages.{session_now, IsLawful};
 
     ghost Value = { SessionNow };

@@ -1,7 +1,7 @@
 //! What a line of a session asks for.
 ghost use Rattle.std.specs.Prelude.{◌≡◌, ◌++◌};
 ghost use Rattle.model_guests.specs.Text.{Text};
-ghost use Rattle.model_sessions.specs.Sessions.{is_audit, is_handover};
+ghost use Rattle.model_lines.specs.Sessions.{is_audit, is_handover};
 ghost use Rattle.line_runs.specs.Pieces.{IsBefore};
 ghost use Rattle.sessions.specs.Stages.{asks_audit, asks_guests};
 

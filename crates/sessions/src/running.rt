@@ -1,6 +1,6 @@
 //! A run of a session's lines.
 ghost use Rattle.std.specs.Prelude.{◌≡◌, ◌+◌, ◌-◌, ◌^◌, ◌<◌, ◌⊎◌, IsErrOf};
-ghost use Rattle.model_sessions.specs.Sessions.{session_protocol};
+ghost use Rattle.model_lines.specs.Sessions.{session_protocol};
 ghost use Rattle.line_runs.specs.Faults.{read_failures_of, write_failures_of};
 ghost use Rattle.line_runs.specs.Runs.{Runs, ends};
 

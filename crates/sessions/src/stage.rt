@@ -1,7 +1,7 @@
 //! How far a session came.
 ghost use Rattle.std.specs.Prelude.{◌≡◌, ◌++◌, [], option_map, string_bytes, IfOk, OnOk, OnErr, IsTrue};
 ghost use Rattle.model_guests.specs.Text.{Text};
-ghost use Rattle.model_sessions.specs.Sessions.{is_handover, session_output, after_session_line};
+ghost use Rattle.model_lines.specs.Sessions.{is_handover, session_output, after_session_line};
 ghost use Rattle.line_runs.specs.Pieces.{with_more};
 ghost use Rattle.sessions.specs.Stages.{session_now, IsLawful, IsDriven};
 

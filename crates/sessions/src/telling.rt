@@ -1,6 +1,6 @@
 //! What a session writes where it doesn't hand its board over.
 ghost use Rattle.std.specs.Prelude.{◌≡◌, ◌++◌, OnOk, IfOk, IfSome, IsSome, string_bytes};
-ghost use Rattle.model_sessions.specs.Sessions.{closed_text, refused_line, handover_output};
+ghost use Rattle.model_lines.specs.Sessions.{closed_text, refused_line, handover_output};
 ghost use Rattle.report.specs.Found.{ended};
 ghost use Rattle.monitor.specs.Handovers.{number_of, words_of, handoff_fault};
 ghost use Rattle.sessions.specs.Tellings.{cause_text};

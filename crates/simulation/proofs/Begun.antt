@@ -11,7 +11,7 @@ use Rattle.line_runs.specs.declared.running.RunFault.{RunFault}
 use Rattle.line_runs.specs.Runs.{Ends, Runs}
 use Rattle.board_file.specs.Meaning.{document_meaning}
 use Rattle.model_guests.specs.WorldNow.{world_at_first, world_protocol}
-use Rattle.model_giving.specs.Changes.{MachineNow, BeginsIn, machine_protocol}
+use Rattle.model_handoff.specs.Changes.{MachineNow, BeginsIn, machine_protocol}
 use Rattle.model_guests.proofs.Isolation.{isolated}
 use Rattle.simulation.specs.Lines.{RunsOver}
 use Rattle.simulation.specs.Running.{IsOpened, IsRun}

@@ -8,8 +8,8 @@ use Rattle.model_set_up.specs.SetUp.{set_up_state}
 use Rattle.model_guests.specs.World.{Guest, World}
 use Rattle.model_guests.specs.Text.{Text, lines}
 use Rattle.model_guests.specs.WorldNow.{WorldNow, world_at_first, world_protocol}
-use Rattle.model_giving.specs.Changes.{MachineNow, machine_protocol}
-use Rattle.model_giving.proofs.Aside.{output_aside, events_aside, cut_aside, stop_aside}
+use Rattle.model_handoff.specs.Changes.{MachineNow, machine_protocol}
+use Rattle.model_handoff.proofs.Aside.{output_aside, events_aside, cut_aside, stop_aside}
 use Rattle.std.specs.Io.KnownBytes.{Appends}
 use Rattle.line_runs.specs.Pieces.{IsStoppedIn, IsLackingIn}
 use Rattle.host_bridge.specs.HostState.{HostState}

@@ -7,8 +7,8 @@ use Rattle.std.specs.Prelude.{Result}
 use Rattle.model_board.specs.AtReset.{reset_state}
 use Rattle.model_guests.specs.Text.{Text}
 use Rattle.model_guests.specs.World.{World}
-use Rattle.model_sessions.specs.Sessions.{SessionNow, driven, session_protocol}
-use Rattle.model_sessions.specs.SessionLaws.{IsolatedFrom}
+use Rattle.model_lines.specs.Sessions.{SessionNow, driven, session_protocol}
+use Rattle.model_lines.specs.SessionLaws.{IsolatedFrom}
 use Rattle.line_runs.specs.declared.running.RunFault.{RunFault}
 use Rattle.line_runs.specs.Runs.{Ends}
 use Rattle.simulation.specs.Lines.{RunsOver}

@@ -1,6 +1,6 @@
 //! A script over the board of a board file.
 ghost use Rattle.std.specs.Prelude.{◌≡◌, ◌+◌, ◌-◌, ◌^◌, ◌<◌, IfOk, IfErr};
-ghost use Rattle.model_giving.specs.Changes.{BeginsIn};
+ghost use Rattle.model_handoff.specs.Changes.{BeginsIn};
 ghost use Rattle.line_runs.specs.Runs.{ends};
 ghost use Rattle.simulation.specs.Faults.{read_faults, write_faults, OnFile, OnSetUp, OnRun, IsOfBoard, IsOfRun};
 ghost use Rattle.simulation.specs.Listing.{Refuses, Breaks};

@@ -3,7 +3,7 @@ use Rattle.std.specs.Prelude.{slice_index_or}
 use Rattle.monitor.specs.declared.guest.Guest.{Guest}
 use Rattle.monitor.specs.declared.guest.Held.{Held}
 use Rattle.std.proofs.lemmas.List.{take_at}
-use Rattle.model_giving.specs.Changes.{after_change}
+use Rattle.model_handoff.specs.Changes.{after_change}
 use Rattle.monitor.proofs.ConfigSteps.{same_at}
 use Rattle.monitor.proofs.Counts.{set_counted}
 use Rattle.monitor.proofs.moving.exchange_in.Goals as goal

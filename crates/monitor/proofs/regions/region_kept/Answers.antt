@@ -3,7 +3,7 @@ use Rattle.std.specs.Prelude.{unwrap_or, option_map}
 use Rattle.std.proofs.lemmas.Bool.{ltb-true, ltb-false}
 use Rattle.std.proofs.lemmas.Option.{slice_get_read, slice_get_past}
 use Rattle.model_registers.specs.Decoding.{is_open}
-use Rattle.model_queries.specs.Regions.{RegionNow, region_now}
+use Rattle.model_handoff.specs.GuestRegions.{RegionNow, region_now}
 use Rattle.bars.specs.Kinds.{kind_of}
 use Rattle.bars.specs.Slots.{slot_at}
 use Rattle.bars.specs.declared.region.BasedRegion.{BasedRegion}

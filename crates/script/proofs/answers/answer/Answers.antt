@@ -6,9 +6,9 @@ use Rattle.model_guests.specs.Guests.{Move}
 use Rattle.model_guests.specs.Lines.{bad, guest_event, host_move, host_read, nothing}
 use Rattle.model_guests.specs.Text.{Text}
 use Rattle.model_guests.specs.WorldNow.{names_now, written_by}
-use Rattle.model_devices.specs.Calls.{asks}
-use Rattle.model_giving.specs.Actions.{calls}
-use Rattle.model_giving.specs.Changes.{MachineNow, after_on_machine}
+use Rattle.model_guests.specs.Calls.{asks}
+use Rattle.model_handoff.specs.Actions.{calls}
+use Rattle.model_handoff.specs.Changes.{MachineNow, after_on_machine}
 use Rattle.accesses.specs.Accesses.{access_of, host_access_of, part_of, reply_of}
 use Rattle.accesses.specs.Refusals.{number_of}
 use Rattle.lines.specs.Lines.{name_of, meaning_of, who_of}

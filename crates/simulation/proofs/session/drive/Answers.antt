@@ -2,9 +2,9 @@ use Rattle.std.proofs.Common.{◌≡◌, Err, ap, ◌∙◌}
 use Rattle.model_board.specs.AtReset.{reset_state}
 use Rattle.model_board.specs.State.{State}
 use Rattle.model_guests.specs.World.{World}
-use Rattle.model_handoff.proofs.Sessions.{reset_is_handoff}
-use Rattle.model_sessions.specs.Sessions.{SessionNow, driven, session_protocol}
-use Rattle.model_sessions.proofs.HandoverLines.{isolated_sessions}
+use Rattle.model_handoff.proofs.ResetCase.{reset_is_handoff}
+use Rattle.model_lines.specs.Sessions.{SessionNow, driven, session_protocol}
+use Rattle.model_lines.proofs.HandoverLines.{isolated_sessions}
 use Rattle.board_file.specs.Meaning.{world_in}
 use Rattle.line_runs.specs.Runs.{ends}
 use Rattle.simulation.specs.Sessions.{at_first, IsSession}

@@ -1,5 +1,5 @@
 use Rattle.std.proofs.Common.{subst}
-use Rattle.model_giving.specs.Changes.{BeginsIn}
+use Rattle.model_handoff.specs.Changes.{BeginsIn}
 use Rattle.driven_board.specs.Boards.{BoardNow}
 use Rattle.driven_board.specs.Giving.{IsGiven, IsRefusalOf}
 use Rattle.driven_board.proofs.Given.{is_given, is_refused}

@@ -1,7 +1,7 @@
 use Rattle.std.proofs.Common.{◌≡◌, false, ap, sym, subst}
 use Rattle.model_board.specs.State.{State}
 use Rattle.model_guests.specs.Text.{Text}
-use Rattle.model_handoff.proofs.Sessions.{reset_is_handoff}
+use Rattle.model_handoff.proofs.ResetCase.{reset_is_handoff}
 use Rattle.host_bridge.specs.HostState.{HostState}
 use Rattle.board_file.specs.Meaning.{world_in}
 use Rattle.simulation.specs.Driving.{host_at_reset}

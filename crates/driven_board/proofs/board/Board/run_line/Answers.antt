@@ -1,6 +1,6 @@
 use Rattle.std.proofs.Common.{◌≡◌, false, ap, sym, ◌∙◌, subst}
 use Rattle.model_board.specs.State.{State}
-use Rattle.model_firmware.specs.FirmwareLines.{line_output}
+use Rattle.model_lines.specs.FirmwareLines.{line_output}
 use Rattle.host_bridge.specs.HostState.{HostState}
 use Rattle.driven_board.specs.Boards.{BoardNow, IsBoardOf, IsResetBoard, tells_done}
 use Rattle.driven_board.proofs.Handed.{line_of, never}

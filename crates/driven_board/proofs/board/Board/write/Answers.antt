@@ -1,7 +1,7 @@
 use Rattle.std.proofs.Common.{rules, ◌≡◌, false, ap, sym, ◌∙◌, subst}
 use Rattle.model_board.specs.State.{State}
 use Rattle.model_guests.specs.Accesses.{writes}
-use Rattle.model_firmware.specs.HostAccesses.{answer}
+use Rattle.model_lines.specs.HostAccesses.{answer}
 use Rattle.host_bridge.specs.HostState.{HostState}
 use Rattle.accesses.specs.Accesses.{host_target_of, reply_of}
 use Rattle.lines.specs.FirmwareLines.{host_asked}

@@ -2,7 +2,7 @@ use Rattle.std.proofs.Common.{◌∙◌, ℕ, List, ap, sym, subst, arith}
 use Rattle.std.specs.Prelude.{IsSome}
 use Rattle.model_registers.specs.ByteEnables.{enables_of, into_lanes}
 use Rattle.model_registers.specs.Registers.{config}
-use Rattle.model_queries.specs.StayLaws.{any_tells}
+use Rattle.model_handoff.specs.StayLaws.{any_tells}
 use Rattle.bridge_forward.specs.Lending.{endpoint_nth}
 use Rattle.host_bridge.specs.Landings.{IsReached}
 use Rattle.monitor.specs.declared.guest.Guest.{Guest}

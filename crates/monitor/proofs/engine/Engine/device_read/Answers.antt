@@ -1,6 +1,6 @@
 use Rattle.std.proofs.Common.{◌∙◌, ap, arith}
 use Rattle.monitor.specs.DeviceBytes.{device_byte}
-use Rattle.model_devices.specs.DeviceEvents.{device_reads}
+use Rattle.model_guests.specs.DeviceEvents.{device_reads}
 use Rattle.monitor.proofs.DeviceSteps.{device_read, endpoint_reached, refused_there}
 use Rattle.host_bridge.specs.HostState.{HostState}
 use Rattle.monitor.specs.Views.{machine_shown, texts}

@@ -1,6 +1,6 @@
 use Rattle.std.proofs.Common.{refl, arith}
 use Rattle.monitor.specs.DeviceBytes.{device_byte}
-use Rattle.model_devices.specs.DeviceEvents.{device_writes}
+use Rattle.model_guests.specs.DeviceEvents.{device_writes}
 use Rattle.monitor.proofs.Machines.{happens, refused_all, stood}
 use Rattle.monitor.proofs.ResetSteps.{device_refused, nothing_changed}
 use Rattle.monitor.proofs.DeviceSteps.{device_written, endpoint_reached, refused_there, write_left}

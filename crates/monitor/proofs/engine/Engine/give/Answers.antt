@@ -1,7 +1,7 @@
 use Rattle.std.proofs.Common.{◌<◌, ◌∙◌, List, length, true, sym, subst}
 use Rattle.lists.proofs.Indices.{at_below}
 use Rattle.monitor.specs.declared.guest.Guest.{Guest}
-use Rattle.model_giving.specs.Actions.{gives}
+use Rattle.model_handoff.specs.Actions.{gives}
 use Rattle.monitor.specs.ByIndex.{name_nth}
 use Rattle.monitor.specs.Counts.{counted_nth}
 use Rattle.monitor.specs.Moves.{HasSlot}

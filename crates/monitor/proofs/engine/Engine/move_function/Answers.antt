@@ -2,8 +2,8 @@ use Rattle.std.proofs.Common.{◌∙◌, ◌&&◌, ◌||◌, ℕ, List, Option, 
 use Rattle.std.specs.Prelude.{is_some}
 use Rattle.std.specs.Str.{bytes_eq}
 use Rattle.model_guests.specs.Lines.{host_move}
-use Rattle.model_devices.specs.Calls.{asks}
-use Rattle.model_giving.specs.Actions.{calls}
+use Rattle.model_guests.specs.Calls.{asks}
+use Rattle.model_handoff.specs.Actions.{calls}
 use Rattle.monitor.specs.declared.guest.Guest.{Guest}
 use Rattle.monitor.specs.Configs.{HoldsAt}
 use Rattle.monitor.specs.ByIndex.{name_nth}

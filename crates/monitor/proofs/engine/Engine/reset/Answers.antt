@@ -1,5 +1,5 @@
 use Rattle.std.proofs.Common.{◌∙◌, List, sym, subst, arith}
-use Rattle.model_devices.specs.DeviceEvents.{resets}
+use Rattle.model_guests.specs.DeviceEvents.{resets}
 use Rattle.monitor.specs.declared.guest.Guest.{Guest}
 use Rattle.monitor.specs.ByIndex.{name_nth}
 use Rattle.monitor.specs.Configs.{HoldsAt}

@@ -1,5 +1,5 @@
 use Rattle.std.proofs.Common.{◌∙◌, List, true, sym, subst, arith}
-use Rattle.model_giving.specs.Actions.{takes}
+use Rattle.model_handoff.specs.Actions.{takes}
 use Rattle.monitor.specs.declared.guest.Guest.{Guest}
 use Rattle.monitor.specs.ByIndex.{name_nth}
 use Rattle.monitor.specs.Counts.{counted_nth}

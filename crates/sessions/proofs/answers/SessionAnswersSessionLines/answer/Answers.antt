@@ -1,6 +1,6 @@
 use Rattle.std.proofs.Common.{◌≡◌, ◌++◌, sym, ap, ◌∙◌, subst}
 use Rattle.std.proofs.lemmas.Result.{on_ok_weaker}
-use Rattle.model_sessions.specs.Sessions.{SessionNow, driven, after_session_line}
+use Rattle.model_lines.specs.Sessions.{SessionNow, driven, after_session_line}
 use Rattle.monitor.specs.Beginnings.{world_on}
 use Rattle.sessions.specs.Stages.{session_now, IsLawful}
 use Rattle.sessions.specs.declared.stage.Stage.TheVariants.{Firmware}

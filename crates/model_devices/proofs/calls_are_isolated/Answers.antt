@@ -1,5 +1,0 @@
-use Rattle.model_devices.proofs.Calls.{isolated_by_calls}
-use Rattle.model_devices.proofs.calls_are_isolated.Goals as goal
-
-pub returns : goal.returns
-returns c = isolated_by_calls

@@ -1,2 +1,0 @@
-pub mod HostLaws
-pub mod RowsOfFirmware

@@ -1,3 +1,0 @@
-pub mod HostAccesses
-pub mod FirmwareLines
-pub mod FirmwareLaws

@@ -1,0 +1,40 @@
+-- Laws of what a device reads and writes of its function's registers.
+--     ReadsLeaveGuests      a read changes no guest
+--     ReadsWritten      where a cell stands, a read tells what was written
+--     byte_change own v p      where a guest's file has a cell at a place, the byte of another file there; else nothing
+--     WriteReachesBoard      a write changes the board in the function of that slot alone, by that byte
+use Rattle.std.specs.Prelude.{◌≡◌, ◌%◌, ℕ, if◌then◌else◌, Some, None, IsTrue}
+use Rattle.model_registers.specs.Registers.{Place, File}
+use Rattle.model_registers.specs.FileLaws.{has_place}
+use Rattle.model_registers.specs.DeviceBytes.{set_value}
+use Rattle.model_registers.specs.Decoding.{Function}
+use Rattle.model_board.specs.Paths.{Path}
+use Rattle.model_guests.specs.Accesses.{answered}
+use Rattle.model_guests.specs.Slots.{slot_at}
+use Rattle.model_guests.specs.Text.{Text}
+use Rattle.model_guests.specs.Lone.{LoneGuest}
+use Rattle.model_guests.specs.Guests.{GuestsNow, lone_of, path_in, function_in}
+use Rattle.model_guests.specs.AgreedBoard.{state_over, with_change_at}
+use Rattle.model_guests.specs.ChangeLaws.{OverSeated}
+use Rattle.model_guests.specs.DeviceEvents.{DeviceByte, device_reads, device_writes, device_place, device_fault}
+use Rattle.model_guests.specs.DeviceEvents.{device_answer, after_device_event, after_guest_device}
+
+abbrev pub ReadsLeaveGuests : Type 0
+ReadsLeaveGuests = (name : Text) (d : DeviceByte) (gs : GuestsNow) → after_guest_device name (device_reads d) gs ≡ gs
+
+abbrev pub ReadsWritten : Type 0
+ReadsWritten = (g : LoneGuest) (d : DeviceByte) (v : ℕ) → device_fault g.slots (device_writes d v) ≡ None
+    → (f : Function) (p : Place) → slot_at g.slots d.slot ≡ Some f → device_place f d.part d.offset ≡ Some p
+    → IsTrue (has_place f.file p)
+    → device_answer (after_device_event g (device_writes d v)) (device_reads d) ≡ answered (v % 256) 1
+
+abbrev pub byte_change : File → ℕ → Place → File → File
+byte_change own v p file = if has_place own p then set_value v p file else file
+
+abbrev pub WriteReachesBoard : Type 0
+WriteReachesBoard = OverSeated (λ s gs. (name : Text) (d : DeviceByte) (v : ℕ)
+    → device_fault (lone_of gs name).slots (device_writes d v) ≡ None
+    → (p : Path) (f : Function) (q : Place) → path_in gs name d.slot ≡ Some p → function_in gs name d.slot ≡ Some f
+    → device_place f d.part d.offset ≡ Some q
+    → state_over s (after_guest_device name (device_writes d v) gs)
+    ≡ with_change_at (byte_change f.file v q) p (state_over s gs))

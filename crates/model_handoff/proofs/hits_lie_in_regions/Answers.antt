@@ -1,0 +1,5 @@
+use Rattle.model_handoff.proofs.Inside.{hit_is_inside, inside_is_hit}
+use Rattle.model_handoff.proofs.hits_lie_in_regions.Goals as goal
+
+pub returns : goal.returns
+returns c = record { inside = hit_is_inside; hit = inside_is_hit }

@@ -1,0 +1,100 @@
+-- Whatever firmware does to a handoff, it leaves one.
+use Rattle.std.proofs.Common.{◌≡◌, ℕ, ◌/◌, ◌%◌, Bool, true, false, cond, List, [], ◌∷◌, Some, None, Option, refl, ◌∙◌, arith}
+use Rattle.std.specs.Prelude.{map, is_some}
+use Rattle.std.specs.Option.{option_map_or}
+use Rattle.lists.specs.Elements.{Each}
+use Rattle.model_registers.specs.Cell.{Cell, written}
+use Rattle.model_registers.specs.Registers.{Place, config, block, after, File, changed, write, all_bytes}
+use Rattle.model_registers.specs.CopiedFiles.{places_of}
+use Rattle.model_board.specs.Paths.{Path, path_eq}
+use Rattle.model_board.specs.Claims.{Claim, first_claim}
+use Rattle.model_board.specs.Cycles.{reached}
+use Rattle.model_board.specs.Ports.{PortTarget, config_address, config_data, ordinary, port_target, after_claim_write, after_target_write}
+use Rattle.model_board.specs.State.{BoardFunction, State, with_file, row_at}
+use Rattle.model_registers.specs.Decoding.{io, memory}
+use Rattle.model_guests.specs.Accesses.{Op, reads, writes}
+use Rattle.model_guests.specs.Grammar.{HostTarget, host_configuration, host_port, host_address}
+use Rattle.model_guests.specs.LineRuns.{after_lines}
+use Rattle.model_lines.specs.FirmwareLines.{Meaning, nothing, asked, bad, meaning, after_meaning, after_line, board_protocol}
+use Rattle.model_lines.specs.HostAccesses.{HostAccess, effect, fault_of, after_access}
+use Rattle.model_handoff.specs.Handoffs.{HasDeclaredPlaces, IsHandoff}
+use Rattle.model_lines.specs.FirmwareLeaves.{IsHandoffAlike, AccessLeaves, LinesLeave}
+
+-- ---- a write moves no cell
+
+changed_places : (f : Cell → Cell) (p : Place) (file : File) → places_of (changed f p file) ≡ places_of file
+changed_places f p [] = refl
+changed_places f p (e ∷ es) = grind (arith, changed_places f p es)
+
+written_places : (ons : List Bool) (v : ℕ) (p : Place) (file : File) → places_of (write ons v p file) ≡ places_of file
+written_places [] v p file = refl
+written_places (on ∷ ons) v p file = grind (arith, written_places ons (v / 256) (after p) (cond on (changed (written (v % 256)) p file) file), changed_places)
+
+-- the same functions, with their cells at the same places
+record Alike (fs gs : List BoardFunction) : Type 0 where
+  rows : map row_at gs ≡ map row_at fs
+  places : Each HasDeclaredPlaces fs → Each HasDeclaredPlaces gs
+
+unchanged : (fs : List BoardFunction) → Alike fs fs
+unchanged fs = record { rows = refl; places = λ h. h }
+
+module _ (g : File → File) (stays : (file : File) → places_of (g file) ≡ places_of file) (p : Path) where
+  abbrev one : BoardFunction → BoardFunction
+  one f = cond (path_eq f.path p) (record f { file = g f.file }) f
+
+  all_rows : (fs : List BoardFunction) → map row_at (with_file g p fs) ≡ map row_at fs
+  all_rows [] = refl
+  all_rows (f ∷ fs) = grind (arith, all_rows fs)
+
+  all_places : (fs : List BoardFunction) → Each HasDeclaredPlaces fs → Each HasDeclaredPlaces (with_file g p fs)
+  all_places [] h = tt
+  all_places (f ∷ fs) h = grind (arith, all_places fs)
+
+  with_file_alike : (fs : List BoardFunction) → Alike fs (with_file g p fs)
+  with_file_alike fs = record { rows = all_rows fs; places = all_places fs }
+
+config_alike : (fs : List BoardFunction) (off : ℕ) (ons : List Bool) (v : ℕ) (o : Option BoardFunction) → Alike fs (option_map_or (λ (f : BoardFunction). with_file (write ons v (config off)) f.path fs) o fs)
+config_alike fs off ons v None = unchanged fs
+config_alike fs off ons v (Some f) = with_file_alike (write ons v (config off)) (written_places ons v (config off)) f.path fs
+
+claim_alike : (fs : List BoardFunction) (w v : ℕ) (o : Option Claim) → Alike fs (after_claim_write fs w v o)
+claim_alike fs w v None = unchanged fs
+claim_alike fs w v (Some c) = with_file_alike (write (all_bytes w) v (block c.index c.offset)) (written_places (all_bytes w) v (block c.index c.offset)) c.path fs
+
+target_alike : (s : State) (a w v : ℕ) (t : PortTarget) → Alike s.functions (after_target_write s a w v t).functions
+target_alike s a w v config_address = unchanged s.functions
+target_alike s a w v (config_data at off) = config_alike s.functions off (all_bytes w) v (reached s.functions at)
+target_alike s a w v ordinary = claim_alike s.functions w v (first_claim s.functions io a)
+
+effect_alike : (s : State) (w : ℕ) (at : HostTarget) (op : Op) → Alike s.functions (effect s w at op).functions
+effect_alike s w (host_configuration at off) reads = unchanged s.functions
+effect_alike s w (host_configuration at off) (writes v) = config_alike s.functions off (all_bytes w) v (reached s.functions at)
+effect_alike s w (host_port a) reads = unchanged s.functions
+effect_alike s w (host_port a) (writes v) = target_alike s a w v (port_target s.latch a w)
+effect_alike s w (host_address a) reads = unchanged s.functions
+effect_alike s w (host_address a) (writes v) = claim_alike s.functions w v (first_claim s.functions memory a)
+
+access_alike : (s : State) (a : HostAccess) → Alike s.functions (after_access s a).functions
+access_alike s a = by (is_some (fault_of a))
+  where
+    by : (t : Bool) → Alike s.functions (cond t s (effect s a.width a.target a.op)).functions
+    by true = unchanged s.functions
+    by false = effect_alike s a.width a.target a.op
+
+handoff_alike : (s now : State) → IsHandoff s → Alike s.functions now.functions → IsHandoffAlike s now
+handoff_alike s now h alike = grind arith
+
+pub access_leaves : AccessLeaves
+access_leaves s h a = handoff_alike s (after_access s a) h (access_alike s a)
+
+line_leaves : (s : State) → IsHandoff s → (m : Meaning) → IsHandoffAlike s (after_meaning s m)
+line_leaves s h nothing = record { handoff = h; board = refl }
+line_leaves s h (asked a) = access_leaves s h a
+line_leaves s h (bad who n) = record { handoff = h; board = refl }
+
+pub lines_leave : LinesLeave
+lines_leave s h [] = record { handoff = h; board = refl }
+lines_leave s h (l ∷ ls) =
+    let one : IsHandoffAlike s (after_line s l) = line_leaves s h (meaning l) in
+    let rest : IsHandoffAlike (after_line s l) (after_lines board_protocol (after_line s l) ls) = lines_leave (after_line s l) one.handoff ls in
+    record { handoff = rest.handoff; board = rest.board ∙ one.board }

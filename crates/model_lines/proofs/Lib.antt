@@ -1,0 +1,5 @@
+pub mod HostLaws
+pub mod RowsOfFirmware
+pub mod SessionLines
+pub mod HandoverLines
+pub mod FirmwareLeaves

@@ -1,0 +1,83 @@
+-- The lines of firmware: what they mean, what each writes, and the board after it.
+--     host_access_of      the words of a line after `host`
+--     Meaning, meaning      an access, a refusal, or nothing
+--     line_output, after_line      what a line writes, and the board after it
+--     board_protocol      the two as a protocol, so that they go along lines
+use Rattle.std.specs.Prelude.{List, [], ◌∷◌, ℕ, ◌^◌, if◌then◌else◌, Option, None, Some, codes, option_map}
+use Rattle.std.specs.Prelude.{option_and_then}
+use Rattle.std.specs.Str.{bytes_eq}
+use Rattle.lists.specs.Elements.{first_of_two}
+use Rattle.model_board.specs.Cycles.{BusAddress}
+use Rattle.model_board.specs.State.{State}
+use Rattle.model_guests.specs.Accesses.{Op, reads, writes, refused}
+use Rattle.model_guests.specs.Text.{Text, words, text_of_lines}
+use Rattle.model_guests.specs.Numbers.{below, number_of}
+use Rattle.model_guests.specs.Grammar.{given, on_word, HostRead, host_configuration, host_port, host_address, host_at}
+use Rattle.model_guests.specs.Grammar.{bus_address, host_read_of, Who, host, nobody, is_comment, is_long}
+use Rattle.model_guests.specs.Replies.{line_text}
+use Rattle.model_guests.specs.LineRuns.{Protocol}
+use Rattle.model_lines.specs.HostAccesses.{HostAccess, answer, after_access}
+
+-- what is done where a read would go
+abbrev pub done_at : Op → Option HostRead → Option HostAccess
+done_at op place = option_map (λ (r : HostRead). record { target = r.target; width = r.width; op = op }) place
+
+-- BB:DD.F OFF W
+abbrev pub config_place : Text → Text → Text → Option HostRead
+config_place at off w = option_and_then (λ (b : BusAddress). host_at (host_configuration b) off w) (bus_address at)
+
+-- a value of 32 bits
+abbrev pub written_at : Text → Option HostRead → Option HostAccess
+written_at v place = given (below (2 ^ 32) (number_of v)) (λ n. done_at (writes n) place)
+
+-- host iw PORT W V, host mw ADDR W V; host cw BB:DD.F OFF W V
+abbrev pub host_write_of : List Text → Option HostAccess
+host_write_of (op ∷ a ∷ w ∷ v ∷ []) =
+    if bytes_eq op (codes "iw") then written_at v (host_at host_port a w)
+    else on_word op (codes "mw") (written_at v (host_at host_address a w))
+host_write_of (op ∷ a ∷ b ∷ w ∷ v ∷ []) = on_word op (codes "cw") (written_at v (config_place a b w))
+host_write_of _ = None
+
+-- the host's reads of scripts, or one of these writes
+abbrev pub host_access_of : List Text → Option HostAccess
+host_access_of ws = first_of_two (done_at reads (host_read_of ws)) (host_write_of ws)
+
+pub data Meaning : Type 0 where
+  nothing : Meaning
+  asked : HostAccess → Meaning
+  bad : Who → ℕ → Meaning
+
+abbrev pub access_or_bad : Option HostAccess → Meaning
+access_or_bad None = bad host 401
+access_or_bad (Some a) = asked a
+
+-- by the first word: a comment, `host`, or nobody's, since no guest is there
+abbrev pub meaning_of_words : List Text → Meaning
+meaning_of_words [] = nothing
+meaning_of_words (w ∷ ws) =
+    if is_comment w then nothing
+    else (if bytes_eq w (codes "host") then access_or_bad (host_access_of ws) else bad nobody 402)
+
+-- a long line is bad whatever stands in it
+abbrev pub meaning : Text → Meaning
+meaning line = if is_long line then bad nobody 403 else meaning_of_words (words line)
+
+-- one line or none
+abbrev pub written_by : State → Meaning → List Text
+written_by s nothing = []
+written_by s (asked a) = line_text host (answer s a) ∷ []
+written_by s (bad who n) = line_text who (refused n) ∷ []
+
+abbrev pub after_meaning : State → Meaning → State
+after_meaning s nothing = s
+after_meaning s (asked a) = after_access s a
+after_meaning s (bad who n) = s
+
+abbrev pub line_output : State → Text → Text
+line_output s line = text_of_lines (written_by s (meaning line))
+
+abbrev pub after_line : State → Text → State
+after_line s line = after_meaning s (meaning line)
+
+abbrev pub board_protocol : Protocol State
+board_protocol = record { writes = line_output; next = after_line }

@@ -1,0 +1,6 @@
+pub mod HostAccesses
+pub mod FirmwareLines
+pub mod FirmwareLaws
+pub mod Sessions
+pub mod SessionLaws
+pub mod FirmwareLeaves

@@ -1,0 +1,73 @@
+//! Lines over a board, as definitions: what firmware asks through the host bridge, and sessions, which are firmware's
+//! lines, among them those that ask for an audit of the registers as they stand there, and the one that hands the board
+//! to its guests. Laws about them.
+#![tactic(auto)]
+
+ghost use Rattle.model_guests.specs.LineRuns.{AfterAlong, CutIsBeginning, OutputAlong, StoppedIsBeginning};
+ghost use Rattle.model_lines.specs.FirmwareLaws.{BadLinesChangeNothing, DataIsByNumber, LatchIsPort, LongLinesAlike, ReadsChangeNoRegister, RefusedChangesNothing};
+ghost use Rattle.model_lines.specs.FirmwareLines.{board_protocol};
+ghost use Rattle.model_lines.specs.Sessions.{session_protocol};
+ghost use Rattle.model_lines.specs.SessionLaws.{AuditsChangeNothing, HostWordsAreNoForm, PlainSessions, RefusedStays};
+ghost use Rattle.model_lines.specs.SessionLaws.{GivenBy, GivenIsScript, IsolatedSessions};
+ghost use Rattle.model_lines.specs.FirmwareLeaves.{AccessLeaves, LinesLeave};
+
+/// CF8h is the address latch, and while the latch is enabled CFCh to CFFh are the registers that it
+/// selects: what is done there is what is done by number, but that the latch is 0 after an access by number.
+pub fn numbers_and_ports()
+    ensures latch { LatchIsPort }
+    ensures by_number { DataIsByNumber }
+{}
+
+/// Only writes that no check refuses change a register.
+pub fn what_changes_nothing()
+    ensures refused { RefusedChangesNothing }
+    ensures bad { BadLinesChangeNothing }
+    ensures reads { ReadsChangeNoRegister }
+{}
+
+/// Pieces of a text write and leave, one after the other, what the whole does, and a run that fails wrote
+/// a beginning of it.
+pub fn lines_in_pieces()
+    ensures output { OutputAlong board_protocol }
+    ensures after { AfterAlong board_protocol }
+    ensures long { LongLinesAlike }
+    ensures stopped { StoppedIsBeginning board_protocol }
+    ensures cut { CutIsBeginning board_protocol }
+{}
+
+/// The lines that ask for an audit or for guests have no form of another line. An audit changes nothing, nor does a
+/// handover that is refused.
+pub fn audits_and_handovers()
+    ensures no_form { HostWordsAreNoForm }
+    ensures nothing { AuditsChangeNothing }
+    ensures refused { RefusedStays }
+{}
+
+/// Without such lines a session writes and leaves what its lines do as firmware's, and once the board is given what
+/// they do as a script's.
+pub fn plain_sessions()
+    ensures firmware { PlainSessions }
+    ensures script { GivenIsScript }
+{}
+
+/// Wherever a session has guests, one of its lines gave them the board. From there on a guest is told what its own
+/// functions tell it by themselves, and holds what they leave, whatever firmware did before.
+pub fn guests_in_sessions()
+    ensures given { GivenBy }
+    ensures isolated { IsolatedSessions }
+{}
+
+/// Pieces of a session write and leave, one after the other, what the whole does, and a run that fails wrote
+/// a beginning of it.
+pub fn sessions_in_pieces()
+    ensures output { OutputAlong session_protocol }
+    ensures after { AfterAlong session_protocol }
+    ensures stopped { StoppedIsBeginning session_protocol }
+    ensures cut { CutIsBeginning session_protocol }
+{}
+
+/// Whatever firmware does to a handoff, it leaves one of the same board.
+pub fn firmware_hands_over()
+    ensures access { AccessLeaves }
+    ensures lines { LinesLeave }
+{}

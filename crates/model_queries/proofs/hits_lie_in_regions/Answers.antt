@@ -1,5 +1,0 @@
-use Rattle.model_queries.proofs.Inside.{hit_is_inside, inside_is_hit}
-use Rattle.model_queries.proofs.hits_lie_in_regions.Goals as goal
-
-pub returns : goal.returns
-returns c = record { inside = hit_is_inside; hit = inside_is_hit }

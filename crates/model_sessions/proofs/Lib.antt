@@ -1,2 +1,0 @@
-pub mod SessionLines
-pub mod HandoverLines
