@@ -6,9 +6,14 @@ use paths::Path;
 #[derive(Debug, Drop)]
 pub enum Lack {
     /// A region whose space Command doesn't open.
-    NotOpen { region: RegionNow },
+    NotOpen {
+        region: RegionNow,
+    },
     /// An open region, and its least address that no aperture of its space has.
-    OutsideApertures { region: RegionNow, address: u64 },
+    OutsideApertures {
+        region: RegionNow,
+        address: u64,
+    },
     /// An open memory region that isn't prefetchable, the first bridge above it that forwards some of it by
     /// its prefetchable window alone, and the least address that it does.
     Prefetched {
@@ -17,5 +22,9 @@ pub enum Lack {
         address: u64,
     },
     /// A bridge, the Primary Bus Number that it holds, and the number of the bus that it stands on.
-    OtherPrimary { path: Path, held: u8, number: u8 },
+    OtherPrimary {
+        path: Path,
+        held: u8,
+        number: u8,
+    },
 }

@@ -60,11 +60,7 @@ fn if_prefetched(row: &RoutingRow, region: &RegionNow, addr: u64) -> Option<u64>
 }
 
 /// The first address of a window, if the region holds it and the bridge prefetches it.
-fn if_first_prefetched(
-    row: &RoutingRow,
-    region: &RegionNow,
-    window: Option<Window>,
-) -> Option<u64>
+fn if_first_prefetched(row: &RoutingRow, region: &RegionNow, window: Option<Window>) -> Option<u64>
     ensures { let q = region.now in option_to_list result
         ≡ filter (λ n. holds q.space n q && prefetches n row.now)
         (map (λ e. e.first) (option_to_list (option_map extent_of window))) }
