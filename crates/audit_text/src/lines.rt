@@ -2,7 +2,7 @@
 ghost use Rattle.std.specs.Prelude.{◌≡◌, ◌++◌, codes, OnOk, string_bytes};
 ghost use Rattle.std.specs.Option.{option_map_or};
 ghost use Rattle.paths.specs.BusAddresses.{bus_address_of};
-ghost use Rattle.model_guests.specs.Report.{hexadecimal, path_text};
+ghost use Rattle.model_guests.specs.PathTexts.{hexadecimal, path_text};
 ghost use Rattle.model_audit.specs.AuditText.{region_text, agent_text, space_text, number_text, problem_text, total_text, audit_line};
 ghost use Rattle.model_audit.specs.Problems.{not_forwarded, contended, not_found};
 ghost use Rattle.board_audit.specs.Told.{problem_of};
@@ -16,7 +16,8 @@ use std::alloc::AllocError;
 
 /// Appends the path of a region, its register, and where it stands.
 fn push_region(text: &mut String, region: &RegionNow) -> Result<(), AllocError>
-    ensures { OnOk result (string_bytes text.new ≡ string_bytes text.old ++ region_text region.now) }
+    ensures { OnOk result (string_bytes text.new
+        ≡ string_bytes text.old ++ region_text region.now) }
 {
     push_path(text, &region.path)?;
     let index = region.region.index;
@@ -27,7 +28,8 @@ fn push_region(text: &mut String, region: &RegionNow) -> Result<(), AllocError>
 
 /// Appends the path of an agent, and its register, if it has one.
 fn push_agent(text: &mut String, agent: &Agent) -> Result<(), AllocError>
-    ensures { OnOk result (string_bytes text.new ≡ string_bytes text.old ++ agent_text agent.now) }
+    ensures { OnOk result (string_bytes text.new
+        ≡ string_bytes text.old ++ agent_text agent.now) }
 {
     push_path(text, &agent.path)?;
     match agent.register {
@@ -45,7 +47,8 @@ fn push_address(text: &mut String, address: u64) -> Result<(), AllocError>
 
 /// Appends the name of the space whose addresses an agent answers.
 fn push_space(text: &mut String, agent: &Agent) -> Result<(), AllocError>
-    ensures { OnOk result (string_bytes text.new ≡ string_bytes text.old ++ space_text agent.now.space) }
+    ensures { OnOk result (string_bytes text.new
+        ≡ string_bytes text.old ++ space_text agent.now.space) }
 {
     match agent.space {
         Space::Io => text.push_str("I/O"),
@@ -56,7 +59,8 @@ fn push_space(text: &mut String, agent: &Agent) -> Result<(), AllocError>
 /// Appends a bus, device and function number.
 fn push_number(text: &mut String, bus: u8, device: u8, function: u8) -> Result<(), AllocError>
     ensures { OnOk result (string_bytes text.new
-        ≡ string_bytes text.old ++ number_text (record { bus = bus; part = record { device = device; function = function } })) }
+        ≡ string_bytes text.old
+        ++ number_text (record { bus = bus; part = record { device = device; function = function } })) }
 {
     write!(text, "{bus:02x}:{device:02x}.{function}")
 }
@@ -116,7 +120,8 @@ fn push_not_found(
     instead: &Option<Path>,
 ) -> Result<(), AllocError>
     ensures { OnOk result (string_bytes text.new
-        ≡ string_bytes text.old ++ problem_text (not_found path.now (bus_address_of address) instead.now)) }
+        ≡ string_bytes text.old
+        ++ problem_text (not_found path.now (bus_address_of address) instead.now)) }
 {
     push_path(text, path)?;
     text.push_str(": a cycle for ")?;
@@ -127,7 +132,8 @@ fn push_not_found(
 
 /// Appends a problem.
 fn push_told(text: &mut String, problem: &Problem) -> Result<(), AllocError>
-    ensures { OnOk result (string_bytes text.new ≡ string_bytes text.old ++ problem_text (problem_of problem.now)) }
+    ensures { OnOk result (string_bytes text.new
+        ≡ string_bytes text.old ++ problem_text (problem_of problem.now)) }
 {
     match problem {
         Problem::NotForwarded {
@@ -160,7 +166,8 @@ pub fn push_problem(text: &mut String, problem: &Problem) -> Result<(), AllocErr
 
 /// Appends the line that counts the problems.
 pub(crate) fn push_total(text: &mut String, count: usize) -> Result<(), AllocError>
-    ensures { OnOk result (string_bytes text.new ≡ string_bytes text.old ++ ended (audit_line (total_text count))) }
+    ensures { OnOk result (string_bytes text.new
+        ≡ string_bytes text.old ++ ended (audit_line (total_text count))) }
 {
     if count == 0 {
         return text.push_str("audit: ok\n");

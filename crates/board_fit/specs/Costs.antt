@@ -10,7 +10,7 @@ use Rattle.model_registers.specs.Apertures.{Aperture, Apertures}
 use Rattle.model_board.specs.Board.{Board}
 use Rattle.model_set_up.specs.Pools.{aperture_of}
 use Rattle.model_set_up.specs.Placement.{fits}
-use Rattle.model_guests.specs.Report.{hexadecimal}
+use Rattle.model_guests.specs.PathTexts.{hexadecimal}
 use Rattle.board_file.specs.Entries.{file}
 use Rattle.window_packing.specs.declared.pool.Pool.{Pool}
 use Rattle.window_packing.specs.declared.uses.PoolUse.{PoolUse}

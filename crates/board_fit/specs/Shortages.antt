@@ -10,7 +10,7 @@ use Rattle.std.specs.Prelude.{◌≡◌, ℕ, ◌++◌, codes, decimal, Option, 
 use Rattle.model_registers.specs.Apertures.{Apertures}
 use Rattle.model_board.specs.Board.{Board}
 use Rattle.model_guests.specs.Text.{Text}
-use Rattle.model_guests.specs.Report.{hexadecimal}
+use Rattle.model_guests.specs.PathTexts.{hexadecimal}
 use Rattle.bus_scan.specs.Faults.{number_of}
 use Rattle.bus_scan.specs.declared.fault.Fault.{Fault}
 use Rattle.bus_scan.specs.declared.fault.Fault.TheVariants.{Buses, NoIoWindow, IoPool, MemoryPool, PrefetchablePool, Memory}

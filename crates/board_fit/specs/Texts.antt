@@ -8,7 +8,7 @@
 use Rattle.std.specs.Prelude.{ℕ, List, [], ◌++◌, codes, Option, Some, None}
 use Rattle.std.specs.Option.{option_map_or}
 use Rattle.toml.specs.Data.{Members}
-use Rattle.model_guests.specs.Report.{hexadecimal}
+use Rattle.model_guests.specs.PathTexts.{hexadecimal}
 use Rattle.board_file.specs.declared.entry.Entry.{Entry}
 use Rattle.board_file.specs.declared.entry.Entry.TheVariants as entry
 use Rattle.diagnostics.specs.Texts.{place_text, other_text}

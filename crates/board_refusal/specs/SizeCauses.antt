@@ -4,7 +4,7 @@
 use Rattle.std.specs.Prelude.{ℕ, zero, suc, ◌*◌, ◌/◌, ℤ, pos, nat_abs, int_le, nat_lt, not, List, [], ◌++◌, codes, if◌then◌else◌}
 use Rattle.std.specs.Int.{is_power_of_two}
 use Rattle.model_registers.specs.Declarations.{Kind, io_kind, mem32, mem64, least_size, greatest_size}
-use Rattle.model_guests.specs.Report.{hexadecimal}
+use Rattle.model_guests.specs.PathTexts.{hexadecimal}
 use Rattle.board_file.specs.Entries.{Bar}
 
 abbrev pub power_below : ℕ → ℕ → ℕ → ℕ

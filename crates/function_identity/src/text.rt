@@ -1,7 +1,7 @@
 //! The text of a path, as board files and reports have it.
 ghost use Rattle.std.specs.Prelude.{◌≡◌, ◌≤◌, ◌<◌, ◌+◌, ◌*◌, ◌++◌, length, map, decimal};
 ghost use Rattle.std.specs.List.{join_with_byte};
-ghost use Rattle.model_guests.specs.Report.{part_text, path_text};
+ghost use Rattle.model_guests.specs.PathTexts.{part_text, path_text};
 
 use arrayvec::ArrayVec;
 use paths::{Part, Path};

@@ -13,7 +13,7 @@ use Rattle.model_board.specs.Cycles.{BusAddress}
 use Rattle.model_set_up.specs.PlacedRegions.{PlacedRegion}
 use Rattle.model_guests.specs.Text.{Text, text_of_lines}
 use Rattle.model_guests.specs.Replies.{hex_digits}
-use Rattle.model_guests.specs.Report.{hexadecimal, path_text}
+use Rattle.model_guests.specs.PathTexts.{hexadecimal, path_text}
 use Rattle.model_audit.specs.Agents.{Agent}
 use Rattle.model_audit.specs.Problems.{Problem, not_forwarded, contended, not_found, problems}
 

@@ -10,7 +10,7 @@ use Rattle.model_registers.specs.EndpointTable.{BaseAddress}
 use Rattle.model_registers.specs.Decoding.{memory}
 use Rattle.model_board.specs.Paths.{Path}
 use Rattle.model_board.specs.State.{BoardFunction, with_file}
-use Rattle.model_set_up.specs.Examples.{part, main_board, main_apertures}
+use Rattle.model_board.specs.Examples.{part, main_board, main_apertures}
 use Rattle.model_set_up.specs.SetUp.{set_up_state}
 use Rattle.model_board.specs.AtReset.{reset_state}
 use Rattle.model_board.specs.Windows.{Window}

@@ -6,3 +6,4 @@ pub mod PlacesLaw
 pub mod ClaimLanes
 pub mod ConfigAccesses
 pub mod StateRows
+pub mod LawfulBoards

@@ -14,3 +14,4 @@ pub mod Routing
 pub mod RoutingLaws
 pub mod Ports
 pub mod PortLaws
+pub mod Examples

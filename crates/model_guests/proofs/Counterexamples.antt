@@ -8,10 +8,9 @@ use Rattle.model_registers.specs.EndpointTable.{endpoint_reset}
 use Rattle.model_board.specs.Paths.{Path}
 use Rattle.model_board.specs.Board.{endpoint}
 use Rattle.model_registers.specs.Decoding.{Function}
-use Rattle.model_board.specs.AtReset.{board_at}
+use Rattle.model_board.specs.AtReset.{board_at, reset_state}
 use Rattle.model_board.specs.State.{State}
-use Rattle.model_set_up.specs.SetUp.{set_up_state}
-use Rattle.model_set_up.specs.Examples.{part, function_at, plain, main_apertures}
+use Rattle.model_board.specs.Examples.{part, function_at, plain, main_apertures}
 use Rattle.model_guests.specs.World.{World}
 use Rattle.model_guests.specs.Guests.{GuestsNow, Move, after_move, function_in, guests_at_first, move_fault, path_in}
 use Rattle.model_registers.specs.CopiedFiles.{after_reset, places_of}
@@ -65,6 +64,6 @@ total s = sum (map (λ f. sum (map (λ (e : PlacedCell). e.cell.value) f.file)) 
 not_any : AnyMoveResets → ⊥
 unfolding world lost twice place total
 not_any h =
-    let left : State = set_up_state world.board world.apertures in
+    let left : State = reset_state world.board in
     differ (total (state_over left (after_move (guests_at_first world) lost))) (total (with_change_at (after_reset twice) place (state_over left (guests_at_first world)))) refl
     (ap total (h left (guests_at_first world) seated lost refl place (record { decl = twice; file = endpoint_reset twice false }) refl refl))

@@ -10,7 +10,6 @@ use Rattle.lists.specs.Elements.{Each}
 use Rattle.model_registers.specs.Decoding.{Function}
 use Rattle.lists.proofs.Tests.{left_true, right_true}
 use Rattle.model_board.specs.Paths.{Path}
-use Rattle.model_set_up.specs.SetUp.{set_up_state}
 use Rattle.model_guests.specs.Accesses.{Event, refused}
 use Rattle.model_guests.specs.Lone.{LoneGuest, after_event, answer, emptied, filled, reset_guest}
 use Rattle.model_guests.specs.Text.{Text, lines}
@@ -21,7 +20,7 @@ use Rattle.model_guests.specs.Lines.{Meaning, bad, event_or_bad, guest_event, ho
 use Rattle.model_guests.specs.Replies.{line_text, reply_text}
 use Rattle.model_guests.specs.WorldNow.{WorldNow, world_over, names_of, names_now, host_reply, move_reply, written_by, after_meaning, after_line, after_lines}
 use Rattle.model_guests.specs.Inputs.{Input, after_input, after_inputs, after_own, gets, inputs, inputs_of_meaning, inputs_of_move, lone_event, lone_output, lone_reply, loses, own_line}
-use Rattle.model_guests.specs.Isolation.{Isolated, IsolatedOver, TwoWorlds, TwoHandoffs}
+use Rattle.model_guests.specs.Isolation.{Isolated, TwoWorlds}
 use Rattle.model_guests.proofs.Names.{lacks, NameFacts, named_facts, begins, equal_texts, same_text}
 use Rattle.model_guests.proofs.GuestFiles.{other_name}
 use Rattle.model_guests.proofs.GuestsByName.{Keeps}
@@ -191,8 +190,8 @@ module _ (ns : List Text) (name : Text) (lawful : Each (λ n. IsTrue (is_name n)
 
 -- ---- the whole script
 
-pub isolated_over : IsolatedOver
-isolated_over w lawful s name script h =
+pub isolated : Isolated
+isolated w lawful s name script h =
     let now : WorldNow = world_over w s in
     let facts : NameFacts name = named_facts (names w) name lawful h in
     let same : names_now now ≡ names w = names_at_first w in
@@ -205,13 +204,5 @@ isolated_over w lawful s name script h =
       holds = grind (arith, holds_from);
     }
 
-pub two_handoffs : TwoHandoffs
-two_handoffs name v w one other lawful_v lawful_w agree s t = grind (arith, isolated_over)
-
--- ---- after set-up
-
-pub isolated : Isolated
-isolated w lawful name script h = isolated_over w lawful (set_up_state w.board w.apertures) name script h
-
-pub two_worlds_lem : TwoWorlds
-two_worlds_lem name v w s t lawful_v lawful_w agree = grind (arith, two_handoffs)
+pub two_worlds_agree : TwoWorlds
+two_worlds_agree name v w one other lawful_v lawful_w agree s t = grind (arith, isolated)

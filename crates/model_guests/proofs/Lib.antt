@@ -8,7 +8,6 @@ pub mod TablePlaces
 pub mod CopiesNeverRise
 pub mod AgreedChanges
 pub mod DeclaredRows
-pub mod LawfulWorlds
 pub mod GuestsByName
 pub mod Seats
 pub mod SeatedMoves
@@ -26,19 +25,7 @@ pub mod Isolation
 pub mod OwnLines
 pub mod RunLines
 pub mod MoveIndices
-pub mod Dialogues
-pub mod RowsOfBaseRegisters
-pub mod RowsOfHeaders
-pub mod RowsOfRegions
-pub mod RowsOfRaises
-pub mod RowsOfLines
-pub mod RowsOfBridges
-pub mod RowsOfReports
-pub mod RowsOfHostReads
 pub mod RowsOfLimits
-pub mod RowsOfLatches
-pub mod RowsOfMoves
-pub mod RowsOfRuns
 pub mod OneGuest
 pub mod Resets
 pub mod DeviceSeats

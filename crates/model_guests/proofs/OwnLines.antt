@@ -7,7 +7,7 @@ use Rattle.model_guests.specs.Grammar.{own_lines}
 use Rattle.model_guests.specs.World.{names}
 use Rattle.model_guests.specs.Guests.{GuestsNow, guests_at_first}
 use Rattle.model_guests.specs.Lines.{Meaning, meaning}
-use Rattle.model_guests.specs.WorldNow.{world_at_first, names_of, guests_after}
+use Rattle.model_guests.specs.WorldNow.{world_over, names_of, guests_after}
 use Rattle.model_guests.specs.Inputs.{Input, own_line, inputs_of_meaning, inputs}
 use Rattle.model_guests.specs.Isolation.{is_move, OwnLinesAlone, IsDecidedBy, IsolatedByOwnLines, TwoWorldsByOwnLines}
 use Rattle.model_guests.proofs.Along.{names_meaning, names_at_first}
@@ -25,8 +25,8 @@ pub own_lines_alone : OwnLinesAlone
 own_lines_alone w name script none = own_along (names w) name (lines script) (guests_at_first w) (names_at_first w) none
 
 pub isolated_by_own_lines : IsolatedByOwnLines
-isolated_by_own_lines w lawful name script there none =
-    subst (λ (is : List Input). IsDecidedBy is w (world_at_first w) name script) (own_lines_alone w name script none) (isolated w lawful name script there)
+isolated_by_own_lines w lawful s name script there none =
+    subst (λ (is : List Input). IsDecidedBy is w (world_over w s) name script) (own_lines_alone w name script none) (isolated w lawful s name script there)
 
 pub two_worlds_by_own_lines : TwoWorldsByOwnLines
-two_worlds_by_own_lines name v w s t lawful_v lawful_w none_v none_w agree = grind (arith, isolated_by_own_lines)
+two_worlds_by_own_lines name v w one other lawful_v lawful_w none_v none_w agree s t = grind (arith, isolated_by_own_lines)

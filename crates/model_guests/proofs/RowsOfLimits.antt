@@ -7,7 +7,7 @@ use Rattle.model_registers.specs.Declarations.{Kind, io_kind, mem32, mem64, regi
 use Rattle.model_registers.specs.ByteEnables.{lanes}
 use Rattle.model_registers.specs.Apertures.{Apertures, are_lawful}
 use Rattle.model_board.specs.Board.{bridge, is_bridge, Board}
-use Rattle.model_set_up.specs.Examples.{part, function_at, aperture, main_bridge, main_apertures, many_bridges}
+use Rattle.model_board.specs.Examples.{part, function_at, aperture, main_bridge, main_apertures, many_bridges}
 use Rattle.model_guests.specs.Slots.{reset_slots}
 use Rattle.model_registers.specs.OwnCopies.{is_own, handed_on}
 use Rattle.model_guests.specs.World.{is_name, declarations}

@@ -11,8 +11,8 @@ use Rattle.model_registers.specs.Declarations.{io_kind, mem32, mem64, Endpoint, 
 use Rattle.model_board.specs.Paths.{Path}
 use Rattle.model_board.specs.Board.{endpoint, bridge, Board}
 use Rattle.model_registers.specs.Apertures.{Apertures}
-use Rattle.model_set_up.specs.Examples.{part, function_at, aperture, plain, first_endpoint, third_endpoint, main_bridge}
-use Rattle.model_set_up.specs.Examples.{main_board, main_board_with, main_apertures, memory_bridge, memory_of, chain}
+use Rattle.model_board.specs.Examples.{part, function_at, aperture, plain, first_endpoint, third_endpoint, main_bridge}
+use Rattle.model_board.specs.Examples.{main_board, main_board_with, main_apertures, memory_bridge, memory_of, chain}
 use Rattle.model_guests.specs.World.{Guest, World}
 
 abbrev pub on_bus_0 : ℕ → Path

@@ -1,10 +1,8 @@
 -- Isolation: what a guest is told, and what it holds, depends on its own functions, its own lines and the moves that
 -- touch it alone.
 --     IsDecidedBy      a guest of a world is told what inputs write over its own functions, and holds what they leave
---     IsIsolated, Isolated      after set-up each guest's replies, and what it holds, are those of its own inputs
---     IsolatedOver      and so they are over any handoff
+--     Isolated      over any handoff each guest's replies, and what it holds, are those of its own inputs
 --     AgreeOn, TwoWorlds      worlds and scripts that agree on a guest's functions and inputs give it equal reply lines
---     TwoHandoffs      and so they do over any two handoffs
 --     HasNoMove, OwnLinesAlone      in a script without moves the inputs are the own lines
 --     IsolatedByOwnLines, TwoWorldsByOwnLines      so there a guest's own lines alone decide
 use Rattle.std.specs.Prelude.{List, ◌≡◌, Bool, true, false, map, IsTrue, IsFalse}
@@ -17,7 +15,7 @@ use Rattle.model_guests.specs.Replies.{reply_lines}
 use Rattle.model_guests.specs.Lone.{reset_guest}
 use Rattle.model_guests.specs.Guests.{guests_at_first, lone_of}
 use Rattle.model_guests.specs.Lines.{Meaning, nothing, guest_event, host_read, host_move, bad, meaning}
-use Rattle.model_guests.specs.WorldNow.{WorldNow, world_over, world_at_first, output, after_lines}
+use Rattle.model_guests.specs.WorldNow.{WorldNow, world_over, output, after_lines}
 use Rattle.model_guests.specs.Inputs.{Input, own_line, inputs, lone_output, after_inputs}
 
 -- over its own functions in a world of no one else; the board isn't among them
@@ -25,16 +23,8 @@ pub record IsDecidedBy (is : List Input) (w : World) (m : WorldNow) (name script
   pub replies : reply_lines name (output m (lines script)) ≡ lone_output name (reset_guest (declarations w name)) is
   pub holds : lone_of (after_lines m (lines script)).guests name ≡ after_inputs (reset_guest (declarations w name)) is
 
-abbrev pub IsIsolated : World → Text → Text → Type 0
-IsIsolated w name script =
-    IsDecidedBy (inputs (guests_at_first w) name (lines script)) w (world_at_first w) name script
-
 abbrev pub Isolated : Type 0
-Isolated = (w : World) → HasLawfulNames w → (name script : Text) → IsTrue (has_name (names w) name)
-    → IsIsolated w name script
-
-abbrev pub IsolatedOver : Type 0
-IsolatedOver = (w : World) → HasLawfulNames w → (s : State) (name script : Text) → IsTrue (has_name (names w) name)
+Isolated = (w : World) → HasLawfulNames w → (s : State) (name script : Text) → IsTrue (has_name (names w) name)
     → IsDecidedBy (inputs (guests_at_first w) name (lines script)) w (world_over w s) name script
 
 -- two worlds and two scripts agree on a guest: it is in both, with equal declarations slot by slot and equal inputs
@@ -44,12 +34,9 @@ pub record AgreeOn (name : Text) (v w : World) (s t : Text) : Type 0 where
   pub declarations : declarations v name ≡ declarations w name
   pub inputs : inputs (guests_at_first v) name (lines s) ≡ inputs (guests_at_first w) name (lines t)
 
+-- whatever firmware handed over
 abbrev pub TwoWorlds : Type 0
-TwoWorlds = (name : Text) (v w : World) (s t : Text) → HasLawfulNames v → HasLawfulNames w → AgreeOn name v w s t
-    → reply_lines name (output (world_at_first v) (lines s)) ≡ reply_lines name (output (world_at_first w) (lines t))
-
-abbrev pub TwoHandoffs : Type 0
-TwoHandoffs = (name : Text) (v w : World) (one other : Text) → HasLawfulNames v → HasLawfulNames w
+TwoWorlds = (name : Text) (v w : World) (one other : Text) → HasLawfulNames v → HasLawfulNames w
     → AgreeOn name v w one other → (s t : State)
     → reply_lines name (output (world_over v s) (lines one)) ≡ reply_lines name (output (world_over w t) (lines other))
 
@@ -70,9 +57,9 @@ OwnLinesAlone = (w : World) (name script : Text) → HasNoMove w script
     → inputs (guests_at_first w) name (lines script) ≡ map own_line (own_lines name (lines script))
 
 abbrev pub IsolatedByOwnLines : Type 0
-IsolatedByOwnLines = (w : World) → HasLawfulNames w → (name script : Text) → IsTrue (has_name (names w) name)
-    → HasNoMove w script
-    → IsDecidedBy (map own_line (own_lines name (lines script))) w (world_at_first w) name script
+IsolatedByOwnLines = (w : World) → HasLawfulNames w → (s : State) (name script : Text)
+    → IsTrue (has_name (names w) name) → HasNoMove w script
+    → IsDecidedBy (map own_line (own_lines name (lines script))) w (world_over w s) name script
 
 -- the same of two scripts whose own lines of the guest are equal
 pub record AgreeOnOwnLines (name : Text) (v w : World) (s t : Text) : Type 0 where
@@ -82,7 +69,6 @@ pub record AgreeOnOwnLines (name : Text) (v w : World) (s t : Text) : Type 0 whe
   pub lines : own_lines name (lines s) ≡ own_lines name (lines t)
 
 abbrev pub TwoWorldsByOwnLines : Type 0
-TwoWorldsByOwnLines = (name : Text) (v w : World) (s t : Text) → HasLawfulNames v → HasLawfulNames w → HasNoMove v s
-    → HasNoMove w t
-    → AgreeOnOwnLines name v w s t
-    → reply_lines name (output (world_at_first v) (lines s)) ≡ reply_lines name (output (world_at_first w) (lines t))
+TwoWorldsByOwnLines = (name : Text) (v w : World) (one other : Text) → HasLawfulNames v → HasLawfulNames w
+    → HasNoMove v one → HasNoMove w other → AgreeOnOwnLines name v w one other → (s t : State)
+    → reply_lines name (output (world_over v s) (lines one)) ≡ reply_lines name (output (world_over w t) (lines other))

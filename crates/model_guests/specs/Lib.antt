@@ -9,6 +9,7 @@ pub mod Guests
 pub mod Lines
 pub mod HostReads
 pub mod Replies
+pub mod PathTexts
 pub mod AgreedBoard
 pub mod WorldNow
 pub mod Inputs
@@ -20,7 +21,6 @@ pub mod ViewLaws
 pub mod MoveLaws
 pub mod LineRuns
 pub mod WorldLaws
-pub mod Report
 pub mod Examples
 pub mod DeviceEvents
 pub mod DeviceLaws

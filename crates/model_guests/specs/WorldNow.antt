@@ -1,6 +1,6 @@
 -- A world as it is now, and what a script does to it line by line.
 --     WorldNow      the state in which the board was handed over, and the guests as they are now
---     world_over w s, world_at_first w      a world before any line, over a handoff, and over what set-up leaves
+--     world_over w s      a world before any line, over a handoff
 --     names_now, board_state      the guests' names; the state of the board
 --     host_reply, move_reply      what the host is told
 --     line_output, after_line      what a line writes, and the world after it
@@ -9,7 +9,6 @@
 use Rattle.std.specs.Prelude.{List, [], ◌∷◌, map}
 use Rattle.std.specs.Option.{option_map_or}
 use Rattle.model_board.specs.State.{State}
-use Rattle.model_set_up.specs.SetUp.{set_up_state}
 use Rattle.model_guests.specs.Accesses.{Reply, done, refused}
 use Rattle.model_guests.specs.Text.{Text, text_of_lines}
 use Rattle.model_guests.specs.Grammar.{HostRead, guest, host}
@@ -31,9 +30,6 @@ pub record WorldNow : Type 0 where
 
 abbrev pub world_over : World → State → WorldNow
 world_over w s = record { handoff = s; guests = guests_at_first w }
-
-abbrev pub world_at_first : World → WorldNow
-world_at_first w = world_over w (set_up_state w.board w.apertures)
 
 abbrev pub names_of : GuestsNow → List Text
 names_of gs = map (λ (g : GuestNow). g.name) gs

@@ -2,7 +2,7 @@
 //! laws about them.
 #![tactic(auto)]
 
-ghost use Rattle.model_guests.specs.Isolation.{Isolated, IsolatedByOwnLines, IsolatedOver, OwnLinesAlone, TwoHandoffs, TwoWorlds, TwoWorldsByOwnLines};
+ghost use Rattle.model_guests.specs.Isolation.{Isolated, IsolatedByOwnLines, OwnLinesAlone, TwoWorlds, TwoWorldsByOwnLines};
 ghost use Rattle.model_guests.specs.Seated.{ByIndex, SeatedAfterEvents, SeatedAfterMoves, SeatedAlong, SeatedAtFirst};
 ghost use Rattle.model_guests.specs.AgreedLaws.{CopiesNeverRise, FileOfSeat, ShowsFile};
 ghost use Rattle.model_guests.specs.ChangeLaws.{ChangesOneFunction, EventReachesBoard, LatchKeepsBoard, MoveResetsOneFunction, OneFile, RaisesAlike, ResetsAlike, WritesAlike};
@@ -17,20 +17,18 @@ ghost use Rattle.model_guests.specs.DeviceExamples.{CountingDevice};
 ghost use Rattle.model_guests.specs.DeviceLaws.{NamesAfterDevices, OthersAfterDevice, OwnAfterDevice, ResetByMoves, ResetReachesBoard, SeatedAfterDevices};
 
 /// To each guest a script's replies, and what it then holds, are those of its own functions and
-/// latch alone, to its own lines and the moves that touch it, after set-up as over any handoff.
+/// latch alone, to its own lines and the moves that touch it, over any handoff.
 pub fn isolated()
-    ensures set_up { Isolated }
-    ensures over { IsolatedOver }
+    ensures { Isolated }
 {}
 
 /// Worlds and scripts that agree on a guest's functions, lines and moves give it equal reply lines,
-/// after set-up as over any two handoffs.
+/// over any two handoffs.
 pub fn two_worlds()
-    ensures set_up { TwoWorlds }
-    ensures over { TwoHandoffs }
+    ensures { TwoWorlds }
 {}
 
-/// In a script without moves a guest's own lines alone decide.
+/// In a script without moves a guest's own lines alone decide, over any handoff.
 pub fn own_lines_decide()
     ensures inputs { OwnLinesAlone }
     ensures isolated { IsolatedByOwnLines }

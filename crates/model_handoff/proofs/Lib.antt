@@ -8,6 +8,7 @@ pub mod Accesses
 pub mod Served
 pub mod SetUpCase
 pub mod SetUpLaws
+pub mod AfterSetUp
 pub mod Examples
 pub mod Kept
 pub mod Views
@@ -25,3 +26,16 @@ pub mod Giving
 pub mod Actions
 pub mod Counting
 pub mod Aside
+pub mod Dialogues
+pub mod LawfulWorlds
+pub mod RowsOfBaseRegisters
+pub mod RowsOfHeaders
+pub mod RowsOfRegions
+pub mod RowsOfRaises
+pub mod RowsOfLines
+pub mod RowsOfBridges
+pub mod RowsOfReports
+pub mod RowsOfHostReads
+pub mod RowsOfLatches
+pub mod RowsOfMoves
+pub mod RowsOfRuns

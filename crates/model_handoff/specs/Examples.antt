@@ -11,7 +11,7 @@ use Rattle.model_board.specs.Claims.{first_claim}
 use Rattle.model_board.specs.Cycles.{BusAddress}
 use Rattle.model_board.specs.Ports.{config_reply}
 use Rattle.model_board.specs.State.{State}
-use Rattle.model_set_up.specs.Examples.{part, main_board, main_apertures}
+use Rattle.model_board.specs.Examples.{part, main_board, main_apertures}
 use Rattle.model_set_up.specs.PlacedRegions.{PlacedRegion}
 use Rattle.model_set_up.specs.SetUp.{set_up_state}
 use Rattle.model_audit.specs.Found.{address_now}

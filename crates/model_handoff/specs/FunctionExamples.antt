@@ -9,7 +9,7 @@ use Rattle.model_board.specs.Windows.{Window}
 use Rattle.model_board.specs.Cycles.{BusAddress}
 use Rattle.model_board.specs.Routing.{regions, windows}
 use Rattle.model_board.specs.State.{State}
-use Rattle.model_set_up.specs.Examples.{part, main_board, main_apertures}
+use Rattle.model_board.specs.Examples.{part, main_board, main_apertures}
 use Rattle.model_set_up.specs.SetUp.{set_up_state}
 use Rattle.model_guests.specs.AgreedBoard.{state_over}
 use Rattle.model_guests.specs.Examples.{main_world, on_bus_0, behind}

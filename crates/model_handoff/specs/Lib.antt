@@ -4,6 +4,8 @@ pub mod Regions
 pub mod RegionLaws
 pub mod SetUpCase
 pub mod SetUpLaws
+pub mod AfterSetUp
+pub mod Report
 pub mod Examples
 pub mod Kept
 pub mod ViewLaws

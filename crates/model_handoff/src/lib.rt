@@ -9,6 +9,7 @@ ghost use Rattle.model_handoff.specs.AgreementLaws.{StateAgrees, StateIsOnly, St
 ghost use Rattle.model_handoff.specs.RegionLaws.{CycleReads, CycleWrites, FaultDecides, HitActs, HitReachesOver};
 ghost use Rattle.model_handoff.specs.RegionLaws.{MemoryBySpace, PortsBySpace, RegionIsClaimed, RegionReads};
 ghost use Rattle.model_handoff.specs.RegionLaws.{RegionWrites, ServedAfterEvents, ServedAfterMoves, ServedAtFirst};
+ghost use Rattle.model_handoff.specs.AfterSetUp.{SetUpIsolates, SetUpTwoWorlds};
 ghost use Rattle.model_handoff.specs.SetUpCase.{SetUpAddresses, SetUpCanBeGiven, SetUpIsHandoff, SetUpIsInOrder, SetUpPlaces};
 ghost use Rattle.model_handoff.specs.SetUpLaws.{HitReachesRegion, SetUpAgrees, SetUpAtFirst, SetUpIsOnly, SetUpKeepsNumbers, SetUpKeepsRouting};
 ghost use Rattle.model_handoff.specs.ViewLaws.{OverReset, ResetAfterEvents, ResetAfterMoves, ResetAtFirst, ResetShown};
@@ -117,6 +118,13 @@ pub fn agreement_after_set_up()
     ensures routing { SetUpKeepsRouting }
     ensures numbers { SetUpKeepsNumbers }
     ensures hits { HitReachesRegion }
+{}
+
+/// On a board that is set up, as over any handoff, each guest is told what its own functions tell it by themselves, and
+/// worlds that agree on a guest tell it the same.
+pub fn isolated_after_set_up()
+    ensures isolated { SetUpIsolates }
+    ensures two_worlds { SetUpTwoWorlds }
 {}
 
 /// What guests see over some handoffs.

@@ -3,3 +3,5 @@ pub mod RowsOfFirmware
 pub mod SessionLines
 pub mod HandoverLines
 pub mod FirmwareLeaves
+pub mod Written
+pub mod GivenBoards

@@ -2,11 +2,11 @@
 use Rattle.std.proofs.Common.{◌≡◌, [], ◌∷◌, List, refl}
 use Rattle.std.specs.Prelude.{codes}
 use Rattle.std.specs.Fmt.{digits}
-use Rattle.model_set_up.specs.Examples.{main_board}
+use Rattle.model_board.specs.Examples.{main_board}
 use Rattle.model_board.specs.AtReset.{reset_state}
 use Rattle.model_guests.specs.Text.{lines, text_of_lines}
 use Rattle.model_guests.specs.LineRuns.{output}
-use Rattle.model_guests.proofs.Dialogues.{◌▷◌, Exchange, lines_of, replies_of}
+use Rattle.model_handoff.proofs.Dialogues.{◌▷◌, Exchange, lines_of, replies_of}
 use Rattle.model_lines.specs.FirmwareLines.{board_protocol, line_output}
 
 abbrev Shows : List Exchange → Type 0

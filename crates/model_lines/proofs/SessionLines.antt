@@ -1,20 +1,23 @@
 -- What sessions write and leave.
-use Rattle.std.proofs.Common.{◌≡◌, Bool, true, false, cond, List, [], ◌∷◌, Option, None, Some, refl, ap, ap₂, ◌∙◌, arith}
+use Rattle.std.proofs.Common.{◌≡◌, ℕ, ◌++◌, Bool, true, false, cond, List, [], ◌∷◌, Option, None, Some, refl, ap, ap₂, ◌∙◌, arith}
 use Rattle.std.specs.Prelude.{IsTrue, if◌then◌else◌}
 use Rattle.std.proofs.lemmas.Slice.Eq.{bytes_eq-Decides}
-use Rattle.model_board.specs.State.{State}
 use Rattle.model_guests.specs.Text.{Text}
 use Rattle.model_guests.specs.Grammar.{host}
 use Rattle.model_guests.specs.Lines as script
-use Rattle.model_guests.specs.World.{World}
-use Rattle.model_guests.specs.WorldNow.{WorldNow}
-use Rattle.model_guests.specs.WorldNow as now
+use Rattle.model_guests.specs.LineRuns.{output, after_lines}
+use Rattle.model_guests.specs.WorldNow.{names_now}
 use Rattle.model_lines.specs.FirmwareLines as firmware
-use Rattle.model_lines.specs.FirmwareLines.{after_line}
+use Rattle.model_lines.specs.FirmwareLines.{Meaning, nothing, asked, bad, meaning, after_meaning, board_protocol}
+use Rattle.model_guests.specs.Calls.{asks}
 use Rattle.model_handoff.specs.Regions.{first_fault}
-use Rattle.model_lines.specs.Sessions.{is_audit, is_handover, driven, given, after_handover}
-use Rattle.model_lines.specs.Sessions.{after_session_line}
-use Rattle.model_lines.specs.SessionLaws.{IsNoForm, HostWordsAreNoForm, AuditsChangeNothing, RefusedStays, IsPlain, PlainSessions, GivenIsScript}
+use Rattle.model_handoff.specs.Actions.{calls}
+use Rattle.model_handoff.specs.Changes.{MachineNow, after_on_machine, after_line_on_machine, counts_where, machine_protocol}
+use Rattle.model_handoff.proofs.Aside.{output_aside, after_aside}
+use Rattle.model_lines.specs.Sessions.{is_audit, is_handover, DrivenNow, driven, given, after_handover}
+use Rattle.model_lines.specs.Sessions.{after_meant, after_board_line, after_session_line, session_protocol}
+use Rattle.model_lines.specs.SessionLaws.{IsNoForm, HostWordsAreNoForm, AuditsChangeNothing, RefusedStays, IsPlain}
+use Rattle.model_lines.specs.SessionLaws.{PlainSessions, DrivenIsFirmware, GivenIsScript}
 
 -- ---- the two lines have no form
 
@@ -34,35 +37,75 @@ host_words_are_no_form line w is = grind (arith, not_long, bytes_eq-Decides, on_
 
 -- ---- what changes nothing
 
-bad_stays : (m : WorldNow) (line : Text) → IsNoForm line → now.after_line m line ≡ m
-bad_stays m line none = ap (now.after_meaning m) (none.script (now.names_now m))
+unchanged : (names : List Text) (ns : List ℕ) → counts_where (λ n. false) names ns ≡ ns
+unchanged [] ns = refl
+unchanged (t ∷ ts) [] = refl
+unchanged (t ∷ ts) (n ∷ ns) = ap (λ (xs : List ℕ). n ∷ xs) (unchanged ts ns)
+
+bad_stays : (m : MachineNow) (line : Text) → IsNoForm line → after_line_on_machine m line ≡ m
+bad_stays m line none =
+    ap (λ x. after_on_machine m (calls (asks x))) (none.script (names_now m.world))
+    ∙ ap (λ (ns : List ℕ). let n : MachineNow = record { world = m.world; counts = ns } in n) (unchanged (names_now m.world) m.counts)
 
 pub audits_change_nothing : AuditsChangeNothing
-audits_change_nothing (driven w s) line is =
-    ap (λ (b : Bool). cond b (driven w s) (cond (is_handover line) (after_handover w s (first_fault w s)) (driven w (after_line s line)))) is
+audits_change_nothing (driven b) line is =
+    ap (λ (t : Bool). cond t (driven b) (cond (is_handover line) (after_handover b (first_fault b.world b.state)) (driven (after_board_line b line)))) is
 audits_change_nothing (given m) line is = grind (arith, bad_stays, host_words_are_no_form)
 
 -- a line can't ask for both
 pub no_audit : (line : Text) → IsTrue (is_handover line) → is_audit line ≡ false
 no_audit line is = grind (arith, bytes_eq-Decides)
 
-pub handover_leaves : (w : World) (s : State) (line : Text) → IsTrue (is_handover line) → after_session_line (driven w s) line ≡ after_handover w s (first_fault w s)
-handover_leaves w s line is =
-    ap₂ (λ (a b : Bool). cond a (driven w s) (cond b (after_handover w s (first_fault w s)) (driven w (after_line s line)))) (no_audit line is) is
+pub handover_leaves : (b : DrivenNow) (line : Text) → IsTrue (is_handover line) → after_session_line (driven b) line ≡ after_handover b (first_fault b.world b.state)
+handover_leaves b line is =
+    ap₂ (λ (t u : Bool). cond t (driven b) (cond u (after_handover b (first_fault b.world b.state)) (driven (after_board_line b line)))) (no_audit line is) is
 
 pub refused_stays : RefusedStays
-refused_stays w s f line is fault = handover_leaves w s line is ∙ ap (after_handover w s) fault
+refused_stays b f line is fault = handover_leaves b line is ∙ ap (after_handover b) fault
 
 -- ---- firmware's lines, and guests' lines
 
-pub plain_after : (w : World) (s : State) (line : Text) → IsPlain line → after_session_line (driven w s) line ≡ driven w (after_line s line)
-plain_after w s line h =
-    ap₂ (λ (a b : Bool). cond a (driven w s) (cond b (after_handover w s (first_fault w s)) (driven w (after_line s line)))) h.no_audit h.no_handover
+pub plain_after : (b : DrivenNow) (line : Text) → IsPlain line → after_session_line (driven b) line ≡ driven (after_board_line b line)
+plain_after b line h =
+    ap₂ (λ (t u : Bool). cond t (driven b) (cond u (after_handover b (first_fault b.world b.state)) (driven (after_board_line b line)))) h.no_audit h.no_handover
+
+meant_state : (b : DrivenNow) (m : Meaning) → (after_meant b m).state ≡ after_meaning b.state m
+meant_state b nothing = refl
+meant_state b (asked a) = refl
+meant_state b (bad who n) = refl
+
+meant_world : (b : DrivenNow) (m : Meaning) → (after_meant b m).world ≡ b.world
+meant_world b nothing = refl
+meant_world b (asked a) = refl
+meant_world b (bad who n) = refl
+
+pub line_state : (b : DrivenNow) (line : Text) → (after_board_line b line).state ≡ firmware.after_line b.state line
+line_state b line = meant_state b (meaning line)
+
+pub line_world : (b : DrivenNow) (line : Text) → (after_board_line b line).world ≡ b.world
+line_world b line = meant_world b (meaning line)
 
 pub plain_sessions : PlainSessions
-plain_sessions w s [] none = (refl, refl)
-plain_sessions w s (l ∷ ls) none = grind (arith, plain_sessions w (after_line s l) ls, plain_after)
+plain_sessions b [] none = (refl, refl)
+plain_sessions b (l ∷ ls) none = grind (arith, plain_sessions (after_board_line b l) ls, plain_after, line_state)
+
+pub driven_is_firmware : DrivenIsFirmware
+driven_is_firmware b [] = (refl, refl)
+driven_is_firmware b (l ∷ ls) =
+    let more = driven_is_firmware (after_board_line b l) ls in
+    (more.0 ∙ line_world b l, more.1 ∙ ap (λ s. after_lines board_protocol s ls) (line_state b l))
+
+given_after : (m : MachineNow) (ls : List Text) → after_lines session_protocol (given m) ls ≡ given (after_lines machine_protocol m ls)
+given_after m [] = refl
+given_after m (l ∷ ls) = given_after (after_line_on_machine m l) ls
+
+given_output : (m : MachineNow) (ls : List Text) → output session_protocol (given m) ls ≡ output machine_protocol m ls
+given_output m [] = refl
+given_output m (l ∷ ls) = ap (λ (t : Text). machine_protocol.writes m l ++ t) (given_output (after_line_on_machine m l) ls)
 
 pub given_is_script : GivenIsScript
-given_is_script m [] = (refl, refl)
-given_is_script m (l ∷ ls) = grind (arith, given_is_script (now.after_line m l) ls)
+given_is_script m ls = record {
+  output = given_output m ls ∙ output_aside m ls;
+  after = given_after m ls;
+  world = after_aside m ls;
+}

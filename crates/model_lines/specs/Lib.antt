@@ -4,3 +4,4 @@ pub mod FirmwareLaws
 pub mod Sessions
 pub mod SessionLaws
 pub mod FirmwareLeaves
+pub mod GivenLaws

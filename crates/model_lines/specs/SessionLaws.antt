@@ -3,14 +3,16 @@
 --     AuditsChangeNothing      an audit changes nothing, and among guests' lines it is a bad line
 --     RefusedStays      a handover that is refused changes nothing
 --     PlainSessions      lines without the two write and leave what they do as firmware's lines
+--     DrivenIsFirmware      such lines leave the world, and the board as they do without a session
 --     GivenIsScript      once the board is given, lines write and leave what they do as a script's
+--     AccessesTellWritten, LinesTellWritten      where no write was done, a board with latch 0 is as it was
 --     GivenBy      wherever a board is given, some line handed it over, and the later ones are a script over it
 --     IsolatedSessions      from there on a guest is told what its own functions tell it, and holds what they leave
-use Rattle.std.specs.Prelude.{◌≡◌, List, ◌∷◌, ◌++◌, Some, None, IsTrue, IsFalse}
+use Rattle.std.specs.Prelude.{◌≡◌, List, ◌∷◌, ◌++◌, Some, None, false, IsTrue, IsFalse}
 use Rattle.lists.specs.Elements.{Each}
-use Rattle.model_board.specs.State.{State}
 use Rattle.model_guests.specs.Text.{Text, lines}
-use Rattle.model_guests.specs.Grammar.{host, has_name}
+use Rattle.model_guests.specs.Grammar.{has_name}
+use Rattle.model_guests.specs.Grammar.{host}
 use Rattle.model_guests.specs.Guests.{guests_at_first, lone_of}
 use Rattle.model_guests.specs.Inputs.{inputs, lone_output, after_inputs}
 use Rattle.model_guests.specs.Lines as script
@@ -18,13 +20,14 @@ use Rattle.model_guests.specs.LineRuns.{output, after_lines}
 use Rattle.model_guests.specs.Lone.{reset_guest}
 use Rattle.model_guests.specs.Replies.{reply_lines}
 use Rattle.model_guests.specs.World.{World, names, declarations, HasLawfulNames}
-use Rattle.model_guests.specs.WorldNow.{WorldNow, world_over}
 use Rattle.model_guests.specs.WorldNow as now
 use Rattle.model_lines.specs.FirmwareLines as firmware
 use Rattle.model_lines.specs.FirmwareLines.{board_protocol}
-use Rattle.model_handoff.specs.Handoffs.{taken_over}
+use Rattle.model_lines.specs.HostAccesses.{HostAccess}
 use Rattle.model_handoff.specs.Regions.{HandoffFault, first_fault}
-use Rattle.model_lines.specs.Sessions.{host_word, is_audit, is_handover, SessionNow, driven, given}
+use Rattle.model_handoff.specs.Changes.{MachineNow, machine_protocol}
+use Rattle.model_lines.specs.Sessions.{host_word, is_audit, is_handover, DrivenNow, SessionNow, driven, given}
+use Rattle.model_lines.specs.Sessions.{after_board_access, after_board_line, driven_protocol, handed_over}
 use Rattle.model_lines.specs.Sessions.{after_session_line, session_protocol}
 
 pub record IsNoForm (line : Text) : Type 0 where
@@ -38,55 +41,74 @@ abbrev pub AuditsChangeNothing : Type 0
 AuditsChangeNothing = (x : SessionNow) (line : Text) → IsTrue (is_audit line) → after_session_line x line ≡ x
 
 abbrev pub RefusedStays : Type 0
-RefusedStays = (w : World) (s : State) (f : HandoffFault) (line : Text) → IsTrue (is_handover line)
-    → first_fault w s ≡ Some f → after_session_line (driven w s) line ≡ driven w s
+RefusedStays = (b : DrivenNow) (f : HandoffFault) (line : Text) → IsTrue (is_handover line)
+    → first_fault b.world b.state ≡ Some f → after_session_line (driven b) line ≡ driven b
 
 pub record IsPlain (line : Text) : Type 0 where
   pub no_audit : IsFalse (is_audit line)
   pub no_handover : IsFalse (is_handover line)
 
 abbrev pub PlainSessions : Type 0
-PlainSessions = (w : World) (s : State) (ls : List Text) → Each IsPlain ls
-    → (output session_protocol (driven w s) ls ≡ output board_protocol s ls)
-    × (after_lines session_protocol (driven w s) ls ≡ driven w (after_lines board_protocol s ls))
+PlainSessions = (b : DrivenNow) (ls : List Text) → Each IsPlain ls
+    → (output session_protocol (driven b) ls ≡ output board_protocol b.state ls)
+    × (after_lines session_protocol (driven b) ls ≡ driven (after_lines driven_protocol b ls))
+
+abbrev pub DrivenIsFirmware : Type 0
+DrivenIsFirmware = (b : DrivenNow) (ls : List Text)
+    → ((after_lines driven_protocol b ls).world ≡ b.world)
+    × ((after_lines driven_protocol b ls).state ≡ after_lines board_protocol b.state ls)
+
+pub record IsScript (m : MachineNow) (ls : List Text) : Type 0 where
+  pub output : output session_protocol (given m) ls ≡ now.output m.world ls
+  pub after : after_lines session_protocol (given m) ls ≡ given (after_lines machine_protocol m ls)
+  pub world : (after_lines machine_protocol m ls).world ≡ now.after_lines m.world ls
 
 abbrev pub GivenIsScript : Type 0
-GivenIsScript = (m : WorldNow) (ls : List Text)
-    → (output session_protocol (given m) ls ≡ now.output m ls)
-    × (after_lines session_protocol (given m) ls ≡ given (now.after_lines m ls))
+GivenIsScript = (m : MachineNow) (ls : List Text) → IsScript m ls
+
+-- ---- what was written
+
+abbrev pub AccessesTellWritten : Type 0
+AccessesTellWritten = (b : DrivenNow) → b.state.latch ≡ 0 → (a : HostAccess)
+    → (after_board_access b a).written ≡ false → after_board_access b a ≡ b
+
+abbrev pub LinesTellWritten : Type 0
+LinesTellWritten = (b : DrivenNow) → b.state.latch ≡ 0 → (line : Text)
+    → (after_board_line b line).written ≡ false → after_board_line b line ≡ b
 
 -- ---- isolation
 
--- a line of the session that handed the board over in the state t
-pub record IsHandedOver (w : World) (t : State) (line : Text) : Type 0 where
+-- a line of the session that handed this board over
+pub record IsHandedOver (b : DrivenNow) (line : Text) : Type 0 where
   pub asks : IsTrue (is_handover line)
-  pub can : first_fault w t ≡ None
+  pub can : first_fault b.world b.state ≡ None
 
-pub record IsGivenBy (w : World) (s : State) (ls : List Text) (m : WorldNow) : Type 0 where
+pub record IsGivenBy (b : DrivenNow) (ls : List Text) (m : MachineNow) : Type 0 where
   pub before : List Text
   pub line : Text
   pub later : List Text
-  pub state : State
+  pub board : DrivenNow
   pub in_order : ls ≡ before ++ line ∷ later
-  pub left : after_lines session_protocol (driven w s) before ≡ driven w state
-  pub handed : IsHandedOver w state line
-  pub now : m ≡ now.after_lines (world_over w (taken_over w state)) later
+  pub left : after_lines session_protocol (driven b) before ≡ driven board
+  pub handed : IsHandedOver board line
+  pub now : m ≡ after_lines machine_protocol (handed_over board) later
 
 abbrev pub GivenBy : Type 0
-GivenBy = (w : World) (s : State) (ls : List Text) (m : WorldNow)
-    → after_lines session_protocol (driven w s) ls ≡ given m → IsGivenBy w s ls m
+GivenBy = (b : DrivenNow) (ls : List Text) (m : MachineNow)
+    → after_lines session_protocol (driven b) ls ≡ given m → IsGivenBy b ls m
 
 -- its own lines and the moves that touch it decide; neither the board nor what firmware did is among them
 pub record IsToldAlone (w : World) (x : SessionNow) (name script : Text) : Type 0 where
   pub replies : reply_lines name (output session_protocol x (lines script))
       ≡ lone_output name (reset_guest (declarations w name)) (inputs (guests_at_first w) name (lines script))
-  pub holds : (m : WorldNow) → after_lines session_protocol x (lines script) ≡ given m
-      → lone_of m.guests name
+  pub holds : (m : MachineNow) → after_lines session_protocol x (lines script) ≡ given m
+      → lone_of m.world.guests name
       ≡ after_inputs (reset_guest (declarations w name)) (inputs (guests_at_first w) name (lines script))
 
+-- whatever board of the world is handed over
 abbrev pub IsolatedFrom : World → Type 0
-IsolatedFrom w = (t : State) (line name script : Text) → IsHandedOver w t line → IsTrue (has_name (names w) name)
-    → IsToldAlone w (after_session_line (driven w t) line) name script
+IsolatedFrom w = (b : DrivenNow) → b.world ≡ w → (line name script : Text) → IsHandedOver b line
+    → IsTrue (has_name (names w) name) → IsToldAlone w (after_session_line (driven b) line) name script
 
 abbrev pub IsolatedSessions : Type 0
 IsolatedSessions = (w : World) → HasLawfulNames w → IsolatedFrom w

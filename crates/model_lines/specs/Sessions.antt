@@ -2,28 +2,40 @@
 -- and `host guests`, which hands the board to its guests. After that each line is a line of a script.
 --     host_word line      the second of a line's two words, where the first is `host`
 --     is_audit, is_handover      whether a line asks for an audit, or for guests
---     SessionNow      the board of a world as firmware drives it, or the guests over it
+--     DrivenNow      the board of a world as firmware drives it, and whether a write was done since reset
+--     at_reset w      the board of a world at reset
+--     after_board_access, after_board_line      the board after an access of firmware, and after a line of firmware
+--     driven_protocol      what a line of firmware writes, and the board after it, as a protocol
+--     SessionNow      a board that firmware drives, or the guests over it
+--     session_functions x      the functions of the board as they stand
+--     machine_over w s      the guests of a world before any line, over a handoff
+--     handed_over b      what guests get of a board
 --     handover_lines f      what is written, by the first fault
 --     session_output, after_session_line      what a line writes, and the session after it
 --     session_protocol      the two as a protocol, so that they go along lines
-use Rattle.std.specs.Prelude.{List, [], ◌∷◌, ℕ, ◌++◌, Bool, false, if◌then◌else◌, Option, None, Some, codes, decimal}
+use Rattle.std.specs.Prelude.{List, [], ◌∷◌, ℕ, ◌++◌, ◌||◌, Bool, true, false, if◌then◌else◌, Option, None, Some, map}
+use Rattle.std.specs.Prelude.{codes, decimal}
 use Rattle.std.specs.Option.{option_map_or}
 use Rattle.std.specs.Str.{bytes_eq}
-use Rattle.model_board.specs.State.{State}
+use Rattle.model_board.specs.AtReset.{reset_state}
+use Rattle.model_board.specs.State.{BoardFunction, State}
 use Rattle.model_set_up.specs.PlacedRegions.{PlacedRegion}
 use Rattle.model_guests.specs.Text.{Text, words, text_of_lines}
 use Rattle.model_guests.specs.Grammar.{on_word, host, is_long}
-use Rattle.model_guests.specs.Accesses.{done}
+use Rattle.model_guests.specs.Guests.{GuestNow}
+use Rattle.model_guests.specs.Accesses.{Reply, answered, done, refused}
 use Rattle.model_guests.specs.Replies.{line_text}
-use Rattle.model_guests.specs.Report.{path_text}
+use Rattle.model_guests.specs.PathTexts.{path_text}
 use Rattle.model_guests.specs.World.{World}
-use Rattle.model_guests.specs.WorldNow.{WorldNow, world_over}
+use Rattle.model_guests.specs.WorldNow.{WorldNow, world_over, board_state}
 use Rattle.model_guests.specs.WorldNow as script
 use Rattle.model_guests.specs.LineRuns.{Protocol}
-use Rattle.model_lines.specs.FirmwareLines.{line_output, after_line}
+use Rattle.model_lines.specs.HostAccesses.{HostAccess, answer, after_access}
+use Rattle.model_lines.specs.FirmwareLines.{Meaning, nothing, asked, bad, meaning, line_output}
 use Rattle.model_audit.specs.AuditText.{audit, audit_line, problem_text, register_text}
 use Rattle.model_handoff.specs.Handoffs.{taken_over}
 use Rattle.model_handoff.specs.Regions.{HandoffFault, in_disorder, closed_region, first_fault}
+use Rattle.model_handoff.specs.Changes.{MachineNow, after_line_on_machine}
 
 abbrev pub host_word_in : List Text → Option Text
 host_word_in (first ∷ second ∷ []) = on_word first (codes "host") (Some second)
@@ -42,11 +54,59 @@ is_audit line = is_host_line (codes "audit") line
 abbrev pub is_handover : Text → Bool
 is_handover line = is_host_line (codes "guests") line
 
--- ---- the handover
+-- ---- a board that firmware drives
+
+pub record DrivenNow : Type 0 where
+  pub world : World
+  pub state : State
+  pub written : Bool
+
+abbrev pub at_reset : World → DrivenNow
+at_reset w = record { world = w; state = reset_state w.board; written = false }
+
+-- to a write that is not refused
+abbrev pub is_done : Reply → Bool
+is_done (answered v w) = false
+is_done done = true
+is_done (refused n) = false
+
+abbrev pub after_board_access : DrivenNow → HostAccess → DrivenNow
+after_board_access b a = record b {
+  state = after_access b.state a;
+  written = b.written || is_done (answer b.state a);
+}
+
+abbrev pub after_meant : DrivenNow → Meaning → DrivenNow
+after_meant b nothing = b
+after_meant b (asked a) = after_board_access b a
+after_meant b (bad who n) = b
+
+abbrev pub after_board_line : DrivenNow → Text → DrivenNow
+after_board_line b line = after_meant b (meaning line)
+
+abbrev pub driven_protocol : Protocol DrivenNow
+driven_protocol = record { writes = λ b line. line_output b.state line; next = after_board_line }
+
+-- ---- sessions
 
 pub data SessionNow : Type 0 where
-  driven : World → State → SessionNow
-  given : WorldNow → SessionNow
+  driven : DrivenNow → SessionNow
+  given : MachineNow → SessionNow
+
+abbrev pub session_functions : SessionNow → List BoardFunction
+session_functions (driven b) = b.state.functions
+session_functions (given m) = (board_state m.world).functions
+
+-- ---- the handover
+
+-- no region of a guest has moved yet
+abbrev pub machine_over : World → State → MachineNow
+machine_over w s =
+    let m : WorldNow = world_over w s in
+    record { world = m; counts = map (λ (g : GuestNow). 0) m.guests }
+
+abbrev pub handed_over : DrivenNow → MachineNow
+handed_over b = machine_over b.world (taken_over b.world b.state)
 
 abbrev pub closed_text : PlacedRegion → Text
 closed_text q = codes "closed: " ++ path_text q.path ++ register_text q.index
@@ -63,29 +123,29 @@ handover_lines (Some (closed_region q)) = closed_text q ∷ refused_line 206 (co
 abbrev pub handover_output : Option HandoffFault → Text
 handover_output f = text_of_lines (handover_lines f)
 
-abbrev pub after_handover : World → State → Option HandoffFault → SessionNow
-after_handover w s None = given (world_over w (taken_over w s))
-after_handover w s (Some f) = driven w s
+abbrev pub after_handover : DrivenNow → Option HandoffFault → SessionNow
+after_handover b None = given (handed_over b)
+after_handover b (Some f) = driven b
 
 -- ---- a line
 
-abbrev pub driven_output : World → State → Text → Text
-driven_output w s line =
-    if is_audit line then audit s.functions
-    else (if is_handover line then handover_output (first_fault w s) else line_output s line)
+abbrev pub driven_output : DrivenNow → Text → Text
+driven_output b line =
+    if is_audit line then audit b.state.functions
+    else (if is_handover line then handover_output (first_fault b.world b.state) else line_output b.state line)
 
-abbrev pub after_driven : World → State → Text → SessionNow
-after_driven w s line =
-    if is_audit line then driven w s
-    else (if is_handover line then after_handover w s (first_fault w s) else driven w (after_line s line))
+abbrev pub after_driven : DrivenNow → Text → SessionNow
+after_driven b line =
+    if is_audit line then driven b
+    else (if is_handover line then after_handover b (first_fault b.world b.state) else driven (after_board_line b line))
 
 abbrev pub session_output : SessionNow → Text → Text
-session_output (driven w s) line = driven_output w s line
-session_output (given m) line = script.line_output m line
+session_output (driven b) line = driven_output b line
+session_output (given m) line = script.line_output m.world line
 
 abbrev pub after_session_line : SessionNow → Text → SessionNow
-after_session_line (driven w s) line = after_driven w s line
-after_session_line (given m) line = given (script.after_line m line)
+after_session_line (driven b) line = after_driven b line
+after_session_line (given m) line = given (after_line_on_machine m line)
 
 abbrev pub session_protocol : Protocol SessionNow
 session_protocol = record { writes = session_output; next = after_session_line }

@@ -1,15 +1,17 @@
 //! Lines over a board, as definitions: what firmware asks through the host bridge, and sessions, which are firmware's
 //! lines, among them those that ask for an audit of the registers as they stand there, and the one that hands the board
-//! to its guests. Laws about them.
+//! to its guests. Laws about them, and about what guests see of a board that was given, whoever set it up.
 #![tactic(auto)]
 
 ghost use Rattle.model_guests.specs.LineRuns.{AfterAlong, CutIsBeginning, OutputAlong, StoppedIsBeginning};
 ghost use Rattle.model_lines.specs.FirmwareLaws.{BadLinesChangeNothing, DataIsByNumber, LatchIsPort, LongLinesAlike, ReadsChangeNoRegister, RefusedChangesNothing};
 ghost use Rattle.model_lines.specs.FirmwareLines.{board_protocol};
 ghost use Rattle.model_lines.specs.Sessions.{session_protocol};
-ghost use Rattle.model_lines.specs.SessionLaws.{AuditsChangeNothing, HostWordsAreNoForm, PlainSessions, RefusedStays};
-ghost use Rattle.model_lines.specs.SessionLaws.{GivenBy, GivenIsScript, IsolatedSessions};
+ghost use Rattle.model_lines.specs.SessionLaws.{AuditsChangeNothing, HostWordsAreNoForm, RefusedStays};
+ghost use Rattle.model_lines.specs.SessionLaws.{DrivenIsFirmware, GivenIsScript, PlainSessions};
+ghost use Rattle.model_lines.specs.SessionLaws.{AccessesTellWritten, GivenBy, IsolatedSessions, LinesTellWritten};
 ghost use Rattle.model_lines.specs.FirmwareLeaves.{AccessLeaves, LinesLeave};
+ghost use Rattle.model_lines.specs.GivenLaws.{GivenAlike, GivenAsSetUp, GivenIsolated, GivenStays, OrderlyStays};
 
 /// CF8h is the address latch, and while the latch is enabled CFCh to CFFh are the registers that it
 /// selects: what is done there is what is done by number, but that the latch is 0 after an access by number.
@@ -46,8 +48,15 @@ pub fn audits_and_handovers()
 /// Without such lines a session writes and leaves what its lines do as firmware's, and once the board is given what
 /// they do as a script's.
 pub fn plain_sessions()
-    ensures firmware { PlainSessions }
+    ensures plain { PlainSessions }
+    ensures firmware { DrivenIsFirmware }
     ensures script { GivenIsScript }
+{}
+
+/// Where no write was done, a board at reset is at reset, whatever was read and whatever was refused.
+pub fn what_is_written()
+    ensures accesses { AccessesTellWritten }
+    ensures lines { LinesTellWritten }
 {}
 
 /// Wherever a session has guests, one of its lines gave them the board. From there on a guest is told what its own
@@ -55,6 +64,17 @@ pub fn plain_sessions()
 pub fn guests_in_sessions()
     ensures given { GivenBy }
     ensures isolated { IsolatedSessions }
+{}
+
+/// Over any board that was given, whoever set it up, a guest is told what its own functions tell it by
+/// themselves, and holds what they leave. So two such boards that agree on what a guest has, and our own
+/// set-up, tell it the same; and the board stays in order, with each region of a given function open.
+pub fn guests_alike()
+    ensures isolated { GivenIsolated }
+    ensures alike { GivenAlike }
+    ensures set_up { GivenAsSetUp }
+    ensures stays { GivenStays }
+    ensures orderly { OrderlyStays }
 {}
 
 /// Pieces of a session write and leave, one after the other, what the whole does, and a run that fails wrote

@@ -20,7 +20,7 @@ use Rattle.model_set_up.specs.Placement.{a_region, a_window, Item, in_order, fit
 use Rattle.model_set_up.specs.Layout.{LayoutRow, pool_rows, layout}
 use Rattle.model_set_up.specs.SetUp.{set_up_state}
 use Rattle.model_board.specs.AtReset.{reset_state}
-use Rattle.model_set_up.specs.Examples.{part, function_at, aperture, region, plain, first_endpoint, third_endpoint, main_board, main_board_with, main_bridge, main_apertures, memory_bridge, memory_of, twin_bridges, lone_bridge, many_bridges, chain}
+use Rattle.model_board.specs.Examples.{part, function_at, aperture, region, plain, first_endpoint, third_endpoint, main_board, main_board_with, main_bridge, main_apertures, memory_bridge, memory_of, twin_bridges, lone_bridge, many_bridges, chain}
 
 -- ---- interrupt pins
 

@@ -14,7 +14,7 @@ use Rattle.model_board.specs.Cycles.{reached}
 use Rattle.model_set_up.specs.SetUp.{set_up_state}
 use Rattle.model_set_up.specs.Layout.{layout}
 use Rattle.model_set_up.specs.PlacedRegions.{PlacedRegion, placed_rows, placed_claim}
-use Rattle.model_set_up.specs.Examples.{part, region, plain, main_board, main_bridge, main_apertures, lone_bridge}
+use Rattle.model_board.specs.Examples.{part, region, plain, main_board, main_bridge, main_apertures, lone_bridge}
 
 -- ---- functions
 

@@ -8,7 +8,7 @@ use Rattle.model_board.specs.Cycles.{BusAddress}
 use Rattle.model_board.specs.Claims.{first_claim}
 use Rattle.model_board.specs.AtReset.{reset_state}
 use Rattle.model_set_up.specs.SetUp.{set_up_state}
-use Rattle.model_set_up.specs.Examples.{part, main_board, main_apertures}
+use Rattle.model_board.specs.Examples.{part, main_board, main_apertures}
 use Rattle.model_board.specs.Ports.{latched, is_enabled, selected, selected_register, config_reply, after_config_write, config_address, config_data, ordinary, port_target, port_reply, after_port_write, memory_reply, after_memory_write}
 
 abbrev at : ℕ → ℕ → BusAddress

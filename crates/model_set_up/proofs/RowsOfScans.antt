@@ -4,7 +4,7 @@ use Rattle.std.specs.Prelude.{map}
 use Rattle.std.specs.Option.{option_map}
 use Rattle.model_board.specs.Paths.{Path}
 use Rattle.model_board.specs.Cycles.{reached}
-use Rattle.model_set_up.specs.Examples.{part, main_board, many_bridges}
+use Rattle.model_board.specs.Examples.{part, main_board, many_bridges}
 use Rattle.model_set_up.specs.Scanning.{no_numbers, scan_numbers, scan_state}
 use Rattle.model_set_up.specs.ScanOrder.{on, met, next_part}
 

@@ -3,7 +3,6 @@ pub mod Extents
 pub mod Placement
 pub mod Layout
 pub mod SetUp
-pub mod Examples
 pub mod SetUpWrites
 pub mod FunctionTable
 pub mod PlacementLaws

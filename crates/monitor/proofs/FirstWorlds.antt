@@ -7,7 +7,8 @@ use Rattle.model_set_up.specs.SetUp.{set_up_state}
 use Rattle.model_guests.specs.Text.{Text}
 use Rattle.model_guests.specs.World.{Guest as Declared, World, HasLawfulGuests}
 use Rattle.model_guests.specs.Guests.{GuestsNow, guests_at_first}
-use Rattle.model_guests.specs.WorldNow.{world_at_first, world_over}
+use Rattle.model_handoff.specs.AfterSetUp.{world_at_first}
+use Rattle.model_guests.specs.WorldNow.{world_over}
 use Rattle.model_handoff.specs.Handoffs.{IsHandoff, taken_over, with_given_reset}
 use Rattle.model_handoff.specs.Regions.{CanBeGiven}
 use Rattle.model_handoff.proofs.Alike.{IsAlike, taken_alike, taken_lawful, taken_agrees, taken_shown}

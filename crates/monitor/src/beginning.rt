@@ -52,7 +52,8 @@ fn decls_of(placed: &[Option<BasedRegion>; 6]) -> [Option<BarDecl>; 6]
 /// The endpoint at an index, with all own copies at reset, where the host has it.
 pub(crate) fn held_of(host: &Host, index: usize) -> Held
     requires { HasLawfulRegions (map opened (map with_no_base (bases_nth host.now.state.functions index))) }
-    ensures { (p : PathValue) (f : Function) → IsStanding host.now.state index p f → IsHeld host.now.state p f result }
+    ensures { (p : PathValue) (f : Function) → IsStanding host.now.state index p f →
+        IsHeld host.now.state p f result }
 {
     let placed = host.placed_nth(index);
     Held {
@@ -102,7 +103,8 @@ pub(crate) fn guests_of(
     requires lawful { HasLawfulGuests (world_on host.now decls.now) }
     ensures kept { let w = world_on host.now decls.now in
         IfOk result (λ v. AreGuests host.now.state (names w) (guests_at_first w) v.items) }
-    ensures counts { IfOk result (λ v. counts_of v.items ≡ map (λ (g : GuestValue). 0) decls.now) }
+    ensures counts { IfOk result (λ v.
+        counts_of v.items ≡ map (λ (g : GuestValue). 0) decls.now) }
 {
     let mut guests = Vec::with_capacity(alloc, decls.len())?;
     for decl in decls {

@@ -81,14 +81,16 @@ fn has_path(decl: &GuestDecl, path: &Path) -> bool
 
 /// Whether the function at a path is given to a guest.
 fn is_given(decls: &[GuestDecl], path: &Path) -> bool
-    ensures { result ≡ list_any (λ (g : GuestValue). list_any (λ p. path_eq p path.now) g.slots) decls.now }
+    ensures { result
+        ≡ list_any (λ (g : GuestValue). list_any (λ p. path_eq p path.now) g.slots) decls.now }
 {
     decls.iter().any(|decl| has_path(decl, path))
 }
 
 /// The first closed region of a function, if it is given to a guest.
 fn closed_if_given(decls: &[GuestDecl], row: &RoutingRow) -> Option<ClosedRegion>
-    ensures { let ps = flat_map (λ (g : GuestValue). g.slots) decls.now in result ≡ closed_if_given ps row.now }
+    ensures { let ps = flat_map (λ (g : GuestValue). g.slots) decls.now in
+        result ≡ closed_if_given ps row.now }
 {
     if is_given(decls, &row.path) {
         closed_of(row)

@@ -19,7 +19,8 @@ pub(crate) fn number_read(host: &mut Host, held: &Held, off: u8, width: u64) -> 
     requires seen { IsSeen host.old held.now }
     requires width { IsWidth width }
     requires aligned { off % width ≡ 0 }
-    ensures value { (seen : IsSeen host.old held.now) → result ≡ number seen.file (config off) width }
+    ensures value { (seen : IsSeen host.old held.now) →
+        result ≡ number seen.file (config off) width }
     ensures after { host.new ≡ host.old }
 {
     let from = u64::from(off);
@@ -67,7 +68,8 @@ pub(crate) fn write_own(
 ) -> (usize, u8)
     requires holds { IsHolding slots.old slot }
     requires aligned { word % 4 ≡ 0 }
-    ensures { (holds : IsHolding slots.old slot) → WritesOwn slots.old slot holds word enables value slots.new result }
+    ensures { (holds : IsHolding slots.old slot) →
+        WritesOwn slots.old slot holds word enables value slots.new result }
 {
     match &mut slots[slot] {
         Some(held) => {

@@ -69,7 +69,8 @@ impl<R: Route> Engine<R> {
     pub fn device_read(&mut self, guest: usize, slot: u64, place: Place, off: u64) -> Reply
         requires { guest < length self.old.world.guests }
         ensures reply { let e = device_reads (device_byte slot place off) in
-            reply_of result ≡ device_answer (lone_of self.old.world.guests (name_nth self.old.world guest)) e }
+            reply_of result
+            ≡ device_answer (lone_of self.old.world.guests (name_nth self.old.world guest)) e }
         ensures after { let e = device_reads (device_byte slot place off) in
             self.new ≡ after_on_machine self.old (calls (at_device (name_nth self.old.world guest) e)) }
         ensures same { self.new ≡ self.old }
@@ -98,7 +99,8 @@ impl<R: Route> Engine<R> {
     ) -> Reply
         requires { guest < length self.old.world.guests }
         ensures reply { let e = device_writes (device_byte slot place off) value in
-            reply_of result ≡ device_answer (lone_of self.old.world.guests (name_nth self.old.world guest)) e }
+            reply_of result
+            ≡ device_answer (lone_of self.old.world.guests (name_nth self.old.world guest)) e }
         ensures after { let e = device_writes (device_byte slot place off) value in
             self.new ≡ after_on_machine self.old (calls (at_device (name_nth self.old.world guest) e)) }
         ensures shown { IsShown result }

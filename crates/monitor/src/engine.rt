@@ -57,7 +57,8 @@ impl<R: Route> Model for Engine<R> {
 
     ghost view = { λ e. machine_shown e.host (texts e.names) e.guests.items };
 
-    ghost invariant = { λ e. R.fits e.route e.host × IsSound e.host (texts e.names) e.guests.items };
+    ghost invariant = { λ e. R.fits e.route e.host
+        × IsSound e.host (texts e.names) e.guests.items };
 }
 
 impl<R: Route> Engine<R> {
@@ -189,7 +190,8 @@ impl<R: Route> Engine<R> {
     /// Reads or writes four bytes of a guest's own address latch.
     fn latch_access(&mut self, guest: usize, op: Op) -> Reply
         requires { guest < length self.old.world.guests }
-        ensures reply { reply_of result ≡ reply_at (lone_nth self.old.world guest) (op_of op) 4 own_latch }
+        ensures reply { reply_of result
+            ≡ reply_at (lone_nth self.old.world guest) (op_of op) 4 own_latch }
         ensures after { self.new ≡ after_access_nth guest (op_of op) 4 own_latch self.old }
         ensures shown { IsShown result }
         ensures served { ¬ IsRefusal result }
@@ -210,7 +212,8 @@ impl<R: Route> Engine<R> {
         requires width { IsWidth width }
         requires aligned { at % width ≡ 0 }
         ensures reply { let lone = lone_nth self.old.world guest in
-            reply_of result ≡ reply_at lone (op_of op) width (destination lone.latch width (port at)) }
+            reply_of result
+            ≡ reply_at lone (op_of op) width (destination lone.latch width (port at)) }
         ensures after { let target = destination (lone_nth self.old.world guest).latch width (port at) in
             self.new ≡ after_access_nth guest (op_of op) width target self.old }
         ensures shown { IsShown result }
@@ -229,8 +232,10 @@ impl<R: Route> Engine<R> {
     /// Answers one access of a guest by its index, as its own functions and latch alone would.
     fn access(&mut self, guest: usize, access: Access) -> Reply
         requires { guest < length self.old.world.guests }
-        ensures reply { reply_of result ≡ answer (lone_nth self.old.world guest) (guests.access (access_of access)) }
-        ensures after { self.new ≡ after_event_nth guest (guests.access (access_of access)) self.old }
+        ensures reply { reply_of result
+            ≡ answer (lone_nth self.old.world guest) (guests.access (access_of access)) }
+        ensures after { self.new
+            ≡ after_event_nth guest (guests.access (access_of access)) self.old }
         ensures shown { IsShown result }
         ensures refused { IsRefusal result → self.new ≡ self.old }
     {
@@ -253,7 +258,8 @@ impl<R: Route> Engine<R> {
     pub fn step(&mut self, guest: usize, access: Access) -> Reply
         requires { guest < length self.old.world.guests }
         ensures reply { let e = guests.access (access_of access) in
-            reply_of result ≡ answer (lone_of self.old.world.guests (name_nth self.old.world guest)) e }
+            reply_of result
+            ≡ answer (lone_of self.old.world.guests (name_nth self.old.world guest)) e }
         ensures after { let e = guests.access (access_of access) in
             self.new ≡ after_on_machine self.old (calls (asks (guest_event (name_nth self.old.world guest) e))) }
         ensures shown { IsShown result }
@@ -292,7 +298,8 @@ impl<R: Route> Engine<R> {
     pub fn raise(&mut self, guest: usize, slot: u64, place: Place, off: u64, mask: u8) -> Reply
         requires { guest < length self.old.world.guests }
         ensures reply { let e = guests.raises (record { slot = slot; part = part_of place; offset = off; mask = mask }) in
-            reply_of result ≡ answer (lone_of self.old.world.guests (name_nth self.old.world guest)) e }
+            reply_of result
+            ≡ answer (lone_of self.old.world.guests (name_nth self.old.world guest)) e }
         ensures after { let e = guests.raises (record { slot = slot; part = part_of place; offset = off; mask = mask }) in
             self.new ≡ after_on_machine self.old (calls (asks (guest_event (name_nth self.old.world guest) e))) }
         ensures shown { IsShown result }
@@ -308,7 +315,8 @@ impl<R: Route> Engine<R> {
     pub fn move_function(&mut self, from: usize, slot: u64, to: usize, target: u64) -> Reply
         requires from { from < length self.old.world.guests }
         requires to { to < length self.old.world.guests }
-        ensures reply { reply_of result ≡ move_reply self.old.world.guests (move_nth self.old.world from slot to target) }
+        ensures reply { reply_of result
+            ≡ move_reply self.old.world.guests (move_nth self.old.world from slot to target) }
         ensures after { self.new
             ≡ after_on_machine self.old (calls (asks (host_move (move_nth self.old.world from slot to target)))) }
         ensures shown { IsShown result }
@@ -354,7 +362,8 @@ fn config_number(host: &mut Host, at: Bdf, off: u8, width: u64) -> u32
     requires width { IsWidth width }
     requires aligned { off % width ≡ 0 }
     requires latch { host.old.state.latch ≡ 0 }
-    ensures value { result ≡ config_reply host.old.state.functions (bus_address_of at) off (all_bytes width) }
+    ensures value { result
+        ≡ config_reply host.old.state.functions (bus_address_of at) off (all_bytes width) }
     ensures after { host.new ≡ host.old }
 {
     let from = u64::from(off);

@@ -34,7 +34,9 @@ fn function_nth(host: &Host, guests: &[Guest], index: usize) -> Option<FunctionN
     requires board { IsStateOfBoard host.now.state.functions }
     requires few { length guests.now < 2 ^ 63 }
     ensures { (gs : GuestsNow)
-        → ((p : board.Path) → option_map (λ (f : BoardFunction). f.path) (slice_get host.now.state.functions index) ≡ Some p
+        → ((p : board.Path) →
+        option_map (λ (f : BoardFunction). f.path) (slice_get host.now.state.functions index)
+        ≡ Some p
         → seat_kept index 0 guests.now ≡ seat_of gs p)
         → option_map function_named result ≡ function_nth host.now.state gs index }
 {
@@ -63,7 +65,8 @@ impl<R: Route> Engine<R> {
     /// number, its identity, its regions or windows where the board's registers have them, and the guest and
     /// slot that hold it now. No memory is taken.
     pub fn function(&self, index: usize) -> Option<FunctionNow>
-        ensures { option_map function_named result ≡ function_nth (board_state self.now.world) self.now.world.guests index }
+        ensures { option_map function_named result
+            ≡ function_nth (board_state self.now.world) self.now.world.guests index }
     {
         let _ = &self.names;
         function_nth(&self.host, &self.guests, index)

@@ -1,7 +1,8 @@
 //! Functions of a board that are given to guests.
 ghost use Rattle.std.specs.Prelude.{◌≡◌, IfOk, IfErr};
 ghost use Rattle.model_guests.specs.World.{HasLawfulGuests};
-ghost use Rattle.model_guests.specs.WorldNow.{world_at_first, world_over};
+ghost use Rattle.model_handoff.specs.AfterSetUp.{world_at_first};
+ghost use Rattle.model_guests.specs.WorldNow.{world_over};
 ghost use Rattle.model_handoff.specs.Handoffs.{IsHandoff, taken_over};
 ghost use Rattle.model_handoff.specs.Regions.{CanBeGiven};
 ghost use Rattle.model_handoff.specs.Changes.{BeginsIn};

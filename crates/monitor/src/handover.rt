@@ -63,7 +63,8 @@ pub struct Refused<B> {
 /// The first of the problems that an audit tells.
 fn first_problem(alloc: Global, host: &mut Host) -> Result<Option<Problem>, AllocError>
     ensures kept { host.new ≡ host.old }
-    ensures first { IfOk result (λ p. option_map problem_of p ≡ slice_get (problems host.old.state.functions) 0) }
+    ensures first { IfOk result (λ p.
+        option_map problem_of p ≡ slice_get (problems host.old.state.functions) 0) }
 {
     let mut told = problems(alloc, host)?;
     if told.is_empty() {
@@ -80,7 +81,8 @@ pub(crate) fn first_fault(
 ) -> Option<HandoverFault>
     ensures kept { host.new ≡ host.old }
     ensures fault { IfSome result (IsFaultOf (world_on host.old guests.now) host.old) }
-    ensures none { IfNone result (first_fault (world_on host.old guests.now) host.old.state ≡ None) }
+    ensures none { IfNone result (first_fault (world_on host.old guests.now) host.old.state
+        ≡ None) }
 {
     let Ok(first) = first_problem(alloc, host) else {
         return Some(HandoverFault::Memory);

@@ -18,7 +18,8 @@ use host_bridge::Located;
 /// guest's own registers: its slot, the region and the offset in it.
 pub(crate) fn landing(slots: &[Option<Held>], space: Space, addr: u64) -> Option<(usize, u8, u64)>
     ensures landing { (s : State) (qs : List (Option Path)) (fs : Slots)
-        → AreSlots s qs fs slots.now → option_map landing_of result ≡ landing_from 0 (named_space space) addr fs }
+        → AreSlots s qs fs slots.now →
+        option_map landing_of result ≡ landing_from 0 (named_space space) addr fs }
     ensures there { IfSome result (λ l. LandsIn slots.now (named_space space) addr l) }
 {
     for slot in 0..slots.len() {

@@ -14,6 +14,7 @@
 //! ```
 #![tactic(auto)]
 
+mod auditing;
 mod beginning;
 mod closed;
 mod config;

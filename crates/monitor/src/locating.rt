@@ -82,7 +82,8 @@ fn hit_in(guest: &Guest, at: At) -> Option<Hit>
 /// The same, or why it is refused.
 fn locate_in(guest: &Guest, at: At) -> Result<Option<Hit>, Refusal>
     ensures { (w : WorldNow) (i : ℕ) → IsGuestNth w i guest.now
-        → result_map_both (option_map hit_named) number_of result ≡ location (lone_nth w i) (target_of at) }
+        → result_map_both (option_map hit_named) number_of result
+        ≡ location (lone_nth w i) (target_of at) }
 {
     let read = Access {
         at,

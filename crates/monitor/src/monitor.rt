@@ -1,7 +1,8 @@
 //! The monitor, which gives functions of a board to guests.
 ghost use Rattle.std.specs.Prelude.{◌≡◌, IfOk, IfErr, None};
 ghost use Rattle.model_guests.specs.World.{HasLawfulGuests};
-ghost use Rattle.model_guests.specs.WorldNow.{world_at_first, world_over};
+ghost use Rattle.model_handoff.specs.AfterSetUp.{world_at_first};
+ghost use Rattle.model_guests.specs.WorldNow.{world_over};
 ghost use Rattle.model_handoff.specs.Handoffs.{IsHandoff, taken_over};
 ghost use Rattle.model_handoff.specs.Regions.{CanBeGiven, first_fault};
 ghost use Rattle.model_handoff.specs.Changes.{BeginsIn};
@@ -27,7 +28,8 @@ impl Monitor {
     /// the board is dropped.
     pub fn new(alloc: Global, ready: Ready, guests: &[GuestDecl]) -> Result<Monitor, Fault>
         requires { HasLawfulGuests (world_of ready guests.now) }
-        ensures made { IfOk result (BeginsIn (λ v. v ≡ world_at_first (world_of ready guests.now))) }
+        ensures made { IfOk result (BeginsIn (λ v.
+            v ≡ world_at_first (world_of ready guests.now))) }
         ensures refused { IfErr result (λ f. f ≡ Memory) }
     {
         let table = Table::build(alloc, &ready)?;
@@ -47,7 +49,8 @@ impl Monitor {
         requires lawful { HasLawfulGuests (world_on host guests.now) }
         ensures made { let w = world_on host guests.now in
             IfOk result (BeginsIn (λ v. v ≡ world_over w (taken_over w host.state))) }
-        ensures given { IfOk result (λ _. first_fault (world_on host guests.now) host.state ≡ None) }
+        ensures given { IfOk result (λ _.
+            first_fault (world_on host guests.now) host.state ≡ None) }
         ensures kept { IfErr result (λ r. r.board ≡ host) }
         ensures refused { IfErr result (λ r. IsFaultOf (world_on host guests.now) host r.fault) }
     {

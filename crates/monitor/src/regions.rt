@@ -47,7 +47,8 @@ fn is_prefetchable(kind: Kind) -> bool
 /// The base that the guest's own registers name, from the register at an index on.
 fn base_of(held: &Held, bar: u16, kind: Kind) -> u64
     requires { bar < 6 }
-    ensures { (file : File) → HoldsOwn file held.now.own → bar + registers_of (kind_of kind) ≤ 6
+    ensures { (file : File) → HoldsOwn file held.now.own →
+        bar + registers_of (kind_of kind) ≤ 6
         → result ≡ base file bar (kind_of kind) }
 {
     let at = 0x10 + 4 * bar;
@@ -64,7 +65,8 @@ fn base_of(held: &Held, bar: u16, kind: Kind) -> u64
 
 /// Whether the guest's own Command opens a space.
 fn opens(held: &Held, space: Space) -> bool
-    ensures { (file : File) → HoldsOwn file held.now.own → result ≡ is_open file (named_space space) }
+    ensures { (file : File) → HoldsOwn file held.now.own →
+        result ≡ is_open file (named_space space) }
 {
     let (command, _) = held.own.config_read(4, 0b0011);
     command & u32::from(space.command_bit()) != 0
@@ -73,7 +75,8 @@ fn opens(held: &Held, space: Space) -> bool
 /// The region of a function in a slot that begins at a base address register, if one does.
 fn region_kept(held: &Held, bar: usize) -> Option<RegionNow>
     ensures { (s : State) (p : Path) (f : Function) → IsHeld s p f held.now
-        → IsLawfulOwn held.now.own → option_map region_named result ≡ option_map (region_now f.file) (region_at f bar) }
+        → IsLawfulOwn held.now.own →
+        option_map region_named result ≡ option_map (region_now f.file) (region_at f bar) }
 {
     match held.placed.get(bar) {
         Some(Some(region)) => {
@@ -95,7 +98,8 @@ fn region_kept(held: &Held, bar: usize) -> Option<RegionNow>
 /// The same of a slot of a guest, or why it is refused.
 fn region_in(guest: &Guest, slot: u64, bar: u64) -> Result<RegionNow, Refusal>
     ensures { (w : WorldNow) (i : ℕ) → IsGuestNth w i guest.now
-        → result_map_both region_named number_of result ≡ region_answer (lone_nth w i) slot bar }
+        → result_map_both region_named number_of result
+        ≡ region_answer (lone_nth w i) slot bar }
 {
     let held = match function_in(&guest.slots, slot) {
         Ok(held) => held,

@@ -23,8 +23,10 @@ impl<R: Route> Engine<R> {
     /// and changes nothing: 303 for a slot above 31, else 601 for an empty slot. No memory is taken.
     pub fn reset(&mut self, guest: usize, slot: u64) -> Reply
         requires { guest < length self.old.world.guests }
-        ensures reply { reply_of result ≡ device_answer (lone_of self.old.world.guests (name_nth self.old.world guest)) (resets slot) }
-        ensures after { self.new ≡ after_on_machine self.old (calls (at_device (name_nth self.old.world guest) (resets slot))) }
+        ensures reply { reply_of result
+            ≡ device_answer (lone_of self.old.world.guests (name_nth self.old.world guest)) (resets slot) }
+        ensures after { self.new
+            ≡ after_on_machine self.old (calls (at_device (name_nth self.old.world guest) (resets slot))) }
         ensures shown { IsShown result }
         ensures refused { IsRefusal result → self.new ≡ self.old }
     {

@@ -27,8 +27,10 @@ impl<R: Route> Engine<R> {
     /// 602 for a slot that is taken, else 206 where one of its regions is closed. No memory is taken.
     pub fn give(&mut self, path: &Path, guest: usize, slot: u64) -> Result<(), Withheld>
         requires { guest < length self.old.world.guests }
-        ensures reply { fault_told result ≡ give_fault self.old.world (gift_nth self.old.world path.now guest slot) }
-        ensures after { self.new ≡ after_on_machine self.old (gives (gift_nth self.old.world path.now guest slot)) }
+        ensures reply { fault_told result
+            ≡ give_fault self.old.world (gift_nth self.old.world path.now guest slot) }
+        ensures after { self.new
+            ≡ after_on_machine self.old (gives (gift_nth self.old.world path.now guest slot)) }
         ensures refused { IfErr result (λ _. self.new ≡ self.old) }
     {
         let _ = &self.names;
@@ -46,8 +48,10 @@ impl<R: Route> Engine<R> {
     /// else 601 for an empty slot. No memory is taken.
     pub fn take(&mut self, guest: usize, slot: u64) -> Reply
         requires { guest < length self.old.world.guests }
-        ensures reply { reply_of result ≡ take_reply self.old.world (name_nth self.old.world guest) slot }
-        ensures after { self.new ≡ after_on_machine self.old (takes (name_nth self.old.world guest) slot) }
+        ensures reply { reply_of result
+            ≡ take_reply self.old.world (name_nth self.old.world guest) slot }
+        ensures after { self.new
+            ≡ after_on_machine self.old (takes (name_nth self.old.world guest) slot) }
         ensures shown { IsShown result }
         ensures refused { IsRefusal result → self.new ≡ self.old }
     {

@@ -13,7 +13,8 @@ use paths::Path;
 
 /// Resets the endpoint at a path, if one stands there, but for what its guest has copies of.
 fn reset_at(host: &mut Host, path: &Path)
-    ensures { host.new ≡ with_functions (with_endpoint_reset path.now host.old.state.functions) host.old }
+    ensures { host.new
+        ≡ with_functions (with_endpoint_reset path.now host.old.state.functions) host.old }
 {
     let Some(index) = host.index_of(path) else {
         return;

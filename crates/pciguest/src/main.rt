@@ -1,9 +1,7 @@
 //! The program: a board, its guests and a script of their accesses.
 #![tactic(auto)]
 
-mod choice;
-
-use crate::choice::choose;
+use command_line::choose;
 use simulation::{Fault, InputStream, OutputStream, fault_line, perform};
 use std::io::IsTerminal;
 use std::process::ExitCode;

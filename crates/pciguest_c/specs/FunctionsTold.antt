@@ -15,7 +15,7 @@ use Rattle.model_registers.specs.EndpointTable.{BaseAddress}
 use Rattle.model_board.specs.Windows.{Window}
 use Rattle.model_board.specs.Routing.{Ranges, regions, windows}
 use Rattle.model_guests.specs.Text.{Text}
-use Rattle.model_guests.specs.Report.{path_text}
+use Rattle.model_guests.specs.PathTexts.{path_text}
 use Rattle.model_handoff.specs.GuestRegions.{is_prefetchable}
 use Rattle.model_handoff.specs.Functions.{FunctionNow, Seat}
 use Rattle.pciguest_c.specs.QueriesTold.{one_if, space_number}

@@ -2,7 +2,7 @@
 ghost use Rattle.std.specs.Prelude.{◌≡◌, ◌≤◌, length, option_map};
 ghost use Rattle.std.specs.Option.{option_map_or};
 ghost use Rattle.model_board.specs.Routing.{regions};
-ghost use Rattle.model_guests.specs.Report.{path_text};
+ghost use Rattle.model_guests.specs.PathTexts.{path_text};
 ghost use Rattle.model_handoff.specs.GuestRegions.{is_prefetchable};
 ghost use Rattle.bars.specs.Kinds.{kind_of};
 ghost use Rattle.bars.specs.Slots.{placed, bases_from};

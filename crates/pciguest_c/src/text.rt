@@ -4,7 +4,7 @@ ghost use Rattle.std.specs.Option.{option_map_or};
 ghost use Rattle.model_registers.specs.DeclarationRules.{first_broken};
 ghost use Rattle.model_set_up.specs.SetUpWrites.{set_up_rules};
 ghost use Rattle.model_guests.specs.World.{World};
-ghost use Rattle.model_guests.specs.Report.{report};
+ghost use Rattle.model_handoff.specs.Report.{report};
 ghost use Rattle.simulation.specs.Faults.{number_of};
 ghost use Rattle.simulation.specs.Listing.{Declares, Refuses, Breaks};
 ghost use Rattle.pciguest_c.specs.Checks.{IsCheckOf};

@@ -5,7 +5,7 @@ ghost use Rattle.model_registers.specs.DeclarationRules.{first_broken};
 ghost use Rattle.model_set_up.specs.SetUpWrites.{set_up_rules};
 ghost use Rattle.model_guests.specs.Text.{Text};
 ghost use Rattle.model_guests.specs.World.{World};
-ghost use Rattle.model_guests.specs.Report.{report};
+ghost use Rattle.model_handoff.specs.Report.{report};
 ghost use Rattle.model_guests.specs.WorldNow.{line_output};
 ghost use Rattle.model_handoff.specs.Changes.{after_line_on_machine};
 ghost use Rattle.simulation.specs.Listing.{Declares, Refuses, Breaks};

@@ -2,7 +2,7 @@
 use Rattle.std.proofs.Common.{◌≡◌, Bool, true, false, [], ◌∷◌, ◌++◌, cond, refl, sym, ap, append-nil, codes}
 use Rattle.model_board.specs.Paths.{Part, Path}
 use Rattle.model_guests.specs.Text.{Text}
-use Rattle.model_guests.specs.Report.{part_text, path_text}
+use Rattle.model_guests.specs.PathTexts.{part_text, path_text}
 
 -- what is left to write: the first part has no slash before it
 abbrev pub rest_text : Bool → Path → Text

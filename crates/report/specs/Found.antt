@@ -16,7 +16,8 @@ use Rattle.model_board.specs.Interrupts.{root_device, root_pin}
 use Rattle.model_guests.specs.Text.{Text, text_of_lines}
 use Rattle.model_guests.specs.World.{Guest}
 use Rattle.model_guests.specs.Replies.{hex_digits}
-use Rattle.model_guests.specs.Report.{hexadecimal, path_text, kind_text, identity_text, pin_text, slot_lines}
+use Rattle.model_guests.specs.PathTexts.{hexadecimal, path_text}
+use Rattle.model_handoff.specs.Report.{kind_text, identity_text, pin_text, slot_lines}
 
 abbrev pub ended : Text → Text
 ended l = l ++ 10 ∷ []

@@ -1,7 +1,7 @@
 //! The lines of one function and of one guest.
 ghost use Rattle.std.specs.Prelude.{◌≡◌, ◌++◌, ◌≤◌, OnOk, string_bytes, map};
 ghost use Rattle.model_guests.specs.Text.{text_of_lines};
-ghost use Rattle.model_guests.specs.Report.{pin_text, slot_lines};
+ghost use Rattle.model_handoff.specs.Report.{pin_text, slot_lines};
 ghost use Rattle.bars.specs.Slots.{placed, bases_from};
 ghost use Rattle.window_packing.specs.Plans.{writes_of};
 ghost use Rattle.report.specs.Found.{ended, base_line, known_pin_lines, named_window_lines, base_lines, window_lines, range_text, pin_line, row_head, endpoint_text, windows_text, found_text, slot_line};
@@ -57,7 +57,8 @@ fn pin_text(pin: u8) -> &'static str
 fn push_pin(text: &mut String, path: &Path, pin: u8) -> Result<(), AllocError>
     requires least { 1 ≤ pin }
     requires most { pin ≤ 4 }
-    ensures { OnOk result (string_bytes text.new ≡ string_bytes text.old ++ ended (pin_line path.now pin)) }
+    ensures { OnOk result (string_bytes text.new
+        ≡ string_bytes text.old ++ ended (pin_line path.now pin)) }
 {
     let (device, root) = at_root(path, pin);
     let pin = pin_text(pin);
@@ -123,7 +124,8 @@ fn push_buses(
     secondary: u8,
     subordinate: u8,
 ) -> Result<(), AllocError>
-    ensures { OnOk result (string_bytes text.new ≡ string_bytes text.old ++ range_text primary secondary subordinate) }
+    ensures { OnOk result (string_bytes text.new
+        ≡ string_bytes text.old ++ range_text primary secondary subordinate) }
 {
     write!(
         text,
@@ -133,7 +135,8 @@ fn push_buses(
 
 /// Appends a function's numbers, its path, its kind and its identity.
 fn push_head(text: &mut String, row: &FunctionRow, kind: &str) -> Result<(), AllocError>
-    ensures { OnOk result (string_bytes text.new ≡ string_bytes text.old ++ row_head row.now kind.now) }
+    ensures { OnOk result (string_bytes text.new
+        ≡ string_bytes text.old ++ row_head row.now kind.now) }
 {
     push_numbers_and_path(text, row.bus, &row.path)?;
     text.push_str(kind)?;
@@ -159,7 +162,8 @@ fn push_bridge(
     writes: &Writes,
 ) -> Result<(), AllocError>
     ensures { OnOk result (string_bytes text.new
-        ≡ string_bytes text.old ++ (range_text bus secondary subordinate ++ windows_text (writes_of writes.now))) }
+        ≡ string_bytes text.old
+        ++ (range_text bus secondary subordinate ++ windows_text (writes_of writes.now))) }
 {
     push_buses(text, bus, secondary, subordinate)?;
     text.push_str("\n")?;
@@ -172,7 +176,8 @@ pub(crate) fn push_function(
     row: &FunctionRow,
     writes: &Writes,
 ) -> Result<(), AllocError>
-    ensures { OnOk result (string_bytes text.new ≡ string_bytes text.old ++ found_text row.now (writes_of writes.now)) }
+    ensures { OnOk result (string_bytes text.new
+        ≡ string_bytes text.old ++ found_text row.now (writes_of writes.now)) }
 {
     match &row.found {
         Found::Endpoint { pin, .. } => {
@@ -192,7 +197,8 @@ pub(crate) fn push_function(
 
 /// Appends the line of a guest's slot.
 fn push_slot(text: &mut String, name: &str, slot: usize, path: &Path) -> Result<(), AllocError>
-    ensures { OnOk result (string_bytes text.new ≡ string_bytes text.old ++ ended (slot_line name.now slot path.now)) }
+    ensures { OnOk result (string_bytes text.new
+        ≡ string_bytes text.old ++ ended (slot_line name.now slot path.now)) }
 {
     write!(text, "guest {name} slot {slot} ")?;
     push_path(text, path)?;

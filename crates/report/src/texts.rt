@@ -1,6 +1,7 @@
 //! Texts of numbers, paths and kinds.
 ghost use Rattle.std.specs.Prelude.{◌≡◌, ◌++◌, OnOk, string_bytes};
-ghost use Rattle.model_guests.specs.Report.{kind_text, path_text, identity_text};
+ghost use Rattle.model_handoff.specs.Report.{kind_text, identity_text};
+ghost use Rattle.model_guests.specs.PathTexts.{path_text};
 ghost use Rattle.bars.specs.Kinds.{kind_of};
 ghost use Rattle.report.specs.Found.{part_address, numbers_and_path};
 
@@ -39,14 +40,16 @@ pub fn push_path(text: &mut String, path: &Path) -> Result<(), AllocError>
 
 /// Appends Vendor ID and Device ID.
 pub(crate) fn push_identity(text: &mut String, vendor: u16, device: u16) -> Result<(), AllocError>
-    ensures { OnOk result (string_bytes text.new ≡ string_bytes text.old ++ identity_text vendor device) }
+    ensures { OnOk result (string_bytes text.new
+        ≡ string_bytes text.old ++ identity_text vendor device) }
 {
     write!(text, "{vendor:04x}:{device:04x}")
 }
 
 /// Appends a function's bus, device and function numbers.
 fn push_address(text: &mut String, bus: u8, part: Part) -> Result<(), AllocError>
-    ensures { OnOk result (string_bytes text.new ≡ string_bytes text.old ++ part_address bus part) }
+    ensures { OnOk result (string_bytes text.new
+        ≡ string_bytes text.old ++ part_address bus part) }
 {
     let device = part.device();
     let function = part.function();
@@ -59,7 +62,8 @@ pub(crate) fn push_numbers_and_path(
     bus: u8,
     path: &Path,
 ) -> Result<(), AllocError>
-    ensures { OnOk result (string_bytes text.new ≡ string_bytes text.old ++ numbers_and_path bus path.now) }
+    ensures { OnOk result (string_bytes text.new
+        ≡ string_bytes text.old ++ numbers_and_path bus path.now) }
 {
     push_address(text, bus, path.last())?;
     text.push(' ')?;

@@ -2,7 +2,7 @@
 ghost use Rattle.std.specs.Prelude.{◌≡◌, ◌++◌, OnOk, IfOk, not, count_by, string_bytes};
 ghost use Rattle.model_board.specs.Board.{is_bridge};
 ghost use Rattle.model_guests.specs.World.{World};
-ghost use Rattle.model_guests.specs.Report.{report};
+ghost use Rattle.model_handoff.specs.Report.{report};
 ghost use Rattle.report.specs.Found.{ended, count_line, rows_text, guests_text, found_report};
 ghost use Rattle.report.specs.OfWorld.{IsOf};
 
@@ -36,7 +36,8 @@ fn bridges(rows: &[FunctionRow]) -> usize
 
 /// Appends the line that counts endpoints and bridges.
 fn push_counts(text: &mut String, rows: &[FunctionRow]) -> Result<(), AllocError>
-    ensures { OnOk result (string_bytes text.new ≡ string_bytes text.old ++ ended (count_line rows.now)) }
+    ensures { OnOk result (string_bytes text.new
+        ≡ string_bytes text.old ++ ended (count_line rows.now)) }
 {
     let endpoints = endpoints(rows);
     let bridges = bridges(rows);
@@ -49,7 +50,8 @@ fn push_functions(
     rows: &[FunctionRow],
     settings: &[Setting],
 ) -> Result<(), AllocError>
-    ensures { OnOk result (string_bytes text.new ≡ string_bytes text.old ++ rows_text rows.now settings.now) }
+    ensures { OnOk result (string_bytes text.new
+        ≡ string_bytes text.old ++ rows_text rows.now settings.now) }
 {
     for (row, setting) in rows.iter().zip(settings) {
         push_function(text, row, &setting.writes)?;
@@ -59,7 +61,8 @@ fn push_functions(
 
 /// Appends the lines of all guests.
 fn push_guests(text: &mut String, guests: &[GuestDecl]) -> Result<(), AllocError>
-    ensures { OnOk result (string_bytes text.new ≡ string_bytes text.old ++ guests_text guests.now) }
+    ensures { OnOk result (string_bytes text.new
+        ≡ string_bytes text.old ++ guests_text guests.now) }
 {
     for guest in guests {
         push_guest(text, guest)?;
@@ -74,7 +77,8 @@ fn found_text(
     plan: &Plan,
     guests: &[GuestDecl],
 ) -> Result<String, AllocError>
-    ensures { IfOk result (λ t. string_bytes t ≡ found_report table.now plan.now.settings guests.now) }
+    ensures { IfOk result (λ t.
+        string_bytes t ≡ found_report table.now plan.now.settings guests.now) }
 {
     let mut text = String::new(alloc);
     push_counts(&mut text, table.rows())?;
@@ -92,7 +96,8 @@ pub fn report_text(
     guests: &[GuestDecl],
 ) -> Result<String, AllocError>
     // Whatever world these are of, it is its report.
-    ensures { IfOk result (λ t. (w : World) → IsOf w table.now plan.now guests.now → string_bytes t ≡ report w) }
+    ensures { IfOk result (λ t.
+        (w : World) → IsOf w table.now plan.now guests.now → string_bytes t ≡ report w) }
 {
     found_text(alloc, table, plan, guests)
 }

@@ -1,5 +1,6 @@
 //! What a line does and writes.
-ghost use Rattle.std.specs.Prelude.{◌≡◌, ◌<◌, ◌∷◌, [], length, MatchOption, IfSome};
+ghost use Rattle.std.specs.Prelude.{◌≡◌, ◌<◌, ◌++◌, ◌∷◌, [], length, MatchOption, IfSome};
+ghost use Rattle.model_guests.specs.Text.{Text};
 ghost use Rattle.model_guests.specs.Replies.{line_text};
 ghost use Rattle.model_guests.specs.WorldNow.{names_now, written_by, line_output};
 ghost use Rattle.model_guests.specs.Calls.{asks};
@@ -7,6 +8,7 @@ ghost use Rattle.model_handoff.specs.Actions.{calls};
 ghost use Rattle.model_handoff.specs.Changes.{after_on_machine, after_line_on_machine, machine_protocol};
 ghost use Rattle.accesses.specs.Accesses.{reply_of};
 ghost use Rattle.accesses.specs.Replies.{IsShown};
+ghost use Rattle.line_runs.specs.Pieces.{IsBefore};
 ghost use Rattle.lines.specs.Lines.{who_of, meaning_of, GuestIs, GuestsAre};
 
 use line_runs::Answers;
@@ -73,6 +75,29 @@ pub fn run_line(monitor: &mut Monitor, line: &[u8]) -> LineText
     text
 }
 
+/// Runs the event of a line, and writes what the line writes into an empty text: nothing, or one line with
+/// its line feed. If `long`, bytes of the line were passed over. No memory is taken.
+#[inline(always)]
+pub fn answer_line(monitor: &mut Monitor, line: &[u8], long: bool, text: &mut LineText)
+    requires { text.old.items ≡ [] }
+    ensures text { (before : Text) → IsBefore long before →
+        text.new.items ≡ line_output monitor.old.world (before ++ line.now) }
+    ensures after { (before : Text) → IsBefore long before →
+        monitor.new ≡ after_line_on_machine monitor.old (before ++ line.now) }
+{
+    // No event runs, and all such lines write the same.
+    if long {
+        push_line(
+            text,
+            Who::Unknown,
+            monitor.names(),
+            Reply::Refused(Refusal::LongLine),
+        );
+        return;
+    }
+    push_answer(monitor, line, text);
+}
+
 /// The language of scripts, whose lines a monitor answers.
 pub struct Script;
 
@@ -87,17 +112,7 @@ impl Answers<Script> for Monitor {
         long: bool,
         text: &mut LineText,
     ) -> Result<Option<String>, AllocError> {
-        // No event runs, and all such lines write the same.
-        if long {
-            push_line(
-                text,
-                Who::Unknown,
-                self.names(),
-                Reply::Refused(Refusal::LongLine),
-            );
-            return Ok(None);
-        }
-        push_answer(self, line, text);
+        answer_line(self, line, long, text);
         Ok(None)
     }
 }

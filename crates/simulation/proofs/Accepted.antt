@@ -9,7 +9,7 @@ use Rattle.diagnostics.specs.declared.style.Style.{Style}
 use Rattle.board_fit.specs.Verdicts.{IsVerdict}
 use Rattle.simulation.specs.declared.fault.Fault.{Fault}
 use Rattle.simulation.specs.declared.fault.Fault.TheVariants.{SetUp}
-use Rattle.simulation.specs.Listing.{Declares}
+use Rattle.session.specs.Files.{Declares}
 use Rattle.simulation.specs.Checking.{IsCheckText}
 
 -- the fault of a board is that of the check

@@ -1,25 +1,19 @@
 -- What a run of lines says of the board file over whose board it began.
---     declares      the world of a host bridge and guests that were read of a file
 --     runs_from, runs_over, is_run      a run from where it begins, as in the world of the file
-use Rattle.std.proofs.Common.{◌≡◌, Ok, Result, subst}
-use Rattle.std.specs.Prelude.{IsUtf8}
-use Rattle.toml.specs.Parse.{parse_document}
+use Rattle.std.proofs.Common.{◌≡◌, Result, subst}
 use Rattle.model_guests.specs.Text.{Text}
 use Rattle.model_guests.specs.World.{World}
 use Rattle.model_guests.specs.LineRuns.{Protocol}
 use Rattle.line_runs.specs.declared.running.RunFault.{RunFault}
 use Rattle.line_runs.specs.Runs.{Ends, Runs}
-use Rattle.board_file.specs.Meaning.{document_meaning}
-use Rattle.model_guests.specs.WorldNow.{world_at_first, world_protocol}
+use Rattle.model_handoff.specs.AfterSetUp.{world_at_first}
+use Rattle.model_guests.specs.WorldNow.{world_protocol}
 use Rattle.model_handoff.specs.Changes.{MachineNow, BeginsIn, machine_protocol}
-use Rattle.model_guests.proofs.Isolation.{isolated}
+use Rattle.model_handoff.proofs.AfterSetUp.{set_up_isolates}
 use Rattle.simulation.specs.Lines.{RunsOver}
-use Rattle.simulation.specs.Running.{IsOpened, IsRun}
+use Rattle.simulation.specs.Running.{IsRun}
 use Rattle.simulation.proofs.Ran.{runs_aside}
-use Rattle.simulation.specs.Listing.{Declares}
-
-pub declares : {bytes : Text} {w : World} → IsUtf8 bytes × (document_meaning (parse_document bytes) ≡ Ok w) → Declares bytes w
-declares (text, meaning) = record { is_text = text; meaning = meaning }
+use Rattle.session.specs.Files.{Declares, IsOpened}
 
 pub runs_from : {S T : Type 0} (p : Protocol S) (s first end : S) (at : Ends) (result : Result T RunFault) → s ≡ first → Runs p s end at result → Runs p first end at result
 runs_from p s first end at result begins runs = subst (λ x. Runs p x end at result) begins runs
@@ -43,5 +37,5 @@ is_run board m end at result opened runs =
       set_up = o.set_up;
       end = end.world;
       runs = runs_from world_protocol m.world (world_at_first o.world) end.world at result o.begins (runs_aside m end at result runs);
-      isolated = isolated o.world o.lawful.guests.lawful_names;
+      isolated = set_up_isolates o.world o.lawful.guests.lawful_names;
     }

@@ -1,6 +1,7 @@
 mod FaultNumbers
 mod Begun
 mod Audited
+pub mod Left
 mod Listed
 pub mod Ran
 pub mod Accepted

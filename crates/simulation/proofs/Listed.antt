@@ -19,30 +19,26 @@ use Rattle.report.specs.OfWorld.{IsOf}
 use Rattle.simulation.specs.declared.fault.Fault.{Fault}
 use Rattle.simulation.specs.declared.fault.Fault.TheVariants.{File}
 use Rattle.simulation.specs.Faults.{OnFile}
-use Rattle.simulation.specs.Listing.{Refuses}
+use Rattle.session.specs.Files.{Refuses}
+use Rattle.session.proofs.Declared.{refused_by}
 
 -- a fact of the error that a `?` hands on
 pub by_error : {T E : Type 0} {Q : E → Type 0} (P : E → Type 0) (r : Result T E) → IsErrAnd r Q → ((y : E) → Q y → P y) → IfErr r P
 by_error P (Ok x) h f = absurd h
 by_error P (Err y) h f = f y h
 
--- a file that is refused, by what reading it answers
-pub refused_by : (bytes : Text) (b : BoardFault)
-    → (b ≢ file.Memory → IsUtf8 bytes → document_meaning (parse_document bytes) ≡ Err (board_file.number_of b))
-    → (b ≢ file.Memory → ¬ IsUtf8 bytes → b ≡ file.NotToml)
-    → b ≢ file.Memory → Refuses bytes (board_file.number_of b)
-refused_by bytes b said no_text other = record {
-  no_text = λ no. ap board_file.number_of (no_text other no);
-  meaning = λ yes. said other yes;
-}
+-- a file that is refused
+pub refused : {T : Type 0} (r : Result T Fault) (bytes : Text) (b : BoardFault) → (b ≢ file.Memory → Refuses bytes (board_file.number_of b))
+    → IsErrAnd r (λ f. f ≡ File b) → IfErr r (OnFile (Refuses bytes))
+refused r bytes b said given =
+    by_error (OnFile (Refuses bytes)) r given (λ f same. subst (OnFile (Refuses bytes)) (sym same) said)
 
 pub refused_file : {T : Type 0} (r : Result T Fault) (bytes : Text) (b : BoardFault)
     → (b ≢ file.Memory → IsUtf8 bytes → document_meaning (parse_document bytes) ≡ Err (board_file.number_of b))
     → (b ≢ file.Memory → ¬ IsUtf8 bytes → b ≡ file.NotToml)
     → IsErrAnd r (λ f. f ≡ File b) → IfErr r (OnFile (Refuses bytes))
 refused_file r bytes b said no_text given =
-    by_error (OnFile (Refuses bytes)) r given
-    (λ f same. subst (OnFile (Refuses bytes)) (sym same) (refused_by bytes b said no_text))
+    refused r bytes b (refused_by bytes b said no_text) given
 
 -- a board that is set up, as the report asks for it
 pub of_world : (h : HostState) (r : ReadyBoard) (gs : List Guest) (table : List TableRow) (plan : Plan) (guests : List Guest)

@@ -1,21 +1,13 @@
 -- What the parts of a run over a board file say, put together.
 use Rattle.std.proofs.Common.{◌≡◌, ◌+◌, ℕ, Option, Result, Ok, Err, refl, sym, ap, ap₂, ◌∙◌, subst, arith}
-use Rattle.std.specs.Prelude.{List, IsErrOf}
+use Rattle.std.specs.Prelude.{IsErrOf, IfErr}
 use Rattle.std.specs.Result.{IsErrAnd}
-use Rattle.model_board.specs.Board.{Board}
-use Rattle.model_registers.specs.Apertures.{Apertures}
-use Rattle.model_set_up.specs.SetUp.{set_up_state}
-use Rattle.model_guests.specs.World.{Guest, World}
 use Rattle.model_guests.specs.Text.{Text, lines}
-use Rattle.model_guests.specs.WorldNow.{WorldNow, world_at_first, world_protocol}
+use Rattle.model_guests.specs.WorldNow.{world_protocol}
 use Rattle.model_handoff.specs.Changes.{MachineNow, machine_protocol}
 use Rattle.model_handoff.proofs.Aside.{output_aside, events_aside, cut_aside, stop_aside}
 use Rattle.std.specs.Io.KnownBytes.{Appends}
 use Rattle.line_runs.specs.Pieces.{IsStoppedIn, IsLackingIn}
-use Rattle.host_bridge.specs.HostState.{HostState}
-use Rattle.window_packing.specs.Readies.{ReadyBoard, board_below}
-use Rattle.board_file.specs.Meaning.{world_in}
-use Rattle.monitor.specs.Beginnings.{world_of}
 use Rattle.line_runs.specs.declared.running.RunFault.{RunFault}
 use Rattle.line_runs.specs.declared.running.RunFault.TheVariants as run
 use Rattle.simulation.specs.declared.fault.Fault.{Fault}
@@ -25,7 +17,10 @@ use Rattle.model_guests.specs.LineRuns.{Protocol}
 use Rattle.board_file.specs.declared.fault.BoardFault.{BoardFault}
 use Rattle.bus_scan.specs.declared.fault.Fault.TheVariants as set_up
 use Rattle.simulation.specs.declared.fault.Fault.TheVariants.{File, SetUp}
-use Rattle.simulation.specs.Faults.{of_run, read_faults, write_faults, IsOfBoard, OnRun, OnSession}
+use Rattle.session.specs.declared.opening.OpenFault.{OpenFault}
+use Rattle.session.specs.declared.opening.OpenFault.TheVariants as opening
+use Rattle.session.specs.Faults as opened
+use Rattle.simulation.specs.Faults.{of_open, of_run, read_faults, write_faults, IsOfBoard, OnFile, OnRun, OnSetUp, OnSession}
 
 -- the run failed for memory as the call that it was part of
 pub lacked : {T : Type 0} (r : Result T Fault) (e : RunFault) → IsErrAnd r (λ f. f ≡ of_run e) → IsErrOf r (SetUp set_up.Memory) → e ≡ run.Memory
@@ -62,20 +57,26 @@ ran_session P (Err f) run.Read h p = subst (λ x. OnSession P (Err x)) (sym h) p
 ran_session P (Err f) run.Write h p = subst (λ x. OnSession P (Err x)) (sym h) p
 ran_session P (Err f) run.Memory h p = subst (λ x. OnSession P (Err x)) (sym h) p
 
+-- a board that was not set up
+pub of_board : (o : OpenFault) → IsOfBoard (of_open o)
+of_board (opening.File b) = tt
+of_board (opening.SetUp s) = tt
+
+pub opened_file : {T : Type 0} (P : ℕ → Type 0) (r : Result T Fault) (o : OpenFault) → IsErrAnd r (λ f. f ≡ of_open o) → opened.OnFile P o → IfErr r (OnFile P)
+opened_file P (Ok x) o h said = absurd h
+opened_file P (Err f) (opening.File b) h said = subst (OnFile P) (sym h) said
+opened_file P (Err f) (opening.SetUp s) h said = subst (OnFile P) (sym h) tt
+
+pub opened_set_up : {T : Type 0} (P : ℕ → Type 0) (r : Result T Fault) (o : OpenFault) → IsErrAnd r (λ f. f ≡ of_open o) → opened.OnSetUp P o → IfErr r (OnSetUp P)
+opened_set_up P (Ok x) o h said = absurd h
+opened_set_up P (Err f) (opening.File b) h said = subst (OnSetUp P) (sym h) tt
+opened_set_up P (Err f) (opening.SetUp s) h said = subst (OnSetUp P) (sym h) said
+
 -- an error is one whatever the result would have been
 pub same_error : (A B : Type 0) {S : Type 0} (p : Protocol S) (s end : S) (at : Ends) (e : RunFault) → Runs {T = A} p s end at (Err e) → Runs {T = B} p s end at (Err e)
 same_error A B p s end at run.Read runs = runs
 same_error A B p s end at run.Write runs = runs
 same_error A B p s end at run.Memory runs = runs
-
--- a monitor of the board that a file declares begins with the world of the file
-pub began : (h : HostState) (r : ReadyBoard) (gs guests : List Guest) (m : WorldNow)
-    → board_below r.host ≡ board_below h → r.host ≡ record h { state = set_up_state (board_below h) h.apertures }
-    → guests ≡ gs → m ≡ world_at_first (world_of r guests) → m ≡ world_at_first (world_in h gs)
-began h r gs guests m below host given made =
-    let board : world_of r guests ≡ record (world_in h guests) { guests = guests } =
-    ap₂ (λ (b : Board) (a : Apertures). record { board = b; apertures = a; guests = guests }) below (ap (λ (k : HostState). k.apertures) host) in
-    made ∙ ap (λ (w : World). world_at_first w) (board ∙ ap (λ (xs : List Guest). record (world_in h gs) { guests = xs }) given)
 
 -- a run over a machine, as one over its world alone
 stopped_aside : (m end : MachineNow) {script : Text} {old_rest new_rest old new : Option Text} → IsStoppedIn machine_protocol m script old_rest new_rest old new end

@@ -18,7 +18,7 @@ use Rattle.board_refusal.specs.Telling.{IsRefusalText}
 use Rattle.board_fit.specs.Verdicts.{IsVerdict}
 use Rattle.simulation.specs.declared.fault.Fault.{Fault}
 use Rattle.simulation.specs.declared.fault.Fault.TheVariants.{File, SetUp}
-use Rattle.simulation.specs.Listing.{Declares, Refuses}
+use Rattle.session.specs.Files.{Declares, Refuses}
 
 -- of a file that is refused
 pub record IsRefused (style : Style) (name board : Text) (b : BoardFault) (text : Text) : Type 0 where

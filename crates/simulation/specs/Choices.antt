@@ -1,4 +1,5 @@
 -- What the program does, by what it is asked.
+--     style_of plain      how a check tells
 --     Prints text at result, Lists board at result, Checks style name board at result      a text was written whole and
 --         flushed, or a beginning of it where a write or flush failed: one that is given, the report of a board, or what
 --         a check says
@@ -6,7 +7,7 @@
 --     IsTelling choice f      the choice tells of the fault
 --     IsLacking choice f      memory is out once lines ran
 --     IsOfChoice choice f      a fault that the choice can end with
-use Rattle.std.specs.Prelude.{◌≡◌, ◌⊎◌, Option, None, Some, Result, Ok, Err, string_bytes, ⊤}
+use Rattle.std.specs.Prelude.{◌≡◌, ◌⊎◌, Bool, if◌then◌else◌, Option, None, Some, Result, Ok, Err, string_bytes, ⊤}
 use Rattle.std.specs.Io.KnownBytes.{Appends}
 use Rattle.model_registers.specs.DeclarationRules.{first_broken}
 use Rattle.model_set_up.specs.SetUpWrites.{set_up_rules}
@@ -14,17 +15,19 @@ use Rattle.model_guests.specs.Text.{Text}
 use Rattle.model_guests.specs.World.{World}
 use Rattle.streams.specs.Ends.{AppendsPart}
 use Rattle.line_runs.specs.Runs.{Ends}
+use Rattle.command_line.specs.declared.choice.Choice.{Choice}
+use Rattle.command_line.specs.declared.choice.Choice.TheVariants.{Help, Demo, List, Check, Run, Firmware, Audit}
 use Rattle.bus_scan.specs.declared.fault.Fault.TheVariants as set_up
 use Rattle.diagnostics.specs.declared.style.Style.{Style}
+use Rattle.diagnostics.specs.declared.style.Style.TheVariants.{Plain, WithExcerpts}
 use Rattle.simulation.specs.Demo.{demo_board}
 use Rattle.simulation.specs.Faults.{IsRefusal, IsOfList, IsOfRun, IsOfSession, OnRun, OnSession}
-use Rattle.simulation.specs.Listing.{Declares, IsListed, IsListedInPart}
+use Rattle.session.specs.Files.{Declares}
+use Rattle.simulation.specs.Listing.{IsListed, IsListedInPart}
 use Rattle.simulation.specs.Checking.{IsChecked, IsCheckedInPart}
 use Rattle.simulation.specs.Running.{IsRun}
 use Rattle.simulation.specs.Sessions.{IsSession}
 use Rattle.simulation.specs.Auditing.{Audits}
-use Rattle.simulation.specs.declared.choice.Choice.{Choice}
-use Rattle.simulation.specs.declared.choice.Choice.TheVariants.{Help, Demo, List, Check, Run, Firmware, Audit}
 use Rattle.simulation.specs.declared.fault.Fault.{Fault}
 use Rattle.simulation.specs.declared.fault.Fault.TheVariants.{SetUp, Write, BoardFile}
 
@@ -57,17 +60,20 @@ Checks style name board at (Err Write) = IsCheckedInPart style name board at.bef
 Checks style name board at (Err f) =
     IsRefusal f → IsChecked style name board (Some f) at.before at.after × (at.flushed ≡ at.after)
 
+abbrev pub style_of : Bool → Style
+style_of plain = if plain then Plain else WithExcerpts
+
 abbrev pub Does : {T : Type 0} → Choice → Ends → Result T Fault → Type 0
 Does (Help text) at r = Prints (string_bytes text) at r
 Does Demo at r = OnRun (IsRun demo_board at) r
 Does (List path) at r = (board : Text) × Lists board at r
-Does (Check path style) at r = (board : Text) × Checks style path.now board at r
+Does (Check path plain) at r = (board : Text) × Checks (style_of plain) path.now board at r
 Does (Run path) at r = (board : Text) × OnRun (IsRun board at) r
 Does (Firmware path) at r = (board : Text) × OnSession (IsSession board at) r
 Does (Audit path) at r = (board : Text) × Audits board at r
 
 abbrev pub IsTelling : Choice → Fault → Type 0
-IsTelling (Check path style) f = IsRefusal f
+IsTelling (Check path plain) f = IsRefusal f
 IsTelling _ f = ⊥
 
 -- no memory for an audit or a handover
@@ -80,7 +86,7 @@ abbrev pub IsOfChoice : Choice → Fault → Type 0
 IsOfChoice (Help text) f = f ≡ Write
 IsOfChoice Demo f = IsOfRun f
 IsOfChoice (List path) f = IsOfList f ⊎ (f ≡ BoardFile)
-IsOfChoice (Check path style) f = IsOfList f ⊎ (f ≡ BoardFile)
+IsOfChoice (Check path plain) f = IsOfList f ⊎ (f ≡ BoardFile)
 IsOfChoice (Run path) f = IsOfRun f ⊎ (f ≡ BoardFile)
 IsOfChoice (Firmware path) f = IsOfSession f ⊎ (f ≡ BoardFile)
 IsOfChoice (Audit path) f = IsOfSession f ⊎ (f ≡ BoardFile)

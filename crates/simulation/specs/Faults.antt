@@ -1,7 +1,7 @@
 -- Why the program fails, as numbers and words.
 --     number_of, words_of, line_of      the number, the words and the line of a fault
 --     fault_numbered n      the fault of a number
---     of_run      the fault of a run
+--     of_open, of_run, of_words      the fault of a board that is not set up, of a run, and of the words of the command line
 --     OnRun P r, OnSession P r      how a run of lines ended has P, if any ran before r; of a session memory may be out
 --         for a line
 --     IsOfFile f      the file is refused, or memory is out while it is read
@@ -10,15 +10,19 @@
 --     OnFile P f, OnSetUp P f      where f refuses the file, or its board, its number has P
 --     read_faults, write_faults      whether a result is the fault of the reader, or of the writer
 --     IsOfList, IsOfRun      a fault of a listing, or of a run over a board that is set up
---     IsOfDriving, IsOfSession      a fault of firmware's lines over a board at reset, or of a session or an audit
+--     IsOfSession      a fault of a session over a board at reset, or of an audit after it
 use Rattle.std.specs.Prelude.{◌≡◌, ◌≢◌, ◌==◌, ℕ, ◌++◌, List, [], ◌∷◌, Option, Result, Ok, Err, codes, decimal, find, ⊤}
 use Rattle.board_file.specs.declared.fault.BoardFault.TheVariants as file
 use Rattle.board_file.specs.Faults as board_file
 use Rattle.bus_scan.specs.declared.fault.Fault.TheVariants as set_up
 use Rattle.bus_scan.specs.Faults as bus_scan
 use Rattle.board_fit.specs.Shortages.{set_up_words}
+use Rattle.command_line.specs.declared.choice.WordsFault.{WordsFault}
+use Rattle.command_line.specs.declared.choice.WordsFault.TheVariants as words
 use Rattle.line_runs.specs.declared.running.RunFault.TheVariants as run
 use Rattle.line_runs.specs.declared.running.RunFault.{RunFault}
+use Rattle.session.specs.declared.opening.OpenFault.TheVariants as opening
+use Rattle.session.specs.declared.opening.OpenFault.{OpenFault}
 use Rattle.simulation.specs.declared.fault.Fault.{Fault}
 use Rattle.simulation.specs.declared.fault.Fault.TheVariants.{File, SetUp, Read, Write, Usage, BoardFile, WordMemory}
 
@@ -56,10 +60,18 @@ words_of WordMemory = codes "memory"
 abbrev pub line_of : Fault → List ℕ
 line_of f = codes "pciguest: fault " ++ decimal (number_of f) ++ codes " " ++ words_of f ++ codes "\n"
 
+abbrev pub of_open : OpenFault → Fault
+of_open (opening.File b) = File b
+of_open (opening.SetUp s) = SetUp s
+
 abbrev pub of_run : RunFault → Fault
 of_run run.Read = Read
 of_run run.Write = Write
 of_run run.Memory = SetUp set_up.Memory
+
+abbrev pub of_words : WordsFault → Fault
+of_words words.Usage = Usage
+of_words words.Memory = WordMemory
 
 abbrev pub OnRun : {T : Type 0} → (Result T RunFault → Type 0) → Result T Fault → Type 0
 OnRun P (Ok x) = P (Ok x)
@@ -117,13 +129,9 @@ abbrev pub IsOfRun : Fault → Type 0
 IsOfRun Read = ⊤
 IsOfRun f = IsOfList f
 
--- the file is refused, memory is out while it is read, or a read or write failed
-abbrev pub IsOfDriving : Fault → Type 0
-IsOfDriving Read = ⊤
-IsOfDriving Write = ⊤
-IsOfDriving f = IsOfFile f
-
--- so too, or memory is out once lines ran
+-- the file is refused, memory is out while it is read or once lines ran, or a read or write failed
 abbrev pub IsOfSession : Fault → Type 0
+IsOfSession Read = ⊤
+IsOfSession Write = ⊤
 IsOfSession (SetUp s) = s ≡ set_up.Memory
-IsOfSession f = IsOfDriving f
+IsOfSession f = IsOfFile f

@@ -5,6 +5,5 @@ pub mod Lines
 pub mod Checking
 pub mod Running
 pub mod Sessions
-pub mod Driving
 pub mod Auditing
 pub mod Choices

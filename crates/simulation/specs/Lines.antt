@@ -6,7 +6,7 @@ use Rattle.model_guests.specs.World.{World}
 use Rattle.model_guests.specs.LineRuns.{Protocol}
 use Rattle.line_runs.specs.declared.running.RunFault.{RunFault}
 use Rattle.line_runs.specs.Runs.{Ends, Runs}
-use Rattle.simulation.specs.Listing.{Declares}
+use Rattle.session.specs.Files.{Declares}
 
 pub record RunsOver {S T : Type 0} (p : Protocol S) (first : World → S) (board : Text) (at : Ends)
     (result : Result T RunFault) : Type 0 where

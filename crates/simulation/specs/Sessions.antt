@@ -3,19 +3,23 @@
 --     at_first w      the session before its first line
 --     IsSession board at result      what a run did over the board of the file; once the board is given, guests are
 --         isolated
-use Rattle.std.specs.Prelude.{Result}
-use Rattle.model_board.specs.AtReset.{reset_state}
+--     IsLeft board at result      so too, and the session as it left it
+use Rattle.std.specs.Prelude.{◌≡◌, Result, IfOk}
 use Rattle.model_guests.specs.Text.{Text}
 use Rattle.model_guests.specs.World.{World}
-use Rattle.model_lines.specs.Sessions.{SessionNow, driven, session_protocol}
+use Rattle.model_lines.specs.Sessions.{SessionNow, driven, at_reset, session_protocol}
 use Rattle.model_lines.specs.SessionLaws.{IsolatedFrom}
 use Rattle.line_runs.specs.declared.running.RunFault.{RunFault}
 use Rattle.line_runs.specs.Runs.{Ends}
 use Rattle.simulation.specs.Lines.{RunsOver}
 
 abbrev pub at_first : World → SessionNow
-at_first w = driven w (reset_state w.board)
+at_first w = driven (at_reset w)
 
 pub record IsSession {T : Type 0} (board : Text) (at : Ends) (result : Result T RunFault) : Type 0 where
   pub over : RunsOver session_protocol at_first board at result
   pub isolated : IsolatedFrom over.world
+
+pub record IsLeft (board : Text) (at : Ends) (result : Result SessionNow RunFault) : Type 0 where
+  pub session : IsSession board at result
+  pub left : IfOk result (λ x. x ≡ session.over.end)

@@ -1,24 +1,25 @@
-//! An audit of the board of a board file, after firmware's lines.
-ghost use Rattle.std.specs.Prelude.{◌≡◌, ◌+◌, ◌-◌, ◌^◌, ◌<◌, IfErr};
+//! An audit of the board of a board file, after the lines of a session.
+ghost use Rattle.std.specs.Prelude.{◌≡◌, ◌+◌, ◌-◌, ◌^◌, ◌<◌, ◌⊎◌, IfErr, IsErrOf};
 ghost use Rattle.line_runs.specs.Runs.{ends};
+ghost use Rattle.bus_scan.specs.declared.fault.Fault.TheVariants.{Memory};
+ghost use Rattle.session.specs.Files.{Refuses};
 ghost use Rattle.simulation.specs.Auditing.{Audits};
 ghost use Rattle.simulation.specs.Faults.{read_faults, write_faults, OnFile, IsOfFile, IsOfSession};
-ghost use Rattle.simulation.specs.Listing.{Refuses};
 
 use crate::choice::print;
-use crate::driving::driven;
+use crate::driving::session_after;
 use crate::fault::Fault;
-use audit_text::audit_text;
 use std::alloc::Global;
 use streams::{Reader, Writer};
 
-/// Runs firmware's lines over the board that a board file declares, as [`drive`](crate::drive) does, and then
+/// Runs a session over the board that a board file declares, as [`drive`](crate::drive) does, and then
 /// writes all that is wrong in the registers as they stand: a line for each problem, and a last line that
-/// counts them.
+/// counts them. Where the board was given to its guests, it is theirs that is audited.
 ///
 /// Refused are the file (101 to 112) and lack of memory while it is read (199): then nothing is read or
-/// written. Once lines are asked for, a read fails (501), or a write or flush does (502). Once they have run,
-/// memory is out for the audit (299): then all that they write was written and flushed, and nothing after it.
+/// written. Once lines are asked for, a read fails (501), or a write or flush does (502). Memory is out for a
+/// line or for the audit after them (299): then all that the lines before write was written and flushed, and
+/// nothing after it.
 pub fn audit<R: Reader, W: Writer>(
     alloc: Global,
     board: &[u8],
@@ -36,14 +37,18 @@ pub fn audit<R: Reader, W: Writer>(
     ensures faults { IfErr result IsOfSession }
     ensures nothing { IfErr result (λ f. IsOfFile f → (reader.new ≡ reader.old) × (writer.new ≡ writer.old)) }
 
+    // No memory for a line or for the audit: what the lines before write was flushed if it is anything.
+    ensures lacking_flushed { IsErrOf result (Fault.SetUp Memory) →
+        (W.flushed writer.new ≡ W.written writer.new) ⊎ (writer.new ≡ writer.old) }
+
     // A fault is the reader's or the writer's exactly where that end failed during the call.
     ensures reads { R.failures reader.new ≡ R.failures reader.old + read_faults result }
     ensures writes { W.failures writer.new ≡ W.failures writer.old + write_faults result }
 {
-    let mut host = driven(alloc, board, reader, writer)?;
-    let Ok(text) = audit_text(alloc, &mut host) else {
+    let mut session = session_after(alloc, board, reader, writer)?;
+    let Ok(told) = session.audit(alloc) else {
         return Err(Fault::SetUp(bus_scan::Fault::Memory));
     };
-    print(text.as_str(), writer)?;
+    print(told.text.as_str(), writer)?;
     Ok(())
 }

@@ -1,9 +1,9 @@
-//! What the program is asked to do, and doing it.
+//! Doing what the program is asked to do.
 ghost use Rattle.std.specs.Prelude.{◌≡◌, ◌≢◌, ◌+◌, ◌-◌, ◌^◌, ◌<◌, ◌⊎◌, OnOk, OnErr, IfErr};
 ghost use Rattle.std.specs.Io.KnownBytes.{Appends};
 ghost use Rattle.streams.specs.Ends.{AppendsPart};
 ghost use Rattle.line_runs.specs.Runs.{ends};
-ghost use Rattle.simulation.specs.Choices.{Does, IsTelling, IsLacking, IsOfChoice};
+ghost use Rattle.simulation.specs.Choices.{style_of, Does, IsTelling, IsLacking, IsOfChoice};
 ghost use Rattle.simulation.specs.Faults.{read_faults, write_faults};
 
 use crate::auditing::audit;
@@ -14,28 +14,21 @@ use crate::files::board_bytes;
 use crate::listing::list;
 use crate::running::whole;
 use crate::session::drive;
+use command_line::Choice;
 use diagnostics::Style;
 use std::alloc::Global;
 use std::rt::Files;
 use streams::{Reader, Writer, write_and_flush};
 
-/// What the program is to do.
-#[derive(Drop)]
-pub enum Choice<'a> {
-    /// Print this text.
-    Help(String),
-    /// Run a script over the demo board.
-    Demo,
-    /// Write the report of the board file at this path.
-    List(&'a str),
-    /// Say what is wrong with the board file at this path, or that its board fits.
-    Check(&'a str, Style),
-    /// Run a script over the board of the board file at this path.
-    Run(&'a str),
-    /// Run a session over the board of the board file at this path, at reset.
-    Firmware(&'a str),
-    /// Run firmware's lines over it, and then write all that is wrong in the registers as they stand.
-    Audit(&'a str),
+/// How a check tells, by whether lines alone are asked for.
+fn style_of(plain: bool) -> Style
+    ensures { result ≡ style_of plain }
+{
+    if plain {
+        Style::Plain
+    } else {
+        Style::WithExcerpts
+    }
 }
 
 /// Writes a text and flushes once.
@@ -92,9 +85,9 @@ pub fn perform<R: Reader, W: Writer>(
             let board = board_bytes(rt, alloc, path)?;
             list(alloc, &board, writer)
         }
-        Choice::Check(path, style) => {
+        Choice::Check { path, plain } => {
             let board = board_bytes(rt, alloc, path)?;
-            check(alloc, *style, path, &board, writer)
+            check(alloc, style_of(*plain), path, &board, writer)
         }
         Choice::Run(path) => {
             let board = board_bytes(rt, alloc, path)?;

@@ -3,7 +3,7 @@ ghost use Rattle.std.specs.Prelude.{◌≡◌, ◌+◌, ◌-◌, ◌^◌, ◌<�
 ghost use Rattle.line_runs.specs.Runs.{ends};
 ghost use Rattle.simulation.specs.Demo.{demo_board};
 ghost use Rattle.simulation.specs.Faults.{read_faults, write_faults, OnFile, OnSetUp, OnRun, IsOfBoard, IsOfRun};
-ghost use Rattle.simulation.specs.Listing.{Refuses, Breaks};
+ghost use Rattle.session.specs.Files.{Refuses, Breaks};
 ghost use Rattle.simulation.specs.Running.{IsRun};
 
 use crate::fault::Fault;

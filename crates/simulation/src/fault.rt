@@ -1,11 +1,12 @@
 //! Why the program fails.
 ghost use Rattle.std.specs.Prelude.{◌≡◌};
-ghost use Rattle.simulation.specs.Faults.{number_of, words_of, of_run};
+ghost use Rattle.simulation.specs.Faults.{number_of, words_of, of_open, of_run, of_words};
 ghost use Rattle.simulation.specs.declared.fault.Fault.TheVariants.{File, SetUp};
 
 use board_file::BoardFault;
 use board_fit::set_up_words;
-use script::RunFault;
+use command_line::WordsFault;
+use session::{OpenFault, RunFault};
 use thiserror::Error;
 
 /// Why the program fails.
@@ -83,6 +84,17 @@ impl From<bus_scan::Fault> for Fault {
     }
 }
 
+impl From<OpenFault> for Fault {
+    ghost from_gives = { λ o f. f ≡ of_open o };
+
+    fn from(fault: OpenFault) -> Fault {
+        match fault {
+            OpenFault::File(fault) => Fault::File(fault),
+            OpenFault::SetUp(fault) => Fault::SetUp(fault),
+        }
+    }
+}
+
 impl From<RunFault> for Fault {
     ghost from_gives = { λ r f. f ≡ of_run r };
 
@@ -91,6 +103,17 @@ impl From<RunFault> for Fault {
             RunFault::Read => Fault::Read,
             RunFault::Write => Fault::Write,
             RunFault::Memory => Fault::SetUp(bus_scan::Fault::Memory),
+        }
+    }
+}
+
+impl From<WordsFault> for Fault {
+    ghost from_gives = { λ w f. f ≡ of_words w };
+
+    fn from(fault: WordsFault) -> Fault {
+        match fault {
+            WordsFault::Usage => Fault::Usage,
+            WordsFault::Memory => Fault::WordMemory,
         }
     }
 }

@@ -1,6 +1,6 @@
 //! What the program does, over bytes, a reader and a writer: the report of a board file, what is
-//! wrong with one, a script over its board, a session over it from reset on, firmware's lines over it
-//! and an audit after them, and a script over the demo board; and the law of two worlds, over the definitions alone.
+//! wrong with one, a script over its board, a session over it from reset on, the same with an audit
+//! after it, and a script over the demo board; and the law of two worlds, over the definitions alone.
 #![tactic(auto)]
 
 mod auditing;
@@ -14,20 +14,20 @@ mod files;
 mod listing;
 mod numbered;
 mod running;
-mod session;
 mod standard_streams;
 
 pub use auditing::audit;
 pub use checking::{Checked, check, check_text};
-pub use choice::{Choice, perform};
+pub use choice::perform;
+pub use command_line::Choice;
 pub use demonstration::demo;
 pub use diagnostics::Style;
+pub use driving::drive;
 pub use fault::Fault;
 pub use fault_lines::fault_line;
 pub use files::board_bytes;
 pub use listing::{list, list_text};
 pub use model_guests::two_worlds;
 pub use monitor::Monitor;
-pub use running::{open, whole};
-pub use session::drive;
+pub use running::whole;
 pub use standard_streams::{InputStream, OutputStream};

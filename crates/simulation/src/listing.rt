@@ -3,9 +3,10 @@ ghost use Rattle.std.specs.Prelude.{◌≡◌, ◌≢◌, ◌+◌, ◌-◌, ◌^
 ghost use Rattle.model_registers.specs.DeclarationRules.{first_broken};
 ghost use Rattle.model_set_up.specs.SetUpWrites.{set_up_rules};
 ghost use Rattle.model_guests.specs.World.{World};
-ghost use Rattle.model_guests.specs.Report.{report};
+ghost use Rattle.model_handoff.specs.Report.{report};
 ghost use Rattle.simulation.specs.Faults.{write_faults, OnFile, OnSetUp, IsOfBoard, IsOfList};
-ghost use Rattle.simulation.specs.Listing.{Declares, Refuses, Breaks, IsListed, IsListedInPart};
+ghost use Rattle.session.specs.Files.{Declares, Refuses, Breaks};
+ghost use Rattle.simulation.specs.Listing.{IsListed, IsListedInPart};
 
 use crate::choice::print;
 use crate::fault::Fault;

@@ -1,33 +1,15 @@
 //! A script over the board of a board file.
-ghost use Rattle.std.specs.Prelude.{◌≡◌, ◌+◌, ◌-◌, ◌^◌, ◌<◌, IfOk, IfErr};
-ghost use Rattle.model_handoff.specs.Changes.{BeginsIn};
+ghost use Rattle.std.specs.Prelude.{◌≡◌, ◌+◌, ◌-◌, ◌^◌, ◌<◌, IfErr};
 ghost use Rattle.line_runs.specs.Runs.{ends};
 ghost use Rattle.simulation.specs.Faults.{read_faults, write_faults, OnFile, OnSetUp, OnRun, IsOfBoard, IsOfRun};
-ghost use Rattle.simulation.specs.Listing.{Refuses, Breaks};
-ghost use Rattle.simulation.specs.Running.{IsOpened, IsRun};
+ghost use Rattle.session.specs.Files.{Refuses, Breaks};
+ghost use Rattle.simulation.specs.Running.{IsRun};
 
 use crate::fault::Fault;
-use board_file::read_board;
-use monitor::Monitor;
 use script::run;
+use session::open;
 use std::alloc::Global;
 use streams::{Reader, Writer};
-use window_packing::set_up;
-
-/// Sets up the board that a board file declares, and gives its functions to the guests of the file.
-///
-/// Refused are the file (101 to 112), its board (201 to 205), and lack of memory (199 or 299).
-pub fn open(alloc: Global, board: &[u8]) -> Result<Monitor, Fault>
-    ensures opened { IfOk result (BeginsIn (IsOpened board.now)) }
-    ensures file { IfErr result (OnFile (Refuses board.now)) }
-    ensures placement { IfErr result (OnSetUp (Breaks board.now)) }
-    ensures faults { IfErr result IsOfBoard }
-{
-    let (host, guests) = read_board(alloc, board)?;
-    let ready = set_up(alloc, host)?;
-    let monitor = Monitor::new(alloc, ready, &guests)?;
-    Ok(monitor)
-}
 
 /// Sets up the board that a board file declares, gives its functions to the guests of the file, and
 /// runs a script over them, line by line as it is read.

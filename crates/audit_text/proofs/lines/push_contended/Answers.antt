@@ -1,6 +1,6 @@
 use Rattle.std.proofs.Common.{string_bytes, codes}
 use Rattle.std.proofs.lemmas.Result.{IfOk-equal}
-use Rattle.model_guests.specs.Report.{hexadecimal}
+use Rattle.model_guests.specs.PathTexts.{hexadecimal}
 use Rattle.model_audit.specs.AuditText.{agent_text, space_text}
 use Rattle.audit_text.proofs.Chains.{onto, and_then}
 use Rattle.audit_text.proofs.lines.push_contended.Goals as goal

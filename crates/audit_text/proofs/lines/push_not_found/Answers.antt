@@ -1,7 +1,7 @@
 use Rattle.std.proofs.Common.{string_bytes, codes}
 use Rattle.std.specs.Option.{option_map_or}
 use Rattle.std.proofs.lemmas.Result.{IfOk-equal}
-use Rattle.model_guests.specs.Report.{path_text}
+use Rattle.model_guests.specs.PathTexts.{path_text}
 use Rattle.model_audit.specs.AuditText.{number_text}
 use Rattle.paths.specs.BusAddresses.{bus_address_of}
 use Rattle.audit_text.proofs.Chains.{onto, and_then}

@@ -1,6 +1,6 @@
 use Rattle.std.proofs.Common.{◌≡◌, ◌++◌, drop, string_bytes}
 use Rattle.model_guests.specs.Text.{text_of_lines}
-use Rattle.model_guests.specs.Report.{slot_lines}
+use Rattle.model_handoff.specs.Report.{slot_lines}
 use Rattle.report.proofs.lines.push_guest.Given as goal
 
 abbrev pub invariant-loop-slot : goal.invariant-loop-slot

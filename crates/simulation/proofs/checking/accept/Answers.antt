@@ -1,7 +1,7 @@
 use Rattle.std.proofs.Common.{ap, string_bytes, ◌∙◌}
 use Rattle.model_guests.specs.World.{World}
 use Rattle.board_file.specs.Meaning.{world_in, document_meaning}
-use Rattle.simulation.specs.Listing.{Declares}
+use Rattle.session.specs.Files.{Declares}
 use Rattle.simulation.proofs.Accepted.{said_of}
 use Rattle.simulation.proofs.checking.accept.Goals as goal
 

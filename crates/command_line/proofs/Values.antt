@@ -1,0 +1,120 @@
+-- The first value of an argument, by the rows of a parse.
+use Rattle.std.proofs.Common.{◌≡◌, ◌⊎◌, inl, inr, ℕ, Bool, true, false, cond, List, [], ◌∷◌, Option, Some, None, map, refl, sym, ap, ◌∙◌}
+use Rattle.std.specs.Prelude.{option_map, option_and_then, find, slice_get, unwrap_or, codes, Box}
+use Rattle.std.specs.Box.{box_value}
+use Rattle.std.specs.Borrow.{Bor}
+use Rattle.std.specs.Str.{bytes_eq}
+use Rattle.clap.specs.declared.parser.matches.MatchedArg.{MatchedArg}
+use Rattle.clap.specs.declared.parser.matches.Found.{Found}
+use Rattle.clap.specs.Walk.{Row, rows_of, row_of, stop_after}
+use Rattle.clap.specs.Matches.{first_value, subcommand_name_of}
+use Rattle.clap.specs.Simple.{Shape, argument_words, built, entered, names_of, rows_at, subcommand_rows, subcommand_rows_of, subcommand_of}
+use Rattle.clap.proofs.OnLiterals.{clap_on_literals}
+use Rattle.clap.specs.declared.parser.matches.ArgMatches.{ArgMatches}
+use Rattle.clap.specs.declared.parser.matches.ArgMatches.TheViews.{out-ArgMatches, out-SubCommand}
+use Rattle.clap.specs.declared.parser.matches.SubCommand.{SubCommand}
+use Rattle.command_line.specs.Words.{pciguest_app, subcommand, value, value_in}
+use Rattle.command_line.specs.Choices.{is_plain, board_in, IsAskedBy, IsNoCommand}
+use Rattle.command_line.specs.declared.choice.Choice.{Choice}
+use Rattle.command_line.specs.declared.choice.Choice.TheVariants.{Help, Demo, List as Lists, Check, Run, Firmware, Audit}
+
+abbrev Entry : Type 0
+Entry = Bor (List ℕ) × MatchedArg
+
+first_text : (vals : List (Bor (List ℕ))) → option_map (λ (s : Bor (List ℕ)). s.now) (slice_get vals 0) ≡ slice_get (map (λ (s : Bor (List ℕ)). s.now) vals) 0
+first_text [] = refl
+first_text (v ∷ vals) = refl
+
+by_entries : (id : List ℕ) (es : List Entry)
+    → option_and_then (λ (a : MatchedArg). option_map (λ s. s.now) (slice_get a.vals.items 0)) (option_map (λ (e : Entry). e.1) (find (λ (e : Entry). bytes_eq e.0.now id) es)) ≡ value_in (map row_of es) id
+by_entries id [] = refl
+by_entries id (e ∷ es) = by_test (bytes_eq e.0.now id) (by_entries id es)
+  where
+    by_test : (t : Bool)
+        → option_and_then (λ (a : MatchedArg). option_map (λ s. s.now) (slice_get a.vals.items 0)) (option_map (λ (f : Entry). f.1) (find (λ (f : Entry). bytes_eq f.0.now id) es)) ≡ value_in (map row_of es) id
+        → option_and_then (λ (a : MatchedArg). option_map (λ s. s.now) (slice_get a.vals.items 0)) (option_map (λ (f : Entry). f.1) (cond t (Some e) (find (λ (f : Entry). bytes_eq f.0.now id) es)))
+        ≡ option_and_then (λ (r : Row). slice_get r.values 0) (cond t (Some (row_of e)) (find (λ (r : Row). bytes_eq r.id id) (map row_of es)))
+    by_test true h = first_text e.1.vals.items
+    by_test false h = h
+
+-- `get_str`, by the rows
+pub first_value_is : (f : Found) (id : List ℕ) → first_value f id ≡ value_in (rows_of f) id
+first_value_is f id = by_entries id f.entries.items
+
+-- ---- the subcommand of a parse
+
+named_by_rows : {Z : Type 0} (x : Option (Box SubCommand Z)) → option_map (λ b. (out-SubCommand (box_value b)).name.now) x ≡ option_map (λ (p : List ℕ × List Row). p.0) (subcommand_rows x)
+named_by_rows None = refl
+named_by_rows (Some b) = refl
+
+by_subcommand : (s : Option (List ℕ × List Row)) (name : List ℕ) (rows : List Row)
+    → Some name ≡ option_map (λ (p : List ℕ × List Row). p.0) s → Some rows ≡ option_map (λ (p : List ℕ × List Row). p.1) s
+    → (option_map (λ (p : List ℕ × List Row). p.0) s ≡ Some name) × ((id : List ℕ) → option_and_then (λ (p : List ℕ × List Row). value_in p.1 id) s ≡ value_in rows id)
+by_subcommand None name rows n r = absurd (let wrong : Some name ≡ None = n in cc)
+by_subcommand (Some p) name rows n r = (sym n, let same : rows ≡ p.1 = cc in λ id. ap (λ (rs : List Row). value_in rs id) (sym same))
+
+-- what a parse found of a subcommand is what the words say
+pub asked : (m : ArgMatches) (words : List (List ℕ)) (name : List ℕ) (f : Found) → subcommand_rows_of m ≡ subcommand_of pciguest_app words
+    → Some name ≡ subcommand_name_of m → Some (rows_of f) ≡ option_map (λ p. p.1) (subcommand_rows_of m)
+    → (subcommand words ≡ Some name) × ((id : List ℕ) → value words id ≡ first_value f id)
+asked m words name f e n r =
+    let both = by_subcommand (subcommand_of pciguest_app words) name (rows_of f)
+    (n ∙ named_by_rows (out-ArgMatches m).subcommand ∙ ap (option_map (λ (p : List ℕ × List Row). p.0)) e)
+    (r ∙ ap (option_map (λ (p : List ℕ × List Row). p.1)) e) in
+    (both.0, λ id. both.1 id ∙ sym (first_value_is f id))
+
+-- ---- the names of subcommands
+
+one_of : (d l k r f a : Shape) (t u x v y z : Bool) (ws : List (List ℕ)) (n : List ℕ)
+    → Some n ≡ option_map (λ (q : List ℕ × List Row). q.0) (option_map (λ (s : Shape). rows_at s ws) (cond t (Some d) (cond u (Some l) (cond x (Some k) (cond v (Some r) (cond y (Some f) (cond z (Some a) None)))))))
+    → (n ≡ d.name) ⊎ ((n ≡ l.name) ⊎ ((n ≡ k.name) ⊎ ((n ≡ r.name) ⊎ ((n ≡ f.name) ⊎ (n ≡ a.name)))))
+one_of d l k r f a true u x v y z ws n h = inl (let same : n ≡ d.name = cc in same)
+one_of d l k r f a false true x v y z ws n h = inr (inl (let same : n ≡ l.name = cc in same))
+one_of d l k r f a false false true v y z ws n h = inr (inr (inl (let same : n ≡ k.name = cc in same)))
+one_of d l k r f a false false false true y z ws n h = inr (inr (inr (inl (let same : n ≡ r.name = cc in same))))
+one_of d l k r f a false false false false true z ws n h = inr (inr (inr (inr (inl (let same : n ≡ f.name = cc in same)))))
+one_of d l k r f a false false false false false true ws n h = inr (inr (inr (inr (inr (let same : n ≡ a.name = cc in same)))))
+one_of d l k r f a false false false false false false ws n h = absurd (let wrong : Some n ≡ None = h in cc)
+
+abbrev IsKnown : List ℕ → Type 0
+IsKnown n = (n ≡ codes "demo") ⊎ ((n ≡ codes "list") ⊎ ((n ≡ codes "check") ⊎ ((n ≡ codes "run") ⊎ ((n ≡ codes "firmware") ⊎ (n ≡ codes "audit")))))
+
+stop_name : (stop : Option (List ℕ × List (List ℕ))) (n : List ℕ)
+    → Some n ≡ option_map (λ (q : List ℕ × List Row). q.0) (entered (built pciguest_app) stop) → IsKnown n
+unfolding clap_on_literals
+stop_name None n h = absurd (let wrong : Some n ≡ None = h in cc)
+stop_name (Some p) n h = one_of _ _ _ _ _ _ _ _ _ _ _ _ p.1 n h
+
+-- of the subcommand that a parse met
+pub no_other : (m : ArgMatches) (words : List (List ℕ)) (n : List ℕ) → subcommand_rows_of m ≡ subcommand_of pciguest_app words
+    → Some n ≡ subcommand_name_of m → IsNoCommand n → ⊥
+no_other m words n read known none =
+    by_name (stop_name (stop_after (built pciguest_app).top.rules (names_of (built pciguest_app)) (argument_words pciguest_app words)) n (known ∙ named_by_rows (out-ArgMatches m).subcommand ∙ ap (option_map (λ (p : List ℕ × List Row). p.0)) read))
+  where
+    by_name : IsKnown n → ⊥
+    by_name (inl is) = none.demo is
+    by_name (inr (inl is)) = none.list is
+    by_name (inr (inr (inl is))) = none.check is
+    by_name (inr (inr (inr (inl is)))) = none.run is
+    by_name (inr (inr (inr (inr (inl is))))) = none.firmware is
+    by_name (inr (inr (inr (inr (inr is))))) = none.audit is
+
+-- ---- what the same values ask for
+
+board_alike : {v w : List ℕ → Option (List ℕ)} → ((id : List ℕ) → w id ≡ v id) → board_in w ≡ board_in v
+board_alike alike = ap (λ o. unwrap_or o []) (alike (codes "board"))
+
+pub asked_alike : {name : List ℕ} {o : Option (List ℕ)} {v w : List ℕ → Option (List ℕ)} → o ≡ Some name
+    → ((id : List ℕ) → w id ≡ v id) → (terminal : Bool) (c : Choice) → IsAskedBy (Some name) v terminal c
+    → IsAskedBy o w terminal c
+asked_alike same alike terminal (Help text) said = said
+asked_alike same alike terminal Demo said = same ∙ said
+asked_alike same alike terminal (Lists path) said = (same ∙ said.0, said.1 ∙ sym (board_alike alike))
+asked_alike same alike terminal (Check path plain) said = (
+  same ∙ said.0,
+  said.1 ∙ sym (board_alike alike),
+  said.2 ∙ sym (ap (λ o. is_plain o terminal) (alike (codes "plain"))),
+)
+asked_alike same alike terminal (Run path) said = (same ∙ said.0, said.1 ∙ sym (board_alike alike))
+asked_alike same alike terminal (Firmware path) said = (same ∙ said.0, said.1 ∙ sym (board_alike alike))
+asked_alike same alike terminal (Audit path) said = (same ∙ said.0, said.1 ∙ sym (board_alike alike))

@@ -1,0 +1,51 @@
+-- What the words of the command line ask for.
+--     is_plain given is_terminal      a check tells lines alone, by what is given for `--plain` and where it is written
+--     IsAskedBy name value is_terminal choice      the choice is the subcommand of this name, with what is given for its arguments
+--     IsAsked words is_terminal choice      the choice is the subcommand that the words name
+--     IsNoCommand name      the program has no subcommand of this name
+--     IsHelp, IsWork choice      the choice is help, or is none
+use Rattle.std.specs.Prelude.{◌≡◌, ◌≢◌, ℕ, Bool, false, not, ◌||◌, List, [], Option, Some, codes, unwrap_or}
+use Rattle.std.specs.Option.{option_map_or}
+use Rattle.std.specs.Str.{bytes_eq}
+use Rattle.command_line.specs.Words.{subcommand, value}
+use Rattle.command_line.specs.declared.choice.Choice.{Choice}
+use Rattle.command_line.specs.declared.choice.Choice.TheVariants.{Help, Demo, List as Lists, Check, Run, Firmware, Audit}
+
+abbrev pub is_true : Option (List ℕ) → Bool
+is_true given = option_map_or (λ t. bytes_eq t (codes "true")) given false
+
+abbrev pub is_plain : Option (List ℕ) → Bool → Bool
+is_plain given is_terminal = not is_terminal || is_true given
+
+-- the path of a board file, which is empty where none is given
+abbrev pub board_in : (List ℕ → Option (List ℕ)) → List ℕ
+board_in value = unwrap_or (value (codes "board")) []
+
+abbrev pub IsAskedBy : Option (List ℕ) → (List ℕ → Option (List ℕ)) → Bool → Choice → Type 0
+IsAskedBy name value terminal (Help text) = Unit {0}
+IsAskedBy name value terminal Demo = name ≡ Some (codes "demo")
+IsAskedBy name value terminal (Lists path) = (name ≡ Some (codes "list")) × (path.now ≡ board_in value)
+IsAskedBy name value terminal (Check path plain) =
+    (name ≡ Some (codes "check")) × (path.now ≡ board_in value) × (plain ≡ is_plain (value (codes "plain")) terminal)
+IsAskedBy name value terminal (Run path) = (name ≡ Some (codes "run")) × (path.now ≡ board_in value)
+IsAskedBy name value terminal (Firmware path) = (name ≡ Some (codes "firmware")) × (path.now ≡ board_in value)
+IsAskedBy name value terminal (Audit path) = (name ≡ Some (codes "audit")) × (path.now ≡ board_in value)
+
+abbrev pub IsAsked : List (List ℕ) → Bool → Choice → Type 0
+IsAsked words terminal choice = IsAskedBy (subcommand words) (value words) terminal choice
+
+pub record IsNoCommand (name : List ℕ) : Type 0 where
+  pub demo : name ≢ codes "demo"
+  pub list : name ≢ codes "list"
+  pub check : name ≢ codes "check"
+  pub run : name ≢ codes "run"
+  pub firmware : name ≢ codes "firmware"
+  pub audit : name ≢ codes "audit"
+
+abbrev pub IsHelp : Choice → Type 0
+IsHelp (Help text) = Unit {0}
+IsHelp _ = ⊥
+
+abbrev pub IsWork : Choice → Type 0
+IsWork (Help text) = ⊥
+IsWork _ = Unit {0}

@@ -1,0 +1,126 @@
+//! What the words of the command line ask for.
+ghost use Rattle.std.specs.Prelude.{◌≡◌, ◌⊎◌, Some, [], true, map, option_map, IfOk, IfErr, IfSome, IfNone, Err, MatchResult};
+ghost use Rattle.clap.specs.Faults.{fault_of};
+ghost use Rattle.clap.specs.Matches.{first_value, found_of};
+ghost use Rattle.clap.specs.Values.{kind_of};
+ghost use Rattle.command_line.specs.Words.{pciguest_app, is_taken};
+ghost use Rattle.command_line.specs.Choices.{is_true, IsAsked, IsAskedBy, IsNoCommand, IsWork, IsHelp};
+
+use crate::commands::command;
+use clap::error::ErrorKind;
+use clap::{ArgMatches, Error};
+use std::alloc::Global;
+use thiserror::Error;
+
+/// What the program is to do.
+#[derive(Drop)]
+pub enum Choice<'a> {
+    /// Print this text.
+    Help(String),
+    /// Run a script over the demo board.
+    Demo,
+    /// Write the report of the board file at this path.
+    List(&'a str),
+    /// Say what is wrong with the board file at this path, or that its board fits. `plain` asks for lines alone.
+    Check { path: &'a str, plain: bool },
+    /// Run a script over the board of the board file at this path.
+    Run(&'a str),
+    /// Run a session over the board of the board file at this path, at reset.
+    Firmware(&'a str),
+    /// Do the same, and then write all that is wrong in the registers as they stand.
+    Audit(&'a str),
+}
+
+/// Why words are not read.
+#[derive(Clone, Copy, Debug, PartialEq, Eq, Error)]
+pub enum WordsFault {
+    /// They are none that the program takes.
+    #[error("usage")]
+    Usage,
+    /// Out of memory.
+    #[error("memory")]
+    Memory,
+}
+
+/// The answer to words that the command line refuses.
+fn refusal<'a>(alloc: Global, error: &Error) -> Result<Choice<'a>, WordsFault>
+    ensures memory { kind_of error.now ≡ ErrorKind.OutOfMemory → result ≡ Err WordsFault.Memory }
+    ensures help { IfOk result IsHelp }
+{
+    match error.kind() {
+        ErrorKind::OutOfMemory => Err(WordsFault::Memory),
+        ErrorKind::DisplayHelp => {
+            let Ok(text) = error.to_string(alloc) else {
+                return Err(WordsFault::Memory);
+            };
+            Ok(Choice::Help(text))
+        }
+        _ => Err(WordsFault::Usage),
+    }
+}
+
+/// Whether a flag is given, by its value.
+fn is_true(given: Option<&str>) -> bool
+    ensures { result ≡ is_true (option_map (λ s. s.now) given.entry) }
+{
+    match given {
+        Some(text) => text == "true",
+        None => false,
+    }
+}
+
+/// What a subcommand asks for with what is given for it, if the program has one of that name.
+fn asked<'a>(name: &str, given: &ArgMatches<'a>, is_terminal: bool) -> Option<Choice<'a>>
+    ensures asked { IfSome result (IsAskedBy (Some name.now) (first_value (found_of given.now)) is_terminal) }
+    ensures work { IfSome result IsWork }
+    ensures none { IfNone result (IsNoCommand name.now) }
+{
+    // No words are taken that name no board.
+    let path = given.get_str("board").unwrap_or("");
+    match name {
+        "demo" => Some(Choice::Demo),
+        "list" => Some(Choice::List(path)),
+        "check" => {
+            let plain = !is_terminal || is_true(given.get_str("plain"));
+            Some(Choice::Check { path, plain })
+        }
+        "run" => Some(Choice::Run(path)),
+        "firmware" => Some(Choice::Firmware(path)),
+        "audit" => Some(Choice::Audit(path)),
+        _ => None,
+    }
+}
+
+/// What the words ask for. The first of them is the program's name. `is_terminal` tells whether what is
+/// done writes to a terminal: then a check may tell more than lines.
+///
+/// Words that the command line doesn't take are `Help` where they ask for help, and else
+/// `WordsFault::Usage`.
+pub fn choose<'a>(
+    alloc: Global,
+    words: &'a [&'a str],
+    is_terminal: bool,
+) -> Result<Choice<'a>, WordsFault>
+    ensures asked { IfOk result (IsAsked (map (λ w. w.now) words.entry.now) is_terminal) }
+    ensures only_taken { IfOk result (λ c. IsWork c → fault_of pciguest_app (map (λ w. w.now) words.entry.now) ≡ []) }
+
+    // Words that the command line takes are refused where memory is out, and nowhere else.
+    ensures taken { is_taken (map (λ w. w.now) words.entry.now) ≡ true
+        → MatchResult result IsWork (λ f. f ≡ WordsFault.Memory) }
+{
+    let Ok(command) = command(alloc) else {
+        return Err(WordsFault::Memory);
+    };
+    match command.try_get_matches_from(words) {
+        Ok(matches) => {
+            let Some((name, given)) = matches.subcommand() else {
+                return Err(WordsFault::Usage);
+            };
+            match asked(name, given, is_terminal) {
+                Some(choice) => Ok(choice),
+                None => Err(WordsFault::Usage),
+            }
+        }
+        Err(error) => refusal(alloc, &error),
+    }
+}

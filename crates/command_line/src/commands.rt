@@ -1,0 +1,136 @@
+//! The command line, as `clap` reads it.
+ghost use Rattle.std.specs.Prelude.{◌≡◌, false, codes, IfOk};
+ghost use Rattle.clap.specs.declared.builder.command.Command.TheViews.{out-Command as fields_of};
+ghost use Rattle.clap.specs.Simple.{app_of, shape_of, new_shape};
+ghost use Rattle.clap.specs.Walk.{rule_of};
+ghost use Rattle.command_line.specs.Words.{board_rule, plain_rule, list_shape, check_shape, run_shape, firmware_shape, audit_shape};
+ghost use Rattle.command_line.specs.Words.{demo_and_list_app, with_check_app, with_run_app};
+ghost use Rattle.command_line.specs.Words.{with_firmware_app, pciguest_app};
+
+use clap::{Arg, ArgAction, Command};
+use std::alloc::{AllocError, Global};
+
+/// The argument that names a board file.
+fn board<'a>(alloc: Global) -> Arg<'a>
+    ensures rule { rule_of result ≡ board_rule }
+    ensures local { result.global ≡ false }
+{
+    Arg::new(alloc, "board").required(true).help("A board file")
+}
+
+/// `demo`.
+fn demo<'a>(alloc: Global) -> Command<'a>
+    ensures shape { shape_of result ≡ new_shape (codes "demo") }
+    ensures local { (fields_of result).has_globals ≡ false }
+{
+    Command::new(alloc, "demo").about("Run the script on standard input over the demo board")
+}
+
+/// `list BOARD`.
+fn list<'a>(alloc: Global) -> Result<Command<'a>, AllocError>
+    ensures shape { IfOk result (λ c. shape_of c ≡ list_shape) }
+    ensures local { IfOk result (λ c. (fields_of c).has_globals ≡ false) }
+{
+    Command::new(alloc, "list")
+        .about("Set up the board that the file <board> declares, and report it")
+        .arg(board(alloc))
+}
+
+/// `run BOARD`.
+fn run<'a>(alloc: Global) -> Result<Command<'a>, AllocError>
+    ensures shape { IfOk result (λ c. shape_of c ≡ run_shape) }
+    ensures local { IfOk result (λ c. (fields_of c).has_globals ≡ false) }
+{
+    Command::new(alloc, "run")
+        .about("Run the script on standard input over the board that the file <board> declares")
+        .arg(board(alloc))
+}
+
+/// The flag that asks a check for lines alone.
+fn plain<'a>(alloc: Global) -> Arg<'a>
+    ensures rule { rule_of result ≡ plain_rule }
+    ensures local { result.global ≡ false }
+{
+    Arg::new(alloc, "plain")
+        .long("plain")
+        .action(ArgAction::SetTrue)
+        .help("Write a line for each problem and nothing below it")
+}
+
+/// `check [--plain] BOARD`.
+fn check<'a>(alloc: Global) -> Result<Command<'a>, AllocError>
+    ensures shape { IfOk result (λ c. shape_of c ≡ check_shape) }
+    ensures local { IfOk result (λ c. (fields_of c).has_globals ≡ false) }
+{
+    Command::new(alloc, "check")
+        .about("Say what is wrong with the board file <board>, or that its board fits")
+        .arg(plain(alloc))?
+        .arg(board(alloc))
+}
+
+/// `firmware BOARD`.
+fn firmware<'a>(alloc: Global) -> Result<Command<'a>, AllocError>
+    ensures shape { IfOk result (λ c. shape_of c ≡ firmware_shape) }
+    ensures local { IfOk result (λ c. (fields_of c).has_globals ≡ false) }
+{
+    Command::new(alloc, "firmware")
+        .about(
+            "Do what firmware asks on standard input, at the board of the file <board>, at reset",
+        )
+        .arg(board(alloc))
+}
+
+/// `audit BOARD`.
+fn audit<'a>(alloc: Global) -> Result<Command<'a>, AllocError>
+    ensures shape { IfOk result (λ c. shape_of c ≡ audit_shape) }
+    ensures local { IfOk result (λ c. (fields_of c).has_globals ≡ false) }
+{
+    Command::new(alloc, "audit")
+        .about("Do the same, and then say what is wrong in the board's registers as they stand")
+        .arg(board(alloc))
+}
+
+/// The program's command line with `demo` and `list` alone.
+fn demo_and_list<'a>(alloc: Global) -> Result<Command<'a>, AllocError>
+    ensures { IfOk result (λ c. app_of c ≡ demo_and_list_app) }
+{
+    let demo = demo(alloc);
+    let list = list(alloc)?;
+    Command::new(alloc, "pciguest")
+        .disable_help_subcommand(true)
+        .subcommand_required(true)
+        .subcommand(demo)?
+        .subcommand(list)
+}
+
+/// The same with `check`.
+fn with_check<'a>(alloc: Global) -> Result<Command<'a>, AllocError>
+    ensures { IfOk result (λ c. app_of c ≡ with_check_app) }
+{
+    let check = check(alloc)?;
+    demo_and_list(alloc)?.subcommand(check)
+}
+
+/// The same with `run`.
+fn with_run<'a>(alloc: Global) -> Result<Command<'a>, AllocError>
+    ensures { IfOk result (λ c. app_of c ≡ with_run_app) }
+{
+    let run = run(alloc)?;
+    with_check(alloc)?.subcommand(run)
+}
+
+/// The same with `firmware`.
+fn with_firmware<'a>(alloc: Global) -> Result<Command<'a>, AllocError>
+    ensures { IfOk result (λ c. app_of c ≡ with_firmware_app) }
+{
+    let firmware = firmware(alloc)?;
+    with_run(alloc)?.subcommand(firmware)
+}
+
+/// The program's command line.
+pub(crate) fn command<'a>(alloc: Global) -> Result<Command<'a>, AllocError>
+    ensures { IfOk result (λ c. app_of c ≡ pciguest_app) }
+{
+    let audit = audit(alloc)?;
+    with_firmware(alloc)?.subcommand(audit)
+}

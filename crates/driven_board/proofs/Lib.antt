@@ -1,4 +1,0 @@
-mod Declared
-mod Kept
-mod Handed
-mod Given

@@ -1,3 +1,0 @@
-pub mod Boards
-pub mod Giving
-pub mod Isolation

@@ -1,0 +1,29 @@
+-- Guests on a board that is set up: what set-up leaves is one handoff among all.
+--     world_at_first w      a world before any line, over what set-up leaves
+--     IsIsolated, SetUpIsolates      each guest's replies, and what it holds, are those of its own inputs
+--     SetUpTwoWorlds      worlds and scripts that agree on a guest's functions and inputs give it equal reply lines
+use Rattle.std.specs.Prelude.{◌≡◌, IsTrue}
+use Rattle.model_set_up.specs.SetUp.{set_up_state}
+use Rattle.model_guests.specs.Text.{Text, lines}
+use Rattle.model_guests.specs.Grammar.{has_name}
+use Rattle.model_guests.specs.World.{World, names, HasLawfulNames}
+use Rattle.model_guests.specs.Replies.{reply_lines}
+use Rattle.model_guests.specs.Guests.{guests_at_first}
+use Rattle.model_guests.specs.WorldNow.{WorldNow, world_over, output}
+use Rattle.model_guests.specs.Inputs.{inputs}
+use Rattle.model_guests.specs.Isolation.{IsDecidedBy, AgreeOn}
+
+abbrev pub world_at_first : World → WorldNow
+world_at_first w = world_over w (set_up_state w.board w.apertures)
+
+abbrev pub IsIsolated : World → Text → Text → Type 0
+IsIsolated w name script =
+    IsDecidedBy (inputs (guests_at_first w) name (lines script)) w (world_at_first w) name script
+
+abbrev pub SetUpIsolates : Type 0
+SetUpIsolates = (w : World) → HasLawfulNames w → (name script : Text) → IsTrue (has_name (names w) name)
+    → IsIsolated w name script
+
+abbrev pub SetUpTwoWorlds : Type 0
+SetUpTwoWorlds = (name : Text) (v w : World) (s t : Text) → HasLawfulNames v → HasLawfulNames w → AgreeOn name v w s t
+    → reply_lines name (output (world_at_first v) (lines s)) ≡ reply_lines name (output (world_at_first w) (lines t))

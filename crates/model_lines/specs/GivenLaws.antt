@@ -1,0 +1,59 @@
+-- What guests see of a board that was given, whoever set it up.
+--     IsGiven w s m      the guests of a world before any line, over its board as it was handed over
+--     AreAlike name m n one other      a guest is told the same of two boards, each with a script of its own, and holds
+--         the same
+--     GivenIsolated      each guest's replies, and what it holds, are those of its own inputs over its own functions
+--     GivenAlike      two boards and two scripts that agree on a guest tell it the same, and it holds the same
+--     GivenAsSetUp      each script tells each guest what it tells it after our own set-up, and guests hold the same
+--     GivenStays      along any lines the board is in order, with each region of a given function open
+--     OrderlyStays      of such a board an audit tells no problem
+use Rattle.std.specs.Prelude.{◌≡◌, List, [], IsTrue}
+use Rattle.model_board.specs.AtReset.{board_at}
+use Rattle.model_board.specs.State.{State}
+use Rattle.model_guests.specs.Text.{Text, lines}
+use Rattle.model_guests.specs.Grammar.{has_name}
+use Rattle.model_guests.specs.World.{World, names, IsLawfulWorld}
+use Rattle.model_guests.specs.Replies.{reply_lines}
+use Rattle.model_guests.specs.Guests.{guests_at_first, lone_of}
+use Rattle.model_guests.specs.WorldNow.{WorldNow, world_over, board_state, output, after_lines}
+use Rattle.model_handoff.specs.AfterSetUp.{world_at_first}
+use Rattle.model_guests.specs.Inputs.{inputs}
+use Rattle.model_guests.specs.Isolation.{IsDecidedBy, AgreeOn}
+use Rattle.model_audit.specs.Problems.{problems}
+use Rattle.model_handoff.specs.Handoffs.{IsHandoff, taken_over}
+use Rattle.model_handoff.specs.Kept.{IsLawfulOver}
+use Rattle.model_handoff.specs.Regions.{CanBeGiven}
+
+-- each given function is at reset, but for what guests have copies of, and the address latch is clear
+pub record IsGiven (w : World) (s : State) (m : WorldNow) : Type 0 where
+  pub lawful : IsLawfulWorld w
+  pub board : board_at s.functions ≡ w.board
+  pub handoff : IsHandoff s
+  pub can : CanBeGiven w s
+  pub begins : m ≡ world_over w (taken_over w s)
+
+-- of a board that was given
+abbrev pub OfGiven : (WorldNow → World → Type 0) → Type 0
+OfGiven P = (w : World) (s : State) (m : WorldNow) → IsGiven w s m → P m w
+
+abbrev pub GivenIsolated : Type 0
+GivenIsolated = OfGiven (λ m w. (name script : Text) → IsTrue (has_name (names w) name)
+    → IsDecidedBy (inputs (guests_at_first w) name (lines script)) w m name script)
+
+pub record AreAlike (name : Text) (m n : WorldNow) (one other : Text) : Type 0 where
+  pub replies : reply_lines name (output m (lines one)) ≡ reply_lines name (output n (lines other))
+  pub holds : lone_of (after_lines m (lines one)).guests name ≡ lone_of (after_lines n (lines other)).guests name
+
+abbrev pub GivenAlike : Type 0
+GivenAlike = OfGiven (λ m v. OfGiven (λ n w. (name one other : Text) → AgreeOn name v w one other
+    → AreAlike name m n one other))
+
+abbrev pub GivenAsSetUp : Type 0
+GivenAsSetUp = OfGiven (λ m w. (name script : Text) → IsTrue (has_name (names w) name)
+    → AreAlike name m (world_at_first w) script script)
+
+abbrev pub GivenStays : Type 0
+GivenStays = OfGiven (λ m w. (ls : List Text) → IsLawfulOver (after_lines m ls))
+
+abbrev pub OrderlyStays : Type 0
+OrderlyStays = (m : WorldNow) → IsLawfulOver m → problems (board_state m).functions ≡ []

@@ -1,0 +1,23 @@
+//! What is wrong in the registers of a board that guests have.
+ghost use Rattle.std.specs.Prelude.{◌≡◌, [], IfOk, map};
+ghost use Rattle.model_audit.specs.Problems.{problems};
+ghost use Rattle.model_guests.specs.WorldNow.{board_state};
+ghost use Rattle.board_audit.specs.Told.{problem_of};
+
+use crate::engine::Engine;
+use board_audit::{Problem, problems};
+use host_bridge::Route;
+use std::alloc::{AllocError, Global};
+
+impl<R: Route> Engine<R> {
+    /// All that is wrong in the registers of the board as they stand. Nothing changes. Whatever guests, their
+    /// devices and the host did, there is nothing.
+    pub fn problems(&mut self, alloc: Global) -> Result<Vec<Problem>, AllocError>
+        ensures told { IfOk result (λ v.
+            map problem_of v.items ≡ problems (board_state self.old.world).functions) }
+        ensures in_order { problems (board_state self.old.world).functions ≡ [] }
+        ensures after { self.new ≡ self.old }
+    {
+        problems(alloc, &mut self.host)
+    }
+}

@@ -1,7 +1,0 @@
-use Rattle.std.proofs.Common.{◌++◌}
-use Rattle.line_runs.proofs.Buffers.{passes}
-use Rattle.script.proofs.LineAnswers.{long_done}
-use Rattle.script.proofs.answers.MonitorAnswersScript.answer.Goals as goal
-
-pub returns-then-long-clause-after : goal.returns-then-long-clause-after
-returns-then-long-clause-after c = λ before passed. long_done c.args.self.now (before ++ c.args.line.now) (passes c.args.long before c.args.line.now c.if-long.true passed)

@@ -1,0 +1,96 @@
+-- Whatever firmware does, the board stays the one of its file, in a state that may be handed over.
+--     at_first      the board of a file, at reset
+--     IsAsked, asked_at      the board after an access, by what the code keeps of it
+use Rattle.std.proofs.Common.{◌≡◌, ◌||◌, ℕ, Bool, true, false, List, Option, None, Some, refl, sym, ap, ap₂, ◌∙◌, subst}
+use Rattle.std.specs.Option.{option_map_or}
+use Rattle.model_board.specs.AtReset.{board_at, reset_state}
+use Rattle.model_board.specs.Board.{Board}
+use Rattle.model_board.specs.State.{State}
+use Rattle.model_guests.specs.Accesses.{Reply, reads, refused, answered}
+use Rattle.model_guests.specs.Grammar.{HostTarget}
+use Rattle.model_guests.specs.Text.{Text}
+use Rattle.model_guests.specs.World.{Guest, World, IsLawfulWorld}
+use Rattle.model_lines.specs.HostAccesses.{HostAccess, fault_of, answer, after_access}
+use Rattle.model_lines.specs.Sessions.{DrivenNow, at_reset, is_done, after_board_access}
+use Rattle.model_lines.proofs.FirmwareLeaves.{access_leaves}
+use Rattle.model_lines.proofs.Written.{accesses_tell_written}
+use Rattle.model_handoff.specs.Handoffs.{IsHandoff}
+use Rattle.host_bridge.specs.HostState.{HostState}
+use Rattle.monitor.specs.Beginnings.{world_on}
+use Rattle.session.specs.Boards.{board_now, IsBoardOf}
+use Rattle.session.specs.Files.{Declares}
+use Rattle.session.specs.Hosts.{after_asked}
+
+pub at_first : (file : Text) (h : HostState) (gs : List Guest) → Declares file (world_on h gs) → IsLawfulWorld (world_on h gs)
+    → IsHandoff h.state → h.state ≡ reset_state (board_at h.state.functions) → IsBoardOf file (board_now h gs false)
+at_first file h gs declared lawful handoff reset = record {
+  declared = declared;
+  lawful = lawful;
+  handoff = handoff;
+  untouched = λ none. ap (λ (s : State). let b : DrivenNow = record { world = world_on h gs; state = s; written = false } in b) reset;
+}
+
+-- ---- an access
+
+neither : (t u : Bool) → (t || u) ≡ false → t ≡ false
+neither true u is = is
+neither false u is = refl
+
+latch_clear : (b : DrivenNow) → b ≡ at_reset b.world → b.state.latch ≡ 0
+latch_clear b is = ap (λ (x : DrivenNow). x.state.latch) is
+
+asked_of : (file : Text) (b : DrivenNow) (a : HostAccess) → IsBoardOf file b → IsBoardOf file (after_board_access b a)
+asked_of file b a was = record {
+  declared = was.declared;
+  lawful = was.lawful;
+  handoff = (access_leaves b.state was.handoff a).handoff;
+  untouched = λ none.
+      let reset : b ≡ at_reset b.world = was.untouched (neither b.written (is_done (answer b.state a)) none) in
+      accesses_tell_written b (latch_clear b reset) a none ∙ reset;
+}
+
+world_stays : (h : HostState) (gs : List Guest) (a : HostAccess) → IsHandoff h.state → world_on (after_asked h a) gs ≡ world_on h gs
+world_stays h gs a handoff =
+    ap (λ (b : Board). let w : World = record { board = b; apertures = h.apertures; guests = gs } in w) (access_leaves h.state handoff a).board
+
+now_asked : (h k : HostState) (gs : List Guest) (t u : Bool) (a : HostAccess) → IsHandoff h.state → k ≡ after_asked h a
+    → u ≡ (t || is_done (answer h.state a)) → board_now k gs u ≡ after_board_access (board_now h gs t) a
+now_asked h k gs t u a handoff after written =
+    ap₂ (λ (x : HostState) (v : Bool). board_now x gs v) after written
+    ∙ ap (λ (w : World). let b : DrivenNow = record { world = w; state = after_access h.state a; written = t || is_done (answer h.state a) } in b) (world_stays h gs a handoff)
+
+pub record IsAsked (file : Text) (h k : HostState) (gs : List Guest) (t u : Bool) (a : HostAccess) : Type 0 where
+  pub board : IsBoardOf file (board_now k gs u)
+  pub after : board_now k gs u ≡ after_board_access (board_now h gs t) a
+
+pub asked_at : (file : Text) (h k : HostState) (gs : List Guest) (t u : Bool) (a : HostAccess) → IsBoardOf file (board_now h gs t)
+    → k ≡ after_asked h a → u ≡ (t || is_done (answer h.state a)) → IsAsked file h k gs t u a
+asked_at file h k gs t u a was after written =
+    let now = now_asked h k gs t u a was.handoff after written in
+    record { board = subst (IsBoardOf file) (sym now) (asked_of file (board_now h gs t) a was); after = now }
+
+-- ---- what was written
+
+none_more : (t u : Bool) → u ≡ false → t ≡ (t || u)
+none_more true u none = refl
+none_more false u none = sym none
+
+one_more : (t u : Bool) → u ≡ true → true ≡ (t || u)
+one_more true u one = refl
+one_more false u one = sym one
+
+answers_no_write : (f : Option ℕ) (v w : ℕ) → is_done (option_map_or refused f (answered v w)) ≡ false
+answers_no_write None v w = refl
+answers_no_write (Some n) v w = refl
+
+pub read_writes_none : (t : Bool) (s : State) (w : ℕ) (at : HostTarget) → let a : HostAccess = record { target = at; width = w; op = reads } in t ≡ (t || is_done (answer s a))
+read_writes_none t s w at =
+    let a : HostAccess = record { target = at; width = w; op = reads } in
+    none_more t (is_done (answer s a)) (answers_no_write (fault_of a) _ w)
+
+-- by the reply to a write
+pub written_by : (t : Bool) (s : State) (a : HostAccess) (r : Reply) → r ≡ answer s a → is_done r ≡ true → true ≡ (t || is_done (answer s a))
+written_by t s a r reply one = one_more t (is_done (answer s a)) (ap is_done (sym reply) ∙ one)
+
+pub unwritten_by : (t : Bool) (s : State) (a : HostAccess) (r : Reply) → r ≡ answer s a → is_done r ≡ false → t ≡ (t || is_done (answer s a))
+unwritten_by t s a r reply none = none_more t (is_done (answer s a)) (ap is_done (sym reply) ∙ none)

@@ -1,0 +1,7 @@
+pub mod Files
+pub mod Faults
+pub mod Hosts
+pub mod Boards
+pub mod Stages
+pub mod Tellings
+pub mod Lending

@@ -1,0 +1,49 @@
+-- How far a session came, in the program's words.
+--     session_now stage      the session
+--     IsAtLine stage      what holds of it between lines: it is not within a handover
+--     board_in x, machine_in x      the board, where firmware drives it, and the guests, where they have it
+--     IsDriven x, IsGiven x      which of the two it is
+--     asks_audit, asks_guests      what a line asks for
+use Rattle.std.specs.Prelude.{Bool, true, false, [], Option, None, Some, IsSome, ⊤}
+use Rattle.model_handoff.specs.Changes.{MachineNow}
+use Rattle.model_lines.specs.Sessions.{DrivenNow, SessionNow, driven, given}
+use Rattle.session.specs.declared.asking.Asked.{Asked}
+use Rattle.session.specs.declared.asking.Asked.TheVariants.{Access, Audit, Handover}
+use Rattle.session.specs.declared.stage.Stage.{Stage}
+use Rattle.session.specs.declared.stage.Stage.TheVariants.{Driven, Given, Between}
+
+-- within a handover there is no session
+abbrev pub session_now : Stage → SessionNow
+session_now (Driven b) = driven b
+session_now (Given m) = given m
+session_now Between =
+    given (record { world = record { handoff = record { functions = []; latch = 0 }; guests = [] }; counts = [] })
+
+abbrev pub IsAtLine : Stage → Type 0
+IsAtLine (Driven b) = ⊤
+IsAtLine (Given m) = ⊤
+IsAtLine Between = ⊥
+
+abbrev pub board_in : SessionNow → Option DrivenNow
+board_in (driven b) = Some b
+board_in (given m) = None
+
+abbrev pub machine_in : SessionNow → Option MachineNow
+machine_in (driven b) = None
+machine_in (given m) = Some m
+
+abbrev pub IsDriven : SessionNow → Type 0
+IsDriven x = IsSome (board_in x)
+
+abbrev pub IsGiven : SessionNow → Type 0
+IsGiven x = IsSome (machine_in x)
+
+abbrev pub asks_audit : Asked → Bool
+asks_audit Access = false
+asks_audit Audit = true
+asks_audit Handover = false
+
+abbrev pub asks_guests : Asked → Bool
+asks_guests Access = false
+asks_guests Audit = false
+asks_guests Handover = true

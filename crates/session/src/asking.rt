@@ -1,0 +1,37 @@
+//! What a line of a session asks for.
+ghost use Rattle.std.specs.Prelude.{◌≡◌, ◌++◌};
+ghost use Rattle.model_guests.specs.Text.{Text};
+ghost use Rattle.model_lines.specs.Sessions.{is_audit, is_handover};
+ghost use Rattle.line_runs.specs.Pieces.{IsBefore};
+ghost use Rattle.session.specs.Stages.{asks_audit, asks_guests};
+
+use lines::host_word;
+
+/// What a line asks for, while firmware drives the board.
+#[derive(Clone, Copy)]
+pub(crate) enum Asked {
+    /// Whatever a line of firmware asks.
+    Access,
+    Audit,
+    Handover,
+}
+
+/// What a line asks for, which may be given without its line feed. If `long`, bytes of it were passed over.
+pub(crate) fn asked_by(line: &[u8], long: bool) -> Asked
+    ensures audit { (before : Text) → IsBefore long before → is_audit (before ++ line.now) ≡ asks_audit result }
+    ensures guests { (before : Text) → IsBefore long before → is_handover (before ++ line.now) ≡ asks_guests result }
+{
+    if long {
+        return Asked::Access;
+    }
+    let Some(word) = host_word(line) else {
+        return Asked::Access;
+    };
+    if word == b"audit".as_slice() {
+        return Asked::Audit;
+    }
+    if word == b"guests".as_slice() {
+        return Asked::Handover;
+    }
+    Asked::Access
+}

@@ -1,0 +1,218 @@
+//! A board that firmware drives.
+ghost use Rattle.std.specs.Prelude.{◌≡◌, ◌≢◌, ◌≤◌, ◌++◌, ◌∷◌, [], false, not, codes, length};
+ghost use Rattle.std.specs.Prelude.{MatchOption, IfOk, IfErr, IfSome, string_bytes};
+ghost use Rattle.std.specs.Bool.{OnTrue};
+ghost use Rattle.model_guests.specs.Accesses.{reads, writes};
+ghost use Rattle.model_guests.specs.Replies.{reply_text};
+ghost use Rattle.model_guests.specs.Text.{Text};
+ghost use Rattle.model_guests.specs.World.{IsLawfulWorld};
+ghost use Rattle.model_audit.specs.AuditText.{audit};
+ghost use Rattle.model_audit.specs.Problems.{problems};
+ghost use Rattle.model_handoff.specs.Changes.{BeginsIn};
+ghost use Rattle.model_lines.specs.HostAccesses.{answer};
+ghost use Rattle.model_lines.specs.FirmwareLines.{line_output};
+ghost use Rattle.model_lines.specs.GivenLaws.{IsGiven};
+ghost use Rattle.model_lines.specs.Sessions.{at_reset, after_board_access, after_board_line};
+ghost use Rattle.accesses.specs.Accesses.{reply_of};
+ghost use Rattle.accesses.specs.Replies.{IsRefusal, IsShown};
+ghost use Rattle.lines.specs.FirmwareLines.{host_asked};
+ghost use Rattle.line_runs.specs.Pieces.{IsBefore};
+ghost use Rattle.board_file.specs.declared.fault.BoardFault.TheVariants.{Memory};
+ghost use Rattle.board_file.specs.Faults.{number_of as file_number};
+ghost use Rattle.session.specs.Boards.{IsRefusalOf};
+ghost use Rattle.session.specs.Faults.{OnFile, OnSetUp};
+ghost use Rattle.session.specs.Files.{Declares, Refuses, BreaksRule, IsAtFirst};
+
+use crate::accessing;
+use crate::audit::Audit;
+use crate::opening::{self, OpenFault};
+use accesses::{GuestDecl, HostAccess, Refusal, Reply};
+use board_audit::problems;
+use board_file::{BoardFault, read_board};
+use host_bridge::Host;
+use lines::{FirmwareWhat, LineText, firmware_meaning, push_named};
+use monitor::{Monitor, Refused};
+use std::alloc::{AllocError, Global};
+use std::marker::Model;
+
+/// The board that a board file declares, from reset on, with the bytes and the guests of the file. Whether a
+/// write was done since reset is kept, so that our own set-up runs on a board at reset alone.
+#[derive(Drop)]
+pub struct Board {
+    file: Vec<u8>,
+    host: Host,
+    guests: Vec<GuestDecl>,
+    written: bool,
+}
+
+impl Model for Board {
+    ghost use Rattle.model_lines.specs.Sessions.{DrivenNow};
+    ghost use Rattle.session.specs.Boards.{board_now, IsBoardOf};
+
+    ghost Value = { DrivenNow };
+
+    ghost view = { λ b. board_now b.host b.guests.items b.written };
+
+    ghost invariant = { λ b. IsBoardOf b.file.items (board_now b.host b.guests.items b.written) };
+}
+
+impl Board {
+    /// The board of a board file, at reset. The guests of the file are checked and kept, and no function is
+    /// given to them. Refused are the file (101 to 112) and lack of memory (199).
+    pub fn open(alloc: Global, file: &[u8]) -> Result<Board, BoardFault>
+        ensures declared { IfOk result (λ b. Declares file.now b.world) }
+        ensures lawful { IfOk result (λ b. IsLawfulWorld b.world) }
+        ensures reset { IfOk result (λ b. b ≡ at_reset b.world) }
+        ensures refused { IfErr result (λ f. f ≢ Memory → Refuses file.now (file_number f)) }
+    {
+        let (host, guests) = read_board(alloc, file)?;
+        let Ok(kept) = Vec::from_slice(alloc, file) else {
+            return Err(BoardFault::Memory);
+        };
+        Ok(Board {
+            file: kept,
+            host,
+            guests,
+            written: false,
+        })
+    }
+
+    /// Whether the board is at reset, as no write was done on it.
+    pub fn is_at_reset(&self) -> bool
+        ensures untouched { result ≡ not self.now.written }
+        ensures reset { OnTrue result (self.now ≡ at_reset self.now.world) }
+    {
+        !self.written
+    }
+
+    /// Answers a read of firmware, or refuses it and changes nothing. No memory is taken.
+    pub fn read(&mut self, from: HostAccess) -> Reply
+        ensures reply { reply_of result ≡ answer self.old.state (host_asked from reads) }
+        ensures after { self.new ≡ after_board_access self.old (host_asked from reads) }
+        ensures shown { IsShown result }
+        ensures refused { IsRefusal result → self.new ≡ self.old }
+    {
+        accessing::read(&mut self.host, from)
+    }
+
+    /// Writes as firmware does, or refuses the write and changes nothing. No memory is taken.
+    pub fn write(&mut self, to: HostAccess, value: u32) -> Reply
+        ensures reply { reply_of result ≡ answer self.old.state (host_asked to (writes value)) }
+        ensures after { self.new ≡ after_board_access self.old (host_asked to (writes value)) }
+        ensures shown { IsShown result }
+        ensures refused { IsRefusal result → self.new ≡ self.old }
+    {
+        let reply = accessing::write(&mut self.host, to, value);
+        if matches!(reply, Reply::Done) {
+            self.written = true;
+        }
+        reply
+    }
+
+    /// Runs the event of a line, and gives under which name it is answered and with what, if the line makes
+    /// output.
+    fn reply_to(&mut self, line: &[u8]) -> Option<(&'static [u8], Reply)>
+        ensures text { MatchOption result (line_output self.old.state line.now ≡ []) (λ a.
+            line_output self.old.state line.now ≡ a.0.now ++ codes ": " ++ reply_text (reply_of a.1) ++ 10 ∷ []) }
+        ensures after { self.new ≡ after_board_line self.old line.now }
+        ensures short { IfSome result (λ a. length a.0.now ≤ 16) }
+        ensures shown { IfSome result (λ a. IsShown a.1) }
+    {
+        match firmware_meaning(line) {
+            FirmwareWhat::Nothing => None,
+            FirmwareWhat::Read(from) => {
+                let reply = self.read(from);
+                Some((b"host", reply))
+            }
+            FirmwareWhat::Write(to, value) => {
+                let reply = self.write(to, value);
+                Some((b"host", reply))
+            }
+            FirmwareWhat::NoForm => Some((b"host", Reply::Refused(Refusal::BadLine))),
+            FirmwareWhat::NotOfHost(why) => Some((b"?", Reply::Refused(why))),
+        }
+    }
+
+    /// Runs the event of a line, and writes what the line writes into an empty text.
+    fn push_answer(&mut self, line: &[u8], text: &mut LineText)
+        requires { text.old.items ≡ [] }
+        ensures text { text.new.items ≡ line_output self.old.state line.now }
+        ensures after { self.new ≡ after_board_line self.old line.now }
+    {
+        let Some((name, reply)) = self.reply_to(line) else {
+            return;
+        };
+        push_named(text, name, reply);
+    }
+
+    /// Runs a line of firmware, which is given without its line feed, and writes what the line writes into an
+    /// empty text: nothing, or one line with its line feed. If `long`, bytes of the line were passed over. No
+    /// memory is taken.
+    pub(crate) fn answer_line(&mut self, line: &[u8], long: bool, text: &mut LineText)
+        requires { text.old.items ≡ [] }
+        ensures text { (before : Text) → IsBefore long before →
+            text.new.items ≡ line_output self.old.state (before ++ line.now) }
+        ensures after { (before : Text) → IsBefore long before →
+            self.new ≡ after_board_line self.old (before ++ line.now) }
+    {
+        // No event runs, and all such lines write the same.
+        if long {
+            push_named(text, b"?", Reply::Refused(Refusal::LongLine));
+            return;
+        }
+        self.push_answer(line, text);
+    }
+
+    /// What our own set-up makes of this board, which is at reset: a board that is set up, with its functions
+    /// given to the guests of the file. It reads the file once more, so this board stays as it is, whatever
+    /// comes of it. Refused are the board (201 to 205) and lack of memory (199 or 299).
+    pub fn set_up(&self, alloc: Global) -> Result<Monitor, OpenFault>
+        requires { self.now.written ≡ false }
+        ensures made { IfOk result (BeginsIn (IsAtFirst self.now.world)) }
+        ensures placement { IfErr result (OnSetUp (BreaksRule self.now.world)) }
+        ensures accepted { IfErr result (OnFile (λ _. ⊥)) }
+    {
+        opening::open(alloc, &self.file)
+    }
+
+    /// Gives the functions of this board to the guests of its file, as the board stands, whoever set it up.
+    /// Each given function is reset first, but for what guests have copies of, and the address latch is
+    /// cleared. Refused are a problem that the audit tells (207), a closed region of a given function (206),
+    /// and lack of memory (299): then the board is given back as it was.
+    pub fn hand_over(self, alloc: Global) -> Result<Monitor, Refused<Board>>
+        ensures given { IfOk result (BeginsIn (IsGiven self.world self.state)) }
+        ensures kept { IfErr result (λ r. r.board ≡ self) }
+        ensures refused { IfErr result (λ r. IsRefusalOf self r.fault) }
+    {
+        let Board {
+            file,
+            host,
+            guests,
+            written,
+        } = self;
+        match Monitor::hand_over(alloc, host, &guests) {
+            Ok(monitor) => Ok(monitor),
+            Err(refused) => {
+                let Refused { board: host, fault } = refused;
+                let board = Board {
+                    file,
+                    host,
+                    guests,
+                    written,
+                };
+                Err(Refused { board, fault })
+            }
+        }
+    }
+
+    /// All that is wrong in the registers as they stand, whoever wrote them. Nothing changes, also where memory
+    /// is out.
+    pub fn audit(&mut self, alloc: Global) -> Result<Audit, AllocError>
+        ensures text { IfOk result (λ a. string_bytes a.text ≡ audit self.old.state.functions) }
+        ensures problems { IfOk result (λ a. a.problems ≡ length (problems self.old.state.functions)) }
+        ensures after { self.new ≡ self.old }
+    {
+        let found = problems(alloc, &mut self.host)?;
+        Audit::of(alloc, &found)
+    }
+}

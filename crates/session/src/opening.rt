@@ -1,0 +1,66 @@
+//! The board of a board file that our own set-up sets up, with its guests.
+ghost use Rattle.std.specs.Prelude.{◌≡◌, IfOk, IfErr};
+ghost use Rattle.model_handoff.specs.Changes.{BeginsIn};
+ghost use Rattle.session.specs.declared.opening.OpenFault.TheVariants.{File, SetUp};
+ghost use Rattle.session.specs.Faults.{number_of, OnFile, OnSetUp};
+ghost use Rattle.session.specs.Files.{Refuses, Breaks, IsOpened};
+
+use board_file::{BoardFault, read_board};
+use monitor::Monitor;
+use std::alloc::Global;
+use thiserror::Error;
+use window_packing::set_up;
+
+/// Why the board of a board file is not set up.
+#[derive(Clone, Copy, Debug, PartialEq, Eq, Error)]
+pub enum OpenFault {
+    /// The board file is refused (101 to 112), or memory was out while it was read (199).
+    #[error(transparent)]
+    File(BoardFault),
+    /// Its board can't be set up (201 to 205), or memory was out while it was made, set up or given to
+    /// guests (299).
+    #[error(transparent)]
+    SetUp(bus_scan::Fault),
+}
+
+impl OpenFault {
+    /// The number of the fault.
+    pub fn number(self) -> u16
+        ensures { result ≡ number_of self }
+    {
+        match self {
+            OpenFault::File(fault) => fault.number(),
+            OpenFault::SetUp(fault) => fault.number(),
+        }
+    }
+}
+
+impl From<BoardFault> for OpenFault {
+    ghost from_gives = { λ b f. f ≡ File b };
+
+    fn from(fault: BoardFault) -> OpenFault {
+        OpenFault::File(fault)
+    }
+}
+
+impl From<bus_scan::Fault> for OpenFault {
+    ghost from_gives = { λ s f. f ≡ SetUp s };
+
+    fn from(fault: bus_scan::Fault) -> OpenFault {
+        OpenFault::SetUp(fault)
+    }
+}
+
+/// Sets up the board that a board file declares, and gives its functions to the guests of the file.
+///
+/// Refused are the file (101 to 112), its board (201 to 205), and lack of memory (199 or 299).
+pub fn open(alloc: Global, file: &[u8]) -> Result<Monitor, OpenFault>
+    ensures opened { IfOk result (BeginsIn (IsOpened file.now)) }
+    ensures file { IfErr result (OnFile (Refuses file.now)) }
+    ensures placement { IfErr result (OnSetUp (Breaks file.now)) }
+{
+    let (host, guests) = read_board(alloc, file)?;
+    let ready = set_up(alloc, host)?;
+    let monitor = Monitor::new(alloc, ready, &guests)?;
+    Ok(monitor)
+}

@@ -1,0 +1,226 @@
+//! A session over a board.
+ghost use Rattle.std.specs.Prelude.{◌≡◌, ◌≢◌, ◌++◌, [], ⊤, length, option_map, string_bytes, is_some};
+ghost use Rattle.std.specs.Prelude.{IfOk, IfErr, IfSome, OnOk, OnErr};
+ghost use Rattle.std.specs.Borrow.{sem};
+ghost use Rattle.std.specs.Option.{option_copied_mut};
+ghost use Rattle.model_guests.specs.Text.{Text};
+ghost use Rattle.model_guests.specs.World.{World, IsLawfulWorld};
+ghost use Rattle.model_audit.specs.AuditText.{audit};
+ghost use Rattle.model_audit.specs.Problems.{problems};
+ghost use Rattle.model_lines.specs.Sessions.{driven, given, at_reset, session_functions, session_protocol};
+ghost use Rattle.model_lines.specs.Sessions.{session_output, after_session_line};
+ghost use Rattle.line_runs.specs.Pieces.{IsBefore, with_more};
+ghost use Rattle.board_file.specs.declared.fault.BoardFault.TheVariants.{Memory};
+ghost use Rattle.board_file.specs.Faults.{number_of as file_number};
+ghost use Rattle.session.specs.Files.{Declares, Refuses};
+ghost use Rattle.session.specs.Stages.{board_in, machine_in, IsDriven, IsGiven};
+
+use crate::asking::{Asked, asked_by};
+use crate::audit::Audit;
+use crate::board::Board;
+use crate::stage::{Stage, hand_over};
+use board_file::BoardFault;
+use line_runs::Answers;
+use lines::LineText;
+use monitor::Monitor;
+use std::alloc::{AllocError, Global};
+use std::marker::Model;
+
+/// A board with those who may get it as its guests: as firmware drives it, and once it is handed over, as its
+/// guests have it.
+#[derive(Drop)]
+pub struct Session {
+    alloc: Global,
+    stage: Stage,
+}
+
+impl Model for Session {
+    ghost use Rattle.model_lines.specs.Sessions.{SessionNow};
+    ghost use Rattle.session.specs.Stages.{session_now, IsAtLine};
+
+    ghost Value = { SessionNow };
+
+    ghost view = { λ s. session_now s.stage };
+
+    ghost invariant = { λ s. IsAtLine s.stage };
+}
+
+impl Session {
+    ghost use Rattle.session.specs.Lending.{LendsBoard, LendsMonitor};
+
+    /// A session over the board of a board file, at reset. Refused are the file (101 to 112) and lack of
+    /// memory (199).
+    pub fn open(alloc: Global, file: &[u8]) -> Result<Session, BoardFault>
+        ensures reset { IfOk result (λ x.
+            (w : World) × Declares file.now w × IsLawfulWorld w × (x ≡ driven (at_reset w))) }
+        ensures refused { IfErr result (λ f. f ≢ Memory → Refuses file.now (file_number f)) }
+    {
+        let board = Board::open(alloc, file)?;
+        Ok(Session::over(alloc, board))
+    }
+
+    /// A session over a board that firmware drives.
+    pub fn over(alloc: Global, board: Board) -> Session
+        ensures { result ≡ driven board }
+    {
+        Session {
+            alloc,
+            stage: Stage::Driven(board),
+        }
+    }
+
+    /// A session over a board that is given to its guests.
+    pub fn of(alloc: Global, monitor: Monitor) -> Session
+        ensures { result ≡ given monitor }
+    {
+        Session {
+            alloc,
+            stage: Stage::Given(monitor),
+        }
+    }
+
+    /// Whether firmware drives the board, and no guest has it.
+    pub fn is_driven(&self) -> bool
+        ensures { result ≡ is_some (board_in self.now) }
+    {
+        matches!(self.stage, Stage::Driven(_))
+    }
+
+    /// Lends the board, where firmware drives it.
+    pub fn board(&mut self) -> Option<&mut Board>
+        ensures* lends { sem 𝓛 (LendsBoard self.entry result) }
+        ensures board { option_copied_mut result ≡ board_in self.old }
+    {
+        match &mut self.stage {
+            Stage::Driven(board) => Some(board),
+            _ => None,
+        }
+    }
+
+    /// Lends the guests with their board, where they have it.
+    pub fn monitor(&mut self) -> Option<&mut Monitor>
+        ensures* lends { sem 𝓛 (LendsMonitor self.entry result) }
+        ensures machine { option_copied_mut result ≡ machine_in self.old }
+    {
+        match &mut self.stage {
+            Stage::Given(monitor) => Some(monitor),
+            _ => None,
+        }
+    }
+
+    /// The board, where firmware drives it; else the session again.
+    pub fn into_board(self) -> Result<Board, Session>
+        ensures board { IfOk result (λ b. self ≡ driven b) }
+        ensures kept { IfErr result (λ x. x ≡ self) }
+        ensures given { IfErr result IsGiven }
+    {
+        match self.stage {
+            Stage::Driven(board) => Ok(board),
+            Stage::Given(monitor) => Err(Session::of(self.alloc, monitor)),
+            Stage::Between => unreachable!(),
+        }
+    }
+
+    /// The guests with their board, where they have it; else the session again.
+    pub fn into_monitor(self) -> Result<Monitor, Session>
+        ensures machine { IfOk result (λ m. self ≡ given m) }
+        ensures kept { IfErr result (λ x. x ≡ self) }
+        ensures driven { IfErr result IsDriven }
+    {
+        match self.stage {
+            Stage::Driven(board) => Err(Session::over(self.alloc, board)),
+            Stage::Given(monitor) => Ok(monitor),
+            Stage::Between => unreachable!(),
+        }
+    }
+
+    /// All that is wrong in the registers of the board as they stand, whoever wrote them. Nothing changes, also
+    /// where memory is out.
+    pub fn audit(&mut self, alloc: Global) -> Result<Audit, AllocError>
+        ensures text { IfOk result (λ a. string_bytes a.text ≡ audit (session_functions self.old)) }
+        ensures problems { IfOk result (λ a. a.problems ≡ length (problems (session_functions self.old))) }
+        ensures after { self.new ≡ self.old }
+    {
+        match &mut self.stage {
+            Stage::Driven(board) => board.audit(alloc),
+            Stage::Given(monitor) => {
+                let found = monitor.problems(alloc)?;
+                Audit::of(alloc, &found)
+            }
+            Stage::Between => unreachable!(),
+        }
+    }
+
+    /// Answers a line of the session, of which bytes were passed over if `long`.
+    fn answer_line(
+        &mut self,
+        line: &[u8],
+        long: bool,
+        text: &mut LineText,
+    ) -> Result<Option<String>, AllocError>
+        requires { text.old.items ≡ [] }
+        ensures text { IfOk result (λ more. (before : Text) → IsBefore long before →
+            with_more text.new.items (option_map string_bytes more) ≡ session_output self.old (before ++ line.now)) }
+        ensures after { OnOk result ((before : Text) → IsBefore long before →
+            self.new ≡ after_session_line self.old (before ++ line.now)) }
+        ensures more { IfOk result (λ more. IfSome more (λ _. self.new ≡ self.old)) }
+        ensures kept { OnErr result ((self.new ≡ self.old) × (text.new ≡ text.old)) }
+    {
+        match &mut self.stage {
+            Stage::Given(monitor) => {
+                script::answer_line(monitor, line, long, text);
+                Ok(None)
+            }
+            Stage::Driven(board) => match asked_by(line, long) {
+                Asked::Access => {
+                    board.answer_line(line, long, text);
+                    Ok(None)
+                }
+                Asked::Audit => {
+                    let told = board.audit(self.alloc)?;
+                    Ok(Some(told.text))
+                }
+                Asked::Handover => hand_over(self.alloc, &mut self.stage, text),
+            },
+            Stage::Between => unreachable!(),
+        }
+    }
+
+    /// Runs a line, which is given without its line feed, and writes what the line writes into an empty text:
+    /// nothing, or one line with its line feed. What is longer is given behind it, and then the session is as it
+    /// was: it is the text of an audit, or of a handover that is refused. Where memory is out, no event runs and
+    /// nothing is written.
+    pub fn run_line(
+        &mut self,
+        line: &[u8],
+        text: &mut LineText,
+    ) -> Result<Option<String>, AllocError>
+        requires { text.old.items ≡ [] }
+        ensures text { IfOk result (λ more.
+            with_more text.new.items (option_map string_bytes more) ≡ session_output self.old line.now) }
+        ensures after { OnOk result (self.new ≡ after_session_line self.old line.now) }
+        ensures more { IfOk result (λ more. IfSome more (λ _. self.new ≡ self.old)) }
+        ensures kept { OnErr result ((self.new ≡ self.old) × (text.new ≡ text.old)) }
+    {
+        self.answer_line(line, false, text)
+    }
+}
+
+/// The language of sessions: firmware's lines, those that ask for an audit, the one that hands the board over, and
+/// then a script's.
+pub struct SessionLines;
+
+impl Answers<SessionLines> for Session {
+    ghost protocol = { session_protocol };
+
+    ghost TakesMemory = { ⊤ };
+
+    fn answer(
+        &mut self,
+        line: &[u8],
+        long: bool,
+        text: &mut LineText,
+    ) -> Result<Option<String>, AllocError> {
+        self.answer_line(line, long, text)
+    }
+}

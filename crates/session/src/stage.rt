@@ -1,0 +1,60 @@
+//! How far a session came.
+ghost use Rattle.std.specs.Prelude.{◌≡◌, ◌++◌, [], option_map, string_bytes, IfOk, OnOk, OnErr, IfSome, IsTrue};
+ghost use Rattle.model_guests.specs.Text.{Text};
+ghost use Rattle.model_lines.specs.Sessions.{is_handover, session_output, after_session_line};
+ghost use Rattle.line_runs.specs.Pieces.{with_more};
+ghost use Rattle.session.specs.Stages.{session_now, IsAtLine, IsDriven};
+
+use crate::board::Board;
+use crate::telling::handover_refusal;
+use accesses::Reply;
+use lines::{LineText, push_named};
+use monitor::{Monitor, Refused};
+use std::alloc::{AllocError, Global};
+use std::mem;
+
+/// How far a session came.
+#[derive(Drop)]
+pub(crate) enum Stage {
+    /// Firmware drives the board, which is given to no guest.
+    Driven(Board),
+    /// The board is given to its guests.
+    Given(Monitor),
+    /// Within a handover, and never between lines.
+    Between,
+}
+
+/// Hands the board to its guests, and writes that it did; or tells why it doesn't, and leaves it as it was.
+pub(crate) fn hand_over(
+    alloc: Global,
+    stage: &mut Stage,
+    text: &mut LineText,
+) -> Result<Option<String>, AllocError>
+    requires driven { IsDriven (session_now stage.old) }
+    requires at_line { IsAtLine stage.old }
+    requires empty { text.old.items ≡ [] }
+    ensures text { IfOk result (λ more. (line : Text) → IsTrue (is_handover line) →
+        with_more text.new.items (option_map string_bytes more) ≡ session_output (session_now stage.old) line) }
+    ensures after { OnOk result ((line : Text) → IsTrue (is_handover line) →
+        session_now stage.new ≡ after_session_line (session_now stage.old) line) }
+    ensures more { IfOk result (λ more. IfSome more (λ _. session_now stage.new ≡ session_now stage.old)) }
+    ensures kept { OnErr result ((stage.new ≡ stage.old) × (text.new ≡ text.old)) }
+    ensures at_line { IsAtLine stage.new }
+{
+    let Stage::Driven(board) = mem::replace(stage, Stage::Between) else {
+        unreachable!()
+    };
+    match board.hand_over(alloc) {
+        Ok(monitor) => {
+            *stage = Stage::Given(monitor);
+            push_named(text, b"host", Reply::Done);
+            Ok(None)
+        }
+        Err(refused) => {
+            let Refused { board, fault } = refused;
+            *stage = Stage::Driven(board);
+            let told = handover_refusal(alloc, &fault)?;
+            Ok(Some(told))
+        }
+    }
+}

@@ -1,0 +1,55 @@
+//! What a session writes where it doesn't hand its board over.
+ghost use Rattle.std.specs.Prelude.{◌≡◌, ◌++◌, OnOk, IfOk, IfSome, IsSome, string_bytes};
+ghost use Rattle.model_lines.specs.Sessions.{closed_text, refused_line, handover_output};
+ghost use Rattle.report.specs.Found.{ended};
+ghost use Rattle.monitor.specs.Handovers.{number_of, words_of, handoff_fault};
+ghost use Rattle.session.specs.Tellings.{cause_text};
+
+use audit_text::push_problem;
+use monitor::{ClosedRegion, HandoverFault};
+use report::push_path;
+use std::alloc::{AllocError, Global};
+
+/// Appends the line of a closed region.
+fn push_closed(text: &mut String, closed: &ClosedRegion) -> Result<(), AllocError>
+    ensures { OnOk result (string_bytes text.new ≡ string_bytes text.old ++ ended (closed_text closed.now)) }
+{
+    text.push_str("closed: ")?;
+    push_path(text, &closed.path)?;
+    let index = closed.region.index;
+    writeln!(text, " bar{index}")
+}
+
+/// Appends the line of what stands in the way of a handover, unless memory does.
+fn push_cause(text: &mut String, fault: &HandoverFault) -> Result<(), AllocError>
+    ensures line { OnOk result (IfSome (handoff_fault fault.now) (λ told.
+        string_bytes text.new ≡ string_bytes text.old ++ ended (cause_text told))) }
+    ensures told { OnOk result (IsSome (handoff_fault fault.now)) }
+{
+    match fault {
+        HandoverFault::NotInOrder(problem) => push_problem(text, problem),
+        HandoverFault::Closed(closed) => push_closed(text, closed),
+        HandoverFault::Memory => Err(AllocError),
+    }
+}
+
+/// Appends the line of a refusal.
+fn push_refusal(text: &mut String, fault: &HandoverFault) -> Result<(), AllocError>
+    ensures { OnOk result (string_bytes text.new
+        ≡ string_bytes text.old ++ ended (refused_line (number_of fault.now) (words_of fault.now))) }
+{
+    let number = fault.number();
+    let words = fault.words();
+    writeln!(text, "host: refused {number} {words}")
+}
+
+/// What is written of a fault, unless memory is out.
+pub(crate) fn handover_refusal(alloc: Global, fault: &HandoverFault) -> Result<String, AllocError>
+    ensures text { IfOk result (λ t. string_bytes t ≡ handover_output (handoff_fault fault.now)) }
+    ensures told { IfOk result (λ _. IsSome (handoff_fault fault.now)) }
+{
+    let mut text = String::new(alloc);
+    push_cause(&mut text, fault)?;
+    push_refusal(&mut text, fault)?;
+    Ok(text)
+}

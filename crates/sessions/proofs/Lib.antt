@@ -1,2 +1,0 @@
-pub mod DrivenBoards
-pub mod Refusals
