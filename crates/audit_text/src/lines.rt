@@ -9,7 +9,7 @@ ghost use Rattle.board_audit.specs.Told.{problem_of};
 ghost use Rattle.report.specs.Found.{ended};
 
 use bars::Space;
-use board_audit::{Agent, RegionNow, Problem};
+use board_audit::{Agent, Problem, RegionNow};
 use paths::{Bdf, Path};
 use report::push_path;
 use std::alloc::AllocError;

@@ -7,7 +7,7 @@ use Rattle.model_registers.specs.ByteEnables.{lanes}
 use Rattle.model_registers.specs.Decoding.{io, memory}
 use Rattle.model_board.specs.Paths.{Path}
 use Rattle.model_board.specs.State.{BoardFunction, with_file}
-use Rattle.model_set_up.specs.Examples.{main_board_with, memory_bridge, main_apertures}
+use Rattle.model_board.specs.Examples.{main_board_with, memory_bridge, main_apertures}
 use Rattle.model_set_up.specs.SetUp.{set_up_state}
 use Rattle.model_guests.specs.Text.{text_of_lines}
 use Rattle.model_audit.specs.Examples.{card_at, on_root, behind, at_bus}

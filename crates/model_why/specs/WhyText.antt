@@ -12,7 +12,7 @@ use Rattle.model_board.specs.Claims.{Claim}
 use Rattle.model_board.specs.Cycles.{BusAddress}
 use Rattle.model_guests.specs.Text.{Text, text_of_lines}
 use Rattle.model_guests.specs.Replies.{hex_digits}
-use Rattle.model_guests.specs.Report.{hexadecimal, part_text, path_text}
+use Rattle.model_guests.specs.PathTexts.{hexadecimal, part_text, path_text}
 use Rattle.model_audit.specs.AuditText.{register_text, region_text, space_text, number_text}
 use Rattle.model_why.specs.Why.{WindowNow, spans, is_shut, Hindrance, closes, misses, Cause, answers_too, closed_by}
 use Rattle.model_why.specs.Why.{stopped_at, Told, Why, why}
