@@ -1,1 +1,2 @@
-pub mod Prefetching
+pub mod BridgesAbove
+pub mod Indexed

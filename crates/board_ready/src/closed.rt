@@ -1,9 +1,8 @@
 //! Regions whose space Command doesn't open (PCI Local Bus 3.0, chapter 6.2.2).
-ghost use Rattle.std.specs.Prelude.{◌≡◌, ◌++◌, not, map, filter, OnOk};
-ghost use Rattle.model_registers.specs.Decoding.{opens_space};
-ghost use Rattle.model_audit.specs.OpenRegions.{region_now, closed_of, closed_regions};
+ghost use Rattle.std.specs.Prelude.{◌≡◌, ◌++◌, map, OnOk};
+ghost use Rattle.model_audit.specs.OpenRegions.{closed_of, closed_regions};
 ghost use Rattle.model_ready.specs.Lacks.{not_open};
-ghost use Rattle.bridge_forward.specs.RoutingRows.{base_of};
+ghost use Rattle.board_ready.specs.Gathered.{closed_among};
 ghost use Rattle.board_ready.specs.Told.{lack_of};
 
 use crate::lack::Lack;
@@ -18,8 +17,8 @@ fn add_regions(
     command: u16,
     regions: &[RoutingRegion],
 ) -> Result<(), AllocError>
-    ensures { OnOk result (map lack_of told.new.items ≡ map lack_of told.old.items
-        ++ map not_open (filter (λ q. not (opens_space command q.space)) (map (region_now path.now) (map base_of regions.now)))) }
+    ensures { OnOk result (map lack_of told.new.items
+        ≡ map lack_of told.old.items ++ map not_open (closed_among path.now command regions.now)) }
 {
     for region in regions {
         if !opens(command, region.kind.space()) {

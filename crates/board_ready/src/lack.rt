@@ -14,8 +14,8 @@ pub enum Lack {
         region: RegionNow,
         address: u64,
     },
-    /// An open memory region that isn't prefetchable, the first bridge above it that forwards some of it by
-    /// its prefetchable window alone, and the least address that it does.
+    /// An open memory region that isn't prefetchable, the first bridge above it that forwards some of it
+    /// by its prefetchable window alone, and the least address that it does.
     Prefetched {
         region: RegionNow,
         bridge: Path,

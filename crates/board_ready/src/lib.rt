@@ -1,5 +1,5 @@
-//! What a board lacks that is to be driven, as its registers stand: regions that are closed, outside the apertures or
-//! prefetched where they mustn't be, and bridges that hold another Primary Bus Number.
+//! What a board lacks that is to be driven, as its registers stand: regions that are closed, outside the
+//! apertures or prefetched where they mustn't be, and bridges that hold another Primary Bus Number.
 #![tactic(auto)]
 
 mod closed;

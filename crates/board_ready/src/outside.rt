@@ -16,7 +16,7 @@ use std::alloc::{AllocError, Global};
 
 /// The addresses of an aperture.
 fn window_of(aperture: Aperture) -> Window
-    ensures { extent_of result ≡ aperture_extent aperture.now }
+    ensures { extent_of result ≡ aperture_extent aperture }
 {
     Window {
         first: aperture.first,
@@ -26,7 +26,7 @@ fn window_of(aperture: Aperture) -> Window
 
 /// The addresses of an aperture that may be there.
 fn window_if(aperture: Option<Aperture>) -> Option<Window>
-    ensures { option_map extent_of result ≡ option_map aperture_extent aperture.now }
+    ensures { option_map extent_of result ≡ option_map aperture_extent aperture }
 {
     match aperture {
         Some(aperture) => Some(window_of(aperture)),
@@ -94,8 +94,8 @@ pub(crate) fn add_outside(
     apertures: &Apertures,
     rows: &[RoutingRow],
 ) -> Result<(), AllocError>
-    ensures { OnOk result (map lack_of told.new.items
-        ≡ map lack_of told.old.items ++ flat_map (outside_lack apertures.now) (open_regions rows.now)) }
+    ensures { let outside = flat_map (outside_lack apertures.now) (open_regions rows.now) in
+        OnOk result (map lack_of told.new.items ≡ map lack_of told.old.items ++ outside) }
 {
     let regions = open_regions(alloc, rows)?;
     add_regions(told, apertures, &regions)

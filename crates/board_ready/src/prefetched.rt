@@ -1,13 +1,11 @@
 //! Open memory regions that aren't prefetchable, of which a bridge above prefetches some.
-ghost use Rattle.std.specs.Prelude.{◌≡◌, ◌++◌, map, filter, flat_map, slice_get, OnOk};
+ghost use Rattle.std.specs.Prelude.{◌≡◌, ◌++◌, map, flat_map, slice_get, OnOk};
 ghost use Rattle.std.specs.Option.{option_map, option_to_list};
 ghost use Rattle.lists.specs.Elements.{first_some};
 ghost use Rattle.bars.specs.Kinds.{kind_of};
-ghost use Rattle.model_registers.specs.Decoding.{opens_space};
-ghost use Rattle.model_audit.specs.OpenRegions.{region_now};
 ghost use Rattle.model_ready.specs.Lacks.{is_plain, plain_of, plain_regions, prefetch_blame, prefetch_lack};
-ghost use Rattle.bridge_forward.specs.RoutingRows.{base_of};
 ghost use Rattle.board_audit.specs.Bridges.{rows_nth};
+ghost use Rattle.board_ready.specs.Gathered.{plain_among, prefetched_under};
 ghost use Rattle.board_ready.specs.Told.{lack_of};
 
 use crate::lack::Lack;
@@ -35,8 +33,8 @@ fn add_regions(
     command: u16,
     regions: &[RoutingRegion],
 ) -> Result<(), AllocError>
-    ensures { OnOk result (told.new.items ≡ told.old.items ++ filter (λ q. opens_space command q.space)
-        (map (region_now path.now) (filter (λ b. is_plain b.kind) (map base_of regions.now)))) }
+    ensures { OnOk result (told.new.items
+        ≡ told.old.items ++ plain_among path.now command regions.now) }
 {
     for region in regions {
         if is_plain(region.kind) && opens(command, region.kind.space()) {
@@ -95,8 +93,8 @@ fn add_blames(
     above: &[usize],
     regions: &[RegionNow],
 ) -> Result<(), AllocError>
-    ensures { OnOk result (map lack_of told.new.items ≡ map lack_of told.old.items
-        ++ flat_map (λ q. option_to_list (first_some (prefetch_blame q) (rows_nth rows.now above.now))) regions.now) }
+    ensures { let lacking = prefetched_under (rows_nth rows.now above.now) regions.now in
+        OnOk result (map lack_of told.new.items ≡ map lack_of told.old.items ++ lacking) }
 {
     for region in regions {
         if let Some(lack) = first_blame(rows, above, region) {
@@ -128,8 +126,8 @@ pub(crate) fn add_prefetched(
     told: &mut Vec<Lack>,
     rows: &[RoutingRow],
 ) -> Result<(), AllocError>
-    ensures { OnOk result (map lack_of told.new.items
-        ≡ map lack_of told.old.items ++ flat_map (prefetch_lack rows.now) (plain_regions rows.now)) }
+    ensures { let lacking = flat_map (prefetch_lack rows.now) (plain_regions rows.now) in
+        OnOk result (map lack_of told.new.items ≡ map lack_of told.old.items ++ lacking) }
 {
     for row in rows {
         add_function(alloc, told, rows, row)?;

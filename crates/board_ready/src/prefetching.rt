@@ -38,7 +38,8 @@ fn prefetches(row: &RoutingRow, addr: u64) -> bool
 
 /// The memory window of a bridge, and its prefetchable one.
 fn memory_windows(row: &RoutingRow) -> (Option<Window>, Option<Window>)
-    ensures { prefetch_edges row.now ≡ map (λ e. e.first) (option_to_list (option_map extent_of result.1))
+    ensures { prefetch_edges row.now
+        ≡ map (λ e. e.first) (option_to_list (option_map extent_of result.1))
         ++ map (λ e. e.end) (option_to_list (option_map extent_of result.0)) }
 {
     match &row.ranges {

@@ -8,7 +8,7 @@ use Rattle.model_set_up.specs.PlacedRegions.{PlacedRegion}
 use Rattle.model_ready.specs.Lacks.{Lack, plain_of, prefetch_blame}
 use Rattle.board_audit.specs.Bridges.{rows_nth}
 use Rattle.board_ready.specs.Told.{lack_of}
-use Rattle.board_ready.proofs.Prefetching.{function_blames}
+use Rattle.board_ready.proofs.BridgesAbove.{function_blames}
 use Rattle.board_ready.proofs.prefetched.add_function.Goals as goal
 
 pub returns : goal.returns

@@ -4,7 +4,7 @@ use Rattle.std.proofs.lemmas.List.{append-nil, at_drop_all}
 use Rattle.model_board.specs.Routing.{RoutingRow}
 use Rattle.model_ready.specs.Lacks.{plain_of, prefetch_lack}
 use Rattle.board_ready.specs.Told.{lack_of}
-use Rattle.board_ready.proofs.Prefetching.{all_blames}
+use Rattle.board_ready.proofs.BridgesAbove.{all_blames}
 use Rattle.board_ready.proofs.prefetched.add_prefetched.Goals as goal
 
 pub returns : goal.returns

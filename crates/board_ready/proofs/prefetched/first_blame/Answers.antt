@@ -1,5 +1,5 @@
 use Rattle.std.proofs.Common.{arith}
-use Rattle.board_ready.proofs.Prefetching.{blame_step}
+use Rattle.board_ready.proofs.BridgesAbove.{blame_step}
 use Rattle.board_ready.proofs.prefetched.first_blame.Goals as goal
 
 pub returns-in-Some : goal.returns-in-Some
