@@ -15,7 +15,7 @@ use report::push_path;
 use std::alloc::AllocError;
 
 /// Appends the path of a region, its register, and where it stands.
-fn push_region(text: &mut String, region: &RegionNow) -> Result<(), AllocError>
+pub fn push_region(text: &mut String, region: &RegionNow) -> Result<(), AllocError>
     ensures { OnOk result (string_bytes text.new
         ≡ string_bytes text.old ++ region_text region.now) }
 {
@@ -39,7 +39,7 @@ fn push_agent(text: &mut String, agent: &Agent) -> Result<(), AllocError>
 }
 
 /// Appends an address.
-fn push_address(text: &mut String, address: u64) -> Result<(), AllocError>
+pub fn push_address(text: &mut String, address: u64) -> Result<(), AllocError>
     ensures { OnOk result (string_bytes text.new ≡ string_bytes text.old ++ hexadecimal address) }
 {
     write!(text, "0x{address:x}")

@@ -10,7 +10,7 @@ use host_bridge::Host;
 use std::alloc::{AllocError, Global};
 
 /// Appends the lines of all problems.
-fn push_problems(text: &mut String, problems: &[Problem]) -> Result<(), AllocError>
+pub fn push_problems(text: &mut String, problems: &[Problem]) -> Result<(), AllocError>
     ensures { OnOk result (string_bytes text.new ≡ string_bytes text.old
         ++ problem_lines problems.now) }
 {
