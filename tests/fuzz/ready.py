@@ -2,10 +2,11 @@
 
     ready.py PROGRAM [--states N] [--seed S]
 
-The states are those of audit.py, and as there each answer of a line is compared too, and the first state that differs
-is printed with its seed, and its files are kept. The second hand is this folder, without a line of the program's
-code."""
+The states are those of audit.py, half of them with one more thing that an operating system would lack. As there each
+answer of a line is compared too, and the first state that differs is printed with its seed, and its files are kept. The
+second hand is this folder, without a line of the program's code."""
 import argparse
+import random
 import subprocess
 import sys
 import tempfile
@@ -14,7 +15,7 @@ from pathlib import Path
 
 from audit import random_state
 from audited import audit
-from board import board_file, path_text
+from board import Bridge, board_file, path_text
 
 KINDS = ["is closed", "outside the apertures", "prefetches", "Primary is"]
 
@@ -97,6 +98,42 @@ def ready(board, state):
     return [*wrong, *(f"ready: {line}" for line in [*lacking, total])]
 
 
+def shift_windows(firmware, bridge):
+    """Gives the addresses of a bridge's memory window to its prefetchable one, from somewhere in it on."""
+    window = firmware.state.read_bytes(bridge.path, 0x20, 4)
+    firmware.write(bridge.path, 0x24, 4, window)
+    if bridge.pref == "64":
+        firmware.write(bridge.path, 0x28, 4, 0)
+        firmware.write(bridge.path, 0x2C, 4, 0)
+    last = (window & 0xFFFF) - 0x10 + firmware.rng.choice([0, 0, 0x10, 0x20])
+    firmware.write(bridge.path, 0x22, 2, max(last, 0))
+
+
+def spoil(firmware):
+    """One more thing that an operating system would lack."""
+    function = firmware.rng.choice(firmware.board.functions)
+    if isinstance(function, Bridge) and function.pref != "none" and firmware.rng.random() < 0.8:
+        return shift_windows(firmware, function)
+    if isinstance(function, Bridge):
+        return firmware.write(function.path, 0x18, 1, firmware.rng.choice([0, 1, 2, 0xFF]))
+    if firmware.rng.random() < 0.4:
+        return firmware.write(function.path, 4, 2, firmware.rng.choice([0, 1, 2]))
+    edges = [edge + by for first, last in firmware.board.apertures.values() for edge in (first, last + 1)
+             for by in (-0x1000, 0, 0x1000)]
+    if function.bars:
+        bar = firmware.rng.choice(function.bars)
+        firmware.write(function.path, 0x10 + 4 * bar.index, 4, firmware.rng.choice(edges))
+    return None
+
+
+def spoiled_state(seed):
+    board, firmware = random_state(seed)
+    if seed % 2:
+        firmware.rng = random.Random(f"{seed} spoiled")
+        spoil(firmware)
+    return board, firmware
+
+
 def kinds_of(lines):
     return {kind for line in lines for kind in KINDS if kind in line}
 
@@ -110,7 +147,7 @@ def main():
     folder = Path(tempfile.mkdtemp(prefix="ready-"))
     kinds, are_ready = Counter(), 0
     for seed in range(chosen.seed, chosen.seed + chosen.states):
-        board, firmware = random_state(seed)
+        board, firmware = spoiled_state(seed)
         (folder / "board.toml").write_text(board_file(board))
         script, told = "".join(f"{line}\n" for line in firmware.lines), ready(board, firmware.state)
         wanted = "".join(f"{line}\n" for line in firmware.answers + told)

@@ -33,11 +33,7 @@ fn push_lacks(text: &mut String, lacks: &[Lack]) -> Result<(), AllocError>
 
 /// The text of these problems and lacks: a line for each, in their order, and a last line `ready: ok` or
 /// `ready: N lacks`, which counts both.
-pub fn lacks_text(
-    alloc: Global,
-    problems: &[Problem],
-    lacks: &[Lack],
-) -> Result<String, AllocError>
+pub fn lacks_text(alloc: Global, problems: &[Problem], lacks: &[Lack]) -> Result<String, AllocError>
     ensures { let ps = map problem_of problems.now in let ls = map lack_of lacks.now in
         IfOk result (λ t. string_bytes t ≡ ready_text ps ls) }
 {
