@@ -11,4 +11,4 @@ returns c =
     let one = and_then old (path_text c.args.path.now) (codes ": Primary is ") _ _ c.in_ok-push_path.ensures c.in_ok-push_str.ensures.bytes in
     let two = and_then old _ (hex_digits 2 c.args.held) _ _ one c.in_ok-push_bus.ensures in
     let three = and_then old _ (codes " on bus ") _ _ two c.in_ok-push_str-2.ensures.bytes in
-    IfOk-equal c.push_bus.result _ _ _ c.push_bus.ensures (onto old _ (hex_digits 2 c.args.number) _ three)
+    IfOk-equal c.push_bus-2.result _ _ _ c.push_bus-2.ensures (onto old _ (hex_digits 2 c.args.number) _ three)
