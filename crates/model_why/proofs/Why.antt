@@ -19,7 +19,7 @@ use Rattle.model_board.specs.Routing.{Ranges, regions, windows, RoutingRow, rang
 use Rattle.model_board.proofs.Routing.{forwarded_by_routing, claims_by_routing, first_of_claims}
 use Rattle.model_set_up.specs.PlacedRegions.{PlacedRegion, holds}
 use Rattle.model_audit.specs.OpenRegions.{region_now, regions_of}
-use Rattle.model_why.specs.Why.{window_now, io_windows, pref_windows, windows_now, Hindrance, closes, misses, hindrance, Cause, answers_too, closed_by, stopped_at, stop, cause_of, Told, is_answer, holders, told_of, told}
+use Rattle.model_why.specs.Why.{io_windows, pref_windows, windows_now, Hindrance, closes, misses, hindrance, Cause, answers_too, closed_by, stopped_at, stop, cause_of, Told, is_answer, holders, told_of, told}
 use Rattle.model_why.specs.WhyLaws.{IsAnswering, LiesOutside, IsTrueHindrance, claim_there, IsTrueCause, IsTrueTold, AddressesExplained}
 use Rattle.model_audit.proofs.Problems.{from_option, IsFirstTold, first_from}
 use Rattle.model_ready.proofs.Told.{first_none}
@@ -57,19 +57,15 @@ module _ (fs : List BoardFunction) (space : Space) (n : ℕ) where
 
 -- ---- what a bridge's windows say
 
-lies_outside : (n : ℕ) (w : Option Window) → is_in n w ≡ false → LiesOutside n (window_now w)
-lies_outside n None h = tt
-lies_outside n (Some w) h = h
-
 io_outside : (n : ℕ) (k : IoDecode) (w : Option Window) → is_in n w ≡ false → Each (LiesOutside n) (io_windows k w)
 io_outside n no_io w h = tt
-io_outside n io16 w h = (lies_outside n w h, tt)
-io_outside n io32 w h = (lies_outside n w h, tt)
+io_outside n io16 w h = (h, tt)
+io_outside n io32 w h = (h, tt)
 
 pref_outside : (n : ℕ) (k : PrefDecode) (w : Option Window) → is_in n w ≡ false → Each (LiesOutside n) (pref_windows k w)
 pref_outside n no_pref w h = tt
-pref_outside n pref32 w h = (lies_outside n w h, tt)
-pref_outside n pref64 w h = (lies_outside n w h, tt)
+pref_outside n pref32 w h = (h, tt)
+pref_outside n pref64 w h = (h, tt)
 
 or_left : (s t : Bool) → (s || t) ≡ false → s ≡ false
 or_left s t h = grind arith
@@ -79,7 +75,7 @@ or_right s t h = grind arith
 
 windows_outside : (space : Space) (n : ℕ) (d : Bridge) (file : File) → is_in_window d file space n ≡ false → Each (LiesOutside n) (windows_now d file space)
 windows_outside io n d file h = io_outside n d.io (io_window d.io file) h
-windows_outside memory n d file h = (lies_outside n (mem_window file) (or_left (is_in n (mem_window file)) (is_in n (pref_window d.pref file)) h), pref_outside n d.pref (pref_window d.pref file) (or_right (is_in n (mem_window file)) (is_in n (pref_window d.pref file)) h))
+windows_outside memory n d file h = (or_left (is_in n (mem_window file)) (is_in n (pref_window d.pref file)) h, pref_outside n d.pref (pref_window d.pref file) (or_right (is_in n (mem_window file)) (is_in n (pref_window d.pref file)) h))
 
 and_second : (s t : Bool) → s ≡ true → (s && t) ≡ false → t ≡ false
 and_second s t h k = grind arith

@@ -1,7 +1,7 @@
 -- Worked examples: why an address or a configuration number finds what it finds.
 --     changed word v p      the main board after set-up, with a register word of a function written
 --     WhyExamples      what is told
-use Rattle.std.specs.Prelude.{List, [], ◌∷◌, ◌++◌, ◌≡◌, ℕ, codes}
+use Rattle.std.specs.Prelude.{List, [], ◌∷◌, ◌++◌, ◌≡◌, ℕ, None, codes}
 use Rattle.model_registers.specs.Registers.{config, write}
 use Rattle.model_registers.specs.ByteEnables.{lanes}
 use Rattle.model_registers.specs.Decoding.{io, memory}
@@ -10,8 +10,8 @@ use Rattle.model_board.specs.State.{BoardFunction, with_file}
 use Rattle.model_board.specs.Examples.{main_board_with, memory_bridge, main_apertures}
 use Rattle.model_set_up.specs.SetUp.{set_up_state}
 use Rattle.model_guests.specs.Text.{text_of_lines}
-use Rattle.model_audit.specs.Examples.{card_at, on_root, behind, at_bus}
-use Rattle.model_why.specs.Why.{spans, is_shut, closes, misses, closed_by, stopped_at, told}
+use Rattle.model_audit.specs.Examples.{between, card_at, on_root, behind, at_bus}
+use Rattle.model_why.specs.Why.{for_memory, for_prefetchable, named, closes, misses, closed_by, stopped_at, told}
 use Rattle.model_why.specs.WhyText.{why_text, why_number_text}
 use Rattle.model_ready.specs.ReadyExamples.{left}
 
@@ -39,7 +39,7 @@ pub record WhyExamples : Type 0 where
         region = card_at (behind 2 0) 0xc0000000;
         cause =
             stopped_at (on_root 2)
-            (misses (is_shut ∷ spans (record { first = 0x400000000; last = 0x400ffffff }) ∷ []));
+            (misses (named for_memory None ∷ named for_prefetchable (between 0x400000000 0x400ffffff) ∷ []));
       } ∷ []
   -- what is said of them
   pub text_of_closed :
@@ -58,7 +58,7 @@ pub record WhyExamples : Type 0 where
       ≡ text_of_lines (
       codes "why: memory 0xc0000000: nobody answers"
       ∷ (codes "why: 2.0/0.0 bar0 at 0xc0000000 size 0x100000: "
-      ++ codes "2.0 doesn't forward it, windows shut and 0x400000000..0x400ffffff") ∷ [])
+      ++ codes "2.0 doesn't forward it, memory shut, prefetchable 0x400000000..0x400ffffff") ∷ [])
   -- another region's register names its place
   pub text_of_two :
       why_text (changed 0x14 0xc0000000 (on_root 1)) memory 0xc0000010

@@ -23,19 +23,19 @@ use Rattle.model_set_up.specs.PlacedRegions.{PlacedRegion, holds}
 use Rattle.model_audit.specs.OpenRegions.{regions_of}
 use Rattle.model_audit.specs.Orderly.{IsOrderly, IsStateOfBoard}
 use Rattle.model_ready.specs.Lacks.{IsReady}
-use Rattle.model_why.specs.Why.{WindowNow, spans, is_shut, windows_now, Hindrance, closes, misses, Cause, answers_too}
+use Rattle.model_why.specs.Why.{NamedWindow, windows_now, Hindrance, closes, misses, Cause, answers_too}
 use Rattle.model_why.specs.Why.{closed_by, stopped_at, Told, is_answer, told, why}
 use Rattle.model_why.specs.Ways.{bridges_on_way, end_of, reached_at, Missing, no_bridge}
 use Rattle.model_why.specs.Ways.{no_function, missing}
 
 -- ---- an address
 
-abbrev pub LiesOutside : ℕ → WindowNow → Type 0
-LiesOutside n (spans w) = IsFalse (is_in n (Some w))
-LiesOutside n is_shut = ⊤
+-- a window that is shut holds nothing
+abbrev pub LiesOutside : ℕ → NamedWindow → Type 0
+LiesOutside n w = IsFalse (is_in n w.window)
 
 -- the windows that a bridge has for the space; an endpoint has none
-abbrev pub windows_at : Space → BoardFunction → List WindowNow
+abbrev pub windows_at : Space → BoardFunction → List NamedWindow
 windows_at space f = elim f.decl [ endpoint d ↦ [] | bridge d ↦ windows_now d f.file space ]
 
 abbrev pub IsTrueHindrance : Space → ℕ → BoardFunction → Hindrance → Type 0

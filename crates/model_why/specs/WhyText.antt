@@ -1,5 +1,5 @@
 -- The text of why an address or a configuration number finds what it finds: who answers, and a line for each cause.
---     window_now_text, hindrance_text, cause_text      a window, what a bridge lacks, and a cause
+--     window_text, hindrance_text, cause_text      a window, what a bridge lacks, and a cause
 --     why_text      the lines of an address
 --     why_number_text      the lines of a configuration number
 use Rattle.std.specs.Prelude.{List, [], ◌∷◌, ◌++◌, ℕ, map, codes}
@@ -8,27 +8,36 @@ use Rattle.std.specs.Prelude.{Option, Some, None}
 use Rattle.model_registers.specs.Decoding.{Space}
 use Rattle.model_board.specs.Paths.{Path}
 use Rattle.model_board.specs.State.{BoardFunction}
+use Rattle.model_board.specs.Windows.{Window}
 use Rattle.model_board.specs.Claims.{Claim}
 use Rattle.model_board.specs.Cycles.{BusAddress}
 use Rattle.model_guests.specs.Text.{Text, text_of_lines}
 use Rattle.model_guests.specs.Replies.{hex_digits}
 use Rattle.model_guests.specs.PathTexts.{hexadecimal, part_text, path_text}
 use Rattle.model_audit.specs.AuditText.{register_text, region_text, space_text, number_text}
-use Rattle.model_why.specs.Why.{WindowNow, spans, is_shut, Hindrance, closes, misses, Cause, answers_too, closed_by}
+use Rattle.model_why.specs.Why.{WindowName, for_io, for_memory, for_prefetchable, NamedWindow, Hindrance, closes, misses, Cause, answers_too, closed_by}
 use Rattle.model_why.specs.Why.{stopped_at, Told, Why, why}
 use Rattle.model_why.specs.Ways.{Missing, no_bridge, no_function, WhyNumber, why_number}
 
 abbrev pub command_text : ℕ → Text
 command_text command = codes "Command 0x" ++ hex_digits 4 command
 
-abbrev pub window_now_text : WindowNow → Text
-window_now_text (spans w) = hexadecimal w.first ++ codes ".." ++ hexadecimal w.last
-window_now_text is_shut = codes "shut"
+abbrev pub name_text : WindowName → Text
+name_text for_io = codes "I/O"
+name_text for_memory = codes "memory"
+name_text for_prefetchable = codes "prefetchable"
 
-abbrev pub windows_text : List WindowNow → Text
+abbrev pub range_text : Window → Text
+range_text w = hexadecimal w.first ++ codes ".." ++ hexadecimal w.last
+
+abbrev pub window_text : NamedWindow → Text
+window_text w = name_text w.name ++ codes " " ++ option_map_or range_text w.window (codes "shut")
+
+-- a bridge has two at most
+abbrev pub windows_text : List NamedWindow → Text
 windows_text [] = codes "no window"
-windows_text (w ∷ []) = codes "window " ++ window_now_text w
-windows_text (w ∷ v ∷ ws) = codes "windows " ++ window_now_text w ++ codes " and " ++ window_now_text v
+windows_text (w ∷ []) = window_text w
+windows_text (w ∷ v ∷ ws) = window_text w ++ codes ", " ++ window_text v
 
 abbrev pub hindrance_text : Space → Hindrance → Text
 hindrance_text space (closes command) = command_text command ++ codes " closes " ++ space_text space
