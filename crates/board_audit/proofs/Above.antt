@@ -16,7 +16,7 @@ use Rattle.model_audit.specs.OpenRegions.{open_of, open_regions}
 use Rattle.model_audit.specs.Problems.{blame, forwarding_problem}
 use Rattle.board_audit.specs.Bridges.{rows_nth}
 
-abbrev pub leads : Path → RoutingRow → Bool
+abbrev leads : Path → RoutingRow → Bool
 leads p r = leads_to r.path p
 
 pub blames_above : (q : PlacedRegion) (rows : List RoutingRow) → first_some (blame q) (filter (leads q.path) rows) ≡ first_some (blame q) rows

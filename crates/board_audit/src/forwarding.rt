@@ -16,7 +16,7 @@ use bridge_forward::{Path, RoutingRow};
 use std::alloc::{AllocError, Global};
 
 /// The indices of the rows that lead to a path. They are asked once for all regions of a function.
-pub fn rows_above(alloc: Global, rows: &[RoutingRow], path: &Path) -> Result<Vec<usize>, AllocError>
+fn rows_above(alloc: Global, rows: &[RoutingRow], path: &Path) -> Result<Vec<usize>, AllocError>
     ensures { IfOk result (λ v. rows_nth rows.now v.items ≡ filter (λ r. leads_to r.path path.now) rows.now) }
 {
     let mut above = Vec::new(alloc);

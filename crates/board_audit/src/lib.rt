@@ -14,7 +14,6 @@ mod span;
 
 pub use agent::Agent;
 pub use finding::{first_missed, lesser, problems};
-pub use forwarding::rows_above;
 pub use gather::add_open;
 pub use numbering::address_now;
 pub use problem::Problem;

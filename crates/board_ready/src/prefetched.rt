@@ -1,17 +1,17 @@
 //! Open memory regions that aren't prefetchable, of which a bridge above prefetches some.
-ghost use Rattle.std.specs.Prelude.{◌≡◌, ◌++◌, map, flat_map, slice_get, OnOk};
+ghost use Rattle.std.specs.Prelude.{◌≡◌, ◌++◌, map, filter, flat_map, slice_get, IfOk, OnOk};
 ghost use Rattle.std.specs.Option.{option_map, option_to_list};
 ghost use Rattle.lists.specs.Elements.{first_some};
 ghost use Rattle.bars.specs.Kinds.{kind_of};
 ghost use Rattle.model_ready.specs.Lacks.{is_plain, plain_of, plain_regions, prefetch_blame, prefetch_lack};
 ghost use Rattle.board_audit.specs.Bridges.{rows_nth};
-ghost use Rattle.board_ready.specs.Gathered.{plain_among, prefetched_under};
+ghost use Rattle.board_ready.specs.Gathered.{may_prefetch, plain_among, prefetched_under};
 ghost use Rattle.board_ready.specs.Told.{lack_of};
 
 use crate::lack::Lack;
-use crate::prefetching::prefetch_blame;
+use crate::prefetching::{may_prefetch, prefetch_blame};
 use bars::Kind;
-use board_audit::{RegionNow, opens, rows_above};
+use board_audit::{RegionNow, opens};
 use bridge_forward::{Path, Ranges, RoutingRegion, RoutingRow};
 use std::alloc::{AllocError, Global};
 
@@ -73,12 +73,12 @@ fn blame_nth(rows: &[RoutingRow], index: usize, region: &RegionNow) -> Option<La
     prefetch_blame(&rows[index], region)
 }
 
-/// The first bridge above a region that prefetches some of it.
-fn first_blame(rows: &[RoutingRow], above: &[usize], region: &RegionNow) -> Option<Lack>
+/// The first of these bridges that is above a region and prefetches some of it.
+fn first_blame(rows: &[RoutingRow], bridges: &[usize], region: &RegionNow) -> Option<Lack>
     ensures { option_map lack_of result
-        ≡ first_some (prefetch_blame region.now) (rows_nth rows.now above.now) }
+        ≡ first_some (prefetch_blame region.now) (rows_nth rows.now bridges.now) }
 {
-    for index in above {
+    for index in bridges {
         if let Some(lack) = blame_nth(rows, *index, region) {
             return Some(lack);
         }
@@ -90,14 +90,14 @@ fn first_blame(rows: &[RoutingRow], above: &[usize], region: &RegionNow) -> Opti
 fn add_blames(
     told: &mut Vec<Lack>,
     rows: &[RoutingRow],
-    above: &[usize],
+    bridges: &[usize],
     regions: &[RegionNow],
 ) -> Result<(), AllocError>
-    ensures { let lacking = prefetched_under (rows_nth rows.now above.now) regions.now in
+    ensures { let lacking = prefetched_under (rows_nth rows.now bridges.now) regions.now in
         OnOk result (map lack_of told.new.items ≡ map lack_of told.old.items ++ lacking) }
 {
     for region in regions {
-        if let Some(lack) = first_blame(rows, above, region) {
+        if let Some(lack) = first_blame(rows, bridges, region) {
             told.push(lack)?;
         }
     }
@@ -109,15 +109,47 @@ fn add_function(
     alloc: Global,
     told: &mut Vec<Lack>,
     rows: &[RoutingRow],
+    bridges: &[usize],
     row: &RoutingRow,
 ) -> Result<(), AllocError>
+    requires { rows_nth rows.now bridges.now ≡ filter may_prefetch rows.now }
     ensures { OnOk result (map lack_of told.new.items
         ≡ map lack_of told.old.items ++ flat_map (prefetch_lack rows.now) (plain_of row.now)) }
 {
     let mut regions = Vec::new(alloc);
     add_plain(&mut regions, row)?;
-    let above = rows_above(alloc, rows, &row.path)?;
-    add_blames(told, rows, &above, &regions)
+    add_blames(told, rows, bridges, &regions)
+}
+
+/// Adds what is lacking of the regions of all functions.
+fn add_functions(
+    alloc: Global,
+    told: &mut Vec<Lack>,
+    rows: &[RoutingRow],
+    bridges: &[usize],
+) -> Result<(), AllocError>
+    requires { rows_nth rows.now bridges.now ≡ filter may_prefetch rows.now }
+    ensures { let lacking = flat_map (prefetch_lack rows.now) (plain_regions rows.now) in
+        OnOk result (map lack_of told.new.items ≡ map lack_of told.old.items ++ lacking) }
+{
+    for row in rows {
+        add_function(alloc, told, rows, bridges, row)?;
+    }
+    Ok(())
+}
+
+/// The indices of the bridges that may prefetch. They are asked once for all regions.
+fn prefetchers(alloc: Global, rows: &[RoutingRow]) -> Result<Vec<usize>, AllocError>
+    ensures { IfOk result (λ v. rows_nth rows.now v.items ≡ filter may_prefetch rows.now) }
+{
+    let mut bridges = Vec::new(alloc);
+    for index in 0..rows.len() {
+        let row = &rows[index];
+        if may_prefetch(row) {
+            bridges.push(index)?;
+        }
+    }
+    Ok(bridges)
 }
 
 /// Adds what is lacking of regions that bridges above prefetch.
@@ -129,8 +161,6 @@ pub(crate) fn add_prefetched(
     ensures { let lacking = flat_map (prefetch_lack rows.now) (plain_regions rows.now) in
         OnOk result (map lack_of told.new.items ≡ map lack_of told.old.items ++ lacking) }
 {
-    for row in rows {
-        add_function(alloc, told, rows, row)?;
-    }
-    Ok(())
+    let bridges = prefetchers(alloc, rows)?;
+    add_functions(alloc, told, rows, &bridges)
 }

@@ -7,6 +7,7 @@ ghost use Rattle.model_set_up.specs.PlacedRegions.{holds};
 ghost use Rattle.model_ready.specs.Lacks.{prefetches, prefetch_edges, first_prefetched, prefetch_blame};
 ghost use Rattle.bridge_forward.specs.RoutingRows.{window_of};
 ghost use Rattle.board_audit.specs.Extents.{extent_of};
+ghost use Rattle.board_ready.specs.Gathered.{may_prefetch};
 ghost use Rattle.board_ready.specs.Told.{lack_of};
 
 use crate::lack::Lack;
@@ -21,6 +22,20 @@ fn is_in(window: Option<Window>, addr: u64) -> bool
     match window {
         Some(window) => window.first <= addr && addr <= window.last,
         None => false,
+    }
+}
+
+/// Whether a bridge has a prefetchable window, and Command opens memory.
+pub(crate) fn may_prefetch(row: &RoutingRow) -> bool
+    ensures { result ≡ may_prefetch row.now }
+{
+    match &row.ranges {
+        Ranges::Regions(_) => false,
+        Ranges::Windows {
+            io: _,
+            mem: _,
+            pref,
+        } => opens(row.command, Space::Mem) && pref.is_some(),
     }
 }
 

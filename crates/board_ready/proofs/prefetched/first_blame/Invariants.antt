@@ -5,4 +5,4 @@ use Rattle.board_audit.specs.Bridges.{rows_nth}
 use Rattle.board_ready.proofs.prefetched.first_blame.Given as goal
 
 abbrev pub invariant-loop-index : goal.invariant-loop-index
-invariant-loop-index l = first_some (prefetch_blame l.region) (rows_nth l.rows (drop l.index-index l.above)) ≡ first_some (prefetch_blame l.region) (rows_nth l.rows l.above)
+invariant-loop-index l = first_some (prefetch_blame l.region) (rows_nth l.rows (drop l.index-index l.bridges)) ≡ first_some (prefetch_blame l.region) (rows_nth l.rows l.bridges)

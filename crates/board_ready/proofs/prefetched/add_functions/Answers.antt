@@ -5,7 +5,7 @@ use Rattle.model_board.specs.Routing.{RoutingRow}
 use Rattle.model_ready.specs.Lacks.{plain_of, prefetch_lack}
 use Rattle.board_ready.specs.Told.{lack_of}
 use Rattle.board_ready.proofs.BridgesAbove.{all_blames}
-use Rattle.board_ready.proofs.prefetched.add_prefetched.Goals as goal
+use Rattle.board_ready.proofs.prefetched.add_functions.Goals as goal
 
 pub returns : goal.returns
 returns c =

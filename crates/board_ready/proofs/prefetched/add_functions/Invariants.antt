@@ -2,7 +2,7 @@ use Rattle.std.proofs.Common.{◌≡◌, ◌++◌, map, drop}
 use Rattle.std.specs.Prelude.{flat_map}
 use Rattle.model_ready.specs.Lacks.{plain_of, prefetch_lack}
 use Rattle.board_ready.specs.Told.{lack_of}
-use Rattle.board_ready.proofs.prefetched.add_prefetched.Given as goal
+use Rattle.board_ready.proofs.prefetched.add_functions.Given as goal
 
 abbrev pub invariant-loop-row : goal.invariant-loop-row
 invariant-loop-row l =
