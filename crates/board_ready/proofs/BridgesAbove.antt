@@ -6,7 +6,7 @@ use Rattle.std.proofs.lemmas.Grind.{flat_map-append}
 use Rattle.std.proofs.lemmas.List.Elements.{filter-append}
 use Rattle.std.proofs.lemmas.List.{take_more}
 use Rattle.std.proofs.lemmas.Option.{slice_get-get_or}
-use Rattle.lists.specs.Elements.{first_of_two, first_some, IsIn}
+use Rattle.lists.specs.Elements.{first_of_two, first_some}
 use Rattle.lists.proofs.Members.{none_pass}
 use Rattle.model_board.specs.Paths.{Path, leads_to}
 use Rattle.model_board.specs.Routing.{Ranges, regions, windows, RoutingRow}

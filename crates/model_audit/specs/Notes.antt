@@ -2,7 +2,7 @@
 -- chapter 4.
 --     Note      a window that opens on nothing
 --     notes rows      all of them, in path order
-use Rattle.std.specs.Prelude.{List, [], ◌∷◌, ◌++◌, ℕ, ◌+◌, Bool, ◌&&◌, nat_lt, if◌then◌else◌, flat_map}
+use Rattle.std.specs.Prelude.{List, [], ◌∷◌, ◌++◌, ◌+◌, Bool, ◌&&◌, nat_lt, if◌then◌else◌, flat_map}
 use Rattle.std.specs.List.{list_any}
 use Rattle.model_registers.specs.Decoding.{Space, io, memory, same_space}
 use Rattle.model_board.specs.Paths.{Path, leads_to}

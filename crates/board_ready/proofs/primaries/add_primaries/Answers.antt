@@ -1,6 +1,4 @@
-use Rattle.std.proofs.Common.{ap, sym, ◌∙◌, arith}
-use Rattle.std.specs.Option.{option_map, option_to_list}
-use Rattle.board_ready.specs.Told.{lack_of}
+use Rattle.std.proofs.Common.{ap, ◌∙◌, arith}
 use Rattle.board_ready.proofs.Indexed.{told_step, none_step}
 use Rattle.board_ready.proofs.primaries.add_primaries.Goals as goal
 use Rattle.board_ready.proofs.primaries.add_primaries.Goals.{in-Some+in_ok-push, in_default}
