@@ -7,5 +7,5 @@ mod whole;
 
 pub use board_audit::Problem;
 pub use host_bridge::Host;
-pub use lines::push_problem;
-pub use whole::{audit_text, problems_text};
+pub use lines::{push_address, push_problem, push_region};
+pub use whole::{audit_text, problems_text, push_problems};

@@ -10,13 +10,13 @@ ghost use Rattle.board_audit.specs.Told.{problem_of};
 ghost use Rattle.report.specs.Found.{ended};
 
 use bars::Space;
-use board_audit::{Agent, OpenRegion, Problem};
+use board_audit::{Agent, Problem, RegionNow};
 use paths::{Bdf, Path};
 use report::push_path;
 use std::alloc::AllocError;
 
 /// Appends the path of a region, its register, and where it stands.
-fn push_region(text: &mut String, region: &OpenRegion) -> Result<(), AllocError>
+pub fn push_region(text: &mut String, region: &RegionNow) -> Result<(), AllocError>
     ensures { OnOk result (Adds text.old text.new (region_text region.now)) }
 {
     push_path(text, &region.path)?;
@@ -38,7 +38,7 @@ fn push_agent(text: &mut String, agent: &Agent) -> Result<(), AllocError>
 }
 
 /// Appends an address.
-fn push_address(text: &mut String, address: u64) -> Result<(), AllocError>
+pub fn push_address(text: &mut String, address: u64) -> Result<(), AllocError>
     ensures { OnOk result (Adds text.old text.new (hexadecimal address)) }
 {
     write!(text, "0x{address:x}")
@@ -76,7 +76,7 @@ fn push_reached(text: &mut String, path: &Option<Path>) -> Result<(), AllocError
 /// Appends what is wrong with the forwarding to a region.
 fn push_not_forwarded(
     text: &mut String,
-    region: &OpenRegion,
+    region: &RegionNow,
     bridge: &Path,
     address: u64,
 ) -> Result<(), AllocError>

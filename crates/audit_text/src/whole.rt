@@ -11,7 +11,7 @@ use host_bridge::Host;
 use std::alloc::{AllocError, Global};
 
 /// Appends the lines of all problems.
-fn push_problems(text: &mut String, problems: &[Problem]) -> Result<(), AllocError>
+pub fn push_problems(text: &mut String, problems: &[Problem]) -> Result<(), AllocError>
     ensures { OnOk result (Adds text.old text.new (problem_lines problems.now)) }
 {
     for problem in problems {

@@ -27,7 +27,7 @@ blames_above q (r ∷ rows) = grind (arith, blames_above q rows)
 path_of : (p : Path) (command : ℕ) (rs : Ranges) (q : PlacedRegion) → IsIn q (open_of (record { path = p; command = command; ranges = rs })) → q.path ≡ p
 path_of p command rs q m = grind (arith, from_filter, from_map)
 
-flat_same : {A B : Type 0} (f g : A → List B) (xs : List A) → ((x : A) → IsIn x xs → f x ≡ g x) → flat_map f xs ≡ flat_map g xs
+pub flat_same : {A B : Type 0} (f g : A → List B) (xs : List A) → ((x : A) → IsIn x xs → f x ≡ g x) → flat_map f xs ≡ flat_map g xs
 flat_same f g [] h = refl
 flat_same f g (x ∷ xs) h = ap₂ ◌++◌ (h x (inl refl)) (flat_same f g xs (λ y m. h y (inr m)))
 
@@ -73,8 +73,13 @@ first_append {A} {B} f (x ∷ xs) ys = ap (first_of_two (f x)) (first_append f x
     assoc None b c = refl
     assoc (Some x) b c = refl
 
+-- what rows at indices give first, one step on
+pub first_step : {B : Type 0} (f : RoutingRow → Option B) (rows : List RoutingRow) (above : List ℕ) (i : ℕ) → i < length above
+    → first_some f (rows_nth rows (drop i above)) ≡ first_of_two (first_some f (option_to_list (slice_get rows (get_or above i 0)))) (first_some f (rows_nth rows (drop (i + 1) above)))
+first_step f rows above i h =
+    ap (λ is. first_some f (rows_nth rows is)) (let e : drop i above ≡ get_or above i 0 ∷ drop (i + 1) above = rw (add-one, drop-cons above i 0) in e)
+    ∙ first_append f (option_to_list (slice_get rows (get_or above i 0))) (rows_nth rows (drop (i + 1) above))
+
 pub blame_step : (q : PlacedRegion) (rows : List RoutingRow) (above : List ℕ) (i : ℕ) → i < length above
     → first_some (blame q) (rows_nth rows (drop i above)) ≡ first_of_two (first_some (blame q) (option_to_list (slice_get rows (get_or above i 0)))) (first_some (blame q) (rows_nth rows (drop (i + 1) above)))
-blame_step q rows above i h =
-    ap (λ is. first_some (blame q) (rows_nth rows is)) (let e : drop i above ≡ get_or above i 0 ∷ drop (i + 1) above = rw (add-one, drop-cons above i 0) in e)
-    ∙ first_append (blame q) (option_to_list (slice_get rows (get_or above i 0))) (rows_nth rows (drop (i + 1) above))
+blame_step q rows above i h = first_step (blame q) rows above i h

@@ -13,38 +13,43 @@ use Rattle.lists.proofs.Members.{none_pass}
 use Rattle.model_audit.specs.Agents.{Extent, extent_holds, forwarded_extents, Agent, answers}
 use Rattle.model_audit.specs.Problems.{least, unforwarded, shared}
 use Rattle.model_audit.proofs.Answering.{forwards_extents}
-use Rattle.board_audit.specs.Extents.{least_of}
+use Rattle.board_audit.specs.Extents.{least_of, first_missed}
 
 filter_same : (t u : ℕ → Bool) (xs : List ℕ) → ((n : ℕ) → t n ≡ u n) → filter t xs ≡ filter u xs
 filter_same t u [] h = refl
 filter_same t u (x ∷ xs) h = ap₂ (λ (b : Bool) (ys : List ℕ). cond b (x ∷ ys) ys) (h x) (filter_same t u xs h)
 
 -- the least of those that pass, piece by piece
-least_piece : (t : ℕ → Bool) (o : Option ℕ) (xs ys : List ℕ) → option_to_list o ≡ filter t xs → least (filter t (xs ++ ys)) ≡ least_of o (least (filter t ys))
+pub least_piece : (t : ℕ → Bool) (o : Option ℕ) (xs ys : List ℕ) → option_to_list o ≡ filter t xs → least (filter t (xs ++ ys)) ≡ least_of o (least (filter t ys))
 least_piece t o xs ys e = grind (arith, filter-append)
 
-least_last : (t : ℕ → Bool) (o : Option ℕ) (xs : List ℕ) → option_to_list o ≡ filter t xs → least (filter t xs) ≡ o
+pub least_last : (t : ℕ → Bool) (o : Option ℕ) (xs : List ℕ) → option_to_list o ≡ filter t xs → least (filter t xs) ≡ o
 least_last t o xs e = grind arith
 
 abbrev pub lost_among : PlacedRegion → List Extent → ℕ → Bool
 lost_among q es n = holds q.space n q && not (list_any (extent_holds n) es)
 
-pub least_lost : (r : RoutingRow) (q : PlacedRegion) (xs ys : List Extent) → xs ++ ys ≡ forwarded_extents q.space r → (a b c : Option ℕ)
+pub least_lost : (q : PlacedRegion) (xs ys : List Extent) (a b c : Option ℕ)
     → option_to_list a ≡ filter (lost_among q (xs ++ ys)) (q.first ∷ [])
     → option_to_list b ≡ filter (lost_among q (xs ++ ys)) (map (λ e. e.end) xs)
     → option_to_list c ≡ filter (lost_among q (xs ++ ys)) (map (λ e. e.end) ys)
-    → least_of a (least_of b c) ≡ unforwarded r q
-least_lost r q xs ys es a b c f g h =
+    → least_of a (least_of b c) ≡ first_missed (xs ++ ys) q
+least_lost q xs ys a b c f g h =
     ap (least_of a) (ap (least_of b) (sym (least_last t c (map (λ e. e.end) ys) h)) ∙ sym (least_piece t b (map (λ e. e.end) xs) (map (λ e. e.end) ys) g))
     ∙ sym (least_piece t a (q.first ∷ []) (map (λ e. e.end) xs ++ map (λ e. e.end) ys) f)
-    ∙ ap (λ zs. least (filter t (q.first ∷ zs))) (sym (map-append (λ (e : Extent). e.end) xs ys) ∙ ap (map (λ e. e.end)) es)
-    ∙ ap least (filter_same t (λ n. holds q.space n q && not (row_forwards q.space n r)) (q.first ∷ map (λ e. e.end) (forwarded_extents q.space r)) same)
+    ∙ ap (λ zs. least (filter t (q.first ∷ zs))) (sym (map-append (λ (e : Extent). e.end) xs ys))
   where
     t : ℕ → Bool
     t = lost_among q (xs ++ ys)
 
-    same : (n : ℕ) → lost_among q (xs ++ ys) n ≡ (holds q.space n q && not (row_forwards q.space n r))
-    same n = ap (λ (u : Bool). holds q.space n q && not u) (ap (list_any (extent_holds n)) es ∙ forwards_extents q.space n r.path r.command r.ranges)
+-- what none of a bridge's extents holds is what it doesn't forward
+pub missed_unforwarded : (r : RoutingRow) (q : PlacedRegion) (es : List Extent) → es ≡ forwarded_extents q.space r → first_missed es q ≡ unforwarded r q
+missed_unforwarded r q es e =
+    ap (λ zs. first_missed zs q) e
+    ∙ ap least (filter_same (lost_among q (forwarded_extents q.space r)) (λ n. holds q.space n q && not (row_forwards q.space n r)) (q.first ∷ map (λ e. e.end) (forwarded_extents q.space r)) same)
+  where
+    same : (n : ℕ) → lost_among q (forwarded_extents q.space r) n ≡ (holds q.space n q && not (row_forwards q.space n r))
+    same n = ap (λ (u : Bool). holds q.space n q && not u) (forwards_extents q.space n r.path r.command r.ranges)
 
 abbrev both_answer : Agent → Agent → ℕ → Bool
 both_answer x y n = answers x.space n x && answers x.space n y

@@ -1,9 +1,13 @@
 -- The addresses that agents answer, in the program's words.
 --     extent_of, extents_of      a window, both ends included, and up to two of them
 --     least_of      the lesser of two numbers that may be there
-use Rattle.std.specs.Prelude.{List, ◌++◌, ℕ, ◌+◌, min, Option, Some, None}
+--     first_missed es q      the least address of a region that none of some extents holds
+use Rattle.std.specs.Prelude.{List, ◌∷◌, ◌++◌, ℕ, ◌+◌, ◌&&◌, not, min, Option, Some, None, map, filter}
+use Rattle.std.specs.List.{list_any}
 use Rattle.std.specs.Option.{option_map, option_to_list}
-use Rattle.model_audit.specs.Agents.{Extent}
+use Rattle.model_set_up.specs.PlacedRegions.{PlacedRegion, holds}
+use Rattle.model_audit.specs.Agents.{Extent, extent_holds}
+use Rattle.model_audit.specs.Problems.{least}
 use Rattle.bridge_forward.specs.declared.routing.Window.{Window}
 
 abbrev pub extent_of : Window → Extent
@@ -16,3 +20,8 @@ abbrev pub least_of : Option ℕ → Option ℕ → Option ℕ
 least_of None y = y
 least_of (Some x) None = Some x
 least_of (Some x) (Some y) = Some (min x y)
+
+-- addresses that none holds begin at the region's first byte, or where an extent ends
+abbrev pub first_missed : List Extent → PlacedRegion → Option ℕ
+first_missed es q =
+    least (filter (λ n. holds q.space n q && not (list_any (extent_holds n) es)) (q.first ∷ map (λ e. e.end) es))

@@ -5,7 +5,7 @@ ghost use Rattle.bars.specs.Kinds.{named_space};
 ghost use Rattle.model_board.specs.Paths.{path_eq};
 ghost use Rattle.model_audit.specs.Agents.{extent_holds, region_agent, bridge_agent, on_one_bus};
 
-use crate::region::{OpenRegion, extent};
+use crate::region::{RegionNow, extent};
 use crate::row::{forwarded, holds_any};
 use bars::Space;
 use bridge_forward::{Part, Path, RoutingRow, Window};
@@ -39,7 +39,7 @@ impl Model for Agent {
 
 impl Agent {
     /// The agent of an open region.
-    pub(crate) fn of_region(region: &OpenRegion) -> Agent
+    pub(crate) fn of_region(region: &RegionNow) -> Agent
         ensures { result ≡ region_agent region.now }
     {
         Agent {

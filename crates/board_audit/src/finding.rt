@@ -7,7 +7,7 @@ ghost use Rattle.model_registers.specs.Decoding.{same_space};
 ghost use Rattle.model_set_up.specs.PlacedRegions.{holds};
 ghost use Rattle.model_audit.specs.Agents.{extent_holds, answers};
 ghost use Rattle.model_audit.specs.Problems.{unforwarded, shared, blame, contention, contentions, problems, routing_problems};
-ghost use Rattle.board_audit.specs.Extents.{extent_of, extents_of, least_of};
+ghost use Rattle.board_audit.specs.Extents.{extent_of, extents_of, least_of, first_missed};
 ghost use Rattle.board_audit.specs.Told.{problem_of};
 
 use crate::agent::Agent;
@@ -15,7 +15,7 @@ use crate::forwarding::add_forwarding;
 use crate::gather::agents;
 use crate::numbering::add_numbering;
 use crate::problem::Problem;
-use crate::region::OpenRegion;
+use crate::region::RegionNow;
 use crate::row::{forwarded, holds_any, is_same_space};
 use crate::span::crowded;
 use bridge_forward::{RoutingRow, Window};
@@ -23,7 +23,7 @@ use host_bridge::Host;
 use std::alloc::{AllocError, Global};
 
 /// The lesser of two addresses that may be there.
-fn lesser(one: Option<u64>, other: Option<u64>) -> Option<u64>
+pub fn lesser(one: Option<u64>, other: Option<u64>) -> Option<u64>
     ensures { result ≡ least_of one other }
 {
     match (one, other) {
@@ -35,7 +35,7 @@ fn lesser(one: Option<u64>, other: Option<u64>) -> Option<u64>
 
 /// An address, if the region holds it and none of two windows does.
 fn if_lost(
-    region: &OpenRegion,
+    region: &RegionNow,
     one: Option<Window>,
     other: Option<Window>,
     addr: Option<u64>,
@@ -54,7 +54,7 @@ fn if_lost(
 
 /// The address after a window, if the region holds it and none of two windows does.
 fn if_end_lost(
-    region: &OpenRegion,
+    region: &RegionNow,
     one: Option<Window>,
     other: Option<Window>,
     window: Option<Window>,
@@ -72,15 +72,22 @@ fn if_end_lost(
     }
 }
 
-/// The least byte of a region that a bridge doesn't forward.
-fn unforwarded(row: &RoutingRow, region: &OpenRegion) -> Option<u64>
-    ensures { result ≡ unforwarded row.now region.now }
+/// The least address of a region that neither of two windows holds.
+pub fn first_missed(region: &RegionNow, one: Option<Window>, other: Option<Window>) -> Option<u64>
+    ensures { result ≡ first_missed (extents_of one other) region.now }
 {
-    let (one, other) = forwarded(row, region.region.kind.space());
     let first = if_lost(region, one, other, Some(region.region.base));
     let after_one = if_end_lost(region, one, other, one);
     let after_other = if_end_lost(region, one, other, other);
     lesser(first, lesser(after_one, after_other))
+}
+
+/// The least byte of a region that a bridge doesn't forward.
+fn unforwarded(row: &RoutingRow, region: &RegionNow) -> Option<u64>
+    ensures { result ≡ unforwarded row.now region.now }
+{
+    let (one, other) = forwarded(row, region.region.kind.space());
+    first_missed(region, one, other)
 }
 
 /// The first address of a window, if both agents answer it.
@@ -113,7 +120,7 @@ fn shared(one: &Agent, other: &Agent) -> Option<u64>
 }
 
 /// What is wrong of a region under a bridge above it.
-pub(crate) fn blame(region: &OpenRegion, row: &RoutingRow) -> Option<Problem>
+pub(crate) fn blame(region: &RegionNow, row: &RoutingRow) -> Option<Problem>
     ensures { option_map problem_of result ≡ blame region.now row.now }
 {
     if !row.path.leads_to(&region.path) {

@@ -12,7 +12,7 @@ ghost use Rattle.board_audit.specs.Told.{problem_of};
 use crate::finding::blame;
 use crate::gather::add_open;
 use crate::problem::Problem;
-use crate::region::OpenRegion;
+use crate::region::RegionNow;
 use bridge_forward::{Path, RoutingRow};
 use std::alloc::{AllocError, Global};
 
@@ -32,7 +32,7 @@ fn rows_above(alloc: Global, rows: &[RoutingRow], path: &Path) -> Result<Vec<usi
 }
 
 /// What is wrong of a region under the bridge at an index.
-fn blame_nth(rows: &[RoutingRow], index: usize, region: &OpenRegion) -> Option<Problem>
+fn blame_nth(rows: &[RoutingRow], index: usize, region: &RegionNow) -> Option<Problem>
     ensures { option_map problem_of result
         ≡ first_some (blame region.now) (option_to_list (slice_get rows.now index)) }
 {
@@ -43,7 +43,7 @@ fn blame_nth(rows: &[RoutingRow], index: usize, region: &OpenRegion) -> Option<P
 }
 
 /// The first bridge above a region that doesn't forward all of it.
-fn first_blame(rows: &[RoutingRow], above: &[usize], region: &OpenRegion) -> Option<Problem>
+fn first_blame(rows: &[RoutingRow], above: &[usize], region: &RegionNow) -> Option<Problem>
     ensures { option_map problem_of result
         ≡ first_some (blame region.now) (rows_nth rows.now above.now) }
 {
@@ -60,7 +60,7 @@ fn add_blames(
     told: &mut Vec<Problem>,
     rows: &[RoutingRow],
     above: &[usize],
-    regions: &[OpenRegion],
+    regions: &[RegionNow],
 ) -> Result<(), AllocError>
     ensures { OnOk result (map problem_of told.new.items ≡ map problem_of told.old.items
         ++ flat_map (λ q. option_to_list (first_some (blame q) (rows_nth rows.now above.now))) regions.now) }

@@ -6,7 +6,7 @@ ghost use Rattle.model_audit.specs.Agents.{region_agent, agents_of, agents};
 ghost use Rattle.bridge_forward.specs.RoutingRows.{base_of};
 
 use crate::agent::Agent;
-use crate::region::OpenRegion;
+use crate::region::RegionNow;
 use crate::row::opens;
 use bars::Space;
 use bridge_forward::{Path, Ranges, RoutingRegion, RoutingRow};
@@ -14,7 +14,7 @@ use std::alloc::{AllocError, Global};
 
 /// Adds those regions whose space Command opens.
 fn add_regions(
-    told: &mut Vec<OpenRegion>,
+    told: &mut Vec<RegionNow>,
     path: &Path,
     command: u16,
     regions: &[RoutingRegion],
@@ -24,7 +24,7 @@ fn add_regions(
 {
     for region in regions {
         if opens(command, region.kind.space()) {
-            let open = OpenRegion {
+            let open = RegionNow {
                 path: path.copied(),
                 region: *region,
             };
@@ -35,7 +35,7 @@ fn add_regions(
 }
 
 /// Adds the open regions of a function.
-pub(crate) fn add_open(told: &mut Vec<OpenRegion>, row: &RoutingRow) -> Result<(), AllocError>
+pub fn add_open(told: &mut Vec<RegionNow>, row: &RoutingRow) -> Result<(), AllocError>
     ensures { OnOk result (told.new.items ≡ told.old.items ++ open_of row.now) }
 {
     match &row.ranges {
@@ -49,7 +49,7 @@ pub(crate) fn add_open(told: &mut Vec<OpenRegion>, row: &RoutingRow) -> Result<(
 }
 
 /// Adds the agents of open regions.
-fn add_region_agents(told: &mut Vec<Agent>, regions: &[OpenRegion]) -> Result<(), AllocError>
+fn add_region_agents(told: &mut Vec<Agent>, regions: &[RegionNow]) -> Result<(), AllocError>
     ensures { OnOk result (told.new.items ≡ told.old.items ++ map region_agent regions.now) }
 {
     for region in regions {

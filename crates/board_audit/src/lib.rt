@@ -13,7 +13,9 @@ mod row;
 mod span;
 
 pub use agent::Agent;
-pub use finding::problems;
+pub use finding::{first_missed, lesser, problems};
+pub use gather::add_open;
 pub use numbering::address_now;
 pub use problem::Problem;
-pub use region::OpenRegion;
+pub use region::RegionNow;
+pub use row::opens;

@@ -1,6 +1,6 @@
 //! What is wrong in a register state.
 use crate::agent::Agent;
-use crate::region::OpenRegion;
+use crate::region::RegionNow;
 use host_bridge::Bdf;
 use paths::Path;
 
@@ -10,7 +10,7 @@ pub enum Problem {
     /// An open region, the first bridge above it that doesn't forward all of it, and the least byte
     /// that it doesn't.
     NotForwarded {
-        region: OpenRegion,
+        region: RegionNow,
         bridge: Path,
         address: u64,
     },

@@ -1,4 +1,4 @@
-//! An open region.
+//! A region where its register says now.
 ghost use Rattle.std.specs.Prelude.{◌≡◌, ◌+◌, [], ◌∷◌, filter};
 ghost use Rattle.std.specs.Option.{option_to_list};
 ghost use Rattle.model_set_up.specs.PlacedRegions.{holds};
@@ -8,14 +8,14 @@ use crate::row::holds;
 use bridge_forward::{Path, RoutingRegion, Window};
 use std::marker::Model;
 
-/// A region whose space Command opens, and the path of its endpoint.
+/// A region where its register says now, and the path of its endpoint.
 #[derive(Debug, Drop)]
-pub struct OpenRegion {
+pub struct RegionNow {
     pub path: Path,
     pub region: RoutingRegion,
 }
 
-impl Model for OpenRegion {
+impl Model for RegionNow {
     ghost use Rattle.model_set_up.specs.PlacedRegions.{PlacedRegion};
     ghost use Rattle.model_audit.specs.OpenRegions.{region_now};
     ghost use Rattle.bridge_forward.specs.RoutingRows.{base_of};
@@ -35,16 +35,16 @@ pub(crate) fn extent(region: RoutingRegion) -> Window
     }
 }
 
-impl OpenRegion {
+impl RegionNow {
     /// Whether the region holds an address of its space.
-    pub(crate) fn holds(&self, addr: u64) -> bool
+    pub fn holds(&self, addr: u64) -> bool
         ensures { result ≡ holds self.now.space addr self.now }
     {
         holds(extent(self.region), addr)
     }
 
     /// The address after a window, if the region holds it.
-    pub(crate) fn end_held(&self, window: Window) -> Option<u64>
+    pub fn end_held(&self, window: Window) -> Option<u64>
         ensures { option_to_list result
             ≡ filter (λ n. holds self.now.space n self.now) ((extent_of window).end ∷ []) }
     {
@@ -54,10 +54,10 @@ impl OpenRegion {
     }
 
     /// The same region.
-    pub(crate) fn copied(&self) -> OpenRegion
+    pub fn copied(&self) -> RegionNow
         ensures { result ≡ self.now }
     {
-        OpenRegion {
+        RegionNow {
             path: self.path.copied(),
             region: self.region,
         }

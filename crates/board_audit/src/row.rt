@@ -10,7 +10,7 @@ use bars::Space;
 use bridge_forward::{Ranges, RoutingRow, Window};
 
 /// Whether the word of the Command register opens a space.
-pub(crate) fn opens(command: u16, space: Space) -> bool
+pub fn opens(command: u16, space: Space) -> bool
     ensures { result ≡ opens_space command (named_space space) }
 {
     command & space.command_bit() != 0

@@ -3,9 +3,10 @@
 --     window_of, base_of      a window, and a region with its base
 --     named_ranges      the regions of an endpoint, or the windows of a bridge
 --     secondary_of, secondary_nth      the Secondary Bus Number of a bridge; of the one at an index of the list
+--     primary_of, primary_nth      the Primary Bus Number, as well
 use Rattle.std.specs.Prelude.{List, ℕ, Option, Some, None, map, option_map, slice_get}
 use Rattle.std.specs.Option.{option_map_or}
-use Rattle.model_registers.specs.Registers.{File}
+use Rattle.model_registers.specs.Registers.{config, File, number}
 use Rattle.model_registers.specs.EndpointTable.{BaseAddress}
 use Rattle.model_registers.specs.Windows as model
 use Rattle.model_board.specs.Board.{Decl, endpoint, bridge}
@@ -35,3 +36,10 @@ secondary_of (bridge d) file = Some (secondary_register file)
 
 abbrev pub secondary_nth : List BoardFunction → ℕ → Option ℕ
 secondary_nth fs i = option_map_or (λ (f : BoardFunction). secondary_of f.decl f.file) (slice_get fs i) None
+
+abbrev pub primary_of : Decl → File → Option ℕ
+primary_of (endpoint d) file = None
+primary_of (bridge d) file = Some (number file (config 0x18) 1)
+
+abbrev pub primary_nth : List BoardFunction → ℕ → Option ℕ
+primary_nth fs i = option_map_or (λ (f : BoardFunction). primary_of f.decl f.file) (slice_get fs i) None

@@ -168,6 +168,13 @@ impl BridgeFn {
         self.decoded.secondary
     }
 
+    /// The number of the bus that the bridge stands on, as its register holds it.
+    pub(crate) fn primary(&self) -> u8
+        ensures { result ≡ number self.now.file (config 0x18) 1 }
+    {
+        byte_at(&self.cells, 0x18)
+    }
+
     /// The greatest number of a bus behind the bridge, as its registers hold it.
     pub(crate) fn subordinate(&self) -> u8
         ensures { result ≡ subordinate_register self.now.file }

@@ -7,7 +7,7 @@ ghost use Rattle.model_board.specs.Routing.{routing};
 ghost use Rattle.bars.specs.Slots.{bases_from};
 ghost use Rattle.bridge_forward.specs.BasesNow.{bases_nth};
 ghost use Rattle.bridge_forward.specs.Cycled.{reached_by};
-ghost use Rattle.bridge_forward.specs.RoutingRows.{secondary_nth};
+ghost use Rattle.bridge_forward.specs.RoutingRows.{primary_nth, secondary_nth};
 ghost use Rattle.model_board.specs.Paths.{path_before, path_eq};
 ghost use Rattle.model_board.specs.Board.{IsBoard};
 ghost use Rattle.model_board.specs.Places.{board_of};
@@ -199,6 +199,17 @@ impl Bus {
         }
         let node = &self.nodes[index];
         node.function.secondary()
+    }
+
+    /// The Primary Bus Number of the bridge at an index, and None where no bridge stands.
+    pub fn primary_nth(&self, index: usize) -> Option<u8>
+        ensures { result ≡ primary_nth self.now index }
+    {
+        if index >= self.nodes.len() {
+            return None;
+        }
+        let node = &self.nodes[index];
+        node.function.primary()
     }
 
     /// At the index of its first register, each region of the endpoint at an index, where its registers say

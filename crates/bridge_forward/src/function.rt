@@ -10,7 +10,7 @@ ghost use Rattle.model_board.specs.Routing.{ranges_of};
 ghost use Rattle.bars.specs.Slots.{bases_from};
 ghost use Rattle.bridge_forward.specs.BasesNow.{bases_of};
 ghost use Rattle.bridge_forward.specs.ByIndex.{ranges_told};
-ghost use Rattle.bridge_forward.specs.RoutingRows.{named_ranges, secondary_of};
+ghost use Rattle.bridge_forward.specs.RoutingRows.{named_ranges, primary_of, secondary_of};
 ghost use Rattle.model_board.specs.Lawful.{IsLawfulDecl};
 ghost use Rattle.model_board.specs.Cycles.{secondary_register, subordinate_register};
 
@@ -117,6 +117,16 @@ impl Function {
         match self {
             Function::Endpoint(_) => None,
             Function::Bridge(bridge) => Some(bridge.secondary()),
+        }
+    }
+
+    /// The Primary Bus Number of a bridge.
+    pub(crate) fn primary(&self) -> Option<u8>
+        ensures { result ≡ primary_of (decl_of self.now) (file_of self.now) }
+    {
+        match self {
+            Function::Endpoint(_) => None,
+            Function::Bridge(bridge) => Some(bridge.primary()),
         }
     }
 

@@ -12,7 +12,7 @@ ghost use Rattle.model_board.specs.Ports.{selected, selected_register, config_re
 ghost use Rattle.bridge_forward.specs.Locating.{located_claim};
 ghost use Rattle.bars.specs.Slots.{bases_from};
 ghost use Rattle.bridge_forward.specs.BasesNow.{bases_nth};
-ghost use Rattle.bridge_forward.specs.RoutingRows.{secondary_nth};
+ghost use Rattle.bridge_forward.specs.RoutingRows.{primary_nth, secondary_nth};
 ghost use Rattle.paths.specs.BusAddresses.{bus_address_of};
 ghost use Rattle.host_bridge.specs.HostState.{with_functions, with_latch};
 ghost use Rattle.host_bridge.specs.Landings.{IsLanding};
@@ -168,6 +168,13 @@ impl Host {
         ensures { result ≡ secondary_nth self.now.state.functions index }
     {
         self.root.secondary_nth(index)
+    }
+
+    /// The Primary Bus Number of the bridge at an index, and None where no bridge stands: for an audit.
+    pub fn primary_nth(&self, index: usize) -> Option<u8>
+        ensures { result ≡ primary_nth self.now.state.functions index }
+    {
+        self.root.primary_nth(index)
     }
 
     /// At the index of its first register, each region of the endpoint at an index, where its registers say

@@ -15,13 +15,13 @@ use Rattle.model_set_up.specs.SetUp.{set_up_state}
 use Rattle.model_board.specs.AtReset.{reset_state}
 use Rattle.model_board.specs.Windows.{Window}
 use Rattle.model_board.specs.Cycles.{BusAddress}
-use Rattle.model_board.specs.Routing.{RoutingRow, regions, windows}
+use Rattle.model_board.specs.Routing.{RoutingRow, regions, windows, routing}
 use Rattle.model_set_up.specs.PlacedRegions.{PlacedRegion}
 use Rattle.model_guests.specs.Text.{text_of_lines}
 use Rattle.model_audit.specs.OpenRegions.{region_now, closed_regions}
 use Rattle.model_audit.specs.Agents.{region_agent, bridge_agent}
 use Rattle.model_audit.specs.Problems.{not_forwarded, contended, not_found, routing_problems, problems}
-use Rattle.model_audit.specs.Notes.{idle, idle_windows, notes}
+use Rattle.model_audit.specs.Notes.{idle, notes}
 use Rattle.model_audit.specs.AuditText.{audit_text, audit}
 
 abbrev pub between : ℕ → ℕ → Option Window
@@ -98,8 +98,7 @@ pub record WorkedExamples : Type 0 where
       closed_regions (one_card (between 0xc0000000 0xc00fffff) None 0 0xd0000000)
       ≡ card_at (behind 2 0) 0xd0000000 ∷ []
   pub opens_on_nothing :
-      idle_windows (one_card (between 0xc0000000 0xc00fffff) None 0 0xd0000000)
-      (bridge_row 2 (between 0xc0000000 0xc00fffff) None)
+      notes (one_card (between 0xc0000000 0xc00fffff) None 0 0xd0000000)
       ≡ idle (on_root 2) memory (record { first = 0xc0000000; end = 0xc0100000 }) ∷ []
   -- two bridges of one bus whose windows share a unit, though no region lies there
   pub overlap :
@@ -114,7 +113,7 @@ pub record WorkedExamples : Type 0 where
       0xc0000000 ∷ []
   -- a board that is set up has no problem
   pub set_up : problems (set_up_state main_board main_apertures).functions ≡ []
-  pub nothing_told : notes (set_up_state main_board main_apertures).functions ≡ []
+  pub nothing_told : notes (routing (set_up_state main_board main_apertures).functions) ≡ []
   -- at reset its bridge names bus 0, so what stands behind it is looked for there
   pub lost :
       problems (reset_state main_board).functions

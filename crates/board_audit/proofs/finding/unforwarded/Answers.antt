@@ -1,6 +1,6 @@
 use Rattle.std.proofs.Common.{arith}
-use Rattle.board_audit.proofs.Least.{least_lost}
+use Rattle.board_audit.proofs.Least.{missed_unforwarded}
 use Rattle.board_audit.proofs.finding.unforwarded.Goals as goal
 
 pub returns : goal.returns
-returns c = grind (arith, least_lost)
+returns c = grind (arith, missed_unforwarded)

@@ -1,0 +1,2 @@
+pub mod BridgesAbove
+pub mod Indexed

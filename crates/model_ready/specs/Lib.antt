@@ -1,0 +1,4 @@
+pub mod Lacks
+pub mod ReadyLaws
+pub mod ReadyText
+pub mod ReadyExamples

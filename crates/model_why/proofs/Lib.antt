@@ -1,0 +1,4 @@
+pub mod Examples
+pub mod Why
+pub mod Ways
+pub mod Answers

@@ -1,0 +1,5 @@
+use Rattle.model_why.proofs.Examples.{why_examples}
+use Rattle.model_why.proofs.worked_examples.Goals as goal
+
+pub returns : goal.returns
+returns c = why_examples

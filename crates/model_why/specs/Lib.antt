@@ -1,0 +1,5 @@
+pub mod Why
+pub mod Ways
+pub mod WhyLaws
+pub mod WhyText
+pub mod WhyExamples
