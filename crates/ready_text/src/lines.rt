@@ -1,5 +1,6 @@
 //! A lack's line, and the last line.
-ghost use Rattle.std.specs.Prelude.{◌≡◌, ◌++◌, OnOk, string_bytes};
+ghost use Rattle.std.specs.Prelude.{OnOk};
+ghost use Rattle.lists.specs.Texts.{Adds};
 ghost use Rattle.model_guests.specs.Replies.{hex_digits};
 ghost use Rattle.model_ready.specs.Lacks.{not_open, outside_apertures, prefetched_by, other_primary};
 ghost use Rattle.model_ready.specs.ReadyText.{lack_text, lack_total, ready_line};
@@ -15,15 +16,14 @@ use std::alloc::AllocError;
 
 /// Appends a bus number.
 fn push_bus(text: &mut String, bus: u8) -> Result<(), AllocError>
-    ensures { OnOk result (string_bytes text.new ≡ string_bytes text.old ++ hex_digits 2 bus) }
+    ensures { OnOk result (Adds text.old text.new (hex_digits 2 bus)) }
 {
     write!(text, "{bus:02x}")
 }
 
 /// Appends what is lacking of a region that is closed.
 fn push_not_open(text: &mut String, region: &RegionNow) -> Result<(), AllocError>
-    ensures { OnOk result (string_bytes text.new
-        ≡ string_bytes text.old ++ lack_text (not_open region.now)) }
+    ensures { OnOk result (Adds text.old text.new (lack_text (not_open region.now))) }
 {
     push_region(text, region)?;
     text.push_str(" is closed")
@@ -31,8 +31,8 @@ fn push_not_open(text: &mut String, region: &RegionNow) -> Result<(), AllocError
 
 /// Appends what is lacking of a region that isn't inside the apertures.
 fn push_outside(text: &mut String, region: &RegionNow, address: u64) -> Result<(), AllocError>
-    ensures { OnOk result (string_bytes text.new
-        ≡ string_bytes text.old ++ lack_text (outside_apertures region.now address)) }
+    ensures { OnOk result (Adds text.old text.new
+        (lack_text (outside_apertures region.now address))) }
 {
     push_region(text, region)?;
     text.push_str(": ")?;
@@ -47,8 +47,8 @@ fn push_prefetched(
     bridge: &Path,
     address: u64,
 ) -> Result<(), AllocError>
-    ensures { OnOk result (string_bytes text.new
-        ≡ string_bytes text.old ++ lack_text (prefetched_by region.now bridge.now address)) }
+    ensures { OnOk result (Adds text.old text.new
+        (lack_text (prefetched_by region.now bridge.now address))) }
 {
     push_region(text, region)?;
     text.push_str(": ")?;
@@ -64,8 +64,8 @@ fn push_other_primary(
     held: u8,
     number: u8,
 ) -> Result<(), AllocError>
-    ensures { OnOk result (string_bytes text.new
-        ≡ string_bytes text.old ++ lack_text (other_primary path.now held number)) }
+    ensures { OnOk result (Adds text.old text.new
+        (lack_text (other_primary path.now held number))) }
 {
     push_path(text, path)?;
     text.push_str(": Primary is ")?;
@@ -76,8 +76,7 @@ fn push_other_primary(
 
 /// Appends a lack.
 fn push_told(text: &mut String, lack: &Lack) -> Result<(), AllocError>
-    ensures { OnOk result (string_bytes text.new
-        ≡ string_bytes text.old ++ lack_text (lack_of lack.now)) }
+    ensures { OnOk result (Adds text.old text.new (lack_text (lack_of lack.now))) }
 {
     match lack {
         Lack::NotOpen { region } => push_not_open(text, region),
@@ -95,8 +94,8 @@ fn push_told(text: &mut String, lack: &Lack) -> Result<(), AllocError>
 
 /// Appends the line of a lack.
 pub fn push_lack(text: &mut String, lack: &Lack) -> Result<(), AllocError>
-    ensures { OnOk result (string_bytes text.new
-        ≡ string_bytes text.old ++ ended (ready_line (lack_text (lack_of lack.now)))) }
+    ensures { OnOk result (Adds text.old text.new
+        (ended (ready_line (lack_text (lack_of lack.now))))) }
 {
     text.push_str("ready: ")?;
     push_told(text, lack)?;
@@ -105,8 +104,7 @@ pub fn push_lack(text: &mut String, lack: &Lack) -> Result<(), AllocError>
 
 /// Appends the line that counts problems and lacks.
 pub(crate) fn push_total(text: &mut String, count: usize) -> Result<(), AllocError>
-    ensures { OnOk result (string_bytes text.new
-        ≡ string_bytes text.old ++ ended (ready_line (lack_total count))) }
+    ensures { OnOk result (Adds text.old text.new (ended (ready_line (lack_total count)))) }
 {
     if count == 0 {
         return text.push_str("ready: ok\n");

@@ -1,5 +1,6 @@
 //! The whole text.
-ghost use Rattle.std.specs.Prelude.{◌≡◌, ◌++◌, map, OnOk, IfOk, string_bytes};
+ghost use Rattle.std.specs.Prelude.{◌≡◌, map, OnOk, IfOk, string_bytes};
+ghost use Rattle.lists.specs.Texts.{Adds};
 ghost use Rattle.model_ready.specs.Lacks.{lack_count};
 ghost use Rattle.model_ready.specs.ReadyText.{ready_text, ready_report};
 ghost use Rattle.board_audit.specs.Told.{problem_of};
@@ -23,8 +24,7 @@ pub struct Readiness {
 
 /// Appends the lines of all lacks.
 fn push_lacks(text: &mut String, lacks: &[Lack]) -> Result<(), AllocError>
-    ensures { OnOk result (string_bytes text.new
-        ≡ string_bytes text.old ++ lack_lines lacks.now) }
+    ensures { OnOk result (Adds text.old text.new (lack_lines lacks.now)) }
 {
     for lack in lacks {
         push_lack(text, lack)?;
