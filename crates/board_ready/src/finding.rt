@@ -30,11 +30,7 @@ pub fn lacks(alloc: Global, host: &Host, apertures: &Apertures) -> Result<Vec<La
 }
 
 /// Whether there is neither a problem nor a lack, by these apertures. Nothing changes.
-pub fn is_ready(
-    alloc: Global,
-    host: &mut Host,
-    apertures: &Apertures,
-) -> Result<bool, AllocError>
+pub fn is_ready(alloc: Global, host: &mut Host, apertures: &Apertures) -> Result<bool, AllocError>
     ensures ready { let fs = host.old.state.functions in
         IfOk result (λ b. b ≡ is_ready apertures.now fs) }
     ensures after { host.new ≡ host.old }

@@ -27,11 +27,7 @@ impl<R: Route> Engine<R> {
 
     /// All that an operating system would still have to do about the registers of the board as they stand, by these
     /// apertures.
-    pub fn lacks(
-        &self,
-        alloc: Global,
-        apertures: &Apertures,
-    ) -> Result<Vec<Lack>, AllocError>
+    pub fn lacks(&self, alloc: Global, apertures: &Apertures) -> Result<Vec<Lack>, AllocError>
         ensures told { IfOk result (λ v.
             map lack_of v.items ≡ lacks apertures.now (board_state self.now.world).functions) }
     {

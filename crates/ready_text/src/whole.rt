@@ -48,11 +48,7 @@ pub fn lacks_text(alloc: Global, problems: &[Problem], lacks: &[Lack]) -> Result
 
 impl Readiness {
     /// The text of these problems and lacks, with their count.
-    pub fn of(
-        alloc: Global,
-        problems: &[Problem],
-        lacks: &[Lack],
-    ) -> Result<Readiness, AllocError>
+    pub fn of(alloc: Global, problems: &[Problem], lacks: &[Lack]) -> Result<Readiness, AllocError>
         ensures text { let ps = map problem_of problems.now in let ls = map lack_of lacks.now in
             IfOk result (λ r. string_bytes r.text ≡ ready_text ps ls) }
         ensures count { let ps = map problem_of problems.now in let ls = map lack_of lacks.now in

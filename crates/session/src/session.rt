@@ -176,11 +176,7 @@ impl Session {
 
     /// All that is wrong and all that is lacking in the registers of the board as they stand, whoever wrote them,
     /// by these apertures. Nothing changes, also where memory is out.
-    pub fn ready(
-        &mut self,
-        alloc: Global,
-        apertures: &Apertures,
-    ) -> Result<Readiness, AllocError>
+    pub fn ready(&mut self, alloc: Global, apertures: &Apertures) -> Result<Readiness, AllocError>
         ensures text { IfOk result (λ r.
             string_bytes r.text ≡ ready_report apertures.now (session_functions self.old)) }
         ensures count { IfOk result (λ r.

@@ -1,5 +1,5 @@
 -- What the lines write, and after it a text of what they left or a beginning of it.
-use Rattle.std.proofs.Common.{◌≡◌, ◌++◌, ◌==◌, ℕ, zero, suc, Bool, true, false, Result, Ok, Err, Option, Some, inl, inr, refl, ap, ap₂, sym, subst, ◌∙◌}
+use Rattle.std.proofs.Common.{◌≡◌, ◌++◌, ◌==◌, ℕ, Bool, true, false, Result, Ok, Err, Option, Some, inl, inr, ap, ap₂, sym, subst, ◌∙◌, arith}
 use Rattle.std.specs.Prelude.{◌≢◌}
 use Rattle.std.specs.Result.{IsErrAnd}
 use Rattle.std.specs.Io.{StartsWith}
@@ -91,13 +91,13 @@ pub nothing_counted : (n : ℕ) → n ≡ 0 → (n == 0) ≡ true
 nothing_counted n is = ap (λ (m : ℕ). m == 0) is
 
 pub some_counted : (n : ℕ) → n ≢ 0 → (n == 0) ≡ false
-some_counted zero other = absurd (other refl)
-some_counted (suc n) other = refl
+some_counted n other = grind arith
 
 pub is_told_ready : (answer : Bool) (board text : Text) (count : ℕ) (script unread old mid mid_flushed new flushed : Option Text) (x : Left)
     → IsLeft board (ends script unread old mid mid_flushed) (Ok x) → text ≡ ready_report x.1 (session_functions x.0)
     → count ≡ lack_count x.1 (session_functions x.0) → (count == 0) ≡ answer → Appends mid new text → flushed ≡ new
     → IsToldReady answer board (ends script unread old new flushed)
+unfolding is_told
 is_told_ready answer board text count script unread old mid mid_flushed new flushed x l is counts ready last all = record {
   told = is_told ready_of board text script unread old mid mid_flushed new flushed x l (ready_text_of l is) last all;
   ready = λ s known.
