@@ -116,13 +116,14 @@ hostile: pciguest
 
 # Random boards and scripts, answered by the program, by the lone guests and by a second hand in Python:
 # about a million lines. Then board files with mistakes, and what a check says of them; and random register
-# states, and what an audit says of them. make fuzz SEED=.. begins with another board.
+# states, what an audit says of them, and whether they are ready. make fuzz SEED=.. begins with another board.
 SEED := 1
 fuzz: pciguest
 	@$(PROVE) test_lone_answers
 	@python3 tests/fuzz/fuzz.py ./pciguest --lone crates/test_lone_answers/out/test_lone_answers --boards 850 --seed $(SEED)
 	@python3 tests/fuzz/mistakes.py ./pciguest --files 3000 --seed $(SEED)
 	@python3 tests/fuzz/audit.py ./pciguest --states 2000 --seed $(SEED)
+	@python3 tests/fuzz/ready.py ./pciguest --states 2000 --seed $(SEED)
 
 # Functions of two guests in two machines of QEMU at once, under Linux; and strangers at the sockets. It takes QEMU 7.2
 # and Debian's packages, which it names where they are missing, and a minute or two beyond the proofs.

@@ -3,8 +3,8 @@ _pciguest() {
   local word=${COMP_WORDS[COMP_CWORD]}
   COMPREPLY=()
   if [ "$COMP_CWORD" = 1 ]; then
-    mapfile -t COMPREPLY < <(compgen -W 'audit check demo firmware list run --help' -- "$word")
-  elif [ "$COMP_CWORD" = 2 ] && [[ ${COMP_WORDS[1]} == @(audit|check|firmware|list|run) ]]; then
+    mapfile -t COMPREPLY < <(compgen -W 'audit check demo firmware list ready run --help' -- "$word")
+  elif [ "$COMP_CWORD" = 2 ] && [[ ${COMP_WORDS[1]} == @(audit|check|firmware|list|ready|run) ]]; then
     compopt -o filenames 2> /dev/null
     mapfile -t COMPREPLY < <(compgen -f -X '!*.toml' -- "$word"; compgen -d -- "$word")
     [ "${COMP_WORDS[1]}" != check ] || mapfile -t -O "${#COMPREPLY[@]}" COMPREPLY < <(compgen -W '--plain' -- "$word")

@@ -3,7 +3,7 @@ function __pciguest_board
     set -l words (commandline -opc)
     switch (count $words)
         case 2
-            contains -- $words[2] audit check firmware list run
+            contains -- $words[2] audit check firmware list ready run
         case 3
             test "$words[2] $words[3]" = 'check --plain'
         case '*'
@@ -18,6 +18,7 @@ complete -c pciguest -n $first -a check -d 'Say what is wrong with a board file,
 complete -c pciguest -n $first -a demo -d 'Run a script over the demo board'
 complete -c pciguest -n $first -a firmware -d 'Run firmware over a board at reset'
 complete -c pciguest -n $first -a list -d 'Set up a board, and report it'
+complete -c pciguest -n $first -a ready -d 'Run firmware, and then say whether a board is ready, or what it lacks'
 complete -c pciguest -n $first -a run -d 'Run a script over a board'
 complete -c pciguest -n $first -l help -s h -d 'Print help'
 complete -c pciguest -n '__pciguest_board; and test (commandline -opc)[-1] = check' -l plain -d 'Leave the lines of the file out'

@@ -12,8 +12,9 @@ In boards/expected.txt, and in boards/refused for the boards that are refused, a
 report), '== check BOARD', '== check BOARD with excerpts' (on a terminal), '== SCRIPT over BOARD' or '== SCRIPT over BOARD at
 reset' (firmware's lines), and ends with a line 'fault N WORDS' where the program does.
 
-In tests/rows a section begins with '== run BOARD: TITLE' or '== firmware BOARD: TITLE' and has rows 'LINE -> REPLY', of
-one script; or with '== list BOARD: TITLE' and has rows 'OLD | NEW | FAULT', each of a board that is refused. NEW stands
+In tests/rows a section begins with '== run BOARD: TITLE', '== firmware BOARD: TITLE' or '== ready BOARD: TITLE' and has
+rows 'LINE -> REPLY', of one script, where ' -> REPLY' is one more line of an answer; a last row 'fault N WORDS' is the
+program's end. Or it begins with '== list BOARD: TITLE' and has rows 'OLD | NEW | FAULT', each of a board that is refused. NEW stands
 in the place where OLD stood first in the board's file, as it does after a row 'with OLD | NEW' for the whole section. A
 board lies in tests/rows or in boards.
 """
@@ -36,9 +37,9 @@ FORMS = [
     r"(?P<check>check) (?P<board>\S+)(?P<excerpts> with excerpts)?",
     r"(?P<script>\S+) over (?P<board>\S+)(?P<reset> at reset)?",
 ]
-# a command of examples/audit/README.md, and what it prints
-AUDIT = re.compile(
-    r"^\$ cat examples/audit/\{?([\w,]+)\}?\.script \| \./pciguest audit \S+ \| grep audit\n((?:audit: .*\n)+)", re.M)
+# a command of examples/audit/README.md, what it prints, and the fault below
+AUDIT = re.compile(r"^\$ cat examples/audit/\{?([\w,]+)\}?\.script \| \./pciguest (audit|ready) \S+ (?:2>&1 )?\| grep \2\n"
+                   r"((?:\2: .*\n)+)(?:pciguest: fault (.*)\n)?", re.M)
 
 
 @dataclasses.dataclass
@@ -131,14 +132,15 @@ def board_cases(said, lines, sections):
 
 
 def session():
-    """The board that firmware numbers by hand and hands over to guests; and an audit of it as guests have it."""
+    """The board that firmware numbers by hand and hands over to guests; and what is said of it as guests have it."""
     folder = TOP / "examples/session"
     script, board = (folder / "session.script").read_bytes(), (folder / "board.toml").read_bytes()
     files = {"session/board.toml": board}
     wanted = lines_of(folder / "session.stdout")
     yield Case("firmware examples/session/board.toml < session.script", ["firmware", *files], script, wanted, files)
-    audited = [*wanted, "audit: ok"]
-    yield Case("audit examples/session/board.toml < session.script", ["audit", *files], script, audited, files)
+    for verb in ("audit", "ready"):
+        told = [*wanted, f"{verb}: ok"]
+        yield Case(f"{verb} examples/session/board.toml < session.script", [verb, *files], script, told, files)
 
 
 def audits():
@@ -146,13 +148,14 @@ def audits():
     folder = TOP / "examples/audit"
     text, files = (folder / "README.md").read_text(encoding="utf-8"), {"audit/board.toml": (folder / "board.toml").read_bytes()}
     found = AUDIT.findall(text)
-    if len(found) != len(list(folder.glob("*.script"))):
+    # one for each script, and one more for that which leaves nothing to do
+    if len(found) != len(list(folder.glob("*.script"))) + 1:
         raise ValueError("examples/audit/README.md: not one command for each script")
-    for names, wanted in found:
+    for names, verb, wanted, fault in found:
         scripts = [f"{it}.script" for it in names.split(",")]
         given = b"".join((folder / it).read_bytes() for it in scripts)
-        name = f"audit examples/audit/board.toml < {' '.join(scripts)}"
-        yield Case(name, ["audit", *files], given, wanted.splitlines(), files, only="audit")
+        name = f"{verb} examples/audit/board.toml < {' '.join(scripts)}"
+        yield Case(name, [verb, *files], given, wanted.splitlines(), files, fault, only=verb)
 
 
 # ---- tests/rows
@@ -164,7 +167,7 @@ class Section:
         self.title = f"rows/{file.name}: {head.partition(': ')[2]}"
         self.verb, _, self.board = head.partition(":")[0].partition(" ")
         self.text = board_files(self.board)[self.board].decode()
-        self.is_changed, self.asked, self.replies = False, [], []
+        self.is_changed, self.asked, self.replies, self.fault = False, [], [], ""
         # each board of a section has a folder of its own
         self.folder, self.count = f"rows{count}", 0
 
@@ -187,6 +190,8 @@ class Section:
             files = self.files(self.put(parts[0], parts[1]))
             name = f"{self.title}: list {self.board} with '{parts[1]}' in place of '{parts[0]}'"
             yield Case(name, ["list", *files], b"", [], files, parts[2])
+        elif row.startswith("fault "):
+            self.fault = row[len("fault "):]
         elif " -> " in row:
             line, _, reply = row.rpartition(" -> ")
             self.asked.append(line.rstrip(" "))
@@ -200,7 +205,7 @@ class Section:
             return
         script, files = "".join(f"{it}\n" for it in self.asked).encode(), self.files(self.text)
         name = f"{self.title}: {self.verb} {self.board}"
-        yield Case(name, [self.verb, *files], script, self.replies, files)
+        yield Case(name, [self.verb, *files], script, self.replies, files, self.fault)
         guests = ROWS / f"{pathlib.Path(self.board).stem}.guests"
         if self.verb == "run" and not self.is_changed and guests.is_file():
             # what the host reads, no lone guest answers

@@ -53,7 +53,7 @@ completed() {
   bash -c 'source "$1"; shift; COMP_WORDS=("$@"); COMP_CWORD=$(($# - 1)); _pciguest; echo "${COMPREPLY[@]}"' - \
     "$at/share/bash-completion/completions/pciguest" "$@"
 }
-holds 'all words' same 'audit check demo firmware list run --help' completed pciguest ''
+holds 'all words' same 'audit check demo firmware list ready run --help' completed pciguest ''
 holds 'a word' same 'list' completed pciguest l
 board=$top/boards/chain.toml
 holds 'a board' test "$(completed pciguest list "${board%ain.toml}")" = "$board"
@@ -70,7 +70,7 @@ if command -v zsh > /dev/null; then
       _files() { print -rl -- ${words[CURRENT]}*.toml(N); }
       source $file' - "$at/share/zsh/site-functions/_pciguest" "$@")
   }
-  holds 'all words in zsh' same 'audit check demo firmware list run --help' in_zsh pciguest ''
+  holds 'all words in zsh' same 'audit check demo firmware list ready run --help' in_zsh pciguest ''
   holds 'a board in zsh' same 'chain.toml' in_zsh pciguest list ch
   holds 'a word of a check in zsh' same '--plain chain.toml' in_zsh pciguest check ch
   holds 'a board after it in zsh' same 'chain.toml' in_zsh pciguest check --plain ch
@@ -81,7 +81,7 @@ if command -v fish > /dev/null; then
     echo $(cd "$(dirname "$board")" && HOME=$room fish --no-config -c 'source $argv[1]; complete -C "$argv[2]"' \
       "$at/share/fish/vendor_completions.d/pciguest.fish" "$1" | cut -f1)
   }
-  holds 'all words in fish' same 'audit check demo firmware list run' in_fish 'pciguest '
+  holds 'all words in fish' same 'audit check demo firmware list ready run' in_fish 'pciguest '
   holds 'a board in fish' same 'chain.toml' in_fish 'pciguest list ch'
   holds 'a word of a check in fish' same '--plain' in_fish 'pciguest check -'
   holds 'a board after it in fish' same 'chain.toml' in_fish 'pciguest check --plain ch'

@@ -221,6 +221,37 @@ fails_with 'audit, a faulty file' '107 size' audit "$boards/refused/size.toml" <
 fails_with 'audit, no such file' '702 board file' audit nothing.toml < /dev/null
 fails_with 'audit, standard input closed' '501 read failed' audit "$boards/main.toml" <&-
 
+# ---- ready: the same lines, and then what is wrong and what is lacking; where that is anything, a fault after it
+# ends_with_fault NAME 'N WORDS' WORDS..: it ends with this fault, after the output in wanted.out
+ends_with_fault() {
+  local name=$1 fault=$2; shift 2
+  timeout 60 "$program" "$@" > out 2> err; status=$?
+  echo "pciguest: fault $fault" > wanted.err; wanted=1
+  tell "$name"
+}
+echo 'ready: ok' > wanted.out
+ends_with 'ready, no function at all' ready "$boards/host_alone.toml" < /dev/null
+{ sed '/^#/d; s/.*/host: ok/' "$top/examples/audit/set_up.script"; echo 'ready: ok'; } > wanted.out
+ends_with 'ready' ready "$top/examples/audit/board.toml" < "$top/examples/audit/set_up.script"
+full 'ready' ready "$top/examples/audit/board.toml" < "$top/examples/audit/set_up.script"
+cat > wanted.out <<'END'
+audit: 2.0/0.0: a cycle for 00:00.0 reaches nothing
+audit: 2.0/1.0: a cycle for 00:01.0 reaches 1.0
+ready: 1.0 bar0 at 0x0 size 0x20 is closed
+ready: 1.0 bar1 at 0x0 size 0x1000 is closed
+ready: 2.0/0.0 bar0 at 0x0 size 0x100000 is closed
+ready: 2.0/0.0 bar1 at 0x0 size 0x8 is closed
+ready: 2.0/1.0 bar0 at 0x0 size 0x1000000 is closed
+ready: 7 lacks
+END
+ends_with_fault 'ready, a board at reset' '208 not ready' ready "$boards/main.toml" < /dev/null
+full 'ready, a board at reset' ready "$boards/main.toml" < /dev/null
+{ echo 'host: ok'; cat wanted.out; } > wanted.more; mv wanted.more wanted.out
+ends_with_fault 'ready, a last line without a line feed' '208 not ready' ready "$boards/main.toml" < <(printf 'host mw 0 4 1')
+fails_with 'ready, a faulty file' '107 size' ready "$boards/refused/size.toml" < /dev/null
+fails_with 'ready, no such file' '702 board file' ready nothing.toml < /dev/null
+fails_with 'ready, standard input closed' '501 read failed' ready "$boards/main.toml" <&-
+
 # ---- run: lines at the ends of what a line may say
 longest=$(printf '%190s' '')
 {
@@ -330,6 +361,8 @@ fails_with 'list alone' "$usage" list
 fails_with 'run alone' "$usage" run
 fails_with 'firmware alone' "$usage" firmware
 fails_with 'audit alone' "$usage" audit
+fails_with 'ready alone' "$usage" ready
+fails_with 'a word too many for ready' "$usage" ready "$boards/main.toml" y
 fails_with 'a word too many for list' "$usage" list "$boards/main.toml" y
 fails_with 'a word too many for demo' "$usage" demo demo
 fails_with 'an unknown word' "$usage" x

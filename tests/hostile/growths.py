@@ -33,8 +33,8 @@ def numbers_of(room, words, script, board, ends):
     numbers = [799] * counts.for_words + [299]
     numbers += [702] * (counts.until_file_read - len(numbers))
     left = counts.growths - len(numbers)
-    kept = 1 if words[0] in ("firmware", "audit") else 0
-    made = growths_of_board(room, board) + kept if ends == "ok" else left
+    kept = 1 if words[0] in ("firmware", "audit", "ready") else 0
+    made = growths_of_board(room, board) + kept if ends in ("ok", "208") else left
     return numbers + [199] * made + [299] * (left - made)
 
 
@@ -114,7 +114,8 @@ def main(program, *options):
         refuse_each(room, "check, many places", ["check", PLACES], b"", mode, PLACES, "105")
         refuse_each(room, "run, main board, empty script", ["run", MAIN], b"", mode)
         refuse_each(room, "run, main board", ["run", MAIN], every, mode)
-        refuse_each(room, "audit, broken", ["audit", AUDIT / "board.toml"], broken, mode, AUDIT / "board.toml")
+        for verb, ends in [("audit", "ok"), ("ready", "208")]:
+            refuse_each(room, f"{verb}, broken", [verb, AUDIT / "board.toml"], broken, mode, AUDIT / "board.toml", ends)
         if largest:
             refuse_each(room, "list, largest board", ["list", LARGEST], b"", mode, LARGEST)
             refuse_each(room, "run, largest board", ["run", LARGEST], every, mode, LARGEST)

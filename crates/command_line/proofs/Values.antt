@@ -16,7 +16,7 @@ use Rattle.clap.specs.declared.parser.matches.SubCommand.{SubCommand}
 use Rattle.command_line.specs.Words.{pciguest_app, subcommand, value, value_in}
 use Rattle.command_line.specs.Choices.{is_plain, board_in, IsAskedBy, IsNoCommand}
 use Rattle.command_line.specs.declared.choice.Choice.{Choice}
-use Rattle.command_line.specs.declared.choice.Choice.TheVariants.{Help, Demo, List as Lists, Check, Run, Firmware, Audit}
+use Rattle.command_line.specs.declared.choice.Choice.TheVariants.{Help, Demo, List as Lists, Check, Run, Firmware, Audit, Ready}
 
 abbrev Entry : Type 0
 Entry = Bor (List ℕ) × MatchedArg
@@ -65,25 +65,26 @@ asked m words name f e n r =
 
 -- ---- the names of subcommands
 
-one_of : (d l k r f a : Shape) (t u x v y z : Bool) (ws : List (List ℕ)) (n : List ℕ)
-    → Some n ≡ option_map (λ (q : List ℕ × List Row). q.0) (option_map (λ (s : Shape). rows_at s ws) (cond t (Some d) (cond u (Some l) (cond x (Some k) (cond v (Some r) (cond y (Some f) (cond z (Some a) None)))))))
-    → (n ≡ d.name) ⊎ ((n ≡ l.name) ⊎ ((n ≡ k.name) ⊎ ((n ≡ r.name) ⊎ ((n ≡ f.name) ⊎ (n ≡ a.name)))))
-one_of d l k r f a true u x v y z ws n h = inl (let same : n ≡ d.name = cc in same)
-one_of d l k r f a false true x v y z ws n h = inr (inl (let same : n ≡ l.name = cc in same))
-one_of d l k r f a false false true v y z ws n h = inr (inr (inl (let same : n ≡ k.name = cc in same)))
-one_of d l k r f a false false false true y z ws n h = inr (inr (inr (inl (let same : n ≡ r.name = cc in same))))
-one_of d l k r f a false false false false true z ws n h = inr (inr (inr (inr (inl (let same : n ≡ f.name = cc in same)))))
-one_of d l k r f a false false false false false true ws n h = inr (inr (inr (inr (inr (let same : n ≡ a.name = cc in same)))))
-one_of d l k r f a false false false false false false ws n h = absurd (let wrong : Some n ≡ None = h in cc)
+one_of : (d l k r f a e : Shape) (t u x v y z w : Bool) (ws : List (List ℕ)) (n : List ℕ)
+    → Some n ≡ option_map (λ (q : List ℕ × List Row). q.0) (option_map (λ (s : Shape). rows_at s ws) (cond t (Some d) (cond u (Some l) (cond x (Some k) (cond v (Some r) (cond y (Some f) (cond z (Some a) (cond w (Some e) None))))))))
+    → (n ≡ d.name) ⊎ ((n ≡ l.name) ⊎ ((n ≡ k.name) ⊎ ((n ≡ r.name) ⊎ ((n ≡ f.name) ⊎ ((n ≡ a.name) ⊎ (n ≡ e.name))))))
+one_of d l k r f a e true u x v y z w ws n h = inl (let same : n ≡ d.name = cc in same)
+one_of d l k r f a e false true x v y z w ws n h = inr (inl (let same : n ≡ l.name = cc in same))
+one_of d l k r f a e false false true v y z w ws n h = inr (inr (inl (let same : n ≡ k.name = cc in same)))
+one_of d l k r f a e false false false true y z w ws n h = inr (inr (inr (inl (let same : n ≡ r.name = cc in same))))
+one_of d l k r f a e false false false false true z w ws n h = inr (inr (inr (inr (inl (let same : n ≡ f.name = cc in same)))))
+one_of d l k r f a e false false false false false true w ws n h = inr (inr (inr (inr (inr (inl (let same : n ≡ a.name = cc in same))))))
+one_of d l k r f a e false false false false false false true ws n h = inr (inr (inr (inr (inr (inr (let same : n ≡ e.name = cc in same))))))
+one_of d l k r f a e false false false false false false false ws n h = absurd (let wrong : Some n ≡ None = h in cc)
 
 abbrev IsKnown : List ℕ → Type 0
-IsKnown n = (n ≡ codes "demo") ⊎ ((n ≡ codes "list") ⊎ ((n ≡ codes "check") ⊎ ((n ≡ codes "run") ⊎ ((n ≡ codes "firmware") ⊎ (n ≡ codes "audit")))))
+IsKnown n = (n ≡ codes "demo") ⊎ ((n ≡ codes "list") ⊎ ((n ≡ codes "check") ⊎ ((n ≡ codes "run") ⊎ ((n ≡ codes "firmware") ⊎ ((n ≡ codes "audit") ⊎ (n ≡ codes "ready"))))))
 
 stop_name : (stop : Option (List ℕ × List (List ℕ))) (n : List ℕ)
     → Some n ≡ option_map (λ (q : List ℕ × List Row). q.0) (entered (built pciguest_app) stop) → IsKnown n
 unfolding clap_on_literals
 stop_name None n h = absurd (let wrong : Some n ≡ None = h in cc)
-stop_name (Some p) n h = one_of _ _ _ _ _ _ _ _ _ _ _ _ p.1 n h
+stop_name (Some p) n h = one_of _ _ _ _ _ _ _ _ _ _ _ _ _ _ p.1 n h
 
 -- of the subcommand that a parse met
 pub no_other : (m : ArgMatches) (words : List (List ℕ)) (n : List ℕ) → subcommand_rows_of m ≡ subcommand_of pciguest_app words
@@ -97,7 +98,8 @@ no_other m words n read known none =
     by_name (inr (inr (inl is))) = none.check is
     by_name (inr (inr (inr (inl is)))) = none.run is
     by_name (inr (inr (inr (inr (inl is))))) = none.firmware is
-    by_name (inr (inr (inr (inr (inr is))))) = none.audit is
+    by_name (inr (inr (inr (inr (inr (inl is)))))) = none.audit is
+    by_name (inr (inr (inr (inr (inr (inr is)))))) = none.ready is
 
 -- ---- what the same values ask for
 
@@ -118,3 +120,4 @@ asked_alike same alike terminal (Check path plain) said = (
 asked_alike same alike terminal (Run path) said = (same ∙ said.0, said.1 ∙ sym (board_alike alike))
 asked_alike same alike terminal (Firmware path) said = (same ∙ said.0, said.1 ∙ sym (board_alike alike))
 asked_alike same alike terminal (Audit path) said = (same ∙ said.0, said.1 ∙ sym (board_alike alike))
+asked_alike same alike terminal (Ready path) said = (same ∙ said.0, said.1 ∙ sym (board_alike alike))

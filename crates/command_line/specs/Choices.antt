@@ -9,7 +9,7 @@ use Rattle.std.specs.Option.{option_map_or}
 use Rattle.std.specs.Str.{bytes_eq}
 use Rattle.command_line.specs.Words.{subcommand, value}
 use Rattle.command_line.specs.declared.choice.Choice.{Choice}
-use Rattle.command_line.specs.declared.choice.Choice.TheVariants.{Help, Demo, List as Lists, Check, Run, Firmware, Audit}
+use Rattle.command_line.specs.declared.choice.Choice.TheVariants.{Help, Demo, List as Lists, Check, Run, Firmware, Audit, Ready}
 
 abbrev pub is_true : Option (List ℕ) → Bool
 is_true given = option_map_or (λ t. bytes_eq t (codes "true")) given false
@@ -30,6 +30,7 @@ IsAskedBy name value terminal (Check path plain) =
 IsAskedBy name value terminal (Run path) = (name ≡ Some (codes "run")) × (path.now ≡ board_in value)
 IsAskedBy name value terminal (Firmware path) = (name ≡ Some (codes "firmware")) × (path.now ≡ board_in value)
 IsAskedBy name value terminal (Audit path) = (name ≡ Some (codes "audit")) × (path.now ≡ board_in value)
+IsAskedBy name value terminal (Ready path) = (name ≡ Some (codes "ready")) × (path.now ≡ board_in value)
 
 abbrev pub IsAsked : List (List ℕ) → Bool → Choice → Type 0
 IsAsked words terminal choice = IsAskedBy (subcommand words) (value words) terminal choice
@@ -41,6 +42,7 @@ pub record IsNoCommand (name : List ℕ) : Type 0 where
   pub run : name ≢ codes "run"
   pub firmware : name ≢ codes "firmware"
   pub audit : name ≢ codes "audit"
+  pub ready : name ≢ codes "ready"
 
 abbrev pub IsHelp : Choice → Type 0
 IsHelp (Help text) = Unit {0}

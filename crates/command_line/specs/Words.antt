@@ -1,5 +1,6 @@
 -- The program's command line, as a definition that `clap` reads.
---     demo_and_list_app, with_check_app, with_run_app, with_firmware_app      with the first subcommands, and up to these
+--     demo_and_list_app, with_check_app, with_run_app, with_firmware_app, with_audit_app      with the first subcommands, and
+--         up to these
 --     pciguest_app      with all of them
 --     is_taken words      the command line takes these words, the program's name among them
 --     subcommand words      the subcommand that they name
@@ -17,7 +18,7 @@ board_rule = record (new_rule (codes "board")) { required = true }
 abbrev pub plain_rule : Rule
 plain_rule = record (new_rule (codes "plain")) { long = Some (codes "plain"); action = Some SetTrue }
 
--- `list BOARD`, `check [--plain] BOARD`, `run BOARD`, `firmware BOARD` and `audit BOARD`
+-- `list BOARD`, `check [--plain] BOARD`, `run BOARD`, `firmware BOARD`, `audit BOARD` and `ready BOARD`
 abbrev pub list_shape : Shape
 list_shape = record (new_shape (codes "list")) { rules = board_rule ∷ [] }
 
@@ -32,6 +33,9 @@ firmware_shape = record (new_shape (codes "firmware")) { rules = board_rule ∷ 
 
 abbrev pub audit_shape : Shape
 audit_shape = record (new_shape (codes "audit")) { rules = board_rule ∷ [] }
+
+abbrev pub ready_shape : Shape
+ready_shape = record (new_shape (codes "ready")) { rules = board_rule ∷ [] }
 
 -- `pciguest demo` and `pciguest list BOARD`, with no help subcommand and no version
 abbrev pub demo_and_list_app : App
@@ -53,8 +57,12 @@ abbrev pub with_firmware_app : App
 with_firmware_app = with_subcommand with_run_app firmware_shape
 
 -- and `pciguest audit BOARD`
+abbrev pub with_audit_app : App
+with_audit_app = with_subcommand with_firmware_app audit_shape
+
+-- and `pciguest ready BOARD`
 abbrev pub pciguest_app : App
-pciguest_app = with_subcommand with_firmware_app audit_shape
+pciguest_app = with_subcommand with_audit_app ready_shape
 
 abbrev pub is_taken : List (List ℕ) → Bool
 is_taken words = takes pciguest_app words

@@ -29,6 +29,8 @@ pub enum Choice<'a> {
     Firmware(&'a str),
     /// Do the same, and then write all that is wrong in the registers as they stand.
     Audit(&'a str),
+    /// Do the same, and then write all that is wrong and all that is lacking in them.
+    Ready(&'a str),
 }
 
 /// Why words are not read.
@@ -88,6 +90,7 @@ fn asked<'a>(name: &str, given: &ArgMatches<'a>, is_terminal: bool) -> Option<Ch
         "run" => Some(Choice::Run(path)),
         "firmware" => Some(Choice::Firmware(path)),
         "audit" => Some(Choice::Audit(path)),
+        "ready" => Some(Choice::Ready(path)),
         _ => None,
     }
 }

@@ -3,9 +3,9 @@ ghost use Rattle.std.specs.Prelude.{◌≡◌, false, codes, IfOk};
 ghost use Rattle.clap.specs.declared.builder.command.Command.TheViews.{out-Command as fields_of};
 ghost use Rattle.clap.specs.Simple.{app_of, shape_of, new_shape};
 ghost use Rattle.clap.specs.Walk.{rule_of};
-ghost use Rattle.command_line.specs.Words.{board_rule, plain_rule, list_shape, check_shape, run_shape, firmware_shape, audit_shape};
+ghost use Rattle.command_line.specs.Words.{board_rule, plain_rule, list_shape, check_shape, run_shape, firmware_shape, audit_shape, ready_shape};
 ghost use Rattle.command_line.specs.Words.{demo_and_list_app, with_check_app, with_run_app};
-ghost use Rattle.command_line.specs.Words.{with_firmware_app, pciguest_app};
+ghost use Rattle.command_line.specs.Words.{with_firmware_app, with_audit_app, pciguest_app};
 
 use clap::{Arg, ArgAction, Command};
 use std::alloc::{AllocError, Global};
@@ -90,6 +90,16 @@ fn audit<'a>(alloc: Global) -> Result<Command<'a>, AllocError>
         .arg(board(alloc))
 }
 
+/// `ready BOARD`.
+fn ready<'a>(alloc: Global) -> Result<Command<'a>, AllocError>
+    ensures shape { IfOk result (λ c. shape_of c ≡ ready_shape) }
+    ensures local { IfOk result (λ c. (fields_of c).has_globals ≡ false) }
+{
+    Command::new(alloc, "ready")
+        .about("Do the same, and then say whether the board is ready, or all that it lacks")
+        .arg(board(alloc))
+}
+
 /// The program's command line with `demo` and `list` alone.
 fn demo_and_list<'a>(alloc: Global) -> Result<Command<'a>, AllocError>
     ensures { IfOk result (λ c. app_of c ≡ demo_and_list_app) }
@@ -127,10 +137,18 @@ fn with_firmware<'a>(alloc: Global) -> Result<Command<'a>, AllocError>
     with_run(alloc)?.subcommand(firmware)
 }
 
+/// The same with `audit`.
+fn with_audit<'a>(alloc: Global) -> Result<Command<'a>, AllocError>
+    ensures { IfOk result (λ c. app_of c ≡ with_audit_app) }
+{
+    let audit = audit(alloc)?;
+    with_firmware(alloc)?.subcommand(audit)
+}
+
 /// The program's command line.
 pub(crate) fn command<'a>(alloc: Global) -> Result<Command<'a>, AllocError>
     ensures { IfOk result (λ c. app_of c ≡ pciguest_app) }
 {
-    let audit = audit(alloc)?;
-    with_firmware(alloc)?.subcommand(audit)
+    let ready = ready(alloc)?;
+    with_audit(alloc)?.subcommand(ready)
 }

@@ -12,10 +12,10 @@ use Rattle.model_guests.proofs.Isolation.{isolated_over}
 use Rattle.model_handoff.specs.Handoffs.{taken_over}
 use Rattle.model_handoff.specs.Regions.{HandoffFault, first_fault}
 use Rattle.model_handoff.specs.Changes.{MachineNow, machine_protocol}
-use Rattle.model_lines.specs.Sessions.{is_audit, is_handover, DrivenNow, SessionNow, driven, given, after_handover, handed_over}
+use Rattle.model_lines.specs.Sessions.{is_question, is_handover, DrivenNow, SessionNow, driven, given, after_handover, handed_over}
 use Rattle.model_lines.specs.Sessions.{after_board_line, after_session_line, session_protocol}
 use Rattle.model_lines.specs.SessionLaws.{IsHandedOver, IsGivenBy, GivenBy, IsolatedSessions}
-use Rattle.model_lines.proofs.SessionLines.{audits_change_nothing, handover_leaves, plain_after, given_is_script}
+use Rattle.model_lines.proofs.SessionLines.{questions_change_nothing, handover_leaves, unasked_after, given_is_script}
 
 same_given : (m n : MachineNow) → given m ≡ given n → m ≡ n
 same_given m n is = cc
@@ -30,14 +30,14 @@ left_by_fault b line asks None can =
     hands_over (record { asks = asks; can = can }) (handover_leaves b line asks ∙ ap (after_handover b) can)
 left_by_fault b line asks (Some f) fault = goes_on b (handover_leaves b line asks ∙ ap (after_handover b) fault)
 
-left_by : (b : DrivenNow) (line : Text) (t u : Bool) → is_audit line ≡ t → is_handover line ≡ u → Left b line
-left_by b line true u is_one is_other = goes_on b (audits_change_nothing (driven b) line is_one)
+left_by : (b : DrivenNow) (line : Text) (t u : Bool) → is_question line ≡ t → is_handover line ≡ u → Left b line
+left_by b line true u is_one is_other = goes_on b (questions_change_nothing (driven b) line is_one)
 left_by b line false true is_one is_other = left_by_fault b line is_other (first_fault b.world b.state) refl
 left_by b line false false is_one is_other =
-    goes_on (after_board_line b line) (plain_after b line (record { no_audit = is_one; no_handover = is_other }))
+    goes_on (after_board_line b line) (unasked_after b line is_one is_other)
 
 left : (b : DrivenNow) (line : Text) → Left b line
-left b line = left_by b line (is_audit line) (is_handover line) refl refl
+left b line = left_by b line (is_question line) (is_handover line) refl refl
 
 given_by_left : (b : DrivenNow) (l : Text) (ls : List Text) (m : MachineNow) → Left b l
     → ((next : DrivenNow) → after_lines session_protocol (driven next) ls ≡ given m → IsGivenBy next ls m)

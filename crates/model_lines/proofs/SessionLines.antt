@@ -1,5 +1,5 @@
 -- What sessions write and leave.
-use Rattle.std.proofs.Common.{◌≡◌, ℕ, ◌++◌, Bool, true, false, cond, List, [], ◌∷◌, Option, None, Some, refl, ap, ap₂, ◌∙◌, arith}
+use Rattle.std.proofs.Common.{◌≡◌, ℕ, ◌++◌, ◌||◌, Bool, true, false, cond, List, [], ◌∷◌, Option, None, Some, refl, ap, ap₂, ◌∙◌, arith}
 use Rattle.std.specs.Prelude.{IsTrue, if◌then◌else◌}
 use Rattle.std.proofs.lemmas.Slice.Eq.{bytes_eq-Decides}
 use Rattle.model_guests.specs.Text.{Text}
@@ -14,9 +14,9 @@ use Rattle.model_handoff.specs.Regions.{first_fault}
 use Rattle.model_handoff.specs.Actions.{calls}
 use Rattle.model_handoff.specs.Changes.{MachineNow, after_on_machine, after_line_on_machine, counts_where, machine_protocol}
 use Rattle.model_handoff.proofs.Aside.{output_aside, after_aside}
-use Rattle.model_lines.specs.Sessions.{is_audit, is_handover, DrivenNow, driven, given, after_handover}
+use Rattle.model_lines.specs.Sessions.{is_audit, is_ready_line, is_question, is_handover, DrivenNow, driven, given, after_handover}
 use Rattle.model_lines.specs.Sessions.{after_meant, after_board_line, after_session_line, session_protocol}
-use Rattle.model_lines.specs.SessionLaws.{IsNoForm, HostWordsAreNoForm, AuditsChangeNothing, RefusedStays, IsPlain}
+use Rattle.model_lines.specs.SessionLaws.{IsNoForm, HostWordsAreNoForm, QuestionsChangeNothing, RefusedStays, IsPlain}
 use Rattle.model_lines.specs.SessionLaws.{PlainSessions, DrivenIsFirmware, GivenIsScript}
 
 -- ---- the two lines have no form
@@ -47,27 +47,33 @@ bad_stays m line none =
     ap (λ x. after_on_machine m (calls (asks x))) (none.script (names_now m.world))
     ∙ ap (λ (ns : List ℕ). let n : MachineNow = record { world = m.world; counts = ns } in n) (unchanged (names_now m.world) m.counts)
 
-pub audits_change_nothing : AuditsChangeNothing
-audits_change_nothing (driven b) line is =
+pub questions_change_nothing : QuestionsChangeNothing
+questions_change_nothing (driven b) line is =
     ap (λ (t : Bool). cond t (driven b) (cond (is_handover line) (after_handover b (first_fault b.world b.state)) (driven (after_board_line b line)))) is
-audits_change_nothing (given m) line is = grind (arith, bad_stays, host_words_are_no_form)
+questions_change_nothing (given m) line is = grind (arith, bad_stays, host_words_are_no_form)
 
--- a line can't ask for both
+-- a line can't ask for two of these
 pub no_audit : (line : Text) → IsTrue (is_handover line) → is_audit line ≡ false
 no_audit line is = grind (arith, bytes_eq-Decides)
 
+pub no_ready : (line : Text) → IsTrue (is_handover line) → is_ready_line line ≡ false
+no_ready line is = grind (arith, bytes_eq-Decides)
+
 pub handover_leaves : (b : DrivenNow) (line : Text) → IsTrue (is_handover line) → after_session_line (driven b) line ≡ after_handover b (first_fault b.world b.state)
 handover_leaves b line is =
-    ap₂ (λ (t u : Bool). cond t (driven b) (cond u (after_handover b (first_fault b.world b.state)) (driven (after_board_line b line)))) (no_audit line is) is
+    ap₂ (λ (t u : Bool). cond t (driven b) (cond u (after_handover b (first_fault b.world b.state)) (driven (after_board_line b line)))) (ap₂ ◌||◌ (no_audit line is) (no_ready line is)) is
 
 pub refused_stays : RefusedStays
 refused_stays b f line is fault = handover_leaves b line is ∙ ap (after_handover b) fault
 
 -- ---- firmware's lines, and guests' lines
 
-pub plain_after : (b : DrivenNow) (line : Text) → IsPlain line → after_session_line (driven b) line ≡ driven (after_board_line b line)
-plain_after b line h =
-    ap₂ (λ (t u : Bool). cond t (driven b) (cond u (after_handover b (first_fault b.world b.state)) (driven (after_board_line b line)))) h.no_audit h.no_handover
+pub unasked_after : (b : DrivenNow) (line : Text) → is_question line ≡ false → is_handover line ≡ false → after_session_line (driven b) line ≡ driven (after_board_line b line)
+unasked_after b line none unasked =
+    ap₂ (λ (t u : Bool). cond t (driven b) (cond u (after_handover b (first_fault b.world b.state)) (driven (after_board_line b line)))) none unasked
+
+plain_after : (b : DrivenNow) (line : Text) → IsPlain line → after_session_line (driven b) line ≡ driven (after_board_line b line)
+plain_after b line h = unasked_after b line (ap₂ ◌||◌ h.no_audit h.no_ready) h.no_handover
 
 meant_state : (b : DrivenNow) (m : Meaning) → (after_meant b m).state ≡ after_meaning b.state m
 meant_state b nothing = refl

@@ -1,8 +1,8 @@
 -- Laws of sessions.
 --     HostWordsAreNoForm      `host` and one word are refused among firmware's lines and among a script's
---     AuditsChangeNothing      an audit changes nothing, and among guests' lines it is a bad line
+--     QuestionsChangeNothing      an audit or readiness changes nothing, and among guests' lines it is a bad line
 --     RefusedStays      a handover that is refused changes nothing
---     PlainSessions      lines without the two write and leave what they do as firmware's lines
+--     PlainSessions      lines without all these write and leave what they do as firmware's lines
 --     DrivenIsFirmware      such lines leave the world, and the board as they do without a session
 --     GivenIsScript      once the board is given, lines write and leave what they do as a script's
 --     AccessesTellWritten, LinesTellWritten      where no write was done, a board with latch 0 is as it was
@@ -26,7 +26,8 @@ use Rattle.model_lines.specs.FirmwareLines.{board_protocol}
 use Rattle.model_lines.specs.HostAccesses.{HostAccess}
 use Rattle.model_handoff.specs.Regions.{HandoffFault, first_fault}
 use Rattle.model_handoff.specs.Changes.{MachineNow, machine_protocol}
-use Rattle.model_lines.specs.Sessions.{host_word, is_audit, is_handover, DrivenNow, SessionNow, driven, given}
+use Rattle.model_lines.specs.Sessions.{host_word, is_audit, is_ready_line, is_question, is_handover}
+use Rattle.model_lines.specs.Sessions.{DrivenNow, SessionNow, driven, given}
 use Rattle.model_lines.specs.Sessions.{after_board_access, after_board_line, driven_protocol, handed_over}
 use Rattle.model_lines.specs.Sessions.{after_session_line, session_protocol}
 
@@ -37,8 +38,8 @@ pub record IsNoForm (line : Text) : Type 0 where
 abbrev pub HostWordsAreNoForm : Type 0
 HostWordsAreNoForm = (line word : Text) → host_word line ≡ Some word → IsNoForm line
 
-abbrev pub AuditsChangeNothing : Type 0
-AuditsChangeNothing = (x : SessionNow) (line : Text) → IsTrue (is_audit line) → after_session_line x line ≡ x
+abbrev pub QuestionsChangeNothing : Type 0
+QuestionsChangeNothing = (x : SessionNow) (line : Text) → IsTrue (is_question line) → after_session_line x line ≡ x
 
 abbrev pub RefusedStays : Type 0
 RefusedStays = (b : DrivenNow) (f : HandoffFault) (line : Text) → IsTrue (is_handover line)
@@ -46,6 +47,7 @@ RefusedStays = (b : DrivenNow) (f : HandoffFault) (line : Text) → IsTrue (is_h
 
 pub record IsPlain (line : Text) : Type 0 where
   pub no_audit : IsFalse (is_audit line)
+  pub no_ready : IsFalse (is_ready_line line)
   pub no_handover : IsFalse (is_handover line)
 
 abbrev pub PlainSessions : Type 0

@@ -1,13 +1,13 @@
 //! Lines over a board, as definitions: what firmware asks through the host bridge, and sessions, which are firmware's
-//! lines, among them those that ask for an audit of the registers as they stand there, and the one that hands the board
-//! to its guests. Laws about them, and about what guests see of a board that was given, whoever set it up.
+//! lines, among them those that ask for an audit of the registers as they stand there or for readiness, and the one that
+//! hands the board to its guests. Laws about them, and about what guests see of a board that was given, whoever set it up.
 #![tactic(auto)]
 
 ghost use Rattle.model_guests.specs.LineRuns.{AfterAlong, CutIsBeginning, OutputAlong, StoppedIsBeginning};
 ghost use Rattle.model_lines.specs.FirmwareLaws.{BadLinesChangeNothing, DataIsByNumber, LatchIsPort, LongLinesAlike, ReadsChangeNoRegister, RefusedChangesNothing};
 ghost use Rattle.model_lines.specs.FirmwareLines.{board_protocol};
 ghost use Rattle.model_lines.specs.Sessions.{session_protocol};
-ghost use Rattle.model_lines.specs.SessionLaws.{AuditsChangeNothing, HostWordsAreNoForm, RefusedStays};
+ghost use Rattle.model_lines.specs.SessionLaws.{HostWordsAreNoForm, QuestionsChangeNothing, RefusedStays};
 ghost use Rattle.model_lines.specs.SessionLaws.{DrivenIsFirmware, GivenIsScript, PlainSessions};
 ghost use Rattle.model_lines.specs.SessionLaws.{AccessesTellWritten, GivenBy, IsolatedSessions, LinesTellWritten};
 ghost use Rattle.model_lines.specs.FirmwareLeaves.{AccessLeaves, LinesLeave};
@@ -37,11 +37,11 @@ pub fn lines_in_pieces()
     ensures cut { CutIsBeginning board_protocol }
 {}
 
-/// The lines that ask for an audit or for guests have no form of another line. An audit changes nothing, nor does a
-/// handover that is refused.
-pub fn audits_and_handovers()
+/// The lines that ask for an audit, for readiness or for guests have no form of another line. An audit and readiness
+/// change nothing, nor does a handover that is refused.
+pub fn questions_and_handovers()
     ensures no_form { HostWordsAreNoForm }
-    ensures nothing { AuditsChangeNothing }
+    ensures nothing { QuestionsChangeNothing }
     ensures refused { RefusedStays }
 {}
 

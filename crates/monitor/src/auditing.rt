@@ -1,11 +1,15 @@
-//! What is wrong in the registers of a board that guests have.
+//! What is wrong, and what is lacking, in the registers of a board that guests have.
 ghost use Rattle.std.specs.Prelude.{◌≡◌, [], IfOk, map};
 ghost use Rattle.model_audit.specs.Problems.{problems};
+ghost use Rattle.model_ready.specs.Lacks.{lacks};
 ghost use Rattle.model_guests.specs.WorldNow.{board_state};
 ghost use Rattle.board_audit.specs.Told.{problem_of};
+ghost use Rattle.board_ready.specs.Told.{lack_of};
 
 use crate::engine::Engine;
 use board_audit::{Problem, problems};
+use board_ready::{Lack, lacks};
+use headers::Apertures;
 use host_bridge::Route;
 use std::alloc::{AllocError, Global};
 
@@ -19,5 +23,14 @@ impl<R: Route> Engine<R> {
         ensures after { self.new ≡ self.old }
     {
         problems(alloc, &mut self.host)
+    }
+
+    /// All that an operating system would still have to do about the registers of the board as they stand, by these
+    /// apertures.
+    pub fn lacks(&self, alloc: Global, apertures: &Apertures) -> Result<Vec<Lack>, AllocError>
+        ensures told { IfOk result (λ v.
+            map lack_of v.items ≡ lacks apertures.now (board_state self.now.world).functions) }
+    {
+        lacks(alloc, &self.host, apertures)
     }
 }

@@ -44,6 +44,7 @@ pub use accesses::{
 };
 pub use bars::Space;
 pub use board_audit::Problem;
+pub use board_ready::Lack;
 pub use closed::ClosedRegion;
 pub use engine::Engine;
 pub use functions::FunctionNow;

@@ -6,6 +6,7 @@ mod lines;
 mod whole;
 
 pub use board_ready::Lack;
+pub use headers::Apertures;
 pub use host_bridge::Host;
 pub use lines::push_lack;
 pub use whole::{Readiness, lacks_text, ready_text};

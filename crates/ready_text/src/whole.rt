@@ -1,5 +1,5 @@
 //! The whole text.
-ghost use Rattle.std.specs.Prelude.{◌≡◌, map, OnOk, IfOk, string_bytes};
+ghost use Rattle.std.specs.Prelude.{◌≡◌, ◌+◌, length, map, OnOk, IfOk, string_bytes};
 ghost use Rattle.lists.specs.Texts.{Adds};
 ghost use Rattle.model_ready.specs.Lacks.{lack_count};
 ghost use Rattle.model_ready.specs.ReadyText.{ready_text, ready_report};
@@ -11,6 +11,7 @@ use crate::lines::{push_lack, push_total};
 use audit_text::push_problems;
 use board_audit::{Problem, problems};
 use board_ready::{Lack, lacks};
+use headers::Apertures;
 use host_bridge::Host;
 use std::alloc::{AllocError, Global};
 
@@ -45,20 +46,36 @@ pub fn lacks_text(alloc: Global, problems: &[Problem], lacks: &[Lack]) -> Result
     Ok(text)
 }
 
-/// Whether a board is ready as its registers stand, as a text and as a count. Nothing changes, also where
-/// memory is out.
-pub fn ready_text(alloc: Global, host: &mut Host) -> Result<Readiness, AllocError>
+impl Readiness {
+    /// The text of these problems and lacks, with their count.
+    pub fn of(alloc: Global, problems: &[Problem], lacks: &[Lack]) -> Result<Readiness, AllocError>
+        ensures text { let ps = map problem_of problems.now in let ls = map lack_of lacks.now in
+            IfOk result (λ r. string_bytes r.text ≡ ready_text ps ls) }
+        ensures count { let ps = map problem_of problems.now in let ls = map lack_of lacks.now in
+            IfOk result (λ r. r.count ≡ length ps + length ls) }
+    {
+        let text = lacks_text(alloc, problems, lacks)?;
+        Ok(Readiness {
+            text,
+            count: problems.len() + lacks.len(),
+        })
+    }
+}
+
+/// Whether a board is ready as its registers stand, by these apertures, as a text and as a count. Nothing
+/// changes, also where memory is out.
+pub fn ready_text(
+    alloc: Global,
+    host: &mut Host,
+    apertures: &Apertures,
+) -> Result<Readiness, AllocError>
     ensures text { let fs = host.old.state.functions in
-        IfOk result (λ r. string_bytes r.text ≡ ready_report host.old.apertures fs) }
+        IfOk result (λ r. string_bytes r.text ≡ ready_report apertures.now fs) }
     ensures count { let fs = host.old.state.functions in
-        IfOk result (λ r. r.count ≡ lack_count host.old.apertures fs) }
+        IfOk result (λ r. r.count ≡ lack_count apertures.now fs) }
     ensures after { host.new ≡ host.old }
 {
     let found = problems(alloc, host)?;
-    let lacking = lacks(alloc, host)?;
-    let text = lacks_text(alloc, &found, &lacking)?;
-    Ok(Readiness {
-        text,
-        count: found.len() + lacking.len(),
-    })
+    let lacking = lacks(alloc, host, apertures)?;
+    Readiness::of(alloc, &found, &lacking)
 }

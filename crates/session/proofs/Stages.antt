@@ -7,6 +7,7 @@ use Rattle.model_guests.specs.Text.{Text}
 use Rattle.model_guests.specs.Guests.{GuestNow}
 use Rattle.model_guests.specs.WorldNow.{WorldNow}
 use Rattle.model_audit.specs.AuditText.{audit}
+use Rattle.model_ready.specs.ReadyText.{ready_report}
 use Rattle.model_handoff.specs.Changes.{MachineNow, BeginsIn}
 use Rattle.model_handoff.specs.Regions.{first_fault}
 use Rattle.model_handoff.proofs.Served.{fault_decides}
@@ -14,7 +15,7 @@ use Rattle.model_lines.specs.FirmwareLines.{line_output}
 use Rattle.model_lines.specs.GivenLaws.{IsGiven}
 use Rattle.model_lines.specs.Sessions.{DrivenNow, SessionNow, driven, given, is_handover, handed_over, after_handover, handover_output}
 use Rattle.model_lines.specs.Sessions.{after_session_line, session_output}
-use Rattle.model_lines.proofs.SessionLines.{no_audit, handover_leaves}
+use Rattle.model_lines.proofs.SessionLines.{no_audit, no_ready, handover_leaves}
 use Rattle.session.specs.Boards.{IsHandedOverAs}
 use Rattle.session.specs.Stages.{board_in, IsDriven}
 
@@ -40,7 +41,8 @@ pub record IsAnswered (x new : SessionNow) (line : Text) : Type 0 where
 
 handover_writes : (b : DrivenNow) (line : Text) → IsTrue (is_handover line) → session_output (driven b) line ≡ handover_output (first_fault b.world b.state)
 handover_writes b line asks =
-    ap₂ (λ (t u : Bool). cond t (audit b.state.functions) (cond u (handover_output (first_fault b.world b.state)) (line_output b.state line))) (no_audit line asks) asks
+    ap₂ (λ (t r : Bool). cond t (audit b.state.functions) (cond r (ready_report b.world.apertures b.state.functions) (cond (is_handover line) (handover_output (first_fault b.world b.state)) (line_output b.state line)))) (no_audit line asks) (no_ready line asks)
+    ∙ ap (λ (u : Bool). cond u (handover_output (first_fault b.world b.state)) (line_output b.state line)) asks
 
 pub answered : (x new : SessionNow) → IsDriven x → IfSome (board_in x) (λ b. IsHandedOverAs b new) → (line : Text) → IsTrue (is_handover line) → IsAnswered x new line
 answered (driven b) new is handed line asks =

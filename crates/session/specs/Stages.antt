@@ -3,14 +3,14 @@
 --     IsAtLine stage      what holds of it between lines: it is not within a handover
 --     board_in x, machine_in x      the board, where firmware drives it, and the guests, where they have it
 --     IsDriven x, IsGiven x      which of the two it is
---     asks_audit, asks_guests      what a line asks for
---     asks_for_more x line      it asks for an audit or for guests, while firmware drives the board
+--     asks_audit, asks_ready, asks_guests      what a line asks for
+--     asks_for_more x line      it asks for an audit, for readiness or for guests, while firmware drives the board
 use Rattle.std.specs.Prelude.{◌||◌, Bool, true, false, [], Option, None, Some, IsSome, ⊤}
 use Rattle.model_handoff.specs.Changes.{MachineNow}
 use Rattle.model_guests.specs.Text.{Text}
-use Rattle.model_lines.specs.Sessions.{DrivenNow, SessionNow, driven, given, is_audit, is_handover}
+use Rattle.model_lines.specs.Sessions.{DrivenNow, SessionNow, driven, given, is_question, is_handover}
 use Rattle.session.specs.declared.asking.Asked.{Asked}
-use Rattle.session.specs.declared.asking.Asked.TheVariants.{Access, Audit, Handover}
+use Rattle.session.specs.declared.asking.Asked.TheVariants.{Access, Audit, Ready, Handover}
 use Rattle.session.specs.declared.stage.Stage.{Stage}
 use Rattle.session.specs.declared.stage.Stage.TheVariants.{Driven, Given, Between}
 
@@ -42,15 +42,23 @@ IsGiven x = IsSome (machine_in x)
 
 -- all other lines take no memory
 abbrev pub asks_for_more : SessionNow → Text → Bool
-asks_for_more (driven b) line = is_audit line || is_handover line
+asks_for_more (driven b) line = is_question line || is_handover line
 asks_for_more (given m) line = false
 
 abbrev pub asks_audit : Asked → Bool
 asks_audit Access = false
 asks_audit Audit = true
+asks_audit Ready = false
 asks_audit Handover = false
+
+abbrev pub asks_ready : Asked → Bool
+asks_ready Access = false
+asks_ready Audit = false
+asks_ready Ready = true
+asks_ready Handover = false
 
 abbrev pub asks_guests : Asked → Bool
 asks_guests Access = false
 asks_guests Audit = false
+asks_guests Ready = false
 asks_guests Handover = true

@@ -1,9 +1,9 @@
 //! What a line of a session asks for.
 ghost use Rattle.std.specs.Prelude.{◌≡◌, ◌++◌};
 ghost use Rattle.model_guests.specs.Text.{Text};
-ghost use Rattle.model_lines.specs.Sessions.{is_audit, is_handover};
+ghost use Rattle.model_lines.specs.Sessions.{is_audit, is_ready_line, is_handover};
 ghost use Rattle.line_runs.specs.Pieces.{IsBefore};
-ghost use Rattle.session.specs.Stages.{asks_audit, asks_guests};
+ghost use Rattle.session.specs.Stages.{asks_audit, asks_ready, asks_guests};
 
 use lines::host_word;
 
@@ -13,12 +13,15 @@ pub(crate) enum Asked {
     /// Whatever a line of firmware asks.
     Access,
     Audit,
+    Ready,
     Handover,
 }
 
 /// What a line asks for, which may be given without its line feed. If `long`, bytes of it were passed over.
 pub(crate) fn asked_by(line: &[u8], long: bool) -> Asked
     ensures audit { (before : Text) → IsBefore long before → is_audit (before ++ line.now) ≡ asks_audit result }
+    ensures ready { (before : Text) → IsBefore long before →
+        is_ready_line (before ++ line.now) ≡ asks_ready result }
     ensures guests { (before : Text) → IsBefore long before → is_handover (before ++ line.now) ≡ asks_guests result }
 {
     if long {
@@ -29,6 +32,9 @@ pub(crate) fn asked_by(line: &[u8], long: bool) -> Asked
     };
     if word == b"audit".as_slice() {
         return Asked::Audit;
+    }
+    if word == b"ready".as_slice() {
+        return Asked::Ready;
     }
     if word == b"guests".as_slice() {
         return Asked::Handover;

@@ -8,6 +8,8 @@ ghost use Rattle.model_guests.specs.Text.{Text};
 ghost use Rattle.model_guests.specs.World.{IsLawfulWorld};
 ghost use Rattle.model_audit.specs.AuditText.{audit};
 ghost use Rattle.model_audit.specs.Problems.{problems};
+ghost use Rattle.model_ready.specs.Lacks.{lack_count};
+ghost use Rattle.model_ready.specs.ReadyText.{ready_report};
 ghost use Rattle.model_handoff.specs.Changes.{BeginsIn};
 ghost use Rattle.model_lines.specs.HostAccesses.{answer};
 ghost use Rattle.model_lines.specs.FirmwareLines.{line_output};
@@ -29,9 +31,11 @@ use crate::opening::{self, OpenFault};
 use accesses::{GuestDecl, HostAccess, Refusal, Reply};
 use board_audit::problems;
 use board_file::{BoardFault, read_board};
+use headers::Apertures;
 use host_bridge::Host;
 use lines::{FirmwareWhat, LineText, firmware_meaning, push_named};
 use monitor::{Monitor, Refused};
+use ready_text::{Readiness, ready_text};
 use std::alloc::{AllocError, Global};
 use std::marker::Model;
 
@@ -83,6 +87,13 @@ impl Board {
         ensures reset { OnTrue result (self.now ≡ at_reset self.now.world) }
     {
         !self.written
+    }
+
+    /// The addresses that may be given out, by the file of the board.
+    pub fn apertures(&self) -> Apertures
+        ensures { result ≡ self.now.world.apertures }
+    {
+        self.host.apertures()
     }
 
     /// Answers a read of firmware, or refuses it and changes nothing. No memory is taken.
@@ -215,5 +226,33 @@ impl Board {
     {
         let found = problems(alloc, &mut self.host)?;
         Audit::of(alloc, &found)
+    }
+
+    /// All that is wrong and all that is lacking in the registers as they stand, whoever wrote them, by the
+    /// apertures of the board's file. Nothing changes, also where memory is out.
+    pub fn ready(&mut self, alloc: Global) -> Result<Readiness, AllocError>
+        ensures text { IfOk result (λ r.
+            string_bytes r.text ≡ ready_report self.old.world.apertures self.old.state.functions) }
+        ensures count { IfOk result (λ r.
+            r.count ≡ lack_count self.old.world.apertures self.old.state.functions) }
+        ensures after { self.new ≡ self.old }
+    {
+        let apertures = self.apertures();
+        self.ready_within(alloc, &apertures)
+    }
+
+    /// The same, by these apertures.
+    pub(crate) fn ready_within(
+        &mut self,
+        alloc: Global,
+        apertures: &Apertures,
+    ) -> Result<Readiness, AllocError>
+        ensures text { IfOk result (λ r.
+            string_bytes r.text ≡ ready_report apertures.now self.old.state.functions) }
+        ensures count { IfOk result (λ r.
+            r.count ≡ lack_count apertures.now self.old.state.functions) }
+        ensures after { self.new ≡ self.old }
+    {
+        ready_text(alloc, &mut self.host, apertures)
     }
 }

@@ -1,5 +1,5 @@
-//! Sessions over a board: firmware's lines from reset on, audits among them, and the handover of the board to its
-//! guests, whose script the lines are from there on.
+//! Sessions over a board: firmware's lines from reset on, among them those that ask for an audit or for readiness, and the
+//! handover of the board to its guests, whose script the lines are from there on.
 //!
 //! A bridge is numbered by a call, a function behind it found by a line, and the registers audited:
 //!
@@ -38,10 +38,12 @@ pub use accessing::{read, write};
 pub use audit::Audit;
 pub use board::Board;
 pub use board_file::BoardFault;
+pub use headers::Apertures;
 pub use host_bridge::Host;
 pub use line_runs::RunFault;
 pub use lines::LineText;
 pub use monitor::{HandoverFault, Monitor, Refused};
 pub use opening::{OpenFault, open};
+pub use ready_text::Readiness;
 pub use running::run;
 pub use session::{Session, SessionLines};

@@ -7,6 +7,8 @@ ghost use Rattle.model_guests.specs.Text.{Text};
 ghost use Rattle.model_guests.specs.World.{World, IsLawfulWorld};
 ghost use Rattle.model_audit.specs.AuditText.{audit};
 ghost use Rattle.model_audit.specs.Problems.{problems};
+ghost use Rattle.model_ready.specs.Lacks.{lack_count};
+ghost use Rattle.model_ready.specs.ReadyText.{ready_report};
 ghost use Rattle.model_lines.specs.Sessions.{driven, given, at_reset, session_functions, session_protocol};
 ghost use Rattle.model_lines.specs.Sessions.{session_output, after_session_line};
 ghost use Rattle.line_runs.specs.Pieces.{IsBefore, with_more};
@@ -21,9 +23,11 @@ use crate::audit::Audit;
 use crate::board::Board;
 use crate::stage::{Stage, answer_handover, hand_over};
 use board_file::BoardFault;
+use headers::Apertures;
 use line_runs::Answers;
 use lines::LineText;
 use monitor::{HandoverFault, Monitor};
+use ready_text::Readiness;
 use std::alloc::{AllocError, Global};
 use std::marker::Model;
 
@@ -170,6 +174,26 @@ impl Session {
         }
     }
 
+    /// All that is wrong and all that is lacking in the registers of the board as they stand, whoever wrote them,
+    /// by these apertures. Nothing changes, also where memory is out.
+    pub fn ready(&mut self, alloc: Global, apertures: &Apertures) -> Result<Readiness, AllocError>
+        ensures text { IfOk result (λ r.
+            string_bytes r.text ≡ ready_report apertures.now (session_functions self.old)) }
+        ensures count { IfOk result (λ r.
+            r.count ≡ lack_count apertures.now (session_functions self.old)) }
+        ensures after { self.new ≡ self.old }
+    {
+        match &mut self.stage {
+            Stage::Driven(board) => board.ready_within(alloc, apertures),
+            Stage::Given(monitor) => {
+                let found = monitor.problems(alloc)?;
+                let lacking = monitor.lacks(alloc, apertures)?;
+                Readiness::of(alloc, &found, &lacking)
+            }
+            Stage::Between => unreachable!(),
+        }
+    }
+
     /// Answers a line of the session, of which bytes were passed over if `long`.
     fn answer_line(
         &mut self,
@@ -202,6 +226,10 @@ impl Session {
                     let told = board.audit(self.alloc)?;
                     Ok(Some(told.text))
                 }
+                Asked::Ready => {
+                    let ready = board.ready(self.alloc)?;
+                    Ok(Some(ready.text))
+                }
                 Asked::Handover => answer_handover(self.alloc, &mut self.stage, text),
             },
             Stage::Between => unreachable!(),
@@ -210,8 +238,8 @@ impl Session {
 
     /// Runs a line, which is given without its line feed, and writes what the line writes into an empty text:
     /// nothing, or one line with its line feed. What is longer is given behind it, and then the session is as it
-    /// was: it is the text of an audit, or of a handover that is refused, and no other line takes memory. Where
-    /// memory is out, no event runs and nothing is written.
+    /// was: it is the text of an audit, of readiness, or of a handover that is refused, and no other line takes memory.
+    /// Where memory is out, no event runs and nothing is written.
     pub fn run_line(
         &mut self,
         line: &[u8],
@@ -230,8 +258,8 @@ impl Session {
     }
 }
 
-/// The language of sessions: firmware's lines, those that ask for an audit, the one that hands the board over, and
-/// then a script's.
+/// The language of sessions: firmware's lines, those that ask for an audit or for readiness, the one that hands the
+/// board over, and then a script's.
 pub struct SessionLines;
 
 impl Answers<SessionLines> for Session {

@@ -1,6 +1,6 @@
 mod FaultNumbers
 mod Begun
-mod Audited
+mod ToldAfter
 pub mod Left
 mod Listed
 pub mod Ran

@@ -16,18 +16,19 @@ use Rattle.model_guests.specs.World.{World}
 use Rattle.streams.specs.Ends.{AppendsPart}
 use Rattle.line_runs.specs.Runs.{Ends}
 use Rattle.command_line.specs.declared.choice.Choice.{Choice}
-use Rattle.command_line.specs.declared.choice.Choice.TheVariants.{Help, Demo, List, Check, Run, Firmware, Audit}
+use Rattle.command_line.specs.declared.choice.Choice.TheVariants.{Help, Demo, List, Check, Run, Firmware, Audit, Ready}
 use Rattle.bus_scan.specs.declared.fault.Fault.TheVariants as set_up
 use Rattle.diagnostics.specs.declared.style.Style.{Style}
 use Rattle.diagnostics.specs.declared.style.Style.TheVariants.{Plain, WithExcerpts}
 use Rattle.simulation.specs.Demo.{demo_board}
-use Rattle.simulation.specs.Faults.{IsRefusal, IsOfList, IsOfRun, IsOfSession, OnRun, OnSession}
+use Rattle.simulation.specs.Faults.{IsRefusal, IsOfList, IsOfRun, IsOfSession, IsOfReadiness, OnRun, OnSession}
 use Rattle.session.specs.Files.{Declares}
 use Rattle.simulation.specs.Listing.{IsListed, IsListedInPart}
 use Rattle.simulation.specs.Checking.{IsChecked, IsCheckedInPart}
 use Rattle.simulation.specs.Running.{IsRun}
 use Rattle.simulation.specs.Sessions.{IsSession}
 use Rattle.simulation.specs.Auditing.{Audits}
+use Rattle.simulation.specs.Readiness.{Readies}
 use Rattle.simulation.specs.declared.fault.Fault.{Fault}
 use Rattle.simulation.specs.declared.fault.Fault.TheVariants.{SetUp, Write, BoardFile}
 
@@ -71,15 +72,17 @@ Does (Check path plain) at r = (board : Text) × Checks (style_of plain) path.no
 Does (Run path) at r = (board : Text) × OnRun (IsRun board at) r
 Does (Firmware path) at r = (board : Text) × OnSession (IsSession board at) r
 Does (Audit path) at r = (board : Text) × Audits board at r
+Does (Ready path) at r = (board : Text) × Readies board at r
 
 abbrev pub IsTelling : Choice → Fault → Type 0
 IsTelling (Check path plain) f = IsRefusal f
 IsTelling _ f = ⊥
 
--- no memory for an audit or a handover
+-- no memory for an audit, for readiness or for a handover
 abbrev pub IsLacking : Choice → Fault → Type 0
 IsLacking (Firmware path) f = f ≡ SetUp set_up.Memory
 IsLacking (Audit path) f = f ≡ SetUp set_up.Memory
+IsLacking (Ready path) f = f ≡ SetUp set_up.Memory
 IsLacking _ f = ⊥
 
 abbrev pub IsOfChoice : Choice → Fault → Type 0
@@ -90,3 +93,4 @@ IsOfChoice (Check path plain) f = IsOfList f ⊎ (f ≡ BoardFile)
 IsOfChoice (Run path) f = IsOfRun f ⊎ (f ≡ BoardFile)
 IsOfChoice (Firmware path) f = IsOfSession f ⊎ (f ≡ BoardFile)
 IsOfChoice (Audit path) f = IsOfSession f ⊎ (f ≡ BoardFile)
+IsOfChoice (Ready path) f = IsOfReadiness f ⊎ (f ≡ BoardFile)

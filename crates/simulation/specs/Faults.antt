@@ -11,6 +11,7 @@
 --     read_faults, write_faults      whether a result is the fault of the reader, or of the writer
 --     IsOfList, IsOfRun      a fault of a listing, or of a run over a board that is set up
 --     IsOfSession      a fault of a session over a board at reset, or of an audit after it
+--     IsOfReadiness      so too, or the board isn't ready after it
 use Rattle.std.specs.Prelude.{◌≡◌, ◌≢◌, ◌==◌, ℕ, ◌++◌, List, [], ◌∷◌, Option, Result, Ok, Err, codes, decimal, find, ⊤}
 use Rattle.board_file.specs.declared.fault.BoardFault.TheVariants as file
 use Rattle.board_file.specs.Faults as board_file
@@ -24,11 +25,12 @@ use Rattle.line_runs.specs.declared.running.RunFault.{RunFault}
 use Rattle.session.specs.declared.opening.OpenFault.TheVariants as opening
 use Rattle.session.specs.declared.opening.OpenFault.{OpenFault}
 use Rattle.simulation.specs.declared.fault.Fault.{Fault}
-use Rattle.simulation.specs.declared.fault.Fault.TheVariants.{File, SetUp, Read, Write, Usage, BoardFile, WordMemory}
+use Rattle.simulation.specs.declared.fault.Fault.TheVariants.{File, SetUp, NotReady, Read, Write, Usage, BoardFile, WordMemory}
 
 abbrev pub number_of : Fault → ℕ
 number_of (File b) = board_file.number_of b
 number_of (SetUp s) = bus_scan.number_of s
+number_of NotReady = 208
 number_of Read = 501
 number_of Write = 502
 number_of Usage = 701
@@ -41,7 +43,7 @@ all_faults =
     File file.NotToml ∷ File file.Key ∷ File file.UnknownKey ∷ File file.Number ∷ File file.Place ∷ File file.Register
     ∷ File file.Size ∷ File file.TooMany ∷ File file.GuestName ∷ File file.Slot ∷ File file.Aperture
     ∷ File file.CellMasks ∷ File file.Memory ∷ SetUp set_up.Buses ∷ SetUp set_up.NoIoWindow ∷ SetUp set_up.IoPool
-    ∷ SetUp set_up.MemoryPool ∷ SetUp set_up.PrefetchablePool ∷ SetUp set_up.Memory
+    ∷ SetUp set_up.MemoryPool ∷ SetUp set_up.PrefetchablePool ∷ NotReady ∷ SetUp set_up.Memory
     ∷ Read ∷ Write ∷ Usage ∷ BoardFile ∷ WordMemory ∷ []
 
 abbrev pub fault_numbered : ℕ → Option Fault
@@ -50,6 +52,7 @@ fault_numbered n = find (λ f. number_of f == n) all_faults
 abbrev pub words_of : Fault → List ℕ
 words_of (File b) = board_file.fault_words b
 words_of (SetUp s) = set_up_words s
+words_of NotReady = codes "not ready"
 words_of Read = codes "read failed"
 words_of Write = codes "write failed"
 words_of Usage = codes "usage"
@@ -135,3 +138,7 @@ IsOfSession Read = ⊤
 IsOfSession Write = ⊤
 IsOfSession (SetUp s) = s ≡ set_up.Memory
 IsOfSession f = IsOfFile f
+
+abbrev pub IsOfReadiness : Fault → Type 0
+IsOfReadiness NotReady = ⊤
+IsOfReadiness f = IsOfSession f

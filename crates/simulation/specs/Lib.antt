@@ -5,5 +5,7 @@ pub mod Lines
 pub mod Checking
 pub mod Running
 pub mod Sessions
+pub mod AfterLines
 pub mod Auditing
+pub mod Readiness
 pub mod Choices

@@ -45,7 +45,7 @@ pub fn audit<R: Reader, W: Writer>(
     ensures reads { R.failures reader.new ≡ R.failures reader.old + read_faults result }
     ensures writes { W.failures writer.new ≡ W.failures writer.old + write_faults result }
 {
-    let mut session = session_after(alloc, board, reader, writer)?;
+    let (mut session, _) = session_after(alloc, board, reader, writer)?;
     let Ok(told) = session.audit(alloc) else {
         return Err(Fault::SetUp(bus_scan::Fault::Memory));
     };

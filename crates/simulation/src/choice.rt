@@ -13,6 +13,7 @@ use crate::driving::drive;
 use crate::fault::Fault;
 use crate::files::board_bytes;
 use crate::listing::list;
+use crate::readiness::ready;
 use crate::running::whole;
 use command_line::Choice;
 use diagnostics::Style;
@@ -61,14 +62,16 @@ pub fn perform<R: Reader, W: Writer>(
     ensures does { Does choice.now (ends (R.rest reader.old) (R.rest reader.new)
         (W.written writer.old) (W.written writer.new) (W.flushed writer.new)) result }
 
-    // Only a failed write or read, what a check tells and no memory once lines ran come after a part was written.
+    // Only a failed write or read, what a check tells, a board that isn't ready and no memory once lines ran come
+    // after a part was written.
     ensures unread { IfErr result (λ f.
-        f ≢ Fault.Read → f ≢ Fault.Write → ¬ IsLacking choice.now f → reader.new ≡ reader.old) }
+        f ≢ Fault.Read → f ≢ Fault.Write → f ≢ Fault.NotReady → ¬ IsLacking choice.now f
+        → reader.new ≡ reader.old) }
     ensures nothing { IfErr result (λ f.
-        f ≢ Fault.Read → f ≢ Fault.Write → ¬ IsTelling choice.now f → ¬ IsLacking choice.now f
-        → writer.new ≡ writer.old) }
+        f ≢ Fault.Read → f ≢ Fault.Write → f ≢ Fault.NotReady → ¬ IsTelling choice.now f
+        → ¬ IsLacking choice.now f → writer.new ≡ writer.old) }
 
-    // Where memory is out once lines ran, for an audit or a handover, what they write was flushed.
+    // Where memory is out once lines ran, for an audit, for readiness or for a handover, what they write was flushed.
     ensures lacking_flushed { IfErr result (λ f. IsLacking choice.now f →
         (W.flushed writer.new ≡ W.written writer.new) ⊎ (writer.new ≡ writer.old)) }
 
@@ -100,6 +103,10 @@ pub fn perform<R: Reader, W: Writer>(
         Choice::Audit(path) => {
             let board = board_bytes(rt, alloc, path)?;
             audit(alloc, &board, reader, writer)
+        }
+        Choice::Ready(path) => {
+            let board = board_bytes(rt, alloc, path)?;
+            ready(alloc, &board, reader, writer)
         }
     }
 }

@@ -15,10 +15,13 @@ pub enum Fault {
     /// The board file is refused (101 to 112), or memory was out while it was read (199).
     #[error(transparent)]
     File(BoardFault),
-    /// Its board can't be set up (201 to 205), or memory was out while it was made, set up, reported, audited
-    /// or given to guests (299).
+    /// Its board can't be set up (201 to 205), or memory was out while it was made, set up, reported, audited,
+    /// asked for readiness or given to guests (299).
     #[error(transparent)]
     SetUp(bus_scan::Fault),
+    /// Something is wrong or lacking in the registers of the board.
+    #[error("not ready")]
+    NotReady,
     /// A read of the script failed.
     #[error("read failed")]
     Read,
@@ -44,6 +47,7 @@ impl Fault {
         match self {
             Fault::File(fault) => fault.number(),
             Fault::SetUp(fault) => fault.number(),
+            Fault::NotReady => 208,
             Fault::Read => 501,
             Fault::Write => 502,
             Fault::Usage => 701,
@@ -59,6 +63,7 @@ impl Fault {
         match self {
             Fault::File(fault) => fault.words(),
             Fault::SetUp(fault) => set_up_words(fault),
+            Fault::NotReady => "not ready",
             Fault::Read => "read failed",
             Fault::Write => "write failed",
             Fault::Usage => "usage",

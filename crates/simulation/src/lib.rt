@@ -1,6 +1,7 @@
 //! What the program does, over bytes, a reader and a writer: the report of a board file, what is
-//! wrong with one, a script over its board, a session over it from reset on, the same with an audit
-//! after it, and a script over the demo board; and the law of two worlds, over the definitions alone.
+//! wrong with one, a script over its board, a session over it from reset on, the same with an audit or
+//! with readiness after it, and a script over the demo board; and the law of two worlds, over the
+//! definitions alone.
 #![tactic(auto)]
 
 mod auditing;
@@ -13,6 +14,7 @@ mod fault_lines;
 mod files;
 mod listing;
 mod numbered;
+mod readiness;
 mod running;
 mod standard_streams;
 
@@ -29,5 +31,6 @@ pub use files::board_bytes;
 pub use listing::{list, list_text};
 pub use model_guests::two_worlds;
 pub use monitor::Monitor;
+pub use readiness::ready;
 pub use running::whole;
 pub use standard_streams::{InputStream, OutputStream};

@@ -79,6 +79,8 @@ pub const IN_USE: u32 = 903;
 /// not at reset
 pub const NOT_AT_RESET: u32 = 904;
 
+/// not ready
+pub const NOT_READY: u32 = 208;
 /// bad line
 pub const BAD_LINE: u32 = 401;
 /// unknown guest
@@ -496,14 +498,15 @@ extern "C" {
         value: u32,
     ) -> u32;
     /// Runs one line of a session, as `pciguest firmware` does, with its line feed or without: a line of firmware;
-    /// `host audit`, whose reply is the text of pciguest_board_audit; `host guests`, which gives the board to the
-    /// guests of its file or says why it doesn't, as pciguest_board_guests does; and once it is given, a line of a
-    /// script. The struct then holds the machine: pciguest_board_guests moves it to a struct of its own, and the other
-    /// calls of a board answer 901. A line that is refused is answered by its reply, and the call by 0. The reply is
-    /// one line with its line feed, or nothing, but for an audit and a board that isn't given: these may have more
-    /// lines. It has no 0 at its end, and `written` tells its length.
+    /// `host audit`, whose reply is the text of pciguest_board_audit; `host ready`, whose reply tells also what the
+    /// board lacks that is to be driven; `host guests`, which gives the board to the guests of its file or says why it
+    /// doesn't, as pciguest_board_guests does; and once it is given, a line of a script. The struct then holds the
+    /// machine: pciguest_board_guests moves it to a struct of its own, and the other calls of a board answer 901. A
+    /// line that is refused is answered by its reply, and the call by 0. The reply is one line with its line feed, or
+    /// nothing, but for an audit, for `host ready` and for a board that isn't given: these may have more lines. It has
+    /// no 0 at its end, and `written` tells its length.
     /// 902: there is less room than PCIGUEST_REPLY, or than a reply of more lines needs, whose length alone is told;
-    /// nothing happened. 299: out of memory for one of these two lines, and nothing happened; no other line takes
+    /// nothing happened. 299: out of memory for one of these three lines, and nothing happened; no other line takes
     /// memory.
     pub fn pciguest_board_run_line(
         board: *mut BoardHandle,

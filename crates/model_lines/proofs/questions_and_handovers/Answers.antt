@@ -1,0 +1,5 @@
+use Rattle.model_lines.proofs.SessionLines.{host_words_are_no_form, questions_change_nothing, refused_stays}
+use Rattle.model_lines.proofs.questions_and_handovers.Goals as goal
+
+pub returns : goal.returns
+returns c = record { no_form = host_words_are_no_form; nothing = questions_change_nothing; refused = refused_stays }
