@@ -2,3 +2,5 @@ pub mod Examples
 pub mod Why
 pub mod Ways
 pub mod Answers
+pub mod Ports
+pub mod Guests

@@ -2,6 +2,9 @@
 #![tactic(auto)]
 
 ghost use Rattle.model_why.specs.WhyExamples.{WhyExamples};
+ghost use Rattle.model_why.specs.GuestExamples.{GuestExamples};
+ghost use Rattle.model_why.specs.WhyGuests.{FoundAsLocated, ClosedAreAll, ClosedAreTrue};
+ghost use Rattle.model_why.specs.WhyPorts.{PortsByLatch, PortExamples};
 ghost use Rattle.model_why.specs.WhyLaws.{AddressesExplained, NumbersExplained};
 ghost use Rattle.model_why.specs.WhyLaws.{OrderlyAnswersAlone, ReadyTellsNothing};
 
@@ -18,7 +21,22 @@ pub fn numbers_explained()
     ensures { NumbersExplained }
 {}
 
-/// What is told of some addresses and numbers.
+/// Each access at an I/O port goes where the address latch is said to make it go.
+pub fn ports_explained()
+    ensures { PortsByLatch }
+{}
+
+/// What a guest is told of a place is where its access lands; each closed region that is told holds the address, and no
+/// other does.
+pub fn guests_explained()
+    ensures located { FoundAsLocated }
+    ensures closed { ClosedAreTrue }
+    ensures all { ClosedAreAll }
+{}
+
+/// What is told of some addresses, numbers and ports, and to a guest.
 pub fn worked_examples()
-    ensures { WhyExamples }
+    ensures each { WhyExamples }
+    ensures ports { PortExamples }
+    ensures guests { GuestExamples }
 {}
