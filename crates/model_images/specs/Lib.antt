@@ -1,0 +1,5 @@
+pub mod Images
+pub mod Requests
+pub mod LoadLaws
+pub mod FitLaws
+pub mod ImageExamples
