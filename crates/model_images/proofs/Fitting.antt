@@ -121,7 +121,7 @@ self_fits (r ∷ rs) = and_from (can_hold r r.cell.value) (fit_cells rs (values_
     or_self true = refl
     or_self false = self (fixed_bits r.cell r.cell.value)
 
-reset_fits : (d : Endpoint) → IsFittingFunction (record { decl = d; file = endpoint_reset d false })
+pub reset_fits : (d : Endpoint) → IsFittingFunction (record { decl = d; file = endpoint_reset d false })
 reset_fits d = record { shape = refl; values = self_fits (endpoint_reset d false) }
 
 pub values_with : (vs : List ℕ) (rs : File) → fit_cells rs vs ≡ true → values_of (with_values vs rs) ≡ vs

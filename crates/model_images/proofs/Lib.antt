@@ -1,6 +1,7 @@
 pub mod Loading
 mod BesideLoads
-mod Requests
+pub mod Requests
 mod FixedBits
 pub mod Fitting
+mod Counts
 mod Examples

@@ -19,7 +19,7 @@ use Rattle.model_images.proofs.Loading.{holds_as_saved, lone_reset_back}
 
 -- ---- a guest that is there stays there
 
-there_now : (w : WorldNow) (name : Text) → IsSome (guest_named w.guests name) → (r : Request) → IsSome (guest_named (after_request w r).guests name)
+pub there_now : (w : WorldNow) (name : Text) → IsSome (guest_named w.guests name) → (r : Request) → IsSome (guest_named (after_request w r).guests name)
 there_now w name there (acts a) = there_after w name there a
 there_now w name there (loads n i) = still (loaded i) (λ t. refl) n name w.guests there
 there_now w name there (restarts n) = still (loaded (image_of_lone (at_reset (lone_of w.guests n)))) (λ t. refl) n name w.guests there

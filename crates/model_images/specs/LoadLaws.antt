@@ -5,10 +5,10 @@
 --                                       one, holds what that one held, and is told the same by the same inputs
 --     OthersAfterLoad, NamesAfterLoad, PathsAfterLoad, HandoffAfterLoad      all else that guests have stays
 --     BoardBesideLoad      and so do the board's functions that the guest hasn't
---     LoadsAlike      the board takes of a file that is put in what the guest has no copies of
+--     BoardAfterLoad, LoadsAlike      of those that it has the board takes what the guest has no copies of, and nothing else
 --     SeatedAfterLoad, LawfulAfterLoad      after a load of what fits guests stay seated, and the world lawful
 --     ShownAfterLoad      and the same handoff is shown
-use Rattle.std.specs.Prelude.{◌≡◌, ℕ, List, Some, IsFalse, IsSome}
+use Rattle.std.specs.Prelude.{◌≡◌, ℕ, List, Some, IsFalse, IsSome, slice_get}
 use Rattle.std.specs.Str.{bytes_eq}
 use Rattle.model_registers.specs.Registers.{File}
 use Rattle.model_registers.specs.CopiedFiles.{agreed_file}
@@ -22,7 +22,8 @@ use Rattle.model_guests.specs.Seated.{AreSeated}
 use Rattle.model_guests.specs.ChangeLaws.{ChangesAlike}
 use Rattle.model_handoff.specs.Kept.{IsLawfulOver}
 use Rattle.model_handoff.specs.ViewLaws.{with_seated_reset}
-use Rattle.model_images.specs.Images.{Image, image_of_guest, lone_of_image, after_load, at_reset, after_restart, Fits}
+use Rattle.model_images.specs.Images.{SavedFunction, Image, image_of_guest, restored, lone_of_image, after_load, at_reset}
+use Rattle.model_images.specs.Images.{after_restart, Fits}
 use Rattle.model_images.specs.Requests.{Request, after_requests, all_told_of, request_inputs}
 
 abbrev pub KeepsWhatWasSaved : Type 0
@@ -81,6 +82,13 @@ abbrev pub BoardBesideLoad : Type 0
 BoardBesideLoad = (b : Board) (w : WorldNow) → AreSeated b w.guests → (name : Text) (i : Image) (p : Path)
     → ((n : ℕ) → path_in w.guests name n ≡ Some p → ⊥)
     → file_at (board_state (after_load name i w)).functions p ≡ file_at (board_state w).functions p
+
+-- the registers of which guests have copies stay as they were handed over
+abbrev pub BoardAfterLoad : Type 0
+BoardAfterLoad = (b : Board) (w : WorldNow) → AreSeated b w.guests → (name : Text) (i : Image)
+    → Fits i (lone_of w.guests name) → (n : ℕ) (p : Path) (s : SavedFunction) → path_in w.guests name n ≡ Some p
+    → slice_get i.slots n ≡ Some (Some s)
+    → file_at (board_state (after_load name i w)).functions p ≡ agreed_file (file_at w.handoff.functions p) (restored s).file
 
 abbrev pub LoadsAlike : Type 0
 LoadsAlike = (file : File) → ChangesAlike (λ own. file) (λ shown. agreed_file shown file)

@@ -3,9 +3,10 @@
 
 ghost use Rattle.model_images.specs.FitLaws.{FittingAfter, FittingAlong, FittingAtFirst, SavedFits};
 ghost use Rattle.model_images.specs.ImageExamples.{ImageExamples};
-ghost use Rattle.model_images.specs.LoadLaws.{AnswersAsSaved, BoardBesideLoad, HandoffAfterLoad, HoldsAsSaved, KeepsWhatWasSaved};
+ghost use Rattle.model_images.specs.LoadLaws.{AnswersAsSaved, BoardAfterLoad, BoardBesideLoad, HandoffAfterLoad, HoldsAsSaved, KeepsWhatWasSaved};
 ghost use Rattle.model_images.specs.LoadLaws.{LawfulAfterLoad, LoadedHolds, LoadsAlike, NamesAfterLoad, OthersAfterLoad};
 ghost use Rattle.model_images.specs.LoadLaws.{PathsAfterLoad, RestartedHolds, SeatedAfterLoad, ShownAfterLoad};
+ghost use Rattle.model_images.specs.RequestLaws.{AnswersStayAlong, AnswersStayByCount, LawfulAlongRequests, RequestCountsGrow};
 ghost use Rattle.model_images.specs.Requests.{IsolatedByRequests};
 
 /// A guest that is loaded with an image holds what the guest held that was saved, in whatever world, and is told by
@@ -24,7 +25,8 @@ pub fn loads_touch_one_guest()
     ensures names { NamesAfterLoad }
     ensures paths { PathsAfterLoad }
     ensures handoff { HandoffAfterLoad }
-    ensures board { BoardBesideLoad }
+    ensures beside { BoardBesideLoad }
+    ensures board { BoardAfterLoad }
     ensures alike { LoadsAlike }
 {}
 
@@ -47,6 +49,15 @@ pub fn saved_guests_fit()
     ensures after { FittingAfter }
     ensures along { FittingAlong }
     ensures fits { SavedFits }
+{}
+
+/// Along requests whose images fit the world stays lawful. A guest's count grows by one with each request that changes
+/// it, and while it stays, each answer stays where the regions of the guest's functions stand.
+pub fn counts_tell_requests()
+    ensures lawful { LawfulAlongRequests }
+    ensures along { AnswersStayAlong }
+    ensures counts { RequestCountsGrow }
+    ensures stay { AnswersStayByCount }
 {}
 
 /// What an image has, and what a loaded guest holds.
