@@ -1,4 +1,5 @@
--- Worked example: the bytes of a guest of the main board.
+-- Worked example: the bytes of a guest of the main board, and what of them is refused.
+--     ByteExamples      what they begin with, how they are read, and by which guests they are taken
 use Rattle.std.specs.Prelude.{[], ◌∷◌, ◌≡◌, ◌++◌, Some, None, codes, take, drop, length}
 use Rattle.model_guests.specs.World.{declarations}
 use Rattle.model_guests.specs.Lone.{reset_guest}
