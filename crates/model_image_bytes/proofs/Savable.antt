@@ -14,7 +14,7 @@ use Rattle.model_registers.specs.AccessLaws.{HoldsBytes}
 use Rattle.model_registers.specs.ConfigAddress.{latched}
 use Rattle.model_registers.specs.CopiedFiles.{shape_of}
 use Rattle.model_registers.specs.Declarations.{Kind, io_kind, mem32, mem64, registers_of, greatest_size, Region, IsLawfulRegion, ConfigBlock, Endpoint}
-use Rattle.model_registers.specs.DeclarationRules.{IsConfigBlock, blocks_apart}
+use Rattle.model_registers.specs.DeclarationRules.{IsConfigBlock, blocks_apart, IsLawfulEndpoint}
 use Rattle.model_registers.specs.EndpointTable.{endpoint_reset}
 use Rattle.model_registers.specs.Decoding.{Function}
 use Rattle.model_registers.proofs.Bases.{registers_positive}
@@ -111,6 +111,16 @@ few_blocks bs all apart =
     let same = length-map bs (λ (b : ConfigBlock). b.offset - 0x40) in
     omega arith
 
+all_above : (rs : List Region) → Each (λ r. 0 ≤ r.index) rs
+all_above [] = tt
+all_above (r ∷ rs) = (omega arith, all_above rs)
+
+pub region_count : (d : Endpoint) → IsLawfulEndpoint d → length d.regions ≤ 6
+region_count d h = let a = few_regions d.regions 0 (omega arith) h.regions.each h.regions.in_order (all_above d.regions) in omega arith
+
+pub block_count : (d : Endpoint) → IsLawfulEndpoint d → length d.blocks ≤ 192
+block_count d h = few_blocks d.blocks h.config_blocks h.blocks_apart
+
 -- ---- declarations
 
 -- what has bits of a mask alone is not greater
@@ -119,16 +129,12 @@ masked n m h = let a = and_le_r n m in let low : n ≤ m = subst (λ x. x ≤ m)
 
 pub endpoint_fits : (d : Endpoint) → IsDeclared d → endpoint_layout.fits d ≡ true
 endpoint_fits d h =
-    let many_regions : length d.regions < 256 ^ 1 = let a = few_regions d.regions 0 (omega arith) h.lawful.regions.each h.lawful.regions.in_order (all_above d.regions) in omega arith in
-    let many_blocks : length d.blocks < 256 ^ 1 = let a = few_blocks d.blocks h.lawful.config_blocks h.lawful.blocks_apart in omega arith in
+    let many_regions : length d.regions < 256 ^ 1 = let a = region_count d h.lawful in omega arith in
+    let many_blocks : length d.blocks < 256 ^ 1 = let a = block_count d h.lawful in omega arith in
     let regions = counted_fit 1 region_layout d.regions many_regions (regions_fit d.regions h.lawful.regions.each h.lawful.region_blocks h.cells.regions) in
     let blocks = counted_fit 1 block_layout d.blocks many_blocks (blocks_fit d.blocks h.lawful.config_blocks h.cells.blocks) in
     numbers regions blocks
   where
-    all_above : (rs : List Region) → Each (λ r. 0 ≤ r.index) rs
-    all_above [] = tt
-    all_above (r ∷ rs) = (omega arith, all_above rs)
-
     regions_fit : (rs : List Region) → Each IsLawfulRegion rs → Each (λ r. length r.cells ≤ 4096) rs → Each (λ (r : Region). Each IsCell r.cells) rs → Each (λ r. region_layout.fits r ≡ true) rs
     regions_fit [] a b c = tt
     regions_fit (r ∷ rs) a b c = (region_fits r (record { lawful = a.0; short = b.0; cells = c.0 }), regions_fit rs a.1 b.1 c.1)

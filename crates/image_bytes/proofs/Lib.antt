@@ -1,0 +1,3 @@
+pub mod Puts
+pub mod Masks
+pub mod DeclaredBytes
