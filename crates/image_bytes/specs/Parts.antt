@@ -1,7 +1,8 @@
 -- The parts of a declaration as bytes.
 --     cell_bytes      a cell
 --     endpoint_head, region_head, block_head      what stands before regions, and before the cells of a region or a block
---     region_bytes, block_bytes, declared_bytes      a region, a block and a declaration, put together from these
+--     region_bytes, block_bytes      a region, a block
+--     counted_blocks, rest_bytes, declared_bytes      blocks with their count; what follows the head; a declaration
 --     DeclaredBytes      they are the bytes of the declaration
 use Rattle.std.specs.Prelude.{◌≡◌, List, ℕ, ◌++◌, length, flat_map}
 use Rattle.model_registers.specs.Cell.{Cell}
@@ -31,9 +32,14 @@ region_bytes r = region_head r ++ flat_map cell_bytes r.cells
 abbrev pub block_bytes : ConfigBlock → List ℕ
 block_bytes b = block_head b ++ flat_map cell_bytes b.cells
 
+abbrev pub counted_blocks : List ConfigBlock → List ℕ
+counted_blocks bs = le_bytes 1 (length bs) ++ flat_map block_bytes bs
+
+abbrev pub rest_bytes : Endpoint → List ℕ
+rest_bytes d = flat_map region_bytes d.regions ++ counted_blocks d.blocks
+
 abbrev pub declared_bytes : Endpoint → List ℕ
-declared_bytes d =
-    endpoint_head d ++ (flat_map region_bytes d.regions ++ (le_bytes 1 (length d.blocks) ++ flat_map block_bytes d.blocks))
+declared_bytes d = endpoint_head d ++ rest_bytes d
 
 abbrev pub DeclaredBytes : Type 0
 DeclaredBytes = (d : Endpoint) → declared_bytes d ≡ declaration_bytes d

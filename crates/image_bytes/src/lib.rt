@@ -2,7 +2,11 @@
 //! compared with them. No call takes memory.
 #![tactic(auto)]
 
+mod comparing;
+mod fault;
 mod parts;
 mod writing;
 
+pub use comparing::after_declaration;
+pub use fault::ImageFault;
 pub use writing::write_declaration;

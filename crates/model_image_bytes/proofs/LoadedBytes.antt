@@ -42,7 +42,7 @@ pub record FallsShort (xs bytes : List ℕ) : Type 0 where
   pub rest : List ℕ
   pub are : xs ≡ bytes ++ next ∷ rest
 
-compared : (k : ℕ) (xs bytes : List ℕ) → ((rest : List ℕ) × Follows k xs bytes rest) ⊎ ((after_bytes k xs bytes ≡ Err k) ⊎ FallsShort xs bytes)
+pub compared : (k : ℕ) (xs bytes : List ℕ) → ((rest : List ℕ) × Follows k xs bytes rest) ⊎ ((after_bytes k xs bytes ≡ Err k) ⊎ FallsShort xs bytes)
 compared k [] bytes = inl (bytes, record { left = refl; are = refl })
 compared k (x ∷ xs) [] = inr (inr (record { next = x; rest = xs; are = refl }))
 compared k (x ∷ xs) (b ∷ bytes) = cases (eqb x b) refl (compared k xs bytes)
@@ -69,7 +69,7 @@ follows k (x ∷ xs) (b ∷ bytes) rest h = cases (eqb x b) refl h (follows k xs
     cases false e i more = cc
     cases true e i more = ap₂ (λ (y : ℕ) (ys : List ℕ). y ∷ ys) (sym (eqb-true x b e)) (more i)
 
-own_bytes : (k : ℕ) (xs rest : List ℕ) → after_bytes k xs (xs ++ rest) ≡ Ok rest
+pub own_bytes : (k : ℕ) (xs rest : List ℕ) → after_bytes k xs (xs ++ rest) ≡ Ok rest
 own_bytes k [] rest = refl
 own_bytes k (x ∷ xs) rest = grind (arith, own_bytes k xs rest)
 
