@@ -58,6 +58,14 @@ differs k own bytes none h = of (compared k own bytes)
     of (inr (inl e)) = e
     of (inr (inr m)) = differ bytes (take (length bytes) own) h (sym (ap (take (length bytes)) m.are ∙ take_at bytes (m.next ∷ m.rest) (length bytes) refl))
 
+-- where every difference is one fault
+pub no_beginning : (own bytes : List ℕ) → bytes_eq (take (length own) bytes) own ≡ false → after_bytes 905 own bytes ≡ Err 905
+no_beginning own bytes none = of (bytes_eq bytes (take (length bytes) own)) refl
+  where
+    of : (t : Bool) → bytes_eq bytes (take (length bytes) own) ≡ t → after_bytes 905 own bytes ≡ Err 905
+    of true e = falls_short 905 own bytes none e
+    of false e = differs 905 own bytes none e
+
 -- ---- one after the other
 
 pub goes_on : (k : ℕ) (xs ys bytes rest : List ℕ) → after_bytes k xs bytes ≡ Ok rest → after_bytes k (xs ++ ys) bytes ≡ after_bytes k ys rest

@@ -4,9 +4,15 @@
 
 mod comparing;
 mod fault;
+mod heading;
 mod parts;
+mod sizes;
+mod values;
 mod writing;
 
 pub use comparing::after_declaration;
 pub use fault::ImageFault;
+pub use heading::{after_header, after_latch, after_tag, at_end, header};
+pub use sizes::declaration_size;
+pub use values::after_values;
 pub use writing::write_declaration;
