@@ -1,0 +1,4 @@
+pub mod Faults
+pub mod Parts
+pub mod Puts
+pub mod Rows

@@ -1,0 +1,18 @@
+//! The bytes of the functions of a guest's image, where they lie: declarations are written into a buffer, and bytes are
+//! compared with them. No call takes memory.
+#![tactic(auto)]
+
+mod comparing;
+mod fault;
+mod heading;
+mod parts;
+mod sizes;
+mod values;
+mod writing;
+
+pub use comparing::after_declaration;
+pub use fault::ImageFault;
+pub use heading::{after_header, after_latch, after_tag, at_end, header};
+pub use sizes::declaration_size;
+pub use values::after_values;
+pub use writing::write_declaration;

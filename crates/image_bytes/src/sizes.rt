@@ -1,0 +1,54 @@
+//! How many bytes declarations and their values have in an image.
+ghost use Rattle.std.specs.Prelude.{◌≡◌, ◌≤◌, flat_map, length};
+ghost use Rattle.lists.specs.Elements.{Each};
+ghost use Rattle.model_registers.specs.DeclarationRules.{IsConfigBlock};
+ghost use Rattle.model_image_bytes.specs.ImageBytes.{declaration_bytes};
+ghost use Rattle.image_bytes.specs.Parts.{block_bytes, declared_bytes, region_bytes};
+
+use headers::{ConfigBlock, EndpointDecl, Region};
+
+fn regions_size(regions: &[Region]) -> usize
+    requires counts { Each (λ r. length r.cells ≤ 4096) regions.now }
+    requires few { length regions.now ≤ 6 }
+    ensures size { result ≡ length (flat_map region_bytes regions.now) }
+    ensures bound { result ≤ 73800 }
+{
+    let mut left = regions;
+    let mut size = 0;
+    while let Some((region, rest)) = left.split_first() {
+        size += 12 + 3 * region.block.len();
+        left = rest;
+    }
+    size
+}
+
+fn blocks_size(blocks: &[ConfigBlock]) -> usize
+    requires lawful { Each IsConfigBlock blocks.now }
+    requires few { length blocks.now ≤ 192 }
+    ensures size { result ≡ length (flat_map block_bytes blocks.now) }
+    ensures bound { result ≤ 110976 }
+{
+    let mut left = blocks;
+    let mut size = 0;
+    while let Some((block, rest)) = left.split_first() {
+        size += 2 + 3 * block.block.len();
+        left = rest;
+    }
+    size
+}
+
+/// How many bytes the parts of a declaration have.
+fn parts_size(decl: &EndpointDecl) -> usize
+    ensures { result ≡ length (declared_bytes decl.now) }
+{
+    let values = decl.values();
+    19 + regions_size(&values.bar) + blocks_size(&values.config)
+}
+
+/// How many bytes a declaration has in an image.
+#[tactic(auto, using(crate::proofs::DeclaredBytes::declared_is))]
+pub fn declaration_size(decl: &EndpointDecl) -> usize
+    ensures { result ≡ length (declaration_bytes decl.now) }
+{
+    parts_size(decl)
+}

@@ -1,0 +1,151 @@
+-- Each layout reads what it writes, and nothing else.
+use Rattle.std.proofs.Common.{◌≡◌, ◌<◌, ℕ, zero, suc, Bool, true, false, cond, eqb, List, [], ◌∷◌, ◌++◌, length, Some, None, Option, refl, sym, ap, ◌∙◌, subst, append_assoc, append-nil, arith}
+use Rattle.std.specs.Prelude.{flat_map, nat_le, option_map, option_and_then, IsTrue}
+use Rattle.std.proofs.lemmas.Bool.{and_from, eqb-true}
+use Rattle.std.proofs.lemmas.Option.{same_Some}
+use Rattle.lists.proofs.EachLemmas.{each_append}
+use Rattle.lists.proofs.Tests.{left_true, right_true}
+use Rattle.model_image_bytes.specs.Layouts.{Layout, Parsed, parsed, number, if_passed, checked, seen, through, paired, parse_next, followed, both, exactly, fit_times, before, parse_times, repeated, counted, first_of, at_most_one, optional, if_no_rest, whole}
+use Rattle.model_image_bytes.specs.ByteLaws.{AreBytes, Spells, IsLayout}
+use Rattle.model_image_bytes.proofs.Options.{from_next, from_map}
+use Rattle.model_image_bytes.proofs.Numbers.{number_is}
+
+-- ---- values that pass, and values seen as others
+
+module _ {A : Type 0} (L : Layout A) (l : IsLayout L) where
+  pub checked_is : (test : A → Bool) → IsLayout (checked test L)
+  checked_is test = record {
+    are_bytes = l.are_bytes;
+    again = λ x rest h.
+        ap (option_and_then (if_passed test)) (l.again x rest (left_true (L.fits x) (test x) h))
+        ∙ ap (λ t. cond t (Some (parsed x rest)) None) (right_true (L.fits x) (test x) h);
+    spells = λ bs p h. let q = from_next (if_passed test) (L.parse bs) p h in of bs p q.0 q.1 (test q.0.value) refl q.2;
+  }
+    where
+      of : (bs : List ℕ) (p q : Parsed A) → L.parse bs ≡ Some q → (t : Bool) → test q.value ≡ t → cond t (Some q) None ≡ Some p → Spells (checked test L) bs p
+      of bs p q e false i h = cc
+      of bs p q e true i h =
+          let s = l.spells bs q e in
+          subst (Spells (checked test L) bs) (same_Some q p h) (record { fits = and_from (L.fits q.value) (test q.value) s.fits i; bytes = s.bytes })
+
+  module _ {B : Type 0} (to : A → B) (from : B → A) where
+    pub through_is : ((y : B) → to (from y) ≡ y) → ((x : A) → IsTrue (L.fits x) → from (to x) ≡ x) → IsLayout (through to from L)
+    through_is back same = record {
+      are_bytes = λ y. l.are_bytes (from y);
+      again = λ y rest h. ap (option_map (seen to)) (l.again (from y) rest h) ∙ ap (λ (x : B). Some (parsed x rest)) (back y);
+      spells = λ bs p h. let q = from_map (seen to) (L.parse bs) p h in subst (Spells (through to from L) bs) q.2 (of bs q.0 (l.spells bs q.0 q.1));
+    }
+      where
+        of : (bs : List ℕ) (q : Parsed A) → Spells L bs q → Spells (through to from L) bs (seen to q)
+        of bs q s = let is = sym (same q.value s.fits) in record {
+          fits = subst (λ (x : A). IsTrue (L.fits x)) is s.fits;
+          bytes = s.bytes ∙ ap (λ (x : A). L.bytes x ++ q.rest) is;
+        }
+
+-- ---- one value after another
+
+module _ {A B : Type 0} (L : Layout A) (M : A → Layout B) (l : IsLayout L) (m : (x : A) → IsLayout (M x)) where
+  followed_spells : (bs : List ℕ) (q : Parsed A) (r : Parsed B) → Spells L bs q → Spells (M q.value) q.rest r → Spells (followed L M) bs (paired q.value r)
+  followed_spells bs q r s t = record {
+    fits = and_from (L.fits q.value) ((M q.value).fits r.value) s.fits t.fits;
+    bytes = s.bytes ∙ ap (λ (xs : List ℕ). L.bytes q.value ++ xs) t.bytes ∙ sym (append_assoc (L.bytes q.value) ((M q.value).bytes r.value) r.rest);
+  }
+
+  pub followed_is : IsLayout (followed L M)
+  followed_is = record {
+    are_bytes = λ x. each_append (λ b. b < 256) (L.bytes x.0) ((M x.0).bytes x.1) (l.are_bytes x.0) ((m x.0).are_bytes x.1);
+    again = λ x rest h.
+        ap (λ (bs : List ℕ). option_and_then (parse_next M) (L.parse bs)) (append_assoc (L.bytes x.0) ((M x.0).bytes x.1) rest)
+        ∙ ap (option_and_then (parse_next M)) (l.again x.0 ((M x.0).bytes x.1 ++ rest) (left_true (L.fits x.0) ((M x.0).fits x.1) h))
+        ∙ ap (option_map (paired x.0)) ((m x.0).again x.1 rest (right_true (L.fits x.0) ((M x.0).fits x.1) h));
+    spells = λ bs p h.
+        let q = from_next (parse_next M) (L.parse bs) p h in
+        let r = from_map (paired q.0.value) ((M q.0.value).parse q.0.rest) p q.2 in
+        subst (Spells (followed L M) bs) r.2 (followed_spells bs q.0 r.0 (l.spells bs q.0 q.1) ((m q.0.value).spells q.0.rest r.0 r.1));
+  }
+
+pub both_is : {A B : Type 0} (L : Layout A) (M : Layout B) → IsLayout L → IsLayout M → IsLayout (both L M)
+both_is L M l m = followed_is L (λ x. M) l (λ x. m)
+
+pub exactly_is : (k n : ℕ) → IsLayout (exactly k n)
+exactly_is k n =
+    through_is (checked (λ m. eqb m n) (number k)) (checked_is (number k) (number_is k) (λ m. eqb m n)) (λ m. tt) (λ u. n) (λ u. refl)
+    (λ m h. sym (eqb-true m n (right_true ((number k).fits m) (eqb m n) h)))
+
+-- ---- many values
+
+module _ {A : Type 0} (L : Layout A) (l : IsLayout L) where
+  times_bytes : (xs : List A) → AreBytes (flat_map L.bytes xs)
+  times_bytes [] = tt
+  times_bytes (x ∷ xs) = each_append (λ b. b < 256) (L.bytes x) (flat_map L.bytes xs) (l.are_bytes x) (times_bytes xs)
+
+  times_again : (n : ℕ) (xs : List A) (rest : List ℕ) → fit_times L.fits n xs ≡ true → parse_times L.parse n (flat_map L.bytes xs ++ rest) ≡ Some (parsed xs rest)
+  times_again zero [] rest h = refl
+  times_again zero (x ∷ xs) rest h = cc
+  times_again (suc n) [] rest h = cc
+  times_again (suc n) (x ∷ xs) rest h =
+      ap (parse_times L.parse (suc n)) (append_assoc (L.bytes x) (flat_map L.bytes xs) rest)
+      ∙ ap (option_and_then (λ (p : Parsed A). option_map (before p.value) (parse_times L.parse n p.rest))) (l.again x (flat_map L.bytes xs ++ rest) (left_true (L.fits x) (fit_times L.fits n xs) h))
+      ∙ ap (option_map (before x)) (times_again n xs rest (right_true (L.fits x) (fit_times L.fits n xs) h))
+
+  times_more : (n : ℕ) (bs : List ℕ) (q : Parsed A) (r : Parsed (List A)) → Spells L bs q → Spells (repeated n L) q.rest r → Spells (repeated (suc n) L) bs (before q.value r)
+  times_more n bs q r s t = record {
+    fits = and_from (L.fits q.value) (fit_times L.fits n r.value) s.fits t.fits;
+    bytes = s.bytes ∙ ap (λ (xs : List ℕ). L.bytes q.value ++ xs) t.bytes ∙ sym (append_assoc (L.bytes q.value) (flat_map L.bytes r.value) r.rest);
+  }
+
+  times_spells : (n : ℕ) (bs : List ℕ) (p : Parsed (List A)) → parse_times L.parse n bs ≡ Some p → Spells (repeated n L) bs p
+  times_spells zero bs p h = subst (Spells (repeated 0 L) bs) (same_Some (parsed [] bs) p h) (record { fits = refl; bytes = refl })
+  times_spells (suc n) bs p h =
+      let q = from_next (λ (p : Parsed A). option_map (before p.value) (parse_times L.parse n p.rest)) (L.parse bs) p h in
+      let r = from_map (before q.0.value) (parse_times L.parse n q.0.rest) p q.2 in
+      subst (Spells (repeated (suc n) L) bs) r.2 (times_more n bs q.0 r.0 (l.spells bs q.0 q.1) (times_spells n q.0.rest r.0 r.1))
+
+  pub repeated_is : (n : ℕ) → IsLayout (repeated n L)
+  repeated_is n = record { are_bytes = times_bytes; again = times_again n; spells = times_spells n }
+
+  fit_count : (n : ℕ) (xs : List A) → fit_times L.fits n xs ≡ true → length xs ≡ n
+  fit_count zero [] h = refl
+  fit_count zero (x ∷ xs) h = cc
+  fit_count (suc n) [] h = cc
+  fit_count (suc n) (x ∷ xs) h = ap suc (fit_count n xs (right_true (L.fits x) (fit_times L.fits n xs) h))
+
+  pub counted_is : (k : ℕ) → IsLayout (counted k L)
+  counted_is k =
+      through_is (followed (number k) (λ n. repeated n L)) (followed_is (number k) (λ n. repeated n L) (number_is k) repeated_is) (λ x. x.1) (λ xs. (length xs, xs)) (λ xs. refl)
+      (λ x h. ap (λ n. (n, x.1)) (fit_count x.0 x.1 (right_true ((number k).fits x.0) (fit_times L.fits x.0 x.1) h)))
+
+  abbrev short : Layout (List A)
+  short = checked (λ xs. nat_le (length xs) 1) (counted 1 L)
+
+  one_back : (o : Option A) → first_of (at_most_one o) ≡ o
+  one_back None = refl
+  one_back (Some x) = refl
+
+  one_same : (xs : List A) → nat_le (length xs) 1 ≡ true → at_most_one (first_of xs) ≡ xs
+  one_same [] h = refl
+  one_same (x ∷ []) h = refl
+  one_same (x ∷ y ∷ zs) h = grind arith
+
+  pub optional_is : IsLayout (optional L)
+  optional_is =
+      through_is short (checked_is (counted 1 L) (counted_is 1) (λ xs. nat_le (length xs) 1)) first_of at_most_one one_back
+      (λ xs h. one_same xs (right_true ((counted 1 L).fits xs) (nat_le (length xs) 1) h))
+
+-- ---- all the bytes
+
+module _ {A : Type 0} (L : Layout A) (l : IsLayout L) where
+  pub whole_again : (x : A) → IsTrue (L.fits x) → whole L (L.bytes x) ≡ Some x
+  whole_again x h =
+      ap (λ (bs : List ℕ). whole L bs) (sym (append-nil (L.bytes x))) ∙ ap (option_and_then (λ (p : Parsed A). if_no_rest p.value p.rest)) (l.again x [] h)
+
+  pub whole_spells : (bs : List ℕ) (x : A) → whole L bs ≡ Some x → (bs ≡ L.bytes x) × IsTrue (L.fits x)
+  whole_spells bs x h =
+      let p = from_next (λ (q : Parsed A). if_no_rest q.value q.rest) (L.parse bs) x h in
+      let s = l.spells bs p.0 p.1 in of p.0.value p.0.rest s.bytes s.fits p.2
+    where
+      of : (y : A) (rest : List ℕ) → bs ≡ L.bytes y ++ rest → IsTrue (L.fits y) → if_no_rest y rest ≡ Some x → (bs ≡ L.bytes x) × IsTrue (L.fits x)
+      of y (b ∷ rest) e f i = cc
+      of y [] e f i =
+          let same : y ≡ x = same_Some y x i in
+          (e ∙ append-nil (L.bytes y) ∙ ap (λ (z : A). L.bytes z) same, subst (λ (z : A). IsTrue (L.fits z)) same f)

@@ -1,0 +1,76 @@
+-- The board beside the functions of a guest that is loaded.
+use Rattle.std.proofs.Common.{◌≡◌, ℕ, zero, suc, Bool, true, false, cond, List, [], ◌∷◌, Some, None, Option, refl, sym, ap, ◌∙◌, arith}
+use Rattle.std.specs.Prelude.{map, option_map, slice_get, IsSome}
+use Rattle.std.specs.Option.{option_map_or}
+use Rattle.model_registers.specs.Registers.{File}
+use Rattle.model_registers.specs.Decoding.{Function}
+use Rattle.model_board.specs.Paths.{Path, path_eq}
+use Rattle.model_board.specs.Ports.{file_at}
+use Rattle.model_board.specs.State.{BoardFunction}
+use Rattle.model_board.proofs.PathOrder.{path_same}
+use Rattle.model_registers.specs.CopiedFiles.{agreed_file}
+use Rattle.model_guests.specs.Slots.{Slots, slot_at}
+use Rattle.model_guests.specs.Lone.{LoneGuest}
+use Rattle.model_guests.specs.Guests.{GuestNow, file_in, file_of, function_in, guest_named, with_guest}
+use Rattle.model_guests.specs.AgreedBoard.{agreed_function}
+use Rattle.model_guests.proofs.Changes.{agreed_twice}
+use Rattle.model_guests.proofs.GuestsByName.{function_named, path_at, path_of}
+use Rattle.model_guests.proofs.FoundFiles.{file_found, file_stays}
+use Rattle.model_handoff.proofs.Functions.{path_stays}
+use Rattle.model_images.specs.Images.{SavedFunction, loaded, restored}
+use Rattle.model_images.specs.LoadLaws.{BoardAfterLoad, BoardBesideLoad, LoadsAlike}
+use Rattle.model_images.proofs.Loading.{loaded_holds, paths_after_load, seated_after_load}
+
+pub loads_alike : LoadsAlike
+loads_alike file left own = agreed_twice left own file
+
+file_absent : (qs : List (Option Path)) (fs : Slots) (p : Path) → ((m : ℕ) → path_at qs m ≡ Some p → ⊥) → file_in qs fs p ≡ None
+file_absent [] fs p none = refl
+file_absent (q ∷ qs) [] p none = refl
+file_absent (None ∷ qs) (f ∷ fs) p none = file_absent qs fs p (λ m. none (suc m))
+file_absent (Some q ∷ qs) (f ∷ fs) p none = cases (path_eq q p) refl (file_absent qs fs p (λ m. none (suc m)))
+  where
+    cases : (t : Bool) → path_eq q p ≡ t → file_in qs fs p ≡ None → cond t (option_map (λ (g : Function). g.file) f) (file_in qs fs p) ≡ None
+    cases true e more = absurd (none 0 (ap (λ (x : Path). Some x) (path_same q p e)))
+    cases false e more = more
+
+-- what the board shows at a path: the file that was handed over, with the guest's put in
+abbrev put_in : Option File → File → File
+put_in o file = option_map_or (agreed_file file) o file
+
+shown_none : (o : Option File) → [] ≡ put_in o []
+shown_none None = refl
+shown_none (Some file) = refl
+
+shown_at : (fs : List BoardFunction) (files : Path → Option File) (p : Path) → file_at (map (agreed_function files) fs) p ≡ put_in (files p) (file_at fs p)
+shown_at [] files p = shown_none (files p)
+shown_at (f ∷ fs) files p = grind (arith, shown_at fs files p, path_stays, path_same)
+
+pub board_beside_load : BoardBesideLoad
+board_beside_load b w h name i p none =
+    shown_at w.handoff.functions (file_of (with_guest (loaded i) name w.guests)) p
+    ∙ ap (λ (o : Option File). put_in o (file_at w.handoff.functions p))
+    (file_stays (loaded i) name p w.guests h.names_apart
+    (λ t at.
+    let no : (m : ℕ) → path_at t.paths m ≡ Some p → ⊥ = λ m e. none m (ap (λ (o : Option GuestNow). path_of o m) at ∙ e) in
+    file_absent t.paths (loaded i t).lone.slots p no ∙ sym (file_absent t.paths t.lone.slots p no)))
+    ∙ sym (shown_at w.handoff.functions (file_of w.guests) p)
+
+-- the function that was loaded into a slot
+restored_at : (ss : List (Option SavedFunction)) (n : ℕ) (s : SavedFunction) → slice_get ss n ≡ Some (Some s) → slot_at (map (option_map restored) ss) n ≡ Some (restored s)
+restored_at [] n s at = cc
+restored_at (x ∷ xs) zero s at = let is : x ≡ Some s = cc in ap (option_map restored) is
+restored_at (x ∷ xs) (suc n) s at = restored_at xs n s at
+
+guest_of_path : (o : Option GuestNow) (n : ℕ) (p : Path) → path_of o n ≡ Some p → IsSome o
+guest_of_path o n p h = grind arith
+
+pub board_after_load : BoardAfterLoad
+board_after_load b w h name i fits n p s path at =
+    let now = with_guest (loaded i) name w.guests in
+    let seated = seated_after_load b w h name i fits in
+    let there : IsSome (guest_named w.guests name) = guest_of_path (guest_named w.guests name) n p path in
+    let function : function_in now name n ≡ Some (restored s) = ap (λ (g : LoneGuest). slot_at g.slots n) (loaded_holds w name there i) ∙ restored_at i.slots n s at in
+    let file : file_of now p ≡ Some (restored s).file =
+    file_found now seated.names_apart seated.paths_apart name n p (restored s) (paths_after_load w name i name n ∙ path) (sym (function_named now name n) ∙ function) in
+    shown_at w.handoff.functions (file_of now) p ∙ ap (λ (o : Option File). put_in o (file_at w.handoff.functions p)) file

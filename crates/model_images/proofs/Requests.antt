@@ -1,0 +1,117 @@
+-- What a guest is told by requests, and holds after them, is that of its own.
+use Rattle.std.proofs.Common.{◌≡◌, Bool, true, false, cond, List, [], ◌∷◌, ◌++◌, refl, sym, ap, ◌∙◌, append_assoc, append-nil, arith}
+use Rattle.std.specs.Prelude.{map, IsSome}
+use Rattle.std.specs.Str.{bytes_eq}
+use Rattle.model_guests.specs.Accesses.{Reply}
+use Rattle.model_guests.specs.Text.{Text}
+use Rattle.model_guests.specs.Lone.{LoneGuest}
+use Rattle.model_guests.specs.Guests.{guest_named, lone_of}
+use Rattle.model_guests.specs.WorldNow.{WorldNow}
+use Rattle.model_guests.specs.Calls.{CallInput, alone_told, all_alone_told, after_own_call, after_own_calls}
+use Rattle.model_guests.proofs.Names.{equal_texts}
+use Rattle.model_guests.proofs.OneGuest.{lone_by, still}
+use Rattle.model_handoff.specs.Actions.{Action, after_action, told_by, inputs_of_action}
+use Rattle.model_handoff.proofs.Actions.{isolated_by_actions, there_after}
+use Rattle.model_images.specs.Images.{Image, image_of_lone, lone_of_image, loaded, at_reset}
+use Rattle.model_images.specs.Requests.{Request, acts, loads, restarts, after_request, after_requests, told_of, all_told_of, OwnInput, acted, restarted, inputs_of_request, request_inputs, all_told_alone, after_all_own, IsolatedByRequests}
+use Rattle.model_images.specs.LoadLaws.{AnswersAsSaved, copied}
+use Rattle.model_images.proofs.Loading.{holds_as_saved, lone_reset_back}
+
+-- ---- a guest that is there stays there
+
+pub there_now : (w : WorldNow) (name : Text) → IsSome (guest_named w.guests name) → (r : Request) → IsSome (guest_named (after_request w r).guests name)
+there_now w name there (acts a) = there_after w name there a
+there_now w name there (loads n i) = still (loaded i) (λ t. refl) n name w.guests there
+there_now w name there (restarts n) = still (loaded (image_of_lone (at_reset (lone_of w.guests n)))) (λ t. refl) n name w.guests there
+
+-- ---- what is a guest's own of actions
+
+acted_holds : (is : List CallInput) (g : LoneGuest) (more : List OwnInput) → after_all_own g (map acted is ++ more) ≡ after_all_own (after_own_calls g is) more
+acted_holds [] g more = refl
+acted_holds (i ∷ is) g more = acted_holds is (after_own_call g i) more
+
+acted_tells : (is : List CallInput) (g : LoneGuest) (more : List OwnInput) → all_told_alone g (map acted is ++ more) ≡ all_alone_told g is ++ all_told_alone (after_own_calls g is) more
+acted_tells [] g more = refl
+acted_tells (i ∷ is) g more =
+    ap (λ (rs : List Reply). alone_told g i ++ rs) (acted_tells is (after_own_call g i) more)
+    ∙ sym (append_assoc (alone_told g i) (all_alone_told (after_own_call g i) is) (all_told_alone (after_own_calls (after_own_call g i) is) more))
+
+-- ---- one request
+
+-- before what comes of later inputs
+pub record Decides (w : WorldNow) (name : Text) (r : Request) (more : List OwnInput) : Type 0 where
+  pub holds : after_all_own (lone_of w.guests name) (inputs_of_request name w r ++ more) ≡ after_all_own (lone_of (after_request w r).guests name) more
+  pub tells : all_told_alone (lone_of w.guests name) (inputs_of_request name w r ++ more) ≡ told_of name w r ++ all_told_alone (lone_of (after_request w r).guests name) more
+
+action_decides : (w : WorldNow) (name : Text) → IsSome (guest_named w.guests name) → (a : Action) (more : List OwnInput) → Decides w name (acts a) more
+action_decides w name there a more =
+    let one = isolated_by_actions w name there (a ∷ []) in
+    let is : List CallInput = inputs_of_action name w a in
+    let same = append-nil is in
+    let holds : lone_of (after_action w a).guests name ≡ after_own_calls (lone_of w.guests name) is = one.holds ∙ ap (after_own_calls (lone_of w.guests name)) same in
+    let tells : told_by name w a ≡ all_alone_told (lone_of w.guests name) is = sym (append-nil (told_by name w a)) ∙ one.replies ∙ ap (all_alone_told (lone_of w.guests name)) same in
+    record {
+      holds = acted_holds is (lone_of w.guests name) more ∙ ap (λ (g : LoneGuest). after_all_own g more) (sym holds);
+      tells = acted_tells is (lone_of w.guests name) more ∙ cc (holds, tells);
+    }
+
+loaded_now : (w : WorldNow) (n name : Text) (i : Image) → IsSome (guest_named w.guests name) → lone_of (after_request w (loads n i)).guests name ≡ cond (bytes_eq n name) (lone_of_image i) (lone_of w.guests name)
+loaded_now w n name i there = lone_by (loaded i) (λ t. refl) (λ (g : LoneGuest). lone_of_image i) (λ t. refl) n name w.guests there
+
+load_decides : (w : WorldNow) (name : Text) → IsSome (guest_named w.guests name) → (n : Text) (i : Image) (more : List OwnInput) → Decides w name (loads n i) more
+load_decides w name there n i more = grind (arith, loaded_now w n name i there)
+
+restarted_now : (w : WorldNow) (n name : Text) → IsSome (guest_named w.guests name) → lone_of (after_request w (restarts n)).guests name ≡ cond (bytes_eq n name) (at_reset (lone_of w.guests name)) (lone_of w.guests name)
+restarted_now w n name there = loaded_now w n name (image_of_lone (at_reset (lone_of w.guests n))) there ∙ by (bytes_eq n name) refl
+  where
+    by : (t : Bool) → bytes_eq n name ≡ t → cond t (lone_of_image (image_of_lone (at_reset (lone_of w.guests n)))) (lone_of w.guests name) ≡ cond t (at_reset (lone_of w.guests name)) (lone_of w.guests name)
+    by false e = refl
+    by true e = lone_reset_back (lone_of w.guests n) ∙ ap (λ (x : Text). at_reset (lone_of w.guests x)) (equal_texts n name e)
+
+restart_decides : (w : WorldNow) (name : Text) → IsSome (guest_named w.guests name) → (n : Text) (more : List OwnInput) → Decides w name (restarts n) more
+restart_decides w name there n more = record {
+  holds = by (bytes_eq n name) ∙ ap (λ (g : LoneGuest). after_all_own g more) (sym now);
+  tells = told (bytes_eq n name) ∙ ap (λ (g : LoneGuest). all_told_alone g more) (sym now);
+}
+  where
+    now : lone_of (after_request w (restarts n)).guests name ≡ cond (bytes_eq n name) (at_reset (lone_of w.guests name)) (lone_of w.guests name)
+    now = restarted_now w n name there
+
+    by : (t : Bool) → after_all_own (lone_of w.guests name) (cond t (restarted ∷ []) [] ++ more) ≡ after_all_own (cond t (at_reset (lone_of w.guests name)) (lone_of w.guests name)) more
+    by true = refl
+    by false = refl
+
+    told : (t : Bool) → all_told_alone (lone_of w.guests name) (cond t (restarted ∷ []) [] ++ more) ≡ all_told_alone (cond t (at_reset (lone_of w.guests name)) (lone_of w.guests name)) more
+    told true = refl
+    told false = refl
+
+decides : (w : WorldNow) (name : Text) → IsSome (guest_named w.guests name) → (r : Request) (more : List OwnInput) → Decides w name r more
+decides w name there (acts a) more = action_decides w name there a more
+decides w name there (loads n i) more = load_decides w name there n i more
+decides w name there (restarts n) more = restart_decides w name there n more
+
+-- ---- requests
+
+all_hold : (rs : List Request) (w : WorldNow) (name : Text) → IsSome (guest_named w.guests name) → lone_of (after_requests w rs).guests name ≡ after_all_own (lone_of w.guests name) (request_inputs name w rs)
+all_hold [] w name there = refl
+all_hold (r ∷ rs) w name there =
+    all_hold rs (after_request w r) name (there_now w name there r) ∙ sym (decides w name there r (request_inputs name (after_request w r) rs)).holds
+
+all_tell : (rs : List Request) (w : WorldNow) (name : Text) → IsSome (guest_named w.guests name) → all_told_of name w rs ≡ all_told_alone (lone_of w.guests name) (request_inputs name w rs)
+all_tell [] w name there = refl
+all_tell (r ∷ rs) w name there =
+    ap (λ (x : List Reply). told_of name w r ++ x) (all_tell rs (after_request w r) name (there_now w name there r))
+    ∙ sym (decides w name there r (request_inputs name (after_request w r) rs)).tells
+
+pub isolated_by_requests : IsolatedByRequests
+isolated_by_requests w name there rs = record { replies = all_tell rs w name there; holds = all_hold rs w name there }
+
+-- ---- on another board
+
+pub answers_as_saved : AnswersAsSaved
+answers_as_saved w v from to is ones others same =
+    let there = still (loaded (image_of_lone (lone_of w.guests from))) (λ t. refl) to to v.guests is.second in
+    let lone : lone_of (copied from w to v).guests to ≡ lone_of w.guests from = holds_as_saved w v from to is in
+    let one = isolated_by_requests w from is.first ones in
+    let other = isolated_by_requests (copied from w to v) to there others in
+    record { replies = cc (one.replies, other.replies); holds = cc (one.holds, other.holds) }
