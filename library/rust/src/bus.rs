@@ -5,8 +5,8 @@ use crate::place::{At, Guest, Space};
 use std::sync::{Arc, Mutex, MutexGuard, PoisonError};
 
 /// What answers accesses of some bytes at an offset of a range that begins at `base`: the form of the `BusDevice` of
-/// Firecracker, Cloud Hypervisor and the reference VMM, and, by the types of its numbers apart, of `MutDevicePio` and
-/// `MutDeviceMmio` in the crate `vm-device` of rust-vmm.
+/// Firecracker and Cloud Hypervisor, and, but for the types of its numbers, of `MutDevicePio` and `MutDeviceMmio` in the
+/// crate `vm-device` of rust-vmm. This crate stands on none of them, so their traits take some lines over it, as below.
 ///
 /// A bus has no refusal: what nobody answers reads all ones, and a write that nobody takes is lost.
 pub trait BusDevice: Send {
