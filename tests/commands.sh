@@ -99,5 +99,6 @@ for name in "${documents[@]}"; do document "$name"; done
   tell "make $target" "$target" "$(has_target "$target")"
 done
 
+[ "$passed" -gt 0 ] || { failed=$((failed + 1)); echo 'FAILED: no document was read'; }
 echo "$passed passed, $failed failed"
 [ "$failed" = 0 ]
