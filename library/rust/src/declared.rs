@@ -290,11 +290,19 @@ impl Declaration {
     }
 }
 
-/// The shortest beginning that, repeated, makes the cells.
+/// The shortest beginning that, repeated, makes the cells: what stands before the longest end that they begin with too.
 fn period(cells: &[u8]) -> &[u8] {
-    let repeats = |&length: &usize| (0..cells.len()).all(|at| cells[at] == cells[at % length]);
-    let length = (1..cells.len()).find(repeats).unwrap_or(cells.len());
-    &cells[..length]
+    // of each beginning, how long its longest end is that it begins with, and that is shorter than it
+    let mut ends = vec![0; cells.len()];
+    for at in 1..cells.len() {
+        let mut length: usize = ends[at - 1];
+        while length > 0 && cells[at] != cells[length] {
+            length = ends[length - 1];
+        }
+        ends[at] = length + usize::from(cells[at] == cells[length]);
+    }
+    let end = ends.last().copied().unwrap_or(0);
+    &cells[..cells.len() - end]
 }
 
 fn in_hex(bytes: &[u8]) -> String {
@@ -302,4 +310,22 @@ fn in_hex(bytes: &[u8]) -> String {
         let _ = write!(text, "{byte:02x}");
         text
     })
+}
+
+#[cfg(test)]
+mod tests {
+    use super::period;
+
+    /// As it is said, for all cells of up to 9 bytes of two kinds.
+    #[test]
+    fn periods_are_the_shortest() {
+        for (length, bits) in
+            (1..10).flat_map(|length| (0..1 << length).map(move |bits| (length, bits)))
+        {
+            let cells: Vec<u8> = (0..length).map(|at| (bits >> at & 1) as u8).collect();
+            let repeats = |&count: &usize| (0..length).all(|at| cells[at] == cells[at % count]);
+            let shortest = (1..=length).find(repeats).unwrap();
+            assert_eq!(period(&cells), &cells[..shortest]);
+        }
+    }
 }
