@@ -63,7 +63,8 @@ pub use declared::{Declaration, Kind, Register};
 pub use device::{DeviceModel, NotAttached, Registers};
 pub use error::{Error, Refusal};
 pub use function::{Bar, Function, Functions, Ranges, Window};
-pub use load::LoadError;
 pub use machine::Machine;
 pub use place::{At, Guest, Hit, HostAt, Part, Region, Space};
 pub use text::{check, report, words, Check};
+
+pub use load::LoadError;
