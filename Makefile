@@ -162,11 +162,13 @@ kit: has-kit library/libpciguest.so.0
 corpus: library/libpciguest.so.0
 	@tests/kit/corpus.py corpus
 
-# QEMU's devices on random trees: random accesses, each reply of which is as the board's or differs by a rule; and EDK2 on
-# such trees, with all that is wrong in the registers that it leaves. It takes Debian's packages, and a quarter of an hour.
+# QEMU's devices on random trees: random accesses, each reply of which is as the board's or differs by a rule; and EDK2 and
+# Linux on such trees, with all that is wrong in the registers that each leaves. It takes Debian's packages, and a quarter of
+# an hour.
 peers: has-peers library/libpciguest.so.0
 	@tests/kit/peers.py
 	@tests/kit/edk2.py
+	@tests/kit/linux.py
 
 has-kit:
 	@tests/kit/needs

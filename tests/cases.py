@@ -30,7 +30,7 @@ from concurrent.futures import ThreadPoolExecutor
 TOP = pathlib.Path(__file__).resolve().parent.parent
 ROWS, BOARDS, REFUSED = TOP / "tests/rows", TOP / "boards", TOP / "boards/refused"
 # the seconds that the program has for a case
-SECONDS = 60
+SECONDS = 240
 # the heads of sections of boards/expected.txt
 FORMS = [
     r"(?P<board>\S+)",

@@ -1,22 +1,24 @@
 #!/usr/bin/env bash
 # Runs the commands that the documents print, and compares what comes with what they print.
-#     tests/commands.sh [PROGRAM]
+#     tests/commands.sh [PROGRAM [FOLDER]]
+# The documents are those of the repository, or those of users in the folder in which a tarball was unpacked.
 # In a block, a line '$ COMMAND' is run in a folder that has the program as ./pciguest and the repository's folders, and
 # the lines up to the next one are what has to come; `...` as the last of them leaves the rest open. A block under a line
 # 'Save this as `NAME`' is saved there first. A block of Rust or C stands, line by line, in the file that the text above links
 # last. Of `make` the target alone is looked for. In the manual a literal display is a block, and the program is called by
 # its name alone. The last line is 'N passed, M failed'.
 set -u
-cd "$(dirname "$0")/.."
+program=$(readlink -f "${1:-$(dirname "$0")/../crates/pciguest/out/pciguest}")
+cd "${2:-$(dirname "$0")/..}" || exit 1
 top=$PWD
-program=$(readlink -f "${1:-crates/pciguest/out/pciguest}")
 [ -x "$program" ] || { echo "no program at $program: make build"; echo '0 passed, 1 failed'; exit 1; }
 documents=(README.md docs/ARCHITECTURE.md docs/FORMATS.md docs/reports/LSPCI.md docs/lessons/*.md examples/audit/README.md man/pciguest.1)
+[ $# -lt 2 ] || documents=(README.md docs/FORMATS.md docs/lessons/*.md examples/audit/README.md)
 
 room=$(mktemp -d)
 trap 'rm -rf "$room"' EXIT
 ln -s "$program" "$room/pciguest"
-for name in README.md boards crates docs examples tools; do ln -s "$top/$name" "$room/$name"; done
+for name in README.md boards crates docs examples tools; do [ ! -e "$top/$name" ] || ln -s "$top/$name" "$room/$name"; done
 passed=0
 failed=0
 
@@ -93,9 +95,10 @@ document() {
 }
 
 for name in "${documents[@]}"; do document "$name"; done
-for target in $(grep -ohE '(^|`|\$ )make [a-z]+' README.md CONTRIBUTING.md docs/*.md docs/reports/*.md {boards,examples}/README.md | sed 's/.*make //' | sort -u); do
+[ ! -e Makefile ] || for target in $(grep -ohE '(^|`|\$ )make [a-z]+' README.md CONTRIBUTING.md docs/*.md docs/reports/*.md {boards,examples}/README.md | sed 's/.*make //' | sort -u); do
   tell "make $target" "$target" "$(has_target "$target")"
 done
 
+[ "$passed" -gt 0 ] || { failed=$((failed + 1)); echo 'FAILED: no document was read'; }
 echo "$passed passed, $failed failed"
 [ "$failed" = 0 ]

@@ -1,6 +1,7 @@
 #!/usr/bin/env bash
 # Judges the packages by lintian, and installs, uses and removes them in a root of their own, which debootstrap makes, or
-# which is copied from the folder that ROOT names. It runs as root. The last line is 'N passed, M failed'.
+# which is copied from the folder that ROOT names. Where `make dist` left a tarball, what the README gives to each of its
+# readers is done from it in that root first. It runs as root. The last line is 'N passed, M failed'.
 #     tests/deb.sh FOLDER      the folder that has the packages
 set -u
 [ $# = 1 ] || { echo 'usage: tests/deb.sh FOLDER' >&2; exit 2; }
@@ -36,8 +37,17 @@ else
 fi
 
 if [ -n "${ROOT-}" ]; then cp -a "$ROOT" "$root"
-else holds 'a root' debootstrap --variant=minbase --include=python3,gcc,libc6-dev,pkg-config bookworm "$root"; fi
+else holds 'a root' debootstrap --variant=minbase --include=python3,gcc,libc6-dev,make,pkg-config bookworm "$root"; fi
 inside() { chroot "$root" env -i PATH=/usr/bin:/bin:/usr/sbin:/sbin HOME=/root "$@"; }
+# on a machine with neither the kit nor this repository
+if tarball=$(ls pciguest-*-x86_64-linux.tar.gz 2> /dev/null); then
+  mkdir -p "$root/tried/tests/library" && tar -C "$root/tried" -xzf "$tarball"
+  cp tests/{users,commands}.sh "$root/tried/tests/" && cp tests/library/device.stdout "$root/tried/tests/library/"
+  # with /proc, which bash takes for what it compares; it is mounted for this command alone
+  with_proc() { unshare -m sh -c 'mount -t proc proc "$0/proc"; ln -sfn /proc/self/fd "$0/dev/fd"; exec chroot "$0" "$@"' "$root" "$@"; }
+  holds 'the tarball, by its README' with_proc env -i PATH=/usr/bin:/bin HOME=/root sh -c '/tried/tests/users.sh /tried/pciguest-*'
+  echo "the tarball: $(tail -n 2 "$room/told")"
+fi
 mkdir -p "$root/packages" && cp $(files) "$root/packages/"
 cp tests/library/device.stdout boards/demo.script "$root/packages/"
 holds 'they are installed' inside sh -c 'dpkg -i /packages/*.deb'

@@ -1,6 +1,7 @@
 #!/usr/bin/env bash
 # Does, from the tarball and as somebody without the kit, what the README gives to each of its readers: who writes firmware,
-# a hypervisor, a driver or device, and who teaches. The last line is 'N passed, M failed'.
+# a hypervisor, a driver or device, and who teaches. It tells how long each of them waited; the last line is 'N passed,
+# M failed'. Where the kit stands at /opt, `unshare -m sh -c 'mount -t tmpfs none /opt && tests/users.sh FOLDER'` hides it.
 #     tests/users.sh FOLDER      the folder in which the tarball was unpacked
 set -u
 [ $# = 1 ] || { echo 'usage: tests/users.sh FOLDER' >&2; exit 2; }
@@ -32,23 +33,20 @@ holds() {
 
 same() { diff "$1" <(shift; "$@" 2>&1); }
 has() { command -v "$1" > /dev/null; }
+began=$EPOCHREALTIME
+waited=()
+# done_by READER: how long that reader has waited
+done_by() {
+  waited+=("$1 $(awk "BEGIN { printf \"%.1f\", $EPOCHREALTIME - $began }") s")
+  began=$EPOCHREALTIME
+}
 
 # ---- nothing of the kit is there
 holds 'no kit' outside sh -c '! command -v rt'
 
-# ---- all: what the README that was packed says is run there
-readme=README.md
-# saved NAME: the block under the line that says to save it so
-saved() { awk -v name="Save this as \`$1\`" 'index($0, name) { on = 1 } on && /^```/ { if (inside) exit; inside = 1; next } inside' "$readme"; }
-# shown COMMAND: what the README prints under it
-shown() { awk -v command="\$ $1" '$0 == command { on = 1; next } on && /^(```|\$ )/ { exit } on' "$readme"; }
-for name in board.toml board.script firmware.script; do saved "$name" > "$name"; done
-for command in './pciguest list board.toml' './pciguest run board.toml < board.script' \
-  './pciguest firmware board.toml < firmware.script'; do
-  shown "$command" > wanted
-  holds "the README has: $command" test -s wanted
-  holds "$command" same wanted outside sh -c "$command"
-done
+# ---- all: what the README, FORMATS and the lessons that were packed print is what their commands write there
+holds 'the commands of the documents' outside bash "$here/tests/commands.sh" ./pciguest "$PWD"
+done_by 'who reads the documents'
 
 # ---- firmware: boards at reset, broken firmware, and a session
 audits() { cat examples/audit/set_up.script examples/audit/"$1".script | outside ./pciguest audit examples/audit/board.toml; }
@@ -78,6 +76,8 @@ else
   echo 'no C compiler, no make or no Python 3.11: no firmware is tested'
 fi
 
+done_by 'who writes firmware'
+
 # ---- a hypervisor: the program in C, by make and by pkg-config, and the crate for Rust
 device=$here/tests/library/device.stdout
 if has cc && has make; then
@@ -95,6 +95,7 @@ if cargo --version > /dev/null 2>&1; then
   printf '[package]\nname = "user"\nversion = "0.1.0"\nedition = "2021"\n[dependencies]\npciguest = { path = "../share/pciguest/rust" }\n' \
     > crate/Cargo.toml
   printf 'fn main() {\n    println!("{}", pciguest::report(std::fs::read("board.toml").unwrap()).unwrap());\n}\n' > crate/src/main.rs
+  cp docs/lessons/board.toml board.toml
   outside ./pciguest list board.toml > wanted; echo >> wanted
   with_cargo() { env -u PCIGUEST_LIBRARY_DIR "$@"; }
   holds 'the crate for Rust' with_cargo cargo build --offline --quiet --manifest-path crate/Cargo.toml
@@ -103,11 +104,15 @@ else
   echo 'no cargo: the crate for Rust is not tried'
 fi
 
-# ---- a driver or a device, and who teaches: the module for Python, and its prompt
+done_by 'who writes a hypervisor'
+
+# ---- a driver or a device: the module for Python
 if has python3; then
   outside python3 examples/python/doorbell.py > rings
   holds 'the device in Python' grep -qx 'driver: 2 rings, status 1' rings
   holds 'the device model in Python' same "$device" outside python3 examples/python/device.py examples/device.toml
+  done_by 'who writes a device'
+  # ---- who teaches: its prompt, the page, and the lessons, whose commands were run above
   printf 'a.vendor\ntree\n' | outside python3 -m pciguest boards/main.toml > answers
   holds 'the prompt' grep -qx 'a: 0x1234' answers
 else
@@ -118,7 +123,13 @@ for board in boards/*.toml examples/*.toml examples/*/*.toml; do
   named=$(sed -n '1s/^#:schema //p' "$board")
   [ -z "$named" ] || holds "$board names it" test -e "$(dirname "$board")/$named"
 done
+if [ -e pciguest.html ]; then
+  holds 'the page asks for nothing from elsewhere' sh -c '! grep -oE "(src|href)=.?https?:[^ >]*" pciguest.html'
+fi
 holds 'the manual' test -s share/man/man1/pciguest.1
+done_by 'who teaches'
+
+printf 'waited: '; printf '%s; ' "${waited[@]}"; echo
 
 echo "$passed passed, $failed failed"
 [ "$failed" = 0 ]

@@ -7,8 +7,9 @@ A transcript is drawn for a random board and answered by the library, or by the 
 where one of its rows is of a kind that no kept one has: a register with a width, a read or a write and the kind of reply;
 a refusal; a window's write; a latch; a move. Once few come with something new, the others are kept as they come. A line
 counts the kinds; those that are never seen among the ones that are named here would be told. Then the corpus is replayed
-as one who has a virtual PCI does, with the functions of guest a as the library has them, which has to agree. Status 1 says
-that a kind is lacking, or that this differs."""
+as one who has a virtual PCI does, with the functions of guest a as the library has them, which has to agree; and with such
+functions in which one register always reads 0, which many transcripts have to notice. Status 1 says that a kind is
+lacking, that a right guest differs, or that a wrong one is hardly noticed."""
 import argparse
 import re
 import sys
@@ -22,6 +23,8 @@ from pciguest._drawing import RandomChoices, draw_board
 from pciguest._line_drawing import draw_firmware, draw_script
 
 BOARDS, MOST = 20, 60  # transcripts of a board file, and lines of a transcript
+NOTICED = 20  # transcripts that have to notice a mistake
+MISTAKES = {"Command": 0x04, "Cache Line Size": 0x0C, "Latency Timer": 0x0D, "Interrupt Line": 0x3C}
 REGISTERS = [(offset, width) for width in (1, 2, 4) for offset in range(0, 0x40, width)]
 
 
@@ -140,11 +143,32 @@ class Guest(transcript.GuestBackEnd):
         self.machine.close()
 
 
+class Forgetful(Guest):
+    """The same with a mistake: a byte of configuration space always reads 0."""
+
+    def __init__(self, offset):
+        self.offset = offset
+
+    def read(self, space, slot, place, width):
+        value = super().read(space, slot, place, width)
+        is_read = space == "config" and place <= self.offset < place + width
+        return value & ~(0xFF << 8 * (self.offset - place)) if is_read else value
+
+
+def replayed(folder, back_end, tell=print):
+    """How many transcripts a guest's functions answer as they stand, and how many otherwise, line by line of that guest."""
+    return transcript.replay_files(map(str, sorted(Path(folder).glob("*.rows"))), back_end, guest="a", tell=tell)
+
+
 def guest_differs(folder):
-    """How many transcripts a guest's functions answer otherwise, line by line of that guest."""
-    agree, differ = transcript.replay_files(map(str, sorted(Path(folder).glob("*.rows"))), Guest(), guest="a")
-    print(f"guest a by calls: {agree + differ} transcripts, of which differ {differ}")
-    return differ
+    """How many transcripts differ that must agree, and how many mistakes are hardly noticed."""
+    agree, wrong = replayed(folder, Guest())
+    print(f"guest a by calls: {agree + wrong} transcripts, of which differ {wrong}")
+    for name, offset in MISTAKES.items():
+        _, noticed = replayed(folder, Forgetful(offset), lambda told: None)
+        print(f"where {name} always reads 0 differ {noticed}")
+        wrong += noticed < NOTICED
+    return wrong
 
 
 def main():

@@ -12,6 +12,7 @@ import sys
 import tomllib
 from collections import Counter
 from contextlib import closing
+from typing import NamedTuple
 
 import places
 from pciguest._board_file import functions, text_of
@@ -20,28 +21,39 @@ from pciguest._judge import findings, kind_of, registers
 from pciguest._lacks import memory_window, prefetchable_window
 
 board, boot, machine, rules, trees = places.modules("firmware", "board", "boot", "machine", "rules", "trees")
-KIND = ["-machine", "pc,accel=tcg", "-m", "256"]
-EDK2 = boot.Firmware("EDK2", "/usr/share/ovmf/OVMF.fd", "Shell> ", (), False)
-#: where EDK2 puts things in this machine
-HOST = {"io": [0x1000, 0xFFFF], "mem": [0x80000000, 0xFEBFFFFF], "pref": [0xE000000000, 0xFFFFFFFFFF]}
-PATIENCE = 400  # seconds of a boot
+
+
+class System(NamedTuple):
+    """Who sets functions up: how QEMU is run with it and without it, where it puts things, by which rules its bytes may
+    differ, and how many seconds it may take."""
+
+    firmware: boot.Firmware
+    kind: list  # QEMU's words for its machine
+    words: list  # and what it is given besides to boot
+    host: dict
+    rules: list
+    patience: int
+
+
 BACK_TO_BACK = rules.Rule("Bridge Control: fast back-to-back enable", rules.BRIDGE, range(0x3E, 0x3F), 0x80, free="QEMU")
-RULES = [*rules.RULES, BACK_TO_BACK]
+EDK2 = System(boot.Firmware("EDK2", "/usr/share/ovmf/OVMF.fd", "Shell> ", (), False), ["-machine", "pc,accel=tcg", "-m", "256"],
+              [], {"io": [0x1000, 0xFFFF], "mem": [0x80000000, 0xFEBFFFFF], "pref": [0xE000000000, 0xFFFFFFFFFF]},
+              [*rules.RULES, BACK_TO_BACK], 400)
 # Command opens the function's spaces last, when all else stands
 ORDER = [*range(0x08, 0x100, 4), 0x04]
 
 
-def read_tree(seed):
+def read_tree(seed, system):
     """A tree as QEMU has it at reset: its words, and its board file."""
     tree = trees.Tree(seed)
-    with closing(machine.Machine(tree.words, kind=KIND)) as at_reset:
+    with closing(machine.Machine(tree.words, kind=system.kind)) as at_reset:
         return tree.words, trees.Reading(at_reset)
 
 
-def boot_tree(words):
-    """The configuration bytes of each function once EDK2 is done, by its number."""
-    with closing(machine.Machine(words, EDK2, KIND)) as booted:
-        booted.wait(EDK2, PATIENCE)
+def boot_tree(words, system):
+    """The configuration bytes of each function once the system is done, by its number."""
+    with closing(machine.Machine(words, system.firmware, [*system.kind, *system.words])) as booted:
+        booted.wait(system.firmware, system.patience)
         booted.stop()
         return board.registers(booted)
 
@@ -57,8 +69,9 @@ def lines_of(cells):
 class Count:
     """What is counted over all trees."""
 
-    def __init__(self):
-        self.comparison, self.kinds, self.failed = rules.Comparison(RULES), Counter(), 0
+    def __init__(self, system):
+        self.system = system
+        self.comparison, self.kinds, self.failed = rules.Comparison(system.rules), Counter(), 0
         self.windows, self.regions, self.ready, self.in_order = Counter(), 0, 0, 0
 
     def fail(self, what):
@@ -66,9 +79,9 @@ class Count:
         print(f"FAILED: {what}", flush=True)
 
     def tree(self, seed, maker):
-        words, reading = read_tree(seed)
-        document = {**tomllib.loads(reading.text), "host": HOST}
-        cells = boot_tree(words)
+        words, reading = read_tree(seed, self.system)
+        document = {**tomllib.loads(reading.text), "host": self.system.host}
+        cells = boot_tree(words, self.system)
         with closing(maker.board(text_of(document))) as driven:
             for line in lines_of(cells):
                 reply = driven.run_line(line)
@@ -102,12 +115,12 @@ class Count:
             self.fail(f"tree {seed}: {line}")
 
 
-def main():
-    parser = argparse.ArgumentParser(description=__doc__.split("\n\n")[0])
+def main(system, told):
+    parser = argparse.ArgumentParser(description=told.split("\n\n")[0])
     parser.add_argument("--trees", type=int, default=30)
     parser.add_argument("--seed", type=int, default=1)
     parser.add_argument("--program")
-    options, count = parser.parse_args(), Count()
+    options, count = parser.parse_args(), Count(system)
     maker = Program(options.program) if options.program else Library()
     for seed in range(options.seed, options.seed + options.trees):
         try:
@@ -124,4 +137,4 @@ def main():
 
 
 if __name__ == "__main__":
-    main()
+    main(EDK2, __doc__)

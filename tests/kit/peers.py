@@ -34,6 +34,7 @@ WRITES = [
 AVOIDED = 0x1C | 0x40
 OWN_MEMORY = [(0, 0x7FFFFFF), (0xC0000, 0xFFFFF), (0xFEC00000, 0xFFFFFFFF)]  # the machine's memory, and what stands at the top
 OWN_PORTS = range(0, 0x1000)
+RESET_PORT = 0xCF9  # the machine's own reset control: a write there would take all registers back
 
 
 LAWFUL = re.compile(r"host (c[rw] \w\w:[01]\w\.[0-7] \w+|[im][rw] \w+) \d+( \w+)?$")
@@ -132,6 +133,8 @@ class Peer:
         """A line that both have to answer alike, or by a rule."""
         words = line.split()
         kind = words[1]
+        if kind == "iw" and int(words[2], 0) == RESET_PORT:
+            return None
         if kind in ("cr", "cw") or kind in ("ir", "iw") and 0xCF8 <= int(words[2], 0) < 0xD00:
             return self.say_config(line, kind, words)
         return self.say_place(line, kind, words)

@@ -3,13 +3,14 @@ Places and values are often those at which something begins or ends, so that acc
 
 from __future__ import annotations
 
-from typing import Callable, List, Optional, Sequence
+from typing import Callable, List, Optional, Sequence, Tuple
 
 from ._board_file import Document, Function, Region, bridges_above, functions
 from ._drawing import Choices
 
 VALUES = [0, 1, 2, 3, 7, 0x80, 0xFF, 0x547, 0xFFFF, 0xF900F900, 0x80000000, 0xFFFFFFFF]
 REGISTERS = [*range(0, 0x40, 4)]
+PLAIN = [0x0C, 0x0D, 0x3C]  # Cache Line Size, Latency Timer, Interrupt Line: each bit can be written
 INNER = [0, 1, 2, 4, 0xC, 0x3C, 0x40, 0xFC, 0x1000]
 BASES = [0x80000000, 0xC0000000, 0x1000, 0, 0x100, 0xCF8, 0xFFFFFFF0, 0xFFFFF000, 0x10000]
 #: lines that are refused, or that have no reply, with a guest's name or `host` as their first word
@@ -24,6 +25,7 @@ class Lines:
     def __init__(self, choices: Choices, document: Document) -> None:
         self.choices, self.document, self.functions = choices, document, functions(document)
         self.recent = {True: [0x1000], False: [0x80000000]}  # bases that were written, of ports and of memory
+        self.written: List[Tuple[str, str, str]] = []  # who wrote configuration space, in which function, offset and width
 
     def percent(self, chance: int) -> bool:
         return self.choices.number(0, 99) >= 100 - chance
@@ -60,6 +62,27 @@ class Lines:
         near = self.choices.one_of(self.recent[is_io]) + self.choices.one_of(INNER)
         place = near if self.percent(85) else self.choices.one_of(BASES) + self.choices.one_of(INNER)
         return self.aligned(max(0, place - 4) if self.percent(5) else place, width)
+
+    def config_access(self, name: str, where: str) -> str:
+        """A read or a write of configuration space, in a slot or at a number; often a read of what was written before."""
+        if self.written and self.percent(45):
+            return self.read_back()
+        width = self.width()
+        if self.percent(50):
+            offset = self.choices.one_of([self.offset(width), self.aligned(self.choices.one_of(PLAIN), width)])
+            return self.write(name, where, f"{offset:#x} {width}", self.value())
+        return f"{name} cr {where} {self.offset(width):#x} {width}"
+
+    def write(self, name: str, where: str, place: str, value: int) -> str:
+        """A write of configuration space, which is kept in mind."""
+        self.written = [*self.written[-7:], (name, where, place)]
+        return f"{name} cw {where} {place} {value:#x}"
+
+    def read_back(self) -> str:
+        """A read of what was written not long ago: the same bytes, or the register that has them."""
+        name, where, place = self.choices.one_of(self.written)
+        offset = int(place.split()[0], 0) // 4 * 4
+        return f"{name} cr {where} {self.choices.one_of([place, place, f'{offset:#x} 4'])}"
 
     def access(self, name: str, is_io: bool) -> str:
         """A read or a write of a port or of memory."""
@@ -110,9 +133,7 @@ class ScriptLines(Lines):
         return self.choices.one_of(regions) if regions else None
 
     def config(self) -> str:
-        width = self.width()
-        words = f"{self.slot()} {self.offset(width):#x} {width}"
-        return f"{self.name} cr {words}" if self.percent(60) else f"{self.name} cw {words} {self.value():#x}"
+        return self.config_access(self.name, f"{self.slot()}")
 
     def write_base(self) -> str:
         slot = self.slot()
@@ -120,10 +141,12 @@ class ScriptLines(Lines):
         base = self.base(region is not None and region.is_io) & 0xFFFFFFFF
         offset = 0x10 + 4 * (region.index if region else self.choices.number(0, 5))
         offset += 4 * (region is not None and region.is_64_bit and self.percent(10))
-        return f"{self.name} cw {slot} {offset:#x} 4 {self.choices.one_of([base, base, base, 0xFFFFFFFF]):#x}"
+        value = self.choices.one_of([base, base, base, 0xFFFFFFFF])
+        return self.write(self.name, f"{slot}", f"{offset:#x} 4", value)
 
     def write_command(self) -> str:
-        return f"{self.name} cw {self.slot()} 4 {self.choices.one_of([2, 1, 4])} {self.choices.one_of([3, 3, 2, 1, 0, 7])}"
+        place = f"4 {self.choices.one_of([2, 1, 4])}"
+        return self.write(self.name, f"{self.slot()}", place, self.choices.one_of([3, 3, 2, 1, 0, 7]))
 
     def memory(self) -> str:
         return self.access(self.name, is_io=False)
@@ -187,13 +210,15 @@ class FirmwareLines(Lines):
                          self.use_latch, 8, self.write_numbers, 1, self.odd, 1)()
 
     def config(self) -> str:
-        width = self.width()
         number = self.number(self.function) if self.percent(90) else self.choices.one_of(["00:1f.0", "05:00.0", "00:00.7"])
-        words = f"{number} {self.offset(width):#x} {width}"
-        return f"host cr {words}" if self.percent(65) else f"host cw {words} {self.value():#x}"
+        return self.config_access("host", number)
 
     def write_command(self) -> str:
-        return f"host cw {self.number(self.function)} 4 2 {self.choices.one_of([3, 3, 3, 2, 1, 0, 0x547]):#x}"
+        return self.write_here("4 2", self.choices.one_of([3, 3, 3, 2, 1, 0, 0x547]))
+
+    def write_here(self, place: str, value: int) -> str:
+        """A write of the function of this line."""
+        return self.write("host", self.number(self.function), place, value)
 
     def write_base(self) -> str:
         """A base address register, or base and limit of a window: one or some units from the base on."""
@@ -203,19 +228,19 @@ class FirmwareLines(Lines):
             offset = 0x10 + 4 * (region.index if region else self.choices.number(0, 5))
             offset += 4 * (region is not None and region.is_64_bit and self.percent(15))
             base = self.choices.one_of([self.base(region is not None and region.is_io), 0xFFFFFFFF])
-            return f"host cw {self.number(self.function)} {offset:#x} 4 {base & 0xFFFFFFFF:#x}"
+            return self.write_here(f"{offset:#x} 4", base & 0xFFFFFFFF)
         window = self.choices.one_of([0x20, 0x20, 0x24, 0x1C, 0x28, 0x2C, 0x30])
         base, units = self.base(window == 0x1C), self.choices.one_of([0, 1, 3, 15, -1])
         if window == 0x1C:
             limit = (base >> 8) + 0x10 * units & 0xFF
-            return f"host cw {self.number(self.function)} 0x1c 2 {base >> 8 & 0xF0 | limit << 8:#x}"
+            return self.write_here("0x1c 2", base >> 8 & 0xF0 | limit << 8)
         if window > 0x24:
-            return f"host cw {self.number(self.function)} {window:#x} 4 {self.choices.one_of([0, 0, 4, 0xFFFFFFFF]):#x}"
+            return self.write_here(f"{window:#x} 4", self.choices.one_of([0, 0, 4, 0xFFFFFFFF]))
         limit = (base >> 16) + 0x10 * units & 0xFFF0
-        return f"host cw {self.number(self.function)} {window:#x} 4 {base >> 16 & 0xFFF0 | limit << 16:#x}"
+        return self.write_here(f"{window:#x} 4", base >> 16 & 0xFFF0 | limit << 16)
 
     def write_numbers(self) -> str:
-        return f"host cw {self.number(self.function)} {self.choices.number(0x18, 0x1A):#x} 1 {self.choices.number(0, 5)}"
+        return self.write_here(f"{self.choices.number(0x18, 0x1A):#x} 1", self.choices.number(0, 5))
 
     def memory(self) -> str:
         return self.access("host", is_io=False)

@@ -2,8 +2,10 @@
 //! calls of Rust.
 //!
 //! A [`Machine`] is a board that is set up from a board file, with its guests. Each access, raise, move or line of a
-//! script is a call on it. A [`Board`] is one that firmware of one's own drives, from reset on. `docs/FORMATS.md` explains
-//! board files, lines and numbers, and `docs/LIBRARY.md` what is proved of the calls; this crate itself is tested.
+//! script is a call on it. A [`Board`] is one that firmware of one's own drives, from reset on. A [`DeviceModel`] acts when
+//! the driver of its function touches its registers, and a [`GuestBus`] has the form of what hypervisors in Rust call for
+//! an access that they trapped. `docs/FORMATS.md` explains board files, lines and numbers, and `docs/LIBRARY.md` what is
+//! proved of the calls; this crate itself is tested.
 //!
 //! ```
 //! use pciguest::{At, HostAt, Machine};
@@ -42,16 +44,27 @@
 #![warn(missing_docs)]
 
 mod board;
+mod bus;
+mod declared;
+mod device;
 mod error;
 mod function;
+mod lines;
+mod load;
 mod machine;
 mod place;
 mod raw;
 mod text;
+mod wide;
 
 pub use board::{Audit, Board, NotGiven};
+pub use bus::{BusDevice, GuestBus, SlotConfig};
+pub use declared::{Declaration, Kind, Register};
+pub use device::{DeviceModel, NotAttached, Registers};
 pub use error::{Error, Refusal};
 pub use function::{Bar, Function, Functions, Ranges, Window};
 pub use machine::Machine;
 pub use place::{At, Guest, Hit, HostAt, Part, Region, Space};
 pub use text::{check, report, words, Check};
+
+pub use load::LoadError;

@@ -1,6 +1,8 @@
 //! A board that is set up, with its guests.
 
+use crate::device::Attached;
 use crate::error::{answered, Error};
+use crate::lines::{asked_by, Asked};
 use crate::place::{At, Guest, Hit, HostAt, Part, Region};
 use crate::raw::{self, Handle};
 use crate::text::reply_to;
@@ -30,12 +32,15 @@ use std::ptr::null_mut;
 /// ```
 pub struct Machine {
     pub(crate) handle: Handle,
+    /// The devices that are attached.
+    pub(crate) devices: Vec<Attached>,
 }
 
 // SAFETY: The library has no global state, and lets any thread make a call on a struct if something orders it after the
 // call before; that what a struct holds may go from thread to thread is proved. Here each call has the machine by a
 // mutable borrow, or drops it, and nothing else has the pointer in it. So two calls on one machine never overlap, and
-// what hands the machine to another thread orders them. `Sync` is not given; a lock doesn't ask for it.
+// what hands the machine to another thread orders them. Devices are `Send` themselves. `Sync` is not given; a lock doesn't
+// ask for it.
 unsafe impl Send for Machine {}
 
 impl Machine {
@@ -63,7 +68,8 @@ impl Machine {
             at: null_mut(),
         };
         answered(call(&mut handle))?;
-        Ok(Machine { handle })
+        let devices = Vec::new();
+        Ok(Machine { handle, devices })
     }
 
     /// The guest of a name. 902: no guest has this name.
@@ -85,7 +91,7 @@ impl Machine {
     }
 
     /// Reads 1, 2 or 4 bytes as a guest: what the guest's own functions answer, and all ones where nothing of the
-    /// guest's answers. A read changes nothing.
+    /// guest's answers. A read changes nothing, but for what a device does that is told of it ([`Machine::attach`]).
     ///
     /// # Errors
     ///
@@ -104,6 +110,15 @@ impl Machine {
     /// # Ok::<(), pciguest::Error>(())
     /// ```
     pub fn read(&mut self, guest: Guest, at: At, width: u32) -> Result<u32, Error> {
+        let value = self.read_alone(guest, at, width)?;
+        match self.touch(guest, at, width) {
+            Some(touch) if self.tell_read(&touch) => self.read_alone(guest, at, width),
+            _ => Ok(value),
+        }
+    }
+
+    /// Reads so, and tells no device.
+    fn read_alone(&mut self, guest: Guest, at: At, width: u32) -> Result<u32, Error> {
         let (space, slot, place) = at.parts();
         let mut value = 0;
         // SAFETY: `value` is a place of its own.
@@ -138,6 +153,7 @@ impl Machine {
     /// ```
     pub fn write(&mut self, guest: Guest, at: At, width: u32, value: u32) -> Result<(), Error> {
         let (space, slot, place) = at.parts();
+        let touch = self.touch(guest, at, width);
         // SAFETY: no pointer but the handle is passed.
         answered(unsafe {
             raw::pciguest_write(
@@ -149,7 +165,11 @@ impl Machine {
                 width,
                 value,
             )
-        })
+        })?;
+        if let Some(touch) = touch {
+            self.tell_written(&touch, value);
+        }
+        Ok(())
     }
 
     /// Sets bits of one byte of the function in a guest's slot, as its device does. Only bits that writing a one clears
@@ -510,7 +530,35 @@ impl Machine {
     /// # Ok::<(), pciguest::Error>(())
     /// ```
     pub fn run_line(&mut self, line: impl AsRef<[u8]>) -> Result<Option<String>, Error> {
-        reply_to(line.as_ref(), |line, length, reply, room, written| {
+        let line = line.as_ref();
+        let found = self.asked(line);
+        let touch = found.and_then(|asked| self.touch(asked.guest, asked.at, asked.width));
+        let reply = self.run_alone(line)?;
+        let is_done = reply
+            .as_ref()
+            .map_or(false, |text| !text.contains(" refused "));
+        match (found, touch) {
+            (Some(asked), Some(touch)) if is_done => match asked.written {
+                Some(value) => self.tell_written(&touch, value),
+                None if self.tell_read(&touch) => return self.run_alone(line),
+                None => {}
+            },
+            _ => {}
+        }
+        Ok(reply)
+    }
+
+    /// The access of a guest that a line asks for, where devices have to be told of it.
+    fn asked(&mut self, line: &[u8]) -> Option<Asked> {
+        if self.devices.is_empty() {
+            return None;
+        }
+        asked_by(line, |name| self.guest(name).ok())
+    }
+
+    /// Runs a line, and tells no device.
+    fn run_alone(&mut self, line: &[u8]) -> Result<Option<String>, Error> {
+        reply_to(line, |line, length, reply, room, written| {
             // SAFETY: `line` and `reply` have as many bytes as is said, and nothing overlaps.
             unsafe { raw::pciguest_run_line(&mut self.handle, line, length, reply, room, written) }
         })

@@ -64,6 +64,20 @@ impl At {
             At::Memory { address } => (raw::MEMORY, 0, address),
         }
     }
+
+    /// The place some bytes further on.
+    pub(crate) fn further(self, bytes: u64) -> At {
+        match self {
+            At::Config { slot, offset } => At::Config {
+                slot,
+                offset: offset + bytes,
+            },
+            At::Io { port } => At::Io { port: port + bytes },
+            At::Memory { address } => At::Memory {
+                address: address + bytes,
+            },
+        }
+    }
 }
 
 /// Where the host reads, and where firmware reads and writes, by physical numbers.

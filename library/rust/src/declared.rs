@@ -1,0 +1,331 @@
+//! What a device declares: identity, regions and registers, and the endpoint of a board file that says the same.
+
+use crate::place::{Part, Space};
+use std::fmt::Write;
+
+/// The patterns of a block in a board file, each with the bits that a register has in it.
+const PATTERNS: [(&str, BitsOf); 3] = [
+    ("reset", |it| it.reset),
+    ("rw", |it| it.rw),
+    ("w1c", |it| it.w1c),
+];
+
+type BitsOf = fn(&Register) -> u64;
+
+/// The kind of a region, as board files have it.
+#[derive(Clone, Copy, Debug, PartialEq, Eq)]
+pub enum Kind {
+    /// `io`: I/O space.
+    Io,
+    /// `mem32`: memory below 4 GB.
+    Mem32,
+    /// `mem32p`: prefetchable memory below 4 GB.
+    Mem32p,
+    /// `mem64`: memory with a base address of 64 bits.
+    Mem64,
+    /// `mem64p`: prefetchable memory with a base address of 64 bits.
+    Mem64p,
+}
+
+impl Kind {
+    /// The word of board files.
+    fn word(self) -> &'static str {
+        match self {
+            Kind::Io => "io",
+            Kind::Mem32 => "mem32",
+            Kind::Mem32p => "mem32p",
+            Kind::Mem64 => "mem64",
+            Kind::Mem64p => "mem64p",
+        }
+    }
+
+    /// Its space, whether it is prefetchable, and whether it has 64 bits.
+    pub(crate) fn is(self) -> (Space, bool, bool) {
+        match self {
+            Kind::Io => (Space::Io, false, false),
+            Kind::Mem32 => (Space::Memory, false, false),
+            Kind::Mem32p => (Space::Memory, true, false),
+            Kind::Mem64 => (Space::Memory, false, true),
+            Kind::Mem64p => (Space::Memory, true, true),
+        }
+    }
+}
+
+/// A register of a device: 1 to 8 bytes at an offset of a region, or of configuration space, from 40h on. Its driver's
+/// writes set the bits of `rw` and clear, by writing ones, those of `w1c`.
+///
+/// ```
+/// use pciguest::Register;
+///
+/// const STATUS: Register = Register::in_region(0, 0x00, 1).w1c(0x01);
+/// const BELL: Register = Register::in_region(0, 0x08, 4).rw(0xffff_ffff);
+/// assert_ne!(STATUS, BELL);
+/// ```
+#[derive(Clone, Copy, Debug, PartialEq, Eq)]
+pub struct Register {
+    pub(crate) part: Part,
+    pub(crate) offset: u64,
+    pub(crate) width: u64,
+    pub(crate) reset: u64,
+    pub(crate) rw: u64,
+    pub(crate) w1c: u64,
+}
+
+impl Register {
+    /// A register of the region of a base address register, 0 to 5, that its driver only reads and that is 0 at reset.
+    ///
+    /// # Panics
+    ///
+    /// A register has 1 to 8 bytes.
+    pub const fn in_region(region: u8, offset: u64, width: u64) -> Register {
+        Register::of(Part::Region(region), offset, width)
+    }
+
+    /// Such a register of configuration space.
+    ///
+    /// # Panics
+    ///
+    /// A register has 1 to 8 bytes.
+    pub const fn in_config(offset: u64, width: u64) -> Register {
+        Register::of(Part::Config, offset, width)
+    }
+
+    const fn of(part: Part, offset: u64, width: u64) -> Register {
+        assert!(1 <= width && width <= 8, "a register has 1 to 8 bytes");
+        Register {
+            part,
+            offset,
+            width,
+            reset: 0,
+            rw: 0,
+            w1c: 0,
+        }
+    }
+
+    /// The same with this value at reset.
+    pub const fn reset(self, value: u64) -> Register {
+        Register {
+            reset: value,
+            ..self
+        }
+    }
+
+    /// The same where its driver's writes set these bits.
+    pub const fn rw(self, bits: u64) -> Register {
+        Register { rw: bits, ..self }
+    }
+
+    /// The same where its driver clears these bits by writing ones.
+    pub const fn w1c(self, bits: u64) -> Register {
+        Register { w1c: bits, ..self }
+    }
+
+    /// Whether an access of some bytes at an offset of a part touches a byte of it.
+    pub(crate) fn is_touched(&self, part: Part, offset: u64, width: u64) -> bool {
+        self.part == part && self.offset < offset + width && offset < self.offset + self.width
+    }
+
+    /// Whether one of them has a byte of the other.
+    fn meets(&self, other: &Register) -> bool {
+        self.is_touched(other.part, other.offset, other.width)
+    }
+
+    /// All ones, as many as it has bits.
+    pub(crate) fn all_ones(&self) -> u64 {
+        u64::MAX >> (64 - 8 * self.width)
+    }
+}
+
+/// What a device declares of its function: identity, regions and registers.
+///
+/// ```
+/// use pciguest::{Declaration, Kind, Register};
+///
+/// const RINGS: Register = Register::in_region(0, 0x04, 4);
+/// const BELL: Register = Register::in_region(0, 0x08, 4).rw(0xffff_ffff);
+/// let doorbell = Declaration::new(0x1234, 0x0001, 0xff0000)
+///     .region(0, Kind::Mem32, 0x1000)
+///     .register(RINGS)
+///     .register(BELL);
+/// assert!(doorbell.endpoint("1.0").starts_with("[[endpoint]]\nat = \"1.0\"\nvendor = 0x1234\n"));
+/// ```
+#[derive(Clone, Debug, PartialEq, Eq)]
+pub struct Declaration {
+    pub(crate) vendor_id: u16,
+    pub(crate) device_id: u16,
+    class_code: u32,
+    revision_id: u8,
+    subsystem: (u16, u16),
+    interrupt_pin: u8,
+    pub(crate) regions: [Option<(Kind, u64)>; 6],
+    pub(crate) registers: Vec<Register>,
+}
+
+impl Declaration {
+    /// A device of a Vendor ID, a Device ID and a class code of 24 bits, with no region, no register and no interrupt pin.
+    pub fn new(vendor_id: u16, device_id: u16, class_code: u32) -> Declaration {
+        Declaration {
+            vendor_id,
+            device_id,
+            class_code,
+            revision_id: 0,
+            subsystem: (0, 0),
+            interrupt_pin: 0,
+            regions: [None; 6],
+            registers: Vec::new(),
+        }
+    }
+
+    /// The same with a Revision ID.
+    pub fn revision(self, revision_id: u8) -> Declaration {
+        Declaration {
+            revision_id,
+            ..self
+        }
+    }
+
+    /// The same with a Subsystem Vendor ID and a Subsystem ID.
+    pub fn subsystem(self, vendor_id: u16, id: u16) -> Declaration {
+        let subsystem = (vendor_id, id);
+        Declaration { subsystem, ..self }
+    }
+
+    /// The same with an interrupt pin: 1 to 4 are INTA# to INTD#.
+    pub fn interrupt_pin(self, interrupt_pin: u8) -> Declaration {
+        Declaration {
+            interrupt_pin,
+            ..self
+        }
+    }
+
+    /// The same with a region of a size in bytes, by its first base address register.
+    ///
+    /// # Panics
+    ///
+    /// The base address register is above 5.
+    pub fn region(mut self, register: u8, kind: Kind, size: u64) -> Declaration {
+        self.regions[usize::from(register)] = Some((kind, size));
+        self
+    }
+
+    /// The same with a register, after the region in which it stands.
+    ///
+    /// # Panics
+    ///
+    /// It stands outside of its region, its first 4096 bytes, or 40h to FFh, has a byte of another register, or a bit
+    /// that is too high or both in `rw` and in `w1c`. A declaration never changes, so the first use of it finds that.
+    pub fn register(mut self, register: Register) -> Declaration {
+        let (first, end) = match register.part {
+            Part::Config => (0x40, 0x100),
+            Part::Region(at) => {
+                let size = self.regions.get(usize::from(at)).copied().flatten();
+                (0, size.map_or(0, |(_, size)| size.min(4096)))
+            }
+        };
+        let stands_within = first <= register.offset && register.offset <= end;
+        assert!(
+            stands_within && register.width <= end - register.offset,
+            "{register:x?} stands outside of its part"
+        );
+        let bits = register.reset | register.rw | register.w1c;
+        assert!(
+            bits <= register.all_ones() && register.rw & register.w1c == 0,
+            "{register:x?} has wrong bits"
+        );
+        let other = self.registers.iter().find(|other| other.meets(&register));
+        assert!(other.is_none(), "{register:x?} meets {other:x?}");
+        self.registers.push(register);
+        self
+    }
+
+    /// The endpoint of a board file that has this declaration, at a path: its identity, its regions, and the patterns of
+    /// their cells.
+    pub fn endpoint(&self, at: &str) -> String {
+        let (subvendor, subsystem) = self.subsystem;
+        let mut text = format!(
+            "[[endpoint]]\nat = \"{at}\"\nvendor = {:#06x}\ndevice = {:#06x}\nclass = {:#08x}\nrevision = {:#04x}\n\
+             subvendor = {subvendor:#06x}\nsubsystem = {subsystem:#06x}\npin = {}\nbar = [\n",
+            self.vendor_id, self.device_id, self.class_code, self.revision_id, self.interrupt_pin
+        );
+        for (index, region) in self.regions.iter().enumerate() {
+            if let Some((kind, size)) = region {
+                let head = format!(
+                    "index = {index}, kind = \"{}\", size = {size:#x}",
+                    kind.word()
+                );
+                let block = self.block(Part::Region(index as u8), 0);
+                text += &format!("  {{ {head}{block} }},\n");
+            }
+        }
+        text += "]\nconfig = [";
+        let own = self.registers.iter().filter(|it| it.part == Part::Config);
+        if let Some(first) = own.map(|it| it.offset).min() {
+            text += &format!(
+                " {{ off = {first:#x}{} }} ",
+                self.block(Part::Config, first)
+            );
+        }
+        text + "]\n"
+    }
+
+    /// The length of a block of cells of a part, from an offset on, and its patterns, where one has a bit.
+    fn block(&self, part: Part, first: u64) -> String {
+        let here = || self.registers.iter().filter(move |it| it.part == part);
+        let Some(end) = here().map(|it| it.offset + it.width).max() else {
+            return String::new();
+        };
+        let mut text = format!(", block = {}", end - first);
+        for (name, bits) in PATTERNS {
+            let mut cells = vec![0; (end - first) as usize];
+            for it in here() {
+                let at = (it.offset - first) as usize;
+                let width = it.width as usize;
+                cells[at..at + width].copy_from_slice(&bits(it).to_le_bytes()[..width]);
+            }
+            if cells.iter().any(|&cell| cell != 0) {
+                text += &format!(", {name} = \"{}\"", in_hex(period(&cells)));
+            }
+        }
+        text
+    }
+}
+
+/// The shortest beginning that, repeated, makes the cells: what stands before the longest end that they begin with too.
+fn period(cells: &[u8]) -> &[u8] {
+    // of each beginning, how long its longest end is that it begins with, and that is shorter than it
+    let mut ends = vec![0; cells.len()];
+    for at in 1..cells.len() {
+        let mut length: usize = ends[at - 1];
+        while length > 0 && cells[at] != cells[length] {
+            length = ends[length - 1];
+        }
+        ends[at] = length + usize::from(cells[at] == cells[length]);
+    }
+    let end = ends.last().copied().unwrap_or(0);
+    &cells[..cells.len() - end]
+}
+
+fn in_hex(bytes: &[u8]) -> String {
+    bytes.iter().fold(String::new(), |mut text, byte| {
+        let _ = write!(text, "{byte:02x}");
+        text
+    })
+}
+
+#[cfg(test)]
+mod tests {
+    use super::period;
+
+    /// As it is said, for all cells of up to 9 bytes of two kinds.
+    #[test]
+    fn periods_are_the_shortest() {
+        for (length, bits) in
+            (1..10).flat_map(|length| (0..1 << length).map(move |bits| (length, bits)))
+        {
+            let cells: Vec<u8> = (0..length).map(|at| (bits >> at & 1) as u8).collect();
+            let repeats = |&count: &usize| (0..length).all(|at| cells[at] == cells[at % count]);
+            let shortest = (1..=length).find(repeats).unwrap();
+            assert_eq!(period(&cells), &cells[..shortest]);
+        }
+    }
+}

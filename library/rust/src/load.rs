@@ -1,0 +1,93 @@
+//! Boards of files, and all that is told of one that is refused.
+
+use crate::board::Board;
+use crate::error::Error;
+use crate::machine::Machine;
+use crate::text::check;
+use std::fmt;
+use std::io;
+use std::path::{Path, PathBuf};
+
+/// Why the board of a file isn't made.
+#[derive(Debug)]
+#[non_exhaustive]
+pub enum LoadError {
+    /// The file can't be read.
+    File(PathBuf, io::Error),
+    /// The file or its board is refused. The text is what `pciguest check` says of it, which names each entry that breaks
+    /// the check, with its line; it is empty where memory is out.
+    Refused(Error, String),
+}
+
+impl fmt::Display for LoadError {
+    fn fmt(&self, f: &mut fmt::Formatter<'_>) -> fmt::Result {
+        match self {
+            LoadError::File(path, error) => write!(f, "{}: {error}", path.display()),
+            LoadError::Refused(error, text) if text.is_empty() => error.fmt(f),
+            LoadError::Refused(error, text) => write!(f, "{error}\n{}", text.trim_end()),
+        }
+    }
+}
+
+impl std::error::Error for LoadError {
+    fn source(&self) -> Option<&(dyn std::error::Error + 'static)> {
+        match self {
+            LoadError::File(_, error) => Some(error),
+            LoadError::Refused(error, _) => Some(error),
+        }
+    }
+}
+
+impl Machine {
+    /// The machine of the board file at a path.
+    ///
+    /// # Errors
+    ///
+    /// As for [`Machine::new`], with all that a check says of the file, by its path.
+    ///
+    /// ```
+    /// let error = pciguest::Machine::load("no_such_board.toml").unwrap_err();
+    /// assert!(error.to_string().starts_with("no_such_board.toml: "));
+    /// ```
+    pub fn load(path: impl AsRef<Path>) -> Result<Machine, LoadError> {
+        loaded(path.as_ref(), |file| Machine::new(file))
+    }
+}
+
+impl Board {
+    /// The board of the board file at a path, at reset.
+    ///
+    /// # Errors
+    ///
+    /// As for [`Board::new`], with all that a check says of the file, by its path.
+    ///
+    /// ```
+    /// # let path = std::env::temp_dir().join(format!("pciguest_{}.toml", std::process::id()));
+    /// # std::fs::write(&path, "[host]\nio = [0x1000, 0xffff]\nmem = 7\n")?;
+    /// let error = pciguest::Board::load(&path).unwrap_err();
+    /// # std::fs::remove_file(&path)?;
+    /// assert!(error.to_string().starts_with(&format!("102 key\n{}:3: host.mem", path.display())));
+    /// # Ok::<(), std::io::Error>(())
+    /// ```
+    pub fn load(path: impl AsRef<Path>) -> Result<Board, LoadError> {
+        loaded(path.as_ref(), |file| Board::new(file))
+    }
+}
+
+/// What is made of the bytes of a file.
+fn loaded<T>(path: &Path, make: impl FnOnce(&[u8]) -> Result<T, Error>) -> Result<T, LoadError> {
+    let file = std::fs::read(path).map_err(|error| LoadError::File(path.to_owned(), error))?;
+    make(&file).map_err(|error| LoadError::Refused(error, told_of(&file, path)))
+}
+
+/// What a check says of a file, which the library calls `board.toml`, by its path.
+fn told_of(file: &[u8], path: &Path) -> String {
+    let text = check(file).map(|told| told.text).unwrap_or_default();
+    let lines = text
+        .lines()
+        .map(|line| match line.strip_prefix("board.toml:") {
+            Some(rest) => format!("{}:{rest}\n", path.display()),
+            None => format!("{line}\n"),
+        });
+    lines.collect()
+}

@@ -1,0 +1,90 @@
+//! Accesses of processors: 1 to 8 bytes, at any place.
+
+use crate::error::{answered, Error};
+use crate::machine::Machine;
+use crate::place::{At, Guest};
+use crate::raw::{self, BAD_WIDTH, OUT_OF_RANGE};
+
+impl Machine {
+    /// Reads as a guest what a processor may ask at once and a cycle of the bus can't: 1 to 8 bytes, at any place. It is
+    /// split as a bridge does, into lawful reads in the order of addresses, and the byte at the lowest address is the
+    /// lowest of the value. A device that is attached is told of each.
+    ///
+    /// # Errors
+    ///
+    /// 302: the width is not 1 to 8. 303: the slot is out of range, or the access ends past its space. 902: there is no
+    /// such guest.
+    ///
+    /// ```
+    /// # const BOARD: &str = include_str!("board.toml");
+    /// use pciguest::{At, Machine};
+    ///
+    /// let mut machine = Machine::new(BOARD)?;
+    /// let a = machine.guest("a")?;
+    /// let identity = At::Config { slot: 0, offset: 0 };
+    /// assert_eq!(machine.read_wide(a, identity, 3)?, 0x01_1234);
+    /// assert_eq!(machine.read_wide(a, identity, 9).unwrap_err().to_string(), "302 width");
+    /// # Ok::<(), pciguest::Error>(())
+    /// ```
+    pub fn read_wide(&mut self, guest: Guest, at: At, width: u32) -> Result<u64, Error> {
+        may_be_split(at, width)?;
+        pieces(at, width).try_fold(0, |all, (done, at, size)| {
+            let part = self.read(guest, at, size)?;
+            Ok(all | u64::from(part) << (8 * done))
+        })
+    }
+
+    /// Writes so the low bytes of a value, as many as it is wide.
+    ///
+    /// ```
+    /// # const BOARD: &str = include_str!("board.toml");
+    /// use pciguest::{At, Machine};
+    ///
+    /// let mut machine = Machine::new(BOARD)?;
+    /// let a = machine.guest("a")?;
+    /// machine.write(a, At::Config { slot: 0, offset: 0x10 }, 4, 0x8000_0000)?;
+    /// machine.write(a, At::Config { slot: 0, offset: 0x04 }, 2, 2)?;
+    /// let cells = At::Memory { address: 0x8000_0003 };
+    /// machine.write_wide(a, cells, 8, 0x1122_3344_5566_7788)?;
+    /// assert_eq!(machine.read_wide(a, cells, 8)?, 0x1122_3344_5566_7788);
+    /// # Ok::<(), pciguest::Error>(())
+    /// ```
+    pub fn write_wide(
+        &mut self,
+        guest: Guest,
+        at: At,
+        width: u32,
+        value: u64,
+    ) -> Result<(), Error> {
+        may_be_split(at, width)?;
+        pieces(at, width).try_for_each(|(done, at, size)| {
+            self.write(guest, at, size, (value >> (8 * done)) as u32)
+        })
+    }
+}
+
+/// Whether an access of processors is none, as the header says.
+fn may_be_split(at: At, width: u32) -> Result<(), Error> {
+    let (space, _, place) = at.parts();
+    if !(1..=8).contains(&width) {
+        return answered(BAD_WIDTH);
+    }
+    // SAFETY: no pointer is passed.
+    match unsafe { raw::pciguest_ends_within(space, place, width) } {
+        true => Ok(()),
+        false => answered(OUT_OF_RANGE),
+    }
+}
+
+/// The lawful pieces of an access that ends within its space: how many bytes come before each, its place and its width.
+fn pieces(at: At, width: u32) -> impl Iterator<Item = (u32, At, u32)> {
+    let (_, _, place) = at.parts();
+    let mut done = 0;
+    std::iter::from_fn(move || {
+        let before = (done < width).then_some(done)?;
+        // SAFETY: no pointer is passed.
+        let size = unsafe { raw::pciguest_piece(place + u64::from(before), width - before) };
+        done += size;
+        Some((before, at.further(u64::from(before)), size))
+    })
+}

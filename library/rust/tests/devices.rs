@@ -1,0 +1,386 @@
+//! Devices that act when their driver touches their registers.
+
+use pciguest::{
+    At, Declaration, DeviceModel, Error, Guest, Kind, Machine, NotAttached, Register, Registers,
+};
+use std::panic::{catch_unwind, set_hook, take_hook};
+use std::sync::{Arc, Mutex};
+
+const TOP: &str = "host = { io = [0x1000, 0xffff], mem = [0xc0000000, 0xdfffffff], \
+                   pref = [0x400000000, 0x4ffffffff] }\n";
+
+const STATUS: Register = Register::in_region(0, 0x00, 1).w1c(0x01);
+const RINGS: Register = Register::in_region(0, 0x04, 4);
+const BELL: Register = Register::in_region(0, 0x08, 4)
+    .rw(0xffff_ffff)
+    .reset(0x1122_3344);
+const PORT: Register = Register::in_region(1, 0x10, 2).rw(0x0ff0);
+const FAR: Register = Register::in_region(2, 0xff8, 4).reset(0xa5a5_a5a5);
+const LONG: Register = Register::in_region(2, 0x100, 8).rw(u64::MAX);
+const OWN: Register = Register::in_config(0x40, 4).rw(0xff);
+const MORE: Register = Register::in_config(0x48, 1).reset(0x7f);
+
+/// Counts the rings of its driver, and keeps what it was told.
+#[derive(Default)]
+struct Doorbell {
+    told: Vec<(Register, Option<u64>)>,
+}
+
+impl DeviceModel for Doorbell {
+    fn declaration(&self) -> Declaration {
+        let head = Declaration::new(0x1234, 0x00d0, 0xff0000)
+            .subsystem(0x1111, 0x2222)
+            .interrupt_pin(1)
+            .region(0, Kind::Mem32, 0x1000)
+            .region(1, Kind::Io, 32)
+            .region(2, Kind::Mem64p, 0x10000);
+        [STATUS, RINGS, BELL, PORT, FAR, LONG, OWN, MORE]
+            .into_iter()
+            .fold(head, Declaration::register)
+    }
+
+    fn on_write(&mut self, registers: &mut Registers<'_>, register: Register, value: u64) {
+        self.told.push((register, Some(value)));
+        if register == BELL {
+            let rings = registers.get(RINGS);
+            registers.set(RINGS, rings + 1);
+            registers.set(STATUS, 1);
+        }
+    }
+
+    fn before_read(&mut self, registers: &mut Registers<'_>, register: Register) {
+        self.told.push((register, None));
+        if register == FAR {
+            registers.set(FAR, 0x5a5a_5a5a);
+        }
+    }
+}
+
+fn memory(address: u64) -> At {
+    At::Memory { address }
+}
+
+/// A machine with two such functions in slots of guest a, and a guest b, where the first has its device.
+struct Case {
+    machine: Machine,
+    a: Guest,
+    b: Guest,
+    device: Arc<Mutex<Doorbell>>,
+}
+
+impl Case {
+    fn new() -> Case {
+        let endpoint = |at| Doorbell::default().declaration().endpoint(at);
+        let guests = "[[guest]]\nname = \"a\"\nslots = [\"1.0\", \"2.0\"]\n[[guest]]\nname = \"b\"\nslots = []\n";
+        let board = [TOP, &endpoint("1.0"), &endpoint("2.0"), guests].concat();
+        let mut machine = Machine::new(board).expect("a board");
+        let (a, b) = (machine.guest("a").unwrap(), machine.guest("b").unwrap());
+        let device: Arc<Mutex<Doorbell>> = Arc::default();
+        machine.attach(a, 0, Arc::clone(&device)).expect("a device");
+        let mut case = Case {
+            machine,
+            a,
+            b,
+            device,
+        };
+        case.place(a, 0).unwrap();
+        case.told();
+        case
+    }
+
+    fn place(&mut self, guest: Guest, slot: u64) -> Result<(), Error> {
+        for (offset, value) in [
+            (0x10, 0xe000_0000),
+            (0x14, 0x2000),
+            (0x18, 0x1000_0000),
+            (0x1c, 8),
+            (4, 3),
+        ] {
+            self.machine
+                .write(guest, At::Config { slot, offset }, 4, value)?;
+        }
+        Ok(())
+    }
+
+    fn told(&mut self) -> Vec<(Register, Option<u64>)> {
+        std::mem::take(&mut self.device.lock().unwrap().told)
+    }
+
+    fn read(&mut self, at: At, width: u32) -> u32 {
+        self.machine.read(self.a, at, width).expect("a read")
+    }
+
+    fn write(&mut self, at: At, width: u32, value: u32) {
+        self.machine
+            .write(self.a, at, width, value)
+            .expect("a write")
+    }
+}
+
+#[test]
+fn a_declaration_is_an_endpoint() {
+    let simple = Declaration::new(0x1234, 0x0001, 0xff0000)
+        .region(0, Kind::Mem32, 0x1000)
+        .register(STATUS)
+        .register(RINGS)
+        .register(BELL);
+    let wanted = "[[endpoint]]\nat = \"1.0\"\nvendor = 0x1234\ndevice = 0x0001\nclass = 0xff0000\nrevision = 0x00\n\
+                  subvendor = 0x0000\nsubsystem = 0x0000\npin = 0\nbar = [\n  \
+                  { index = 0, kind = \"mem32\", size = 0x1000, block = 12, reset = \"000000000000000044332211\", \
+                  rw = \"0000000000000000ffffffff\", w1c = \"010000000000000000000000\" },\n]\nconfig = []\n";
+    assert_eq!(simple.endpoint("1.0"), wanted);
+    let own = Declaration::new(1, 2, 3).register(OWN).register(MORE);
+    assert!(own
+        .endpoint("2.0/1.0")
+        .ends_with("config = [ { off = 0x40, block = 9, reset = \"00000000000000007f\", rw = \"ff0000000000000000\" } ]\n"));
+    let same = Declaration::new(1, 2, 3)
+        .region(3, Kind::Io, 8)
+        .register(Register::in_region(3, 0, 4).rw(0xff00_ff00))
+        .register(Register::in_region(3, 4, 4).rw(0xff00_ff00));
+    assert!(same
+        .endpoint("1.0")
+        .contains("size = 0x8, block = 8, rw = \"00ff\" }"));
+}
+
+#[test]
+fn the_board_says_what_is_declared() {
+    let mut case = Case::new();
+    let function = case.machine.slot_function(case.a, 0).unwrap();
+    assert_eq!((function.vendor_id, function.device_id), (0x1234, 0x00d0));
+    assert_eq!(
+        (function.subsystem_vendor_id, function.subsystem_id),
+        (0x1111, 0x2222)
+    );
+    assert_eq!(case.read(memory(0xe000_0008), 4), 0x1122_3344);
+    assert_eq!(
+        case.read(
+            At::Config {
+                slot: 0,
+                offset: 0x48
+            },
+            4
+        ),
+        0x7f
+    );
+    case.write(memory(0xe000_0004), 4, 9); // its driver only reads it
+    assert_eq!(case.read(memory(0xe000_0004), 4), 0);
+    case.write(At::Io { port: 0x2010 }, 2, 0xffff);
+    assert_eq!(case.read(At::Io { port: 0x2010 }, 2), 0x0ff0);
+}
+
+/// Lets panics of this thread, which are awaited, tell nothing.
+fn hush() {
+    let (here, others) = (std::thread::current().id(), take_hook());
+    set_hook(Box::new(move |told| {
+        if std::thread::current().id() != here {
+            others(told)
+        }
+    }));
+}
+
+#[test]
+fn registers_that_can_not_be() {
+    hush();
+    let region = |register| {
+        Declaration::new(1, 2, 3)
+            .region(0, Kind::Mem32, 0x10000)
+            .register(RINGS)
+            .register(register)
+    };
+    for register in [
+        Register::in_config(0x3c, 4),
+        Register::in_config(0xfe, 4),
+        Register::in_region(3, 0, 4),
+        Register::in_region(9, 0, 4),
+        Register::in_region(0, 0xffe, 4),
+        Register::in_region(0, u64::MAX, 4),
+        Register::in_region(0, 7, 1),
+        Register::in_region(0, 0x20, 1).rw(0x100),
+        Register::in_region(0, 0x20, 1).reset(0x100),
+        Register::in_region(0, 0x20, 1).rw(1).w1c(1),
+    ] {
+        assert!(catch_unwind(|| region(register)).is_err(), "{register:?}");
+    }
+    assert!(catch_unwind(|| Register::in_region(0, 0, 0)).is_err());
+    assert!(catch_unwind(|| Register::in_region(0, 0, 9)).is_err());
+}
+
+#[test]
+fn writes_are_told() {
+    let mut case = Case::new();
+    case.write(memory(0xe000_0008), 4, 7);
+    assert_eq!(case.told(), [(BELL, Some(7))]);
+    assert_eq!(case.read(memory(0xe000_0004), 4), 1);
+    assert_eq!(case.read(memory(0xe000_0000), 1), 1);
+    case.write(memory(0xe000_0000), 1, 1);
+    let mut registers = case.machine.registers(case.a, 0).unwrap();
+    assert_eq!(
+        (
+            registers.get(STATUS),
+            registers.get(RINGS),
+            registers.get(BELL)
+        ),
+        (0, 1, 7)
+    );
+}
+
+#[test]
+fn what_was_written_is_told() {
+    let mut case = Case::new();
+    case.write(memory(0xe000_0009), 1, 0xab);
+    case.write(memory(0xe000_0004), 4, u32::MAX); // its driver only reads it
+    case.write(memory(0xe000_0000), 4, 0x1234_5601); // the register has one byte
+    case.write(At::Io { port: 0x2010 }, 4, 0x5678_abcd);
+    case.write(
+        At::Config {
+            slot: 0,
+            offset: 0x41,
+        },
+        1,
+        0x99,
+    );
+    case.write(memory(0x8_1000_0104), 4, 0xaaaa_bbbb); // the upper half of 8 bytes
+    let wanted = [
+        (BELL, Some(0x1122_ab44)),
+        (RINGS, Some(0xffff_ffff)),
+        (STATUS, Some(1)),
+        (PORT, Some(0xabcd)),
+        (OWN, Some(0x9900)),
+        (LONG, Some(0xaaaa_bbbb_0000_0000)),
+    ];
+    assert_eq!(case.told(), wanted);
+}
+
+#[test]
+fn reads_are_told_before() {
+    let mut case = Case::new();
+    assert_eq!(case.read(memory(0x8_1000_0ff8), 4), 0x5a5a_5a5a);
+    assert_eq!(case.read(memory(0xe000_0000), 4), 0);
+    assert_eq!(
+        case.read(
+            At::Config {
+                slot: 0,
+                offset: 0x48
+            },
+            1
+        ),
+        0x7f
+    );
+    assert_eq!(case.told(), [(FAR, None), (STATUS, None), (MORE, None)]);
+}
+
+#[test]
+fn wide_accesses_and_ports() {
+    let mut case = Case::new();
+    let a = case.a;
+    case.machine
+        .write_wide(a, memory(0xe000_0004), 8, 7 << 32)
+        .unwrap();
+    case.write(At::Io { port: 0xcf8 }, 4, 0x8000_0040);
+    case.write(At::Io { port: 0xcfc }, 4, 0xaa);
+    assert_eq!(
+        case.told(),
+        [(RINGS, Some(0)), (BELL, Some(7)), (OWN, Some(0xaa))]
+    );
+    assert_eq!(case.machine.registers(a, 0).unwrap().get(OWN), 0xaa);
+}
+
+#[test]
+fn lines_are_told() {
+    let mut case = Case::new();
+    let mut run = |line: &str| case.machine.run_line(line).unwrap();
+    assert_eq!(run("a mw 0xe0000008 4 0x07\n").as_deref(), Some("a: ok"));
+    assert_eq!(run("a  mr\t0XE0000004 4").as_deref(), Some("a: 0x00000001"));
+    assert_eq!(run("a mr 0x810000ff8 4").as_deref(), Some("a: 0x5a5a5a5a"));
+    assert_eq!(run("a cw 0 0x40 1 255").as_deref(), Some("a: ok"));
+    assert_eq!(run("a iw 0x2010 2 1").as_deref(), Some("a: ok"));
+    assert_eq!(run("# a mw 0xe0000008 4 7"), None);
+    let wanted = [
+        (BELL, Some(7)),
+        (RINGS, None),
+        (FAR, None),
+        (OWN, Some(0xff)),
+        (PORT, Some(1)),
+    ];
+    assert_eq!(case.told(), wanted);
+}
+
+#[test]
+fn what_tells_nothing() {
+    let mut case = Case::new();
+    for line in [
+        "a mw 0xe0000009 4 1",
+        "a mr 0xe0000008 3",
+        "a mw 0xe0000008 4",
+        "a cw 32 0x40 1 1",
+        "host ir 0x2010 2",
+        "a mr 0xe0000800 4",
+        "a raise 0 bar0 0 1",
+        "b mr 0xe0000008 4",
+        "a cr 1 0x40 4",
+        "x mr 0xe0000008 4",
+        "a ir 0x100000000 1",
+        "a cw 0 0x40 1 0x100000000",
+        "a mr +0xe0000008 4",
+        "a mr 0x 4",
+        "a",
+        "",
+    ] {
+        case.machine.run_line(line).unwrap();
+    }
+    let (a, wrong) = (case.a, memory(0xe000_0009));
+    assert_eq!(case.machine.read(a, wrong, 4).unwrap_err().number(), 301);
+    assert_eq!(
+        case.machine.write(a, wrong, 4, 0).unwrap_err().number(),
+        301
+    );
+    case.read(At::Io { port: 0xcf8 }, 4);
+    case.write(At::Config { slot: 0, offset: 4 }, 2, 0);
+    case.write(memory(0xe000_0008), 4, 1); // memory is off: nobody answers
+    assert!(case.told().is_empty());
+}
+
+#[test]
+fn a_device_goes_with_its_function() -> Result<(), Error> {
+    let mut case = Case::new();
+    let (a, b) = (case.a, case.b);
+    case.machine.run_line("host move a 0 b 3")?;
+    case.place(b, 3)?;
+    case.machine.write(b, memory(0xe000_0008), 4, 1)?;
+    assert_eq!(case.machine.read(b, memory(0xe000_0004), 4)?, 1);
+    case.machine.take(b, 3)?;
+    assert_eq!(case.machine.registers(b, 3).unwrap_err().number(), 601);
+    case.machine.give("1.0", a, 9)?;
+    assert_eq!(case.machine.registers(a, 9)?.get(RINGS), 0);
+    assert_eq!(case.machine.registers(a, 1).unwrap_err().number(), 902); // no device
+    Ok(())
+}
+
+/// The same device with another declaration.
+struct Other(Declaration);
+
+impl DeviceModel for Other {
+    fn declaration(&self) -> Declaration {
+        self.0.clone()
+    }
+}
+
+#[test]
+fn what_is_not_attached() {
+    let mut case = Case::new();
+    let a = case.a;
+    let declared = Doorbell::default().declaration();
+    let identity = Declaration::new(0x1234, 0x00d1, 0xff0000);
+    let smaller = declared.clone().region(1, Kind::Io, 64);
+    for other in [identity, smaller] {
+        let answer = case.machine.attach(a, 1, Other(other));
+        assert_eq!(answer, Err(NotAttached::DeclaredOtherwise));
+    }
+    let answer = case.machine.attach(a, 0, Other(declared.clone()));
+    assert_eq!(answer, Err(NotAttached::Taken));
+    let answer = case.machine.attach(a, 2, Other(declared.clone()));
+    assert_eq!(answer.unwrap_err().to_string(), "601 empty slot");
+    assert_eq!(case.machine.attach(a, 1, Other(declared)), Ok(()));
+    case.machine.write(a, memory(0xe000_0008), 4, 1).unwrap();
+    assert_eq!(case.machine.registers(a, 1).unwrap().get(RINGS), 0);
+}
