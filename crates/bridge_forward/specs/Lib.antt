@@ -15,3 +15,5 @@ pub mod Locating
 pub mod RoutingRows
 pub mod BasesNow
 pub mod ByIndex
+pub mod Devices
+pub mod Known
