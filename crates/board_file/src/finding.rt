@@ -87,8 +87,8 @@ fn push_host(
     }
 }
 
-/// Whether a look at all places, or at all slots, tells that none breaks a rule. It takes a hundredth of the time
-/// that it takes to compare each with all others, as is needed to say which of them do.
+/// Whether a look at all places, or at all slots, tells that none breaks a rule. To say which of them do, each is
+/// compared with all others, which takes many times as long where there are a thousand.
 fn hold_at_once(
     alloc: Global,
     file: &FileEntries<'_>,
