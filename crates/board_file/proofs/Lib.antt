@@ -11,3 +11,4 @@ pub mod Tests
 pub mod NoProblems
 pub mod FirstBroken
 pub mod Searches
+pub mod PathSets

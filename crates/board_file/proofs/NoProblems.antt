@@ -1,5 +1,5 @@
 -- A check of what a file says holds exactly where no entry breaks a rule of its fault.
-use Rattle.std.proofs.Common.{◌≡◌, ℕ, Bool, true, ◌&&◌, ◌||◌, not, List, map, take, sym, ap, ap₂, ◌∙◌, arith}
+use Rattle.std.proofs.Common.{◌≡◌, ℕ, Bool, true, ◌&&◌, ◌||◌, not, List, [], ◌∷◌, map, take, refl, sym, ap, ap₂, ◌∙◌, arith}
 use Rattle.std.specs.Prelude.{option_map}
 use Rattle.std.specs.List.{list_all}
 use Rattle.std.proofs.Math.Bool.{and-true, and_assoc}
@@ -18,7 +18,7 @@ use Rattle.board_file.specs.PathTexts.{is_path_text, path_at}
 use Rattle.board_file.specs.Functions.{endpoint_standing, bridge_standing, standings, aperture}
 use Rattle.board_file.specs.Rules.{is_founded, have_paths, are_places, slots, names_endpoint, is_natural, are_natural}
 use Rattle.board_file.specs.EntryRules.{are_same_place}
-use Rattle.board_file.specs.Problems.{problems_in, holds}
+use Rattle.board_file.specs.Problems.{Found, problems_in, holds}
 use Rattle.board_file.specs.declared.fault.BoardFault.{BoardFault}
 use Rattle.board_file.specs.declared.fault.BoardFault.TheVariants as fault
 use Rattle.board_file.proofs.Tests.{any_order, under, all-both, all-where, all-flat, all-swap, with_earlier, pairs-map, pairs-where, pairs-append, pairs-flat, none, nothing_listed}
@@ -140,3 +140,12 @@ no_problems f fault.Aperture =
     (has_lawful_pref (aperture f.mem) (option_map aperture f.pref)))
 no_problems f fault.CellMasks = simp (nothing_listed, all-both, with_earlier, pairs-map, length-map-range_with_len, and_assoc)
 no_problems f _ = simp nothing_listed
+
+-- ---- where a check holds
+
+nothing : (ps : List Found) → none ps ≡ true → ps ≡ []
+nothing [] h = refl
+nothing (p ∷ ps) h = absurd (cc)
+
+pub none_found : (f : File) (fault : BoardFault) → holds fault f ≡ true → problems_in f fault ≡ []
+none_found f fault h = nothing (problems_in f fault) (no_problems f fault ∙ h)

@@ -13,3 +13,4 @@ pub mod Tables
 pub mod Faults
 pub mod Meaning
 pub mod Sources
+pub mod PathSets

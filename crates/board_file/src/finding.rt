@@ -1,8 +1,8 @@
 //! The entries of a file that break a rule.
-ghost use Rattle.std.specs.Prelude.{◌≡◌, IfOk, OnOk, map};
+ghost use Rattle.std.specs.Prelude.{◌≡◌, IfOk, OnOk, map, true};
 ghost use Rattle.board_file.specs.EntryRules.{file_rules, host_rules};
 ghost use Rattle.board_file.specs.Functions.{standings};
-ghost use Rattle.board_file.specs.Problems.{found_of, Adds, broken, problems_in};
+ghost use Rattle.board_file.specs.Problems.{found_of, Adds, broken, problems_in, holds};
 
 use crate::apertures::{is_io, is_mem, is_pref};
 use crate::entries::FileEntries;
@@ -11,6 +11,7 @@ use crate::fault::BoardFault;
 use crate::function_problems::{push_bridges, push_endpoints};
 use crate::guest_problems::push_guests;
 use crate::numbers::has_few_functions;
+use crate::path_sets::{places_hold, slots_hold};
 use crate::places::FunctionPath;
 use crate::rule::Rule;
 use std::alloc::{AllocError, Global};
@@ -86,6 +87,24 @@ fn push_host(
     }
 }
 
+/// Whether a look at all places, or at all slots, tells that none breaks a rule. To say which of them do, each is
+/// compared with all others, which takes many times as long where there are a thousand.
+fn hold_at_once(
+    alloc: Global,
+    file: &FileEntries<'_>,
+    functions: &[FunctionPath],
+    fault: BoardFault,
+) -> Result<bool, AllocError>
+    requires { functions.now ≡ standings file.now }
+    ensures { IfOk result (λ b. b ≡ true → holds fault file.now ≡ true) }
+{
+    match fault {
+        BoardFault::Place => places_hold(alloc, file, functions),
+        BoardFault::Slot => slots_hold(alloc, file, functions),
+        _ => Ok(false),
+    }
+}
+
 /// All entries that break a rule of what the file says, with this fault, in the order of the file. Of the
 /// faults of a document and of its keys there are none.
 pub fn problems<'a>(
@@ -98,6 +117,9 @@ pub fn problems<'a>(
     ensures { IfOk result (λ v. map found_of v.items ≡ problems_in file.now fault) }
 {
     let mut problems = Vec::new(alloc);
+    if hold_at_once(alloc, file, functions, fault)? {
+        return Ok(problems);
+    }
     push_file(&mut problems, fault, file)?;
     push_host(&mut problems, fault, file)?;
     push_endpoints(alloc, &mut problems, file, functions, fault)?;

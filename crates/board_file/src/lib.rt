@@ -16,6 +16,7 @@ mod guests;
 mod judging;
 pub mod keys;
 mod numbers;
+mod path_sets;
 pub mod path_text;
 pub mod places;
 pub mod reading;

@@ -15,8 +15,8 @@ use std::marker::Model;
 /// The path of a function, and whether the function is a bridge.
 #[derive(Drop)]
 pub struct FunctionPath {
-    path: Path,
-    is_bridge: bool,
+    pub(crate) path: Path,
+    pub(crate) is_bridge: bool,
 }
 
 impl Model for FunctionPath {
@@ -81,7 +81,7 @@ pub(crate) fn is_own_place(
 }
 
 /// The path of these parts.
-fn path_of(parts: &[Part]) -> Option<Path>
+pub(crate) fn path_of(parts: &[Part]) -> Option<Path>
     requires { length parts.now < 16 }
     ensures { MatchOption result (parts.now ≡ []) (λ p. p ≡ parts.now) }
 {

@@ -16,3 +16,5 @@ pub mod ResetCells
 pub mod ResetKept
 pub mod BlocksReset
 pub mod RoutingRows
+pub mod Devices
+pub mod Known

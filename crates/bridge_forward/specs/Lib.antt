@@ -16,3 +16,5 @@ pub mod RoutingRows
 pub mod BasesNow
 pub mod ByIndex
 pub mod BridgeDecls
+pub mod Devices
+pub mod Known

@@ -1,8 +1,11 @@
 //! The tree of a board, built from what is declared of its functions.
 ghost use Rattle.std.specs.Prelude.{◌≡◌, ◌<◌, IfOk, length, map};
+ghost use Rattle.std.specs.BTreeSet.{IsFromIterResult};
 ghost use Rattle.model_board.specs.Board.{IsBoard, is_multifunction};
 ghost use Rattle.model_board.specs.Lawful.{IsLawfulDecl, HasLawfulDecls};
 ghost use Rattle.model_board.specs.Places.{board_of};
+ghost use Rattle.paths.specs.PathOrders.{path_cmp};
+ghost use Rattle.bridge_forward.specs.Devices.{shared_devices};
 ghost use Rattle.bridge_forward.specs.Layout.{function_of, functions_of, paths_of, AreInOrder, EndsAt, IsLaidOut};
 ghost use Rattle.bridge_forward.specs.Skips.{IsTree};
 ghost use Rattle.bridge_forward.specs.Functions.{reset_cells};
@@ -11,7 +14,9 @@ ghost use Rattle.bridge_forward.specs.Resets.{reset_function, reset_functions};
 use crate::bus::Node;
 use crate::decl::Decl;
 use crate::function::Function;
+use paths::Path;
 use std::alloc::{AllocError, Global};
+use std::collections::BTreeSet;
 
 /// Puts the functions of a board into path order.
 fn sort(decls: &mut Vec<Decl>)
@@ -21,15 +26,28 @@ fn sort(decls: &mut Vec<Decl>)
     decls.sort_unstable_by(|a, b| a.compare(b));
 }
 
-/// Which of the functions stand in a device with other functions. Each is compared with all, once,
-/// before the board is used.
-fn multifunction_devices(alloc: Global, decls: &[Decl]) -> Result<Vec<bool>, AllocError>
-    ensures { IfOk result (λ v.
-        v.items ≡ map (λ r. is_multifunction decls.now r.path) decls.now) }
+/// The paths of function 0 in the devices that have further functions.
+fn shared_devices(alloc: Global, decls: &[Decl]) -> Result<BTreeSet<Path>, AllocError>
+    ensures { IfOk result (IsFromIterResult path_cmp (shared_devices decls.now)) }
 {
     decls
         .iter()
-        .map(|decl| decl.is_multifunction(decls))
+        .filter(|decl| decl.is_further())
+        .map(|decl| decl.path.function_zero())
+        .collect(alloc)
+}
+
+/// Which of the functions stand in a device with other functions. Each device of a board has a function 0,
+/// so one look-up tells it of each function, and none is compared with all others.
+fn multifunction_devices(alloc: Global, decls: &[Decl]) -> Result<Vec<bool>, AllocError>
+    requires { IsBoard decls.now }
+    ensures { IfOk result (λ v.
+        v.items ≡ map (λ r. is_multifunction decls.now r.path) decls.now) }
+{
+    let shared = shared_devices(alloc, decls)?;
+    decls
+        .iter()
+        .map(|decl| decl.is_in_one_of(&shared))
         .collect(alloc)
 }
 

@@ -1,14 +1,18 @@
 //! What a board declares, function by function.
-ghost use Rattle.std.specs.Prelude.{◌≡◌, ◌&&◌, not, ◌↔◌, IsTrue};
+ghost use Rattle.std.specs.Prelude.{◌≡◌, ◌↔◌, IsTrue};
+ghost use Rattle.std.specs.BTreeSet.{contains};
 ghost use Rattle.std.specs.Ordering.{is_lt};
-ghost use Rattle.model_board.specs.Paths.{path_eq, path_before, same_device};
-ghost use Rattle.model_board.specs.Board.{IsBoard, is_multifunction};
+ghost use Rattle.model_board.specs.Paths.{path_before, function_zero};
+ghost use Rattle.model_board.specs.Board.{IsBoard};
 ghost use Rattle.model_board.specs.Places.{board_of, standing};
+ghost use Rattle.paths.specs.PathOrders.{path_cmp};
+ghost use Rattle.bridge_forward.specs.Devices.{is_further};
 
 use crate::places::{Stands, are_lawful};
 use headers::{BridgeDecl, EndpointDecl};
 use paths::Path;
 use std::cmp::Ordering;
+use std::collections::BTreeSet;
 use std::marker::Model;
 
 /// What is declared of a function.
@@ -44,19 +48,18 @@ impl Decl {
         self.path.cmp(&other.path)
     }
 
-    /// Whether the other function stands in the same device.
-    fn shares_device(&self, other: &Decl) -> bool
-        ensures { result
-            ≡ (same_device other.now.path self.now.path && not (path_eq other.now.path self.now.path)) }
+    /// Whether this is a further function of its device, and not function 0.
+    pub(crate) fn is_further(&self) -> bool
+        ensures { result ≡ is_further self.now.path }
     {
-        self.path.shares_device(&other.path)
+        self.path.last().function() != 0
     }
 
-    /// Whether one of these is another function of the same device.
-    pub(crate) fn is_multifunction(&self, decls: &[Decl]) -> bool
-        ensures { result ≡ is_multifunction decls.now self.now.path }
+    /// Whether its device is one of those, each told by the path of its function 0.
+    pub(crate) fn is_in_one_of(&self, devices: &BTreeSet<Path>) -> bool
+        ensures { result ≡ contains path_cmp devices.now (function_zero self.now.path) }
     {
-        decls.iter().any(|other| self.shares_device(other))
+        devices.contains(&self.path.function_zero())
     }
 }
 

@@ -1,23 +1,40 @@
 //! Which bridges lead to which buses, as far as cycles have found out.
-ghost use Rattle.std.specs.Prelude.{◌≡◌, if◌then◌else◌, IfOk, None, get_or, replicate, slice_set};
+ghost use Rattle.std.specs.Prelude.{◌≡◌, ◌≤◌, if◌then◌else◌, IfOk, None, get_or, replicate, slice_set};
+ghost use Rattle.bridge_forward.specs.Known.{known_entry};
 
 use std::alloc::{AllocError, Global};
 use std::marker::Model;
 
-/// By bus number the index of the bridge that leads to the bus, where it is known.
+/// By bus number the index of the bridge that leads to the bus, where it is known, with the time at which it was
+/// found. Set-up writes a bridge some thirteen times, and with each write all that is known is forgotten: so the
+/// time goes on, and what was found before it doesn't count any more. No entry is cleared.
 #[derive(Drop)]
 pub(crate) struct Routes {
-    bridges: Vec<Option<usize>>,
+    bridges: Vec<(u64, usize)>,
+    time: u64,
 }
 
 impl Model for Routes {
-    ghost use Rattle.std.specs.Prelude.{List, ℕ, Option, ◌≡◌, length};
+    ghost use Rattle.std.specs.Prelude.{List, ℕ, Option};
+    ghost use Rattle.bridge_forward.specs.Known.{known_now, AreKept};
 
     ghost Value = { List (Option ℕ) };
 
-    ghost view = { λ r. r.bridges.items };
+    ghost view = { λ r. known_now r.time r.bridges.items };
 
-    ghost invariant = { λ r. length r.bridges.items ≡ 256 };
+    ghost invariant = { λ r. AreKept r.time r.bridges.items };
+}
+
+/// What is kept at a time of a bridge, or of none.
+fn entry(time: u64, bridge: Option<usize>) -> (u64, usize)
+    requires { 1 ≤ time }
+    ensures known { known_entry time result ≡ bridge }
+    ensures past { result.0 ≤ time }
+{
+    match bridge {
+        Some(bridge) => (time, bridge),
+        None => (0, 0),
+    }
 }
 
 impl Routes {
@@ -27,22 +44,39 @@ impl Routes {
     pub(crate) fn unknown(alloc: Global) -> Result<Routes, AllocError>
         ensures { IfOk result AreUnknown }
     {
-        let bridges = vec![in alloc; None; 256]?;
-        Ok(Routes { bridges })
+        let bridges = vec![in alloc; (0, 0); 256]?;
+        Ok(Routes { bridges, time: 1 })
     }
 
     /// The bridge that is known for a bus number.
     pub(crate) fn bridge(&self, bus: u8) -> Option<usize>
         ensures { result ≡ get_or self.now bus None }
     {
-        self.bridges[usize::from(bus)]
+        let (found, bridge) = self.bridges[usize::from(bus)];
+        if found == self.time {
+            Some(bridge)
+        } else {
+            None
+        }
     }
 
     /// Keeps the bridge for a bus number, or that none is known.
     pub(crate) fn keep(&mut self, bus: u8, bridge: Option<usize>)
         ensures { self.new ≡ slice_set self.old bus bridge }
     {
-        self.bridges[usize::from(bus)] = bridge;
+        self.bridges[usize::from(bus)] = entry(self.time, bridge);
+    }
+
+    /// No bridge is known any more.
+    fn forget(&mut self)
+        ensures { self.new ≡ replicate 256 None }
+    {
+        if self.time < u64::MAX {
+            self.time += 1;
+        } else {
+            self.bridges.fill((0, 0));
+            self.time = 1;
+        }
     }
 
     /// No bridge is known any more, if `changed` says so.
@@ -50,7 +84,7 @@ impl Routes {
         ensures { self.new ≡ (if changed then replicate 256 None else self.old) }
     {
         if changed {
-            self.bridges.fill(None);
+            self.forget();
         }
     }
 }
