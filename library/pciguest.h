@@ -119,9 +119,9 @@ struct pciguest_function {
     uint32_t is_given;                              /* 1 or 0: whether a guest has it */
 };
 
-/* The room that pciguest_run_line and pciguest_board_run_line need for a reply, and the most that pciguest_words
- * needs. */
-enum { PCIGUEST_REPLY = 48, PCIGUEST_WORDS = 20 };
+/* The room that pciguest_run_line and pciguest_board_run_line need for a reply, and the most that pciguest_words and
+ * pciguest_guest_name need. */
+enum { PCIGUEST_REPLY = 48, PCIGUEST_WORDS = 20, PCIGUEST_GUEST_NAME = 16 };
 
 /* What a call answers, each with its words; docs/FORMATS.md says what each means. 101 to 112: the board file is refused.
  * 201 to 205: the board can't be set up. 206, 207: a board or a function can't be given to guests. 301 to 303: an access or
@@ -184,6 +184,8 @@ const char *pciguest_strerror(uint32_t number);
 uint32_t pciguest_raw_new(struct pciguest *machine, const uint8_t *board, size_t length);
 void pciguest_raw_free(struct pciguest *machine);
 uint32_t pciguest_raw_guest(struct pciguest *machine, const uint8_t *name, size_t length, size_t *guest);
+uint32_t pciguest_raw_guest_count(struct pciguest *machine, size_t *count);
+uint32_t pciguest_raw_guest_name(struct pciguest *machine, size_t guest, uint8_t *text, size_t room, size_t *needed);
 uint32_t pciguest_raw_read(struct pciguest *machine, size_t guest, uint32_t space, uint64_t slot, uint64_t place,
                            uint32_t width, uint32_t *value);
 uint32_t pciguest_raw_write(struct pciguest *machine, size_t guest, uint32_t space, uint64_t slot, uint64_t place,
@@ -200,6 +202,10 @@ uint32_t pciguest_raw_device_read(struct pciguest *machine, size_t guest, uint64
                                   uint32_t *value);
 uint32_t pciguest_raw_device_write(struct pciguest *machine, size_t guest, uint64_t slot, uint32_t part, uint64_t offset,
                                    uint8_t value);
+uint32_t pciguest_raw_device_read_wide(struct pciguest *machine, size_t guest, uint64_t slot, uint32_t part,
+                                       uint64_t offset, uint32_t width, uint64_t *value);
+uint32_t pciguest_raw_device_write_wide(struct pciguest *machine, size_t guest, uint64_t slot, uint32_t part,
+                                        uint64_t offset, uint32_t width, uint64_t value);
 uint32_t pciguest_raw_region(struct pciguest *machine, size_t guest, uint64_t slot, uint32_t bar,
                              struct pciguest_region *region);
 uint32_t pciguest_raw_changed(struct pciguest *machine, size_t guest, uint64_t *count);
@@ -251,6 +257,26 @@ PCIGUEST_CALL uint32_t pciguest_guest(struct pciguest *machine, const char *name
     if (!machine || (!name && length) || !guest)
         return PCIGUEST_ARGUMENT;
     return pciguest_raw_guest(machine, (const uint8_t *)(name ? name : ""), length, guest);
+}
+
+/* How many guests the machine has. */
+PCIGUEST_CALL uint32_t pciguest_guest_count(struct pciguest *machine, size_t *count)
+{
+    if (!machine || !count)
+        return PCIGUEST_ARGUMENT;
+    return pciguest_raw_guest_count(machine, count);
+}
+
+/* Writes the name of a guest by its index, from 0 to one less than pciguest_guest_count tells, and tells its length; it
+ * has no 0 at its end. 902: there is less room than that, and nothing was written; or there is no such guest, and nothing
+ * was told. PCIGUEST_GUEST_NAME is always enough room. */
+PCIGUEST_CALL uint32_t pciguest_guest_name(struct pciguest *machine, size_t guest, char *text, size_t room,
+                                           size_t *needed)
+{
+    uint8_t none;
+    if (!machine || (!text && room) || !needed)
+        return PCIGUEST_ARGUMENT;
+    return pciguest_raw_guest_name(machine, guest, text ? (uint8_t *)text : &none, room, needed);
 }
 
 /* Reads as a guest, by the guest's own view: slot and offset, port, or address. What is read is what the guest's
@@ -423,6 +449,26 @@ PCIGUEST_CALL uint32_t pciguest_device_write(struct pciguest *machine, size_t gu
     if (!machine)
         return PCIGUEST_ARGUMENT;
     return pciguest_raw_device_write(machine, guest, slot, part, offset, value);
+}
+
+/* Reads so 1 to 8 bytes at any offset, all of one part; the byte at the lowest offset is the lowest of the value.
+ * 302: the width is not 1 to 8. 303: one of the bytes is past the part, or none that the device has. Where one of them is
+ * refused, the call is. Other numbers as above. */
+PCIGUEST_CALL uint32_t pciguest_device_read_wide(struct pciguest *machine, size_t guest, uint64_t slot, uint32_t part,
+                                                 uint64_t offset, uint32_t width, uint64_t *value)
+{
+    if (!machine || !value)
+        return PCIGUEST_ARGUMENT;
+    return pciguest_raw_device_read_wide(machine, guest, slot, part, offset, width, value);
+}
+
+/* Writes so the low bytes of a value, as many as it is wide. Where one of the bytes is refused, none is written. */
+PCIGUEST_CALL uint32_t pciguest_device_write_wide(struct pciguest *machine, size_t guest, uint64_t slot, uint32_t part,
+                                                  uint64_t offset, uint32_t width, uint64_t value)
+{
+    if (!machine)
+        return PCIGUEST_ARGUMENT;
+    return pciguest_raw_device_write_wide(machine, guest, slot, part, offset, width, value);
 }
 
 /* Where the region that begins at a base address register, 0 to 5, stands now, in the guest's own view. It takes no

@@ -82,6 +82,11 @@ for kind in "${kinds[@]}"; do
     holds "$kind: wide accesses, seed $seed" "./wide.$kind" "$board" 20000 "$seed"
   done
 
+  holds "$kind: the devices are built" build "devices.$kind" "$top/tests/library/devices.c" "${words[@]}"
+  for seed in 1 2 3; do
+    holds "$kind: wide accesses of devices, seed $seed" "./devices.$kind" "$board" 20000 "$seed"
+  done
+
   holds "$kind: the boards are built" build "boards.$kind" "$top/tests/library/boards.c" "${wraps[@]}" "${words[@]}"
   for seed in 1 2 3; do
     holds "$kind: boards of firmware, by calls and by lines, seed $seed" "./boards.$kind" "$board" 20000 "$seed"

@@ -1,3 +1,4 @@
+mod DeviceBytes
 mod FunctionRows
 mod FaultNumbers
 mod Kept

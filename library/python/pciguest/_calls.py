@@ -21,6 +21,7 @@ WINDOWS = 3
 
 REPLY = 48
 WORDS = 20
+GUEST_NAME = 16
 
 OK = 0
 NOT_TOML = 101  # not TOML
@@ -197,6 +198,12 @@ DECLARED: Dict[str, Tuple[Any, Tuple[Any, ...]]] = {
     # The index of the guest of a name, as the calls below take it: guests stand in the order of the board file, from 0
     # on. 902: no guest has this name.
     "guest": (c_uint32, (POINTER(Handle), c_char_p, c_size_t, POINTER(c_size_t))),
+    # How many guests the machine has.
+    "guest_count": (c_uint32, (POINTER(Handle), POINTER(c_size_t))),
+    # Writes the name of a guest by its index, from 0 to one less than pciguest_guest_count tells, and tells its length;
+    # it has no 0 at its end. 902: there is less room than that, and nothing was written; or there is no such guest, and
+    # nothing was told. PCIGUEST_GUEST_NAME is always enough room.
+    "guest_name": (c_uint32, (POINTER(Handle), c_size_t, POINTER(c_char), c_size_t, POINTER(c_size_t))),
     # Reads as a guest, by the guest's own view: slot and offset, port, or address. What is read is what the guest's own
     # functions answer, each a register file by itself; all ones where nothing of the guest's answers. A read changes
     # nothing. The slot is looked at for configuration space alone.
@@ -253,6 +260,15 @@ DECLARED: Dict[str, Tuple[Any, Tuple[Any, ...]]] = {
     # Writes such a byte as its device does: it takes the value, whatever a guest's writes may change of it, and what
     # they may change of it stays. Where no register is, nothing changes. Numbers as above. It has no line of a script.
     "device_write": (c_uint32, (POINTER(Handle), c_size_t, c_uint64, c_uint32, c_uint64, c_uint8)),
+    # Reads so 1 to 8 bytes at any offset, all of one part; the byte at the lowest offset is the lowest of the value.
+    # 302: the width is not 1 to 8. 303: one of the bytes is past the part, or none that the device has. Where one of
+    # them is refused, the call is. Other numbers as above.
+    "device_read_wide": (
+        c_uint32,
+        (POINTER(Handle), c_size_t, c_uint64, c_uint32, c_uint64, c_uint32, POINTER(c_uint64)),
+    ),
+    # Writes so the low bytes of a value, as many as it is wide. Where one of the bytes is refused, none is written.
+    "device_write_wide": (c_uint32, (POINTER(Handle), c_size_t, c_uint64, c_uint32, c_uint64, c_uint32, c_uint64)),
     # Where the region that begins at a base address register, 0 to 5, stands now, in the guest's own view. It takes no
     # memory and changes nothing. The answer stays until the guest writes Command or a base address register of this
     # function, or it is moved, reset or taken: while pciguest_changed tells the same, no answer for this guest changes.

@@ -16,6 +16,7 @@ pub const WINDOWS: usize = 3;
 
 pub const REPLY: usize = 48;
 pub const WORDS: usize = 20;
+pub const GUEST_NAME: usize = 16;
 
 pub const OK: u32 = 0;
 /// not TOML
@@ -248,6 +249,18 @@ extern "C" {
         length: usize,
         guest: *mut usize,
     ) -> u32;
+    /// How many guests the machine has.
+    pub fn pciguest_guest_count(machine: *mut Handle, count: *mut usize) -> u32;
+    /// Writes the name of a guest by its index, from 0 to one less than pciguest_guest_count tells, and tells its
+    /// length; it has no 0 at its end. 902: there is less room than that, and nothing was written; or there is no such
+    /// guest, and nothing was told. PCIGUEST_GUEST_NAME is always enough room.
+    pub fn pciguest_guest_name(
+        machine: *mut Handle,
+        guest: usize,
+        text: *mut u8,
+        room: usize,
+        needed: *mut usize,
+    ) -> u32;
     /// Reads as a guest, by the guest's own view: slot and offset, port, or address. What is read is what the guest's
     /// own functions answer, each a register file by itself; all ones where nothing of the guest's answers. A read
     /// changes nothing. The slot is looked at for configuration space alone.
@@ -375,6 +388,28 @@ extern "C" {
         part: u32,
         offset: u64,
         value: u8,
+    ) -> u32;
+    /// Reads so 1 to 8 bytes at any offset, all of one part; the byte at the lowest offset is the lowest of the value.
+    /// 302: the width is not 1 to 8. 303: one of the bytes is past the part, or none that the device has. Where one of
+    /// them is refused, the call is. Other numbers as above.
+    pub fn pciguest_device_read_wide(
+        machine: *mut Handle,
+        guest: usize,
+        slot: u64,
+        part: u32,
+        offset: u64,
+        width: u32,
+        value: *mut u64,
+    ) -> u32;
+    /// Writes so the low bytes of a value, as many as it is wide. Where one of the bytes is refused, none is written.
+    pub fn pciguest_device_write_wide(
+        machine: *mut Handle,
+        guest: usize,
+        slot: u64,
+        part: u32,
+        offset: u64,
+        width: u32,
+        value: u64,
     ) -> u32;
     /// Where the region that begins at a base address register, 0 to 5, stands now, in the guest's own view. It takes
     /// no memory and changes nothing. The answer stays until the guest writes Command or a base address register of
