@@ -119,6 +119,14 @@ struct pciguest_function {
     uint32_t is_given;                              /* 1 or 0: whether a guest has it */
 };
 
+/* A function of a board that firmware drives, as the registers stand: no guest has it. */
+struct pciguest_board_function {
+    struct pciguest_function function; /* its number as it is looked for: by the bridge above */
+    uint32_t is_found;                 /* 1 or 0: whether a configuration access by this number reaches it */
+    uint32_t opens_io;                 /* 1 or 0: whether its Command opens I/O space */
+    uint32_t opens_memory;             /* 1 or 0: the same of memory */
+};
+
 /* The room that pciguest_run_line and pciguest_board_run_line need for a reply, and the most that pciguest_words and
  * pciguest_guest_name need. */
 enum { PCIGUEST_REPLY = 48, PCIGUEST_WORDS = 20, PCIGUEST_GUEST_NAME = 16 };
@@ -227,6 +235,9 @@ uint32_t pciguest_raw_board_write(struct pciguest_board *board, uint32_t space, 
                                   uint8_t function, uint64_t place, uint32_t width, uint32_t value);
 uint32_t pciguest_raw_board_run_line(struct pciguest_board *board, const uint8_t *line, size_t length, uint8_t *reply,
                                      size_t room, size_t *written);
+uint32_t pciguest_raw_board_count(struct pciguest_board *board, size_t *count);
+uint32_t pciguest_raw_board_function(struct pciguest_board *board, size_t index,
+                                     struct pciguest_board_function *function);
 uint32_t pciguest_raw_board_audit(struct pciguest_board *board, uint8_t *text, size_t room, size_t *needed,
                                   size_t *count);
 uint32_t pciguest_raw_set_up(struct pciguest_board *board, struct pciguest *machine);
@@ -645,6 +656,26 @@ PCIGUEST_CALL uint32_t pciguest_board_run_line(struct pciguest_board *board, con
         length--;
     return pciguest_raw_board_run_line(board, (const uint8_t *)(line ? line : ""), length, (uint8_t *)reply, room,
                                        written);
+}
+
+/* How many functions the board has, endpoints and bridges. */
+PCIGUEST_CALL uint32_t pciguest_board_count(struct pciguest_board *board, size_t *count)
+{
+    if (!board || !count)
+        return PCIGUEST_ARGUMENT;
+    return pciguest_raw_board_count(board, count);
+}
+
+/* The function at an index, from 0 to one less than pciguest_board_count tells, in the order of paths, as the registers
+ * stand: by which number it is looked for and whether that reaches it, where its base address registers or windows are,
+ * whatever firmware did of them so far, and whether its Command opens their spaces. It takes no memory and changes nothing,
+ * CONFIG_ADDRESS neither. 902: there is no such function. */
+PCIGUEST_CALL uint32_t pciguest_board_function(struct pciguest_board *board, size_t index,
+                                               struct pciguest_board_function *function)
+{
+    if (!board || !function)
+        return PCIGUEST_ARGUMENT;
+    return pciguest_raw_board_function(board, index, function);
 }
 
 /* Writes what is wrong in the registers of a board as they stand, whoever wrote them: a line for each problem, and a last

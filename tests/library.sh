@@ -91,6 +91,10 @@ for kind in "${kinds[@]}"; do
   for seed in 1 2 3; do
     holds "$kind: boards of firmware, by calls and by lines, seed $seed" "./boards.$kind" "$board" 20000 "$seed"
   done
+  holds "$kind: the driven boards are built" build "driven.$kind" "$top/tests/library/driven.c" "${words[@]}"
+  for seed in 1 2 3; do
+    holds "$kind: functions of a board of firmware, seed $seed" "./driven.$kind" "$board" 5000 "$seed"
+  done
   holds "$kind: the boards that are given are built" build "given.$kind" "$top/tests/library/given.c" "${wraps[@]}" "${words[@]}"
   holds "$kind: guests over a board of one's own" "./given.$kind" "$board"
   holds "$kind: the firmware is built" build "firmware.$kind" "$top/tests/library/firmware.c" "${words[@]}"

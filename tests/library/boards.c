@@ -32,6 +32,7 @@ static void without_a_board(void)
 {
     struct pciguest_board none = {0};
     struct pciguest machine = {0};
+    struct pciguest_board_function told = {.is_found = 9};
     uint32_t value = 7;
     size_t count = 8;
     char reply[PCIGUEST_REPLY] = "unchanged";
@@ -40,6 +41,8 @@ static void without_a_board(void)
     IS(pciguest_board_read(&none, PCIGUEST_IO, 0, 0, 0, 0, 1, &value), 901);
     IS(pciguest_board_write(&none, PCIGUEST_IO, 0, 0, 0, 0, 1, 0), 901);
     IS(line(&none, "host ir 0 1", reply, &count), 901);
+    IS(pciguest_board_count(&none, &count), 901);
+    IS(pciguest_board_function(&none, 0, &told), 901);
     IS(pciguest_board_audit(&none, reply, sizeof reply, &count, &count), 901);
     IS(pciguest_set_up(&none, &machine), 901);
     IS(pciguest_board_guests(&none, &machine), 901);
@@ -49,12 +52,14 @@ static void without_a_board(void)
     IS(machine.live, 0);
     IS(value, 7);
     IS(count, 8);
+    IS(told.is_found, 9);
     IS(strcmp(reply, "unchanged"), 0);
 }
 
 static void null_pointers(struct pciguest_board *board)
 {
     struct pciguest machine = {0};
+    struct pciguest_board_function told = {0};
     uint32_t value = 0;
     size_t count = 0;
     char reply[PCIGUEST_REPLY] = {0};
@@ -69,6 +74,10 @@ static void null_pointers(struct pciguest_board *board)
     IS(pciguest_board_run_line(board, NULL, 1, reply, sizeof reply, &count), 902);
     IS(pciguest_board_run_line(board, "", 0, NULL, 0, &count), 902);
     IS(pciguest_board_run_line(board, "", 0, reply, sizeof reply, NULL), 902);
+    IS(pciguest_board_count(NULL, &count), 902);
+    IS(pciguest_board_count(board, NULL), 902);
+    IS(pciguest_board_function(NULL, 0, &told), 902);
+    IS(pciguest_board_function(board, 0, NULL), 902);
     IS(pciguest_board_audit(NULL, reply, sizeof reply, &count, &count), 902);
     IS(pciguest_board_audit(board, NULL, 1, &count, &count), 902);
     IS(pciguest_board_audit(board, reply, sizeof reply, NULL, &count), 902);

@@ -87,7 +87,15 @@ fn write_bytes(
         return;
     }
     machine.device_write(guest, slot, place, offset, (value % 256) as u8);
-    write_bytes(machine, guest, slot, place, offset + 1, count - 1, value / 256);
+    write_bytes(
+        machine,
+        guest,
+        slot,
+        place,
+        offset + 1,
+        count - 1,
+        value / 256,
+    );
 }
 
 /// The number that a device reads of 1 to 8 bytes, or why it doesn't. Nothing changes.

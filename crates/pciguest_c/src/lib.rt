@@ -11,6 +11,7 @@ mod board_set_up;
 mod device_bytes;
 mod device_calls;
 mod device_wide;
+mod driven_calls;
 mod function_calls;
 mod function_row;
 mod guest_calls;

@@ -46,7 +46,7 @@ from ._board import Audit, Board
 from ._calls import VERSION
 from ._declared import Register
 from ._devices import Device
-from ._functions import Bar, Function, Window, Windows
+from ._functions import Bar, BoardFunction, Function, Window, Windows
 from ._machine import Guest, Host, Machine
 from ._refusal import BoardRefusal, Problem, Refusal, words
 from ._regions import Hit, Region
@@ -57,6 +57,7 @@ __all__ = [
     "Audit",
     "Bar",
     "Board",
+    "BoardFunction",
     "BoardRefusal",
     "Check",
     "Device",

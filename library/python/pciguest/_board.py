@@ -5,11 +5,12 @@ from __future__ import annotations
 import os
 from ctypes import byref, c_size_t, c_uint32
 from pathlib import Path
-from typing import NamedTuple, Optional, Union
+from typing import Iterator, NamedTuple, Optional, Union
 
-from ._calls import CONFIG, IO, MEMORY, BoardHandle
+from ._calls import CONFIG, IO, MEMORY, BoardFunctionTold, BoardHandle
+from ._functions import BoardFunction, board_function_of
 from ._held import Held, as_bytes
-from ._library import CALLS, told
+from ._library import CALLS, number, told
 from ._machine import Machine
 from ._refusal import answered
 from ._spaces import Functions, Space
@@ -97,6 +98,29 @@ class Board(Held):
         host: refused 207 not in order
         """
         return self._reply("board_run_line", line)
+
+    def count(self) -> int:
+        """How many functions the board has, endpoints and bridges."""
+        count = c_size_t(0)
+        self._call("board_count", byref(count))
+        return count.value
+
+    def function(self, index: int) -> BoardFunction:
+        """The function at an index, from 0 on, in the order of paths, as the registers stand. It changes nothing,
+        CONFIG_ADDRESS neither. 902: there is no such function.
+
+        >>> board = Board(BOARD)
+        >>> bridge, behind = board.function(1), board.function(2)
+        >>> bridge.function.path, bridge.is_found, behind.function.path, behind.is_found
+        ('2.0', True, '2.0/0.0', False)
+        """
+        found = BoardFunctionTold()
+        self._call("board_function", number("index", index, 64), byref(found))
+        return board_function_of(found)
+
+    def functions(self) -> Iterator[BoardFunction]:
+        """All functions of the board, in the order of paths, each as it is when it is asked for."""
+        return (self.function(index) for index in range(self.count()))
 
     def audit(self) -> Audit:
         """What is wrong in the registers as they stand, whoever wrote them: bytes of open regions that a bridge above

@@ -182,6 +182,21 @@ class FunctionTold(ctypes.Structure):
     ]
 
 
+class BoardFunctionTold(ctypes.Structure):
+    """A function of a board that firmware drives, as the registers stand: no guest has it."""
+
+    _fields_ = [
+        # its number as it is looked for: by the bridge above
+        ("function", FunctionTold),
+        # 1 or 0: whether a configuration access by this number reaches it
+        ("is_found", c_uint32),
+        # 1 or 0: whether its Command opens I/O space
+        ("opens_io", c_uint32),
+        # 1 or 0: the same of memory
+        ("opens_memory", c_uint32),
+    ]
+
+
 # what each call answers, and what it takes
 DECLARED: Dict[str, Tuple[Any, Tuple[Any, ...]]] = {
     # The version of the library that is linked or loaded, as PCIGUEST_VERSION_NUMBER has that of the header.
@@ -350,6 +365,13 @@ DECLARED: Dict[str, Tuple[Any, Tuple[Any, ...]]] = {
         c_uint32,
         (POINTER(BoardHandle), c_char_p, c_size_t, POINTER(c_char), c_size_t, POINTER(c_size_t)),
     ),
+    # How many functions the board has, endpoints and bridges.
+    "board_count": (c_uint32, (POINTER(BoardHandle), POINTER(c_size_t))),
+    # The function at an index, from 0 to one less than pciguest_board_count tells, in the order of paths, as the
+    # registers stand: by which number it is looked for and whether that reaches it, where its base address registers or
+    # windows are, whatever firmware did of them so far, and whether its Command opens their spaces. It takes no memory
+    # and changes nothing, CONFIG_ADDRESS neither. 902: there is no such function.
+    "board_function": (c_uint32, (POINTER(BoardHandle), c_size_t, POINTER(BoardFunctionTold))),
     # Writes what is wrong in the registers of a board as they stand, whoever wrote them: a line for each problem, and a
     # last line `audit: ok` or `audit: N problems`. A problem is a byte of an open region that a bridge above doesn't
     # forward, an address that two answer on one bus, or a function that no cycle finds. It tells the text's length,

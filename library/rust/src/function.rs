@@ -35,6 +35,19 @@ pub struct Function {
     pub seat: Option<(Guest, u64)>,
 }
 
+/// A function of a [`Board`](crate::Board) as the registers stand, whatever firmware did of them so far.
+#[derive(Clone, Debug, PartialEq, Eq)]
+pub struct BoardFunction {
+    /// What is told of any function. No guest has it; its number is the one by which it is looked for.
+    pub function: Function,
+    /// Whether a configuration access by this number reaches it.
+    pub is_found: bool,
+    /// Whether its Command opens I/O space.
+    pub opens_io: bool,
+    /// Whether its Command opens memory.
+    pub opens_memory: bool,
+}
+
 /// The regions of an endpoint or the windows of a bridge, as the registers on the board have them.
 #[derive(Clone, Debug, PartialEq, Eq)]
 pub enum Ranges {
@@ -96,6 +109,17 @@ impl Function {
     /// Whether it is a bridge.
     pub fn is_bridge(&self) -> bool {
         matches!(self.ranges, Ranges::Windows { .. })
+    }
+}
+
+impl BoardFunction {
+    pub(crate) fn of(told: &raw::BoardFunction) -> BoardFunction {
+        BoardFunction {
+            function: Function::of(&told.function),
+            is_found: told.is_found != 0,
+            opens_io: told.opens_io != 0,
+            opens_memory: told.opens_memory != 0,
+        }
     }
 }
 

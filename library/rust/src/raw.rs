@@ -228,6 +228,30 @@ impl Default for Function {
     }
 }
 
+/// A function of a board that firmware drives, as the registers stand: no guest has it.
+#[repr(C)]
+pub struct BoardFunction {
+    /// its number as it is looked for: by the bridge above
+    pub function: Function,
+    /// 1 or 0: whether a configuration access by this number reaches it
+    pub is_found: u32,
+    /// 1 or 0: whether its Command opens I/O space
+    pub opens_io: u32,
+    /// 1 or 0: the same of memory
+    pub opens_memory: u32,
+}
+
+impl Default for BoardFunction {
+    fn default() -> BoardFunction {
+        BoardFunction {
+            function: Function::default(),
+            is_found: 0,
+            opens_io: 0,
+            opens_memory: 0,
+        }
+    }
+}
+
 extern "C" {
     /// The version of the library that is linked or loaded, as PCIGUEST_VERSION_NUMBER has that of the header.
     pub fn pciguest_version() -> u32;
@@ -547,6 +571,17 @@ extern "C" {
         reply: *mut u8,
         room: usize,
         written: *mut usize,
+    ) -> u32;
+    /// How many functions the board has, endpoints and bridges.
+    pub fn pciguest_board_count(board: *mut BoardHandle, count: *mut usize) -> u32;
+    /// The function at an index, from 0 to one less than pciguest_board_count tells, in the order of paths, as the
+    /// registers stand: by which number it is looked for and whether that reaches it, where its base address registers
+    /// or windows are, whatever firmware did of them so far, and whether its Command opens their spaces. It takes no
+    /// memory and changes nothing, CONFIG_ADDRESS neither. 902: there is no such function.
+    pub fn pciguest_board_function(
+        board: *mut BoardHandle,
+        index: usize,
+        function: *mut BoardFunction,
     ) -> u32;
     /// Writes what is wrong in the registers of a board as they stand, whoever wrote them: a line for each problem, and
     /// a last line `audit: ok` or `audit: N problems`. A problem is a byte of an open region that a bridge above

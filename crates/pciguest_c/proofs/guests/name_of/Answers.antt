@@ -14,8 +14,8 @@ returns-in-Some-clause-name c =
     let i = c.args.guest in
     let name = c.in-Some.name.now in
     let stands = ap (λ (ns : List ArrayString). slice_get ns i) (sym c.deref.ensures.0)
-        ∙ read_at c.deref.result.now i name (ltb-true _ _ (sym c.in-Some.ensures.lookup.0)) c.in-Some.ensures.lookup.1 in
+    ∙ read_at c.deref.result.now i name (ltb-true _ _ (sym c.in-Some.ensures.lookup.0)) c.in-Some.ensures.lookup.1 in
     let named = ap (λ (ts : List Text). slice_get ts i) (sym c.names.ensures)
-        ∙ map_at (λ (n : ArrayString). n.bytes) c.names.result.now.items i name stands in
+    ∙ map_at (λ (n : ArrayString). n.bytes) c.names.result.now.items i name stands in
     let one = at_map (λ (g : GuestNow). g.name) w.guests i name.bytes named in
     one.2 ∙ ap (λ (g : GuestNow). g.name) (nth_there w i one.0 one.1)
