@@ -119,9 +119,37 @@ struct pciguest_function {
     uint32_t is_given;                              /* 1 or 0: whether a guest has it */
 };
 
-/* The room that pciguest_run_line and pciguest_board_run_line need for a reply, and the most that pciguest_words
- * needs. */
-enum { PCIGUEST_REPLY = 48, PCIGUEST_WORDS = 20 };
+/* A function of a board that firmware drives, as the registers stand: no guest has it. */
+struct pciguest_board_function {
+    struct pciguest_function function; /* its number as it is looked for: by the bridge above */
+    uint32_t is_found;                 /* 1 or 0: whether a configuration access by this number reaches it */
+    uint32_t opens_io;                 /* 1 or 0: whether its Command opens I/O space */
+    uint32_t opens_memory;             /* 1 or 0: the same of memory */
+};
+
+/* The kinds of problems in the registers of a board: a region of which a bridge doesn't forward a byte, two that answer an
+ * address on one bus, and a function that no cycle finds. */
+enum pciguest_problem_kind { PCIGUEST_NOT_FORWARDED = 1, PCIGUEST_CONTENDED = 2, PCIGUEST_NOT_FOUND = 3 };
+
+/* A problem in the registers of a board, as a line of its audit tells it. */
+struct pciguest_problem {
+    uint32_t kind;                /* of enum pciguest_problem_kind */
+    uint32_t space;               /* PCIGUEST_IO or PCIGUEST_MEMORY; 0 where no cycle finds the function */
+    uint64_t address;             /* the first that is not forwarded, or that both answer; else 0 */
+    uint8_t path[PCIGUEST_PATH];  /* of the function, as in struct pciguest_function */
+    size_t path_length;           /* in bytes, without a 0 */
+    uint32_t bar;                 /* the register of its region, 0 to 5, or 6 where none is told */
+    uint8_t other[PCIGUEST_PATH]; /* of the bridge, of who answers too, or of what is found in its place */
+    size_t other_length;          /* 0 where nothing is found */
+    uint32_t other_bar;           /* the register of the region there, or 6 */
+    uint32_t bus;                 /* its number, by which no cycle finds it; else 0, as are the next two */
+    uint32_t device;
+    uint32_t function;
+};
+
+/* The room that pciguest_run_line and pciguest_board_run_line need for a reply, and the most that pciguest_words and
+ * pciguest_guest_name need. */
+enum { PCIGUEST_REPLY = 48, PCIGUEST_WORDS = 20, PCIGUEST_GUEST_NAME = 16 };
 
 /* What a call answers, each with its words; docs/FORMATS.md says what each means. 101 to 112: the board file is refused.
  * 201 to 205: the board can't be set up. 206, 207: a board or a function can't be given to guests. 301 to 303: an access or
@@ -185,6 +213,8 @@ const char *pciguest_strerror(uint32_t number);
 uint32_t pciguest_raw_new(struct pciguest *machine, const uint8_t *board, size_t length);
 void pciguest_raw_free(struct pciguest *machine);
 uint32_t pciguest_raw_guest(struct pciguest *machine, const uint8_t *name, size_t length, size_t *guest);
+uint32_t pciguest_raw_guest_count(struct pciguest *machine, size_t *count);
+uint32_t pciguest_raw_guest_name(struct pciguest *machine, size_t guest, uint8_t *text, size_t room, size_t *needed);
 uint32_t pciguest_raw_read(struct pciguest *machine, size_t guest, uint32_t space, uint64_t slot, uint64_t place,
                            uint32_t width, uint32_t *value);
 uint32_t pciguest_raw_write(struct pciguest *machine, size_t guest, uint32_t space, uint64_t slot, uint64_t place,
@@ -201,6 +231,10 @@ uint32_t pciguest_raw_device_read(struct pciguest *machine, size_t guest, uint64
                                   uint32_t *value);
 uint32_t pciguest_raw_device_write(struct pciguest *machine, size_t guest, uint64_t slot, uint32_t part, uint64_t offset,
                                    uint8_t value);
+uint32_t pciguest_raw_device_read_wide(struct pciguest *machine, size_t guest, uint64_t slot, uint32_t part,
+                                       uint64_t offset, uint32_t width, uint64_t *value);
+uint32_t pciguest_raw_device_write_wide(struct pciguest *machine, size_t guest, uint64_t slot, uint32_t part,
+                                        uint64_t offset, uint32_t width, uint64_t value);
 uint32_t pciguest_raw_region(struct pciguest *machine, size_t guest, uint64_t slot, uint32_t bar,
                              struct pciguest_region *region);
 uint32_t pciguest_raw_changed(struct pciguest *machine, size_t guest, uint64_t *count);
@@ -222,8 +256,13 @@ uint32_t pciguest_raw_board_write(struct pciguest_board *board, uint32_t space, 
                                   uint8_t function, uint64_t place, uint32_t width, uint32_t value);
 uint32_t pciguest_raw_board_run_line(struct pciguest_board *board, const uint8_t *line, size_t length, uint8_t *reply,
                                      size_t room, size_t *written);
+uint32_t pciguest_raw_board_count(struct pciguest_board *board, size_t *count);
+uint32_t pciguest_raw_board_function(struct pciguest_board *board, size_t index,
+                                     struct pciguest_board_function *function);
 uint32_t pciguest_raw_board_audit(struct pciguest_board *board, uint8_t *text, size_t room, size_t *needed,
                                   size_t *count);
+uint32_t pciguest_raw_board_problems(struct pciguest_board *board, struct pciguest_problem *problems, size_t room,
+                                     size_t *count);
 uint32_t pciguest_raw_set_up(struct pciguest_board *board, struct pciguest *machine);
 uint32_t pciguest_raw_board_guests(struct pciguest_board *board, struct pciguest *machine);
 
@@ -252,6 +291,26 @@ PCIGUEST_CALL uint32_t pciguest_guest(struct pciguest *machine, const char *name
     if (!machine || (!name && length) || !guest)
         return PCIGUEST_ARGUMENT;
     return pciguest_raw_guest(machine, (const uint8_t *)(name ? name : ""), length, guest);
+}
+
+/* How many guests the machine has. */
+PCIGUEST_CALL uint32_t pciguest_guest_count(struct pciguest *machine, size_t *count)
+{
+    if (!machine || !count)
+        return PCIGUEST_ARGUMENT;
+    return pciguest_raw_guest_count(machine, count);
+}
+
+/* Writes the name of a guest by its index, from 0 to one less than pciguest_guest_count tells, and tells its length; it
+ * has no 0 at its end. 902: there is less room than that, and nothing was written; or there is no such guest, and nothing
+ * was told. PCIGUEST_GUEST_NAME is always enough room. */
+PCIGUEST_CALL uint32_t pciguest_guest_name(struct pciguest *machine, size_t guest, char *text, size_t room,
+                                           size_t *needed)
+{
+    uint8_t none;
+    if (!machine || (!text && room) || !needed)
+        return PCIGUEST_ARGUMENT;
+    return pciguest_raw_guest_name(machine, guest, text ? (uint8_t *)text : &none, room, needed);
 }
 
 /* Reads as a guest, by the guest's own view: slot and offset, port, or address. What is read is what the guest's
@@ -424,6 +483,26 @@ PCIGUEST_CALL uint32_t pciguest_device_write(struct pciguest *machine, size_t gu
     if (!machine)
         return PCIGUEST_ARGUMENT;
     return pciguest_raw_device_write(machine, guest, slot, part, offset, value);
+}
+
+/* Reads so 1 to 8 bytes at any offset, all of one part; the byte at the lowest offset is the lowest of the value.
+ * 302: the width is not 1 to 8. 303: one of the bytes is past the part, or none that the device has. Where one of them is
+ * refused, the call is. Other numbers as above. */
+PCIGUEST_CALL uint32_t pciguest_device_read_wide(struct pciguest *machine, size_t guest, uint64_t slot, uint32_t part,
+                                                 uint64_t offset, uint32_t width, uint64_t *value)
+{
+    if (!machine || !value)
+        return PCIGUEST_ARGUMENT;
+    return pciguest_raw_device_read_wide(machine, guest, slot, part, offset, width, value);
+}
+
+/* Writes so the low bytes of a value, as many as it is wide. Where one of the bytes is refused, none is written. */
+PCIGUEST_CALL uint32_t pciguest_device_write_wide(struct pciguest *machine, size_t guest, uint64_t slot, uint32_t part,
+                                                  uint64_t offset, uint32_t width, uint64_t value)
+{
+    if (!machine)
+        return PCIGUEST_ARGUMENT;
+    return pciguest_raw_device_write_wide(machine, guest, slot, part, offset, width, value);
 }
 
 /* Where the region that begins at a base address register, 0 to 5, stands now, in the guest's own view. It takes no
@@ -603,6 +682,26 @@ PCIGUEST_CALL uint32_t pciguest_board_run_line(struct pciguest_board *board, con
                                        written);
 }
 
+/* How many functions the board has, endpoints and bridges. */
+PCIGUEST_CALL uint32_t pciguest_board_count(struct pciguest_board *board, size_t *count)
+{
+    if (!board || !count)
+        return PCIGUEST_ARGUMENT;
+    return pciguest_raw_board_count(board, count);
+}
+
+/* The function at an index, from 0 to one less than pciguest_board_count tells, in the order of paths, as the registers
+ * stand: by which number it is looked for and whether that reaches it, where its base address registers or windows are,
+ * whatever firmware did of them so far, and whether its Command opens their spaces. It takes no memory and changes nothing,
+ * CONFIG_ADDRESS neither. 902: there is no such function. */
+PCIGUEST_CALL uint32_t pciguest_board_function(struct pciguest_board *board, size_t index,
+                                               struct pciguest_board_function *function)
+{
+    if (!board || !function)
+        return PCIGUEST_ARGUMENT;
+    return pciguest_raw_board_function(board, index, function);
+}
+
 /* Writes what is wrong in the registers of a board as they stand, whoever wrote them: a line for each problem, and a last
  * line `audit: ok` or `audit: N problems`. A problem is a byte of an open region that a bridge above doesn't forward, an
  * address that two answer on one bus, or a function that no cycle finds. It tells the text's length, which has no 0 at its
@@ -615,6 +714,17 @@ PCIGUEST_CALL uint32_t pciguest_board_audit(struct pciguest_board *board, char *
     if (!board || (!text && room) || !needed || !count)
         return PCIGUEST_ARGUMENT;
     return pciguest_raw_board_audit(board, text ? (uint8_t *)text : &none, room, needed, count);
+}
+
+/* Writes a row for each problem that pciguest_board_audit has a line of, in the same order, and tells how many there are.
+ * The board stays as it is. 902: there is room for fewer rows than that, whose number alone is told. 299: out of memory. */
+PCIGUEST_CALL uint32_t pciguest_board_problems(struct pciguest_board *board, struct pciguest_problem *problems,
+                                               size_t room, size_t *count)
+{
+    struct pciguest_problem none;
+    if (!board || (!problems && room) || !count)
+        return PCIGUEST_ARGUMENT;
+    return pciguest_raw_board_problems(board, problems ? problems : &none, room, count);
 }
 
 /* Sets up a board that is at reset as pciguest_new does, in place of firmware of one's own, and gives its functions to

@@ -82,9 +82,18 @@ for kind in "${kinds[@]}"; do
     holds "$kind: wide accesses, seed $seed" "./wide.$kind" "$board" 20000 "$seed"
   done
 
+  holds "$kind: the devices are built" build "devices.$kind" "$top/tests/library/devices.c" "${words[@]}"
+  for seed in 1 2 3; do
+    holds "$kind: wide accesses of devices, seed $seed" "./devices.$kind" "$board" 20000 "$seed"
+  done
+
   holds "$kind: the boards are built" build "boards.$kind" "$top/tests/library/boards.c" "${wraps[@]}" "${words[@]}"
   for seed in 1 2 3; do
     holds "$kind: boards of firmware, by calls and by lines, seed $seed" "./boards.$kind" "$board" 20000 "$seed"
+  done
+  holds "$kind: the driven boards are built" build "driven.$kind" "$top/tests/library/driven.c" "${words[@]}"
+  for seed in 1 2 3; do
+    holds "$kind: functions of a board of firmware, seed $seed" "./driven.$kind" "$board" 5000 "$seed"
   done
   holds "$kind: the boards that are given are built" build "given.$kind" "$top/tests/library/given.c" "${wraps[@]}" "${words[@]}"
   holds "$kind: guests over a board of one's own" "./given.$kind" "$board"

@@ -54,15 +54,13 @@ static uint64_t serve(struct pciguest *machine, size_t guest, struct trap trap)
     return value;
 }
 
-/* The device serves a ring: it counts it, byte by byte as long as one goes over, and sets the bit of STATUS. */
+/* The device serves a ring: it counts it, and sets the bit of STATUS. */
 static void ring(struct pciguest *machine, size_t guest, const struct pciguest_hit *hit)
 {
-    uint32_t byte = 0, place = COUNT;
+    uint64_t rings = 0;
 
-    do {
-        (void)pciguest_device_read(machine, guest, hit->slot, hit->part, place, &byte);
-        (void)pciguest_device_write(machine, guest, hit->slot, hit->part, place, (uint8_t)(byte + 1));
-    } while (byte == 0xff && ++place < COUNT + 4);
+    (void)pciguest_device_read_wide(machine, guest, hit->slot, hit->part, COUNT, 4, &rings);
+    (void)pciguest_device_write_wide(machine, guest, hit->slot, hit->part, COUNT, 4, rings + 1);
     (void)pciguest_raise(machine, guest, hit->slot, hit->part, STATUS, SERVED);
     printf("ring\n");
 }

@@ -44,12 +44,9 @@ def serve(guest: Guest, trap: Trap) -> int:
 
 
 def ring(guest: Guest, hit: Hit) -> None:
-    """The device serves a ring: it counts it, byte by byte as long as one goes over, and sets the bit of STATUS."""
-    for place in range(COUNT, COUNT + 4):
-        byte = guest.device_read(hit.slot, place, region=hit.region)
-        guest.device_write(hit.slot, place, byte + 1 & 0xFF, region=hit.region)
-        if byte < 0xFF:
-            break
+    """The device serves a ring: it counts it, and sets the bit of STATUS."""
+    rings = guest.device_read(hit.slot, COUNT, region=hit.region, width=4)
+    guest.device_write(hit.slot, COUNT, rings + 1 & 0xFFFFFFFF, region=hit.region, width=4)
     guest.raise_bits(hit.slot, STATUS, SERVED, region=hit.region)
     print("ring")
 

@@ -52,16 +52,11 @@ impl Board {
         }
     }
 
-    /// The device serves a ring: it counts it, byte by byte as long as one goes over, and sets the bit of STATUS.
+    /// The device serves a ring: it counts it, and sets the bit of STATUS.
     fn ring(&mut self, hit: Hit) -> Result<(), Fault> {
         let Hit { slot, part, .. } = hit;
-        for place in COUNT..COUNT + 4 {
-            let byte = self.machine.device_read(self.guest, slot, part, place)?;
-            self.machine.device_write(self.guest, slot, part, place, byte.wrapping_add(1))?;
-            if byte < 0xff {
-                break;
-            }
-        }
+        let rings = self.machine.device_read_wide(self.guest, slot, part, COUNT, 4)?;
+        self.machine.device_write_wide(self.guest, slot, part, COUNT, 4, rings.wrapping_add(1))?;
         self.machine.raise(self.guest, slot, part, STATUS, SERVED)?;
         println!("ring");
         Ok(())

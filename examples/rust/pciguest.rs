@@ -56,21 +56,23 @@ extern "C" {
         value: u32,
     ) -> u32;
     fn pciguest_raise(handle: *mut Handle, guest: usize, slot: u64, part: u32, offset: u64, mask: u8) -> u32;
-    fn pciguest_device_read(
+    fn pciguest_device_read_wide(
         handle: *mut Handle,
         guest: usize,
         slot: u64,
         part: u32,
         offset: u64,
-        value: *mut u32,
+        width: u32,
+        value: *mut u64,
     ) -> u32;
-    fn pciguest_device_write(
+    fn pciguest_device_write_wide(
         handle: *mut Handle,
         guest: usize,
         slot: u64,
         part: u32,
         offset: u64,
-        value: u8,
+        width: u32,
+        value: u64,
     ) -> u32;
     fn pciguest_host_read(
         handle: *mut Handle,
@@ -347,18 +349,36 @@ impl Machine {
         answered(unsafe { pciguest_raise(&mut self.handle, guest, slot, part.number(), offset, mask) })
     }
 
-    /// Reads one byte of the function in a guest's slot, as its device does.
-    pub fn device_read(&mut self, guest: usize, slot: u64, part: Part, offset: u64) -> Result<u8, Fault> {
-        let mut value = 0;
+    /// Reads 1 to 8 bytes of the function in a guest's slot, as its device does.
+    pub fn device_read_wide(
+        &mut self,
+        guest: usize,
+        slot: u64,
+        part: Part,
+        offset: u64,
+        width: u32,
+    ) -> Result<u64, Fault> {
+        let (mut value, part) = (0, part.number());
         answered(unsafe {
-            pciguest_device_read(&mut self.handle, guest, slot, part.number(), offset, &mut value)
+            pciguest_device_read_wide(&mut self.handle, guest, slot, part, offset, width, &mut value)
         })?;
-        Ok(value as u8)
+        Ok(value)
     }
 
-    /// Writes such a byte, as its device does.
-    pub fn device_write(&mut self, guest: usize, slot: u64, part: Part, offset: u64, value: u8) -> Result<(), Fault> {
-        answered(unsafe { pciguest_device_write(&mut self.handle, guest, slot, part.number(), offset, value) })
+    /// Writes such bytes, as its device does.
+    pub fn device_write_wide(
+        &mut self,
+        guest: usize,
+        slot: u64,
+        part: Part,
+        offset: u64,
+        width: u32,
+        value: u64,
+    ) -> Result<(), Fault> {
+        let part = part.number();
+        answered(unsafe {
+            pciguest_device_write_wide(&mut self.handle, guest, slot, part, offset, width, value)
+        })
     }
 
     /// Reads 1, 2 or 4 bytes as the host.

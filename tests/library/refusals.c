@@ -16,7 +16,7 @@ static void without_a_machine(void)
     uint32_t value = 7;
     size_t count = 8;
     char reply[PCIGUEST_REPLY] = "unchanged";
-    uint64_t changes = 6;
+    uint64_t changes = 6, wide = 5;
     struct pciguest_region region = {.size = 9};
     struct pciguest_hit hit = {.found = 9};
     struct pciguest_function function = {.class_code = 9};
@@ -32,6 +32,8 @@ static void without_a_machine(void)
     IS(pciguest_take(&none, 0, 0), 901);
     IS(pciguest_device_read(&none, 0, 0, 1, 0, &value), 901);
     IS(pciguest_device_write(&none, 0, 0, 1, 0, 1), 901);
+    IS(pciguest_device_read_wide(&none, 0, 0, 1, 0, 9, &wide), 901);
+    IS(pciguest_device_write_wide(&none, 0, 0, 1, 0, 9, 1), 901);
     IS(pciguest_region(&none, 0, 0, 0, &region), 901);
     IS(pciguest_changed(&none, 0, &changes), 901);
     IS(pciguest_locate(&none, 0, PCIGUEST_IO, 0, 0, &hit), 901);
@@ -39,6 +41,8 @@ static void without_a_machine(void)
     IS(pciguest_function(&none, 0, &function), 901);
     IS(pciguest_slot(&none, 0, 0, &function), 901);
     IS(pciguest_guest(&none, "a", 1, &count), 901);
+    IS(pciguest_guest_count(&none, &count), 901);
+    IS(pciguest_guest_name(&none, 0, reply, sizeof reply, &count), 901);
     IS(pciguest_run_line(&none, "a cr 0 0 4", 10, reply, sizeof reply, &count), 901);
     pciguest_free(&none);
     pciguest_free(&none);
@@ -48,6 +52,7 @@ static void without_a_machine(void)
     IS(strcmp(reply, "unchanged"), 0);
     IS(region.size, 9);
     IS(changes, 6);
+    IS(wide, 5);
     IS(hit.found, 9);
     IS(function.class_code, 9);
 }
@@ -79,6 +84,9 @@ static void null_pointers(struct pciguest *machine)
     IS(pciguest_device_read(NULL, 0, 0, 1, 0, &value), 902);
     IS(pciguest_device_read(machine, 0, 0, 1, 0, NULL), 902);
     IS(pciguest_device_write(NULL, 0, 0, 1, 0, 1), 902);
+    IS(pciguest_device_read_wide(NULL, 0, 0, 1, 0, 4, &changes), 902);
+    IS(pciguest_device_read_wide(machine, 0, 0, 1, 0, 4, NULL), 902);
+    IS(pciguest_device_write_wide(NULL, 0, 0, 1, 0, 4, 1), 902);
     IS(pciguest_region(NULL, 0, 0, 0, &region), 902);
     IS(pciguest_region(machine, 0, 0, 0, NULL), 902);
     IS(pciguest_changed(NULL, 0, &changes), 902);
@@ -92,6 +100,11 @@ static void null_pointers(struct pciguest *machine)
     IS(pciguest_slot(NULL, 0, 0, &function), 902);
     IS(pciguest_slot(machine, 0, 0, NULL), 902);
     IS(pciguest_guest(machine, "a", 1, NULL), 902);
+    IS(pciguest_guest_count(NULL, &count), 902);
+    IS(pciguest_guest_count(machine, NULL), 902);
+    IS(pciguest_guest_name(NULL, 0, reply, sizeof reply, &count), 902);
+    IS(pciguest_guest_name(machine, 0, NULL, 1, &count), 902);
+    IS(pciguest_guest_name(machine, 0, reply, sizeof reply, NULL), 902);
     IS(pciguest_run_line(machine, "", 0, NULL, 0, &count), 902);
     IS(pciguest_run_line(machine, "", 0, reply, sizeof reply, NULL), 902);
     IS(pciguest_report(NULL, 1, NULL, 0, &count), 902);
@@ -101,7 +114,7 @@ static void bad_arguments(struct pciguest *machine, const uint8_t *board, size_t
 {
     uint32_t value = 7;
     size_t count = 8;
-    uint64_t changes = 6;
+    uint64_t changes = 6, wide = 5;
     char reply[PCIGUEST_REPLY] = {0};
 
     IS(pciguest_new(machine, board, length), 903);
@@ -137,14 +150,49 @@ static void bad_arguments(struct pciguest *machine, const uint8_t *board, size_t
     IS(pciguest_device_write(machine, 0, 32, 1, 0, 1), 303);
     IS(pciguest_device_write(machine, 0, 31, 1, 0, 1), 601);
     IS(pciguest_device_write(machine, 0, 0, 1, 4096, 1), 303);
+    IS(pciguest_device_read_wide(machine, 2, 0, 1, 0, 9, &wide), 902);
+    IS(pciguest_device_read_wide(machine, 0, 0, 7, 0, 9, &wide), 902);
+    IS(pciguest_device_read_wide(machine, 0, 32, 1, 0, 0, &wide), 302);
+    IS(pciguest_device_read_wide(machine, 0, 32, 1, UINT64_MAX, 9, &wide), 302);
+    IS(pciguest_device_read_wide(machine, 0, 31, 1, UINT64_MAX - 3, 4, &wide), 303);
+    IS(pciguest_device_read_wide(machine, 0, 31, 1, UINT64_MAX - 4, 4, &wide), 601);
+    IS(pciguest_device_read_wide(machine, 0, 0, 1, 4089, 8, &wide), 303);
+    IS(pciguest_device_write_wide(machine, 2, 0, 1, 0, 9, 1), 902);
+    IS(pciguest_device_write_wide(machine, 0, 0, 7, 0, 9, 1), 902);
+    IS(pciguest_device_write_wide(machine, 0, 32, 1, 0, 9, 1), 302);
+    IS(pciguest_device_write_wide(machine, 0, 31, 1, 0, 8, 1), 601);
+    IS(pciguest_device_write_wide(machine, 0, 0, 1, 4089, 8, 1), 303);
     IS(pciguest_changed(machine, 2, &changes), 902);
     IS(pciguest_guest(machine, "nobody", 6, &count), 902);
+    IS(pciguest_guest_name(machine, 2, reply, sizeof reply, &count), 902);
+    IS(reply[0], 0);
     IS(pciguest_run_line(machine, "a cr 0 0 4", 10, reply, sizeof reply - 1, &count), 902);
     IS(value, 7);
     IS(count, 8);
     IS(changes, 6);
+    IS(wide, 5);
     IS(pciguest_run_line(machine, "# a comment", 11, reply, sizeof reply, &count), 0);
     IS(count, 0);
+}
+
+/* The names of the guests, which tell how much room they need. */
+static void guests(struct pciguest *machine)
+{
+    char text[PCIGUEST_GUEST_NAME] = "?";
+    size_t count = 0, needed = 0, index = 7;
+
+    IS(pciguest_guest_count(machine, &count), 0);
+    IS(count, 2);
+    for (size_t guest = 0; guest < count; guest++) {
+        IS(pciguest_guest_name(machine, guest, NULL, 0, &needed), 902);
+        IS(needed, 1);
+        IS(pciguest_guest_name(machine, guest, text, needed, &needed), 0);
+        IS((uint64_t)text[0], 'a' + guest);
+        IS(pciguest_guest(machine, text, needed, &index), 0);
+        IS(index, guest);
+    }
+    IS(pciguest_guest_name(machine, 0, text, 0, &needed), 902);
+    IS((uint64_t)text[0], 'b');
 }
 
 /* A reset leaves the function at reset in its slot, takes no memory, and leaves the guest's other function. */
@@ -211,6 +259,7 @@ static void gifts(struct pciguest *machine)
 static void devices(struct pciguest *machine)
 {
     uint32_t value = 7;
+    uint64_t wide = 0;
     long before = blocks;
 
     calls_left = 1;
@@ -228,6 +277,12 @@ static void devices(struct pciguest *machine)
     IS(pciguest_write(machine, 0, PCIGUEST_CONFIG, 0, 7, 1, 0xff), 0); /* the driver clears what it may */
     IS(pciguest_device_read(machine, 0, 0, PCIGUEST_RAISE_CONFIG, 7, &value), 0);
     IS(value, 0xa5 & ~0xf9);
+    IS(pciguest_device_write_wide(machine, 0, 0, PCIGUEST_RAISE_CONFIG, 6, 2, 0x5aa5), 0);
+    IS(pciguest_read(machine, 0, PCIGUEST_CONFIG, 0, 6, 2, &value), 0);
+    IS(value, 0x5aa5);
+    IS(pciguest_device_write_wide(machine, 0, 0, PCIGUEST_RAISE_CONFIG, 7, 2, 0), 303); /* and 08h is none of its own */
+    IS(pciguest_device_read_wide(machine, 0, 0, PCIGUEST_RAISE_CONFIG, 6, 2, &wide), 0);
+    IS(wide, 0x5aa5);
     IS(pciguest_device_write(machine, 0, 0, 1, 4095, 0x5a), 0); /* no cell stands there */
     IS(pciguest_device_read(machine, 0, 0, 1, 4095, &value), 0);
     IS(value, 0);
@@ -414,6 +469,7 @@ int main(int argc, char **argv)
     IS(pciguest_new(&machine, board, length), 0);
     null_pointers(&machine);
     bad_arguments(&machine, board, length);
+    guests(&machine);
     resets(&machine);
     gifts(&machine);
     devices(&machine);

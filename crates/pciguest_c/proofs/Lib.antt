@@ -1,7 +1,9 @@
+mod DeviceBytes
 mod FunctionRows
 mod FaultNumbers
 mod Kept
 mod Moved
 mod OpenFaults
 mod Options
+mod Rows
 mod Words

@@ -1,11 +1,20 @@
--- What C is told of an event at the device of a guest's function.
+-- What C is told of an event at the device of a guest's function, and of one after the other at bytes side by side.
 --     reply_at_device, after_at_device      such an event of a guest by its index: the reply, and the machine after it
-use Rattle.std.specs.Prelude.{ℕ}
-use Rattle.model_guests.specs.Accesses.{Reply}
+--     bytes_from d n      n bytes of a function in a slot, from one on
+--     bytes_read w guest ds      the number that a device reads of bytes, the lowest first, or why the first is refused
+--     after_bytes m guest ds v      the machine after a device wrote a number into bytes, the lowest first
+--     width_fault off n      what is no width, or ends past what 64 bits number
+--     wide_read w guest d n      what is read of n bytes, or the number of the first of these refusals
+--     after_wide m guest d n v      the machine after a number was written there, if they can be read
+--     number_left old r      what a call leaves where a number goes: what was read, or what stood there
+use Rattle.std.specs.Prelude.{ℕ, zero, suc, ◌+◌, ◌*◌, ◌/◌, ◌%◌, ◌^◌, ◌==◌, ◌||◌, nat_lt, nat_le, List, [], ◌∷◌}
+use Rattle.std.specs.Prelude.{if◌then◌else◌, is_ok, Option, None, Some, Result, Ok, Err}
+use Rattle.std.specs.Option.{option_map_or}
+use Rattle.model_guests.specs.Accesses.{Reply, answered, done, refused}
 use Rattle.model_guests.specs.Guests.{lone_of}
 use Rattle.model_guests.specs.WorldNow.{WorldNow}
 use Rattle.model_guests.specs.Calls.{at_device}
-use Rattle.model_guests.specs.DeviceEvents.{DeviceEvent, device_answer}
+use Rattle.model_guests.specs.DeviceEvents.{DeviceByte, DeviceEvent, device_reads, device_writes, device_answer}
 use Rattle.model_handoff.specs.Actions.{calls}
 use Rattle.model_handoff.specs.Changes.{MachineNow, after_on_machine}
 use Rattle.monitor.specs.ByIndex.{name_nth}
@@ -15,3 +24,55 @@ reply_at_device w guest e = device_answer (lone_of w.guests (name_nth w guest)) 
 
 abbrev pub after_at_device : MachineNow → ℕ → DeviceEvent → MachineNow
 after_at_device m guest e = after_on_machine m (calls (at_device (name_nth m.world guest) e))
+
+-- ---- bytes side by side
+
+abbrev pub next_byte : DeviceByte → DeviceByte
+next_byte d = record d { offset = d.offset + 1 }
+
+abbrev pub bytes_from : DeviceByte → ℕ → List DeviceByte
+bytes_from d zero = []
+bytes_from d (suc n) = d ∷ bytes_from (next_byte d) n
+
+-- a cell holds a byte
+abbrev pub byte_told : Reply → Result ℕ ℕ
+byte_told (answered v w) = Ok (v % 256)
+byte_told done = Ok 0
+byte_told (refused n) = Err n
+
+abbrev pub byte_read : WorldNow → ℕ → DeviceByte → Result ℕ ℕ
+byte_read w guest d = byte_told (reply_at_device w guest (device_reads d))
+
+-- a number with one more byte, which is the lowest
+abbrev pub put_below : Result ℕ ℕ → Result ℕ ℕ → Result ℕ ℕ
+put_below (Ok byte) (Ok n) = Ok (byte + 256 * n)
+put_below (Ok byte) (Err n) = Err n
+put_below (Err n) above = Err n
+
+abbrev pub bytes_read : WorldNow → ℕ → List DeviceByte → Result ℕ ℕ
+bytes_read w guest [] = Ok 0
+bytes_read w guest (d ∷ ds) = put_below (byte_read w guest d) (bytes_read w guest ds)
+
+abbrev pub after_bytes : MachineNow → ℕ → List DeviceByte → ℕ → MachineNow
+after_bytes m guest [] v = m
+after_bytes m guest (d ∷ ds) v =
+    after_bytes (after_at_device m guest (device_writes d (v % 256))) guest ds (v / 256)
+
+-- ---- accesses of 1 to 8 bytes
+
+abbrev pub width_fault : ℕ → ℕ → Option ℕ
+width_fault off n =
+    if n == 0 || nat_lt 8 n then Some 302
+    else (if nat_le (2 ^ 64) (off + n) then Some 303 else None)
+
+abbrev pub wide_read : WorldNow → ℕ → DeviceByte → ℕ → Result ℕ ℕ
+wide_read w guest d n = option_map_or Err (width_fault d.offset n) (bytes_read w guest (bytes_from d n))
+
+-- refused as a read of the same bytes is: then none is written
+abbrev pub after_wide : MachineNow → ℕ → DeviceByte → ℕ → ℕ → MachineNow
+after_wide m guest d n v =
+    if is_ok (wide_read m.world guest d n) then after_bytes m guest (bytes_from d n) v else m
+
+abbrev pub number_left : ℕ → Result ℕ ℕ → ℕ
+number_left old (Ok n) = n
+number_left old (Err n) = old

@@ -86,7 +86,7 @@ function_row f = record {
   slot = option_map_or (λ (s : Seat). s.slot) f.seat 0;
 }
 
-abbrev pub function_number : Option FunctionNow → ℕ
+abbrev pub function_number : {A : Type 0} → Option A → ℕ
 function_number None = 902
 function_number (Some f) = 0
 

@@ -31,12 +31,19 @@ pub fn place_of(part: u32) -> Option<Place>
     }
 }
 
+/// How many guests there are.
+pub fn guest_count(machine: &Monitor) -> usize
+    ensures { result ≡ length machine.now.world.guests }
+{
+    machine.names().len()
+}
+
 /// Refuses an index that no guest has.
 pub fn check_guest(machine: &Monitor, guest: usize) -> Result<(), u32>
     ensures there { IfOk result (λ _. guest < length machine.now.world.guests) }
     ensures none { IfErr result (λ n. (n ≡ 902) × (length machine.now.world.guests ≤ guest)) }
 {
-    if guest < machine.names().len() {
+    if guest < guest_count(machine) {
         Ok(())
     } else {
         Err(ARGUMENT)

@@ -5,3 +5,4 @@ pub mod Boards
 pub mod Stages
 pub mod Tellings
 pub mod Lending
+pub mod DrivenFunctions

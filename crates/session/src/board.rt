@@ -44,7 +44,7 @@ use std::marker::Model;
 #[derive(Drop)]
 pub struct Board {
     file: Vec<u8>,
-    host: Host,
+    pub(crate) host: Host,
     guests: Vec<GuestDecl>,
     written: bool,
 }

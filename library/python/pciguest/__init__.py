@@ -43,10 +43,11 @@ files, lines and numbers, and docs/LIBRARY.md what is proved of the library. Thi
 """
 
 from ._board import Audit, Board
+from ._board_problems import BoardProblem
 from ._calls import VERSION
 from ._declared import Register
 from ._devices import Device
-from ._functions import Bar, Function, Window, Windows
+from ._functions import Bar, BoardFunction, Function, Window, Windows
 from ._machine import Guest, Host, Machine
 from ._refusal import BoardRefusal, Problem, Refusal, words
 from ._regions import Hit, Region
@@ -57,6 +58,8 @@ __all__ = [
     "Audit",
     "Bar",
     "Board",
+    "BoardFunction",
+    "BoardProblem",
     "BoardRefusal",
     "Check",
     "Device",

@@ -5,11 +5,13 @@ from __future__ import annotations
 import os
 from ctypes import byref, c_size_t, c_uint32
 from pathlib import Path
-from typing import NamedTuple, Optional, Union
+from typing import Iterator, List, NamedTuple, Optional, Union
 
-from ._calls import CONFIG, IO, MEMORY, BoardHandle
+from ._board_problems import BoardProblem, board_problem_of
+from ._calls import ARGUMENT, CONFIG, IO, MEMORY, BoardFunctionTold, BoardHandle, ProblemTold
+from ._functions import BoardFunction, board_function_of
 from ._held import Held, as_bytes
-from ._library import CALLS, told
+from ._library import CALLS, number, told
 from ._machine import Machine
 from ._refusal import answered
 from ._spaces import Functions, Space
@@ -98,6 +100,29 @@ class Board(Held):
         """
         return self._reply("board_run_line", line)
 
+    def count(self) -> int:
+        """How many functions the board has, endpoints and bridges."""
+        count = c_size_t(0)
+        self._call("board_count", byref(count))
+        return count.value
+
+    def function(self, index: int) -> BoardFunction:
+        """The function at an index, from 0 on, in the order of paths, as the registers stand. It changes nothing,
+        CONFIG_ADDRESS neither. 902: there is no such function.
+
+        >>> board = Board(BOARD)
+        >>> bridge, behind = board.function(1), board.function(2)
+        >>> bridge.function.path, bridge.is_found, behind.function.path, behind.is_found
+        ('2.0', True, '2.0/0.0', False)
+        """
+        found = BoardFunctionTold()
+        self._call("board_function", number("index", index, 64), byref(found))
+        return board_function_of(found)
+
+    def functions(self) -> Iterator[BoardFunction]:
+        """All functions of the board, in the order of paths, each as it is when it is asked for."""
+        return (self.function(index) for index in range(self.count()))
+
     def audit(self) -> Audit:
         """What is wrong in the registers as they stand, whoever wrote them: bytes of open regions that a bridge above
         doesn't forward, addresses that two answer on one bus, and functions that no cycle finds. The board stays as it
@@ -111,6 +136,23 @@ class Board(Held):
             answer, text = told(1024, lambda *room: CALLS["board_audit"](byref(self._handle), *room, byref(count)))
         answered(answer)
         return Audit(text, count.value)
+
+    def problems(self) -> List[BoardProblem]:
+        """The problems of an audit, one by one, in the order of its lines. It is refused by 299 where memory is out.
+
+        >>> [(each.kind, each.path, each.number) for each in Board(BOARD).problems()]
+        [('not found', '2.0/0.0', (0, 0, 0)), ('not found', '2.0/1.0', (0, 1, 0))]
+        """
+        room, count = 64, c_size_t(0)
+        with self._lock:
+            while True:
+                rows = (ProblemTold * room)()
+                answer = CALLS["board_problems"](byref(self._handle), rows, room, byref(count))
+                if answer != ARGUMENT or count.value <= room:
+                    break
+                room = count.value
+        answered(answer)
+        return [board_problem_of(told) for told in rows[: count.value]]
 
     def set_up(self) -> Machine:
         """The machine that `Machine` makes of the same file: our own set-up, in place of firmware of one's own. The board

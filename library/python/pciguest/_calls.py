@@ -19,8 +19,13 @@ PATH = 80
 BARS = 6
 WINDOWS = 3
 
+NOT_FORWARDED = 1
+CONTENDED = 2
+NOT_FOUND = 3
+
 REPLY = 48
 WORDS = 20
+GUEST_NAME = 16
 
 OK = 0
 NOT_TOML = 101  # not TOML
@@ -182,6 +187,50 @@ class FunctionTold(ctypes.Structure):
     ]
 
 
+class BoardFunctionTold(ctypes.Structure):
+    """A function of a board that firmware drives, as the registers stand: no guest has it."""
+
+    _fields_ = [
+        # its number as it is looked for: by the bridge above
+        ("function", FunctionTold),
+        # 1 or 0: whether a configuration access by this number reaches it
+        ("is_found", c_uint32),
+        # 1 or 0: whether its Command opens I/O space
+        ("opens_io", c_uint32),
+        # 1 or 0: the same of memory
+        ("opens_memory", c_uint32),
+    ]
+
+
+class ProblemTold(ctypes.Structure):
+    """A problem in the registers of a board, as a line of its audit tells it."""
+
+    _fields_ = [
+        # of enum pciguest_problem_kind
+        ("kind", c_uint32),
+        # PCIGUEST_IO or PCIGUEST_MEMORY; 0 where no cycle finds the function
+        ("space", c_uint32),
+        # the first that is not forwarded, or that both answer; else 0
+        ("address", c_uint64),
+        # of the function, as in struct pciguest_function
+        ("path", c_uint8 * 80),
+        # in bytes, without a 0
+        ("path_length", c_size_t),
+        # the register of its region, 0 to 5, or 6 where none is told
+        ("bar", c_uint32),
+        # of the bridge, of who answers too, or of what is found in its place
+        ("other", c_uint8 * 80),
+        # 0 where nothing is found
+        ("other_length", c_size_t),
+        # the register of the region there, or 6
+        ("other_bar", c_uint32),
+        # its number, by which no cycle finds it; else 0, as are the next two
+        ("bus", c_uint32),
+        ("device", c_uint32),
+        ("function", c_uint32),
+    ]
+
+
 # what each call answers, and what it takes
 DECLARED: Dict[str, Tuple[Any, Tuple[Any, ...]]] = {
     # The version of the library that is linked or loaded, as PCIGUEST_VERSION_NUMBER has that of the header.
@@ -198,6 +247,12 @@ DECLARED: Dict[str, Tuple[Any, Tuple[Any, ...]]] = {
     # The index of the guest of a name, as the calls below take it: guests stand in the order of the board file, from 0
     # on. 902: no guest has this name.
     "guest": (c_uint32, (POINTER(Handle), c_char_p, c_size_t, POINTER(c_size_t))),
+    # How many guests the machine has.
+    "guest_count": (c_uint32, (POINTER(Handle), POINTER(c_size_t))),
+    # Writes the name of a guest by its index, from 0 to one less than pciguest_guest_count tells, and tells its length;
+    # it has no 0 at its end. 902: there is less room than that, and nothing was written; or there is no such guest, and
+    # nothing was told. PCIGUEST_GUEST_NAME is always enough room.
+    "guest_name": (c_uint32, (POINTER(Handle), c_size_t, POINTER(c_char), c_size_t, POINTER(c_size_t))),
     # Reads as a guest, by the guest's own view: slot and offset, port, or address. What is read is what the guest's own
     # functions answer, each a register file by itself; all ones where nothing of the guest's answers. A read changes
     # nothing. The slot is looked at for configuration space alone.
@@ -254,6 +309,15 @@ DECLARED: Dict[str, Tuple[Any, Tuple[Any, ...]]] = {
     # Writes such a byte as its device does: it takes the value, whatever a guest's writes may change of it, and what
     # they may change of it stays. Where no register is, nothing changes. Numbers as above. It has no line of a script.
     "device_write": (c_uint32, (POINTER(Handle), c_size_t, c_uint64, c_uint32, c_uint64, c_uint8)),
+    # Reads so 1 to 8 bytes at any offset, all of one part; the byte at the lowest offset is the lowest of the value.
+    # 302: the width is not 1 to 8. 303: one of the bytes is past the part, or none that the device has. Where one of
+    # them is refused, the call is. Other numbers as above.
+    "device_read_wide": (
+        c_uint32,
+        (POINTER(Handle), c_size_t, c_uint64, c_uint32, c_uint64, c_uint32, POINTER(c_uint64)),
+    ),
+    # Writes so the low bytes of a value, as many as it is wide. Where one of the bytes is refused, none is written.
+    "device_write_wide": (c_uint32, (POINTER(Handle), c_size_t, c_uint64, c_uint32, c_uint64, c_uint32, c_uint64)),
     # Where the region that begins at a base address register, 0 to 5, stands now, in the guest's own view. It takes no
     # memory and changes nothing. The answer stays until the guest writes Command or a base address register of this
     # function, or it is moved, reset or taken: while pciguest_changed tells the same, no answer for this guest changes.
@@ -337,12 +401,23 @@ DECLARED: Dict[str, Tuple[Any, Tuple[Any, ...]]] = {
         c_uint32,
         (POINTER(BoardHandle), c_char_p, c_size_t, POINTER(c_char), c_size_t, POINTER(c_size_t)),
     ),
+    # How many functions the board has, endpoints and bridges.
+    "board_count": (c_uint32, (POINTER(BoardHandle), POINTER(c_size_t))),
+    # The function at an index, from 0 to one less than pciguest_board_count tells, in the order of paths, as the
+    # registers stand: by which number it is looked for and whether that reaches it, where its base address registers or
+    # windows are, whatever firmware did of them so far, and whether its Command opens their spaces. It takes no memory
+    # and changes nothing, CONFIG_ADDRESS neither. 902: there is no such function.
+    "board_function": (c_uint32, (POINTER(BoardHandle), c_size_t, POINTER(BoardFunctionTold))),
     # Writes what is wrong in the registers of a board as they stand, whoever wrote them: a line for each problem, and a
     # last line `audit: ok` or `audit: N problems`. A problem is a byte of an open region that a bridge above doesn't
     # forward, an address that two answer on one bus, or a function that no cycle finds. It tells the text's length,
     # which has no 0 at its end, and how many problems there are. The board stays as it is.
     # 902: there is less room than the text needs, whose length alone is told. 299: out of memory.
     "board_audit": (c_uint32, (POINTER(BoardHandle), POINTER(c_char), c_size_t, POINTER(c_size_t), POINTER(c_size_t))),
+    # Writes a row for each problem that pciguest_board_audit has a line of, in the same order, and tells how many there
+    # are. The board stays as it is. 902: there is room for fewer rows than that, whose number alone is told. 299: out
+    # of memory.
+    "board_problems": (c_uint32, (POINTER(BoardHandle), POINTER(ProblemTold), c_size_t, POINTER(c_size_t))),
     # Sets up a board that is at reset as pciguest_new does, in place of firmware of one's own, and gives its functions
     # to the guests of its file: the machine is then the one that pciguest_new makes of the file. The board stays as it
     # is.

@@ -2,7 +2,7 @@
 
 from __future__ import annotations
 
-from ctypes import byref, c_uint32
+from ctypes import byref, c_uint64
 from typing import TYPE_CHECKING, Any, ClassVar, Dict, Iterator, List, NamedTuple, Optional, Tuple
 
 from ._calls import RAISE_CONFIG
@@ -86,27 +86,34 @@ class Device:
             raise ValueError("the device is attached already")
         self._machine, self._index = machine, index
 
-    def _places(self, register: Register) -> Iterator[Tuple[int, int, int, int]]:
-        """Guest, slot, part and offset of each byte of a register, as the library takes them."""
+    def _place(self, register: Register) -> Tuple[int, int, int]:
+        """Guest, slot and part of a register, as the library takes them."""
         if self._machine is None:
             raise ValueError("the device is attached to no machine")
         seat = self._machine.function(self._index).seat
         if seat is None:
             raise ValueError("no guest has the function of the device")
-        part = RAISE_CONFIG if register.bar is None else register.bar
-        return ((*seat, part, register.offset + byte) for byte in range(register.width))
+        return (*seat, RAISE_CONFIG if register.bar is None else register.bar)
 
     def _read(self, register: Register) -> int:
-        value, told = 0, c_uint32()
-        for byte, place in enumerate(self._places(register)):
-            self._machine._call("device_read", *place, byref(told))  # type: ignore[union-attr]
-            value |= told.value << 8 * byte
+        value, read, place = 0, c_uint64(), self._place(register)
+        for first, width in _pieces(register):
+            at = register.offset + first, width
+            self._machine._call("device_read_wide", *place, *at, byref(read))  # type: ignore[union-attr]
+            value |= read.value << 8 * first
         return value
 
     def _write(self, register: Register, value: int) -> None:
-        bits = number(register.name, value, 8 * register.width)
-        for byte, place in enumerate(self._places(register)):
-            self._machine._call("device_write", *place, bits >> 8 * byte & 0xFF)  # type: ignore[union-attr]
+        bits, place = number(register.name, value, 8 * register.width), self._place(register)
+        for first, width in _pieces(register):
+            at = register.offset + first, width
+            piece = bits >> 8 * first & (1 << 8 * width) - 1
+            self._machine._call("device_write_wide", *place, *at, piece)  # type: ignore[union-attr]
+
+
+def _pieces(register: Register) -> Iterator[Tuple[int, int]]:
+    """The first byte of a register and the width of each access that reaches it: 8 bytes at most."""
+    return ((first, min(8, register.width - first)) for first in range(0, register.width, 8))
 
 
 class Touch(NamedTuple):

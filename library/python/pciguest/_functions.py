@@ -4,7 +4,7 @@ from __future__ import annotations
 
 from typing import NamedTuple, Optional, Tuple
 
-from ._calls import IO, BarTold, FunctionTold, WindowTold
+from ._calls import IO, BarTold, BoardFunctionTold, FunctionTold, WindowTold
 
 
 class Bar(NamedTuple):
@@ -64,6 +64,19 @@ class Function(NamedTuple):
         return self.windows is not None
 
 
+class BoardFunction(NamedTuple):
+    """A function of a `Board` as the registers stand, whatever firmware did of them so far."""
+
+    #: what is told of any function; no guest has it, and its number is the one by which it is looked for
+    function: Function
+    #: whether a configuration access by this number reaches it
+    is_found: bool
+    #: whether its Command opens I/O space
+    opens_io: bool
+    #: whether its Command opens memory
+    opens_memory: bool
+
+
 def _bar(told: BarTold) -> Optional[Bar]:
     if not told.size:
         return None
@@ -92,3 +105,9 @@ def function_of(told: FunctionTold) -> Function:
         Windows(*(_window(window) for window in told.windows)) if told.is_bridge else None,
         (told.guest, told.slot) if told.is_given else None,
     )
+
+
+def board_function_of(told: BoardFunctionTold) -> BoardFunction:
+    """The function of a board that the library tells of."""
+    opened = bool(told.opens_io), bool(told.opens_memory)
+    return BoardFunction(function_of(told.function), bool(told.is_found), *opened)

@@ -5,15 +5,15 @@ from __future__ import annotations
 import os
 from ctypes import byref, c_size_t, c_uint32, c_uint64
 from pathlib import Path
-from typing import Any, Callable, Dict, Iterator, Optional, Tuple, Union
+from typing import Any, Callable, Dict, Iterator, List, Optional, Tuple, Union
 
-from ._calls import CONFIG, IO, MEMORY, RAISE_CONFIG, FunctionTold, Handle, HitTold, RegionTold
+from ._calls import CONFIG, GUEST_NAME, IO, MEMORY, RAISE_CONFIG, FunctionTold, Handle, HitTold, RegionTold
 from ._devices import Device, Touch
 from ._functions import Function, function_of
 from ._held import Held, as_bytes
-from ._library import CALLS, number
+from ._library import CALLS, number, told
 from ._lines import Access, access_of
-from ._refusal import Refusal
+from ._refusal import Refusal, answered
 from ._regions import Hit, Region
 from ._spaces import Functions, ReadableSpace, Space
 from ._texts import NAME, explained
@@ -56,6 +56,22 @@ class Machine(Held):
         text, index = as_bytes(name), c_size_t(0)
         self._call("guest", text, len(text), byref(index))
         return Guest(self, name, index.value)
+
+    def guests(self) -> List[str]:
+        """The names of all guests, in the order of the board file: the one at an index is that of `Guest.index`.
+
+        `[machine.guest(name) for name in machine.guests()]` are the guests.
+        """
+        count = c_size_t(0)
+        with self._lock:
+            self._call("guest_count", byref(count))
+            return [self._name(index) for index in range(count.value)]
+
+    def _name(self, guest: int) -> str:
+        """The name of the guest at an index, which is there."""
+        answer, name = told(GUEST_NAME, lambda *room: CALLS["guest_name"](byref(self._handle), guest, *room))
+        answered(answer)
+        return name
 
     @property
     def host(self) -> Host:
@@ -250,22 +266,30 @@ class Guest:
             part = asked if asked < RAISE_CONFIG else RAISE_CONFIG + 1
         return number("slot", slot, 64), part, number("offset", offset, 64)
 
-    def device_read(self, slot: int, offset: int, region: Optional[int] = None) -> int:
-        """One byte of the function in a slot, as its device reads it: of the region of a base address register, 0 to 5,
-        or of configuration space the two bytes of Status (06h, 07h) and the device's own registers (40h to FFh). A byte
-        that has no register reads 0. It changes nothing.
+    def device_read(self, slot: int, offset: int, region: Optional[int] = None, width: int = 1) -> int:
+        """1 to 8 bytes of the function in a slot, as its device reads them: of the region of a base address register, 0
+        to 5, or of configuration space the two bytes of Status (06h, 07h) and the device's own registers (40h to FFh).
+        The byte at the lowest offset is the lowest of the number, and one that has no register reads 0. It changes
+        nothing.
 
-        303: the slot is above 31, or the device has no such byte. 601: the slot is empty. 902: the region is above 5.
+        302: the width is not 1 to 8. 303: the slot is above 31, or the device has no such byte. 601: the slot is empty.
+        902: the region is above 5.
         """
-        told = c_uint32()
-        self.machine._call("device_read", self.index, *self._byte(slot, offset, region), byref(told))
-        return told.value
+        value = c_uint64()
+        place = *self._byte(slot, offset, region), number("width", width, 32)
+        self.machine._call("device_read_wide", self.index, *place, byref(value))
+        return value.value
 
-    def device_write(self, slot: int, offset: int, value: int, region: Optional[int] = None) -> None:
-        """Writes such a byte as its device does: it takes the value, whatever a guest's writes may change of it, and
-        what they may change of it stays. Where no register is, nothing changes. Refused as a read is.
+    def device_write(
+        self, slot: int, offset: int, value: int, region: Optional[int] = None, width: int = 1
+    ) -> None:
+        """Writes such bytes as its device does: they take the number, whatever a guest's writes may change of them, and
+        what they may change of them stays. Where no register is, nothing changes. Refused as a read is; then nothing is
+        written. A value that has more bits than the bytes is a ValueError.
         """
-        self.machine._call("device_write", self.index, *self._byte(slot, offset, region), number("value", value, 8))
+        place = *self._byte(slot, offset, region), number("width", width, 32)
+        bits = number("value", value, 8 * min(max(width, 1), 8))
+        self.machine._call("device_write_wide", self.index, *place, bits)
 
     def reset(self, slot: int) -> None:
         """Resets the function in a slot, where it is: nothing is carried over, as in a move.

@@ -29,7 +29,7 @@ class Prompt:
     def __init__(self, board: bytes, name: str, write: Callable[[str], None]) -> None:
         self._board, self._name, self._write = board, name, write
         self.machine = Machine(board, name)
-        self.guests = _guests(board, self.machine)
+        self.guests = self.machine.guests()
         self.done: List[str] = []
         self._words: Dict[str, Callable[[List[str]], None]] = {
             "help": lambda _: self._write(HELP),
@@ -150,15 +150,3 @@ class Prompt:
 
 def _bars() -> Tuple[str, ...]:
     return tuple(f"bar{index}" for index in range(6))
-
-
-def _guests(board: bytes, machine: Machine) -> List[str]:
-    """The guests of a board file in its order: of all texts in it, those that a guest is called by."""
-    found = {}
-    for text in re.findall(rb"[\"']([a-z][a-z0-9]{0,15})[\"']", board):
-        name = text.decode()
-        try:
-            found[name] = machine.guest(name).index
-        except Refusal:
-            continue
-    return sorted(found, key=lambda name: found[name])

@@ -63,6 +63,36 @@ class Firmware(Case):
             return f"refused {refusal}"
 
 
+class BoardFunctions(Case):
+    def test_functions_at_reset_and_driven(self):
+        board, bridge = self.board, self.board.config[0, 2, 0]
+        self.assertEqual(board.count(), 4)
+        at_reset = list(board.functions())
+        self.assertEqual([each.function.path for each in at_reset], ["1.0", "2.0", "2.0/0.0", "2.0/1.0"])
+        self.assertEqual([each.is_found for each in at_reset], [True, True, False, False])
+        self.assertEqual([each.function.seat for each in at_reset], [None] * 4)
+        self.assertFalse(any(each.opens_io or each.opens_memory for each in at_reset))
+        bridge[0x18:4] = 0x00010100
+        bridge[0x24:4] = 0xC0F0C000
+        behind = board.config[1, 1, 0]
+        behind[0x10:4] = 0xC0000000
+        behind[4:2] = 2
+        told = board.function(3)
+        self.assertTrue(told.is_found and told.opens_memory and not told.opens_io)
+        self.assertEqual((told.function.bus, told.function.device), (1, 1))
+        self.assertEqual(told.function.regions[0], ("memory", 0xC0000000, 0x1000000, True, True))
+        self.assertEqual(board.function(1).function.windows.prefetchable, (0xC0000000, 0xC0FFFFFF))
+        self.assertFalse(board.function(1).opens_memory)
+        self.refused(902, board.function, 4)
+        with self.assertRaises(ValueError):
+            board.function(-1)
+
+    def test_a_board_that_is_gone(self):
+        self.board.close()
+        self.refused(901, self.board.count)
+        self.refused(901, self.board.function, 0)
+
+
 class Audits(Case):
     def test_an_audit_tells_what_is_wrong(self):
         audit = self.board.audit()
@@ -70,6 +100,24 @@ class Audits(Case):
         self.assertEqual(audit.problems, 2)
         self.board.config[0, 2, 0][0x18:4] = 0x00010100
         self.assertEqual(self.board.audit(), ("audit: ok\n", 0))
+
+    def test_problems_are_those_of_the_lines(self):
+        board = self.board
+        bridge, behind = board.config[0, 2, 0], board.config[1, 1, 0]
+        self.assertEqual([each.path for each in board.problems()], ["2.0/0.0", "2.0/1.0"])
+        bridge[0x18:4] = 0x00010100
+        self.assertEqual(board.problems(), [])
+        behind[0x10:4] = 0xC0000000
+        behind[4:2] = 2
+        (found,) = board.problems()
+        self.assertEqual(found, ("not forwarded", "2.0/1.0", 0, "2.0", None, "memory", 0xC0000000, None))
+        board.config[1, 0, 0][0x10:4] = 0xC0000000
+        board.config[1, 0, 0][4:2] = 2
+        shared = board.problems()[-1]
+        self.assertEqual(shared, ("contended", "2.0/0.0", 0, "2.0/1.0", 0, "memory", 0xC0000000, None))
+        self.assertEqual(len(board.problems()), board.audit().problems)
+        with Board((BOARDS / "largest.toml").read_bytes()) as largest:
+            self.assertEqual(len(largest.problems()), largest.audit().problems)
 
     def test_a_line_asks_for_an_audit(self):
         self.assertEqual(self.board.run_line("host audit"), self.board.audit().text.rstrip("\n"))

@@ -21,6 +21,8 @@ STRUCTS = {
     "pciguest_bar": _calls.BarTold,
     "pciguest_window": _calls.WindowTold,
     "pciguest_function": _calls.FunctionTold,
+    "pciguest_board_function": _calls.BoardFunctionTold,
+    "pciguest_problem": _calls.ProblemTold,
 }
 
 

@@ -35,6 +35,10 @@ class Guests(Case):
         self.assertEqual(a.memory[0xE0000012:1], 0x34)
         self.assertEqual(b.memory[0xE0000010:4], 0xFFFFFFFF)
 
+    def test_names(self):
+        self.assertEqual(self.machine.guests(), ["a", "b"])
+        self.assertEqual([self.machine.guest(name).index for name in self.machine.guests()], [0, 1])
+
     def test_ports(self):
         self.a.io[0xCF8:4] = 0x80000800
         self.assertEqual(self.a.io[0xCFC:4], 0x00041234)
@@ -124,6 +128,22 @@ class Guests(Case):
         self.refused(902, a.device_read, 0, 0, 6)
         with self.assertRaises(ValueError):
             a.device_write(0, 7, 256)
+
+    def test_a_device_has_wide_registers(self):
+        a = self.a
+        a.device_write(0, 6, 0x5AA5, width=2)
+        self.assertEqual((a.device_read(0, 6, width=2), a.config[0][6:2]), (0x5AA5, 0x5AA5))
+        a.device_write(0, 1, 0x0123456789ABCDEF, region=1, width=8)
+        self.assertEqual(a.device_read(0, 8, region=1), 0x01)
+        self.assertEqual(a.device_read(0, 3, region=1, width=4), 0x456789AB)
+        for offset, width, answer in ((0, 0, 302), (0, 9, 302), (4093, 4, 303), ((1 << 64) - 1, 1, 303)):
+            self.refused(answer, a.device_read, 0, offset, 1, width)
+            self.refused(answer, a.device_write, 0, offset, 0, 1, width)
+        self.refused(303, a.device_write, 0, 7, 0, None, 2)
+        self.assertEqual(a.device_read(0, 7), 0x5A)
+        for value, width in ((1 << 16, 2), (-1, 4), (0, -1), (1 << 64, 8)):
+            with self.assertRaises(ValueError):
+                a.device_write(0, 6, value, width=width)
 
     def test_a_function_is_reset(self):
         function, other = self.a.config[0], self.a.config[1]

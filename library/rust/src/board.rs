@@ -1,6 +1,7 @@
 //! A board that firmware of one's own drives, from reset on.
 
 use crate::error::{answered, Error};
+use crate::function::{BoardFunction, BoardProblem};
 use crate::machine::Machine;
 use crate::place::HostAt;
 use crate::raw::{self, BoardHandle};
@@ -164,6 +165,57 @@ impl Board {
         })
     }
 
+    /// How many functions the board has, endpoints and bridges.
+    ///
+    /// ```
+    /// # const BOARD: &str = include_str!("board.toml");
+    /// assert_eq!(pciguest::Board::new(BOARD)?.count()?, 1);
+    /// # Ok::<(), pciguest::Error>(())
+    /// ```
+    pub fn count(&mut self) -> Result<usize, Error> {
+        let mut count = 0;
+        // SAFETY: `count` is a place of its own.
+        answered(unsafe { raw::pciguest_board_count(&mut self.handle, &mut count) })?;
+        Ok(count)
+    }
+
+    /// The function at an index, from 0 on, in the order of paths, as the registers stand. It changes nothing,
+    /// CONFIG_ADDRESS neither. 902: there is no such function.
+    ///
+    /// ```
+    /// # const BOARD: &str = include_str!("board.toml");
+    /// use pciguest::{Board, HostAt, Ranges};
+    ///
+    /// let mut board = Board::new(BOARD)?;
+    /// let register = |offset| HostAt::Config { bus: 0, device: 1, function: 0, offset };
+    /// board.write(register(0x10), 4, 0xd000_0000)?;
+    /// let told = board.function(0)?;
+    /// assert!(told.is_found && !told.opens_memory); // on bus 0 it is found at reset; its region is closed still
+    /// let Ranges::Regions(regions) = told.function.ranges else { panic!("a bridge") };
+    /// assert_eq!(regions[0].map(|region| (region.first, region.size)), Some((0xd000_0000, 4096)));
+    /// # Ok::<(), pciguest::Error>(())
+    /// ```
+    pub fn function(&mut self, index: usize) -> Result<BoardFunction, Error> {
+        let mut told = raw::BoardFunction::default();
+        // SAFETY: `told` is a place of its own.
+        answered(unsafe { raw::pciguest_board_function(&mut self.handle, index, &mut told) })?;
+        Ok(BoardFunction::of(&told))
+    }
+
+    /// All functions of the board, in the order of paths.
+    ///
+    /// ```
+    /// # const BOARD: &str = include_str!("board.toml");
+    /// let mut board = pciguest::Board::new(BOARD)?;
+    /// assert!(board.functions()?.iter().all(|told| told.function.path == "1.0"));
+    /// # Ok::<(), pciguest::Error>(())
+    /// ```
+    pub fn functions(&mut self) -> Result<Vec<BoardFunction>, Error> {
+        (0..self.count()?)
+            .map(|index| self.function(index))
+            .collect()
+    }
+
     /// What is wrong in the registers as they stand, whoever wrote them: bytes of open regions that a bridge above
     /// doesn't forward, addresses that two answer on one bus, and functions that no cycle finds. The board stays as it
     /// is.
@@ -186,6 +238,38 @@ impl Board {
             raw::pciguest_board_audit(&mut self.handle, text, room, needed, &mut problems)
         });
         answered(number).map(|()| Audit { text, problems })
+    }
+
+    /// The problems of an [audit](Board::audit), one by one, in the order of its lines.
+    ///
+    /// # Errors
+    ///
+    /// Out of memory alone.
+    ///
+    /// ```
+    /// # const BOARD: &str = include_str!("board.toml");
+    /// assert!(pciguest::Board::new(BOARD)?.problems()?.is_empty());
+    /// # Ok::<(), pciguest::Error>(())
+    /// ```
+    pub fn problems(&mut self) -> Result<Vec<BoardProblem>, Error> {
+        let mut rows = Vec::new();
+        let mut count = 64;
+        loop {
+            rows.resize_with(count, raw::Problem::default);
+            // SAFETY: there are as many rows as is said, and nothing overlaps.
+            let answer = answered(unsafe {
+                raw::pciguest_board_problems(
+                    &mut self.handle,
+                    rows.as_mut_ptr(),
+                    rows.len(),
+                    &mut count,
+                )
+            });
+            if answer.is_ok() || count <= rows.len() {
+                answer?;
+                return Ok(rows[..count].iter().map(BoardProblem::of).collect());
+            }
+        }
     }
 
     /// The machine that [`Machine::new`] makes of the same file: our own set-up, in place of firmware of one's own. The

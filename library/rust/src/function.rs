@@ -35,6 +35,19 @@ pub struct Function {
     pub seat: Option<(Guest, u64)>,
 }
 
+/// A function of a [`Board`](crate::Board) as the registers stand, whatever firmware did of them so far.
+#[derive(Clone, Debug, PartialEq, Eq)]
+pub struct BoardFunction {
+    /// What is told of any function. No guest has it; its number is the one by which it is looked for.
+    pub function: Function,
+    /// Whether a configuration access by this number reaches it.
+    pub is_found: bool,
+    /// Whether its Command opens I/O space.
+    pub opens_io: bool,
+    /// Whether its Command opens memory.
+    pub opens_memory: bool,
+}
+
 /// The regions of an endpoint or the windows of a bridge, as the registers on the board have them.
 #[derive(Clone, Debug, PartialEq, Eq)]
 pub enum Ranges {
@@ -75,6 +88,81 @@ pub struct Window {
     pub last: u64,
 }
 
+/// A problem in the registers of a [`Board`](crate::Board), as a line of its audit tells it.
+#[derive(Clone, Debug, PartialEq, Eq)]
+pub enum BoardProblem {
+    /// A bridge doesn't forward a byte of a region.
+    NotForwarded {
+        /// Where the region's function stands.
+        path: String,
+        /// Its base address register.
+        register: u8,
+        /// Where the bridge stands.
+        bridge: String,
+        /// The space.
+        space: Space,
+        /// The first address that is not forwarded.
+        address: u64,
+    },
+    /// Two answer an address on one bus.
+    Contended {
+        /// Where the one stands, with the register of its region if it is an endpoint.
+        one: (String, Option<u8>),
+        /// Where the other stands.
+        other: (String, Option<u8>),
+        /// The space.
+        space: Space,
+        /// The first address that both answer.
+        address: u64,
+    },
+    /// No cycle finds a function.
+    NotFound {
+        /// Where the function stands.
+        path: String,
+        /// Its number: bus, device and function.
+        number: (u8, u8, u8),
+        /// What is found in its place, if anything is.
+        instead: Option<String>,
+    },
+}
+
+impl BoardProblem {
+    pub(crate) fn of(told: &raw::Problem) -> BoardProblem {
+        let text = |bytes: &[u8], length| String::from_utf8_lossy(&bytes[..length]).into_owned();
+        let (path, other) = (
+            text(&told.path, told.path_length),
+            text(&told.other, told.other_length),
+        );
+        let register = |bar| (bar < raw::BARS as u32).then_some(bar as u8);
+        let space = if told.space == raw::IO {
+            Space::Io
+        } else {
+            Space::Memory
+        };
+        let address = told.address;
+        match told.kind {
+            raw::NOT_FORWARDED => BoardProblem::NotForwarded {
+                path,
+                register: told.bar as u8,
+                bridge: other,
+                space,
+                address,
+            },
+            raw::CONTENDED => BoardProblem::Contended {
+                one: (path, register(told.bar)),
+                other: (other, register(told.other_bar)),
+                space,
+                address,
+            },
+            _ => BoardProblem::NotFound {
+                path,
+                number: (told.bus as u8, told.device as u8, told.function as u8),
+                instead: (!other.is_empty()).then_some(other),
+            },
+        }
+    }
+}
+
 impl Function {
     pub(crate) fn of(told: &raw::Function) -> Function {
         Function {
@@ -96,6 +184,17 @@ impl Function {
     /// Whether it is a bridge.
     pub fn is_bridge(&self) -> bool {
         matches!(self.ranges, Ranges::Windows { .. })
+    }
+}
+
+impl BoardFunction {
+    pub(crate) fn of(told: &raw::BoardFunction) -> BoardFunction {
+        BoardFunction {
+            function: Function::of(&told.function),
+            is_found: told.is_found != 0,
+            opens_io: told.opens_io != 0,
+            opens_memory: told.opens_memory != 0,
+        }
     }
 }
 

@@ -62,7 +62,7 @@ pub use bus::{BusDevice, GuestBus, SlotConfig};
 pub use declared::{Declaration, Kind, Register};
 pub use device::{DeviceModel, NotAttached, Registers};
 pub use error::{Error, Refusal};
-pub use function::{Bar, Function, Functions, Ranges, Window};
+pub use function::{Bar, BoardFunction, BoardProblem, Function, Functions, Ranges, Window};
 pub use machine::Machine;
 pub use place::{At, Guest, Hit, HostAt, Part, Region, Space};
 pub use text::{check, report, words, Check};

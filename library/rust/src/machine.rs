@@ -5,7 +5,7 @@ use crate::error::{answered, Error};
 use crate::lines::{asked_by, Asked};
 use crate::place::{At, Guest, Hit, HostAt, Part, Region};
 use crate::raw::{self, Handle};
-use crate::text::reply_to;
+use crate::text::{reply_to, told};
 use std::fmt;
 use std::ptr::null_mut;
 
@@ -88,6 +88,42 @@ impl Machine {
             raw::pciguest_guest(&mut self.handle, name.as_ptr(), name.len(), &mut guest)
         })?;
         Ok(Guest::of_index(guest))
+    }
+
+    /// The names of all guests, in the order of the board file: the one at an index is that of [`Guest::of_index`].
+    ///
+    /// ```
+    /// # const BOARD: &str = include_str!("board.toml");
+    /// assert_eq!(pciguest::Machine::new(BOARD)?.guests()?, ["a"]);
+    /// # Ok::<(), pciguest::Error>(())
+    /// ```
+    pub fn guests(&mut self) -> Result<Vec<String>, Error> {
+        let mut count = 0;
+        // SAFETY: `count` is a place of its own.
+        answered(unsafe { raw::pciguest_guest_count(&mut self.handle, &mut count) })?;
+        (0..count)
+            .map(|index| self.guest_name(Guest::of_index(index)))
+            .collect()
+    }
+
+    /// The name of a guest. 902: there is no such guest.
+    ///
+    /// ```
+    /// # const BOARD: &str = include_str!("board.toml");
+    /// use pciguest::{Guest, Machine};
+    ///
+    /// let mut machine = Machine::new(BOARD)?;
+    /// let a = machine.guest("a")?;
+    /// assert_eq!(machine.guest_name(a)?, "a");
+    /// assert_eq!(machine.guest_name(Guest::of_index(1)).unwrap_err().to_string(), "902 argument");
+    /// # Ok::<(), pciguest::Error>(())
+    /// ```
+    pub fn guest_name(&mut self, guest: Guest) -> Result<String, Error> {
+        // SAFETY: the text has as many bytes as is said, and nothing overlaps.
+        let (number, name) = told(raw::GUEST_NAME, |text, room, needed| unsafe {
+            raw::pciguest_guest_name(&mut self.handle, guest.index(), text, room, needed)
+        });
+        answered(number).map(|()| name)
     }
 
     /// Reads 1, 2 or 4 bytes as a guest: what the guest's own functions answer, and all ones where nothing of the
@@ -422,6 +458,85 @@ impl Machine {
                 slot,
                 part.number(),
                 offset,
+                value,
+            )
+        })
+    }
+
+    /// Reads 1 to 8 bytes of the function in a guest's slot, as its device does: at any offset, all of one part, the byte
+    /// at the lowest offset as the lowest of the value. It changes nothing.
+    ///
+    /// # Errors
+    ///
+    /// 302: the width is not 1 to 8. 303: the slot is above 31, or one of the bytes is past the part, or none that the
+    /// device has. 601: the slot is empty. 902: there is no such guest, or the region is above 5.
+    ///
+    /// ```
+    /// # const BOARD: &str = include_str!("board.toml");
+    /// use pciguest::{Machine, Part};
+    ///
+    /// let mut machine = Machine::new(BOARD)?;
+    /// let a = machine.guest("a")?;
+    /// machine.device_write(a, 0, Part::Region(0), 9, 0x5a)?;
+    /// assert_eq!(machine.device_read_wide(a, 0, Part::Region(0), 8, 4)?, 0x5a00);
+    /// assert_eq!(machine.device_read_wide(a, 0, Part::Region(0), 4093, 4).unwrap_err().to_string(), "303 range");
+    /// # Ok::<(), pciguest::Error>(())
+    /// ```
+    pub fn device_read_wide(
+        &mut self,
+        guest: Guest,
+        slot: u64,
+        part: Part,
+        offset: u64,
+        width: u32,
+    ) -> Result<u64, Error> {
+        let mut value = 0;
+        // SAFETY: `value` is a place of its own.
+        answered(unsafe {
+            raw::pciguest_device_read_wide(
+                &mut self.handle,
+                guest.index(),
+                slot,
+                part.number(),
+                offset,
+                width,
+                &mut value,
+            )
+        })?;
+        Ok(value)
+    }
+
+    /// Writes the low 1 to 8 bytes of a value so, whatever a guest's writes may change of them. Refused as a read is; then
+    /// none of them is written.
+    ///
+    /// ```
+    /// # const BOARD: &str = include_str!("board.toml");
+    /// use pciguest::{Machine, Part};
+    ///
+    /// let mut machine = Machine::new(BOARD)?;
+    /// let a = machine.guest("a")?;
+    /// machine.device_write_wide(a, 0, Part::Region(0), 8, 4, 0x1234_5678)?;
+    /// assert_eq!(machine.device_read(a, 0, Part::Region(0), 9)?, 0x56);
+    /// # Ok::<(), pciguest::Error>(())
+    /// ```
+    pub fn device_write_wide(
+        &mut self,
+        guest: Guest,
+        slot: u64,
+        part: Part,
+        offset: u64,
+        width: u32,
+        value: u64,
+    ) -> Result<(), Error> {
+        // SAFETY: no pointer but the handle is passed.
+        answered(unsafe {
+            raw::pciguest_device_write_wide(
+                &mut self.handle,
+                guest.index(),
+                slot,
+                part.number(),
+                offset,
+                width,
                 value,
             )
         })

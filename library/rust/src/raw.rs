@@ -14,8 +14,13 @@ pub const PATH: usize = 80;
 pub const BARS: usize = 6;
 pub const WINDOWS: usize = 3;
 
+pub const NOT_FORWARDED: u32 = 1;
+pub const CONTENDED: u32 = 2;
+pub const NOT_FOUND: u32 = 3;
+
 pub const REPLY: usize = 48;
 pub const WORDS: usize = 20;
+pub const GUEST_NAME: usize = 16;
 
 pub const OK: u32 = 0;
 /// not TOML
@@ -229,6 +234,76 @@ impl Default for Function {
     }
 }
 
+/// A function of a board that firmware drives, as the registers stand: no guest has it.
+#[repr(C)]
+pub struct BoardFunction {
+    /// its number as it is looked for: by the bridge above
+    pub function: Function,
+    /// 1 or 0: whether a configuration access by this number reaches it
+    pub is_found: u32,
+    /// 1 or 0: whether its Command opens I/O space
+    pub opens_io: u32,
+    /// 1 or 0: the same of memory
+    pub opens_memory: u32,
+}
+
+impl Default for BoardFunction {
+    fn default() -> BoardFunction {
+        BoardFunction {
+            function: Function::default(),
+            is_found: 0,
+            opens_io: 0,
+            opens_memory: 0,
+        }
+    }
+}
+
+/// A problem in the registers of a board, as a line of its audit tells it.
+#[repr(C)]
+pub struct Problem {
+    /// of enum pciguest_problem_kind
+    pub kind: u32,
+    /// PCIGUEST_IO or PCIGUEST_MEMORY; 0 where no cycle finds the function
+    pub space: u32,
+    /// the first that is not forwarded, or that both answer; else 0
+    pub address: u64,
+    /// of the function, as in struct pciguest_function
+    pub path: [u8; 80],
+    /// in bytes, without a 0
+    pub path_length: usize,
+    /// the register of its region, 0 to 5, or 6 where none is told
+    pub bar: u32,
+    /// of the bridge, of who answers too, or of what is found in its place
+    pub other: [u8; 80],
+    /// 0 where nothing is found
+    pub other_length: usize,
+    /// the register of the region there, or 6
+    pub other_bar: u32,
+    /// its number, by which no cycle finds it; else 0, as are the next two
+    pub bus: u32,
+    pub device: u32,
+    pub function: u32,
+}
+
+impl Default for Problem {
+    fn default() -> Problem {
+        Problem {
+            kind: 0,
+            space: 0,
+            address: 0,
+            path: [0; 80],
+            path_length: 0,
+            bar: 0,
+            other: [0; 80],
+            other_length: 0,
+            other_bar: 0,
+            bus: 0,
+            device: 0,
+            function: 0,
+        }
+    }
+}
+
 extern "C" {
     /// The version of the library that is linked or loaded, as PCIGUEST_VERSION_NUMBER has that of the header.
     pub fn pciguest_version() -> u32;
@@ -249,6 +324,18 @@ extern "C" {
         name: *const u8,
         length: usize,
         guest: *mut usize,
+    ) -> u32;
+    /// How many guests the machine has.
+    pub fn pciguest_guest_count(machine: *mut Handle, count: *mut usize) -> u32;
+    /// Writes the name of a guest by its index, from 0 to one less than pciguest_guest_count tells, and tells its
+    /// length; it has no 0 at its end. 902: there is less room than that, and nothing was written; or there is no such
+    /// guest, and nothing was told. PCIGUEST_GUEST_NAME is always enough room.
+    pub fn pciguest_guest_name(
+        machine: *mut Handle,
+        guest: usize,
+        text: *mut u8,
+        room: usize,
+        needed: *mut usize,
     ) -> u32;
     /// Reads as a guest, by the guest's own view: slot and offset, port, or address. What is read is what the guest's
     /// own functions answer, each a register file by itself; all ones where nothing of the guest's answers. A read
@@ -377,6 +464,28 @@ extern "C" {
         part: u32,
         offset: u64,
         value: u8,
+    ) -> u32;
+    /// Reads so 1 to 8 bytes at any offset, all of one part; the byte at the lowest offset is the lowest of the value.
+    /// 302: the width is not 1 to 8. 303: one of the bytes is past the part, or none that the device has. Where one of
+    /// them is refused, the call is. Other numbers as above.
+    pub fn pciguest_device_read_wide(
+        machine: *mut Handle,
+        guest: usize,
+        slot: u64,
+        part: u32,
+        offset: u64,
+        width: u32,
+        value: *mut u64,
+    ) -> u32;
+    /// Writes so the low bytes of a value, as many as it is wide. Where one of the bytes is refused, none is written.
+    pub fn pciguest_device_write_wide(
+        machine: *mut Handle,
+        guest: usize,
+        slot: u64,
+        part: u32,
+        offset: u64,
+        width: u32,
+        value: u64,
     ) -> u32;
     /// Where the region that begins at a base address register, 0 to 5, stands now, in the guest's own view. It takes
     /// no memory and changes nothing. The answer stays until the guest writes Command or a base address register of
@@ -516,6 +625,17 @@ extern "C" {
         room: usize,
         written: *mut usize,
     ) -> u32;
+    /// How many functions the board has, endpoints and bridges.
+    pub fn pciguest_board_count(board: *mut BoardHandle, count: *mut usize) -> u32;
+    /// The function at an index, from 0 to one less than pciguest_board_count tells, in the order of paths, as the
+    /// registers stand: by which number it is looked for and whether that reaches it, where its base address registers
+    /// or windows are, whatever firmware did of them so far, and whether its Command opens their spaces. It takes no
+    /// memory and changes nothing, CONFIG_ADDRESS neither. 902: there is no such function.
+    pub fn pciguest_board_function(
+        board: *mut BoardHandle,
+        index: usize,
+        function: *mut BoardFunction,
+    ) -> u32;
     /// Writes what is wrong in the registers of a board as they stand, whoever wrote them: a line for each problem, and
     /// a last line `audit: ok` or `audit: N problems`. A problem is a byte of an open region that a bridge above
     /// doesn't forward, an address that two answer on one bus, or a function that no cycle finds. It tells the text's
@@ -526,6 +646,15 @@ extern "C" {
         text: *mut u8,
         room: usize,
         needed: *mut usize,
+        count: *mut usize,
+    ) -> u32;
+    /// Writes a row for each problem that pciguest_board_audit has a line of, in the same order, and tells how many
+    /// there are. The board stays as it is. 902: there is room for fewer rows than that, whose number alone is told.
+    /// 299: out of memory.
+    pub fn pciguest_board_problems(
+        board: *mut BoardHandle,
+        problems: *mut Problem,
+        room: usize,
         count: *mut usize,
     ) -> u32;
     /// Sets up a board that is at reset as pciguest_new does, in place of firmware of one's own, and gives its

@@ -1,6 +1,6 @@
 //! Firmware on `boards/main.toml`, by calls, and what is refused.
 
-use pciguest::{Board, Error, HostAt, Machine};
+use pciguest::{Board, BoardProblem, Error, HostAt, Machine, Ranges, Space};
 use std::thread;
 
 const BOARD: &str = include_str!("../../../boards/main.toml");
@@ -48,6 +48,55 @@ fn ports_lines_and_numbers_reach_the_same() -> Result<(), Error> {
     assert_eq!(board.run_line("# a comment")?, None);
     let reply = board.run_line("a cr 0 0 4")?;
     assert_eq!(reply.as_deref(), Some("?: refused 402 unknown guest"));
+    Ok(())
+}
+
+#[test]
+fn functions_are_told_as_the_registers_stand() -> Result<(), Error> {
+    let mut board = Board::new(BOARD)?;
+    assert_eq!(board.count()?, 4);
+    let at_reset = board.functions()?;
+    let found: Vec<bool> = at_reset.iter().map(|told| told.is_found).collect();
+    assert_eq!(found, [true, true, false, false]);
+    assert!(at_reset.iter().all(|told| told.function.seat.is_none()));
+    board.write(config(0, 2, 0x18), 4, 0x0001_0100)?;
+    board.write(config(1, 1, 0x10), 4, 0xc000_0000)?;
+    board.write(config(1, 1, 4), 2, 2)?;
+    let told = board.function(3)?;
+    assert_eq!(told.function.path, "2.0/1.0");
+    assert_eq!((told.function.bus, told.function.device), (1, 1));
+    assert!(told.is_found && told.opens_memory && !told.opens_io);
+    let Ranges::Regions(regions) = told.function.ranges else {
+        panic!("a bridge");
+    };
+    assert_eq!(regions[0].map(|region| region.first), Some(0xc000_0000));
+    assert_eq!(number(board.function(4)), 902);
+    Ok(())
+}
+
+#[test]
+fn problems_are_told_one_by_one() -> Result<(), Error> {
+    let mut board = Board::new(BOARD)?;
+    let lost = |path: &str, device| BoardProblem::NotFound {
+        path: path.to_owned(),
+        number: (0, device, 0),
+        instead: (device == 1).then(|| "1.0".to_owned()),
+    };
+    assert_eq!(board.problems()?, [lost("2.0/0.0", 0), lost("2.0/1.0", 1)]);
+    board.write(config(0, 2, 0x18), 4, 0x0001_0100)?;
+    assert_eq!(board.problems()?, []);
+    board.write(config(1, 1, 0x10), 4, 0xc000_0000)?;
+    board.write(config(1, 1, 4), 2, 2)?;
+    let region = BoardProblem::NotForwarded {
+        path: "2.0/1.0".to_owned(),
+        register: 0,
+        bridge: "2.0".to_owned(),
+        space: Space::Memory,
+        address: 0xc000_0000,
+    };
+    assert_eq!(board.problems()?, [region]);
+    let mut largest = Board::new(LARGEST)?;
+    assert_eq!(largest.problems()?.len(), largest.audit()?.problems);
     Ok(())
 }
 

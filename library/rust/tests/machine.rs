@@ -63,6 +63,51 @@ fn a_guest_uses_its_function() -> Result<(), Error> {
 }
 
 #[test]
+fn the_guests_have_names() -> Result<(), Error> {
+    let mut machine = Machine::new(BOARD)?;
+    assert_eq!(machine.guests()?, ["a", "b"]);
+    let b = machine.guest("b")?;
+    assert_eq!(machine.guest_name(b)?, "b");
+    for index in [2, usize::MAX] {
+        assert_eq!(number(machine.guest_name(Guest::of_index(index))), 902);
+    }
+    Ok(())
+}
+
+#[test]
+fn a_device_has_wide_registers() -> Result<(), Error> {
+    let mut machine = Machine::new(BOARD)?;
+    let a = machine.guest("a")?;
+    machine.device_write_wide(a, 0, Part::Config, 6, 2, 0x12_5aa5)?;
+    assert_eq!(machine.read(a, config(0, 6), 2)?, 0x5aa5);
+    assert_eq!(machine.device_read_wide(a, 0, Part::Config, 6, 2)?, 0x5aa5);
+    let region = Part::Region(1);
+    machine.device_write_wide(a, 0, region, 1, 8, 0x0123_4567_89ab_cdef)?;
+    assert_eq!(machine.device_read(a, 0, region, 8)?, 0x01);
+    assert_eq!(
+        machine.device_read_wide(a, 0, region, 0, 8)?,
+        (0x0123_4567_89ab_cdef << 8) | u64::from(machine.device_read(a, 0, region, 0)?)
+    );
+    for (offset, width, answer) in [(0, 0, 302), (0, 9, 302), (4093, 4, 303), (u64::MAX, 1, 303)] {
+        assert_eq!(
+            number(machine.device_read_wide(a, 0, region, offset, width)),
+            answer
+        );
+        assert_eq!(
+            number(machine.device_write_wide(a, 0, region, offset, width, 0)),
+            answer
+        );
+    }
+    assert_eq!(machine.device_read(a, 0, Part::Config, 7)?, 0x5a);
+    assert_eq!(
+        number(machine.device_write_wide(a, 0, Part::Config, 7, 2, 0)),
+        303
+    );
+    assert_eq!(machine.device_read(a, 0, Part::Config, 7)?, 0x5a);
+    Ok(())
+}
+
+#[test]
 fn a_guest_finds_its_function_by_ports() -> Result<(), Error> {
     let mut machine = Machine::new(BOARD)?;
     let a = machine.guest("a")?;

@@ -1,0 +1,21 @@
+-- What C is told of a function of a board that firmware drives: PCI Local Bus 3.0, chapter 6; PCI-to-PCI Bridge
+-- Architecture 1.2, chapter 3.
+--     driven_row f      all that is told of it
+--     driven_left old f      what a call leaves where it goes: the function, or what stood there
+use Rattle.std.specs.Prelude.{Option, Some, None}
+use Rattle.session.specs.DrivenFunctions.{DrivenFunctionNow}
+use Rattle.pciguest_c.specs.QueriesTold.{one_if}
+use Rattle.pciguest_c.specs.FunctionsTold.{function_row}
+use Rattle.pciguest_c.specs.declared.driven_calls.DrivenRow.{DrivenRow}
+
+abbrev pub driven_row : DrivenFunctionNow → DrivenRow
+driven_row f = record {
+  function = function_row f.function;
+  is_found = one_if f.is_found;
+  opens_io = one_if f.opens_io;
+  opens_memory = one_if f.opens_memory;
+}
+
+abbrev pub driven_left : DrivenRow → Option DrivenFunctionNow → DrivenRow
+driven_left old None = old
+driven_left old (Some f) = driven_row f

@@ -1,0 +1,94 @@
+//! What is told of each function of a board that firmware drives, as its registers stand.
+ghost use Rattle.std.specs.Prelude.{◌≡◌, length, option_map};
+ghost use Rattle.model_registers.specs.Decoding.{opens_space};
+ghost use Rattle.model_board.specs.Cycles.{reached};
+ghost use Rattle.model_board.specs.State.{BoardFunction};
+ghost use Rattle.model_audit.specs.Orderly.{IsStateOfBoard};
+ghost use Rattle.model_handoff.specs.Functions.{is_there};
+ghost use Rattle.paths.specs.BusAddresses.{bus_address_of};
+ghost use Rattle.bars.specs.Kinds.{named_space};
+ghost use Rattle.session.specs.DrivenFunctions.{driven_function_named, driven_function_nth};
+
+use crate::board::Board;
+use function_identity::{address_of, identity_nth};
+use host_bridge::{Bdf, Host, Path, Space};
+use monitor::FunctionNow;
+
+/// A function of a board that firmware drives: what is told of it, with no guest that has it; whether a
+/// configuration cycle for its number reaches it; and which spaces its Command opens.
+#[derive(Debug, Drop)]
+pub struct DrivenFunction {
+    pub function: FunctionNow,
+    pub is_found: bool,
+    pub opens_io: bool,
+    pub opens_memory: bool,
+}
+
+/// Whether the word of the Command register opens a space.
+fn opens(command: u32, space: Space) -> bool
+    ensures { result ≡ opens_space command (named_space space) }
+{
+    command & u32::from(space.command_bit()) != 0
+}
+
+/// Whether a configuration cycle for a number reaches the function at a path.
+fn is_found(host: &mut Host, at: Bdf, path: &Path) -> bool
+    ensures found { let found = reached host.old.state.functions (bus_address_of at) in
+        result ≡ is_there path.now (option_map (λ (f : BoardFunction). f.path) found) }
+    ensures kept { host.new ≡ host.old }
+{
+    let Some(index) = host.index_reached(at) else {
+        return false;
+    };
+    match host.path_nth(index) {
+        Some(other) => other == *path,
+        None => false,
+    }
+}
+
+/// What is told of the function at an index.
+fn driven_function_nth(host: &mut Host, index: usize) -> Option<DrivenFunction>
+    requires { IsStateOfBoard host.old.state.functions }
+    ensures told { option_map driven_function_named result
+        ≡ driven_function_nth host.old.state index }
+    ensures kept { host.new ≡ host.old }
+{
+    let path = host.path_nth(index)?;
+    let identity = identity_nth(host, index)?;
+    let ranges = host.ranges_nth(index)?;
+    let command = host.number_nth(index, 4, 2)?;
+    let at = address_of(host, &path);
+    let is_found = is_found(host, at, &path);
+    Some(DrivenFunction {
+        function: FunctionNow {
+            path,
+            at,
+            identity,
+            ranges,
+            seat: None,
+        },
+        is_found,
+        opens_io: opens(command, Space::Io),
+        opens_memory: opens(command, Space::Mem),
+    })
+}
+
+impl Board {
+    /// How many functions the board has, bridges among them.
+    pub fn count(&self) -> usize
+        ensures { result ≡ length self.now.state.functions }
+    {
+        self.host.count()
+    }
+
+    /// What is told of the function at an index, in path order, and none past the last: where it stands, its
+    /// number, its identity, its regions or windows where the registers have them, whether a cycle for its number
+    /// reaches it, and which spaces its Command opens. Nothing changes, and no memory is taken.
+    pub fn function(&mut self, index: usize) -> Option<DrivenFunction>
+        ensures told { option_map driven_function_named result
+            ≡ driven_function_nth self.old.state index }
+        ensures after { self.new ≡ self.old }
+    {
+        driven_function_nth(&mut self.host, index)
+    }
+}
