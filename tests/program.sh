@@ -245,9 +245,9 @@ ready: 2.0/1.0 bar0 at 0x0 size 0x1000000 is closed
 ready: 7 lacks
 END
 ends_with_fault 'ready, a board at reset' '208 not ready' ready "$boards/main.toml" < /dev/null
-full 'ready, a board at reset' ready "$boards/main.toml" < /dev/null
 { echo 'host: ok'; cat wanted.out; } > wanted.more; mv wanted.more wanted.out
 ends_with_fault 'ready, a last line without a line feed' '208 not ready' ready "$boards/main.toml" < <(printf 'host mw 0 4 1')
+full 'ready, a board at reset' ready "$boards/main.toml" < /dev/null
 fails_with 'ready, a faulty file' '107 size' ready "$boards/refused/size.toml" < /dev/null
 fails_with 'ready, no such file' '702 board file' ready nothing.toml < /dev/null
 fails_with 'ready, standard input closed' '501 read failed' ready "$boards/main.toml" <&-

@@ -51,7 +51,7 @@ class Transcripts(unittest.TestCase):
 
     def test_rows_of_the_program(self):
         files = [file for file in (places.TOP / "tests/rows").glob("*.rows")
-                 if "\n== list" not in file.read_text() and "\nwith " not in file.read_text()]
+                 if not any(f"\n{words} " in file.read_text() for words in ("== list", "== ready", "with"))]
         self.assertGreater(len(files), 3)
         for file in files:
             sections = transcript.read(file.read_text())
