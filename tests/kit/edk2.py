@@ -17,8 +17,8 @@ from typing import NamedTuple
 import places
 from pciguest._board_file import functions, text_of
 from pciguest._driven import Library, Program
-from pciguest._judge import findings, kind_of, registers
-from pciguest._lacks import memory_window, prefetchable_window
+from pciguest._judge import findings, kind_of
+from registers import memory_window, prefetchable_window, registers
 
 board, boot, machine, rules, trees = places.modules("firmware", "board", "boot", "machine", "rules", "trees")
 
@@ -87,7 +87,7 @@ class Count:
                 reply = driven.run_line(line)
                 if reply != "host: ok":
                     self.fail(f"tree {seed}: {line}: {reply}")
-            found = findings(driven, document)
+            found = findings(driven)
             ours = registers(driven, document)
         self.compare(seed, reading.reset, cells, ours)
         self.add_windows(document, ours)

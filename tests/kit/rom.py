@@ -72,7 +72,7 @@ def examine(rom, file, options, maker):
         lines = LineBoard(driven)
         machine = pc.PC(lines, rom, options.old)
         ended, is_wrong = boot(machine, options.ending, options.time)
-        found = findings(driven, document)
+        found = findings(driven)
     words = [line.strip() for line in machine.told.splitlines() if line.strip()]
     print(f"{file.name}: {ended}, after {lines.count} accesses; console: {words[-1] if words else 'nothing'}")
     print(*(f"  {line}" for line in found or ["ready"]), sep="\n", flush=True)

@@ -7,7 +7,7 @@ import tomllib
 import places
 from pciguest._board_file import functions
 
-audited, board, placement, rules = places.modules("fuzz", "audited", "board", "placement", "rules")
+audited, board, placement, ready, rules = places.modules("fuzz", "audited", "board", "placement", "ready", "rules")
 
 ACCESS = re.compile(r"host c([rw]) (\w\w):(\w\w)\.(\d) (\w+) ([124])(?: (\w+))?")
 LATCH = re.compile(r"host i([rw]) 0xcf8 4(?: (\w+))?")
@@ -38,7 +38,8 @@ class SecondHandBoard:
     """The board of a document at reset."""
 
     def __init__(self, document):
-        self.state, self.latch = audited.State(board_of(document)), 0
+        self.board, self.latch = board_of(document), 0
+        self.state = audited.State(self.board)
 
     def run_line(self, line):
         if not line.split() or line.startswith("#"):
@@ -65,8 +66,8 @@ class SecondHandBoard:
         read = (1 << 8 * width) - 1 if path is None else self.state.read_bytes(path, offset, width)
         return f"host: 0x{read:0{2 * width}x}"
 
-    def audit_text(self):
-        return "".join(f"{line}\n" for line in audited.audit(self.state))
+    def ready_text(self):
+        return "".join(f"{line}\n" for line in ready.ready(self.board, self.state))
 
     def close(self):
         pass

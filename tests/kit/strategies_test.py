@@ -11,8 +11,9 @@ from hypothesis import strategies as st
 from pciguest import transcript
 from pciguest._board_file import functions
 from pciguest._driven import Library, Program
-from pciguest._judge import findings, registers
+from pciguest._judge import findings
 from pciguest.strategies import PLAIN, boards, firmware, scripts
+from registers import registers
 from second_hand import SecondHandBoard, board_of
 
 (answers,) = places.modules("fuzz", "answers")
@@ -55,7 +56,7 @@ def test_firmware(data):
             reply, other = first.run_line(line), second.run_line(line)
             if reply and line.split()[1:2] in (["cr"], ["cw"]) and "refused" not in reply:
                 assert reply == other, line
-        assert findings(first, document) == findings(second, document)
+        assert findings(first) == findings(second)
         cells = registers(first, document)
         for one in functions(document):
             state = second.state.read_bytes(one.path, 0, 256).to_bytes(256, "little")

@@ -1,4 +1,4 @@
-"""Board files as documents, random boards, smaller ones, and what a register state lacks."""
+"""Board files as documents, random boards, smaller ones, and what is told of firmware."""
 
 import tomllib
 import unittest
@@ -7,9 +7,9 @@ import places
 from pciguest._board_file import functions, text_of
 from pciguest._drawing import PLAIN, RandomChoices, draw_board
 from pciguest._firmware_run import findings
-from pciguest._judge import KINDS, Sizing, first_register, kind_of, registers, same_problem
-from pciguest._lacks import lacks
+from pciguest._judge import KINDS, Sizing, first_register, kind_of, same_problem
 from pciguest._shrink import shrunk
+from registers import registers
 from second_hand import SecondHand, SecondHandBoard
 
 BOARDS = places.TOP / "boards"
@@ -24,10 +24,6 @@ def after(*lines):
     for line in [*SET_UP, *lines]:
         assert board.run_line(line) in ("host: ok", None)
     return board
-
-
-def lacking(*lines):
-    return lacks(AUDITED, registers(after(*lines), AUDITED))
 
 
 class Documents(unittest.TestCase):
@@ -86,41 +82,15 @@ class Shrinking(unittest.TestCase):
         self.assertEqual([one.regions() for one in functions(found)], [[(0, "mem64p", 16)]])
 
 
-class Lacks(unittest.TestCase):
+class Findings(unittest.TestCase):
     def test_set_up_is_ready(self):
-        self.assertEqual(lacking(), [])
-        self.assertEqual(findings(after(), AUDITED), [])
-
-    def test_closed(self):
-        self.assertEqual(lacking("host cw 00:01.0 4 2 1"), ["1.0 bar0 at 0xc0500000 size 0x1000 is closed"])
-
-    def test_outside(self):
-        self.assertEqual(lacking("host cw 00:01.0 0x10 4 0xe0000000"),
-                         ["1.0 bar0 at 0xe0000000 size 0x1000: 0xe0000000 is outside the apertures"])
-        self.assertEqual(lacking("host cw 00:01.0 0x10 4 0xdffff000"), [])  # up to the last byte
-        self.assertEqual(lacking("host cw 01:00.0 0x1c 4 5"),
-                         ["2.0/0.0 bar2 at 0x500000000 size 0x100000: 0x500000000 is outside the apertures"])
-        # one that begins inside and ends outside
-        self.assertEqual(lacks({**AUDITED, "host": {**AUDITED["host"], "mem": [0xC0000000, 0xC05003FF]}},
-                               registers(after(), AUDITED)),
-                         ["1.0 bar0 at 0xc0500000 size 0x1000: 0xc0500400 is outside the apertures"])
-
-    def test_prefetched(self):
-        line = "2.0/0.0 bar0 at 0xc0200000 size 0x200000: 2.0 prefetches 0xc0300000"
-        shorter = ["host cw 00:02.0 0x20 4 0xc020c000", "host cw 00:02.0 0x24 4 0xc030c030",
-                   "host cw 00:02.0 0x28 4 0", "host cw 00:02.0 0x2c 4 0"]
-        self.assertIn(line, lacking(*shorter))
-        # both windows forward it: nothing is prefetched that must not be
-        self.assertNotIn(line, lacking("host cw 00:02.0 0x20 4 0xc030c000", *shorter[1:]))
-
-    def test_primary(self):
-        self.assertEqual(lacking("host cw 01:02.0 0x18 1 0"), ["2.0/2.0: Primary is 00 on bus 01"])
+        self.assertEqual(findings(after()), [])
 
     def test_reading_registers_changes_nothing(self):
         board = after("host cw 00:03.0 0x18 4 0x00010100", "host iw 0xcf8 4 0x80001234")
-        before = board.audit_text(), board.run_line("host ir 0xcf8 4")
+        before = board.ready_text(), board.run_line("host ir 0xcf8 4")
         cells = registers(board, AUDITED)
-        self.assertEqual((board.audit_text(), board.run_line("host ir 0xcf8 4")), before)
+        self.assertEqual((board.ready_text(), board.run_line("host ir 0xcf8 4")), before)
         self.assertEqual(cells, registers(board, AUDITED))
         self.assertEqual({at: value[0x18:0x1B].hex() for at, value in cells.items() if value[0x0E] & 0x7F},
                          {"2.0": "000102", "2.0/2.0": "010202", "3.0": "000101"})
@@ -138,7 +108,7 @@ class Lacks(unittest.TestCase):
         self.assertEqual([first_register([0xC, 4, 1, 0, 4, 4], register) for register in range(6)], [0, 0, 2, 3, 4, 4])
 
     def test_each_finding_has_a_kind(self):
-        kinds = {kind_of(line) for line in findings(SecondHandBoard(AUDITED), AUDITED)}
+        kinds = {kind_of(line) for line in findings(SecondHandBoard(AUDITED))}
         self.assertEqual(kinds, {"unreached", "closed"})
         self.assertLess(kinds, set(KINDS))
 

@@ -13,15 +13,15 @@ from typing import Optional, Protocol
 from . import _board, _texts
 from ._child import Child, Limits, Misbehaviour
 
-#: the last line of an audit's text
-LAST = re.compile(r"audit: (ok|\d+ problems?)\Z")
+#: the last line of the text of readiness
+LAST = re.compile(r"ready: (ok|\d+ lacks?)\Z")
 
 
 class DrivenBoard(Protocol):
     """A board that firmware drives by lines, from reset on."""
 
     def run_line(self, line: str) -> Optional[str]: ...
-    def audit_text(self) -> str: ...
+    def ready_text(self) -> str: ...
     def close(self) -> None: ...
 
 
@@ -41,8 +41,8 @@ class LibraryBoard:
     def run_line(self, line: str) -> Optional[str]:
         return self.board.run_line(line)
 
-    def audit_text(self) -> str:
-        return self.board.audit().text
+    def ready_text(self) -> str:
+        return f"{self.board.run_line('host ready')}\n"
 
     def close(self) -> None:
         self.board.close()
@@ -88,8 +88,8 @@ class ProgramBoard:
         words = line.split()
         return None if not words or words[0].startswith("#") else self.ask(line)
 
-    def audit_text(self) -> str:
-        lines = [self.ask("host audit")]
+    def ready_text(self) -> str:
+        lines = [self.ask("host ready")]
         while not LAST.match(lines[-1]):
             lines.append(self.reply())
         return "".join(f"{line}\n" for line in lines)

@@ -54,7 +54,7 @@ class Firmware:
                 except Misbehaviour as wrong:
                     told = f"the firmware {wrong.told}{after(lines)}"
                     return Run(lines, replies, [told], wrong.kind, child.last_words(), child.longest_silence)
-            found += findings(board, document)
+            found += findings(board)
         asked = [each for each in found if kind_of(each) not in self.allowed]
         return Run(lines, replies, asked, kind_of(asked[0]) if asked else None)
 
@@ -92,7 +92,7 @@ def since(maker: Maker, document: Document, lines: List[str], finding: str) -> i
     it was there at reset and ever since."""
     wanted, place = same_problem(finding), 0
     with closing(maker.board(text_of(document))) as board:
-        sizing, was = Sizing(board), wanted in problems(board, document)
+        sizing, was = Sizing(board), wanted in problems(board)
         for count, line in enumerate(lines, 1):
             if board.run_line(line) != "host: ok":
                 continue
@@ -100,10 +100,10 @@ def since(maker: Maker, document: Document, lines: List[str], finding: str) -> i
                 if sizing.seen(line) == finding:
                     return count
                 continue
-            now = wanted in problems(board, document)
+            now = wanted in problems(board)
             place, was = (count if now and not was else place), now
     return place
 
 
-def problems(board: DrivenBoard, document: Document) -> Set[str]:
-    return {same_problem(each) for each in findings(board, document)}
+def problems(board: DrivenBoard) -> Set[str]:
+    return {same_problem(each) for each in findings(board)}

@@ -1,16 +1,12 @@
-"""The judge of what firmware did: all that is wrong in the registers that it left, as lines.
-
-This is the one place that says what firmware has to reach. The problems are those of the library's audit; the lacks are
-told by `_lacks` from the registers, which are read here from the board."""
+"""The judge of what firmware did: all that is wrong in the registers that it left and all that they lack, as lines. The
+board tells them, by the line `host ready`."""
 
 from __future__ import annotations
 
 import re
-from typing import Dict, List, Optional, Tuple
+from typing import List, Optional, Tuple
 
-from ._board_file import Document, Function, functions
 from ._driven import DrivenBoard
-from ._lacks import Registers, lacks, number
 
 LATCH, DATA = 0xCF8, 0xCFC
 
@@ -36,55 +32,9 @@ def _asked(board: DrivenBoard, line: str) -> int:
     return int((board.run_line(line) or "").split()[-1], 16)
 
 
-class Walk:
-    """Reads the registers of all declared functions, whatever the bus numbers are: on the way down each bridge gets
-    numbers that lead behind it alone, and on the way up those that it had. So the board stays as it was."""
-
-    def __init__(self, board: DrivenBoard, document: Document) -> None:
-        self.board, self.found = board, {}  # type: ignore[var-annotated]
-        self.on_bus: Dict[object, List[Function]] = {}
-        for function in functions(document):
-            self.on_bus.setdefault(function.path[:-1], []).append(function)
-
-    def number(self, bus: int, function: Function) -> str:
-        return f"{bus:02x}:{function.path[-1][0]:02x}.{function.path[-1][1]}"
-
-    def take(self, bus: int, function: Function) -> None:
-        words = (_asked(self.board, f"host cr {self.number(bus, function)} {offset} 4") for offset in range(0, 256, 4))
-        self.found[function.at] = b"".join(word.to_bytes(4, "little") for word in words)
-
-    def give_numbers(self, bus: int, bridge: Function, numbers: int) -> None:
-        self.board.run_line(f"host cw {self.number(bus, bridge)} 0x18 4 {numbers:#x}")
-
-    def go(self, bus: int, above: object) -> None:
-        """Reads a bus and all behind it."""
-        here = self.on_bus.get(above, [])
-        bridges = [function for function in here if function.is_bridge]
-        for function in here:
-            self.take(bus, function)
-        for bridge in bridges:
-            self.give_numbers(bus, bridge, 0x0000FF00)  # takes no bus
-        for bridge in bridges:
-            self.give_numbers(bus, bridge, 0xFF << 16 | bus + 1 << 8)
-            self.go(bus + 1, bridge.path)
-            self.give_numbers(bus, bridge, 0x0000FF00)
-        for bridge in bridges:
-            self.give_numbers(bus, bridge, number(self.found[bridge.at], 0x18, 4))
-
-
-def registers(board: DrivenBoard, document: Document) -> Registers:
-    """The configuration bytes of each declared function. The board stays as it is."""
-    latch = _asked(board, f"host ir {LATCH:#x} 4")
-    walk = Walk(board, document)
-    walk.go(0, ())
-    board.run_line(f"host iw {LATCH:#x} 4 {latch:#x}")
-    return walk.found
-
-
-def findings(board: DrivenBoard, document: Document) -> List[str]:
-    """All that is wrong in the registers as they stand, each in a line; the board stays as it is."""
-    problems = board.audit_text().splitlines()[:-1]
-    return problems + [f"ready: {line}" for line in lacks(document, registers(board, document))]
+def findings(board: DrivenBoard) -> List[str]:
+    """All that is wrong or lacking in the registers as they stand, each in a line; the board stays as it is."""
+    return board.ready_text().splitlines()[:-1]
 
 
 def same_problem(finding: str) -> str:
