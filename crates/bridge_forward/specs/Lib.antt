@@ -15,3 +15,4 @@ pub mod Locating
 pub mod RoutingRows
 pub mod BasesNow
 pub mod ByIndex
+pub mod BridgeDecls

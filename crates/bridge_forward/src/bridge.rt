@@ -127,6 +127,13 @@ impl BridgeFn {
         }
     }
 
+    /// What is declared of the bridge.
+    pub(crate) fn decl(&self) -> BridgeDecl
+        ensures { result ≡ self.now.decl }
+    {
+        self.decl
+    }
+
     /// What Command holds.
     pub(crate) fn command(&self) -> u16
         ensures { result ≡ command_word self.now.file }

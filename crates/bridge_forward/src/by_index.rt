@@ -1,13 +1,16 @@
-//! What is told of a function by its index, as its registers stand. No answer takes memory.
+//! What is told of a function by its index, as its registers stand, and what is declared of a bridge. No answer takes
+//! memory.
 ghost use Rattle.std.specs.Prelude.{◌≡◌, length, option_map, slice_get};
 ghost use Rattle.model_registers.specs.Registers.{config, number};
 ghost use Rattle.model_registers.specs.ByteEnables.{LiesInWord};
 ghost use Rattle.model_board.specs.State.{BoardFunction};
+ghost use Rattle.bridge_forward.specs.BridgeDecls.{declared_bridge_nth};
 ghost use Rattle.bridge_forward.specs.ByIndex.{ranges_told, ranges_nth};
 
 use crate::bus::Bus;
 use crate::routing::Window;
 use bars::BasedRegion;
+use headers::BridgeDecl;
 use paths::Path;
 
 /// The regions of an endpoint, each at the index of its first register, or the windows of a bridge, where
@@ -47,6 +50,17 @@ impl Bus {
     {
         let node = self.nodes.get(index)?;
         Some(node.function.number(off, width))
+    }
+
+    /// What is declared of the bridge at an index, and None where no bridge stands.
+    pub fn bridge_decl_nth(&self, index: usize) -> Option<BridgeDecl>
+        ensures { result ≡ declared_bridge_nth self.now index }
+    {
+        if index >= self.nodes.len() {
+            return None;
+        }
+        let node = &self.nodes[index];
+        node.function.bridge_decl()
     }
 
     /// The regions or windows of this function.

@@ -9,6 +9,7 @@ ghost use Rattle.model_board.specs.Board.{is_bridge};
 ghost use Rattle.model_board.specs.Routing.{ranges_of};
 ghost use Rattle.bars.specs.Slots.{bases_from};
 ghost use Rattle.bridge_forward.specs.BasesNow.{bases_of};
+ghost use Rattle.bridge_forward.specs.BridgeDecls.{declared_bridge};
 ghost use Rattle.bridge_forward.specs.ByIndex.{ranges_told};
 ghost use Rattle.bridge_forward.specs.RoutingRows.{named_ranges, primary_of, secondary_of};
 ghost use Rattle.model_board.specs.Lawful.{IsLawfulDecl};
@@ -21,6 +22,7 @@ use crate::endpoint::EndpointFn;
 use crate::routing::{Ranges, RoutingRow};
 use bars::BasedRegion;
 use config_bytes::{Op, enables_of, lowered};
+use headers::BridgeDecl;
 use paths::Path;
 use std::alloc::{AllocError, Global};
 
@@ -107,6 +109,16 @@ impl Function {
         match self {
             Function::Endpoint(endpoint) => endpoint.command(),
             Function::Bridge(bridge) => bridge.command(),
+        }
+    }
+
+    /// What is declared of it, if it is a bridge.
+    pub(crate) fn bridge_decl(&self) -> Option<BridgeDecl>
+        ensures { result ≡ declared_bridge (decl_of self.now) }
+    {
+        match self {
+            Function::Endpoint(_) => None,
+            Function::Bridge(bridge) => Some(bridge.decl()),
         }
     }
 

@@ -6,6 +6,7 @@ ghost use Rattle.model_registers.specs.ByteEnables.{LiesInWord, lanes};
 ghost use Rattle.model_registers.specs.DeviceBytes.{is_device_byte, set_value};
 ghost use Rattle.model_board.specs.State.{BoardFunction};
 ghost use Rattle.headers.specs.Places.{place_of};
+ghost use Rattle.bridge_forward.specs.BridgeDecls.{declared_bridge_nth};
 ghost use Rattle.bridge_forward.specs.ByIndex.{ranges_told, ranges_nth};
 ghost use Rattle.bridge_forward.specs.Lending.{endpoint_nth};
 ghost use Rattle.host_bridge.specs.ByIndex.{file_nth, with_file_nth, with_reset_nth};
@@ -14,7 +15,7 @@ ghost use Rattle.host_bridge.specs.Landings.{IsReached};
 
 use crate::host::Host;
 use bridge_forward::{Path, RangesNow};
-use headers::Place;
+use headers::{BridgeDecl, Place};
 
 impl Host {
     /// How many functions the board has.
@@ -39,6 +40,13 @@ impl Host {
             result ≡ option_map (λ (f : BoardFunction). number f.file (config off) width) (slice_get fs index) }
     {
         self.root.number_nth(index, off, width)
+    }
+
+    /// What is declared of the bridge at an index, and None where no bridge stands.
+    pub fn bridge_decl_nth(&self, index: usize) -> Option<BridgeDecl>
+        ensures { result ≡ declared_bridge_nth self.now.state.functions index }
+    {
+        self.root.bridge_decl_nth(index)
     }
 
     /// The regions of this function, or its windows.

@@ -121,6 +121,13 @@ impl Host {
         self.latch = Latch::new();
     }
 
+    /// What the address latch holds.
+    pub fn latch(&self) -> Latch
+        ensures { result ≡ self.now.state.latch }
+    {
+        self.latch
+    }
+
     /// Clears the address latch: it is 0 afterwards, and enables no CONFIG_DATA.
     pub fn clear_latch(&mut self)
         ensures { self.new ≡ with_latch 0 self.old }

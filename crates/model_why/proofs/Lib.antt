@@ -2,3 +2,4 @@ pub mod Examples
 pub mod Why
 pub mod Ways
 pub mod Answers
+pub mod Ports

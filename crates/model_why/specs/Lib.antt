@@ -3,3 +3,4 @@ pub mod Ways
 pub mod WhyLaws
 pub mod WhyText
 pub mod WhyExamples
+pub mod WhyPorts

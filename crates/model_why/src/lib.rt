@@ -2,6 +2,7 @@
 #![tactic(auto)]
 
 ghost use Rattle.model_why.specs.WhyExamples.{WhyExamples};
+ghost use Rattle.model_why.specs.WhyPorts.{PortsByLatch, PortExamples};
 ghost use Rattle.model_why.specs.WhyLaws.{AddressesExplained, NumbersExplained};
 ghost use Rattle.model_why.specs.WhyLaws.{OrderlyAnswersAlone, ReadyTellsNothing};
 
@@ -18,7 +19,13 @@ pub fn numbers_explained()
     ensures { NumbersExplained }
 {}
 
-/// What is told of some addresses and numbers.
+/// Each access at an I/O port goes where the address latch is said to make it go.
+pub fn ports_explained()
+    ensures { PortsByLatch }
+{}
+
+/// What is told of some addresses, numbers and ports.
 pub fn worked_examples()
-    ensures { WhyExamples }
+    ensures each { WhyExamples }
+    ensures ports { PortExamples }
 {}

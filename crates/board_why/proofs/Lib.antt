@@ -1,0 +1,4 @@
+pub mod Indexed
+pub mod Rows
+pub mod Regions
+pub mod Bridges
