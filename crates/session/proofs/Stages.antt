@@ -11,9 +11,8 @@ use Rattle.model_ready.specs.ReadyText.{ready_report}
 use Rattle.model_handoff.specs.Changes.{MachineNow, BeginsIn}
 use Rattle.model_handoff.specs.Regions.{first_fault}
 use Rattle.model_handoff.proofs.Served.{fault_decides}
-use Rattle.model_lines.specs.FirmwareLines.{line_output}
 use Rattle.model_lines.specs.GivenLaws.{IsGiven}
-use Rattle.model_lines.specs.Sessions.{DrivenNow, SessionNow, driven, given, is_handover, handed_over, after_handover, handover_output}
+use Rattle.model_lines.specs.Sessions.{DrivenNow, SessionNow, driven, given, is_handover, handed_over, after_handover, handover_output, told_output}
 use Rattle.model_lines.specs.Sessions.{after_session_line, session_output}
 use Rattle.model_lines.proofs.SessionLines.{no_audit, no_ready, handover_leaves}
 use Rattle.session.specs.Boards.{IsHandedOverAs}
@@ -41,8 +40,8 @@ pub record IsAnswered (x new : SessionNow) (line : Text) : Type 0 where
 
 handover_writes : (b : DrivenNow) (line : Text) → IsTrue (is_handover line) → session_output (driven b) line ≡ handover_output (first_fault b.world b.state)
 handover_writes b line asks =
-    ap₂ (λ (t r : Bool). cond t (audit b.state.functions) (cond r (ready_report b.world.apertures b.state.functions) (cond (is_handover line) (handover_output (first_fault b.world b.state)) (line_output b.state line)))) (no_audit line asks) (no_ready line asks)
-    ∙ ap (λ (u : Bool). cond u (handover_output (first_fault b.world b.state)) (line_output b.state line)) asks
+    ap₂ (λ (t r : Bool). cond t (audit b.state.functions) (cond r (ready_report b.world.apertures b.state.functions) (cond (is_handover line) (handover_output (first_fault b.world b.state)) (told_output b line)))) (no_audit line asks) (no_ready line asks)
+    ∙ ap (λ (u : Bool). cond u (handover_output (first_fault b.world b.state)) (told_output b line)) asks
 
 pub answered : (x new : SessionNow) → IsDriven x → IfSome (board_in x) (λ b. IsHandedOverAs b new) → (line : Text) → IsTrue (is_handover line) → IsAnswered x new line
 answered (driven b) new is handed line asks =
