@@ -74,8 +74,8 @@ fn missing_at(end: WayEnd, at: Bdf) -> Missing
             device: at.device,
             function: at.function,
         },
-        WayEnd::NoTaker(behind) => Missing::NoBridge {
-            behind,
+        WayEnd::NoTaker(path) => Missing::NoBridge {
+            behind: path,
             bus: at.bus,
         },
     }

@@ -3,3 +3,4 @@ pub mod Why
 pub mod Ways
 pub mod Answers
 pub mod Ports
+pub mod Guests

@@ -4,3 +4,5 @@ pub mod WhyLaws
 pub mod WhyText
 pub mod WhyExamples
 pub mod WhyPorts
+pub mod WhyGuests
+pub mod GuestExamples

@@ -2,6 +2,8 @@
 #![tactic(auto)]
 
 ghost use Rattle.model_why.specs.WhyExamples.{WhyExamples};
+ghost use Rattle.model_why.specs.GuestExamples.{GuestExamples};
+ghost use Rattle.model_why.specs.WhyGuests.{FoundAsLocated, ClosedAreAll, ClosedAreTrue};
 ghost use Rattle.model_why.specs.WhyPorts.{PortsByLatch, PortExamples};
 ghost use Rattle.model_why.specs.WhyLaws.{AddressesExplained, NumbersExplained};
 ghost use Rattle.model_why.specs.WhyLaws.{OrderlyAnswersAlone, ReadyTellsNothing};
@@ -24,8 +26,17 @@ pub fn ports_explained()
     ensures { PortsByLatch }
 {}
 
-/// What is told of some addresses, numbers and ports.
+/// What a guest is told of a place is where its access lands; each closed region that is told holds the address, and no
+/// other does.
+pub fn guests_explained()
+    ensures located { FoundAsLocated }
+    ensures closed { ClosedAreTrue }
+    ensures all { ClosedAreAll }
+{}
+
+/// What is told of some addresses, numbers and ports, and to a guest.
 pub fn worked_examples()
     ensures each { WhyExamples }
     ensures ports { PortExamples }
+    ensures guests { GuestExamples }
 {}
