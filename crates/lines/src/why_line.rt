@@ -1,6 +1,7 @@
 //! Lines of firmware that ask why something finds what it finds.
 ghost use Rattle.std.specs.Prelude.{◌≡◌, option_map};
-ghost use Rattle.model_lines.specs.WhyLines.{why_place, why_asked};
+ghost use Rattle.model_guests.specs.Text.{words};
+ghost use Rattle.model_lines.specs.WhyLines.{why_place, why_at, why_asked};
 ghost use Rattle.lines.specs.WhyLines.{why_asked_of};
 
 use crate::cursor::{form_word, is_end, name_word};
@@ -25,16 +26,32 @@ pub enum WhyAsked {
 fn why_place(space: &[u8], at: &[u8]) -> Option<WhyAsked>
     ensures { option_map why_asked_of result ≡ why_place space.now at.now }
 {
-    match space {
-        b"mem" => Some(WhyAsked::Mem {
-            addr: number_of(at)?,
-        }),
-        b"io" => Some(WhyAsked::Io { port: value(at)? }),
-        b"cfg" => Some(WhyAsked::Config {
-            bdf: bus_address(at)?,
-        }),
-        _ => None,
+    if space == b"mem".as_slice() {
+        let addr = number_of(at)?;
+        return Some(WhyAsked::Mem { addr });
     }
+    if space == b"io".as_slice() {
+        let port = value(at)?;
+        return Some(WhyAsked::Io { port });
+    }
+    if space == b"cfg".as_slice() {
+        let bdf = bus_address(at)?;
+        return Some(WhyAsked::Config { bdf });
+    }
+    None
+}
+
+/// What the text after `host why` asks about.
+#[tactic(auto, using(crate::proofs::WhyForms::no_place_of_more))]
+fn why_at(text: &[u8]) -> Option<WhyAsked>
+    ensures { option_map why_asked_of result ≡ why_at (words text.now) }
+{
+    let (space, text) = form_word(text)?;
+    let (at, rest) = form_word(text)?;
+    if !is_end(rest) {
+        return None;
+    }
+    why_place(space, at)
 }
 
 /// What a line asks about that asks why. The line is given without its line feed.
@@ -52,10 +69,5 @@ pub fn why_form(line: &[u8]) -> Option<WhyAsked>
     if second != b"why".as_slice() {
         return None;
     }
-    let (space, text) = form_word(text)?;
-    let (at, rest) = form_word(text)?;
-    if !is_end(rest) {
-        return None;
-    }
-    why_place(space, at)
+    why_at(text)
 }

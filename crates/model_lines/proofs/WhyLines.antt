@@ -9,7 +9,7 @@ use Rattle.model_guests.specs.Text.{Text, words}
 use Rattle.model_guests.specs.Grammar.{on_word, host, is_long}
 use Rattle.model_guests.specs.Lines as script
 use Rattle.model_lines.specs.FirmwareLines as firmware
-use Rattle.model_lines.specs.WhyLines.{WhyAsked, why_place, why_asked, why_asked_in, is_why_line, why_written, WhyLineExamples}
+use Rattle.model_lines.specs.WhyLines.{WhyAsked, why_at, why_asked, why_asked_in, is_why_line, why_written, WhyLineExamples}
 use Rattle.model_lines.specs.Sessions.{host_word, host_word_in, is_host_line}
 use Rattle.model_lines.specs.SessionLaws.{IsNoForm, WhyLinesAreNoForm}
 
@@ -32,20 +32,20 @@ on_true : (t : Bool) (o : Option WhyAsked) → IsTrue (is_some (if t then o else
 on_true true o is = (refl, is)
 on_true false o is = absurd (let wrong : false ≡ true = is in cc)
 
-has_no_form : (space at : Text) → IsNoFormOf (codes "host" ∷ codes "why" ∷ space ∷ at ∷ [])
-has_no_form space at = (refl, λ guests. refl)
+no_form_at : (ws : List Text) → IsTrue (is_some (why_at ws)) → IsNoFormOf (codes "host" ∷ codes "why" ∷ ws)
+no_form_at [] is = absurd (let wrong : false ≡ true = is in cc)
+no_form_at (a ∷ []) is = absurd (let wrong : false ≡ true = is in cc)
+no_form_at (a ∷ b ∷ []) is = (refl, λ guests. refl)
+no_form_at (a ∷ b ∷ c ∷ ws) is = absurd (let wrong : false ≡ true = is in cc)
 
 no_form_of : (ws : List Text) → IsTrue (is_some (why_asked_in ws)) → IsNoFormOf ws
 no_form_of [] is = absurd (let wrong : false ≡ true = is in cc)
 no_form_of (a ∷ []) is = absurd (let wrong : false ≡ true = is in cc)
-no_form_of (a ∷ b ∷ []) is = absurd (let wrong : false ≡ true = is in cc)
-no_form_of (a ∷ b ∷ c ∷ []) is = absurd (let wrong : false ≡ true = is in cc)
-no_form_of (a ∷ b ∷ c ∷ d ∷ []) is =
-    let first = on_true (bytes_eq a (codes "host")) (on_word b (codes "why") (why_place c d)) is in
-    let second = on_true (bytes_eq b (codes "why")) (why_place c d) first.1 in
-    subst IsNoFormOf (sym (ap₂ (λ (v w : Text). v ∷ w ∷ c ∷ d ∷ []) ((bytes_eq-Decides a (codes "host")).0 first.0)
-    ((bytes_eq-Decides b (codes "why")).0 second.0))) (has_no_form c d)
-no_form_of (a ∷ b ∷ c ∷ d ∷ e ∷ ws) is = absurd (let wrong : false ≡ true = is in cc)
+no_form_of (a ∷ b ∷ ws) is =
+    let first = on_true (bytes_eq a (codes "host")) (on_word b (codes "why") (why_at ws)) is in
+    let second = on_true (bytes_eq b (codes "why")) (why_at ws) first.1 in
+    subst IsNoFormOf (sym (ap₂ (λ (v w : Text). v ∷ w ∷ ws) ((bytes_eq-Decides a (codes "host")).0 first.0)
+    ((bytes_eq-Decides b (codes "why")).0 second.0))) (no_form_at ws second.1)
 
 no_form_by : (line : Text) (b : Bool) → is_long line ≡ b → IsTrue (is_some (if b then None else why_asked_in (words line))) → IsNoForm line
 no_form_by line true long is = absurd (let wrong : false ≡ true = is in cc)
@@ -60,13 +60,16 @@ why_lines_are_no_form line is = no_form_by line (is_long line) refl is
 
 -- ---- a line of two words doesn't ask why
 
+no_why_by_tests : (t u : Bool) → ◌≡◌ {A = Option WhyAsked} (if t then (if u then None else None) else None) None
+no_why_by_tests true true = refl
+no_why_by_tests true false = refl
+no_why_by_tests false u = refl
+
 no_why_in : (ws : List Text) → IsTrue (is_some (host_word_in ws)) → why_asked_in ws ≡ None
 no_why_in [] is = refl
 no_why_in (a ∷ []) is = refl
-no_why_in (a ∷ b ∷ []) is = refl
-no_why_in (a ∷ b ∷ c ∷ []) is = refl
-no_why_in (a ∷ b ∷ c ∷ d ∷ []) is = absurd (let wrong : false ≡ true = is in cc)
-no_why_in (a ∷ b ∷ c ∷ d ∷ e ∷ ws) is = refl
+no_why_in (a ∷ b ∷ []) is = no_why_by_tests (bytes_eq a (codes "host")) (bytes_eq b (codes "why"))
+no_why_in (a ∷ b ∷ c ∷ ws) is = absurd (let wrong : false ≡ true = is in cc)
 
 no_why_by : (b : Bool) (ws : List Text) → IsTrue (is_some (if b then None else host_word_in ws))
     → (if b then None else why_asked_in ws) ≡ None

@@ -27,9 +27,13 @@ why_place space at =
     else (if bytes_eq space (codes "io") then option_map of_port (below (2 ^ 32) (number_of at))
     else on_word space (codes "cfg") (option_map of_function (bus_address at)))
 
+-- the words after `host why`
+abbrev pub why_at : List Text → Option WhyAsked
+why_at (space ∷ at ∷ []) = why_place space at
+why_at _ = None
+
 abbrev pub why_asked_in : List Text → Option WhyAsked
-why_asked_in (first ∷ second ∷ space ∷ at ∷ []) =
-    on_word first (codes "host") (on_word second (codes "why") (why_place space at))
+why_asked_in (first ∷ second ∷ ws) = on_word first (codes "host") (on_word second (codes "why") (why_at ws))
 why_asked_in _ = None
 
 -- a long line asks for nothing

@@ -26,7 +26,8 @@ pub(crate) fn asked_by(line: &[u8], long: bool) -> Asked
     ensures audit { (before : Text) → IsBefore long before → is_audit (before ++ line.now) ≡ asks_audit result }
     ensures ready { (before : Text) → IsBefore long before →
         is_ready_line (before ++ line.now) ≡ asks_ready result }
-    ensures why { (before : Text) → IsBefore long before → why_asked (before ++ line.now) ≡ asks_why result }
+    ensures why { (before : Text) → IsBefore long before →
+        why_asked (before ++ line.now) ≡ asks_why result }
     ensures guests { (before : Text) → IsBefore long before → is_handover (before ++ line.now) ≡ asks_guests result }
 {
     if long {
