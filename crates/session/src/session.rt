@@ -242,8 +242,8 @@ impl Session {
 
     /// Runs a line, which is given without its line feed, and writes what the line writes into an empty text:
     /// nothing, or one line with its line feed. What is longer is given behind it, and then the session is as it
-    /// was: it is the text of an audit, of readiness, of why something finds what it finds, or of a handover that is
-    /// refused, and no other line takes memory. Where memory is out, no event runs and nothing is written.
+    /// was: it is the text that answers a question, or that of a handover that is refused, and no other line takes
+    /// memory. Where memory is out, no event runs and nothing is written.
     pub fn run_line(
         &mut self,
         line: &[u8],
