@@ -124,6 +124,7 @@ fuzz: pciguest
 	@python3 tests/fuzz/mistakes.py ./pciguest --files 3000 --seed $(SEED)
 	@python3 tests/fuzz/audit.py ./pciguest --states 2000 --seed $(SEED)
 	@python3 tests/fuzz/ready.py ./pciguest --states 2000 --seed $(SEED)
+	@python3 tests/fuzz/why.py ./pciguest --states 2000 --seed $(SEED)
 
 # Functions of two guests in two machines of QEMU at once, under Linux; and strangers at the sockets. It takes QEMU 7.2
 # and Debian's packages, which it names where they are missing, and a minute or two beyond the proofs.

@@ -1,0 +1,6 @@
+use Rattle.std.proofs.Common.{arith}
+use Rattle.report.proofs.HexTexts.{hex_pair}
+use Rattle.why_text.proofs.numbers.push_bus.Goals as goal
+
+pub returns : goal.returns
+returns c = grind (arith, hex_pair)

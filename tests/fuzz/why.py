@@ -1,0 +1,213 @@
+"""Why addresses, ports and configuration numbers find what they find in random register states: a second hand's word.
+
+    why.py [PROGRAM] [--states N] [--seed S] [--print]
+
+The states are those of audit.py. Of each, 50 addresses and ports and some numbers are asked: those where regions and
+windows begin and end, their neighbours, the ports of the address latch, and any. With PROGRAM, which takes the lines
+`host why mem ADDR`, `host why io PORT` and `host why cfg BB:DD.F` in a session, all that it answers is compared; the
+first state that differs is printed with its seed, and its files are kept. Without, what is told is counted by its
+kinds. The second hand is this folder, without a line of the program's code."""
+import argparse
+import random
+import subprocess
+import sys
+import tempfile
+from collections import Counter
+from pathlib import Path
+
+from audit import EDGES, random_state
+from board import board_file, path_text
+
+KINDS = ["would answer too", ": closed, ", "closes ", "no window", "shut", "nobody answers", " answers", "no bridge on bus 00",
+         "no bridge behind", "no function", "takes bus", "4 bytes are", "not enabled", " by the latch", "reaches nothing"]
+
+
+def regions_at(state, space, address):
+    """The regions that hold an address: path, declaration and base, in path order, then by register."""
+    for path, function in state.functions.items():
+        if state.is_bridge(path):
+            continue
+        for bar in sorted(function.bars, key=lambda one: one.index):
+            base = state.base(function, bar)
+            if (bar.kind == "io") == (space == "I/O") and base <= address < base + bar.size:
+                yield path, bar, base
+
+
+def windows_of(state, path, space):
+    """The windows that a bridge has for a space: its name with the first and last address."""
+    bridge = state.functions[path]
+    if space == "I/O":
+        return [] if bridge.io == "none" else [("I/O", state.io_window(path))]
+    pref = [] if bridge.pref == "none" else [("prefetchable", state.memory_window(path, 0x24, bridge.pref == "64"))]
+    return [("memory", state.memory_window(path, 0x20, False)), *pref]
+
+
+def window_text(name, first, last):
+    return f"{name} {first:#x}..{last:#x}" if first <= last else f"{name} shut"
+
+
+def command_text(state, path):
+    return f"Command 0x{state.read_bytes(path, 4, 2):04x}"
+
+
+def hindrance(state, path, space):
+    """What keeps a bridge from forwarding."""
+    if not state.opens(path, space):
+        return f"{command_text(state, path)} closes {space}"
+    return ", ".join(window_text(name, *window) for name, window in windows_of(state, path, space)) or "no window"
+
+
+def cause(state, path, space, address):
+    """What keeps a region of the function at a path from answering."""
+    if not state.opens(path, space):
+        return f"closed, {command_text(state, path)}"
+    for length in range(1, len(path)):
+        bridge = path[:length]
+        if not any(first <= address <= last for first, last in state.forwarded(bridge, space)):
+            return f"{path_text(bridge)} doesn't forward it, {hindrance(state, bridge, space)}"
+    return "would answer too"
+
+
+def why(state, space, address):
+    """The lines of an address."""
+    answer, lines = "nobody answers", []
+    for path, bar, base in regions_at(state, space, address):
+        said = cause(state, path, space, address)
+        if said == "would answer too" and answer == "nobody answers":
+            answer = f"{path_text(path)} bar{bar.index} offset {address - base:#x} answers"
+        else:
+            lines.append(f"{path_text(path)} bar{bar.index} at {base:#x} size {bar.size:#x}: {said}")
+    return [f"{space} {address:#x}: {answer}", *lines]
+
+
+def why_number(state, at):
+    """The lines of a configuration number."""
+    bus, device, function = at
+    takers, on, missing = [], (), None
+    while bus != 0 and (not takers or state.byte(takers[-1], 0x19) != bus):
+        taker = next((path for path in state.functions if path[:-1] == on and state.is_bridge(path)
+                      and state.byte(path, 0x19) <= bus <= state.byte(path, 0x1A)), None)
+        if taker is None:
+            missing = f"no bridge {'behind ' + path_text(on) if on else 'on bus 00'} takes bus {bus:02x}"
+            break
+        takers, on = [*takers, taker], taker
+    found = None if missing else on + ((device, function),)
+    if found not in state.functions:
+        missing = missing or f"no function {device}.{function} {'behind ' + path_text(on) if on else 'on bus 00'}"
+        found = None
+    number = f"{bus:02x}:{device:02x}.{function}"
+    return [f"{number} reaches {path_text(found) if found else 'nothing'}",
+            *(f"{path_text(path)} takes bus {bus:02x}" for path in takers), *([missing] if missing else [])]
+
+
+def why_port(state, latch, port):
+    """The lines of an I/O port, with what the address latch makes of it."""
+    if port == 0xCF8:
+        return [f"I/O 0xcf8: 4 bytes are the latch, {latch:#x}", *why(state, "I/O", port)]
+    if 0xCFC <= port <= 0xCFF and latch >> 31:
+        at = latch >> 16 & 0xFF, latch >> 11 & 31, latch >> 8 & 7
+        shown = f"offset {latch & 0xFC | port & 3:#x} of {at[0]:02x}:{at[1]:02x}.{at[2]}"
+        return [f"I/O {port:#x}: {shown} by the latch, {latch:#x}", *why_number(state, at)]
+    if 0xCFC <= port <= 0xCFF:
+        return [f"I/O {port:#x}: not enabled by the latch, {latch:#x}", *why(state, "I/O", port)]
+    return why(state, "I/O", port)
+
+
+def edges_of(state, space):
+    """Where regions and windows of a space begin and end."""
+    found = [edge for edge in EDGES if space == "memory" or edge < 1 << 32]
+    for path, function in state.functions.items():
+        if state.is_bridge(path):
+            found += [edge for _, window in windows_of(state, path, space) for edge in window]
+        else:
+            found += [edge for bar in function.bars if (bar.kind == "io") == (space == "I/O")
+                      for base in [state.base(function, bar)] for edge in (base, base + bar.size - 1)]
+    return found
+
+
+def asked(rng, state, count=50):
+    """Addresses of both spaces, most of them at an edge or beside one, and numbers."""
+    for _ in range(count):
+        space = rng.choice(["memory", "memory", "I/O"])
+        limit = 1 << (32 if space == "I/O" else 64)
+        edge = rng.choice(edges_of(state, space))
+        if space == "I/O" and rng.random() < 0.2:
+            edge = rng.choice(range(0xCF6, 0xD02))
+        yield space, (edge + rng.choice([0, 0, 0, 1, -1, 0x10, rng.getrandbits(20)])) % limit
+    for _ in range(10):
+        buses = [0, 1, rng.randrange(256)] + [state.byte(path, off) for path in state.functions if state.is_bridge(path)
+                                              for off in (0x19, 0x1A)]
+        device, function = rng.choice([rng.choice([*state.functions])[-1], (rng.randrange(32), rng.randrange(8))])
+        yield "number", (rng.choice(buses), device, function)
+
+
+def latch_after(lines):
+    """What the address latch holds after some lines: each configuration access by its number clears it."""
+    latch = 0
+    for line in lines:
+        words = line.split()
+        if words[1] in ("cr", "cw"):
+            latch = 0
+        elif words[1:4] == ["iw", "0xcf8", "4"]:
+            latch = int(words[4], 16) & 0x80FFFFFC
+    return latch
+
+
+def questions(rng, state, latch):
+    """Each question's line with the lines that answer it."""
+    for what, place in asked(rng, state):
+        if what == "number":
+            yield f"host why cfg {place[0]:02x}:{place[1]:02x}.{place[2]}", why_number(state, place)
+        elif what == "memory":
+            yield f"host why mem {place:#x}", why(state, what, place)
+        else:
+            yield f"host why io {place:#x}", why_port(state, latch, place)
+
+
+def state_asked(seed):
+    """A board, the lines of its firmware with those of all questions, and what answers them."""
+    board, firmware = random_state(seed)
+    rng = random.Random(f"{seed} why")
+    if rng.random() < 0.5:
+        latch = rng.choice([0, 1 << 31]) | rng.getrandbits(24)
+        firmware.say(f"iw 0xcf8 4 {latch:#x}", "ok")
+    asking = list(questions(rng, firmware.state, latch_after(firmware.lines)))
+    lines = firmware.lines + [line for line, _ in asking]
+    return board, lines, firmware.answers + [f"why: {line}" for _, told in asking for line in told]
+
+
+def compared(program, folder, seed, board, lines, wanted):
+    (folder / "board.toml").write_text(board_file(board))
+    script, told = ("".join(f"{line}\n" for line in some) for some in (lines, wanted))
+    (folder / "script").write_text(script)
+    ran = subprocess.run([program, "firmware", folder / "board.toml"], input=script.encode(), capture_output=True, timeout=120)
+    if (ran.returncode, ran.stdout.decode(), ran.stderr) != (0, told, b""):
+        (folder / "wanted").write_text(told)
+        (folder / "came").write_bytes(ran.stdout + ran.stderr)
+        print(f"seed {seed}: an answer differs: see wanted and came in {folder}")
+        sys.exit(1)
+
+
+def main():
+    words = argparse.ArgumentParser()
+    words.add_argument("program", nargs="?")
+    words.add_argument("--states", type=int, default=2000)
+    words.add_argument("--seed", type=int, default=1)
+    words.add_argument("--print", action="store_true")
+    chosen = words.parse_args()
+    folder = Path(tempfile.mkdtemp(prefix="why-"))
+    kinds = Counter()
+    for seed in range(chosen.seed, chosen.seed + chosen.states):
+        board, lines, wanted = state_asked(seed)
+        if chosen.print:
+            print("\n".join(wanted))
+        if chosen.program:
+            compared(chosen.program, folder, seed, board, lines, wanted)
+        kinds.update(kind for line in wanted if line.startswith("why: ") for kind in KINDS if kind in line)
+    subprocess.run(["rm", "-rf", folder])
+    counts = ", ".join(f"'{kind.strip()}' {count}" for kind, count in sorted(kinds.items()))
+    print(f"{chosen.states} register states; {counts}" + (": all agree" if chosen.program else ""))
+
+
+if __name__ == "__main__":
+    main()
