@@ -116,7 +116,8 @@ hostile: pciguest
 
 # Random boards and scripts, answered by the program, by the lone guests and by a second hand in Python:
 # about a million lines. Then board files with mistakes, and what a check says of them; and random register
-# states, what an audit says of them, and whether they are ready. make fuzz SEED=.. begins with another board.
+# states, what an audit says of them, whether they are ready, and why things find what they find. make fuzz SEED=.. begins
+# with another board.
 SEED := 1
 fuzz: pciguest
 	@$(PROVE) test_lone_answers
