@@ -116,7 +116,8 @@ hostile: pciguest
 
 # Random boards and scripts, answered by the program, by the lone guests and by a second hand in Python:
 # about a million lines. Then board files with mistakes, and what a check says of them; and random register
-# states, what an audit says of them, and whether they are ready. make fuzz SEED=.. begins with another board.
+# states, what an audit says of them, whether they are ready, and why things find what they find. make fuzz SEED=.. begins
+# with another board.
 SEED := 1
 fuzz: pciguest
 	@$(PROVE) test_lone_answers
@@ -124,6 +125,7 @@ fuzz: pciguest
 	@python3 tests/fuzz/mistakes.py ./pciguest --files 3000 --seed $(SEED)
 	@python3 tests/fuzz/audit.py ./pciguest --states 2000 --seed $(SEED)
 	@python3 tests/fuzz/ready.py ./pciguest --states 2000 --seed $(SEED)
+	@python3 tests/fuzz/why.py ./pciguest --states 2000 --seed $(SEED)
 
 # Functions of two guests in two machines of QEMU at once, under Linux; and strangers at the sockets. It takes QEMU 7.2
 # and Debian's packages, which it names where they are missing, and a minute or two beyond the proofs.

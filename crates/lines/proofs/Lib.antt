@@ -8,5 +8,6 @@ mod LineEnds
 pub mod NameLemmas
 pub mod Splitting
 pub mod Tables
+pub mod WhyForms
 pub mod WriteCounts
 pub mod WriteForms

@@ -31,7 +31,7 @@ pub enum FirmwareWhat {
 }
 
 /// A value of 32 bits.
-fn value(word: &[u8]) -> Option<u32>
+pub(crate) fn value(word: &[u8]) -> Option<u32>
     ensures { result ≡ below (2 ^ 32) (number_of word.now) }
 {
     u32::try_from(number_of(word)?).ok()

@@ -1,5 +1,6 @@
 pub mod HostLaws
 pub mod RowsOfFirmware
+pub mod WhyLines
 pub mod SessionLines
 pub mod HandoverLines
 pub mod FirmwareLeaves

@@ -1,6 +1,7 @@
 -- Laws of sessions.
 --     HostWordsAreNoForm      `host` and one word are refused among firmware's lines and among a script's
---     QuestionsChangeNothing      an audit or readiness changes nothing, and among guests' lines it is a bad line
+--     WhyLinesAreNoForm      so are the lines that ask why
+--     QuestionsChangeNothing      a question changes nothing, and among guests' lines it is a bad line
 --     RefusedStays      a handover that is refused changes nothing
 --     PlainSessions      lines without all these write and leave what they do as firmware's lines
 --     DrivenIsFirmware      such lines leave the world, and the board as they do without a session
@@ -24,6 +25,7 @@ use Rattle.model_guests.specs.WorldNow as now
 use Rattle.model_lines.specs.FirmwareLines as firmware
 use Rattle.model_lines.specs.FirmwareLines.{board_protocol}
 use Rattle.model_lines.specs.HostAccesses.{HostAccess}
+use Rattle.model_lines.specs.WhyLines.{is_why_line}
 use Rattle.model_handoff.specs.Regions.{HandoffFault, first_fault}
 use Rattle.model_handoff.specs.Changes.{MachineNow, machine_protocol}
 use Rattle.model_lines.specs.Sessions.{host_word, is_audit, is_ready_line, is_question, is_handover}
@@ -38,6 +40,9 @@ pub record IsNoForm (line : Text) : Type 0 where
 abbrev pub HostWordsAreNoForm : Type 0
 HostWordsAreNoForm = (line word : Text) → host_word line ≡ Some word → IsNoForm line
 
+abbrev pub WhyLinesAreNoForm : Type 0
+WhyLinesAreNoForm = (line : Text) → IsTrue (is_why_line line) → IsNoForm line
+
 abbrev pub QuestionsChangeNothing : Type 0
 QuestionsChangeNothing = (x : SessionNow) (line : Text) → IsTrue (is_question line) → after_session_line x line ≡ x
 
@@ -48,6 +53,7 @@ RefusedStays = (b : DrivenNow) (f : HandoffFault) (line : Text) → IsTrue (is_h
 pub record IsPlain (line : Text) : Type 0 where
   pub no_audit : IsFalse (is_audit line)
   pub no_ready : IsFalse (is_ready_line line)
+  pub no_why : IsFalse (is_why_line line)
   pub no_handover : IsFalse (is_handover line)
 
 abbrev pub PlainSessions : Type 0

@@ -1,9 +1,9 @@
 -- A session over a board: firmware's lines from reset on, and among them `host audit`, which writes the text of an audit,
--- `host ready`, which writes that of readiness, and `host guests`, which hands the board to its guests. After that each
--- line is a line of a script.
+-- `host ready`, which writes that of readiness, `host why ..`, which writes why something finds what it finds, and
+-- `host guests`, which hands the board to its guests. After that each line is a line of a script.
 --     host_word line      the second of a line's two words, where the first is `host`
 --     is_audit, is_ready_line, is_handover      whether a line asks for an audit, for readiness, or for guests
---     is_question line      it asks for an audit or for readiness
+--     is_question line      it asks for an audit, for readiness or why
 --     DrivenNow      the board of a world as firmware drives it, and whether a write was done since reset
 --     at_reset w      the board of a world at reset
 --     after_board_access, after_board_line      the board after an access of firmware, and after a line of firmware
@@ -34,6 +34,7 @@ use Rattle.model_guests.specs.WorldNow as script
 use Rattle.model_guests.specs.LineRuns.{Protocol}
 use Rattle.model_lines.specs.HostAccesses.{HostAccess, answer, after_access}
 use Rattle.model_lines.specs.FirmwareLines.{Meaning, nothing, asked, bad, meaning, line_output}
+use Rattle.model_lines.specs.WhyLines.{why_asked, is_why_line, why_written}
 use Rattle.model_audit.specs.AuditText.{audit, audit_line, problem_text, register_text}
 use Rattle.model_ready.specs.ReadyText.{ready_report}
 use Rattle.model_handoff.specs.Handoffs.{taken_over}
@@ -58,7 +59,7 @@ abbrev pub is_ready_line : Text → Bool
 is_ready_line line = is_host_line (codes "ready") line
 
 abbrev pub is_question : Text → Bool
-is_question line = is_audit line || is_ready_line line
+is_question line = is_audit line || is_ready_line line || is_why_line line
 
 abbrev pub is_handover : Text → Bool
 is_handover line = is_host_line (codes "guests") line
@@ -138,11 +139,15 @@ after_handover b (Some f) = driven b
 
 -- ---- a line
 
+-- a line that asks why, or one of firmware
+abbrev pub told_output : DrivenNow → Text → Text
+told_output b line = option_map_or (why_written b.state) (why_asked line) (line_output b.state line)
+
 abbrev pub driven_output : DrivenNow → Text → Text
 driven_output b line =
     if is_audit line then audit b.state.functions
     else (if is_ready_line line then ready_report b.world.apertures b.state.functions
-    else (if is_handover line then handover_output (first_fault b.world b.state) else line_output b.state line))
+    else (if is_handover line then handover_output (first_fault b.world b.state) else told_output b line))
 
 abbrev pub after_driven : DrivenNow → Text → SessionNow
 after_driven b line =

@@ -1,13 +1,15 @@
 //! Lines over a board, as definitions: what firmware asks through the host bridge, and sessions, which are firmware's
-//! lines, among them those that ask for an audit of the registers as they stand there or for readiness, and the one that
-//! hands the board to its guests. Laws about them, and about what guests see of a board that was given, whoever set it up.
+//! lines, among them those that ask for an audit of the registers as they stand there, for readiness or why something
+//! finds what it finds, and the one that hands the board to its guests. Laws about them, and about what guests see of a
+//! board that was given, whoever set it up.
 #![tactic(auto)]
 
 ghost use Rattle.model_guests.specs.LineRuns.{AfterAlong, CutIsBeginning, OutputAlong, StoppedIsBeginning};
 ghost use Rattle.model_lines.specs.FirmwareLaws.{BadLinesChangeNothing, DataIsByNumber, LatchIsPort, LongLinesAlike, ReadsChangeNoRegister, RefusedChangesNothing};
 ghost use Rattle.model_lines.specs.FirmwareLines.{board_protocol};
 ghost use Rattle.model_lines.specs.Sessions.{session_protocol};
-ghost use Rattle.model_lines.specs.SessionLaws.{HostWordsAreNoForm, QuestionsChangeNothing, RefusedStays};
+ghost use Rattle.model_lines.specs.WhyLines.{WhyLineExamples};
+ghost use Rattle.model_lines.specs.SessionLaws.{HostWordsAreNoForm, QuestionsChangeNothing, RefusedStays, WhyLinesAreNoForm};
 ghost use Rattle.model_lines.specs.SessionLaws.{DrivenIsFirmware, GivenIsScript, PlainSessions};
 ghost use Rattle.model_lines.specs.SessionLaws.{AccessesTellWritten, GivenBy, IsolatedSessions, LinesTellWritten};
 ghost use Rattle.model_lines.specs.FirmwareLeaves.{AccessLeaves, LinesLeave};
@@ -37,12 +39,18 @@ pub fn lines_in_pieces()
     ensures cut { CutIsBeginning board_protocol }
 {}
 
-/// The lines that ask for an audit, for readiness or for guests have no form of another line. An audit and readiness
+/// The lines that ask for an audit, for readiness, why, or for guests have no form of another line. All but the last
 /// change nothing, nor does a handover that is refused.
 pub fn questions_and_handovers()
     ensures no_form { HostWordsAreNoForm }
+    ensures why_no_form { WhyLinesAreNoForm }
     ensures nothing { QuestionsChangeNothing }
     ensures refused { RefusedStays }
+{}
+
+/// What some lines ask that ask why.
+pub fn why_lines()
+    ensures { WhyLineExamples }
 {}
 
 /// Without such lines a session writes and leaves what its lines do as firmware's, and once the board is given what

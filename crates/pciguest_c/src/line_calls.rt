@@ -98,9 +98,10 @@ fn run_on(session: &mut Session, line: &[u8], out: &mut [u8], written: &mut usiz
 }
 
 /// Runs one line of a session over a board, which is given without its line feed: firmware's, or one that asks
-/// for an audit or for readiness or hands the board to its guests, and from there on a script's. What it writes
-/// is put at the front of `out`, which needs room for 48 bytes, and its length is told. Where a text of more
-/// than one line has less room than it needs, nothing happens, and its length is told.
+/// for an audit, for readiness or why something finds what it finds, or hands the board to its guests, and from
+/// there on a script's. What it writes is put at the front of `out`, which needs room for 48 bytes, and its
+/// length is told. Where a text of more than one line has less room than it needs, nothing happens, and its
+/// length is told.
 #[unsafe(no_mangle)]
 pub extern "C" fn pciguest_raw_board_run_line(
     alloc: Global,

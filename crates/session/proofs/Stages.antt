@@ -1,7 +1,7 @@
 -- Where a session hands its board over, and where it doesn't.
 --     handed_over_as      the session that a machine makes, which guests have
 --     IsAnswered, answered      what the line of a handover that is done writes and leaves
-use Rattle.std.proofs.Common.{◌≡◌, ℕ, Bool, false, true, cond, None, List, refl, sym, ap, ap₂, ◌∙◌, map}
+use Rattle.std.proofs.Common.{◌≡◌, ℕ, Bool, false, true, cond, None, Some, List, refl, sym, ap, ap₂, ◌∙◌, map}
 use Rattle.std.specs.Prelude.{IsTrue, IfSome}
 use Rattle.model_guests.specs.Text.{Text}
 use Rattle.model_guests.specs.Guests.{GuestNow}
@@ -11,11 +11,12 @@ use Rattle.model_ready.specs.ReadyText.{ready_report}
 use Rattle.model_handoff.specs.Changes.{MachineNow, BeginsIn}
 use Rattle.model_handoff.specs.Regions.{first_fault}
 use Rattle.model_handoff.proofs.Served.{fault_decides}
-use Rattle.model_lines.specs.FirmwareLines.{line_output}
 use Rattle.model_lines.specs.GivenLaws.{IsGiven}
-use Rattle.model_lines.specs.Sessions.{DrivenNow, SessionNow, driven, given, is_handover, handed_over, after_handover, handover_output}
+use Rattle.model_lines.specs.Sessions.{DrivenNow, SessionNow, driven, given, host_word, is_handover, handed_over, after_handover, handover_output, told_output}
 use Rattle.model_lines.specs.Sessions.{after_session_line, session_output}
 use Rattle.model_lines.proofs.SessionLines.{no_audit, no_ready, handover_leaves}
+use Rattle.model_lines.proofs.WhyLines as lines
+use Rattle.model_lines.specs.WhyLines.{why_asked}
 use Rattle.session.specs.Boards.{IsHandedOverAs}
 use Rattle.session.specs.Stages.{board_in, IsDriven}
 
@@ -33,6 +34,10 @@ handed_over_as b m begins =
       now = ap given (machine_is m (handed_over b).world is.begins begins.counts);
     }
 
+-- a line of two words doesn't ask why
+pub no_why_of_two : (line word : Text) → Some word ≡ host_word line → why_asked line ≡ None
+no_why_of_two line word is = lines.no_why_of_two line word is
+
 -- ---- the line
 
 pub record IsAnswered (x new : SessionNow) (line : Text) : Type 0 where
@@ -41,8 +46,8 @@ pub record IsAnswered (x new : SessionNow) (line : Text) : Type 0 where
 
 handover_writes : (b : DrivenNow) (line : Text) → IsTrue (is_handover line) → session_output (driven b) line ≡ handover_output (first_fault b.world b.state)
 handover_writes b line asks =
-    ap₂ (λ (t r : Bool). cond t (audit b.state.functions) (cond r (ready_report b.world.apertures b.state.functions) (cond (is_handover line) (handover_output (first_fault b.world b.state)) (line_output b.state line)))) (no_audit line asks) (no_ready line asks)
-    ∙ ap (λ (u : Bool). cond u (handover_output (first_fault b.world b.state)) (line_output b.state line)) asks
+    ap₂ (λ (t r : Bool). cond t (audit b.state.functions) (cond r (ready_report b.world.apertures b.state.functions) (cond (is_handover line) (handover_output (first_fault b.world b.state)) (told_output b line)))) (no_audit line asks) (no_ready line asks)
+    ∙ ap (λ (u : Bool). cond u (handover_output (first_fault b.world b.state)) (told_output b line)) asks
 
 pub answered : (x new : SessionNow) → IsDriven x → IfSome (board_in x) (λ b. IsHandedOverAs b new) → (line : Text) → IsTrue (is_handover line) → IsAnswered x new line
 answered (driven b) new is handed line asks =

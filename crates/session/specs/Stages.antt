@@ -3,14 +3,16 @@
 --     IsAtLine stage      what holds of it between lines: it is not within a handover
 --     board_in x, machine_in x      the board, where firmware drives it, and the guests, where they have it
 --     IsDriven x, IsGiven x      which of the two it is
---     asks_audit, asks_ready, asks_guests      what a line asks for
---     asks_for_more x line      it asks for an audit, for readiness or for guests, while firmware drives the board
+--     asks_audit, asks_ready, asks_why, asks_guests      what a line asks for
+--     asks_for_more x line      it asks a question or for guests, while firmware drives the board
 use Rattle.std.specs.Prelude.{◌||◌, Bool, true, false, [], Option, None, Some, IsSome, ⊤}
 use Rattle.model_handoff.specs.Changes.{MachineNow}
 use Rattle.model_guests.specs.Text.{Text}
+use Rattle.model_lines.specs.WhyLines.{WhyAsked}
+use Rattle.lines.specs.WhyLines.{why_asked_of}
 use Rattle.model_lines.specs.Sessions.{DrivenNow, SessionNow, driven, given, is_question, is_handover}
 use Rattle.session.specs.declared.asking.Asked.{Asked}
-use Rattle.session.specs.declared.asking.Asked.TheVariants.{Access, Audit, Ready, Handover}
+use Rattle.session.specs.declared.asking.Asked.TheVariants.{Access, Audit, Ready, Why, Handover}
 use Rattle.session.specs.declared.stage.Stage.{Stage}
 use Rattle.session.specs.declared.stage.Stage.TheVariants.{Driven, Given, Between}
 
@@ -49,16 +51,26 @@ abbrev pub asks_audit : Asked → Bool
 asks_audit Access = false
 asks_audit Audit = true
 asks_audit Ready = false
+asks_audit (Why at) = false
 asks_audit Handover = false
 
 abbrev pub asks_ready : Asked → Bool
 asks_ready Access = false
 asks_ready Audit = false
 asks_ready Ready = true
+asks_ready (Why at) = false
 asks_ready Handover = false
+
+abbrev pub asks_why : Asked → Option WhyAsked
+asks_why Access = None
+asks_why Audit = None
+asks_why Ready = None
+asks_why (Why at) = Some (why_asked_of at)
+asks_why Handover = None
 
 abbrev pub asks_guests : Asked → Bool
 asks_guests Access = false
 asks_guests Audit = false
 asks_guests Ready = false
+asks_guests (Why at) = false
 asks_guests Handover = true

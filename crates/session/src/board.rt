@@ -13,11 +13,13 @@ ghost use Rattle.model_ready.specs.ReadyText.{ready_report};
 ghost use Rattle.model_handoff.specs.Changes.{BeginsIn};
 ghost use Rattle.model_lines.specs.HostAccesses.{answer};
 ghost use Rattle.model_lines.specs.FirmwareLines.{line_output};
+ghost use Rattle.model_lines.specs.WhyLines.{why_written};
 ghost use Rattle.model_lines.specs.GivenLaws.{IsGiven};
 ghost use Rattle.model_lines.specs.Sessions.{at_reset, after_board_access, after_board_line};
 ghost use Rattle.accesses.specs.Accesses.{reply_of};
 ghost use Rattle.accesses.specs.Replies.{IsRefusal, IsShown};
 ghost use Rattle.lines.specs.FirmwareLines.{host_asked};
+ghost use Rattle.lines.specs.WhyLines.{why_asked_of};
 ghost use Rattle.line_runs.specs.Pieces.{IsBefore};
 ghost use Rattle.board_file.specs.declared.fault.BoardFault.TheVariants.{Memory};
 ghost use Rattle.board_file.specs.Faults.{number_of as file_number};
@@ -29,15 +31,17 @@ use crate::accessing;
 use crate::audit::Audit;
 use crate::opening::{self, OpenFault};
 use accesses::{GuestDecl, HostAccess, Refusal, Reply};
+use bars::Space;
 use board_audit::problems;
 use board_file::{BoardFault, read_board};
 use headers::Apertures;
 use host_bridge::Host;
-use lines::{FirmwareWhat, LineText, firmware_meaning, push_named};
+use lines::{FirmwareWhat, LineText, WhyAsked, firmware_meaning, push_named};
 use monitor::{Monitor, Refused};
 use ready_text::{Readiness, ready_text};
 use std::alloc::{AllocError, Global};
 use std::marker::Model;
+use why_text::{why_number_text, why_port_text, why_text};
 
 /// The board that a board file declares, from reset on, with the bytes and the guests of the file. Whether a
 /// write was done since reset is kept, so that our own set-up runs on a board at reset alone.
@@ -254,5 +258,19 @@ impl Board {
         ensures after { self.new ≡ self.old }
     {
         ready_text(alloc, &mut self.host, apertures)
+    }
+
+    /// Why an address, an I/O port or the number of a function finds what it finds as the registers stand, or
+    /// nothing. Nothing changes, also where memory is out.
+    pub fn why(&mut self, alloc: Global, at: WhyAsked) -> Result<String, AllocError>
+        ensures text { IfOk result (λ t.
+            string_bytes t ≡ why_written self.old.state (why_asked_of at)) }
+        ensures after { self.new ≡ self.old }
+    {
+        match at {
+            WhyAsked::Mem { addr } => why_text(alloc, &self.host, Space::Mem, addr),
+            WhyAsked::Io { port } => why_port_text(alloc, &mut self.host, port),
+            WhyAsked::Config { bdf } => why_number_text(alloc, &mut self.host, bdf),
+        }
     }
 }

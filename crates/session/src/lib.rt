@@ -1,5 +1,5 @@
-//! Sessions over a board: firmware's lines from reset on, among them those that ask for an audit or for readiness, and the
-//! handover of the board to its guests, whose script the lines are from there on.
+//! Sessions over a board: firmware's lines from reset on, among them those that ask for an audit, for readiness or why
+//! something finds what it finds, and the handover of the board to its guests, whose script the lines are from there on.
 //!
 //! A bridge is numbered by a call, a function behind it found by a line, and the registers audited:
 //!
@@ -44,7 +44,7 @@ pub use functions::DrivenFunction;
 pub use headers::Apertures;
 pub use host_bridge::Host;
 pub use line_runs::RunFault;
-pub use lines::LineText;
+pub use lines::{LineText, WhyAsked};
 pub use monitor::{HandoverFault, Monitor, Problem, Refused};
 pub use opening::{OpenFault, open};
 pub use ready_text::Readiness;

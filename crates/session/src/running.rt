@@ -9,8 +9,8 @@ use line_runs::RunFault;
 use streams::{Reader, Writer};
 
 /// Runs the lines of a session, in pieces as they are read. Each line is answered before the next is looked at,
-/// and all answers are flushed before more is read. Memory is taken by an audit, by readiness and by a
-/// handover alone; no failure is tried again.
+/// and all answers are flushed before more is read. Memory is taken by questions and by a handover
+/// alone; no failure is tried again.
 pub fn run<R: Reader, W: Writer>(
     session: &mut Session,
     reader: &mut R,

@@ -230,6 +230,10 @@ impl Session {
                     let ready = board.ready(self.alloc)?;
                     Ok(Some(ready.text))
                 }
+                Asked::Why(at) => {
+                    let told = board.why(self.alloc, at)?;
+                    Ok(Some(told))
+                }
                 Asked::Handover => answer_handover(self.alloc, &mut self.stage, text),
             },
             Stage::Between => unreachable!(),
@@ -238,8 +242,8 @@ impl Session {
 
     /// Runs a line, which is given without its line feed, and writes what the line writes into an empty text:
     /// nothing, or one line with its line feed. What is longer is given behind it, and then the session is as it
-    /// was: it is the text of an audit, of readiness, or of a handover that is refused, and no other line takes memory.
-    /// Where memory is out, no event runs and nothing is written.
+    /// was: it is the text that answers a question, or that of a handover that is refused, and no other line takes
+    /// memory. Where memory is out, no event runs and nothing is written.
     pub fn run_line(
         &mut self,
         line: &[u8],
@@ -258,8 +262,8 @@ impl Session {
     }
 }
 
-/// The language of sessions: firmware's lines, those that ask for an audit or for readiness, the one that hands the
-/// board over, and then a script's.
+/// The language of sessions: firmware's lines, those that ask for an audit, for readiness or why something finds what
+/// it finds, the one that hands the board over, and then a script's.
 pub struct SessionLines;
 
 impl Answers<SessionLines> for Session {

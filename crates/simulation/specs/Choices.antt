@@ -78,7 +78,7 @@ abbrev pub IsTelling : Choice → Fault → Type 0
 IsTelling (Check path plain) f = IsRefusal f
 IsTelling _ f = ⊥
 
--- no memory for an audit, for readiness or for a handover
+-- no memory for a question or for a handover
 abbrev pub IsLacking : Choice → Fault → Type 0
 IsLacking (Firmware path) f = f ≡ SetUp set_up.Memory
 IsLacking (Audit path) f = f ≡ SetUp set_up.Memory

@@ -1,5 +1,5 @@
--- What a run of a session says of a board file: firmware's lines over its board at reset, those among them that ask for an
--- audit or for readiness, and the handover of the board to the guests of the file.
+-- What a run of a session says of a board file: firmware's lines over its board at reset, questions among them, and the
+-- handover of the board to the guests of the file.
 --     at_first w      the session before its first line
 --     IsSession board at result      what a run did over the board of the file; once the board is given, guests are
 --         isolated

@@ -71,7 +71,7 @@ pub fn perform<R: Reader, W: Writer>(
         f ≢ Fault.Read → f ≢ Fault.Write → f ≢ Fault.NotReady → ¬ IsTelling choice.now f
         → ¬ IsLacking choice.now f → writer.new ≡ writer.old) }
 
-    // Where memory is out once lines ran, for an audit, for readiness or for a handover, what they write was flushed.
+    // Where memory is out once lines ran, for a question or for a handover, what they write was flushed.
     ensures lacking_flushed { IfErr result (λ f. IsLacking choice.now f →
         (W.flushed writer.new ≡ W.written writer.new) ⊎ (writer.new ≡ writer.old)) }
 

@@ -47,8 +47,8 @@ pub(crate) fn session_after<R: Reader, W: Writer>(
 /// it, and nothing else.
 ///
 /// Refused are the file (101 to 112) and lack of memory while it is read (199): then nothing is read or written. Once
-/// lines are asked for, a read fails (501), or a write or flush does (502). Memory is out for an audit, for readiness or
-/// for the handover (299): then all that the lines before write was written and flushed, and nothing after it.
+/// lines are asked for, a read fails (501), or a write or flush does (502). Memory is out for a question or for the
+/// handover (299): then all that the lines before write was written and flushed, and nothing after it.
 pub fn drive<R: Reader, W: Writer>(
     alloc: Global,
     board: &[u8],

@@ -15,8 +15,8 @@ pub enum Fault {
     /// The board file is refused (101 to 112), or memory was out while it was read (199).
     #[error(transparent)]
     File(BoardFault),
-    /// Its board can't be set up (201 to 205), or memory was out while it was made, set up, reported, audited,
-    /// asked for readiness or given to guests (299).
+    /// Its board can't be set up (201 to 205), or memory was out while it was made, set up, reported, asked
+    /// about or given to guests (299).
     #[error(transparent)]
     SetUp(bus_scan::Fault),
     /// Something is wrong or lacking in the registers of the board.

@@ -84,11 +84,12 @@ class Board(Held):
 
     def run_line(self, line: Union[str, bytes]) -> Optional[str]:
         """Runs one line of a session, as `pciguest firmware` does: a line of firmware; `host audit`, whose reply is the
-        text of an audit; `host ready`, whose reply tells also what the board lacks that is to be driven; `host guests`,
-        which gives the board to the guests of its file or says why it doesn't; and once it is given, a line of a script.
-        The board is then that of its guests: `into_guests` makes a machine of it, and its other calls are refused by 901.
+        text of an audit; `host ready`, whose reply tells also what the board lacks that is to be driven; `host why ..`,
+        whose reply tells why something finds what it finds; `host guests`, which gives the board to the guests of its file
+        or says why it doesn't; and once it is given, a line of a script. The board is then that of its guests:
+        `into_guests` makes a machine of it, and its other calls are refused by 901.
 
-        Line and reply are as those of `Machine.run_line`; that of these three lines may have more than one line. 299:
+        Line and reply are as those of `Machine.run_line`; that of these four lines may have more than one line. 299:
         memory is out for one of them, and nothing happened.
 
         >>> board = Board(BOARD)

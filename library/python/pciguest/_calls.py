@@ -388,14 +388,15 @@ DECLARED: Dict[str, Tuple[Any, Tuple[Any, ...]]] = {
     ),
     # Runs one line of a session, as `pciguest firmware` does, with its line feed or without: a line of firmware; `host
     # audit`, whose reply is the text of pciguest_board_audit; `host ready`, whose reply tells also what the board lacks
-    # that is to be driven; `host guests`, which gives the board to the guests of its file or says why it doesn't, as
+    # that is to be driven; `host why ..`, whose reply tells why an address, a port or a number of a function finds what
+    # it finds; `host guests`, which gives the board to the guests of its file or says why it doesn't, as
     # pciguest_board_guests does; and once it is given, a line of a script. The struct then holds the machine:
     # pciguest_board_guests moves it to a struct of its own, and the other calls of a board answer 901. A line that is
     # refused is answered by its reply, and the call by 0. The reply is one line with its line feed, or nothing, but for
-    # an audit, for `host ready` and for a board that isn't given: these may have more lines. It has no 0 at its end,
-    # and `written` tells its length.
+    # an audit, for `host ready`, for `host why ..` and for a board that isn't given: these may have more lines. It has
+    # no 0 at its end, and `written` tells its length.
     # 902: there is less room than PCIGUEST_REPLY, or than a reply of more lines needs, whose length alone is told;
-    # nothing happened. 299: out of memory for one of these three lines, and nothing happened; no other line takes
+    # nothing happened. 299: out of memory for one of these four lines, and nothing happened; no other line takes
     # memory.
     "board_run_line": (
         c_uint32,

@@ -136,15 +136,16 @@ impl Board {
 
     /// Runs one line of a session, as `pciguest firmware` does, with its line feed or without: a line of firmware;
     /// `host audit`, whose reply is the text of an [audit](Board::audit); `host ready`, whose reply tells also what the board
-    /// lacks that is to be driven; `host guests`, which gives the board to the guests of its file or says why it doesn't;
-    /// and once it is given, a line of a script. The board is then that of its guests:
-    /// [`into_guests`](Board::into_guests) makes a [`Machine`] of it, and its other calls are refused by 901.
+    /// lacks that is to be driven; `host why ..`, whose reply tells why something finds what it finds; `host guests`,
+    /// which gives the board to the guests of its file or says why it doesn't; and once it is given, a line of a script.
+    /// The board is then that of its guests: [`into_guests`](Board::into_guests) makes a [`Machine`] of it, and its
+    /// other calls are refused by 901.
     ///
-    /// The reply is as that of [`Machine::run_line`]; that of these three lines may have more than one line.
+    /// The reply is as that of [`Machine::run_line`]; that of these four lines may have more than one line.
     ///
     /// # Errors
     ///
-    /// 299: memory is out for one of these three lines, and nothing happened.
+    /// 299: memory is out for one of these four lines, and nothing happened.
     ///
     /// ```
     /// # const BOARD: &str = include_str!("board.toml");
