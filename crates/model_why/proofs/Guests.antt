@@ -1,15 +1,15 @@
 -- What is found is what the guest's accesses land on, and each closed region that holds an address is told.
-use Rattle.std.proofs.Common.{◌≡◌, ℕ, zero, suc, ◌+◌, inl, inr, ◌⊎◌, Bool, true, false, cond, List, [], ◌∷◌, ◌++◌, Option, Some, None, refl, sym, ap, ◌∙◌, subst, arith}
-use Rattle.std.specs.Prelude.{map, filter, slice_get, unwrap_or}
+use Rattle.std.proofs.Common.{◌≡◌, ℕ, zero, suc, ◌+◌, inl, inr, ◌⊎◌, Bool, true, false, cond, [], ◌∷◌, Option, Some, None, refl, sym, ap, ◌∙◌, subst, arith}
+use Rattle.std.specs.Prelude.{map, filter}
 use Rattle.std.specs.Fmt.{digits}
 use Rattle.std.specs.Option.{option_map_or}
-use Rattle.lists.specs.Elements.{Each, IsIn}
+use Rattle.lists.specs.Elements.{IsIn}
 use Rattle.lists.proofs.Members.{each_from, in_front, in_back, front_or_back, in_map, from_map, in_filter, from_filter}
 use Rattle.model_registers.specs.Declarations.{Region}
 use Rattle.model_registers.specs.Decoding.{Space, Function, is_open}
 use Rattle.model_guests.specs.Accesses.{Target, configuration, port, address}
 use Rattle.model_guests.specs.Slots.{Slots, slot_at, Landing, landing}
-use Rattle.model_guests.specs.Lone.{LoneGuest, Destination, own_latch, no_function, at_target, destination}
+use Rattle.model_guests.specs.Lone.{Destination, own_latch, no_function, at_target, destination}
 use Rattle.model_handoff.specs.Located.{landing_at}
 use Rattle.model_why.specs.WhyGuests.{ClosedRegion, closed_region, region_holds, closed_of, closed_from, answers, lost, finding, landing_of, FoundAsLocated, ClosedAreTrue, ClosedAreAll, IsClosedThere}
 use Rattle.model_why.specs.GuestExamples.{GuestExamples}

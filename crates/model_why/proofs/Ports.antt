@@ -1,10 +1,8 @@
 -- An access at a port goes where the latch makes it go; the worked examples, by computation.
-use Rattle.std.proofs.Common.{◌≡◌, ℕ, Bool, true, false, ◌&&◌, ◌==◌, cond, refl, ap, arith}
+use Rattle.std.proofs.Common.{refl, arith}
 use Rattle.std.specs.Fmt.{digits}
 use Rattle.std.proofs.lemmas.Bool.Decides.{nat_tests}
-use Rattle.model_registers.specs.ConfigAddress.{is_data_port, selected_offset}
-use Rattle.model_board.specs.Ports.{is_enabled, selected, PortTarget, config_address, config_data, ordinary, port_target}
-use Rattle.model_why.specs.WhyPorts.{port_use, target_by, PortsByLatch, PortExamples}
+use Rattle.model_why.specs.WhyPorts.{PortsByLatch, PortExamples}
 
 pub ports_by_latch : PortsByLatch
 ports_by_latch latch n w = grind (arith, nat_tests)

@@ -6,7 +6,7 @@
 --     FoundAsLocated      it is what the guest's accesses land on
 --     ClosedAreTrue, ClosedAreAll      each such region, and no other, is told where nobody answers
 --     GuestExamples      what is told of some places
-use Rattle.std.specs.Prelude.{List, [], ◌∷◌, ◌++◌, ◌≡◌, ℕ, ◌+◌, Bool, ◌&&◌, ◌==◌, if◌then◌else◌, nat_le, nat_lt, Option, Some, None, map, filter, codes, decimal, false, true}
+use Rattle.std.specs.Prelude.{List, [], ◌∷◌, ◌++◌, ◌≡◌, ℕ, ◌+◌, Bool, ◌&&◌, if◌then◌else◌, nat_le, nat_lt, Option, Some, None, map, filter, codes, decimal, false, true}
 use Rattle.std.specs.Option.{option_map_or}
 use Rattle.lists.specs.Elements.{IsIn, Each}
 use Rattle.model_registers.specs.Registers.{File, Place, config, block}

@@ -1,21 +1,18 @@
 -- The lines of a text, one after the other.
-use Rattle.std.proofs.Common.{◌≡◌, ◌++◌, ℕ, List, [], ◌∷◌, Option, Some, None, map, refl, sym, ap, ap₂, ◌∙◌, append_assoc}
-use Rattle.std.specs.Prelude.{option_map}
+use Rattle.std.proofs.Common.{◌≡◌, ◌++◌, ℕ, List, ◌∷◌, map, refl, sym, ap, ◌∙◌, append_assoc}
 use Rattle.std.proofs.lemmas.List.{map-append}
-use Rattle.model_registers.specs.Decoding.{Space, io}
+use Rattle.model_registers.specs.Decoding.{io}
 use Rattle.model_board.specs.State.{BoardFunction, State}
 use Rattle.model_board.specs.Cycles.{BusAddress}
 use Rattle.model_guests.specs.Text.{Text, text_of_lines}
-use Rattle.model_why.specs.Why as model
 use Rattle.model_why.specs.Ways as ways
 use Rattle.model_why.specs.WhyPorts.{PortUse, holds_latch, shows_data, hides_data, like_others, port_lines}
-use Rattle.model_why.specs.WhyText.{taker_text, missing_lines, why_line, why_lines, number_lines, why_text, why_number_text}
+use Rattle.model_why.specs.WhyText.{taker_text, missing_lines, why_line, number_lines, why_text, why_number_text}
 use Rattle.report.specs.Found.{ended}
 use Rattle.report.proofs.LineTexts.{text_of_lines-append}
-use Rattle.board_why.specs.Told.{why_told, number_told}
-use Rattle.board_why.specs.declared.causes.Why.{Why}
+use Rattle.board_why.specs.Told.{number_told}
 use Rattle.board_why.specs.declared.number.WhyNumber.{WhyNumber}
-use Rattle.why_text.specs.Lines.{address_head, told_lines, number_head, taker_lines, lines_of_missing, use_line}
+use Rattle.why_text.specs.Lines.{number_head, taker_lines, lines_of_missing, use_line}
 
 -- ---- a configuration number
 
