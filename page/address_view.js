@@ -3,7 +3,7 @@
 
 import { aperture_of, hex, size_in_words } from './report.js';
 import { make, mark_of, owner_in_words } from './marks.js';
-import { bang_at, name_in, region_box, svg, ticks } from './bars.js';
+import { bang_at, lack_at, name_in, region_box, svg, ticks } from './bars.js';
 
 const ROW = 20, TICKS = 36;
 const NAMES = { io: 'I/O', mem: 'Memory', pref: 'Prefetchable memory' };
@@ -39,13 +39,14 @@ function at_address(address, spans, board) {
   return window ? `nothing, in the ${window.name} of ${window.of.place}` : 'nothing';
 }
 
-// The problems that name a region or, where they name no register, a window of its bridge at their address.
-const wrong_with = ({ of, region, first, last }, problems) => problems.filter(one => one.of.some(({ path, register }) => path === of.path
-  && (region ? register === region.name : register === null && (one.address === null || (first <= one.address && one.address <= last)))));
+// The problems or lacks that name a region or, where they name no register, a window of its bridge at their address.
+const naming = ({ of, region, first, last }, findings) => findings.filter(one => one.of.some(({ path, register }) => path === of.path
+  && (region ? register === region.name : register === null && first <= one.address && one.address <= last)));
 
-const span_in_words = (span, board, problems) => `${span.of.place} ${span.name} ${hex(span.first)} to ${hex(span.last)}, `
-  + size_in_words(span.last - span.first + 1n) + (span.region ? whose(span.of.path, board) : '')
-  + wrong_with(span, problems).map(one => `; ! ${one.text}`).join('');
+const findings_in_words = ({ problems, lacks }, chosen) => [...chosen(problems).map(one => `; ! ${one.text}`), ...chosen(lacks).map(one => `; left to do: ${one.text}`)].join('');
+
+const span_in_words = (span, board, findings) => `${span.of.place} ${span.name} ${hex(span.first)} to ${hex(span.last)}, `
+  + size_in_words(span.last - span.first + 1n) + (span.region ? whose(span.of.path, board) : '') + findings_in_words(findings, those => naming(span, those));
 
 // The used part of an aperture in a thin strip of the whole, and the part that is shown.
 function strip_of(used, shown, aperture, width) {
@@ -66,9 +67,9 @@ export class Addresses {
 
   forget() { this.ranges.clear(); this.at.clear(); }
 
-  // `problems` have the address and the space at which they are seen; `none` is told where there is nothing to draw.
-  draw(functions, apertures, owners, marks, problems = [], none = '') {
-    this.board = { functions, apertures, owners, marks, problems, none };
+  // `findings` are problems and lacks, with the address and the space at which they are seen; `none` is told where there is nothing to draw.
+  draw(functions, apertures, owners, marks, findings = { problems: [], lacks: [] }, none = '') {
+    this.board = { functions, apertures, owners, marks, findings, none };
     this.redraw();
   }
 
@@ -89,22 +90,22 @@ export class Addresses {
   }
 
   figure(space) {
-    const { functions, apertures } = this.board, spans = spans_in(space, functions, apertures), problems = this.problems_in(space);
+    const { functions, apertures } = this.board, spans = spans_in(space, functions, apertures), findings = this.findings_in(space);
     if (spans.length === 0) return null;
     const [aperture, used, outside] = this.extent_of(spans, apertures[space]), range = this.ranges.get(space) ?? used;
-    const figure = make('div', 'space'), told = make('div', 'told'), bar = this.bar(spans, range, problems);
+    const figure = make('div', 'space'), told = make('div', 'told'), bar = this.bar(spans, range, findings);
     figure.dataset.space = space;
     told.setAttribute('role', 'status');
     bar.setAttribute('aria-label', `${NAMES[space]}: ${KEYS}`);
-    this.follow_pointer(bar, told, space, spans, range);
-    this.follow_keys(bar, told, space, spans, problems);
+    this.follow_pointer(bar, told, space, spans, range, findings);
+    this.follow_keys(bar, told, space, spans, findings);
     figure.append(this.title(space, range, outside, aperture), strip_of(used, range, aperture, this.width), bar, told);
     return figure;
   }
 
-  problems_in(space) {
-    const { problems, apertures } = this.board;
-    return problems.filter(one => one.address !== null && aperture_of(one.space, one.address, apertures) === space);
+  findings_in(space) {
+    const { findings, apertures } = this.board, is_here = one => one.address !== null && aperture_of(one.space, one.address, apertures) === space;
+    return { problems: findings.problems.filter(is_here), lacks: findings.lacks.filter(is_here) };
   }
 
   // The aperture, what is used of it, and how many spans stand outside, which only firmware leaves. Where nothing is in the
@@ -130,7 +131,7 @@ export class Addresses {
     return title;
   }
 
-  bar(spans, range, problems) {
+  bar(spans, range, { problems, lacks }) {
     const { owners, marks } = this.board, seen = spans.filter(span => span.first <= range[1] && range[0] <= span.last);
     const deepest = Math.max(0, ...seen.map(span => span.depth)) + 1, height = deepest * ROW + 4;
     const bar = svg('svg', { width: this.width, height: height + TICKS, class: 'bars', tabindex: 0, role: 'group' });
@@ -138,14 +139,15 @@ export class Addresses {
     for (const span of seen.slice().sort((a, b) => a.depth - b.depth || !b.region - !a.region)) {
       const from = place_of(most(span.first, range[0]), range, this.width), to = place_of(least(span.last, range[1]) + 1n, range, this.width);
       const y = span.depth * ROW + 2, mark = mark_of(owners.get(span.of.path), marks);
-      const wrong = wrong_with(span, problems).length > 0 ? ' wrong' : '';
+      const wrong = naming(span, problems).length > 0 ? ' wrong' : naming(span, lacks).length > 0 ? ' lacks' : '';
       if (span.region) bar.append(region_box(from, to - from, y, ROW - 1, mark, [`${span.of.place} ${span.name}`, span.of.place], wrong, this.board.marks.size > 0));
       else bar.append(svg('rect', { x: from, width: Math.max(to - from, 2), y, height: ROW * (deepest - span.depth), class: `window${wrong}` }),
         ...name_in([`${span.name} of ${span.of.place}`, `of ${span.of.place}`], from, to - from, y + ROW / 2 + 4, 'of'));
     }
     bar.append(...ticks(this.ticks_of(seen, range), this.width, height, 2, 14));
-    bar.append(...problems.filter(({ address }) => range[0] <= address && address <= range[1])
-      .map(one => bang_at(place_of(one.address, range, this.width), this.width, height, one.text)));
+    const at = (those, mark) => those.filter(({ address }) => range[0] <= address && address <= range[1])
+      .map(one => mark(place_of(one.address, range, this.width), this.width, height, one.text));
+    bar.append(...at(lacks, lack_at), ...at(problems, bang_at));
     return bar;
   }
 
@@ -158,8 +160,7 @@ export class Addresses {
     return [at(range[0]), at(range[1], 1n), ...windows.concat(regions).filter(([address]) => inside(address)).map(one => at(...one))];
   }
 
-  follow_pointer(bar, told, space, spans, range) {
-    const problems = this.problems_in(space);
+  follow_pointer(bar, told, space, spans, range, findings) {
     const cursor = svg('line', { class: 'cursor', y1: 0, y2: bar.getAttribute('height') - TICKS, visibility: 'hidden' });
     bar.append(cursor);
     const pointed = event => {
@@ -170,8 +171,9 @@ export class Addresses {
       const { share, address } = pointed(event);
       for (const name of ['x1', 'x2']) cursor.setAttribute(name, share * this.width);
       cursor.setAttribute('visibility', 'visible');
+      const here = spans.filter(span => span.first <= address && address <= span.last);
       told.textContent = `${hex(address)}: ${at_address(address, spans, this.board)}`
-        + problems.filter(one => spans.some(span => span.first <= address && address <= span.last && wrong_with(span, [one]).length > 0)).map(one => `; ! ${one.text}`).join('');
+        + findings_in_words(findings, those => those.filter(one => here.some(span => naming(span, [one]).length > 0)));
       this.light(spans.find(span => span.region && span.first <= address && address <= span.last)?.of.path ?? null);
     });
     bar.addEventListener('pointerleave', () => { cursor.setAttribute('visibility', 'hidden'); told.textContent = ''; this.light(null); });
@@ -191,10 +193,10 @@ export class Addresses {
     return [most(first - beside, 0n), last + beside];
   }
 
-  follow_keys(bar, told, space, spans, problems) {
+  follow_keys(bar, told, space, spans, findings) {
     const show = nth => {
       this.at.set(space, nth);
-      told.textContent = span_in_words(spans[nth], this.board, problems);
+      told.textContent = span_in_words(spans[nth], this.board, findings);
       this.light(spans[nth].of.path);
     };
     const at = () => this.at.get(space) ?? -1;

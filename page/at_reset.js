@@ -1,8 +1,10 @@
-// A board from reset on, as firmware's own cycles read it: where functions are found, what they open, and what is wrong.
+// A board from reset on, as firmware's own cycles read it: where functions are found, what they open, what is wrong and what is lacking.
 
 import { hex, parent_of } from './report.js';
-import { read_audit } from './audit.js';
+import { read_readiness } from './readiness.js';
 
+// what a line of firmware is answered by guests' board
+const GIVEN = 'host: refused 401 bad line';
 const COMMAND = 0x04, FIRST_BASE = 0x10, BUSES = 0x18;
 const OF_BRIDGE = [COMMAND, BUSES, 0x1c, 0x20, 0x24, 0x28, 0x2c, 0x30];
 
@@ -51,7 +53,7 @@ export function windows_now({ io, pref }, values) {
 export class AtReset {
   // `functions` are the report's; `decodes` has the windows of each bridge, by its path.
   constructor(driven, functions, decodes) {
-    Object.assign(this, { driven, declared: functions, decodes, read: new Map(), functions: [], problems: [] });
+    Object.assign(this, { driven, declared: functions, decodes, read: new Map(), functions: [], given: false, problems: [], lacks: [] });
     this.look();
   }
 
@@ -61,19 +63,26 @@ export class AtReset {
   // stood there is written back; once the board is given to its guests, the host's reads change nothing.
   look() {
     const latch = this.driven.number('host ir 0xcf8 4'), before = this.problems;
-    const told = this.driven.audit();
-    this.given = told === null;
-    this.problems = this.given ? [] : read_audit(new TextDecoder().decode(told));
+    this.ask();
     const lost = new Map(this.problems.filter(one => one.number !== null).map(one => [one.of[0].path, one]));
     const buses = new Map([['', 0]]);
     this.functions = this.declared.map(one => this.function_now(one, lost.get(one.path), buses));
     if (latch !== 0n && !this.given) this.tell(`host iw 0xcf8 4 ${hex(latch)}`);
-    for (const one of this.problems) one.space ??= this.space_of(one);
+    for (const one of [...this.problems, ...this.lacks]) one.space ??= this.space_of(one);
     const [old, now] = [before, this.problems].map(those => new Set(those.map(one => one.text)));
     return { came: [...now].filter(text => !old.has(text)), gone: [...old].filter(text => !now.has(text)) };
   }
 
-  // A problem with a region is in the region's space.
+  // What is wrong and what is lacking, by one line. It is a bad line once the board is given to its guests: nothing was wrong then, and
+  // what they do changes neither that nor what was lacking.
+  ask() {
+    const told = this.driven.readiness(), found = read_readiness(told);
+    this.given = told === GIVEN;
+    if (found === null && !this.given) throw new Error(`the board doesn't tell whether it is ready: ${told}`);
+    Object.assign(this, found ?? { problems: [] });
+  }
+
+  // A problem or a lack of a region is in the region's space.
   space_of({ of, address }) {
     if (address === null) return null;
     const region = this.functions.find(one => one.path === of[0].path)?.all_regions.find(one => one.name === of[0].register);

@@ -1,4 +1,4 @@
-// An audit's text, read back into problems.
+// Lines of an audit, read back into problems.
 
 const NOT_FORWARDED = /^(\S+) (bar\d) at \S+ size \S+: (0x[0-9a-f]+) is not forwarded by (\S+)$/;
 const BOTH_ANSWER = /^(\S+)(?: (bar\d))? and (\S+)(?: (bar\d))? both answer (I\/O|memory) (0x[0-9a-f]+)$/;
@@ -6,7 +6,7 @@ const NOT_FOUND = /^(\S+): a cycle for (\S+) reaches \S+$/;
 
 // The functions that a problem names, each with a register or null; its address and space, or the number at which a
 // function isn't found.
-function problem_of(text) {
+export function problem_of(text) {
   const one = { text, of: [], address: null, space: null, number: null };
   const [forwarded, both, found] = [NOT_FORWARDED, BOTH_ANSWER, NOT_FOUND].map(form => form.exec(text));
   if (forwarded) {
@@ -20,14 +20,9 @@ function problem_of(text) {
   return found ? { ...one, of: [{ path: found[1], register: null }], number: found[2] } : one;
 }
 
-// The lines of an audit but the last one, which counts them.
-export function read_audit(text) {
-  return text.trimEnd().split('\n').slice(0, -1).map(line => problem_of(line.slice('audit: '.length)));
-}
-
-// The texts that name each function.
-export function troubles_of(problems) {
-  const troubles = new Map();
-  for (const { text, of } of problems) for (const { path } of of) troubles.set(path, [...(troubles.get(path) ?? []), text]);
-  return troubles;
+// Of problems or of lacks, the texts that name each function.
+export function texts_by_path(findings) {
+  const texts = new Map();
+  for (const { text, of } of findings) for (const { path } of of) texts.set(path, [...(texts.get(path) ?? []), text]);
+  return texts;
 }

@@ -29,12 +29,20 @@ export function region_box(x, width, y, height, mark, names, wrong = '', lettere
   return all;
 }
 
-// Where a problem is seen.
-export function bang_at(x, width, height, text) {
-  const all = svg('g', { class: 'bang-at' }), at = Math.min(Math.max(x, 6), width - 6);
-  all.append(svg('title', {}, text), svg('line', { x1: x, x2: x, y1: 0, y2: height }), svg('path', { d: `M${at - 6} 0H${at + 6}L${x} 10Z` }));
+// Where a problem or a lack is seen: a line, with a sign at its upper end.
+function sign_at(name, x, height, text, sign) {
+  const all = svg('g', { class: name });
+  all.append(svg('title', {}, text), svg('line', { x1: x, x2: x, y1: 0, y2: height }), sign);
   return all;
 }
+const inside = (x, width) => Math.min(Math.max(x, 6), width - 6);
+
+export function bang_at(x, width, height, text) {
+  const at = inside(x, width);
+  return sign_at('bang-at', x, height, text, svg('path', { d: `M${at - 6} 0H${at + 6}L${x} 10Z` }));
+}
+
+export const lack_at = (x, width, height, text) => sign_at('lack-at', x, height, text, svg('circle', { cx: inside(x, width), cy: 6, r: 4 }));
 
 // Addresses under or above a bar: [{ x, text }], the first ones first. One that would lie on another, or say the same, is left out.
 export function ticks(wanted, width, y, rows, step) {

@@ -1,19 +1,36 @@
 // The tree of buses and the table of functions. Buses fold, and a large board begins folded.
 
 import { hex, parent_of, size_in_words } from './report.js';
-import { badge, colour, make, mark_of, owner_in_words } from './marks.js';
+import { badge, colour, make, mark_of, owner_in_words, sign } from './marks.js';
 
 export const LARGE = 64;
-const MANY = 12;
+const MANY = 12, TOLD = 8;
 
-// What a function holds, part by part.
-export function places_of(one) {
+// What a function holds, part by part, but for regions that are told to be closed by what it lacks.
+export function places_of(one, lacks = []) {
+  const is_told = region => lacks.some(text => text.startsWith(`${one.path} ${region.name} at `));
   const places = one.regions.map(region => `${region.name} ${region.kind} at ${hex(region.first)} to ${hex(region.first + region.size - 1n)}, ${size_in_words(region.size)}`)
     .concat(one.windows.map(window => `${window.space} window ${hex(window.first)} to ${hex(window.last)}`));
-  const shut = [...(one.all_regions ?? []).filter(region => !region.open).map(region => `${region.name} ${region.kind} shut, ${size_in_words(region.size)}`),
+  const shut = [...(one.all_regions ?? []).filter(region => !region.open && !is_told(region)).map(region => `${region.name} ${region.kind} shut, ${size_in_words(region.size)}`),
     ...(one.all_windows ?? []).filter(window => !window.open).map(window => `${window.space} window shut`)];
   if (one.buses) places.unshift(`bridge to bus ${one.buses[1]}, last bus ${one.buses[2]}`);
   return [...places, ...shut];
+}
+
+// The first of many texts, and how many more there are.
+const few_of = texts => (texts.length > TOLD ? [...texts.slice(0, TOLD), `${texts.length - TOLD} more`] : texts);
+
+// A sign with how many texts it stands for.
+function sign_of(name, seen, meaning, texts) {
+  const one = make('b', name);
+  one.append(...sign(texts.length === 1 ? seen : `${seen} ${texts.length}`, ` ${meaning}: ${texts.length} `));
+  return one;
+}
+
+function line_of(name, seen, meaning, text) {
+  const one = make('div', name);
+  one.append(...sign(`${seen} `, `${meaning}: `), text);
+  return one;
 }
 
 function button_of(text, words, act) {
@@ -30,9 +47,9 @@ export class Board {
 
   forget() { this.turned.clear(); this.whole.clear(); }
 
-  // `troubles` are the texts that name a function as wrong, by its path.
-  draw(functions, owners, marks, troubles = new Map()) {
-    Object.assign(this, { functions, owners, marks, troubles, below: new Map() });
+  // `troubles` are the texts that name a function as wrong, by its path, and `lacks` those that name it as lacking something.
+  draw(functions, owners, marks, { troubles, lacks } = { troubles: new Map(), lacks: new Map() }) {
+    Object.assign(this, { functions, owners, marks, troubles, lacks, below: new Map() });
     for (const one of functions) {
       const parent = parent_of(one.path);
       if (!this.below.has(parent)) this.below.set(parent, []);
@@ -83,24 +100,26 @@ export class Board {
     return row;
   }
 
-  // What is wrong with a function, and behind a bridge whose bus is folded.
-  troubles_at(one) {
-    const own = this.troubles.get(one.path) ?? [];
+  // What is told of a function, and of those behind a bridge whose bus is folded.
+  told_at(one, texts) {
+    const own = texts.get(one.path) ?? [];
     if (one.kind !== 'bridge' || this.is_open(one.path)) return own;
-    return [...new Set([...own, ...[...this.troubles].filter(([path]) => path.startsWith(`${one.path}/`)).flatMap(([, texts]) => texts)])];
+    return [...new Set([...own, ...[...texts].filter(([path]) => path.startsWith(`${one.path}/`)).flatMap(([, those]) => those)])];
   }
 
   chip_of(one) {
-    const owner = this.owners.get(one.path), mark = mark_of(owner, this.marks), chip = make('div', 'chip'), troubles = this.troubles_at(one);
+    const owner = this.owners.get(one.path), mark = mark_of(owner, this.marks), chip = make('div', 'chip');
+    const [troubles, lacks] = [this.troubles, this.lacks].map(texts => this.told_at(one, texts));
     const owned = one.kind === 'bridge' || this.marks.size === 0 ? [] : [owner_in_words(owner)];
-    const words = [`${one.place}, ${one.words}, ${one.path}`, ...troubles, ...owned, ...places_of(one)];
+    const words = [`${one.place}, ${one.words}, ${one.path}`, ...few_of(troubles), ...few_of(lacks).map(text => `left to do: ${text}`), ...owned,
+      ...places_of(one, lacks)];
     chip.title = words.join('\n');
     chip.dataset.path = one.path;
     chip.tabIndex = 0;
     if (one.kind === 'bridge') chip.classList.add('bridge');
     else { colour(chip, mark); chip.append(badge(mark)); }
-    chip.append(`${one.place.slice(3)} ${one.words}`, ...(troubles.length > 0 ? [make('b', 'bang', troubles.length === 1 ? '!' : `! ${troubles.length}`)] : []),
-      make('small', '', one.identity));
+    chip.append(`${one.place.slice(3)} ${one.words}`, ...(troubles.length > 0 ? [sign_of('bang', '!', 'wrong', troubles)] : []),
+      ...(lacks.length > 0 ? [sign_of('lack', '○', 'left to do', lacks)] : []), make('small', '', one.identity));
     chip.classList.toggle('troubled', troubles.length > 0);
     chip.classList.toggle('lost', Boolean(one.lost));
     if (this.chosen !== null) this.let_choose(chip, one.path);
@@ -140,8 +159,9 @@ export class Board {
   row_of(one, names) {
     const row = make('tr', ''), owner = this.owners.get(one.path), held = make('td', ''), taken = make('td', 'owner');
     row.dataset.path = one.path;
-    for (const text of this.troubles.get(one.path) ?? []) held.append(make('div', 'wrong', `! ${text}`));
-    for (const place of places_of(one)) held.append(make('div', '', place));
+    const [troubles, lacks] = [this.troubles, this.lacks].map(texts => texts.get(one.path) ?? []);
+    held.append(...troubles.map(text => line_of('wrong', '!', 'wrong', text)), ...lacks.map(text => line_of('lacks', '○', 'left to do', text)));
+    for (const place of places_of(one, lacks)) held.append(make('div', '', place));
     if (one.kind !== 'bridge') taken.append(badge(mark_of(owner, this.marks)), owner ? `${owner.guest}, slot\u00a0${owner.slot}` : 'no guest');
     row.append(make('td', '', one.place), taken, make('td', '', one.path), make('td', '', `${one.words} ${one.identity}`), held, make('td', '', one.interrupt));
     [...row.children].forEach((cell, nth) => { cell.dataset.name = names[nth]; });

@@ -10,6 +10,7 @@ import time
 import tomllib
 import types
 
+import browse_ready
 from tried import CUT, FIELD, PAINTED, holds, said_last, text_of, type_line, until, write_field
 
 HERE = pathlib.Path(__file__).resolve().parent
@@ -195,6 +196,8 @@ def lines_are_explained(browser, page):
     browser.open(f'{page}#board=main&as=firmware')
     fill(browser, 'host cw 2')
     holds('firmware is offered what cycles find', browser.run(OFFERS) == ['00:02.0'], browser.run(OFFERS))
+    fill(browser, 'host re')
+    holds('firmware is offered what tells whether the board is ready', browser.run(OFFERS) == ['ready'], browser.run(OFFERS))
     fill(browser, 'a cr 0 0 4')
     holds('firmware has no guests', text_of(browser, 'why') == "'a' is no guest: host", text_of(browser, 'why'))
 
@@ -253,6 +256,7 @@ def registers_have_words(browser, page):
 
 # The views whose looks are tried, and the lines that are typed in them.
 VIEWS = [*((task['name'], parts_of(task)[0][1], SOLUTIONS[parts_of(task)[0][0]][:-1]) for task in TASKS), ('lines', 'board=server', ['web cw 0 0x10 4 0xg', 'web cr 0 0 4']),
+         ('left', 'lesson=wrong&part=1', [browse_ready.MENDED, *browse_ready.lines_of('prefetched')]),
          ('bytes', 'board=kinds&as=firmware', ['host cw 00:03.1 0x18 4 0x00010100'])]
 
 
@@ -290,7 +294,7 @@ ALL = [lessons_are_done, a_lesson_leads_on, a_teacher_hands_out, lines_are_expla
 
 
 def in_browser(browser, page, folder, shot=''):
-    for check in ALL:
+    for check in [*ALL, *browse_ready.ALL]:
         check(browser, page)
     looks_fit(browser, page, folder, shot)
 

@@ -1,10 +1,13 @@
-// Compares what the module answers with what the proved program wrote: reports, checks, refusals, replies, audits. Where a
-// guest's region stands is compared with what the guest finds as it sizes the region itself.
+// Compares what the module answers with what the proved program wrote: reports, checks, refusals, replies, audits, and whether
+// boards are ready. Where a guest's region stands is compared with what the guest finds as it sizes the region itself.
 
 import { Engine, run } from './engine.js';
+import { read_readiness } from './readiness.js';
 
 // what an audit writes of a board in order
 const NO_PROBLEM = new TextEncoder().encode('audit: ok\n');
+// what the program ends with where a board isn't ready, after the text
+const NOT_READY = 208;
 
 const same = (a, b) => a.length === b.length && a.every((one, nth) => one === b[nth]);
 
@@ -42,6 +45,17 @@ function regions_hold(engine, machine, board) {
   })));
 }
 
+// The text of whether a board is ready, or nothing where a line of it isn't read back: with the functions that it names, and counted.
+function readiness_of(made) {
+  const text = made.readiness(), { problems, lacks } = read_readiness(text), all = [...problems, ...lacks];
+  const count = all.length === 0 ? 'ok' : all.length === 1 ? '1 lack' : `${all.length} lacks`;
+  const is_read = text.endsWith(`ready: ${count}`) && all.every(one => one.of.length > 0 && one.of.every(({ path }) => one.text.includes(path)));
+  return new TextEncoder().encode(is_read ? `${text}\n` : '');
+}
+
+// What is told after a script, by the work that is asked.
+const AFTER = { audit: made => [made.audit() ?? NO_PROBLEM], ready: made => [readiness_of(made)], run: () => [], firmware: () => [] };
+
 // A case has what is asked, a board and its script, the number that refuses it or 0, and the output.
 function holds(engine, { work, board, script, number, output }) {
   if (work === 'list' || work === 'check') {
@@ -50,10 +64,10 @@ function holds(engine, { work, board, script, number, output }) {
   }
   const { number: refusal, made } = work === 'run' ? engine.open(board) : engine.open_at_reset(board);
   if (made === null) return refusal === number;
-  const replies = run(made, script), text = joined(work === 'audit' ? [...replies, made.audit() ?? NO_PROBLEM] : replies);
+  const text = joined([...run(made, script), ...AFTER[work](made)]), is_ready = new TextDecoder().decode(text).endsWith('ready: ok\n');
   const good = work !== 'run' || regions_hold(engine, made, board);
   made.close();
-  return good && number === 0 && same(text, output);
+  return good && number === (work === 'ready' && !is_ready ? NOT_READY : 0) && same(text, output);
 }
 
 // The names of the cases that differ.

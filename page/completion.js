@@ -6,7 +6,7 @@ import { register_at, registers_of } from './register_names.js';
 
 const DOES = { cr: 'reads configuration bytes', cw: 'writes configuration bytes', ir: 'reads ports', iw: 'writes ports', mr: 'reads memory', mw: 'writes memory',
   raise: 'its device raises bits', move: 'gives a function to a guest',
-  audit: 'tells what is wrong', guests: 'gives the board to its guests' };
+  audit: 'tells what is wrong', ready: 'tells what is wrong and what is left to do', guests: 'gives the board to its guests' };
 
 // An offer has what is put in, what is told beside it, and the names by which it is found.
 const offer = (text, told, ...names) => ({ text, told, names: [text, ...names] });

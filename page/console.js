@@ -10,9 +10,10 @@ const NOTED = 4;
 
 export class Console {
   // `parts` are its elements, and `box` the one in which lines are typed; `machine` gives what answers lines, or null; `whose` tells
-  // whose lines they are; `moved` is told of each move that was done, `heard` of each reply, and `ran` of each line.
-  constructor(parts, box, { machine, whose, moved, heard, ran }) {
-    Object.assign(this, { parts, box, machine, whose, moved, heard, ran, marks: new Map(), before: [], back: 0, playing: 0, said: [], scrolls: false });
+  // whose lines they are; `moved` is told of each move that was done, `heard` of each reply, `begins` of each line before it runs, with
+  // whether problems are noted, and `ran` of each line.
+  constructor(parts, box, { machine, whose, moved, heard, begins, ran }) {
+    Object.assign(this, { parts, box, machine, whose, moved, heard, begins, ran, marks: new Map(), before: [], back: 0, playing: 0, said: [], scrolls: false });
     parts.entry.addEventListener('submit', event => { event.preventDefault(); this.enter(); });
     parts.line.addEventListener('keydown', event => this.recall(event));
   }
@@ -49,6 +50,7 @@ export class Console {
     if (machine === null) { this.put('refused', 'The board is refused, so there is nothing to run.'); return; }
     this.said = [...this.said, line].slice(-LONGEST);
     if (line.trimStart().startsWith('#')) { this.put('remark', line.trimStart().slice(1).trim()); return; }
+    this.begins(line, true);
     const row = this.put('row', '');
     row.append(make('span', 'said', line));
     this.tell(line, machine, row);
@@ -85,7 +87,10 @@ export class Console {
     const told = `${count_in_words(lines.filter(line => !line.startsWith('#')).length, 'line')} ran before`, before = make(shows ? 'details' : 'div', 'before');
     before.append(...(shows ? [make('summary', '', told), make('pre', '', lines.join('\n'))] : [told]));
     this.parts.transcript.append(before);
-    for (const line of lines) this.follow_move(line, this.reply_of(line, machine));
+    for (const line of lines) {
+      this.begins(line, false);
+      this.follow_move(line, this.reply_of(line, machine));
+    }
   }
 
   enter() {

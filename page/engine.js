@@ -5,6 +5,7 @@ const NONE_THERE = 901;
 const TOO_SMALL = 902;
 const LONGEST_REPLY = 48;
 const LONGEST_LINE = 256;
+const ROOM = 1 << 16;
 
 export class Engine {
   static async of(bytes) {
@@ -25,9 +26,10 @@ export class Engine {
 
   word(at) { return Number(new DataView(this.exports.memory.buffer).getBigUint64(Number(at), true)); }
 
-  // What a call writes into a room that is large enough: { number, text }, where number is 0 or a refusal's.
-  told(call) {
-    for (let size = 1 << 16; ; ) {
+  // What a call writes into a room that is large enough: { number, text }, where number is 0 or a refusal's. `size` is that of the first
+  // room, since the text is made anew for each.
+  told(call, size = ROOM) {
+    for (;;) {
       const [number, needed, text] = this.with_rooms([size, 8], (out, length) => {
         this.bytes(length, 8).fill(0);
         const number = call(out, BigInt(size), length);
@@ -140,9 +142,23 @@ class Machine extends Held {
 
 // A board that firmware drives, and once a line hands it over, that of its guests.
 class Driven extends Held {
+  constructor(engine, handle) {
+    super(engine, handle);
+    this.room = ROOM;
+  }
+
   run_line(...words) { return this.engine.exports.pciguest_raw_board_run_line(...words); }
 
   free(handle) { this.engine.exports.pciguest_raw_board_free(handle); }
+
+  // The reply to `host ready`, which may have thousands of lines.
+  readiness() {
+    const { engine, handle, text: line, room } = this, said = new TextEncoder().encode('host ready');
+    engine.bytes(line, said.length).set(said);
+    const { text } = engine.told((...rooms) => this.run_line(handle, line, BigInt(said.length), ...rooms), room);
+    this.room = Math.max(room, 2 * text.length);
+    return new TextDecoder().decode(text).trimEnd();
+  }
 
   // What is wrong in the registers as they stand: a line for each problem, and one that counts them. Null once the board is
   // given to its guests: it was in order then, and stays so.

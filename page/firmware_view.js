@@ -1,9 +1,10 @@
-// The reader as firmware: what its cycles read of a board from reset on, its problems, and the registers of one function.
+// The reader as firmware: what its cycles read of a board from reset on, its problems and its lacks, and the registers of one function.
 
 import { AtReset, decodes_of } from './at_reset.js';
-import { troubles_of } from './audit.js';
-import { Audit } from './audit_view.js';
+import { texts_by_path } from './audit.js';
+import { Findings } from './findings_view.js';
 import { hex_line } from './fields.js';
+import { count_in_words } from './report.js';
 import { keeping_latch } from './asked.js';
 import { bytes_of, seen_in } from './registers.js';
 
@@ -11,7 +12,9 @@ export class Firmware {
   // `give` runs a line in the console.
   constructor(parts, board, addresses, registers, light, give) {
     Object.assign(this, { board, addresses, registers, give, driven: null, now: null, came: [] });
-    this.audit = new Audit(parts, light, path => this.choose(path));
+    const choose = path => this.choose(path);
+    this.problems = new Findings({ total: parts.total, list: parts.audit, few: 8 }, light, choose);
+    this.lacks = new Findings({ total: parts.left, list: parts.lacking, few: 4 }, light, choose);
   }
 
   // A board at reset, with the functions of its report and its machine after set-up; without a report nothing is drawn.
@@ -40,12 +43,19 @@ export class Firmware {
   // `owners` and `marks` are those of guests, who have nothing until the board is given to them.
   draw(apertures, owners, marks) {
     if (this.now === null) return;
-    const { functions, problems, given } = this.now, nobody = new Map(), whose = given ? [owners, marks] : [nobody, nobody];
-    this.audit.draw(problems, this.came);
+    const { functions, problems, lacks, given } = this.now, nobody = new Map(), whose = given ? [owners, marks] : [nobody, nobody];
+    this.draw_findings(problems, lacks);
     if (functions.length === 0) return;
-    this.board.draw(functions, ...whose, troubles_of(problems));
-    this.addresses.draw(functions, apertures, ...whose, problems, 'No region and no window is open.');
+    this.board.draw(functions, ...whose, { troubles: texts_by_path(problems), lacks: texts_by_path(lacks) });
+    this.addresses.draw(functions, apertures, ...whose, { problems, lacks }, 'No region and no window is open.');
     if (!given) this.draw_registers();
+  }
+
+  draw_findings(problems, lacks) {
+    const nothing = problems.length > 0 ? 'nothing else' : 'nothing, the board is ready';
+    this.problems.draw(problems, problems.length > 0 ? count_in_words(problems.length, 'problem') : 'ok', this.came);
+    this.problems.total.classList.toggle('wrong', problems.length > 0);
+    this.lacks.draw(lacks, lacks.length > 0 ? count_in_words(lacks.length, 'lack') : nothing);
   }
 
   // The registers of the selected function, with its bytes where a cycle finds it.

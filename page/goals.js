@@ -1,5 +1,5 @@
 // What a task wants, as conditions that the proved code judges, one a line, each with words behind ' # ' that are told in its place:
-//   ready            the board is ready
+//   ready            nothing is wrong in the registers as they stand, and nothing is lacking
 //   audit: TEXT      a line of the audit of the registers as they stand; `audit: ok` where nothing is wrong
 //   LINE -> REPLY    a read is answered so now
 //   -> REPLY         a line of the reader's was answered so since the task began
@@ -43,8 +43,9 @@ export function read_goal(text, guests, as) {
   return { rows, wrong: rows.length === 0 ? ['a goal has a condition, each on a line of its own'] : wrong };
 }
 
-// A board that was given to its guests was in order then, and stays so; it is asked no more.
+// A board that was given to its guests was in order then, and stays so; it is asked no more. Where firmware drives nothing there is no audit.
 function lines_of_audit(held) {
+  if (held.audit === undefined) return [];
   const told = held.audit();
   return told === null ? ['audit: ok'] : new TextDecoder().decode(told).split('\n');
 }
@@ -55,11 +56,11 @@ export class Goals {
   // A reply to a line of the reader's.
   hear(reply) { this.told.add(reply); }
 
-  // Which conditions hold now. `held` answers lines, and `ready` tells what a board lacks.
-  look(held, ready) {
+  // Which conditions hold now. `held` answers lines, and `lacks` tells what is wrong and what is lacking.
+  look(held, lacks) {
     const needs = kind => this.rows.some(one => one.kind === kind);
     const audit = needs('audit') ? lines_of_audit(held) : [];
-    this.lacks = needs('ready') ? ready() : [];
+    this.lacks = needs('ready') ? lacks() : [];
     const is_met = { ready: () => this.lacks.length === 0, audit: one => audit.includes(one.text), told: one => this.told.has(one.reply),
       read: one => asked_of(held, one.line) === one.reply };
     const look = () => this.rows.map(one => ({ words: one.words, met: is_met[one.kind]?.(one) ?? false }));

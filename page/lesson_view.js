@@ -1,7 +1,7 @@
 // The lessons as a row of numbers, and the task that one is at: its words, and what is done of its goal.
 
 import { count_in_words } from './report.js';
-import { make } from './marks.js';
+import { make, sign } from './marks.js';
 
 const LACKS_SHOWN = 4;
 
@@ -70,12 +70,11 @@ export class LessonView {
     this.draw_steps(lessons);
   }
 
-  // Each condition with whether it holds, and what the board lacks where the goal asks for that.
+  // Each condition with whether it holds, and what is wrong or lacking where the goal asks for that.
   draw_goal(lessons, rows, done) {
     this.parts.goals.replaceChildren(...rows.map(({ words, met }) => {
-      const item = make('li', met ? 'met' : ''), mark = make('span', 'mark', met ? '✓' : '○');
-      mark.setAttribute('aria-hidden', true);
-      item.append(mark, make('span', 'unseen', met ? 'done: ' : 'not yet: '), words);
+      const item = make('li', met ? 'met' : '');
+      item.append(...(met ? sign('✓', 'done: ') : sign('○', 'not yet: ')), words);
       return item;
     }));
     const { lacks } = lessons.goals, more = lacks.length > LACKS_SHOWN ? [`${lacks.length - LACKS_SHOWN} more`] : [];

@@ -13,7 +13,7 @@ export function read_task(found) {
 
 export class Lessons {
   // `tasks` are those of the page. `page` has `open`, which shows a board as somebody and runs lines that stand before; `held`, which
-  // gives what answers lines; `guests`, their names; and `lacks`, what the board lacks until it is ready.
+  // gives what answers lines; `guests`, their names; and `lacks`, the problems and the lacks of the board's registers.
   constructor(parts, tasks, page) {
     Object.assign(this, { tasks, page, progress: new Progress(), task: null, part: 0, goals: null, key: '', opening: false });
     this.view = new LessonView(parts, tasks, {

@@ -15,7 +15,6 @@ import { Registers } from './registers.js';
 import { GuestRegisters } from './guest_registers.js';
 import { Firmware } from './firmware_view.js';
 import { fragment_of, keep, kept, kept_in, task_in } from './keep.js';
-import { lacks_of } from './ready.js';
 import { Lessons } from './lessons.js';
 import { TaskForm } from './task_form.js';
 import { places_on } from './places.js';
@@ -39,14 +38,15 @@ const registers = new Registers(part, choose);
 const guest_registers = new GuestRegisters(part, registers, board, give);
 const firmware = new Firmware(part, board, addresses, registers, light, give);
 const box = new ScriptBox(part, known);
-const script_console = new Console(part, box, { machine: answers, whose: () => ({ as: speaking(), guests: guests() }), moved, heard: reply => lessons.hear(reply), ran });
-const lacks = () => (firmware.now === null ? ['the board is refused'] : lacks_of(firmware.driven, firmware.now, apertures));
+const script_console = new Console(part, box, { machine: answers, whose: () => ({ as: speaking(), guests: guests() }), moved, heard: reply => lessons.hear(reply), begins, ran });
+const lacks = () => (firmware.now === null ? ['firmware alone is told'] : [...firmware.now.problems, ...firmware.now.lacks].map(one => one.text));
 const lessons = new Lessons(part, TASKS, { open: open_task, held: answers, guests, left: set_up, lacks });
 const held = () => ({ board: part.board.value, script: script_console.script(), as, task: lessons.kept() });
 const all_lines = () => [lessons.lines(), script_console.script()].filter(one => one !== '').join('\n');
 new TaskForm(part, () => ({ ...held(), script: all_lines(), guests: guests() }));
 // The width up to which guests' registers begin folded.
 const NARROW = 640;
+const HANDS_OVER = /^\s*host\s+guests\s*$/;
 let following = false, unseen = false;
 
 // What one may type about: the functions with their numbers as they are now, and where regions stand.
@@ -60,6 +60,14 @@ function known() {
 function moved(from, to) {
   const path = [...owners].find(([, owner]) => owner.guest === from.guest && owner.slot === from.slot)?.[0];
   if (path !== undefined) { owners.set(path, to); draw(); }
+}
+
+// A board is looked at before a line gives it to its guests, as it doesn't tell from there on what it lacks. What runs before a task
+// isn't noted.
+function begins(line, is_noted) {
+  if (as !== 'firmware' || given() || !HANDS_OVER.test(line)) return;
+  if (is_noted) note();
+  else firmware.look();
 }
 
 // What is wrong after a line of firmware is noted under it; on a large board, after all that run at once. A read changes nothing.

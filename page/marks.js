@@ -24,6 +24,13 @@ export function make(tag, name, text = '') {
   return element;
 }
 
+// A sign, and what it means for who hears the page.
+export function sign(seen, meaning) {
+  const mark = make('span', 'mark', seen);
+  mark.setAttribute('aria-hidden', true);
+  return [mark, make('span', 'unseen', meaning)];
+}
+
 // Puts a guest's colour on an element, or nobody's.
 export function colour(element, mark) {
   element.classList.toggle('owned', mark !== undefined);

@@ -41,7 +41,7 @@ function forms_of_host(guests) {
 }
 
 const FIRMWARE = { cr: [FUNCTION, OFFSET, WIDTH], cw: [FUNCTION, OFFSET, WIDTH, VALUE], ir: [PORT, WIDTH], iw: [PORT, WIDTH, VALUE],
-  mr: [ADDRESS, WIDTH], mw: [ADDRESS, WIDTH, VALUE], audit: [], guests: [] };
+  mr: [ADDRESS, WIDTH], mw: [ADDRESS, WIDTH, VALUE], audit: [], ready: [], guests: [] };
 
 // What a name may do: each second word with the words after it. Firmware is alone on its board.
 export function forms_of(name, guests, as) {

@@ -1,0 +1,37 @@
+// Problems or lacks as a list. Each leads to the functions that it names.
+
+import { parent_of } from './report.js';
+import { make } from './marks.js';
+
+export class Findings {
+  // `total` and `list` are elements, and `few` is how many are shown at first; `light` is given paths, and `choose` one.
+  constructor({ total, list, few }, light, choose) { Object.assign(this, { total, list, few, light, choose, whole: false, all: [], came: [] }); }
+
+  // `told` is what stands for all of them; those that came are marked, but where that are all.
+  draw(all, told, came = []) {
+    Object.assign(this, { all, came: all.length === came.length ? [] : came });
+    if (this.total.textContent !== told) this.total.textContent = told;
+    this.redraw();
+  }
+
+  redraw() {
+    const { all, few, whole } = this;
+    this.list.replaceChildren(...(whole ? all : all.slice(0, few)).map(one => this.item_of(one)));
+    if (all.length <= few) return;
+    const item = make('li', ''), more = Object.assign(make('button', 'fold', whole ? 'show fewer' : `${all.length - few} more`), { type: 'button' });
+    more.addEventListener('click', () => { this.whole = !whole; this.redraw(); this.list.lastChild.firstChild.focus({ preventScroll: true }); });
+    item.append(more);
+    this.list.append(item);
+  }
+
+  // A function that isn't found leads to the bridge above it.
+  item_of({ text, of, number }) {
+    const item = make('li', this.came.includes(text) ? 'came' : ''), button = Object.assign(make('button', '', text), { type: 'button' });
+    for (const event of ['focus', 'pointerenter']) button.addEventListener(event, () => this.light(...of.map(one => one.path)));
+    for (const event of ['blur', 'pointerleave']) button.addEventListener(event, () => this.light());
+    const last = of[of.length - 1].path;
+    button.addEventListener('click', () => this.choose(number === null ? last : parent_of(last) || last));
+    item.append(button);
+    return item;
+  }
+}
