@@ -15,8 +15,8 @@ use crate::fault::ImageFault;
 use bars::Kind;
 use headers::{ConfigBlock, EndpointDecl, Region};
 
-/// A register of configuration space: where it stands, how many bytes it has, its value at reset, and the bits
-/// that a write sets and that writing a one clears.
+/// A register of configuration space: where it stands, how many bytes it has, its value at reset, and
+/// the bits that a write sets and that writing a one clears.
 #[derive(Clone, Copy)]
 pub(crate) struct Row {
     pub(crate) off: u16,
@@ -41,7 +41,8 @@ fn can_hold(off: u16, value: u8, writable: u8, clearable: u8, byte: u8) -> bool
 fn after_row(row: Row, bytes: &[u8]) -> Result<&[u8], ImageFault>
     requires { row.off + row.width < 2 ^ 16 }
     ensures left { IfOk result (λ rest. after_values (row_cells row) bytes.now ≡ Ok rest.now) }
-    ensures refused { IfErr result (λ why. after_values (row_cells row) bytes.now ≡ Err (number_of why)) }
+    ensures refused { IfErr result (λ why.
+        after_values (row_cells row) bytes.now ≡ Err (number_of why)) }
 {
     let Row {
         mut off,
@@ -87,7 +88,8 @@ fn after_any(count: usize, bytes: &[u8]) -> Result<&[u8], ImageFault>
 /// The bytes after the values of registers.
 fn after_rows<'a>(rows: &[Row], bytes: &'a [u8]) -> Result<&'a [u8], ImageFault>
     requires { Each (λ row. row.off + row.width < 2 ^ 16) rows.now }
-    ensures left { IfOk result (λ rest. after_values (flat_map row_cells rows.now) bytes.now ≡ Ok rest.now) }
+    ensures left { IfOk result (λ rest.
+        after_values (flat_map row_cells rows.now) bytes.now ≡ Ok rest.now) }
     ensures refused { IfErr result (λ why.
         after_values (flat_map row_cells rows.now) bytes.now ≡ Err (number_of why)) }
 {
@@ -119,7 +121,8 @@ fn after_blocks<'a>(blocks: &[ConfigBlock], bytes: &'a [u8]) -> Result<&'a [u8],
 
 /// A register that no write changes.
 fn fixed(off: u16, width: u8, value: u32) -> Row
-    ensures { result ≡ record { off = off; width = width; value = value; writable = 0; clearable = 0 } }
+    ensures { result
+        ≡ record { off = off; width = width; value = value; writable = 0; clearable = 0 } }
 {
     Row {
         off,
@@ -132,7 +135,8 @@ fn fixed(off: u16, width: u8, value: u32) -> Row
 
 /// A register that is 0 at reset, of which a write sets these bits.
 fn settable(off: u16, width: u8, writable: u64) -> Row
-    ensures { result ≡ record { off = off; width = width; value = 0; writable = writable; clearable = 0 } }
+    ensures { result
+        ≡ record { off = off; width = width; value = 0; writable = writable; clearable = 0 } }
 {
     Row {
         off,
@@ -187,7 +191,8 @@ fn register_width(kind: Kind) -> u8
 /// The base address register of a region.
 fn base_row(region: &Region) -> Row
     requires { IsLawfulRegion region.now }
-    ensures cells { row_cells result ≡ base_cells region.now.index region.now.kind region.now.size 0 }
+    ensures cells { row_cells result
+        ≡ base_cells region.now.index region.now.kind region.now.size 0 }
     ensures low { result.off + result.width < 2 ^ 16 }
 {
     let kind = region.bar.kind();
@@ -206,7 +211,8 @@ fn after_regions<'a>(regions: &[Region], bytes: &'a [u8]) -> Result<&'a [u8], Im
     ensures left { IfOk result (λ rest.
         after_values (flat_map (region_cells (λ r. 0)) regions.now) bytes.now ≡ Ok rest.now) }
     ensures refused { IfErr result (λ why.
-        after_values (flat_map (region_cells (λ r. 0)) regions.now) bytes.now ≡ Err (number_of why)) }
+        after_values (flat_map (region_cells (λ r. 0)) regions.now) bytes.now
+        ≡ Err (number_of why)) }
 {
     let mut left = regions;
     let mut bytes = bytes;
