@@ -1,6 +1,6 @@
 -- The parts of a declaration as bytes.
 --     cell_bytes      a cell
---     endpoint_head, region_head, block_head      what stands before regions, and before the cells of a region or a block
+--     endpoint_head, region_head, block_head      what stands before regions, and before cells of a region or a block
 --     region_bytes, block_bytes      a region, a block
 --     counted_blocks, rest_bytes, declared_bytes      blocks with their count; what follows the head; a declaration
 --     DeclaredBytes      they are the bytes of the declaration
@@ -17,11 +17,13 @@ cell_bytes c = cell_layout.bytes c
 -- and how many regions follow
 unfoldable pub endpoint_head : Endpoint → List ℕ
 endpoint_head d =
-    identity_layout.bytes (parts_of_endpoint d).0 ++ (fixed_layout.bytes (parts_of_endpoint d).1.0 ++ le_bytes 1 (length d.regions))
+    identity_layout.bytes (parts_of_endpoint d).0
+    ++ (fixed_layout.bytes (parts_of_endpoint d).1.0 ++ le_bytes 1 (length d.regions))
 
 -- and how many cells follow
 unfoldable pub region_head : Region → List ℕ
-region_head r = le_bytes 1 r.index ++ (le_bytes 1 (kind_number r.kind) ++ (le_bytes 8 r.size ++ le_bytes 2 (length r.cells)))
+region_head r =
+    le_bytes 1 r.index ++ (le_bytes 1 (kind_number r.kind) ++ (le_bytes 8 r.size ++ le_bytes 2 (length r.cells)))
 
 unfoldable pub block_head : ConfigBlock → List ℕ
 block_head b = le_bytes 1 b.offset ++ le_bytes 1 (length b.cells)

@@ -16,8 +16,8 @@ use headers::{ConfigBlock, EndpointDecl, EndpointValues, Region};
 /// The bytes after these own ones, which have to stand there.
 pub(crate) fn after<'a>(own: &[u8], bytes: &'a [u8]) -> Result<&'a [u8], ImageFault>
     ensures left { IfOk result (λ rest. after_bytes 906 own.now bytes.now ≡ Ok rest.now) }
-    ensures refused { IfErr result (λ why. after_bytes 906 own.now bytes.now
-        ≡ Err (number_of why)) }
+    ensures refused { IfErr result (λ why.
+        after_bytes 906 own.now bytes.now ≡ Err (number_of why)) }
 {
     match bytes.strip_prefix(own) {
         Some(rest) => Ok(rest),
@@ -47,8 +47,8 @@ fn after_cells<'a>(cells: &[Cell], bytes: &'a [u8]) -> Result<&'a [u8], ImageFau
 fn after_region<'a>(region: &Region, bytes: &'a [u8]) -> Result<&'a [u8], ImageFault>
     requires lawful { IsLawfulRegion region.now }
     requires count { length region.now.cells ≤ 4096 }
-    ensures left { IfOk result (λ rest. after_bytes 906 (region_bytes region.now) bytes.now
-        ≡ Ok rest.now) }
+    ensures left { IfOk result (λ rest.
+        after_bytes 906 (region_bytes region.now) bytes.now ≡ Ok rest.now) }
     ensures refused { IfErr result (λ why.
         after_bytes 906 (region_bytes region.now) bytes.now ≡ Err (number_of why)) }
 {
@@ -75,8 +75,8 @@ fn after_regions<'a>(regions: &[Region], bytes: &'a [u8]) -> Result<&'a [u8], Im
 
 fn after_block<'a>(block: &ConfigBlock, bytes: &'a [u8]) -> Result<&'a [u8], ImageFault>
     requires { IsConfigBlock block.now }
-    ensures left { IfOk result (λ rest. after_bytes 906 (block_bytes block.now) bytes.now
-        ≡ Ok rest.now) }
+    ensures left { IfOk result (λ rest.
+        after_bytes 906 (block_bytes block.now) bytes.now ≡ Ok rest.now) }
     ensures refused { IfErr result (λ why.
         after_bytes 906 (block_bytes block.now) bytes.now ≡ Err (number_of why)) }
 {
@@ -104,8 +104,8 @@ fn after_blocks<'a>(blocks: &[ConfigBlock], bytes: &'a [u8]) -> Result<&'a [u8],
 fn after_counted<'a>(blocks: &[ConfigBlock], bytes: &'a [u8]) -> Result<&'a [u8], ImageFault>
     requires lawful { Each IsConfigBlock blocks.now }
     requires count { length blocks.now < 256 }
-    ensures left { IfOk result (λ rest. after_bytes 906 (counted_blocks blocks.now) bytes.now
-        ≡ Ok rest.now) }
+    ensures left { IfOk result (λ rest.
+        after_bytes 906 (counted_blocks blocks.now) bytes.now ≡ Ok rest.now) }
     ensures refused { IfErr result (λ why.
         after_bytes 906 (counted_blocks blocks.now) bytes.now ≡ Err (number_of why)) }
 {
@@ -116,8 +116,8 @@ fn after_counted<'a>(blocks: &[ConfigBlock], bytes: &'a [u8]) -> Result<&'a [u8]
 /// The bytes after the regions of a declaration and its blocks.
 fn after_rest<'a>(values: &EndpointValues, bytes: &'a [u8]) -> Result<&'a [u8], ImageFault>
     requires { IsLawfulEndpoint values.now }
-    ensures left { IfOk result (λ rest. after_bytes 906 (rest_bytes values.now) bytes.now
-        ≡ Ok rest.now) }
+    ensures left { IfOk result (λ rest.
+        after_bytes 906 (rest_bytes values.now) bytes.now ≡ Ok rest.now) }
     ensures refused { IfErr result (λ why.
         after_bytes 906 (rest_bytes values.now) bytes.now ≡ Err (number_of why)) }
 {
@@ -127,8 +127,8 @@ fn after_rest<'a>(values: &EndpointValues, bytes: &'a [u8]) -> Result<&'a [u8], 
 
 /// The bytes after the parts of a declaration.
 fn after_parts<'a>(decl: &EndpointDecl, bytes: &'a [u8]) -> Result<&'a [u8], ImageFault>
-    ensures left { IfOk result (λ rest. after_bytes 906 (declared_bytes decl.now) bytes.now
-        ≡ Ok rest.now) }
+    ensures left { IfOk result (λ rest.
+        after_bytes 906 (declared_bytes decl.now) bytes.now ≡ Ok rest.now) }
     ensures refused { IfErr result (λ why.
         after_bytes 906 (declared_bytes decl.now) bytes.now ≡ Err (number_of why)) }
 {
@@ -137,8 +137,8 @@ fn after_parts<'a>(decl: &EndpointDecl, bytes: &'a [u8]) -> Result<&'a [u8], Ima
     after_rest(values, bytes)
 }
 
-/// The bytes after those of this very declaration, with which they have to begin. Refuses too few bytes, and those of
-/// another declaration.
+/// The bytes after those of this very declaration, with which they have to begin. Refuses too few
+/// bytes, and those of another declaration.
 #[tactic(auto, using(crate::proofs::DeclaredBytes::declared_is))]
 pub fn after_declaration<'a>(decl: &EndpointDecl, bytes: &'a [u8]) -> Result<&'a [u8], ImageFault>
     ensures left { IfOk result (λ rest.

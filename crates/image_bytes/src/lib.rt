@@ -1,5 +1,5 @@
-//! The bytes of the functions of a guest's image, where they lie: declarations are written into a buffer, and bytes are
-//! compared with them. No call takes memory.
+//! The bytes of the functions of a guest's image, where they lie: declarations are written into a
+//! buffer, and bytes are compared with them. No call takes memory.
 #![tactic(auto)]
 
 mod comparing;

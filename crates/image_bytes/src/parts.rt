@@ -72,7 +72,8 @@ fn kind_number(kind: Kind) -> u8
     }
 }
 
-/// What stands before the cells of a region: its first register, its kind, its size, and how many cells.
+/// What stands before the cells of a region: its first register, its kind, its size, and how many
+/// cells.
 pub(crate) fn region_head(region: &Region) -> [u8; 12]
     requires index { region.now.index < 256 }
     requires count { length region.now.cells ≤ 4096 }

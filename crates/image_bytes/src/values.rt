@@ -15,8 +15,8 @@ use crate::fault::ImageFault;
 use bars::Kind;
 use headers::{ConfigBlock, EndpointDecl, Region};
 
-/// A register of configuration space: where it stands, how many bytes it has, its value at reset, and the bits
-/// that a write sets and that writing a one clears.
+/// A register of configuration space: where it stands, how many bytes it has, its value at reset, and
+/// the bits that a write sets and that writing a one clears.
 #[derive(Clone, Copy)]
 pub(crate) struct Row {
     pub(crate) off: u16,
@@ -41,8 +41,8 @@ fn can_hold(off: u16, value: u8, writable: u8, clearable: u8, byte: u8) -> bool
 fn after_row(row: Row, bytes: &[u8]) -> Result<&[u8], ImageFault>
     requires { row.off + row.width < 2 ^ 16 }
     ensures left { IfOk result (λ rest. after_values (row_cells row) bytes.now ≡ Ok rest.now) }
-    ensures refused { IfErr result (λ why. after_values (row_cells row) bytes.now
-        ≡ Err (number_of why)) }
+    ensures refused { IfErr result (λ why.
+        after_values (row_cells row) bytes.now ≡ Err (number_of why)) }
 {
     let Row {
         mut off,
@@ -88,8 +88,8 @@ fn after_any(count: usize, bytes: &[u8]) -> Result<&[u8], ImageFault>
 /// The bytes after the values of registers.
 fn after_rows<'a>(rows: &[Row], bytes: &'a [u8]) -> Result<&'a [u8], ImageFault>
     requires { Each (λ row. row.off + row.width < 2 ^ 16) rows.now }
-    ensures left { IfOk result (λ rest. after_values (flat_map row_cells rows.now) bytes.now
-        ≡ Ok rest.now) }
+    ensures left { IfOk result (λ rest.
+        after_values (flat_map row_cells rows.now) bytes.now ≡ Ok rest.now) }
     ensures refused { IfErr result (λ why.
         after_values (flat_map row_cells rows.now) bytes.now ≡ Err (number_of why)) }
 {

@@ -1,7 +1,7 @@
 -- The bytes of an image: a header, the latch, and 32 slots. A function has its declaration, then a byte for each cell.
 --     magic, version      what an image begins with
 --     cell_layout, region_layout, block_layout, endpoint_layout      the parts of a declaration
---     values_layout, function_layout, latch_layout, image_layout      a function's values; a function; a latch; an image
+--     values_layout, function_layout, latch_layout, image_layout      values; a function; a latch; an image
 --     declaration_bytes, image_bytes      the bytes of a declaration, and of an image
 --     image_of bytes      the image whose bytes they are
 use Rattle.std.specs.Prelude.{List, ℕ, ◌==◌, true, false, if◌then◌else◌, nat_lt, length, Option}
@@ -124,7 +124,8 @@ ImageParts = Unit {0} × (Unit {0} × (ℕ × List (Option SavedFunction)))
 
 abbrev pub image_layout : Layout Image
 image_layout =
-    through (λ (x : ImageParts). record { latch = x.1.1.0; slots = x.1.1.1 }) (λ (i : Image). (tt, (tt, (i.latch, i.slots))))
+    through (λ (x : ImageParts). record { latch = x.1.1.0; slots = x.1.1.1 })
+    (λ (i : Image). (tt, (tt, (i.latch, i.slots))))
     (both (exactly 4 magic) (both (exactly 4 version) (both latch_layout (repeated 32 (optional function_layout)))))
 
 -- ---- as bytes

@@ -3,7 +3,7 @@
 --     image_of_lone, image_of_guest      the image of what a guest alone holds; of a guest of a world
 --     lone_of_image      what a guest holds into which an image was loaded
 --     after_load name i w      the world in which this guest holds what the image says, and all else is as it was
---     at_reset, after_restart name w      a guest with all functions and its latch at reset; the world in which this one is so
+--     at_reset, after_restart name w      a guest with all functions and its latch at reset; the world with this one so
 --     fixed_bits, can_hold, fit_cells      what a cell, and what the cells of a function, can come to hold
 --     Fits i g      what fits a guest: equal declarations slot by slot, and what their cells can come to hold
 use Rattle.std.specs.Prelude.{List, [], ◌∷◌, ◌≡◌, ℕ, Bool, true, false, ◌&&◌, ◌||◌, ◌==◌, bit_and, map, Option, Some, None}

@@ -1,11 +1,12 @@
 -- Laws of guests that are saved and loaded.
 --     KeepsWhatWasSaved      a world into which a guest is loaded as it was saved stays as it is
---     LoadedHolds, RestartedHolds      what a guest holds after a load is told by the image alone; after a restart it is at reset
+--     LoadedHolds      what a guest holds after a load is told by the image alone
+--     RestartedHolds      after a restart it is at reset
 --     HoldsAsSaved, AnswersAsSaved      a guest that is loaded with the image of another, of this world or of another
 --                                       one, holds what that one held, and is told the same by the same inputs
 --     OthersAfterLoad, NamesAfterLoad, PathsAfterLoad, HandoffAfterLoad      all else that guests have stays
 --     BoardBesideLoad      and so do the board's functions that the guest hasn't
---     BoardAfterLoad, LoadsAlike      of those that it has the board takes what the guest has no copies of, and nothing else
+--     BoardAfterLoad, LoadsAlike      of those that it has the board takes what the guest has no copies of
 --     SeatedAfterLoad, LawfulAfterLoad      after a load of what fits guests stay seated, and the world lawful
 --     ShownAfterLoad      and the same handoff is shown
 use Rattle.std.specs.Prelude.{◌≡◌, ℕ, List, Some, IsFalse, IsSome, slice_get}
@@ -52,7 +53,8 @@ HoldsAsSaved = (w v : WorldNow) (from to : Text) → IsCopy w from v to
     → lone_of (copied from w to v).guests to ≡ lone_of w.guests from
 
 -- whatever else happens in the two worlds
-pub record AnswersAlike (w : WorldNow) (from : Text) (ones : List Request) (v : WorldNow) (to : Text) (others : List Request) : Type 0 where
+pub record AnswersAlike (w : WorldNow) (from : Text) (ones : List Request) (v : WorldNow) (to : Text)
+    (others : List Request) : Type 0 where
   pub replies : all_told_of to v others ≡ all_told_of from w ones
   pub holds : lone_of (after_requests v others).guests to ≡ lone_of (after_requests w ones).guests from
 
@@ -88,7 +90,8 @@ abbrev pub BoardAfterLoad : Type 0
 BoardAfterLoad = (b : Board) (w : WorldNow) → AreSeated b w.guests → (name : Text) (i : Image)
     → Fits i (lone_of w.guests name) → (n : ℕ) (p : Path) (s : SavedFunction) → path_in w.guests name n ≡ Some p
     → slice_get i.slots n ≡ Some (Some s)
-    → file_at (board_state (after_load name i w)).functions p ≡ agreed_file (file_at w.handoff.functions p) (restored s).file
+    → file_at (board_state (after_load name i w)).functions p
+    ≡ agreed_file (file_at w.handoff.functions p) (restored s).file
 
 abbrev pub LoadsAlike : Type 0
 LoadsAlike = (file : File) → ChangesAlike (λ own. file) (λ shown. agreed_file shown file)

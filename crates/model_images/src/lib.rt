@@ -1,4 +1,5 @@
-//! Images of guests, by which a guest is saved, loaded and carried elsewhere, as definitions, and laws about them.
+//! Images of guests, by which a guest is saved, loaded and carried elsewhere, as definitions, and
+//! laws about them.
 #![tactic(auto)]
 
 ghost use Rattle.model_images.specs.FitLaws.{FittingAfter, FittingAlong, FittingAtFirst, SavedFits};
@@ -9,8 +10,8 @@ ghost use Rattle.model_images.specs.LoadLaws.{PathsAfterLoad, RestartedHolds, Se
 ghost use Rattle.model_images.specs.RequestLaws.{AnswersStayAlong, AnswersStayByCount, LawfulAlongRequests, RequestCountsGrow};
 ghost use Rattle.model_images.specs.Requests.{IsolatedByRequests};
 
-/// A guest that is loaded with an image holds what the guest held that was saved, in whatever world, and is told by
-/// the same inputs the same. Loading what was saved changes nothing.
+/// A guest that is loaded with an image holds what the guest held that was saved, in whatever
+/// world, and is told by the same inputs the same. Loading what was saved changes nothing.
 pub fn loaded_as_saved()
     ensures nothing { KeepsWhatWasSaved }
     ensures loaded { LoadedHolds }
@@ -19,7 +20,8 @@ pub fn loaded_as_saved()
     ensures answers { AnswersAsSaved }
 {}
 
-/// A load changes what no other guest holds, no name, no path and no handoff, and the board in no function of another.
+/// A load changes what no other guest holds, no name, no path and no handoff, and the board in no
+/// function of another.
 pub fn loads_touch_one_guest()
     ensures others { OthersAfterLoad }
     ensures names { NamesAfterLoad }
@@ -30,8 +32,8 @@ pub fn loads_touch_one_guest()
     ensures alike { LoadsAlike }
 {}
 
-/// Along any actions, loads and restarts, what a guest is told and what it holds are those of its own inputs, over what
-/// it held before.
+/// Along any actions, loads and restarts, what a guest is told and what it holds are those of its
+/// own inputs, over what it held before.
 pub fn requests_are_isolated()
     ensures { IsolatedByRequests }
 {}
@@ -51,8 +53,9 @@ pub fn saved_guests_fit()
     ensures fits { SavedFits }
 {}
 
-/// Along requests whose images fit the world stays lawful. A guest's count grows by one with each request that changes
-/// it, and while it stays, each answer stays where the regions of the guest's functions stand.
+/// Along requests whose images fit the world stays lawful. A guest's count grows by one with each
+/// request that changes it, and while it stays, each answer stays where the regions of the guest's
+/// functions stand.
 pub fn counts_tell_requests()
     ensures lawful { LawfulAlongRequests }
     ensures along { AnswersStayAlong }
