@@ -236,7 +236,8 @@ impl Board {
     /// apertures of the board's file. Nothing changes, also where memory is out.
     pub fn ready(&mut self, alloc: Global) -> Result<Readiness, AllocError>
         ensures text { IfOk result (λ r.
-            string_bytes r.text ≡ ready_report self.old.world.apertures self.old.state.functions) }
+            string_bytes r.text
+            ≡ ready_report self.old.world.apertures self.old.state.functions) }
         ensures count { IfOk result (λ r.
             r.count ≡ lack_count self.old.world.apertures self.old.state.functions) }
         ensures after { self.new ≡ self.old }

@@ -65,11 +65,12 @@ pub fn perform<R: Reader, W: Writer>(
     // Only a failed write or read, what a check tells, a board that isn't ready and no memory once lines ran come
     // after a part was written.
     ensures unread { IfErr result (λ f.
-        f ≢ Fault.Read → f ≢ Fault.Write → f ≢ Fault.NotReady → ¬ IsLacking choice.now f
-        → reader.new ≡ reader.old) }
+        f ≢ Fault.Read → f ≢ Fault.Write → f ≢ Fault.NotReady
+        → ¬ IsLacking choice.now f → reader.new ≡ reader.old) }
     ensures nothing { IfErr result (λ f.
-        f ≢ Fault.Read → f ≢ Fault.Write → f ≢ Fault.NotReady → ¬ IsTelling choice.now f
-        → ¬ IsLacking choice.now f → writer.new ≡ writer.old) }
+        f ≢ Fault.Read → f ≢ Fault.Write → f ≢ Fault.NotReady
+        → ¬ IsTelling choice.now f → ¬ IsLacking choice.now f
+        → writer.new ≡ writer.old) }
 
     // Where memory is out once lines ran, for a question or for a handover, what they write was flushed.
     ensures lacking_flushed { IfErr result (λ f. IsLacking choice.now f →

@@ -37,7 +37,8 @@ pub fn ready<R: Reader, W: Writer>(
 
     ensures file { IfErr result (OnFile (Refuses board.now)) }
     ensures faults { IfErr result IsOfReadiness }
-    ensures nothing { IfErr result (λ f. IsOfFile f → (reader.new ≡ reader.old) × (writer.new ≡ writer.old)) }
+    ensures nothing { IfErr result (λ f. IsOfFile f
+        → (reader.new ≡ reader.old) × (writer.new ≡ writer.old)) }
 
     // No memory for a line or for the text after them: what the lines before write was flushed if it is anything.
     ensures lacking_flushed { IsErrOf result (Fault.SetUp Memory) →
