@@ -1,12 +1,13 @@
 // The words that may stand where one types in a line: guests, what they do, functions by path or number, registers by name.
 
 import { hex, two_digits } from './report.js';
-import { forms_of, number_of, shape_of, words_in } from './reasons.js';
+import { form_of, forms_of, number_of, shape_of, words_in } from './reasons.js';
 import { register_at, registers_of } from './register_names.js';
 
 const DOES = { cr: 'reads configuration bytes', cw: 'writes configuration bytes', ir: 'reads ports', iw: 'writes ports', mr: 'reads memory', mw: 'writes memory',
   raise: 'its device raises bits', move: 'gives a function to a guest',
-  audit: 'tells what is wrong', ready: 'tells what is wrong and what is left to do', guests: 'gives the board to its guests' };
+  audit: 'tells what is wrong', ready: 'tells what is wrong and what is left to do', guests: 'gives the board to its guests',
+  why: 'tells who answers, or why nobody does' };
 
 // An offer has what is put in, what is told beside it, and the names by which it is found.
 const offer = (text, told, ...names) => ({ text, told, names: [text, ...names] });
@@ -38,7 +39,7 @@ function offers_for({ name, words: those = [] }, words, board) {
     const one = function_in(words, board), register = one && register_at(one.kind, Number(number_of(words[3].word) ?? 256n));
     return register ? [offer(`${register.width}`, `bytes of ${register.title}`)] : [];
   }
-  if (name === 'the address' || name === 'the port') return regions_in(SPACE[verb[0]], board, who);
+  if (name === 'the address' || name === 'the port') return regions_in(verb === 'why' ? words[2].word : SPACE[verb[0]], board, who);
   return those.map(one => offer(one, ''));
 }
 
@@ -47,8 +48,8 @@ function offers_at(nth, words, board) {
   if (nth === 0) return [...names.map(one => offer(one, 'guest')), offer('host', board.as === 'firmware' ? 'firmware' : 'the host')];
   const forms = forms_of(words[0].word, names, board.as);
   if (forms === null) return [];
-  if (nth === 1) return Object.entries(forms).map(([verb, form]) => offer(verb, `${DOES[verb] ?? ''}: ${shape_of([words[0].word, verb], form)}`));
-  const word = forms[words[1].word]?.[nth - 2];
+  if (nth === 1) return Object.keys(forms).map(verb => offer(verb, `${DOES[verb] ?? ''}: ${shape_of([words[0].word, verb], form_of(forms, verb))}`));
+  const word = form_of(forms, words[1].word, words[2]?.word)?.[nth - 2];
   return word === undefined ? [] : offers_for(word, words, board);
 }
 

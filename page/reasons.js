@@ -28,6 +28,7 @@ const FUNCTION = { name: 'the function',
 
 const SLOT = counted('the slot'), OFFSET = counted('the offset'), PORT = counted('the port'), ADDRESS = counted('the address'), WIDTH = counted('the width');
 const VALUE = counted('the value', 0xffffffffn);
+const ASKED_SPACE = among('the space', ['mem', 'io', 'cfg'], 'is no space: mem, io or cfg');
 
 // The words after the second, by the second: of a guest, of its host, and of firmware.
 const GUEST = { cr: [SLOT, OFFSET, WIDTH], cw: [SLOT, OFFSET, WIDTH, VALUE], ir: [PORT, WIDTH], iw: [PORT, WIDTH, VALUE],
@@ -41,7 +42,14 @@ function forms_of_host(guests) {
 }
 
 const FIRMWARE = { cr: [FUNCTION, OFFSET, WIDTH], cw: [FUNCTION, OFFSET, WIDTH, VALUE], ir: [PORT, WIDTH], iw: [PORT, WIDTH, VALUE],
-  mr: [ADDRESS, WIDTH], mw: [ADDRESS, WIDTH, VALUE], audit: [], ready: [], guests: [] };
+  mr: [ADDRESS, WIDTH], mw: [ADDRESS, WIDTH, VALUE], audit: [], ready: [], guests: [],
+  why: space => [ASKED_SPACE, { mem: ADDRESS, io: counted('the port', 0xffffffffn), cfg: FUNCTION }[space] ?? counted('the place')] };
+
+// The words after the second of a line: of one that asks why, they go by the third.
+export function form_of(forms, verb, third) {
+  const form = forms[verb];
+  return typeof form === 'function' ? form(third) : form;
+}
 
 // What a name may do: each second word with the words after it. Firmware is alone on its board.
 export function forms_of(name, guests, as) {
@@ -80,7 +88,7 @@ export function why_bad(line, guests, as) {
   if (words.length < 2) return { why: `the second word is missing: ${verbs.join(', ')}`, word: null, begun: true };
   const verb = words[1].word;
   if (!verbs.includes(verb)) return { why: `'${verb}' is nothing that ${who} does: ${verbs.join(', ')}`, word: words[1], begun: begins(verbs, verb, 1) };
-  const found = wrong_word(words, forms[verb]);
+  const found = wrong_word(words, form_of(forms, verb, words[2]?.word));
   return found && { ...found, begun: found.begun && (found.word === null || last(words.indexOf(found.word))) };
 }
 
