@@ -3,7 +3,7 @@
  * docs/LIBRARY.md says how to build and use the library, and what is proved of it. Every call answers 0, or the number of
  * a refusal (enum pciguest_status), but for pciguest_version and pciguest_strerror, and pciguest_piece and
  * pciguest_ends_within, which only compute. A call that answers a number other than 0 changed nothing and stored nothing,
- * but for a length that tells how much room a text needs, and for the text of pciguest_check.
+ * but for a length that tells how much room a text needs, or how many rows there are, and for the text of pciguest_check.
  *
  * tools/bindings reads the declarations and comments below, and writes from them library/words.c and what the modules for
  * Rust and Python declare.
@@ -127,6 +127,26 @@ struct pciguest_board_function {
     uint32_t opens_memory;             /* 1 or 0: the same of memory */
 };
 
+/* The kinds of problems in the registers of a board: a region of which a bridge doesn't forward a byte, two that answer an
+ * address on one bus, and a function that no cycle finds. */
+enum pciguest_problem_kind { PCIGUEST_NOT_FORWARDED = 1, PCIGUEST_CONTENDED = 2, PCIGUEST_NOT_FOUND = 3 };
+
+/* A problem in the registers of a board, as a line of its audit tells it. */
+struct pciguest_problem {
+    uint32_t kind;                /* of enum pciguest_problem_kind */
+    uint32_t space;               /* PCIGUEST_IO or PCIGUEST_MEMORY; 0 where no cycle finds the function */
+    uint64_t address;             /* the first that is not forwarded, or that both answer; else 0 */
+    uint8_t path[PCIGUEST_PATH];  /* of the function, as in struct pciguest_function */
+    size_t path_length;           /* in bytes, without a 0 */
+    uint32_t bar;                 /* the register of its region, 0 to 5, or 6 where none is told */
+    uint8_t other[PCIGUEST_PATH]; /* of the bridge, of who answers too, or of what is found in its place */
+    size_t other_length;          /* 0 where nothing is found */
+    uint32_t other_bar;           /* the register of the region there, or 6 */
+    uint32_t bus;                 /* its number, by which no cycle finds it; else 0, as are the next two */
+    uint32_t device;
+    uint32_t function;
+};
+
 /* The room that pciguest_run_line and pciguest_board_run_line need for a reply, and the most that pciguest_words and
  * pciguest_guest_name need. */
 enum { PCIGUEST_REPLY = 48, PCIGUEST_WORDS = 20, PCIGUEST_GUEST_NAME = 16 };
@@ -240,6 +260,8 @@ uint32_t pciguest_raw_board_function(struct pciguest_board *board, size_t index,
                                      struct pciguest_board_function *function);
 uint32_t pciguest_raw_board_audit(struct pciguest_board *board, uint8_t *text, size_t room, size_t *needed,
                                   size_t *count);
+uint32_t pciguest_raw_board_problems(struct pciguest_board *board, struct pciguest_problem *problems, size_t room,
+                                     size_t *count);
 uint32_t pciguest_raw_set_up(struct pciguest_board *board, struct pciguest *machine);
 uint32_t pciguest_raw_board_guests(struct pciguest_board *board, struct pciguest *machine);
 
@@ -690,6 +712,17 @@ PCIGUEST_CALL uint32_t pciguest_board_audit(struct pciguest_board *board, char *
     if (!board || (!text && room) || !needed || !count)
         return PCIGUEST_ARGUMENT;
     return pciguest_raw_board_audit(board, text ? (uint8_t *)text : &none, room, needed, count);
+}
+
+/* Writes a row for each problem that pciguest_board_audit has a line of, in the same order, and tells how many there are.
+ * The board stays as it is. 902: there is room for fewer rows than that, whose number alone is told. 299: out of memory. */
+PCIGUEST_CALL uint32_t pciguest_board_problems(struct pciguest_board *board, struct pciguest_problem *problems,
+                                               size_t room, size_t *count)
+{
+    struct pciguest_problem none;
+    if (!board || (!problems && room) || !count)
+        return PCIGUEST_ARGUMENT;
+    return pciguest_raw_board_problems(board, problems ? problems : &none, room, count);
 }
 
 /* Sets up a board that is at reset as pciguest_new does, in place of firmware of one's own, and gives its functions to

@@ -44,6 +44,7 @@ static void without_a_board(void)
     IS(pciguest_board_count(&none, &count), 901);
     IS(pciguest_board_function(&none, 0, &told), 901);
     IS(pciguest_board_audit(&none, reply, sizeof reply, &count, &count), 901);
+    IS(pciguest_board_problems(&none, NULL, 0, &count), 901);
     IS(pciguest_set_up(&none, &machine), 901);
     IS(pciguest_board_guests(&none, &machine), 901);
     pciguest_board_free(&none);
@@ -78,6 +79,9 @@ static void null_pointers(struct pciguest_board *board)
     IS(pciguest_board_count(board, NULL), 902);
     IS(pciguest_board_function(NULL, 0, &told), 902);
     IS(pciguest_board_function(board, 0, NULL), 902);
+    IS(pciguest_board_problems(NULL, NULL, 0, &count), 902);
+    IS(pciguest_board_problems(board, NULL, 1, &count), 902);
+    IS(pciguest_board_problems(board, NULL, 0, NULL), 902);
     IS(pciguest_board_audit(NULL, reply, sizeof reply, &count, &count), 902);
     IS(pciguest_board_audit(board, NULL, 1, &count, &count), 902);
     IS(pciguest_board_audit(board, reply, sizeof reply, NULL, &count), 902);
@@ -154,6 +158,45 @@ static void set_ups(struct pciguest_board *board)
     pciguest_free(&other);
 }
 
+/* One row for each line of an audit: its kind, who it is about and with whom, and the address, if it has one. */
+static void problem_is(const struct pciguest_problem *row, const char *line)
+{
+    static const char *const kinds[] = {"", "%s bar%u at 0x%llx", "", "%s: a cycle for 00:%02u.0"};
+    char begin[128], path[PCIGUEST_PATH + 1] = {0}, other[PCIGUEST_PATH + 1] = {0};
+
+    memcpy(path, row->path, row->path_length);
+    memcpy(other, row->other, row->other_length);
+    if (row->kind == PCIGUEST_NOT_FOUND)
+        snprintf(begin, sizeof begin, kinds[row->kind], path, row->device);
+    else
+        snprintf(begin, sizeof begin, kinds[row->kind], path, row->bar, (unsigned long long)row->address);
+    IS(strncmp(line + strlen("audit: "), begin, strlen(begin)), 0);
+    IS(strstr(line, row->other_length ? other : "nothing") != NULL, 1);
+    IS(row->space, row->kind == PCIGUEST_NOT_FOUND ? 0 : PCIGUEST_MEMORY);
+    IS(row->other_bar, 6);
+}
+
+static void problems_are(struct pciguest_board *board, const char *lines, size_t problems)
+{
+    struct pciguest_problem rows[4];
+    size_t count = 9;
+
+    memset(rows, '?', sizeof rows);
+    if (problems != 0) {
+        IS(pciguest_board_problems(board, rows, problems - 1, &count), 902);
+        IS(count, problems);
+        IS(rows[0].path[0], '?');
+        IS(pciguest_board_problems(board, NULL, 0, &count), 902);
+    }
+    IS(pciguest_board_problems(board, rows, 4, &count), 0);
+    IS(count, problems);
+    IS(rows[count].path[0], '?');
+    for (size_t i = 0; i < count; i++) {
+        problem_is(&rows[i], lines);
+        lines = strchr(lines, '\n') + 1;
+    }
+}
+
 static void audit_is(struct pciguest_board *board, const char *wanted, size_t problems)
 {
     char text[256];
@@ -169,6 +212,7 @@ static void audit_is(struct pciguest_board *board, const char *wanted, size_t pr
     IS(memcmp(text, wanted, needed), 0);
     IS(text[needed], '?');
     IS(count, problems);
+    problems_are(board, wanted, problems);
 }
 
 /* At reset no cycle finds what stands behind the bridge; once the bridge has its numbers, the audit has nothing to say. */
@@ -196,6 +240,17 @@ static void audits(void)
         fault = pciguest_board_audit(&board, text, sizeof text, &needed, &count);
         calls_left = -1;
         IS(fault == 0 || (fault == 299 && needed == 8 && count == 9 && strcmp(text, "unchanged") == 0), 1);
+        IS((uint64_t)blocks, (uint64_t)kept);
+    }
+    fault = 299;
+    for (long left = 1; fault == 299; left++) {
+        struct pciguest_problem row = {.kind = 9};
+        size_t count = 9;
+
+        calls_left = left;
+        fault = pciguest_board_problems(&board, &row, 1, &count);
+        calls_left = -1;
+        IS(fault == 0 || (fault == 299 && count == 9 && row.kind == 9), 1);
         IS((uint64_t)blocks, (uint64_t)kept);
     }
     pciguest_board_free(&board);

@@ -5,4 +5,5 @@ mod Kept
 mod Moved
 mod OpenFaults
 mod Options
+mod Rows
 mod Words

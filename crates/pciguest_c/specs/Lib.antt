@@ -6,6 +6,7 @@ pub mod DevicesTold
 pub mod SeatingsTold
 pub mod QueriesTold
 pub mod FunctionsTold
+pub mod ProblemsTold
 pub mod DrivenTold
 pub mod Handles
 pub mod Handovers

@@ -169,7 +169,7 @@ fn bridge_number(ranges: RangesNow) -> u32
 }
 
 /// A text at the front of 80 bytes, of which the others are 0.
-fn text_row(text: &[u8]) -> [u8; 80]
+pub fn text_row(text: &[u8]) -> [u8; 80]
     requires { length text.now ≤ 80 }
     ensures { result ≡ text_row text.now }
 {

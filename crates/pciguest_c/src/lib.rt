@@ -23,6 +23,8 @@ mod line_calls;
 mod number_words;
 mod numbers;
 mod owner;
+mod problem_calls;
+mod problem_rows;
 mod querying;
 mod resetting;
 mod seating;

@@ -43,6 +43,7 @@ files, lines and numbers, and docs/LIBRARY.md what is proved of the library. Thi
 """
 
 from ._board import Audit, Board
+from ._board_problems import BoardProblem
 from ._calls import VERSION
 from ._declared import Register
 from ._devices import Device
@@ -58,6 +59,7 @@ __all__ = [
     "Bar",
     "Board",
     "BoardFunction",
+    "BoardProblem",
     "BoardRefusal",
     "Check",
     "Device",

@@ -5,9 +5,10 @@ from __future__ import annotations
 import os
 from ctypes import byref, c_size_t, c_uint32
 from pathlib import Path
-from typing import Iterator, NamedTuple, Optional, Union
+from typing import Iterator, List, NamedTuple, Optional, Union
 
-from ._calls import CONFIG, IO, MEMORY, BoardFunctionTold, BoardHandle
+from ._board_problems import BoardProblem, board_problem_of
+from ._calls import ARGUMENT, CONFIG, IO, MEMORY, BoardFunctionTold, BoardHandle, ProblemTold
 from ._functions import BoardFunction, board_function_of
 from ._held import Held, as_bytes
 from ._library import CALLS, number, told
@@ -135,6 +136,23 @@ class Board(Held):
             answer, text = told(1024, lambda *room: CALLS["board_audit"](byref(self._handle), *room, byref(count)))
         answered(answer)
         return Audit(text, count.value)
+
+    def problems(self) -> List[BoardProblem]:
+        """The problems of an audit, one by one, in the order of its lines. It is refused by 299 where memory is out.
+
+        >>> [(each.kind, each.path, each.number) for each in Board(BOARD).problems()]
+        [('not found', '2.0/0.0', (0, 0, 0)), ('not found', '2.0/1.0', (0, 1, 0))]
+        """
+        room, count = 64, c_size_t(0)
+        with self._lock:
+            while True:
+                rows = (ProblemTold * room)()
+                answer = CALLS["board_problems"](byref(self._handle), rows, room, byref(count))
+                if answer != ARGUMENT or count.value <= room:
+                    break
+                room = count.value
+        answered(answer)
+        return [board_problem_of(told) for told in rows[: count.value]]
 
     def set_up(self) -> Machine:
         """The machine that `Machine` makes of the same file: our own set-up, in place of firmware of one's own. The board

@@ -19,6 +19,10 @@ PATH = 80
 BARS = 6
 WINDOWS = 3
 
+NOT_FORWARDED = 1
+CONTENDED = 2
+NOT_FOUND = 3
+
 REPLY = 48
 WORDS = 20
 GUEST_NAME = 16
@@ -194,6 +198,35 @@ class BoardFunctionTold(ctypes.Structure):
         ("opens_io", c_uint32),
         # 1 or 0: the same of memory
         ("opens_memory", c_uint32),
+    ]
+
+
+class ProblemTold(ctypes.Structure):
+    """A problem in the registers of a board, as a line of its audit tells it."""
+
+    _fields_ = [
+        # of enum pciguest_problem_kind
+        ("kind", c_uint32),
+        # PCIGUEST_IO or PCIGUEST_MEMORY; 0 where no cycle finds the function
+        ("space", c_uint32),
+        # the first that is not forwarded, or that both answer; else 0
+        ("address", c_uint64),
+        # of the function, as in struct pciguest_function
+        ("path", c_uint8 * 80),
+        # in bytes, without a 0
+        ("path_length", c_size_t),
+        # the register of its region, 0 to 5, or 6 where none is told
+        ("bar", c_uint32),
+        # of the bridge, of who answers too, or of what is found in its place
+        ("other", c_uint8 * 80),
+        # 0 where nothing is found
+        ("other_length", c_size_t),
+        # the register of the region there, or 6
+        ("other_bar", c_uint32),
+        # its number, by which no cycle finds it; else 0, as are the next two
+        ("bus", c_uint32),
+        ("device", c_uint32),
+        ("function", c_uint32),
     ]
 
 
@@ -378,6 +411,10 @@ DECLARED: Dict[str, Tuple[Any, Tuple[Any, ...]]] = {
     # which has no 0 at its end, and how many problems there are. The board stays as it is.
     # 902: there is less room than the text needs, whose length alone is told. 299: out of memory.
     "board_audit": (c_uint32, (POINTER(BoardHandle), POINTER(c_char), c_size_t, POINTER(c_size_t), POINTER(c_size_t))),
+    # Writes a row for each problem that pciguest_board_audit has a line of, in the same order, and tells how many there
+    # are. The board stays as it is. 902: there is room for fewer rows than that, whose number alone is told. 299: out
+    # of memory.
+    "board_problems": (c_uint32, (POINTER(BoardHandle), POINTER(ProblemTold), c_size_t, POINTER(c_size_t))),
     # Sets up a board that is at reset as pciguest_new does, in place of firmware of one's own, and gives its functions
     # to the guests of its file: the machine is then the one that pciguest_new makes of the file. The board stays as it
     # is.

@@ -101,6 +101,24 @@ class Audits(Case):
         self.board.config[0, 2, 0][0x18:4] = 0x00010100
         self.assertEqual(self.board.audit(), ("audit: ok\n", 0))
 
+    def test_problems_are_those_of_the_lines(self):
+        board = self.board
+        bridge, behind = board.config[0, 2, 0], board.config[1, 1, 0]
+        self.assertEqual([each.path for each in board.problems()], ["2.0/0.0", "2.0/1.0"])
+        bridge[0x18:4] = 0x00010100
+        self.assertEqual(board.problems(), [])
+        behind[0x10:4] = 0xC0000000
+        behind[4:2] = 2
+        (found,) = board.problems()
+        self.assertEqual(found, ("not forwarded", "2.0/1.0", 0, "2.0", None, "memory", 0xC0000000, None))
+        board.config[1, 0, 0][0x10:4] = 0xC0000000
+        board.config[1, 0, 0][4:2] = 2
+        shared = board.problems()[-1]
+        self.assertEqual(shared, ("contended", "2.0/0.0", 0, "2.0/1.0", 0, "memory", 0xC0000000, None))
+        self.assertEqual(len(board.problems()), board.audit().problems)
+        with Board((BOARDS / "largest.toml").read_bytes()) as largest:
+            self.assertEqual(len(largest.problems()), largest.audit().problems)
+
     def test_a_line_asks_for_an_audit(self):
         self.assertEqual(self.board.run_line("host audit"), self.board.audit().text.rstrip("\n"))
         self.board.config[0, 2, 0][0x18:4] = 0x00010100

@@ -22,6 +22,7 @@ STRUCTS = {
     "pciguest_window": _calls.WindowTold,
     "pciguest_function": _calls.FunctionTold,
     "pciguest_board_function": _calls.BoardFunctionTold,
+    "pciguest_problem": _calls.ProblemTold,
 }
 
 

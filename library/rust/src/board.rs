@@ -1,7 +1,7 @@
 //! A board that firmware of one's own drives, from reset on.
 
 use crate::error::{answered, Error};
-use crate::function::BoardFunction;
+use crate::function::{BoardFunction, BoardProblem};
 use crate::machine::Machine;
 use crate::place::HostAt;
 use crate::raw::{self, BoardHandle};
@@ -237,6 +237,38 @@ impl Board {
             raw::pciguest_board_audit(&mut self.handle, text, room, needed, &mut problems)
         });
         answered(number).map(|()| Audit { text, problems })
+    }
+
+    /// The problems of an [audit](Board::audit), one by one, in the order of its lines.
+    ///
+    /// # Errors
+    ///
+    /// Out of memory alone.
+    ///
+    /// ```
+    /// # const BOARD: &str = include_str!("board.toml");
+    /// assert!(pciguest::Board::new(BOARD)?.problems()?.is_empty());
+    /// # Ok::<(), pciguest::Error>(())
+    /// ```
+    pub fn problems(&mut self) -> Result<Vec<BoardProblem>, Error> {
+        let mut rows = Vec::new();
+        let mut count = 64;
+        loop {
+            rows.resize_with(count, raw::Problem::default);
+            // SAFETY: there are as many rows as is said, and nothing overlaps.
+            let answer = answered(unsafe {
+                raw::pciguest_board_problems(
+                    &mut self.handle,
+                    rows.as_mut_ptr(),
+                    rows.len(),
+                    &mut count,
+                )
+            });
+            if answer.is_ok() || count <= rows.len() {
+                answer?;
+                return Ok(rows[..count].iter().map(BoardProblem::of).collect());
+            }
+        }
     }
 
     /// The machine that [`Machine::new`] makes of the same file: our own set-up, in place of firmware of one's own. The

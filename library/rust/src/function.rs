@@ -88,6 +88,81 @@ pub struct Window {
     pub last: u64,
 }
 
+/// A problem in the registers of a [`Board`](crate::Board), as a line of its audit tells it.
+#[derive(Clone, Debug, PartialEq, Eq)]
+pub enum BoardProblem {
+    /// A bridge doesn't forward a byte of a region.
+    NotForwarded {
+        /// Where the region's function stands.
+        path: String,
+        /// Its base address register.
+        register: u8,
+        /// Where the bridge stands.
+        bridge: String,
+        /// The space.
+        space: Space,
+        /// The first address that is not forwarded.
+        address: u64,
+    },
+    /// Two answer an address on one bus.
+    Contended {
+        /// Where the one stands, with the register of its region if it is an endpoint.
+        one: (String, Option<u8>),
+        /// Where the other stands.
+        other: (String, Option<u8>),
+        /// The space.
+        space: Space,
+        /// The first address that both answer.
+        address: u64,
+    },
+    /// No cycle finds a function.
+    NotFound {
+        /// Where the function stands.
+        path: String,
+        /// Its number: bus, device and function.
+        number: (u8, u8, u8),
+        /// What is found in its place, if anything is.
+        instead: Option<String>,
+    },
+}
+
+impl BoardProblem {
+    pub(crate) fn of(told: &raw::Problem) -> BoardProblem {
+        let text = |bytes: &[u8], length| String::from_utf8_lossy(&bytes[..length]).into_owned();
+        let (path, other) = (
+            text(&told.path, told.path_length),
+            text(&told.other, told.other_length),
+        );
+        let register = |bar| (bar < raw::BARS as u32).then_some(bar as u8);
+        let space = if told.space == raw::IO {
+            Space::Io
+        } else {
+            Space::Memory
+        };
+        let address = told.address;
+        match told.kind {
+            raw::NOT_FORWARDED => BoardProblem::NotForwarded {
+                path,
+                register: told.bar as u8,
+                bridge: other,
+                space,
+                address,
+            },
+            raw::CONTENDED => BoardProblem::Contended {
+                one: (path, register(told.bar)),
+                other: (other, register(told.other_bar)),
+                space,
+                address,
+            },
+            _ => BoardProblem::NotFound {
+                path,
+                number: (told.bus as u8, told.device as u8, told.function as u8),
+                instead: (!other.is_empty()).then_some(other),
+            },
+        }
+    }
+}
+
 impl Function {
     pub(crate) fn of(told: &raw::Function) -> Function {
         Function {

@@ -51,7 +51,7 @@ mod text;
 
 pub use board::{Audit, Board, NotGiven};
 pub use error::{Error, Refusal};
-pub use function::{Bar, BoardFunction, Function, Functions, Ranges, Window};
+pub use function::{Bar, BoardFunction, BoardProblem, Function, Functions, Ranges, Window};
 pub use machine::Machine;
 pub use place::{At, Guest, Hit, HostAt, Part, Region, Space};
 pub use text::{check, report, words, Check};

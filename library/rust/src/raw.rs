@@ -14,6 +14,10 @@ pub const PATH: usize = 80;
 pub const BARS: usize = 6;
 pub const WINDOWS: usize = 3;
 
+pub const NOT_FORWARDED: u32 = 1;
+pub const CONTENDED: u32 = 2;
+pub const NOT_FOUND: u32 = 3;
+
 pub const REPLY: usize = 48;
 pub const WORDS: usize = 20;
 pub const GUEST_NAME: usize = 16;
@@ -248,6 +252,52 @@ impl Default for BoardFunction {
             is_found: 0,
             opens_io: 0,
             opens_memory: 0,
+        }
+    }
+}
+
+/// A problem in the registers of a board, as a line of its audit tells it.
+#[repr(C)]
+pub struct Problem {
+    /// of enum pciguest_problem_kind
+    pub kind: u32,
+    /// PCIGUEST_IO or PCIGUEST_MEMORY; 0 where no cycle finds the function
+    pub space: u32,
+    /// the first that is not forwarded, or that both answer; else 0
+    pub address: u64,
+    /// of the function, as in struct pciguest_function
+    pub path: [u8; 80],
+    /// in bytes, without a 0
+    pub path_length: usize,
+    /// the register of its region, 0 to 5, or 6 where none is told
+    pub bar: u32,
+    /// of the bridge, of who answers too, or of what is found in its place
+    pub other: [u8; 80],
+    /// 0 where nothing is found
+    pub other_length: usize,
+    /// the register of the region there, or 6
+    pub other_bar: u32,
+    /// its number, by which no cycle finds it; else 0, as are the next two
+    pub bus: u32,
+    pub device: u32,
+    pub function: u32,
+}
+
+impl Default for Problem {
+    fn default() -> Problem {
+        Problem {
+            kind: 0,
+            space: 0,
+            address: 0,
+            path: [0; 80],
+            path_length: 0,
+            bar: 0,
+            other: [0; 80],
+            other_length: 0,
+            other_bar: 0,
+            bus: 0,
+            device: 0,
+            function: 0,
         }
     }
 }
@@ -593,6 +643,15 @@ extern "C" {
         text: *mut u8,
         room: usize,
         needed: *mut usize,
+        count: *mut usize,
+    ) -> u32;
+    /// Writes a row for each problem that pciguest_board_audit has a line of, in the same order, and tells how many
+    /// there are. The board stays as it is. 902: there is room for fewer rows than that, whose number alone is told.
+    /// 299: out of memory.
+    pub fn pciguest_board_problems(
+        board: *mut BoardHandle,
+        problems: *mut Problem,
+        room: usize,
         count: *mut usize,
     ) -> u32;
     /// Sets up a board that is at reset as pciguest_new does, in place of firmware of one's own, and gives its

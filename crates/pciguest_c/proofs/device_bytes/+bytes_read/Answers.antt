@@ -1,5 +1,5 @@
 -- A number of at most eight bytes fits.
-use Rattle.std.proofs.Common.{rules, arith, ◌≡◌, ◌-◌, ◌+◌}
+use Rattle.std.proofs.Common.{rules, arith, ◌-◌}
 use Rattle.pciguest_c.proofs.DeviceBytes.{one_more, eight}
 use Rattle.pciguest_c.proofs.device_bytes.+bytes_read.Goals as goal
 

@@ -1,0 +1,7 @@
+use Rattle.std.proofs.Common.{◌≡◌, ◌++◌, map, take, drop}
+use Rattle.board_audit.specs.Told.{problem_of}
+use Rattle.pciguest_c.specs.ProblemsTold.{problem_row}
+use Rattle.pciguest_c.proofs.problem_rows.put_problems.Given as goal
+
+abbrev pub invariant-loop-k : goal.invariant-loop-k
+invariant-loop-k l = l.out ≡ map problem_row (map problem_of (take l.k l.problems)) ++ drop l.k l.initial.out

@@ -1,0 +1,68 @@
+-- What C is told of a problem in the registers of a board: PCI Local Bus 3.0, chapter 6.2.5; PCI-to-PCI Bridge
+-- Architecture 1.2, chapters 3 and 4.
+--     no_register      in place of a base address register, where none is told
+--     reached_text p      the text of what a cycle reaches, which is empty where it reaches nothing
+--     problem_row p      all that is told of a problem
+--     rows_at_front rows out      a buffer with rows at its front
+use Rattle.std.specs.Prelude.{ℕ, ◌++◌, List, [], drop, length, Option}
+use Rattle.std.specs.Option.{option_map_or}
+use Rattle.model_board.specs.Paths.{Path}
+use Rattle.model_guests.specs.Text.{Text}
+use Rattle.model_guests.specs.PathTexts.{path_text}
+use Rattle.model_audit.specs.Problems.{Problem, not_forwarded, contended, not_found}
+use Rattle.pciguest_c.specs.QueriesTold.{space_number}
+use Rattle.pciguest_c.specs.FunctionsTold.{text_row}
+use Rattle.pciguest_c.specs.declared.problem_rows.ProblemRow.{ProblemRow}
+
+abbrev pub no_register : ℕ
+no_register = 6
+
+abbrev pub reached_text : Option Path → Text
+reached_text p = option_map_or path_text p []
+
+abbrev pub problem_row : Problem → ProblemRow
+problem_row (not_forwarded q bridge address) = record {
+  kind = 1;
+  space = space_number q.space;
+  address = address;
+  path = text_row (path_text q.path);
+  path_length = length (path_text q.path);
+  bar = q.index;
+  other = text_row (path_text bridge);
+  other_length = length (path_text bridge);
+  other_bar = no_register;
+  bus = 0;
+  device = 0;
+  function = 0;
+}
+problem_row (contended a b address) = record {
+  kind = 2;
+  space = space_number a.space;
+  address = address;
+  path = text_row (path_text a.path);
+  path_length = length (path_text a.path);
+  bar = option_map_or (λ n. n) a.register no_register;
+  other = text_row (path_text b.path);
+  other_length = length (path_text b.path);
+  other_bar = option_map_or (λ n. n) b.register no_register;
+  bus = 0;
+  device = 0;
+  function = 0;
+}
+problem_row (not_found path at instead) = record {
+  kind = 3;
+  space = 0;
+  address = 0;
+  path = text_row (path_text path);
+  path_length = length (path_text path);
+  bar = no_register;
+  other = text_row (reached_text instead);
+  other_length = length (reached_text instead);
+  other_bar = no_register;
+  bus = at.bus;
+  device = at.part.device;
+  function = at.part.function;
+}
+
+abbrev pub rows_at_front : List ProblemRow → List ProblemRow → List ProblemRow
+rows_at_front rows out = rows ++ drop (length rows) out

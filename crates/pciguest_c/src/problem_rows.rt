@@ -1,0 +1,168 @@
+//! What C is told of a problem in the registers of a board, as one struct without pointers.
+ghost use Rattle.std.specs.Prelude.{◌≡◌, ◌++◌, ◌≤◌, drop, length, map};
+ghost use Rattle.std.specs.Option.{option_map_or};
+ghost use Rattle.model_audit.specs.Problems.{not_forwarded, contended, not_found};
+ghost use Rattle.model_guests.specs.PathTexts.{path_text};
+ghost use Rattle.bars.specs.Kinds.{named_space};
+ghost use Rattle.paths.specs.BusAddresses.{bus_address_of};
+ghost use Rattle.board_audit.specs.Told.{problem_of};
+ghost use Rattle.pciguest_c.specs.QueriesTold.{space_number};
+ghost use Rattle.pciguest_c.specs.ProblemsTold.{no_register, problem_row, reached_text};
+
+use crate::function_row::text_row;
+use bars::Space;
+use board_audit::{Agent, Problem, RegionNow};
+use function_identity::{PathText, path_text};
+use host_bridge::{Bdf, Path};
+
+/// A problem, as C is told of it: `kind` is 1 for a byte that a bridge doesn't forward, 2 for an address that two
+/// answer, and 3 for a function that no cycle finds. A register is that of a region, or 6 where none is told.
+#[repr(C)]
+#[derive(Clone, Copy)]
+pub struct ProblemRow {
+    pub kind: u32,
+    pub space: u32,
+    pub address: u64,
+    pub path: [u8; 80],
+    pub path_length: usize,
+    pub bar: u32,
+    pub other: [u8; 80],
+    pub other_length: usize,
+    pub other_bar: u32,
+    pub bus: u32,
+    pub device: u32,
+    pub function: u32,
+}
+
+/// No register of a region.
+const NO_REGISTER: u32 = 6;
+
+/// A space, as C is told of it.
+fn space_number(space: Space) -> u32
+    ensures { result ≡ space_number (named_space space) }
+{
+    match space {
+        Space::Io => 1,
+        Space::Mem => 2,
+    }
+}
+
+/// The register of a region, if it is told by one.
+fn register_number(register: Option<u8>) -> u32
+    ensures { result ≡ option_map_or (λ n. n) register no_register }
+{
+    match register {
+        Some(register) => u32::from(register),
+        None => NO_REGISTER,
+    }
+}
+
+/// A region of which a bridge doesn't forward a byte.
+fn not_forwarded_row(region: &RegionNow, bridge: &Path, address: u64) -> ProblemRow
+    ensures { result ≡ problem_row (not_forwarded region.now bridge.now address) }
+{
+    let text = path_text(&region.path);
+    let above = path_text(bridge);
+    ProblemRow {
+        kind: 1,
+        space: space_number(region.region.kind.space()),
+        address,
+        path: text_row(&text),
+        path_length: text.len(),
+        bar: u32::from(region.region.index),
+        other: text_row(&above),
+        other_length: above.len(),
+        other_bar: NO_REGISTER,
+        bus: 0,
+        device: 0,
+        function: 0,
+    }
+}
+
+/// Two that answer an address on one bus.
+fn contended_row(one: &Agent, other: &Agent, address: u64) -> ProblemRow
+    ensures { result ≡ problem_row (contended one.now other.now address) }
+{
+    let first = path_text(&one.path);
+    let second = path_text(&other.path);
+    ProblemRow {
+        kind: 2,
+        space: space_number(one.space),
+        address,
+        path: text_row(&first),
+        path_length: first.len(),
+        bar: register_number(one.register),
+        other: text_row(&second),
+        other_length: second.len(),
+        other_bar: register_number(other.register),
+        bus: 0,
+        device: 0,
+        function: 0,
+    }
+}
+
+/// The text of what is reached, which is empty where nothing is.
+fn reached_text(path: &Option<Path>) -> PathText
+    ensures { result.items ≡ reached_text path.now }
+{
+    match path {
+        Some(path) => path_text(path),
+        None => PathText::new(),
+    }
+}
+
+/// A function that no cycle finds.
+fn not_found_row(path: &Path, at: Bdf, instead: &Option<Path>) -> ProblemRow
+    ensures { result ≡ problem_row (not_found path.now (bus_address_of at) instead.now) }
+{
+    let text = path_text(path);
+    let reached = reached_text(instead);
+    ProblemRow {
+        kind: 3,
+        space: 0,
+        address: 0,
+        path: text_row(&text),
+        path_length: text.len(),
+        bar: NO_REGISTER,
+        other: text_row(&reached),
+        other_length: reached.len(),
+        other_bar: NO_REGISTER,
+        bus: u32::from(at.bus),
+        device: u32::from(at.device),
+        function: u32::from(at.function),
+    }
+}
+
+/// A problem for C.
+fn problem_row(problem: &Problem) -> ProblemRow
+    ensures { result ≡ problem_row (problem_of problem.now) }
+{
+    match problem {
+        Problem::NotForwarded {
+            region,
+            bridge,
+            address,
+        } => not_forwarded_row(region, bridge, *address),
+        Problem::Contended {
+            one,
+            other,
+            address,
+        } => contended_row(one, other, *address),
+        Problem::NotFound {
+            path,
+            address,
+            instead,
+        } => not_found_row(path, *address, instead),
+    }
+}
+
+/// Puts problems at the front of a buffer that has room for them.
+pub fn put_problems(out: &mut [ProblemRow], problems: &[Problem])
+    requires { length problems.now ≤ length out.old }
+    ensures { out.new ≡ map problem_row (map problem_of problems.now)
+        ++ drop (length problems.now) out.old }
+{
+    for k in 0..problems.len() {
+        out[k] = problem_row(&problems[k]);
+    }
+}
