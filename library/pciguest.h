@@ -3,7 +3,7 @@
  * docs/LIBRARY.md says how to build and use the library, and what is proved of it. Every call answers 0, or the number of
  * a refusal (enum pciguest_status), but for pciguest_version and pciguest_strerror, and pciguest_piece and
  * pciguest_ends_within, which only compute. A call that answers a number other than 0 changed nothing and stored nothing,
- * but for a length that tells how much room a text needs, and for the text of pciguest_check.
+ * but for a length that tells how much room a text needs, or how many rows there are, and for the text of pciguest_check.
  *
  * tools/bindings reads the declarations and comments below, and writes from them library/words.c and what the modules for
  * Rust and Python declare.
