@@ -120,11 +120,12 @@ line_world b line = meant_world b (meaning line)
 pub plain_sessions : PlainSessions
 plain_sessions b [] none = (refl, refl)
 plain_sessions b (l ∷ ls) none =
-    let more = plain_sessions (after_board_line b l) ls none.1 in
-    (ap₂ (λ (t u : Text). t ++ u) (plain_output b l none.0)
-    (ap (λ x. output session_protocol x ls) (plain_after b l none.0) ∙ more.0
-    ∙ ap (λ s. output board_protocol s ls) (line_state b l)),
-    ap (λ x. after_lines session_protocol x ls) (plain_after b l none.0) ∙ more.1)
+    let more = plain_sessions (after_board_line b l) ls none.1 in (
+      ap₂ (λ (t u : Text). t ++ u) (plain_output b l none.0)
+          (ap (λ x. output session_protocol x ls) (plain_after b l none.0) ∙ more.0
+          ∙ ap (λ s. output board_protocol s ls) (line_state b l)),
+      ap (λ x. after_lines session_protocol x ls) (plain_after b l none.0) ∙ more.1,
+    )
 
 pub driven_is_firmware : DrivenIsFirmware
 driven_is_firmware b [] = (refl, refl)
