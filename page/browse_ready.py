@@ -143,4 +143,19 @@ def many_lines_give_a_board(browser, page):
     holds('guests are told neither', browser.run(STATE) == '0 of 2 conditions met', browser.run(STATE))
 
 
-ALL = [what_is_left_is_listed, a_large_board_tells_little, each_kind_is_marked, guests_leave_what_is_left, many_lines_give_a_board]
+def a_board_without_a_report_is_told(browser, page):
+    browser.open(f'{page}#board=memory_pool&as=firmware')
+    listed = browser.run(LEFT)
+    holds('what a board lacks that set-up refuses is listed', listed != [] and all(line.endswith(' is closed') for line in listed), listed)
+    browser.run("window.mistakes = []; addEventListener('error', event => mistakes.push(event.message))")
+    browser.run("document.querySelector('#lacking button').focus()")
+    browser.press('Enter')
+    holds('and leads nowhere', browser.run('mistakes') == [], browser.run('mistakes'))
+    browser.run("document.getElementById('board').focus(); document.getElementById('board').select()")
+    browser.insert('unknown = 1')
+    told = [text_of(browser, 'total'), text_of(browser, 'left'), browser.run(LEFT)]
+    holds('of a file that is refused nothing is told', told == ['', '', []], told)
+
+
+ALL = [what_is_left_is_listed, a_large_board_tells_little, each_kind_is_marked, guests_leave_what_is_left, many_lines_give_a_board,
+       a_board_without_a_report_is_told]

@@ -42,7 +42,7 @@ export class Firmware {
 
   // `owners` and `marks` are those of guests, who have nothing until the board is given to them.
   draw(apertures, owners, marks) {
-    if (this.now === null) return;
+    if (this.now === null) { this.problems.draw([], ''); this.lacks.draw([], ''); return; }
     const { functions, problems, lacks, given } = this.now, nobody = new Map(), whose = given ? [owners, marks] : [nobody, nobody];
     this.draw_findings(problems, lacks);
     if (functions.length === 0) return;
@@ -68,8 +68,9 @@ export class Firmware {
       { bytes, note: lost, whose: 'host', write: each => this.give(hex_line('host', one.place, each)) });
   }
 
+  // Of a board without a report no function is drawn.
   choose(path) {
-    if (this.now === null) return;
+    if (this.now === null || this.now.functions.length === 0) return;
     this.board.chosen = path;
     this.board.redraw();
     document.querySelector(`#tree [data-path="${path}"]`)?.focus({ preventScroll: true });
