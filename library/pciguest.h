@@ -261,6 +261,8 @@ uint32_t pciguest_raw_board_function(struct pciguest_board *board, size_t index,
                                      struct pciguest_board_function *function);
 uint32_t pciguest_raw_board_audit(struct pciguest_board *board, uint8_t *text, size_t room, size_t *needed,
                                   size_t *count);
+uint32_t pciguest_raw_board_ready(struct pciguest_board *board, uint8_t *text, size_t room, size_t *needed,
+                                  size_t *count);
 uint32_t pciguest_raw_board_problems(struct pciguest_board *board, struct pciguest_problem *problems, size_t room,
                                      size_t *count);
 uint32_t pciguest_raw_set_up(struct pciguest_board *board, struct pciguest *machine);
@@ -715,6 +717,21 @@ PCIGUEST_CALL uint32_t pciguest_board_audit(struct pciguest_board *board, char *
     if (!board || (!text && room) || !needed || !count)
         return PCIGUEST_ARGUMENT;
     return pciguest_raw_board_audit(board, text ? (uint8_t *)text : &none, room, needed, count);
+}
+
+/* Writes what is wrong in the registers of a board as they stand, as pciguest_board_audit does but for its last line, then
+ * a line for each thing that they lack, and a last line `ready: ok` or `ready: N lacks`, which counts both. What is lacking
+ * is a region that is closed, outside the apertures or prefetched where it mustn't be, and a bridge with another Primary than
+ * its bus. It tells the text's length, and how many problems and lacks there are: the board is ready where that is 0. The
+ * board stays as it is.
+ * 902: there is less room than the text needs, whose length alone is told. 299: out of memory. */
+PCIGUEST_CALL uint32_t pciguest_board_ready(struct pciguest_board *board, char *text, size_t room, size_t *needed,
+                                            size_t *count)
+{
+    uint8_t none;
+    if (!board || (!text && room) || !needed || !count)
+        return PCIGUEST_ARGUMENT;
+    return pciguest_raw_board_ready(board, text ? (uint8_t *)text : &none, room, needed, count);
 }
 
 /* Writes a row for each problem that pciguest_board_audit has a line of, in the same order, and tells how many there are.

@@ -9,6 +9,7 @@
 #include "refusing.h"
 
 #include <inttypes.h>
+#include <stdlib.h>
 #include <string.h>
 
 static uint8_t file[65536];
@@ -44,6 +45,7 @@ static void without_a_board(void)
     IS(pciguest_board_count(&none, &count), 901);
     IS(pciguest_board_function(&none, 0, &told), 901);
     IS(pciguest_board_audit(&none, reply, sizeof reply, &count, &count), 901);
+    IS(pciguest_board_ready(&none, reply, sizeof reply, &count, &count), 901);
     IS(pciguest_board_problems(&none, NULL, 0, &count), 901);
     IS(pciguest_set_up(&none, &machine), 901);
     IS(pciguest_board_guests(&none, &machine), 901);
@@ -86,6 +88,10 @@ static void null_pointers(struct pciguest_board *board)
     IS(pciguest_board_audit(board, NULL, 1, &count, &count), 902);
     IS(pciguest_board_audit(board, reply, sizeof reply, NULL, &count), 902);
     IS(pciguest_board_audit(board, reply, sizeof reply, &count, NULL), 902);
+    IS(pciguest_board_ready(NULL, reply, sizeof reply, &count, &count), 902);
+    IS(pciguest_board_ready(board, NULL, 1, &count, &count), 902);
+    IS(pciguest_board_ready(board, reply, sizeof reply, NULL, &count), 902);
+    IS(pciguest_board_ready(board, reply, sizeof reply, &count, NULL), 902);
     IS(pciguest_board_guests(NULL, &machine), 902);
     IS(pciguest_board_guests(board, NULL), 902);
     IS(pciguest_set_up(NULL, &machine), 902);
@@ -256,6 +262,40 @@ static void audits(void)
     pciguest_board_free(&board);
 }
 
+/* What is lacking comes after what is wrong, and both are counted, as by the line that asks the same. */
+static void readiness(void)
+{
+    struct pciguest_board board = PCIGUEST_BOARD_INIT;
+    char text[512] = {0}, wanted[512] = {0};
+    size_t needed = 0, written = 0, count = 9;
+    uint32_t fault = 299;
+    long kept;
+
+    IS(pciguest_board_new(&board, file, length), 0);
+    IS(pciguest_board_run_line(&board, "host ready", 10, wanted, sizeof wanted, &written), 0);
+    memset(text, '?', sizeof text);
+    IS(pciguest_board_ready(&board, NULL, 0, &needed, &count), 902);
+    IS(needed, written);
+    IS(pciguest_board_ready(&board, text, needed - 1, &needed, &count), 902);
+    IS(text[0], '?');
+    IS(count, 9);
+    kept = blocks;
+    for (long left = 1; fault == 299; left++) {
+        needed = 7;
+        calls_left = left;
+        fault = pciguest_board_ready(&board, text, sizeof text, &needed, &count);
+        calls_left = -1;
+        IS(fault == 0 || (fault == 299 && needed == 7 && count == 9 && text[0] == '?'), 1);
+        IS((uint64_t)blocks, (uint64_t)kept);
+    }
+    IS(needed, written);
+    IS(memcmp(text, wanted, needed), 0);
+    IS(text[needed], '?');
+    wanted[written] = 0;
+    IS(strtoul(strrchr(wanted, ':') + 1, NULL, 10), count);
+    pciguest_board_free(&board);
+}
+
 /* A line asks for the text of an audit; where that has too little room, or no memory, nothing happens. */
 static void audit_lines(void)
 {
@@ -415,6 +455,7 @@ int main(int argc, char **argv)
     pciguest_board_free(&board);
     unfit();
     audits();
+    readiness();
     audit_lines();
     out_of_memory();
     IS(pciguest_board_new(&board, file, length), 0);

@@ -26,6 +26,7 @@ mod owner;
 mod problem_calls;
 mod problem_rows;
 mod querying;
+mod readiness;
 mod resetting;
 mod seating;
 mod text;

@@ -42,7 +42,7 @@ It stands over the shared library libpciguest.so.0, by ctypes: that of the folde
 files, lines and numbers, and docs/LIBRARY.md what is proved of the library. This module itself is tested.
 """
 
-from ._board import Audit, Board
+from ._board import Audit, Board, Readiness
 from ._board_problems import BoardProblem
 from ._calls import VERSION
 from ._declared import Register
@@ -72,6 +72,7 @@ __all__ = [
     "Problem",
     "ReadableSpace",
     "ReadableWide",
+    "Readiness",
     "Refusal",
     "Region",
     "Register",

@@ -27,6 +27,15 @@ class Audit(NamedTuple):
     problems: int
 
 
+class Readiness(NamedTuple):
+    """What is wrong and what is lacking in the registers of a board."""
+
+    #: a line for each problem and for each lack, and a last line that counts both
+    text: str
+    #: how many problems and lacks there are: the board is ready where there is none
+    lacks: int
+
+
 class Board(Held):
     """A board that firmware of one's own drives, from reset on: it gives out the numbers of buses and the addresses of
     regions.
@@ -137,6 +146,20 @@ class Board(Held):
             answer, text = told(1024, lambda *room: CALLS["board_audit"](byref(self._handle), *room, byref(count)))
         answered(answer)
         return Audit(text, count.value)
+
+    def ready(self) -> Readiness:
+        """What is wrong and what is lacking in the registers as they stand, whoever wrote them: the lines of an audit, then
+        regions that are closed, outside the apertures or prefetched where they mustn't be, and bridges with another Primary
+        than their bus. The board stays as it is. It is refused by 299 where memory is out.
+
+        >>> print(Board(BOARD).ready().text.splitlines()[-2])
+        ready: 2.0/1.0 bar0 at 0x0 size 0x1000000 is closed
+        """
+        count = c_size_t(0)
+        with self._lock:
+            answer, text = told(1024, lambda *room: CALLS["board_ready"](byref(self._handle), *room, byref(count)))
+        answered(answer)
+        return Readiness(text, count.value)
 
     def problems(self) -> List[BoardProblem]:
         """The problems of an audit, one by one, in the order of its lines. It is refused by 299 where memory is out.

@@ -18,6 +18,15 @@ pub struct Audit {
     pub problems: usize,
 }
 
+/// What is wrong and what is lacking in the registers of a board.
+#[derive(Clone, Debug, PartialEq, Eq)]
+pub struct Readiness {
+    /// A line for each problem and for each lack, and a last line that counts both.
+    pub text: String,
+    /// How many problems and lacks there are: the board is ready where there is none.
+    pub lacks: usize,
+}
+
 /// A board that firmware of one's own drives, from reset on: it gives out the numbers of buses and the addresses of
 /// regions. What it holds is freed when it is dropped.
 ///
@@ -239,6 +248,30 @@ impl Board {
             raw::pciguest_board_audit(&mut self.handle, text, room, needed, &mut problems)
         });
         answered(number).map(|()| Audit { text, problems })
+    }
+
+    /// What is wrong and what is lacking in the registers as they stand, whoever wrote them: the lines of an
+    /// [audit](Board::audit), then regions that are closed, outside the apertures or prefetched where they mustn't be, and
+    /// bridges with another Primary than their bus. The board stays as it is.
+    ///
+    /// # Errors
+    ///
+    /// Out of memory alone.
+    ///
+    /// ```
+    /// # const BOARD: &str = include_str!("board.toml");
+    /// let mut board = pciguest::Board::new(BOARD)?;
+    /// let ready = board.ready()?;
+    /// assert!(ready.lacks > 0 && ready.text.ends_with(" is closed\nready: 1 lack\n"));
+    /// # Ok::<(), pciguest::Error>(())
+    /// ```
+    pub fn ready(&mut self) -> Result<Readiness, Error> {
+        let mut lacks = 0;
+        // SAFETY: the text has as many bytes as is said, and nothing overlaps.
+        let (number, text) = told(1024, |text, room, needed| unsafe {
+            raw::pciguest_board_ready(&mut self.handle, text, room, needed, &mut lacks)
+        });
+        answered(number).map(|()| Readiness { text, lacks })
     }
 
     /// The problems of an [audit](Board::audit), one by one, in the order of its lines.

@@ -57,7 +57,7 @@ mod raw;
 mod text;
 mod wide;
 
-pub use board::{Audit, Board, NotGiven};
+pub use board::{Audit, Board, NotGiven, Readiness};
 pub use bus::{BusDevice, GuestBus, SlotConfig};
 pub use declared::{Declaration, Kind, Register};
 pub use device::{DeviceModel, NotAttached, Registers};

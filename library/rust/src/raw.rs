@@ -649,6 +649,19 @@ extern "C" {
         needed: *mut usize,
         count: *mut usize,
     ) -> u32;
+    /// Writes what is wrong in the registers of a board as they stand, as pciguest_board_audit does but for its last
+    /// line, then a line for each thing that they lack, and a last line `ready: ok` or `ready: N lacks`, which counts
+    /// both. What is lacking is a region that is closed, outside the apertures or prefetched where it mustn't be, and a
+    /// bridge with another Primary than its bus. It tells the text's length, and how many problems and lacks there are:
+    /// the board is ready where that is 0. The board stays as it is.
+    /// 902: there is less room than the text needs, whose length alone is told. 299: out of memory.
+    pub fn pciguest_board_ready(
+        board: *mut BoardHandle,
+        text: *mut u8,
+        room: usize,
+        needed: *mut usize,
+        count: *mut usize,
+    ) -> u32;
     /// Writes a row for each problem that pciguest_board_audit has a line of, in the same order, and tells how many
     /// there are. The board stays as it is. 902: there is room for fewer rows than that, whose number alone is told.
     /// 299: out of memory.

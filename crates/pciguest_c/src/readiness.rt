@@ -1,0 +1,54 @@
+//! What C is told of all that is wrong and all that is lacking in the registers of a board.
+ghost use Rattle.std.specs.Prelude.{◌≡◌, ◌≢◌, ◌<◌, ◌⊎◌, IfNone, IfSome, length};
+ghost use Rattle.model_ready.specs.Lacks.{lack_count};
+ghost use Rattle.model_ready.specs.ReadyText.{ready_report};
+ghost use Rattle.pciguest_c.specs.Handles.{session_of, board_of};
+ghost use Rattle.pciguest_c.specs.TextsTold.{at_front};
+
+use crate::handle::Handle;
+use crate::numbers::{ARGUMENT, MEMORY};
+use crate::text_calls::tell;
+use session::Readiness;
+use std::alloc::Global;
+
+/// Writes what is wrong and what is lacking in the registers of a board as they stand, by the apertures of its
+/// file, to the front of `out`, and tells how many problems and lacks there are; and how long the text is, also
+/// where `out` has less room than that. The board stays as it is.
+#[unsafe(no_mangle)]
+pub extern "C" fn pciguest_raw_board_ready(
+    alloc: Global,
+    handle: &mut Handle,
+    out: &mut [u8],
+    needed: &mut usize,
+    count: &mut usize,
+) -> u32
+    ensures none { IfNone (board_of handle.old) (result ≡ 901) }
+    ensures text { IfSome (board_of handle.old) (λ b.
+        result ≡ 0 → let text = ready_report b.world.apertures b.state.functions in
+        (out.new ≡ at_front text out.old) × (needed.new ≡ length text)) }
+    ensures count { IfSome (board_of handle.old) (λ b. result ≡ 0 →
+        count.new ≡ lack_count b.world.apertures b.state.functions) }
+    ensures room { IfSome (board_of handle.old) (λ b.
+        result ≡ 902 → let text = ready_report b.world.apertures b.state.functions in
+        (length out.old < length text) × (needed.new ≡ length text)) }
+    ensures numbers { IfSome (board_of handle.old) (λ _.
+        (result ≡ 0) ⊎ (result ≡ 299) ⊎ (result ≡ 902)) }
+    ensures kept { session_of handle.new ≡ session_of handle.old }
+    ensures refused { result ≢ 0 → (out.new ≡ out.old) × (count.new ≡ count.old) }
+    ensures untold { result ≢ 0 → result ≢ 902 → needed.new ≡ needed.old }
+{
+    let answer = handle.ask_board(alloc, |board| match board.ready(alloc) {
+        Ok(told) => Ok(told),
+        Err(_) => Err(MEMORY),
+    });
+    match answer {
+        Ok(Readiness { text, count: lacks }) => {
+            if !tell(text.as_bytes(), out, needed) {
+                return ARGUMENT;
+            }
+            *count = lacks;
+            0
+        }
+        Err(number) => number,
+    }
+}
