@@ -43,7 +43,7 @@ class Texts(unittest.TestCase):
         self.assertTrue(text.startswith("endpoints 769 bridges 255\n") and text.endswith("\n"))
 
     def test_words(self):
-        self.assertEqual(sum(words(each) != "" for each in range(1000)), 38)
+        self.assertEqual(sum(words(each) != "" for each in range(1000)), 39)
         self.assertEqual(words(205), "prefetchable pool")
         self.assertEqual(words(0xFFFFFFFF), "")
 
