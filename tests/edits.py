@@ -10,7 +10,7 @@ function that it refuses: an edit is refused where it names the edit's own funct
 function. Two edits share a copy only where neither's function is called by the other's, by way of whatever functions of
 the crate. What gets no verdict so is tried alone, by the words and the judgement of `rt must-fail`, and from nothing
 where the check alone doesn't refuse it. With --gate the edits of the gate, CRATE/must-fail/*.edit, are tried as well; with
---alone all are tried one by one. The last line is 'N passed, M failed'."""
+--alone all are tried one by one. Each verdict is told once it is there; the last line is 'N passed, M failed'."""
 import importlib.machinery
 import importlib.util
 import os
@@ -117,7 +117,7 @@ class Edit:
                 self.pairs.append((path, old, re.sub(r"\A ", "", line[len("new:"):])))
         self.functions = [source.at(path, old) for path, old, _ in self.pairs]
         self.below = {name for it in self.functions if it for name in source.below(it.name)}
-        self.verdict, self.told = None, ""
+        self.verdict = None
 
     def can_share(self):
         return bool(self.functions) and None not in self.functions
@@ -158,6 +158,11 @@ def own_refusal(function, said):
     return errors[0] if status == "not proved" and errors else None
 
 
+def say(told):
+    """Tells the verdict of an edit once there is one."""
+    print(f"rt: {told}", flush=True)
+
+
 class Tries:
     """The edits of one crate, and the checks that try them."""
 
@@ -189,19 +194,15 @@ class Tries:
             why = next(filter(None, (own_refusal(it, said) for it in edit.functions)), None)
             if why:
                 edit.verdict = True
-                edit.told = f"must-fail {self.crate.name}/{edit.name}: refused, as it must be: {edit.functions[0].path}: {why[:160]}"
+                say(f"must-fail {self.crate.name}/{edit.name}: refused, as it must be: {edit.functions[0].path}: {why[:160]}")
 
     def try_alone(self, edit):
-        edit.verdict, edit.told = self.over_kept(
+        edit.verdict, told = self.over_kept(
             lambda kept: self.rt.must_fail(self.crate, str(edit.file), ["--jobs", "1"], kept))
         if not edit.verdict:
             self.checks += 1
-            edit.verdict, edit.told = self.rt.must_fail(self.crate, str(edit.file), ["--jobs", "1"])
-
-    def tell(self):
-        for it in self.edits:
-            print(f"rt: {it.told}", flush=True)
-        print(f"{self.crate.name}: {len(self.edits)} edits, {self.checks} checks", flush=True)
+            edit.verdict, told = self.rt.must_fail(self.crate, str(edit.file), ["--jobs", "1"])
+        say(told)
 
 
 def try_all(tries, alone, lanes):
@@ -254,7 +255,7 @@ def main(words):
     tries = [Tries(rt, it, folders[it.name]) for it in crates]
     try_all(tries, "--alone" in flags, lanes)
     for it in tries:
-        it.tell()
+        print(f"{it.crate.name}: {len(it.edits)} edits, {it.checks} checks", flush=True)
     for it in held:
         os.close(it)
     edits = [edit for it in tries for edit in it.edits]
