@@ -1,13 +1,16 @@
-//! What is told of a function by its index, as its registers stand, and what is declared of a bridge. No answer takes
-//! memory.
+//! What is told of a function by its index, as its registers stand, what is declared of a bridge, and an endpoint to be
+//! read. No answer takes memory.
 ghost use Rattle.std.specs.Prelude.{◌≡◌, length, option_map, slice_get};
+ghost use Rattle.std.specs.Option.{option_copied};
 ghost use Rattle.model_registers.specs.Registers.{config, number};
 ghost use Rattle.model_registers.specs.ByteEnables.{LiesInWord};
 ghost use Rattle.model_board.specs.State.{BoardFunction};
 ghost use Rattle.bridge_forward.specs.BridgeDecls.{declared_bridge_nth};
 ghost use Rattle.bridge_forward.specs.ByIndex.{ranges_told, ranges_nth};
+ghost use Rattle.bridge_forward.specs.Lending.{endpoint_nth};
 
 use crate::bus::Bus;
+use crate::endpoint::EndpointFn;
 use crate::routing::Window;
 use bars::BasedRegion;
 use headers::BridgeDecl;
@@ -61,6 +64,17 @@ impl Bus {
         }
         let node = &self.nodes[index];
         node.function.bridge_decl()
+    }
+
+    /// The endpoint at an index, to be read, and None where no endpoint stands.
+    pub fn endpoint_ref_nth(&self, index: usize) -> Option<&EndpointFn>
+        ensures { option_copied result ≡ endpoint_nth self.now index }
+    {
+        if index >= self.nodes.len() {
+            return None;
+        }
+        let node = &self.nodes[index];
+        node.function.endpoint()
     }
 
     /// The regions or windows of this function.

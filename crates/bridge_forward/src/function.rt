@@ -1,7 +1,7 @@
 //! What stands at a path.
 ghost use Rattle.std.specs.Prelude.{◌≡◌, ◌%◌, ◌&&◌, ◌==◌, nat_le, IfOk};
 ghost use Rattle.std.specs.Borrow.{sem};
-ghost use Rattle.std.specs.Option.{option_copied_mut};
+ghost use Rattle.std.specs.Option.{option_copied, option_copied_mut};
 ghost use Rattle.model_registers.specs.Registers.{config, number, read, write};
 ghost use Rattle.model_registers.specs.ByteEnables.{LiesInWord, lanes};
 ghost use Rattle.model_registers.specs.Decoding.{command_word};
@@ -246,6 +246,16 @@ impl Function {
         match self {
             Function::Endpoint(_) => false,
             Function::Bridge(bridge) => bridge.secondary() == bus,
+        }
+    }
+
+    /// The endpoint, if it is one.
+    pub(crate) fn endpoint(&self) -> Option<&EndpointFn>
+        ensures { option_copied result ≡ endpoint_in self.now }
+    {
+        match self {
+            Function::Endpoint(endpoint) => Some(endpoint),
+            Function::Bridge(_) => None,
         }
     }
 

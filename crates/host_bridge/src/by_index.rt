@@ -1,6 +1,7 @@
 //! A function of the board by its index: what is told of it as its registers stand, and what changes them.
 //! No call takes memory.
 ghost use Rattle.std.specs.Prelude.{◌≡◌, ◌%◌, IsSome, IsTrue, length, option_map, slice_get};
+ghost use Rattle.std.specs.Option.{option_copied};
 ghost use Rattle.model_registers.specs.Registers.{cell_at, config, number, raise, read, write};
 ghost use Rattle.model_registers.specs.ByteEnables.{LiesInWord, lanes};
 ghost use Rattle.model_registers.specs.DeviceBytes.{is_device_byte, set_value};
@@ -14,7 +15,7 @@ ghost use Rattle.host_bridge.specs.HostState.{with_functions};
 ghost use Rattle.host_bridge.specs.Landings.{IsReached};
 
 use crate::host::Host;
-use bridge_forward::{Path, RangesNow};
+use bridge_forward::{EndpointFn, Path, RangesNow};
 use headers::{BridgeDecl, Place};
 
 impl Host {
@@ -47,6 +48,13 @@ impl Host {
         ensures { result ≡ declared_bridge_nth self.now.state.functions index }
     {
         self.root.bridge_decl_nth(index)
+    }
+
+    /// The endpoint at an index, to be read, and None where no endpoint stands.
+    pub fn endpoint_ref_nth(&self, index: usize) -> Option<&EndpointFn>
+        ensures { option_copied result ≡ endpoint_nth self.now.state.functions index }
+    {
+        self.root.endpoint_ref_nth(index)
     }
 
     /// The regions of this function, or its windows.

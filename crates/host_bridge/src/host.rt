@@ -28,7 +28,8 @@ use std::alloc::{AllocError, Global};
 use std::marker::Model;
 
 /// The host bridge: the tree of buses below it, the address latch, and the addresses that set-up may
-/// give out. It hands out neither the tree nor a function, so every access is one of the calls here.
+/// give out. It hands out neither the tree nor a function to be changed, so every access is one of the
+/// calls here.
 #[derive(Drop)]
 pub struct Host {
     pub(crate) root: Bus,

@@ -1,10 +1,13 @@
 -- How long the parts of a declaration are.
-use Rattle.std.proofs.Common.{◌≡◌, ◌+◌, ◌*◌, ◌≤◌, ℕ, List, [], ◌∷◌, length, refl, ap, ◌∙◌, arith, length-append}
+use Rattle.std.proofs.Common.{◌≡◌, ◌+◌, ◌*◌, ◌≤◌, ℕ, zero, suc, false, List, [], ◌∷◌, ◌++◌, ◌/◌, ◌^◌, ◌-◌, length, refl, ap, ◌∙◌, arith, length-append}
 use Rattle.std.specs.Prelude.{flat_map}
 use Rattle.model_registers.specs.Cell.{Cell}
-use Rattle.model_registers.specs.Declarations.{Region, ConfigBlock, Endpoint}
+use Rattle.model_registers.specs.Declarations.{Kind, io_kind, mem32, mem64, registers_of, Region, ConfigBlock, Endpoint}
+use Rattle.model_registers.specs.EndpointTable.{base_cells, base_register, base_width, block_cells, endpoint_reset, header_cells, region_cells, type_bits}
+use Rattle.model_registers.specs.Registers.{Place, after, block, File, field, cells_from}
 use Rattle.model_registers.specs.DeclarationRules.{IsLawfulEndpoint}
 use Rattle.model_image_bytes.proofs.Savable.{region_count, block_count}
+use Rattle.image_bytes.proofs.TakenValues.{many_cells}
 use Rattle.image_bytes.specs.Parts.{cell_bytes, endpoint_head, region_head, block_head, region_bytes, block_bytes, counted_blocks, rest_bytes, declared_bytes}
 
 cells_length : (cs : List Cell) → length (flat_map cell_bytes cs) ≡ 3 * length cs
@@ -51,3 +54,37 @@ few_regions d rs h same = let few = region_count d h in let as_many = ap (λ (l 
 
 pub few_blocks : (d : Endpoint) (bs : List ConfigBlock) → IsLawfulEndpoint d → bs ≡ d.blocks → length bs ≤ 192
 few_blocks d bs h same = let few = block_count d h in let as_many = ap (λ (l : List ConfigBlock). length l) same in omega arith
+
+-- ---- how many cells
+
+pub first_cells : {A : Type 0} (f : A → File) (x : A) (left rest : List A) → left ≡ x ∷ rest → length (flat_map f left) ≡ length (f x) + length (flat_map f rest)
+first_cells f x left rest first = ap (λ (l : List _). length (flat_map f l)) first ∙ length-append (f x) (flat_map f rest)
+
+field_count : (p : Place) (w v rw w1c : ℕ) → length (field p w v rw w1c) ≡ w
+field_count p zero v rw w1c = refl
+field_count p (suc w) v rw w1c = ap suc (field_count (after p) w (v / 256) (rw / 256) (w1c / 256))
+
+pub few_registers : (k : Kind) → registers_of k ≤ 2
+few_registers io_kind = omega arith
+few_registers (mem32 pref) = omega arith
+few_registers (mem64 pref) = omega arith
+
+pub region_cell_count : (r : Region) → length (region_cells (λ x. 0) r) ≡ 4 * registers_of r.kind + length r.cells
+region_cell_count r =
+    let base = base_cells r.index r.kind r.size 0 in
+    let cells = cells_from (block r.index 0) r.cells in
+    let both = length-append base cells in
+    let a = field_count (base_register r.index) (4 * registers_of r.kind) (0 + type_bits r.kind) (2 ^ base_width r.kind - r.size) 0 in
+    let b = many_cells (block r.index 0) r.cells in
+    omega arith
+
+pub cells_count : (d : Endpoint) (rs : List Region) (bs : List ConfigBlock) → rs ≡ d.regions → bs ≡ d.blocks
+    → 23 + length (flat_map block_cells bs) + length (flat_map (region_cells (λ r. 0)) rs) ≡ length (endpoint_reset d false)
+cells_count d rs bs regions blocks =
+    let header = header_cells d false 0 in
+    let h : length header ≡ 23 = refl in
+    let a = length-append header (flat_map block_cells d.blocks) in
+    let b = length-append (header ++ flat_map block_cells d.blocks) (flat_map (region_cells (λ r. 0)) d.regions) in
+    let x = ap (λ (l : List Region). length (flat_map (region_cells (λ r. 0)) l)) regions in
+    let y = ap (λ (l : List ConfigBlock). length (flat_map block_cells l)) blocks in
+    omega arith

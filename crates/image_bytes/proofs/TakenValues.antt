@@ -94,7 +94,7 @@ region_cells : (n a : ℕ) (cs : List Cell) → AreDevice (cells_from (block n a
 region_cells n a [] = tt
 region_cells n a (c ∷ cs) = (refl, region_cells n (a + 1) cs)
 
-many_cells : (p : Place) (cs : List Cell) → length (cells_from p cs) ≡ length cs
+pub many_cells : (p : Place) (cs : List Cell) → length (cells_from p cs) ≡ length cs
 many_cells p [] = refl
 many_cells p (c ∷ cs) = ap suc (many_cells (after p) cs)
 

@@ -1,6 +1,6 @@
 //! What stands in an image around functions: its header, the latch, and whether a slot is filled.
 ghost use Rattle.std.specs.Prelude.{◌≡◌, Ok, Err, Some, IfErr, IfOk, [], ◌∷◌, if◌then◌else◌};
-ghost use Rattle.model_image_bytes.specs.Layouts.{parse_number, parsed};
+ghost use Rattle.model_image_bytes.specs.Layouts.{le_bytes, parse_number, parsed};
 ghost use Rattle.model_image_bytes.specs.LoadedBytes.{after_bytes, after_latch, at_end, header};
 ghost use Rattle.image_bytes.specs.Faults.{number_of};
 
@@ -16,6 +16,15 @@ pub fn header() -> [u8; 8]
     ensures { result ≡ header }
 {
     [b'P', b'C', b'I', b'G', 1, 0, 0, 0]
+}
+
+/// The bytes of a latch.
+pub fn latch_bytes(latch: u32) -> [u8; 4]
+    ensures { result ≡ le_bytes 4 latch }
+{
+    let mut bytes = [0; 4];
+    LittleEndian::write_u32(&mut bytes, latch);
+    bytes
 }
 
 /// The bytes after the header, with which they have to begin.

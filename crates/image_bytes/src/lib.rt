@@ -12,7 +12,7 @@ mod writing;
 
 pub use comparing::after_declaration;
 pub use fault::ImageFault;
-pub use heading::{after_header, after_latch, after_tag, at_end, header};
-pub use sizes::declaration_size;
-pub use values::after_values;
-pub use writing::write_declaration;
+pub use heading::{after_header, after_latch, after_tag, at_end, header, latch_bytes};
+pub use sizes::{declaration_size, values_size};
+pub use values::{after_values, register_width};
+pub use writing::{put, write_declaration};

@@ -179,7 +179,7 @@ fn header_rows(decl: &EndpointDecl) -> [Row; 14]
 }
 
 /// How many bytes a base address register of this kind has.
-fn register_width(kind: Kind) -> u8
+pub fn register_width(kind: Kind) -> u8
     ensures { result ≡ 4 * registers_of (kind_of kind) }
 {
     match kind {

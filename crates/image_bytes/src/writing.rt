@@ -12,7 +12,7 @@ use config_bytes::Cell;
 use headers::{ConfigBlock, EndpointDecl, Region};
 
 /// Puts bytes into a buffer from an index on, and gives the index behind them.
-fn put(out: &mut [u8], at: usize, bytes: &[u8]) -> usize
+pub fn put(out: &mut [u8], at: usize, bytes: &[u8]) -> usize
     requires { at + length bytes.now ≤ length out.old }
     ensures bytes { out.new ≡ put at bytes.now out.old }
     ensures end { result ≡ at + length bytes.now }

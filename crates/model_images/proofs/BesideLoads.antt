@@ -1,21 +1,20 @@
 -- The board beside the functions of a guest that is loaded.
-use Rattle.std.proofs.Common.{◌≡◌, ℕ, zero, suc, Bool, true, false, cond, List, [], ◌∷◌, Some, None, Option, refl, sym, ap, ◌∙◌, arith}
+use Rattle.std.proofs.Common.{◌≡◌, ℕ, zero, suc, List, [], ◌∷◌, Some, None, Option, refl, sym, ap, ◌∙◌, arith}
 use Rattle.std.specs.Prelude.{map, option_map, slice_get, IsSome}
 use Rattle.std.specs.Option.{option_map_or}
 use Rattle.model_registers.specs.Registers.{File}
-use Rattle.model_registers.specs.Decoding.{Function}
-use Rattle.model_board.specs.Paths.{Path, path_eq}
+use Rattle.model_board.specs.Paths.{Path}
 use Rattle.model_board.specs.Ports.{file_at}
 use Rattle.model_board.specs.State.{BoardFunction}
 use Rattle.model_board.proofs.PathOrder.{path_same}
 use Rattle.model_registers.specs.CopiedFiles.{agreed_file}
-use Rattle.model_guests.specs.Slots.{Slots, slot_at}
+use Rattle.model_guests.specs.Slots.{slot_at}
 use Rattle.model_guests.specs.Lone.{LoneGuest}
-use Rattle.model_guests.specs.Guests.{GuestNow, file_in, file_of, function_in, guest_named, with_guest}
+use Rattle.model_guests.specs.Guests.{GuestNow, file_of, function_in, guest_named, with_guest}
 use Rattle.model_guests.specs.AgreedBoard.{agreed_function}
 use Rattle.model_guests.proofs.Changes.{agreed_twice}
 use Rattle.model_guests.proofs.GuestsByName.{function_named, path_at, path_of}
-use Rattle.model_guests.proofs.FoundFiles.{file_found, file_stays}
+use Rattle.model_guests.proofs.FoundFiles.{file_found, file_none, file_stays}
 use Rattle.model_handoff.proofs.Functions.{path_stays}
 use Rattle.model_images.specs.Images.{SavedFunction, loaded, restored}
 use Rattle.model_images.specs.LoadLaws.{BoardAfterLoad, BoardBesideLoad, LoadsAlike}
@@ -23,16 +22,6 @@ use Rattle.model_images.proofs.Loading.{loaded_holds, paths_after_load, seated_a
 
 pub loads_alike : LoadsAlike
 loads_alike file left own = agreed_twice left own file
-
-file_absent : (qs : List (Option Path)) (fs : Slots) (p : Path) → ((m : ℕ) → path_at qs m ≡ Some p → ⊥) → file_in qs fs p ≡ None
-file_absent [] fs p none = refl
-file_absent (q ∷ qs) [] p none = refl
-file_absent (None ∷ qs) (f ∷ fs) p none = file_absent qs fs p (λ m. none (suc m))
-file_absent (Some q ∷ qs) (f ∷ fs) p none = cases (path_eq q p) refl (file_absent qs fs p (λ m. none (suc m)))
-  where
-    cases : (t : Bool) → path_eq q p ≡ t → file_in qs fs p ≡ None → cond t (option_map (λ (g : Function). g.file) f) (file_in qs fs p) ≡ None
-    cases true e more = absurd (none 0 (ap (λ (x : Path). Some x) (path_same q p e)))
-    cases false e more = more
 
 -- what the board shows at a path: the file that was handed over, with the guest's put in
 abbrev put_in : Option File → File → File
@@ -53,7 +42,7 @@ board_beside_load b w h name i p none =
     (file_stays (loaded i) name p w.guests h.names_apart
     (λ t at.
     let no : (m : ℕ) → path_at t.paths m ≡ Some p → ⊥ = λ m e. none m (ap (λ (o : Option GuestNow). path_of o m) at ∙ e) in
-    file_absent t.paths (loaded i t).lone.slots p no ∙ sym (file_absent t.paths t.lone.slots p no)))
+    file_none t.paths (loaded i t).lone.slots p no ∙ sym (file_none t.paths t.lone.slots p no)))
     ∙ sym (shown_at w.handoff.functions (file_of w.guests) p)
 
 -- the function that was loaded into a slot

@@ -8,5 +8,5 @@ regions_size-requires-clause-few c = few_regions c.args.decl.now c.deref.result.
 pub blocks_size-requires-clause-few : goal.blocks_size-requires-clause-few
 blocks_size-requires-clause-few c = few_blocks c.args.decl.now c.deref-2.result.now c.values-values.ensures.lawful (grind arith)
 
-pub returns : goal.returns
-returns c = let all = parts_length c.args.decl.now c.deref.result.now c.deref-2.result.now (grind arith) (grind arith) in grind arith
+pub returns-clause-size : goal.returns-clause-size
+returns-clause-size c = let all = parts_length c.args.decl.now c.deref.result.now c.deref-2.result.now (grind arith) (grind arith) in grind arith
