@@ -8,7 +8,8 @@ _pciguest() {
     compopt -o filenames 2> /dev/null
     mapfile -t COMPREPLY < <(compgen -f -X '!*.toml' -- "$word"; compgen -d -- "$word")
     [ "${COMP_WORDS[1]}" != check ] || mapfile -t -O "${#COMPREPLY[@]}" COMPREPLY < <(compgen -W '--plain' -- "$word")
-  elif [ "$COMP_CWORD" = 3 ] && [ "${COMP_WORDS[1]}" = check ] && [ "${COMP_WORDS[2]}" = --plain ]; then
+    [[ ${COMP_WORDS[1]} != @(audit|firmware|run) ]] || mapfile -t -O "${#COMPREPLY[@]}" COMPREPLY < <(compgen -W '--strict' -- "$word")
+  elif [ "$COMP_CWORD" = 3 ] && [[ ${COMP_WORDS[1]}\ ${COMP_WORDS[2]} == @(check\ --plain|@(audit|firmware|run)\ --strict) ]]; then
     compopt -o filenames 2> /dev/null
     mapfile -t COMPREPLY < <(compgen -f -X '!*.toml' -- "$word"; compgen -d -- "$word")
   fi

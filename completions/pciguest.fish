@@ -5,7 +5,7 @@ function __pciguest_board
         case 2
             contains -- $words[2] audit check firmware list ready run
         case 3
-            test "$words[2] $words[3]" = 'check --plain'
+            contains -- "$words[2] $words[3]" 'check --plain' 'audit --strict' 'firmware --strict' 'run --strict'
         case '*'
             false
     end
@@ -22,4 +22,5 @@ complete -c pciguest -n $first -a ready -d 'Run firmware, and then say whether a
 complete -c pciguest -n $first -a run -d 'Run a script over a board'
 complete -c pciguest -n $first -l help -s h -d 'Print help'
 complete -c pciguest -n '__pciguest_board; and test (commandline -opc)[-1] = check' -l plain -d 'Leave the lines of the file out'
+complete -c pciguest -n '__pciguest_board; and contains -- (commandline -opc)[-1] audit firmware run' -l strict -d 'End with status 1 where a line was refused or a problem told'
 complete -c pciguest -n __pciguest_board -a '(__fish_complete_suffix .toml)'

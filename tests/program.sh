@@ -252,6 +252,37 @@ fails_with 'ready, a faulty file' '107 size' ready "$boards/refused/size.toml" <
 fails_with 'ready, no such file' '702 board file' ready nothing.toml < /dev/null
 fails_with 'ready, standard input closed' '501 read failed' ready "$boards/main.toml" <&-
 
+# ---- --strict: a refused line is a fault once all lines ran, and so is a problem of the audit at their end
+cp run.wanted wanted.out
+ends_with_fault 'run --strict, a refused line' '209 refused line' run --strict "$boards/main.toml" < run.script
+head -n -1 run.wanted > wanted.out
+ends_with 'run --strict' run --strict "$boards/main.toml" < <(head -n -1 run.script)
+ends_with 'run, and then --strict' run "$boards/main.toml" --strict < <(head -n -1 run.script)
+{ echo '?: refused 403 long line'; echo 'a: 0x00011234'; } > wanted.out
+ends_with_fault 'run --strict, a long line and a last one without a line feed' '209 refused line' run --strict "$boards/main.toml" \
+  < <(head -c 100000 /dev/zero | tr '\0' x; printf '\na cr 0 0 4')
+: > wanted.out
+ends_with 'run --strict, an empty script' run --strict "$boards/main.toml" < /dev/null
+full 'run --strict' run --strict "$boards/main.toml" < run.script
+fails_with 'run --strict, a script that is a folder' '501 read failed' run --strict "$boards/main.toml" < /
+fails_with 'run --strict, a faulty file' '107 size' run --strict "$boards/refused/size.toml" < run.script
+printf 'host: 0x1234\naudit: 2.0/0.0: a cycle for 00:00.0 reaches nothing\nhost: refused 207 not in order\n' > wanted.out
+ends_with_fault 'firmware --strict, a handover that is refused' '209 refused line' firmware --strict "$boards/main.toml" \
+  < <(printf 'host cr 00:01.0 0 2\nhost guests\n')
+printf 'audit: 2.0/0.0: a cycle for 00:00.0 reaches nothing\naudit: 2.0/1.0: a cycle for 00:01.0 reaches 1.0\naudit: 2 problems\n' > wanted.out
+ends_with 'firmware --strict, problems that a line tells' firmware --strict "$boards/main.toml" <<< 'host audit'
+ends_with_fault 'audit --strict, problems' '207 not in order' audit --strict "$boards/main.toml" < /dev/null
+{ echo '?: refused 402 unknown guest'; cat wanted.out; } > wanted.more; mv wanted.more wanted.out
+ends_with_fault 'audit --strict, problems and a refused line' '209 refused line' audit --strict "$boards/main.toml" <<< 'a cr 0 0 4'
+full 'audit --strict, problems' audit --strict "$boards/main.toml" < /dev/null
+{ section 'firmware.script over main.toml at reset'; echo 'audit: ok'; } > wanted.out
+ends_with 'audit --strict' audit --strict "$boards/main.toml" < "$boards/firmware.script"
+for verb in run firmware audit; do
+  fails_with "$verb --strict, no board" '701 usage' $verb --strict
+  fails_with "$verb --strict twice" '701 usage' $verb --strict --strict "$boards/main.toml"
+done
+for verb in list check ready; do fails_with "$verb --strict" '701 usage' $verb --strict "$boards/main.toml"; done
+
 # ---- run: lines at the ends of what a line may say
 longest=$(printf '%190s' '')
 {
@@ -372,6 +403,55 @@ fails_with '--version' "$usage" --version
 fails_with '-V' "$usage" -V
 fails_with 'an unknown option' "$usage" demo --x
 fails_with 'a word that is no text' "$usage" $'\377'
+
+# ---- the second line of a fault, where standard error is a terminal
+spawn='import os, pty, subprocess, sys
+to, at = pty.openpty()
+done = subprocess.run(sys.argv[1:], stdin=subprocess.DEVNULL, stdout=subprocess.DEVNULL, stderr=at)
+os.close(at)
+text = b""
+try:
+    while part := os.read(to, 4096):
+        text += part
+except OSError:
+    pass
+sys.stdout.buffer.write(text.replace(b"\r\n", b"\n"))
+sys.exit(done.returncode)'
+# hints 'N WORDS' 'LINE' WORDS..: it ends with this fault, and with this line below it, if there is one
+hints() {
+  local fault=$1 line=$2; shift 2
+  timeout 60 python3 -c "$spawn" "$program" "$@" > err; status=$?
+  : > out; : > wanted.out; wanted=1
+  { echo "pciguest: fault $fault"; [ -z "$line" ] || echo "$line"; } > wanted.err
+  tell "on a terminal: $*"
+}
+all='usage: pciguest demo|list|check|run|firmware|audit|ready ..'
+hints "$usage" "$all"
+hints "$usage" "$all; not taken: lst" lst board.toml
+hints "$usage" "$all; not taken: help" help list
+hints "$usage" "$all; not taken: --" -- list board.toml
+hints "$usage" "$all; not taken: a?b??" $'a\tb\303\251'
+hints "$usage" 'usage: pciguest demo; not taken: --x' demo --x
+hints "$usage" 'usage: pciguest list BOARD' list
+hints "$usage" 'usage: pciguest list BOARD; not taken: --plain' list --plain board.toml
+hints "$usage" 'usage: pciguest list BOARD; not taken: y' list -- board.toml y z
+hints "$usage" 'usage: pciguest check [--plain] BOARD' check --plain
+hints "$usage" 'usage: pciguest check [--plain] BOARD; not taken: --plan' check --plan board.toml
+hints "$usage" 'usage: pciguest check [--plain] BOARD; not taken: --plain' check --plain --plain board.toml
+hints "$usage" 'usage: pciguest check [--plain] BOARD; not taken: --plain=1' check --plain=1 board.toml
+hints "$usage" 'usage: pciguest run [--strict] BOARD; not taken: y' run board.toml y
+hints "$usage" 'usage: pciguest firmware [--strict] BOARD' firmware --strict
+hints "$usage" 'usage: pciguest audit [--strict] BOARD; not taken: -s' audit -s board.toml
+hints "$usage" 'usage: pciguest ready BOARD; not taken: --strict' ready board.toml --strict
+hints '702 board file' "cannot read 'nothing.toml': no such file" list nothing.toml
+hints '702 board file' "cannot read '': no such file" run ''
+hints '702 board file' "cannot read '.': it is a folder" check .
+hints '702 board file' "cannot read 'board.toml/x': a part of the path is no folder" firmware board.toml/x
+hints '101 not TOML' 'see: pciguest check ff.toml' list ff.toml
+hints '102 key' 'see: pciguest check empty.toml' audit empty.toml
+hints '204 memory pool' "see: pciguest check $boards/refused/memory_pool.toml" run "$boards/refused/memory_pool.toml"
+hints '101 not TOML' '' check ff.toml
+hints '208 not ready' '' ready "$boards/main.toml"
 
 # ---- a fault that can't be told ends with its status all the same
 timeout 60 "$program" x > out 2> /dev/full; status=$?

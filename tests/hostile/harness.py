@@ -18,8 +18,8 @@ FAULTS = {
     101: "not TOML", 102: "key", 103: "unknown key", 104: "number", 105: "place", 106: "register",
     107: "size", 108: "too many", 109: "guest name", 110: "slot", 111: "aperture",
     112: "cell masks", 199: "memory", 201: "buses", 202: "no I/O window", 203: "I/O pool",
-    204: "memory pool", 205: "prefetchable pool", 208: "not ready", 299: "memory", 501: "read failed",
-    502: "write failed", 599: "memory", 701: "usage", 702: "board file", 799: "memory",
+    204: "memory pool", 205: "prefetchable pool", 207: "not in order", 208: "not ready", 209: "refused line",
+    299: "memory", 501: "read failed", 502: "write failed", 599: "memory", 701: "usage", 702: "board file", 799: "memory",
 }
 
 

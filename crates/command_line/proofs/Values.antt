@@ -9,14 +9,20 @@ use Rattle.clap.specs.declared.parser.matches.Found.{Found}
 use Rattle.clap.specs.Walk.{Row, rows_of, row_of, stop_after}
 use Rattle.clap.specs.Matches.{first_value, subcommand_name_of}
 use Rattle.clap.specs.Simple.{Shape, argument_words, built, entered, names_of, rows_at, subcommand_rows, subcommand_rows_of, subcommand_of}
+use Rattle.clap.specs.Faults.{is_simple_and_free}
 use Rattle.clap.proofs.OnLiterals.{clap_on_literals}
 use Rattle.clap.specs.declared.parser.matches.ArgMatches.{ArgMatches}
 use Rattle.clap.specs.declared.parser.matches.ArgMatches.TheViews.{out-ArgMatches, out-SubCommand}
 use Rattle.clap.specs.declared.parser.matches.SubCommand.{SubCommand}
 use Rattle.command_line.specs.Words.{pciguest_app, subcommand, value, value_in}
-use Rattle.command_line.specs.Choices.{is_plain, board_in, IsAskedBy, IsNoCommand}
+use Rattle.command_line.specs.Choices.{is_plain, is_strict, is_true, board_in, IsAskedBy, IsNoCommand}
 use Rattle.command_line.specs.declared.choice.Choice.{Choice}
 use Rattle.command_line.specs.declared.choice.Choice.TheVariants.{Help, Demo, List as Lists, Check, Run, Firmware, Audit, Ready}
+
+-- the command line is one of which all is known that a parse may answer
+pub simple : is_simple_and_free pciguest_app ≡ true
+unfolding clap_on_literals
+simple = refl
 
 abbrev Entry : Type 0
 Entry = Bor (List ℕ) × MatchedArg
@@ -106,6 +112,9 @@ no_other m words n read known none =
 board_alike : {v w : List ℕ → Option (List ℕ)} → ((id : List ℕ) → w id ≡ v id) → board_in w ≡ board_in v
 board_alike alike = ap (λ o. unwrap_or o []) (alike (codes "board"))
 
+strict_alike : {v w : List ℕ → Option (List ℕ)} → ((id : List ℕ) → w id ≡ v id) → is_strict w ≡ is_strict v
+strict_alike alike = ap is_true (alike (codes "strict"))
+
 pub asked_alike : {name : List ℕ} {o : Option (List ℕ)} {v w : List ℕ → Option (List ℕ)} → o ≡ Some name
     → ((id : List ℕ) → w id ≡ v id) → (terminal : Bool) (c : Choice) → IsAskedBy (Some name) v terminal c
     → IsAskedBy o w terminal c
@@ -117,7 +126,7 @@ asked_alike same alike terminal (Check path plain) said = (
   said.1 ∙ sym (board_alike alike),
   said.2 ∙ sym (ap (λ o. is_plain o terminal) (alike (codes "plain"))),
 )
-asked_alike same alike terminal (Run path) said = (same ∙ said.0, said.1 ∙ sym (board_alike alike))
-asked_alike same alike terminal (Firmware path) said = (same ∙ said.0, said.1 ∙ sym (board_alike alike))
-asked_alike same alike terminal (Audit path) said = (same ∙ said.0, said.1 ∙ sym (board_alike alike))
+asked_alike same alike terminal (Run path strict) said = (same ∙ said.0, said.1 ∙ sym (board_alike alike), said.2 ∙ sym (strict_alike alike))
+asked_alike same alike terminal (Firmware path strict) said = (same ∙ said.0, said.1 ∙ sym (board_alike alike), said.2 ∙ sym (strict_alike alike))
+asked_alike same alike terminal (Audit path strict) said = (same ∙ said.0, said.1 ∙ sym (board_alike alike), said.2 ∙ sym (strict_alike alike))
 asked_alike same alike terminal (Ready path) said = (same ∙ said.0, said.1 ∙ sym (board_alike alike))

@@ -1,10 +1,12 @@
 -- What the words of the command line ask for.
 --     is_plain given is_terminal      a check tells lines alone, by what is given for `--plain` and where it is written
+--     is_strict value      a refused line is a fault
+--     board_path choice      the path of the board file that is read
 --     IsAskedBy name value is_terminal choice      the choice is the subcommand of this name, with what is given for its arguments
 --     IsAsked words is_terminal choice      the choice is the subcommand that the words name
 --     IsNoCommand name      the program has no subcommand of this name
 --     IsHelp, IsWork choice      the choice is help, or is none
-use Rattle.std.specs.Prelude.{◌≡◌, ◌≢◌, ℕ, Bool, false, not, ◌||◌, List, [], Option, Some, codes, unwrap_or}
+use Rattle.std.specs.Prelude.{◌≡◌, ◌≢◌, ℕ, Bool, false, not, ◌||◌, List, [], Option, None, Some, codes, unwrap_or}
 use Rattle.std.specs.Option.{option_map_or}
 use Rattle.std.specs.Str.{bytes_eq}
 use Rattle.command_line.specs.Words.{subcommand, value}
@@ -17,6 +19,10 @@ is_true given = option_map_or (λ t. bytes_eq t (codes "true")) given false
 abbrev pub is_plain : Option (List ℕ) → Bool → Bool
 is_plain given is_terminal = not is_terminal || is_true given
 
+-- `--strict` is given
+abbrev pub is_strict : (List ℕ → Option (List ℕ)) → Bool
+is_strict value = is_true (value (codes "strict"))
+
 -- the path of a board file, which is empty where none is given
 abbrev pub board_in : (List ℕ → Option (List ℕ)) → List ℕ
 board_in value = unwrap_or (value (codes "board")) []
@@ -27,9 +33,12 @@ IsAskedBy name value terminal Demo = name ≡ Some (codes "demo")
 IsAskedBy name value terminal (Lists path) = (name ≡ Some (codes "list")) × (path.now ≡ board_in value)
 IsAskedBy name value terminal (Check path plain) =
     (name ≡ Some (codes "check")) × (path.now ≡ board_in value) × (plain ≡ is_plain (value (codes "plain")) terminal)
-IsAskedBy name value terminal (Run path) = (name ≡ Some (codes "run")) × (path.now ≡ board_in value)
-IsAskedBy name value terminal (Firmware path) = (name ≡ Some (codes "firmware")) × (path.now ≡ board_in value)
-IsAskedBy name value terminal (Audit path) = (name ≡ Some (codes "audit")) × (path.now ≡ board_in value)
+IsAskedBy name value terminal (Run path strict) =
+    (name ≡ Some (codes "run")) × (path.now ≡ board_in value) × (strict ≡ is_strict value)
+IsAskedBy name value terminal (Firmware path strict) =
+    (name ≡ Some (codes "firmware")) × (path.now ≡ board_in value) × (strict ≡ is_strict value)
+IsAskedBy name value terminal (Audit path strict) =
+    (name ≡ Some (codes "audit")) × (path.now ≡ board_in value) × (strict ≡ is_strict value)
 IsAskedBy name value terminal (Ready path) = (name ≡ Some (codes "ready")) × (path.now ≡ board_in value)
 
 abbrev pub IsAsked : List (List ℕ) → Bool → Choice → Type 0
@@ -43,6 +52,16 @@ pub record IsNoCommand (name : List ℕ) : Type 0 where
   pub firmware : name ≢ codes "firmware"
   pub audit : name ≢ codes "audit"
   pub ready : name ≢ codes "ready"
+
+abbrev pub board_path : Choice → Option (List ℕ)
+board_path (Help text) = None
+board_path Demo = None
+board_path (Lists path) = Some path.now
+board_path (Check path plain) = Some path.now
+board_path (Run path strict) = Some path.now
+board_path (Firmware path strict) = Some path.now
+board_path (Audit path strict) = Some path.now
+board_path (Ready path) = Some path.now
 
 abbrev pub IsHelp : Choice → Type 0
 IsHelp (Help text) = Unit {0}

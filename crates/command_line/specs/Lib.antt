@@ -1,2 +1,3 @@
 pub mod Words
 pub mod Choices
+pub mod Usage

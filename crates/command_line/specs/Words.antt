@@ -18,7 +18,11 @@ board_rule = record (new_rule (codes "board")) { required = true }
 abbrev pub plain_rule : Rule
 plain_rule = record (new_rule (codes "plain")) { long = Some (codes "plain"); action = Some SetTrue }
 
--- `list BOARD`, `check [--plain] BOARD`, `run BOARD`, `firmware BOARD`, `audit BOARD` and `ready BOARD`
+abbrev pub strict_rule : Rule
+strict_rule = record (new_rule (codes "strict")) { long = Some (codes "strict"); action = Some SetTrue }
+
+-- `list BOARD`, `check [--plain] BOARD`, `run [--strict] BOARD`, `firmware [--strict] BOARD`, `audit [--strict] BOARD` and
+-- `ready BOARD`
 abbrev pub list_shape : Shape
 list_shape = record (new_shape (codes "list")) { rules = board_rule ∷ [] }
 
@@ -26,13 +30,13 @@ abbrev pub check_shape : Shape
 check_shape = record (new_shape (codes "check")) { rules = plain_rule ∷ board_rule ∷ [] }
 
 abbrev pub run_shape : Shape
-run_shape = record (new_shape (codes "run")) { rules = board_rule ∷ [] }
+run_shape = record (new_shape (codes "run")) { rules = strict_rule ∷ board_rule ∷ [] }
 
 abbrev pub firmware_shape : Shape
-firmware_shape = record (new_shape (codes "firmware")) { rules = board_rule ∷ [] }
+firmware_shape = record (new_shape (codes "firmware")) { rules = strict_rule ∷ board_rule ∷ [] }
 
 abbrev pub audit_shape : Shape
-audit_shape = record (new_shape (codes "audit")) { rules = board_rule ∷ [] }
+audit_shape = record (new_shape (codes "audit")) { rules = strict_rule ∷ board_rule ∷ [] }
 
 abbrev pub ready_shape : Shape
 ready_shape = record (new_shape (codes "ready")) { rules = board_rule ∷ [] }
@@ -48,15 +52,15 @@ demo_and_list_app =
 abbrev pub with_check_app : App
 with_check_app = with_subcommand demo_and_list_app check_shape
 
--- and `pciguest run BOARD`
+-- and `pciguest run [--strict] BOARD`
 abbrev pub with_run_app : App
 with_run_app = with_subcommand with_check_app run_shape
 
--- and `pciguest firmware BOARD`
+-- and `pciguest firmware [--strict] BOARD`
 abbrev pub with_firmware_app : App
 with_firmware_app = with_subcommand with_run_app firmware_shape
 
--- and `pciguest audit BOARD`
+-- and `pciguest audit [--strict] BOARD`
 abbrev pub with_audit_app : App
 with_audit_app = with_subcommand with_firmware_app audit_shape
 

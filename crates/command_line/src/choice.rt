@@ -4,7 +4,7 @@ ghost use Rattle.clap.specs.Faults.{fault_of};
 ghost use Rattle.clap.specs.Matches.{first_value, found_of};
 ghost use Rattle.clap.specs.Values.{kind_of};
 ghost use Rattle.command_line.specs.Words.{pciguest_app, is_taken};
-ghost use Rattle.command_line.specs.Choices.{is_true, IsAsked, IsAskedBy, IsNoCommand, IsWork, IsHelp};
+ghost use Rattle.command_line.specs.Choices.{is_true, board_path, IsAsked, IsAskedBy, IsNoCommand, IsWork, IsHelp};
 
 use crate::commands::command;
 use clap::error::ErrorKind;
@@ -23,14 +23,34 @@ pub enum Choice<'a> {
     List(&'a str),
     /// Say what is wrong with the board file at this path, or that its board fits. `plain` asks for lines alone.
     Check { path: &'a str, plain: bool },
-    /// Run a script over the board of the board file at this path.
-    Run(&'a str),
+    /// Run a script over the board of the board file at this path. If `strict`, a refused line is a fault, once
+    /// all lines ran.
+    Run { path: &'a str, strict: bool },
     /// Run a session over the board of the board file at this path, at reset.
-    Firmware(&'a str),
-    /// Do the same, and then write all that is wrong in the registers as they stand.
-    Audit(&'a str),
+    Firmware { path: &'a str, strict: bool },
+    /// Do the same, and then write all that is wrong in the registers as they stand. If `strict`, that is a fault
+    /// too.
+    Audit { path: &'a str, strict: bool },
     /// Do the same, and then write all that is wrong and all that is lacking in them.
     Ready(&'a str),
+}
+
+impl<'a> Choice<'a> {
+    /// The path of the board file that is read, if one is.
+    pub fn board_path(&self) -> Option<&'a str>
+        ensures { option_map (λ s. s.now) result ≡ board_path self.now }
+    {
+        match self {
+            Choice::Help(_) => None,
+            Choice::Demo => None,
+            Choice::List(path) => Some(*path),
+            Choice::Check { path, .. } => Some(*path),
+            Choice::Run { path, .. } => Some(*path),
+            Choice::Firmware { path, .. } => Some(*path),
+            Choice::Audit { path, .. } => Some(*path),
+            Choice::Ready(path) => Some(*path),
+        }
+    }
 }
 
 /// Why words are not read.
@@ -80,6 +100,7 @@ fn asked<'a>(name: &str, given: &ArgMatches<'a>, is_terminal: bool) -> Option<Ch
 {
     // No words are taken that name no board.
     let path = given.get_str("board").unwrap_or("");
+    let strict = is_true(given.get_str("strict"));
     match name {
         "demo" => Some(Choice::Demo),
         "list" => Some(Choice::List(path)),
@@ -87,9 +108,9 @@ fn asked<'a>(name: &str, given: &ArgMatches<'a>, is_terminal: bool) -> Option<Ch
             let plain = !is_terminal || is_true(given.get_str("plain"));
             Some(Choice::Check { path, plain })
         }
-        "run" => Some(Choice::Run(path)),
-        "firmware" => Some(Choice::Firmware(path)),
-        "audit" => Some(Choice::Audit(path)),
+        "run" => Some(Choice::Run { path, strict }),
+        "firmware" => Some(Choice::Firmware { path, strict }),
+        "audit" => Some(Choice::Audit { path, strict }),
         "ready" => Some(Choice::Ready(path)),
         _ => None,
     }

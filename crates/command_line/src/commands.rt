@@ -3,7 +3,7 @@ ghost use Rattle.std.specs.Prelude.{◌≡◌, false, codes, IfOk};
 ghost use Rattle.clap.specs.declared.builder.command.Command.TheViews.{out-Command as fields_of};
 ghost use Rattle.clap.specs.Simple.{app_of, shape_of, new_shape};
 ghost use Rattle.clap.specs.Walk.{rule_of};
-ghost use Rattle.command_line.specs.Words.{board_rule, plain_rule, list_shape, check_shape, run_shape, firmware_shape, audit_shape, ready_shape};
+ghost use Rattle.command_line.specs.Words.{board_rule, plain_rule, strict_rule, list_shape, check_shape, run_shape, firmware_shape, audit_shape, ready_shape};
 ghost use Rattle.command_line.specs.Words.{demo_and_list_app, with_check_app, with_run_app};
 ghost use Rattle.command_line.specs.Words.{with_firmware_app, with_audit_app, pciguest_app};
 
@@ -36,13 +36,25 @@ fn list<'a>(alloc: Global) -> Result<Command<'a>, AllocError>
         .arg(board(alloc))
 }
 
-/// `run BOARD`.
+/// The flag that asks for a fault where a line is refused.
+fn strict<'a>(alloc: Global) -> Arg<'a>
+    ensures rule { rule_of result ≡ strict_rule }
+    ensures local { result.global ≡ false }
+{
+    Arg::new(alloc, "strict")
+        .long("strict")
+        .action(ArgAction::SetTrue)
+        .help("End with status 1 where a line was refused or a problem told")
+}
+
+/// `run [--strict] BOARD`.
 fn run<'a>(alloc: Global) -> Result<Command<'a>, AllocError>
     ensures shape { IfOk result (λ c. shape_of c ≡ run_shape) }
     ensures local { IfOk result (λ c. (fields_of c).has_globals ≡ false) }
 {
     Command::new(alloc, "run")
         .about("Run the script on standard input over the board that the file <board> declares")
+        .arg(strict(alloc))?
         .arg(board(alloc))
 }
 
@@ -68,7 +80,7 @@ fn check<'a>(alloc: Global) -> Result<Command<'a>, AllocError>
         .arg(board(alloc))
 }
 
-/// `firmware BOARD`.
+/// `firmware [--strict] BOARD`.
 fn firmware<'a>(alloc: Global) -> Result<Command<'a>, AllocError>
     ensures shape { IfOk result (λ c. shape_of c ≡ firmware_shape) }
     ensures local { IfOk result (λ c. (fields_of c).has_globals ≡ false) }
@@ -77,16 +89,18 @@ fn firmware<'a>(alloc: Global) -> Result<Command<'a>, AllocError>
         .about(
             "Do what firmware asks on standard input, at the board of the file <board>, at reset",
         )
+        .arg(strict(alloc))?
         .arg(board(alloc))
 }
 
-/// `audit BOARD`.
+/// `audit [--strict] BOARD`.
 fn audit<'a>(alloc: Global) -> Result<Command<'a>, AllocError>
     ensures shape { IfOk result (λ c. shape_of c ≡ audit_shape) }
     ensures local { IfOk result (λ c. (fields_of c).has_globals ≡ false) }
 {
     Command::new(alloc, "audit")
         .about("Do the same, and then say what is wrong in the board's registers as they stand")
+        .arg(strict(alloc))?
         .arg(board(alloc))
 }
 

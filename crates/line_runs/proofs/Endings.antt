@@ -7,10 +7,11 @@ use Rattle.std.proofs.Transfers.{starts_with_of_append}
 use Rattle.lists.specs.Elements.{Each}
 use Rattle.model_guests.specs.Text.{Text, lines, text_of_lines}
 use Rattle.model_guests.specs.LineRuns.{Protocol, output, after_lines, HasNoEnd, IsStopped, IsCut, first_output}
+use Rattle.model_guests.proofs.WrittenLines.{text_of_lines-append}
 use Rattle.model_guests.proofs.RunLines.{output_along, after_along, lines_of_pieces}
 use Rattle.line_runs.specs.Pieces.{IsBefore, Reaches, StopsWithin, IsStoppedIn, LacksWithin, IsLackingIn}
 use Rattle.line_runs.proofs.LineEnds.{no_end_along, some_line}
-use Rattle.line_runs.proofs.Reaching.{text_along, text_of_one}
+use Rattle.line_runs.proofs.Reaching.{text_of_one}
 
 -- what is left of a known script
 consumed : (a b : Option Text) (xs script : Text) → Consumes a b xs → a ≡ Some script → (rest : Text) × (script ≡ xs ++ rest) × (IsAtEnd b → rest ≡ [])
@@ -38,7 +39,7 @@ lines_read text line after more whole each clean e =
 -- and how the text begins
 text_read : (text line after : Text) (whole : List Text) → text ≡ text_of_lines whole ++ (line ++ 10 ∷ after) → StartsWith text (text_of_lines (whole ++ line ∷ []))
 text_read text line after whole e =
-    starts_with_of_append text (text_of_lines (whole ++ line ∷ [])) after (grind (arith, text_of_one, append_assoc, text_along))
+    starts_with_of_append text (text_of_lines (whole ++ line ∷ [])) after (grind (arith, text_of_one, append_assoc, text_of_lines-append))
 
 -- a failed write or flush at a line that LF ends
 pub stopped_of : {S : Type 0} {p : Protocol S} {w : S} {old_rest new_rest : Option Text} {text script : Text} {old new : Option Text} {end : S}

@@ -2,25 +2,23 @@
 use Rattle.std.proofs.Common.{◌≡◌, ℕ, suc, ◌+◌, ◌<◌, ◌||◌, Bool, false, not, cond, List, [], ◌∷◌, ◌++◌, Option, Some, None, length, take, drop, get_or, refl, sym, ap, ap₂, ◌∙◌, arith, take-append-drop}
 use Rattle.std.specs.List.{list_any, position, position_from, position_or_len}
 use Rattle.std.proofs.Math.Seq.{drop-cons}
+use Rattle.std.proofs.lemmas.Bool.{or_parts}
 use Rattle.std.proofs.lemmas.Bool.Decides.{nat_tests}
 use Rattle.std.proofs.lemmas.Iterator.Adapters.{position_from-zero}
 use Rattle.std.proofs.lemmas.List.Quantifiers.{position-Some}
 use Rattle.model_guests.specs.Text.{Text, ends_line, lines, onto}
 use Rattle.model_guests.specs.LineRuns.{HasNoEnd}
 
-either_false : (a b : Bool) → (a || b) ≡ false → (a ≡ false) × (b ≡ false)
-either_false a b h = grind arith
-
 pub no_end_along : (a b : Text) → HasNoEnd a → HasNoEnd b → HasNoEnd (a ++ b)
 no_end_along [] b p q = q
 no_end_along (c ∷ cs) b p q =
-    let parts = either_false (ends_line c) (list_any ends_line cs) p in
+    let parts = or_parts (ends_line c) (list_any ends_line cs) p in
     ap₂ (λ (x y : Bool). x || y) parts.0 (no_end_along cs b parts.1 q)
 
 pub no_end_first : (a b : Text) → HasNoEnd (a ++ b) → HasNoEnd a
 no_end_first [] b h = refl
 no_end_first (c ∷ cs) b h =
-    let parts = either_false (ends_line c) (list_any ends_line (cs ++ b)) h in
+    let parts = or_parts (ends_line c) (list_any ends_line (cs ++ b)) h in
     ap₂ (λ (x y : Bool). x || y) parts.0 (no_end_first cs b parts.1)
 
 -- no byte before the first place is a line feed
@@ -57,9 +55,9 @@ one_more_byte : (b : Bool) (c : ℕ) (cs : Text) (ls : List Text) → b ≡ fals
 one_more_byte b c cs ls e h = grind arith
 
 pub one_line : (c : ℕ) (cs : Text) → HasNoEnd (c ∷ cs) → lines (c ∷ cs) ≡ (c ∷ cs) ∷ []
-one_line c [] h = grind (arith, either_false)
+one_line c [] h = grind (arith, or_parts)
 one_line c (d ∷ ds) h =
-    let parts = either_false (ends_line c) (list_any ends_line (d ∷ ds)) h in
+    let parts = or_parts (ends_line c) (list_any ends_line (d ∷ ds)) h in
     one_more_byte (ends_line c) c (d ∷ ds) (lines (d ∷ ds)) parts.0 (one_line d ds parts.1)
 
 pub some_line : (xs : Text) → HasNoEnd xs → 0 < length xs → lines xs ≡ xs ∷ []

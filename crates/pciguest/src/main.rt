@@ -1,12 +1,27 @@
 //! The program: a board, its guests and a script of their accesses.
 #![tactic(auto)]
 
-use command_line::choose;
-use simulation::{Fault, InputStream, OutputStream, fault_line, perform};
+use command_line::{WordsFault, choose};
+use simulation::{
+    Fault, InputStream, OutputStream, board_or_hint, check_hint, fault_line, perform, usage_hint,
+};
 use std::io::IsTerminal;
 use std::process::ExitCode;
 use std::rt::{Env, Files};
 use std::{env, io};
+
+/// A fault, and the line below it that tells more, if there is one.
+#[derive(Drop)]
+struct Failure {
+    fault: Fault,
+    hint: Option<String>,
+}
+
+impl From<Fault> for Failure {
+    fn from(fault: Fault) -> Failure {
+        Failure { fault, hint: None }
+    }
+}
 
 /// The program's name and its words. A word that is no text is none that the program takes.
 fn words_given(rt: &(impl Env + AllocGlobal)) -> Result<Vec<String>, Fault> {
@@ -17,30 +32,74 @@ fn words_given(rt: &(impl Env + AllocGlobal)) -> Result<Vec<String>, Fault> {
     }
 }
 
+/// What stands in the board file at a path.
+fn board_at(rt: &(impl AllocGlobal + Files), path: &str) -> Result<Vec<u8>, Failure> {
+    match board_or_hint(rt, rt.alloc(), path) {
+        Ok(bytes) => Ok(bytes),
+        Err(hint) => Err(Failure {
+            fault: Fault::BoardFile,
+            hint,
+        }),
+    }
+}
+
 /// Does what the words ask, over standard input and output. `is_terminal` tells whether the output is one.
 fn serve(
-    rt: &(impl Env + AllocGlobal + Files + Input + Print),
+    rt: &(impl AllocGlobal + Files + Input + Print),
+    words: &[&str],
     is_terminal: bool,
-) -> Result<(), Fault> {
+) -> Result<(), Failure> {
     let alloc = rt.alloc();
-    let words = words_given(rt)?;
-    let mut texts = Vec::new(alloc);
-    for word in &words {
-        if texts.push(word.as_str()).is_err() {
-            return Err(Fault::WordMemory);
+    let choice = match choose(alloc, words, is_terminal) {
+        Ok(choice) => choice,
+        Err(WordsFault::Usage) => {
+            return Err(Failure {
+                fault: Fault::Usage,
+                hint: usage_hint(alloc, words).ok(),
+            });
         }
-    }
-    let choice = choose(alloc, texts.as_slice(), is_terminal)?;
+        Err(WordsFault::Memory) => return Err(Failure::from(Fault::WordMemory)),
+    };
     let mut reader = InputStream::new(rt.reader());
     let mut writer = OutputStream::buffered(alloc, io::writer(rt))?;
-    perform(rt, alloc, &choice, &mut reader, &mut writer)
+    let board = match choice.board_path() {
+        Some(path) => board_at(rt, path)?,
+        None => Vec::new(alloc),
+    };
+    match perform(alloc, &choice, &board, &mut reader, &mut writer) {
+        Ok(()) => Ok(()),
+        Err(fault) => Err(Failure {
+            fault,
+            hint: check_hint(alloc, &choice, fault).unwrap_or(None),
+        }),
+    }
+}
+
+/// Does what the program is asked. `is_terminal` tells whether the output is one.
+fn run(
+    rt: &(impl Env + AllocGlobal + Files + Input + Print),
+    is_terminal: bool,
+) -> Result<(), Failure> {
+    let words = words_given(rt)?;
+    let mut texts = Vec::new(rt.alloc());
+    for word in &words {
+        if texts.push(word.as_str()).is_err() {
+            return Err(Failure::from(Fault::WordMemory));
+        }
+    }
+    serve(rt, texts.as_slice(), is_terminal)
 }
 
 fn main(rt: HostRuntime) -> ExitCode {
-    match serve(&rt, rt.stdout().is_terminal()) {
+    match run(&rt, rt.stdout().is_terminal()) {
         Ok(()) => ExitCode::SUCCESS,
-        Err(fault) => {
-            let _ = rt.eprint(fault_line(fault));
+        Err(failure) => {
+            let _ = rt.eprint(fault_line(failure.fault));
+            if rt.stderr().is_terminal() {
+                if let Some(hint) = failure.hint {
+                    let _ = rt.eprint(hint);
+                }
+            }
             ExitCode::FAILURE
         }
     }

@@ -3,6 +3,7 @@
 --     IsAsked, asked_at      the board after an access, by what the code keeps of it
 use Rattle.std.proofs.Common.{◌≡◌, ◌||◌, ℕ, Bool, true, false, List, Option, None, Some, refl, sym, ap, ap₂, ◌∙◌, subst}
 use Rattle.std.specs.Option.{option_map_or}
+use Rattle.std.proofs.lemmas.Bool.{or_parts}
 use Rattle.model_board.specs.AtReset.{board_at, reset_state}
 use Rattle.model_board.specs.Board.{Board}
 use Rattle.model_board.specs.State.{State}
@@ -32,10 +33,6 @@ at_first file h gs declared lawful handoff reset = record {
 
 -- ---- an access
 
-neither : (t u : Bool) → (t || u) ≡ false → t ≡ false
-neither true u is = is
-neither false u is = refl
-
 latch_clear : (b : DrivenNow) → b ≡ at_reset b.world → b.state.latch ≡ 0
 latch_clear b is = ap (λ (x : DrivenNow). x.state.latch) is
 
@@ -45,7 +42,7 @@ asked_of file b a was = record {
   lawful = was.lawful;
   handoff = (access_leaves b.state was.handoff a).handoff;
   untouched = λ none.
-      let reset : b ≡ at_reset b.world = was.untouched (neither b.written (is_done (answer b.state a)) none) in
+      let reset : b ≡ at_reset b.world = was.untouched (or_parts b.written (is_done (answer b.state a)) none).0 in
       accesses_tell_written b (latch_clear b reset) a none ∙ reset;
 }
 

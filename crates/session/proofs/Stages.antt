@@ -1,7 +1,7 @@
 -- Where a session hands its board over, and where it doesn't.
 --     handed_over_as      the session that a machine makes, which guests have
 --     IsAnswered, answered      what the line of a handover that is done writes and leaves
-use Rattle.std.proofs.Common.{◌≡◌, ℕ, Bool, false, true, cond, None, Some, List, refl, sym, ap, ap₂, ◌∙◌, map}
+use Rattle.std.proofs.Common.{◌≡◌, ℕ, Bool, false, true, cond, None, List, refl, sym, ap, ap₂, ◌∙◌, map}
 use Rattle.std.specs.Prelude.{IsTrue, IfSome}
 use Rattle.model_guests.specs.Text.{Text}
 use Rattle.model_guests.specs.Guests.{GuestNow}
@@ -12,11 +12,9 @@ use Rattle.model_handoff.specs.Changes.{MachineNow, BeginsIn}
 use Rattle.model_handoff.specs.Regions.{first_fault}
 use Rattle.model_handoff.proofs.Served.{fault_decides}
 use Rattle.model_lines.specs.GivenLaws.{IsGiven}
-use Rattle.model_lines.specs.Sessions.{DrivenNow, SessionNow, driven, given, host_word, is_handover, handed_over, after_handover, handover_output, told_output}
+use Rattle.model_lines.specs.Sessions.{DrivenNow, SessionNow, driven, given, is_handover, handed_over, after_handover, handover_output, told_output}
 use Rattle.model_lines.specs.Sessions.{after_session_line, session_output}
 use Rattle.model_lines.proofs.SessionLines.{no_audit, no_ready, handover_leaves}
-use Rattle.model_lines.proofs.WhyLines as lines
-use Rattle.model_lines.specs.WhyLines.{why_asked}
 use Rattle.session.specs.Boards.{IsHandedOverAs}
 use Rattle.session.specs.Stages.{board_in, IsDriven}
 
@@ -33,10 +31,6 @@ handed_over_as b m begins =
       lawful = record { lawful = is.lawful; board = is.board; handoff = is.handoff; can = is.can; begins = refl };
       now = ap given (machine_is m (handed_over b).world is.begins begins.counts);
     }
-
--- a line of two words doesn't ask why
-pub no_why_of_two : (line word : Text) → Some word ≡ host_word line → why_asked line ≡ None
-no_why_of_two line word is = lines.no_why_of_two line word is
 
 -- ---- the line
 

@@ -1,38 +1,8 @@
--- What is told of a function of a board that firmware drives: PCI Local Bus 3.0, chapter 6; PCI-to-PCI Bridge
--- Architecture 1.2, chapter 3.
---     is_found fs p      a configuration cycle for the function's number reaches it
---     DrivenFunctionNow, driven_function s f      a function with what is told of it, and which spaces its Command opens
---     driven_function_nth s i      the function at an index, in path order
---     driven_function_named      what code answers of one, from the program's words
-use Rattle.std.specs.Prelude.{ℕ, Bool, List, [], Option, option_map, slice_get}
-use Rattle.model_registers.specs.Decoding.{io, memory, is_open}
-use Rattle.model_board.specs.Paths.{Path}
-use Rattle.model_board.specs.State.{BoardFunction, State}
-use Rattle.model_audit.specs.Found.{path_reached}
-use Rattle.model_handoff.specs.Functions.{FunctionNow, function_now, is_there}
+-- What code answers of a function of a board that firmware drives, from the program's words.
+--     driven_function_named      the function
+use Rattle.model_handoff.specs.DrivenFunctions.{DrivenFunctionNow}
 use Rattle.monitor.specs.FunctionsTold.{function_named}
 use Rattle.session.specs.declared.functions.DrivenFunction.{DrivenFunction}
-
-abbrev pub is_found : List BoardFunction → Path → Bool
-is_found fs p = is_there p (path_reached fs p)
-
--- no guest has it
-pub record DrivenFunctionNow : Type 0 where
-  pub function : FunctionNow
-  pub is_found : Bool
-  pub opens_io : Bool
-  pub opens_memory : Bool
-
-abbrev pub driven_function : State → BoardFunction → DrivenFunctionNow
-driven_function s f = record {
-  function = function_now s [] f;
-  is_found = is_found s.functions f.path;
-  opens_io = is_open f.file io;
-  opens_memory = is_open f.file memory;
-}
-
-abbrev pub driven_function_nth : State → ℕ → Option DrivenFunctionNow
-driven_function_nth s i = option_map (driven_function s) (slice_get s.functions i)
 
 abbrev pub driven_function_named : DrivenFunction → DrivenFunctionNow
 driven_function_named f = record {

@@ -12,7 +12,7 @@ use Rattle.model_lines.specs.WhyLines.{WhyAsked}
 use Rattle.lines.specs.WhyLines.{why_asked_of}
 use Rattle.model_lines.specs.Sessions.{DrivenNow, SessionNow, driven, given, is_question, is_handover}
 use Rattle.session.specs.declared.asking.Asked.{Asked}
-use Rattle.session.specs.declared.asking.Asked.TheVariants.{Access, Audit, Ready, Why, Handover}
+use Rattle.session.specs.declared.asking.Asked.TheVariants.{Audit, Ready, Why, Handover}
 use Rattle.session.specs.declared.stage.Stage.{Stage}
 use Rattle.session.specs.declared.stage.Stage.TheVariants.{Driven, Given, Between}
 
@@ -48,29 +48,17 @@ asks_for_more (driven b) line = is_question line || is_handover line
 asks_for_more (given m) line = false
 
 abbrev pub asks_audit : Asked → Bool
-asks_audit Access = false
 asks_audit Audit = true
-asks_audit Ready = false
-asks_audit (Why at) = false
-asks_audit Handover = false
+asks_audit other = false
 
 abbrev pub asks_ready : Asked → Bool
-asks_ready Access = false
-asks_ready Audit = false
 asks_ready Ready = true
-asks_ready (Why at) = false
-asks_ready Handover = false
+asks_ready other = false
 
 abbrev pub asks_why : Asked → Option WhyAsked
-asks_why Access = None
-asks_why Audit = None
-asks_why Ready = None
 asks_why (Why at) = Some (why_asked_of at)
-asks_why Handover = None
+asks_why other = None
 
 abbrev pub asks_guests : Asked → Bool
-asks_guests Access = false
-asks_guests Audit = false
-asks_guests Ready = false
-asks_guests (Why at) = false
 asks_guests Handover = true
+asks_guests other = false

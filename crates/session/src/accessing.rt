@@ -20,7 +20,8 @@ use host_bridge::{Host, TreeWalk};
 fn config_read(host: &mut Host, at: Bdf, off: u8, width: u64) -> u32
     requires width { IsWidth width }
     requires aligned { off % width ≡ 0 }
-    ensures value { result ≡ config_reply host.old.state.functions (bus_address_of at) off (all_bytes width) }
+    ensures value { result
+        ≡ config_reply host.old.state.functions (bus_address_of at) off (all_bytes width) }
     ensures after { host.new ≡ with_latch 0 host.old }
 {
     let from = u64::from(off);

@@ -21,14 +21,16 @@ pub(crate) enum Asked {
 }
 
 /// What a line asks for, which may be given without its line feed. If `long`, bytes of it were passed over.
-#[tactic(auto, using(crate::proofs::Stages::no_why_of_two))]
+#[tactic(auto, using(model_lines::proofs::WhyLines::no_why_of_two))]
 pub(crate) fn asked_by(line: &[u8], long: bool) -> Asked
-    ensures audit { (before : Text) → IsBefore long before → is_audit (before ++ line.now) ≡ asks_audit result }
+    ensures audit { (before : Text) → IsBefore long before →
+        is_audit (before ++ line.now) ≡ asks_audit result }
     ensures ready { (before : Text) → IsBefore long before →
         is_ready_line (before ++ line.now) ≡ asks_ready result }
     ensures why { (before : Text) → IsBefore long before →
         why_asked (before ++ line.now) ≡ asks_why result }
-    ensures guests { (before : Text) → IsBefore long before → is_handover (before ++ line.now) ≡ asks_guests result }
+    ensures guests { (before : Text) → IsBefore long before →
+        is_handover (before ++ line.now) ≡ asks_guests result }
 {
     if long {
         return Asked::Access;

@@ -128,7 +128,8 @@ impl Board {
     /// output.
     fn reply_to(&mut self, line: &[u8]) -> Option<(&'static [u8], Reply)>
         ensures text { MatchOption result (line_output self.old.state line.now ≡ []) (λ a.
-            line_output self.old.state line.now ≡ a.0.now ++ codes ": " ++ reply_text (reply_of a.1) ++ 10 ∷ []) }
+            line_output self.old.state line.now
+            ≡ a.0.now ++ codes ": " ++ reply_text (reply_of a.1) ++ 10 ∷ []) }
         ensures after { self.new ≡ after_board_line self.old line.now }
         ensures short { IfSome result (λ a. length a.0.now ≤ 16) }
         ensures shown { IfSome result (λ a. IsShown a.1) }

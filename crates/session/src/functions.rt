@@ -5,9 +5,10 @@ ghost use Rattle.model_board.specs.Cycles.{reached};
 ghost use Rattle.model_board.specs.State.{BoardFunction};
 ghost use Rattle.model_audit.specs.Orderly.{IsStateOfBoard};
 ghost use Rattle.model_handoff.specs.Functions.{is_there};
+ghost use Rattle.model_handoff.specs.DrivenFunctions.{driven_function_nth};
 ghost use Rattle.paths.specs.BusAddresses.{bus_address_of};
 ghost use Rattle.bars.specs.Kinds.{named_space};
-ghost use Rattle.session.specs.DrivenFunctions.{driven_function_named, driven_function_nth};
+ghost use Rattle.session.specs.DrivenFunctions.{driven_function_named};
 
 use crate::board::Board;
 use function_identity::{address_of, identity_nth};

@@ -24,7 +24,8 @@ pub fn run<R: Reader, W: Writer>(
     ensures writes { W.failures writer.new ≡ W.failures writer.old + write_failures_of result }
 
     // What it did of the lines.
-    ensures runs { Runs session_protocol session.old session.new (ends (R.rest reader.old) (R.rest reader.new)
+    ensures runs { Runs session_protocol session.old session.new
+        (ends (R.rest reader.old) (R.rest reader.new)
         (W.written writer.old) (W.written writer.new) (W.flushed writer.new)) result }
 
     // No memory for a line: all that those before it write was flushed.

@@ -203,7 +203,8 @@ impl Session {
     ) -> Result<Option<String>, AllocError>
         requires { text.old.items ≡ [] }
         ensures text { IfOk result (λ more. (before : Text) → IsBefore long before →
-            with_more text.new.items (option_map string_bytes more) ≡ session_output self.old (before ++ line.now)) }
+            with_more text.new.items (option_map string_bytes more)
+            ≡ session_output self.old (before ++ line.now)) }
         ensures after { OnOk result ((before : Text) → IsBefore long before →
             self.new ≡ after_session_line self.old (before ++ line.now)) }
         ensures more { IfOk result (λ more.
@@ -251,7 +252,8 @@ impl Session {
     ) -> Result<Option<String>, AllocError>
         requires { text.old.items ≡ [] }
         ensures text { IfOk result (λ more.
-            with_more text.new.items (option_map string_bytes more) ≡ session_output self.old line.now) }
+            with_more text.new.items (option_map string_bytes more)
+            ≡ session_output self.old line.now) }
         ensures after { OnOk result (self.new ≡ after_session_line self.old line.now) }
         ensures more { IfOk result (λ more.
             IfSome more (λ _. (self.new ≡ self.old) × (text.new ≡ text.old))) }

@@ -1,5 +1,5 @@
 //! How far a session came.
-ghost use Rattle.std.specs.Prelude.{◌≡◌, ◌++◌, [], option_map, string_bytes, IsTrue};
+ghost use Rattle.std.specs.Prelude.{◌≡◌, [], option_map, string_bytes, IsTrue};
 ghost use Rattle.std.specs.Prelude.{IfOk, IfErr, OnOk, OnErr, IfSome};
 ghost use Rattle.model_guests.specs.Text.{Text};
 ghost use Rattle.model_lines.specs.Sessions.{is_handover, session_output, after_session_line};
@@ -33,7 +33,8 @@ pub(crate) fn hand_over(alloc: Global, stage: &mut Stage) -> Result<(), Handover
     ensures given { OnOk result (IfSome (board_in (session_now stage.old)) (λ b.
         IsHandedOverAs b (session_now stage.new))) }
     ensures kept { OnErr result (stage.new ≡ stage.old) }
-    ensures refused { IfErr result (λ f. IfSome (board_in (session_now stage.old)) (λ b. IsRefusalOf b f)) }
+    ensures refused { IfErr result (λ f. IfSome (board_in (session_now stage.old)) (λ b.
+        IsRefusalOf b f)) }
     ensures at_line { IsAtLine stage.new }
 {
     let Stage::Driven(board) = mem::replace(stage, Stage::Between) else {
@@ -62,11 +63,13 @@ pub(crate) fn answer_handover(
     requires at_line { IsAtLine stage.old }
     requires empty { text.old.items ≡ [] }
     ensures text { IfOk result (λ more. (line : Text) → IsTrue (is_handover line) →
-        with_more text.new.items (option_map string_bytes more) ≡ session_output (session_now stage.old) line) }
+        with_more text.new.items (option_map string_bytes more)
+        ≡ session_output (session_now stage.old) line) }
     ensures after { OnOk result ((line : Text) → IsTrue (is_handover line) →
         session_now stage.new ≡ after_session_line (session_now stage.old) line) }
     ensures more { IfOk result (λ more.
-        IfSome more (λ _. (session_now stage.new ≡ session_now stage.old) × (text.new ≡ text.old))) }
+        IfSome more (λ _.
+        (session_now stage.new ≡ session_now stage.old) × (text.new ≡ text.old))) }
     ensures kept { OnErr result ((stage.new ≡ stage.old) × (text.new ≡ text.old)) }
     ensures at_line { IsAtLine stage.new }
 {

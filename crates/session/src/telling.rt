@@ -1,5 +1,6 @@
 //! What a session writes where it doesn't hand its board over.
-ghost use Rattle.std.specs.Prelude.{◌≡◌, ◌++◌, OnOk, IfOk, IfSome, IsSome, string_bytes};
+ghost use Rattle.std.specs.Prelude.{◌≡◌, OnOk, IfOk, IfSome, IsSome, string_bytes};
+ghost use Rattle.lists.specs.Texts.{Adds};
 ghost use Rattle.model_lines.specs.Sessions.{closed_text, refused_line, handover_output};
 ghost use Rattle.report.specs.Found.{ended};
 ghost use Rattle.monitor.specs.Handovers.{number_of, words_of, handoff_fault};
@@ -12,7 +13,7 @@ use std::alloc::{AllocError, Global};
 
 /// Appends the line of a closed region.
 fn push_closed(text: &mut String, closed: &ClosedRegion) -> Result<(), AllocError>
-    ensures { OnOk result (string_bytes text.new ≡ string_bytes text.old ++ ended (closed_text closed.now)) }
+    ensures { OnOk result (Adds text.old text.new (ended (closed_text closed.now))) }
 {
     text.push_str("closed: ")?;
     push_path(text, &closed.path)?;
@@ -23,7 +24,7 @@ fn push_closed(text: &mut String, closed: &ClosedRegion) -> Result<(), AllocErro
 /// Appends the line of what stands in the way of a handover, unless memory does.
 fn push_cause(text: &mut String, fault: &HandoverFault) -> Result<(), AllocError>
     ensures line { OnOk result (IfSome (handoff_fault fault.now) (λ told.
-        string_bytes text.new ≡ string_bytes text.old ++ ended (cause_text told))) }
+        Adds text.old text.new (ended (cause_text told)))) }
     ensures told { OnOk result (IsSome (handoff_fault fault.now)) }
 {
     match fault {
@@ -35,8 +36,8 @@ fn push_cause(text: &mut String, fault: &HandoverFault) -> Result<(), AllocError
 
 /// Appends the line of a refusal.
 fn push_refusal(text: &mut String, fault: &HandoverFault) -> Result<(), AllocError>
-    ensures { OnOk result (string_bytes text.new
-        ≡ string_bytes text.old ++ ended (refused_line (number_of fault.now) (words_of fault.now))) }
+    ensures { OnOk result (Adds text.old text.new
+        (ended (refused_line (number_of fault.now) (words_of fault.now)))) }
 {
     let number = fault.number();
     let words = fault.words();

@@ -1,9 +1,10 @@
 -- A session as its lines left it.
---     left_by, session_by      what a run of lines from reset on leaves, and what it did, by how it ended
-use Rattle.std.proofs.Common.{◌≡◌, Result, Ok, Err, refl, sym, subst}
+--     ran_early, left_by      what a run of lines from reset on did, and what it leaves
+--     drives_early, answered      the same of a session that is driven, by how it ended
+use Rattle.std.proofs.Common.{◌≡◌, ◌&&◌, Bool, Result, Ok, Err, sym, ap, subst, ◌∙◌}
 use Rattle.model_registers.specs.Apertures.{Apertures}
 use Rattle.std.specs.Result.{IsErrAnd}
-use Rattle.model_guests.specs.Text.{Text}
+use Rattle.model_guests.specs.Text.{Text, lines}
 use Rattle.model_guests.specs.World.{World, IsLawfulWorld}
 use Rattle.model_lines.specs.Sessions.{SessionNow, driven, at_reset, session_protocol}
 use Rattle.model_lines.proofs.HandoverLines.{isolated_sessions}
@@ -14,9 +15,10 @@ use Rattle.session.specs.Files.{Declares}
 use Rattle.simulation.specs.declared.fault.Fault.{Fault}
 use Rattle.simulation.specs.declared.fault.Fault.TheVariants.{File, SetUp, Read, Write}
 use Rattle.simulation.specs.Faults.{IsOfSession, OnSession}
-use Rattle.simulation.specs.Sessions.{at_first, Left, IsLeft, IsSession}
+use Rattle.simulation.specs.Refusals.{refuses, IsWatched}
+use Rattle.simulation.specs.Sessions.{at_first, Drives, HasAnswered, IsLeft, IsSession, Left}
 use Rattle.simulation.proofs.Begun.{runs_over}
-use Rattle.simulation.proofs.Ran.{same_error}
+use Rattle.simulation.proofs.Ran.{same_end, same_error}
 
 -- how a session was opened
 abbrev pub IsBegun : Text → SessionNow → Type 0
@@ -29,42 +31,50 @@ session_over board x end at r begun ran = record {
   isolated = isolated_sessions begun.0 begun.2.guests.lawful_names;
 }
 
-pub left_at_end : (board : Text) (x end : SessionNow) (a : Apertures) (at : Ends) (begun : IsBegun board x) → a ≡ begun.0.apertures → Runs {T = Unit {0}} session_protocol x end at (Ok tt) → IsLeft board at (Ok (end, a))
-left_at_end board x end a at begun same ran = record { session = session_over board x end at (Ok (end, a)) begun ran; left = refl; apertures = same }
+pub ran_early : {T : Type 0} (board : Text) (strict : Bool) (x : SessionNow) (at : Ends) (e : RunFault) → IsBegun board x
+    → IsWatched strict session_protocol x at (Err e) → IsSession {T = T} board at (Err e)
+ran_early {T} board strict x at e begun w =
+    session_over board x w.end at (Err e) begun (same_error (SessionNow × Bool) T session_protocol x w.end at e w.runs)
 
-pub left_early : (board : Text) (x end : SessionNow) (at : Ends) (e : RunFault) → IsBegun board x → Runs {T = Unit {0}} session_protocol x end at (Err e) → IsLeft board at (Err e)
-left_early board x end at e begun ran = record {
-  session = session_over board x end at (Err e) begun (same_error (Unit {0}) Left session_protocol x end at e ran);
-  left = tt;
-  apertures = tt;
+pub ran_whole : {T : Type 0} (board : Text) (strict : Bool) (x : SessionNow) (at : Ends) (y : SessionNow × Bool) (z : T) → IsBegun board x
+    → IsWatched strict session_protocol x at (Ok y) → IsSession board at (Ok z)
+ran_whole {T} board strict x at y z begun w =
+    session_over board x w.end at (Ok z) begun (same_end (SessionNow × Bool) T session_protocol x w.end at y z w.runs)
+
+pub left_by : (board : Text) (strict : Bool) (x : SessionNow) (at : Ends) (y : SessionNow × Bool) (a : Apertures) (begun : IsBegun board x) → a ≡ begun.0.apertures
+    → IsWatched strict session_protocol x at (Ok y) → IsLeft strict board at (y.0, a, y.1)
+unfolding ran_whole
+left_by board strict x at y a begun same w = record {
+  session = ran_whole board strict x at y tt begun w;
+  left = w.left;
+  apertures = same;
+  refused = λ s known. w.refused s known ∙ ap (λ z. strict && refuses session_protocol z (lines s)) begun.3;
+  asked = w.asked;
 }
 
 -- ---- what a run did, whatever it left
 
-pub session_at_end : (board : Text) (at : Ends) (x : Left) → IsLeft board at (Ok x) → IsSession {T = Unit {0}} board at (Ok tt)
-session_at_end board at x l = record {
-  over = record { world = l.session.over.world; declared = l.session.over.declared; end = l.session.over.end; runs = l.session.over.runs };
-  isolated = l.session.isolated;
-}
-
-session_early : {T : Type 0} (board : Text) (at : Ends) (e : RunFault) → IsLeft board at (Err e) → IsSession {T = T} board at (Err e)
+pub session_early : {T : Type 0} (board : Text) (at : Ends) (e : RunFault) → IsSession {T = Left} board at (Err e) → IsSession {T = T} board at (Err e)
 session_early {T} board at e l =
-    let o = l.session.over in
+    let o = l.over in
     record {
       over = record { world = o.world; declared = o.declared; end = o.end; runs = same_error Left T session_protocol (at_first o.world) o.end at e o.runs };
-      isolated = l.session.isolated;
+      isolated = l.isolated;
     }
 
-session_fault : (T : Type 0) (board : Text) (at : Ends) (f : Fault) → IsOfSession f → OnSession {T = Left} (IsLeft board at) (Err f) → OnSession {T = T} (IsSession board at) (Err f)
-session_fault T board at Read of l = session_early board at _ l
-session_fault T board at Write of l = session_early board at _ l
-session_fault T board at (SetUp set_up.Memory) of l = session_early board at _ l
-session_fault T board at (SetUp s) of l = tt
-session_fault T board at (File b) of l = tt
-session_fault T board at _ of l = absurd of
+drives_fault : (T : Type 0) (strict : Bool) (board : Text) (at : Ends) (f : Fault) → IsOfSession f → OnSession {T = Left} (IsSession board at) (Err f) → Drives {T = T} strict board at (Err f)
+drives_fault T strict board at Read of l = session_early board at _ l
+drives_fault T strict board at Write of l = session_early board at _ l
+drives_fault T strict board at (SetUp set_up.Memory) of l = session_early board at _ l
+drives_fault T strict board at (SetUp s) of l = tt
+drives_fault T strict board at (File b) of l = tt
+drives_fault T strict board at _ of l = absurd of
 
 -- the fault that a `?` hands on
-pub same_session : {T : Type 0} (board : Text) (at : Ends) (r : Result T Fault) (f : Fault) → IsErrAnd r (λ e. e ≡ f) → IsOfSession f
-    → OnSession {T = Left} (IsLeft board at) (Err f) → OnSession (IsSession board at) r
-same_session board at (Ok x) f h of l = absurd h
-same_session {T} board at (Err e) f h of l = subst (λ x. OnSession {T = T} (IsSession board at) (Err x)) (sym h) (session_fault T board at f of l)
+pub drives_early : {T : Type 0} (strict : Bool) (board : Text) (at : Ends) (r : Result T Fault) (f : Fault) → IsErrAnd r (λ e. e ≡ f) → IsOfSession f
+    → OnSession {T = Left} (IsSession board at) (Err f) → Drives strict board at r
+drives_early strict board at (Ok x) f h of l = absurd h
+drives_early {T} strict board at (Err e) f h of l = subst (λ x. Drives {T = T} strict board at (Err x)) (sym h) (drives_fault T strict board at f of l)
+
+pub answered : (strict refused : Bool) (board : Text) (at : Ends) (x : Left) → IsLeft strict board at x → x.2 ≡ refused → HasAnswered strict refused board at
+answered strict refused board at x l is = record { session = l.session; answers = λ s known. sym (l.refused s known) ∙ is }

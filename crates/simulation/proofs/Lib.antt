@@ -1,5 +1,8 @@
 mod FaultNumbers
 mod Begun
+mod Parts
+mod Watched
+mod Strict
 mod ToldAfter
 pub mod Left
 mod Listed

@@ -1,13 +1,9 @@
 -- What the parts of a run over a board file say, put together.
-use Rattle.std.proofs.Common.{◌≡◌, ◌+◌, ℕ, Option, Result, Ok, Err, refl, sym, subst, arith}
+use Rattle.std.proofs.Common.{◌≡◌, ◌+◌, ℕ, Result, Ok, Err, refl, sym, subst, arith}
 use Rattle.std.specs.Prelude.{IsErrOf, IfErr}
 use Rattle.std.specs.Result.{IsErrAnd}
-use Rattle.model_guests.specs.Text.{Text, lines}
 use Rattle.model_guests.specs.WorldNow.{world_protocol}
 use Rattle.model_handoff.specs.Changes.{MachineNow, machine_protocol}
-use Rattle.model_handoff.proofs.Aside.{output_aside, events_aside, cut_aside, stop_aside}
-use Rattle.std.specs.Io.KnownBytes.{Appends}
-use Rattle.line_runs.specs.Pieces.{IsStoppedIn, IsLackingIn}
 use Rattle.line_runs.specs.declared.running.RunFault.{RunFault}
 use Rattle.line_runs.specs.declared.running.RunFault.TheVariants as run
 use Rattle.simulation.specs.declared.fault.Fault.{Fault}
@@ -20,6 +16,7 @@ use Rattle.simulation.specs.declared.fault.Fault.TheVariants.{File, SetUp}
 use Rattle.session.specs.declared.opening.OpenFault.{OpenFault}
 use Rattle.session.specs.declared.opening.OpenFault.TheVariants as opening
 use Rattle.session.specs.Faults as opened
+use Rattle.simulation.proofs.Parts.{IsPart, runs_of_part}
 use Rattle.simulation.specs.Faults.{of_open, of_run, read_faults, write_faults, IsOfBoard, OnFile, OnRun, OnSetUp, OnSession}
 
 -- the run failed for memory as the call that it was part of
@@ -78,35 +75,16 @@ same_error A B p s end at run.Read runs = runs
 same_error A B p s end at run.Write runs = runs
 same_error A B p s end at run.Memory runs = runs
 
--- a run over a machine, as one over its world alone
-stopped_aside : (m end : MachineNow) {script : Text} {old_rest new_rest old new : Option Text} → IsStoppedIn machine_protocol m script old_rest new_rest old new end
-    → IsStoppedIn world_protocol m.world script old_rest new_rest old new end.world
-stopped_aside m end {script} is = record { read = is.read; consumed = is.consumed; stop = stop_aside m end (lines script) is.stop; in_time = is.in_time }
+-- and so is an end of all lines
+pub same_end : (A B : Type 0) {S : Type 0} (p : Protocol S) (s end : S) (at : Ends) (x : A) (y : B) → Runs p s end at (Ok x) → Runs p s end at (Ok y)
+same_end A B p s end at x y runs = runs
 
-lacking_aside : (m end : MachineNow) {script : Text} {old_rest new_rest old new : Option Text} → IsLackingIn machine_protocol m script old_rest new_rest old new end
-    → IsLackingIn world_protocol m.world script old_rest new_rest old new end.world
-lacking_aside m end {script} {old_rest} {new_rest} {old} {new} is = record {
-  read = is.read;
-  consumed = is.consumed;
-  whole = is.whole;
-  line = is.line;
-  rest = is.rest;
-  in_order = is.in_order;
-  in_time = is.in_time;
-  written = subst (Appends old new) (output_aside m is.whole) is.written;
-  events = events_aside m end is.whole is.events;
-}
+-- a run over a machine, as one over its world alone: the counts stand beside it
+pub world_part : IsPart machine_protocol world_protocol (λ (m : MachineNow). m.world)
+world_part = record { writes = λ m line. refl; next = λ m line. refl }
 
 pub runs_aside : {T : Type 0} (m end : MachineNow) (at : Ends) (r : Result T RunFault) → Runs machine_protocol m end at r → Runs world_protocol m.world end.world at r
-runs_aside m end at (Ok x) ran = record {
-  read = ran.read;
-  output = λ s known. subst (Appends at.before at.after) (output_aside m (lines s)) (ran.output s known);
-  events = λ s known. events_aside m end (lines s) (ran.events s known);
-  flushed = ran.flushed;
-}
-runs_aside m end at (Err run.Read) ran = cut_aside m end ran
-runs_aside m end at (Err run.Write) ran = λ s known. stopped_aside m end (ran s known)
-runs_aside m end at (Err run.Memory) ran = λ s known. lacking_aside m end (ran s known)
+runs_aside m end at r ran = runs_of_part world_part m end at r ran
 
 -- such a fault is the reader's, or the writer's, as that of the run is
 pub read_again : {T : Type 0} (r : Result T Fault) (e : RunFault) (old new : ℕ)

@@ -3,11 +3,11 @@
 --     Prints text at result, Lists board at result, Checks style name board at result      a text was written whole and
 --         flushed, or a beginning of it where a write or flush failed: one that is given, the report of a board, or what
 --         a check says
---     Does choice at result      what was done, by how it ended
+--     Does choice board at result      what was done, by how it ended, with a board file of these bytes
 --     IsTelling choice f      the choice tells of the fault
 --     IsLacking choice f      memory is out once lines ran
 --     IsOfChoice choice f      a fault that the choice can end with
-use Rattle.std.specs.Prelude.{◌≡◌, ◌⊎◌, Bool, if◌then◌else◌, Option, None, Some, Result, Ok, Err, string_bytes, ⊤}
+use Rattle.std.specs.Prelude.{◌≡◌, Bool, true, false, if◌then◌else◌, Option, None, Some, Result, Ok, Err, string_bytes, ⊤}
 use Rattle.std.specs.Io.KnownBytes.{Appends}
 use Rattle.model_registers.specs.DeclarationRules.{first_broken}
 use Rattle.model_set_up.specs.SetUpWrites.{set_up_rules}
@@ -21,16 +21,16 @@ use Rattle.bus_scan.specs.declared.fault.Fault.TheVariants as set_up
 use Rattle.diagnostics.specs.declared.style.Style.{Style}
 use Rattle.diagnostics.specs.declared.style.Style.TheVariants.{Plain, WithExcerpts}
 use Rattle.simulation.specs.Demo.{demo_board}
-use Rattle.simulation.specs.Faults.{IsRefusal, IsOfList, IsOfRun, IsOfSession, IsOfReadiness, OnRun, OnSession}
+use Rattle.simulation.specs.Faults.{IsRefusal, IsOfAudit, IsOfList, IsOfReadiness, IsOfRun, IsOfStrictRun, IsOfStrictSession, OnRun}
 use Rattle.session.specs.Files.{Declares}
 use Rattle.simulation.specs.Listing.{IsListed, IsListedInPart}
 use Rattle.simulation.specs.Checking.{IsChecked, IsCheckedInPart}
-use Rattle.simulation.specs.Running.{IsRun}
-use Rattle.simulation.specs.Sessions.{IsSession}
+use Rattle.simulation.specs.Running.{IsRun, RunsAs}
+use Rattle.simulation.specs.Sessions.{Drives}
 use Rattle.simulation.specs.Auditing.{Audits}
 use Rattle.simulation.specs.Readiness.{Readies}
 use Rattle.simulation.specs.declared.fault.Fault.{Fault}
-use Rattle.simulation.specs.declared.fault.Fault.TheVariants.{SetUp, Write, BoardFile}
+use Rattle.simulation.specs.declared.fault.Fault.TheVariants.{SetUp, Write}
 
 -- the report of the board that some bytes declare, once it is set up
 pub record IsReported (board : Text) (old new : Option Text) : Type 0 where
@@ -64,15 +64,15 @@ Checks style name board at (Err f) =
 abbrev pub style_of : Bool → Style
 style_of plain = if plain then Plain else WithExcerpts
 
-abbrev pub Does : {T : Type 0} → Choice → Ends → Result T Fault → Type 0
-Does (Help text) at r = Prints (string_bytes text) at r
-Does Demo at r = OnRun (IsRun demo_board at) r
-Does (List path) at r = (board : Text) × Lists board at r
-Does (Check path plain) at r = (board : Text) × Checks (style_of plain) path.now board at r
-Does (Run path) at r = (board : Text) × OnRun (IsRun board at) r
-Does (Firmware path) at r = (board : Text) × OnSession (IsSession board at) r
-Does (Audit path) at r = (board : Text) × Audits board at r
-Does (Ready path) at r = (board : Text) × Readies board at r
+abbrev pub Does : {T : Type 0} → Choice → Text → Ends → Result T Fault → Type 0
+Does (Help text) board at r = Prints (string_bytes text) at r
+Does Demo board at r = OnRun (IsRun demo_board at) r
+Does (List path) board at r = Lists board at r
+Does (Check path plain) board at r = Checks (style_of plain) path.now board at r
+Does (Run path strict) board at r = RunsAs strict board at r
+Does (Firmware path strict) board at r = Drives strict board at r
+Does (Audit path strict) board at r = Audits strict board at r
+Does (Ready path) board at r = Readies board at r
 
 abbrev pub IsTelling : Choice → Fault → Type 0
 IsTelling (Check path plain) f = IsRefusal f
@@ -80,17 +80,21 @@ IsTelling _ f = ⊥
 
 -- no memory for a question or for a handover
 abbrev pub IsLacking : Choice → Fault → Type 0
-IsLacking (Firmware path) f = f ≡ SetUp set_up.Memory
-IsLacking (Audit path) f = f ≡ SetUp set_up.Memory
+IsLacking (Firmware path strict) f = f ≡ SetUp set_up.Memory
+IsLacking (Audit path strict) f = f ≡ SetUp set_up.Memory
 IsLacking (Ready path) f = f ≡ SetUp set_up.Memory
 IsLacking _ f = ⊥
+
+abbrev pub IsOfRunAs : Bool → Fault → Type 0
+IsOfRunAs true f = IsOfStrictRun f
+IsOfRunAs false f = IsOfRun f
 
 abbrev pub IsOfChoice : Choice → Fault → Type 0
 IsOfChoice (Help text) f = f ≡ Write
 IsOfChoice Demo f = IsOfRun f
-IsOfChoice (List path) f = IsOfList f ⊎ (f ≡ BoardFile)
-IsOfChoice (Check path plain) f = IsOfList f ⊎ (f ≡ BoardFile)
-IsOfChoice (Run path) f = IsOfRun f ⊎ (f ≡ BoardFile)
-IsOfChoice (Firmware path) f = IsOfSession f ⊎ (f ≡ BoardFile)
-IsOfChoice (Audit path) f = IsOfSession f ⊎ (f ≡ BoardFile)
-IsOfChoice (Ready path) f = IsOfReadiness f ⊎ (f ≡ BoardFile)
+IsOfChoice (List path) f = IsOfList f
+IsOfChoice (Check path plain) f = IsOfList f
+IsOfChoice (Run path strict) f = IsOfRunAs strict f
+IsOfChoice (Firmware path strict) f = IsOfStrictSession strict f
+IsOfChoice (Audit path strict) f = IsOfAudit strict f
+IsOfChoice (Ready path) f = IsOfReadiness f

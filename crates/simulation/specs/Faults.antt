@@ -9,10 +9,13 @@
 --     IsRefusal f, IsOutOfMemory f      the one of these, and the other
 --     OnFile P f, OnSetUp P f      where f refuses the file, or its board, its number has P
 --     read_faults, write_faults      whether a result is the fault of the reader, or of the writer
+--     IsToldLast f      f is told once all was written and flushed
 --     IsOfList, IsOfRun      a fault of a listing, or of a run over a board that is set up
---     IsOfSession      a fault of a session over a board at reset, or of an audit after it
---     IsOfReadiness      so too, or the board isn't ready after it
-use Rattle.std.specs.Prelude.{◌≡◌, ◌≢◌, ◌==◌, ℕ, ◌++◌, List, [], ◌∷◌, Option, Result, Ok, Err, codes, decimal, find, ⊤}
+--     IsOfSession      a fault of a session over a board at reset
+--     IsOfStrictRun, IsOfStrictSession strict      so too, or a line was refused, where that is a fault
+--     IsOfAudit strict      so too, or an audit after it tells a problem, where that is a fault
+--     IsOfReadiness      a fault of a session, or the board isn't ready after it
+use Rattle.std.specs.Prelude.{◌≡◌, ◌≢◌, ◌==◌, ℕ, Bool, true, ◌++◌, List, [], ◌∷◌, Option, Result, Ok, Err, codes, decimal, find, ⊤}
 use Rattle.board_file.specs.declared.fault.BoardFault.TheVariants as file
 use Rattle.board_file.specs.Faults as board_file
 use Rattle.bus_scan.specs.declared.fault.Fault.TheVariants as set_up
@@ -25,12 +28,14 @@ use Rattle.line_runs.specs.declared.running.RunFault.{RunFault}
 use Rattle.session.specs.declared.opening.OpenFault.TheVariants as opening
 use Rattle.session.specs.declared.opening.OpenFault.{OpenFault}
 use Rattle.simulation.specs.declared.fault.Fault.{Fault}
-use Rattle.simulation.specs.declared.fault.Fault.TheVariants.{File, SetUp, NotReady, Read, Write, Usage, BoardFile, WordMemory}
+use Rattle.simulation.specs.declared.fault.Fault.TheVariants.{File, SetUp, NotInOrder, NotReady, RefusedLine, Read, Write, Usage, BoardFile, WordMemory}
 
 abbrev pub number_of : Fault → ℕ
 number_of (File b) = board_file.number_of b
 number_of (SetUp s) = bus_scan.number_of s
+number_of NotInOrder = 207
 number_of NotReady = 208
+number_of RefusedLine = 209
 number_of Read = 501
 number_of Write = 502
 number_of Usage = 701
@@ -43,8 +48,8 @@ all_faults =
     File file.NotToml ∷ File file.Key ∷ File file.UnknownKey ∷ File file.Number ∷ File file.Place ∷ File file.Register
     ∷ File file.Size ∷ File file.TooMany ∷ File file.GuestName ∷ File file.Slot ∷ File file.Aperture
     ∷ File file.CellMasks ∷ File file.Memory ∷ SetUp set_up.Buses ∷ SetUp set_up.NoIoWindow ∷ SetUp set_up.IoPool
-    ∷ SetUp set_up.MemoryPool ∷ SetUp set_up.PrefetchablePool ∷ NotReady ∷ SetUp set_up.Memory
-    ∷ Read ∷ Write ∷ Usage ∷ BoardFile ∷ WordMemory ∷ []
+    ∷ SetUp set_up.MemoryPool ∷ SetUp set_up.PrefetchablePool ∷ NotInOrder ∷ NotReady ∷ RefusedLine
+    ∷ SetUp set_up.Memory ∷ Read ∷ Write ∷ Usage ∷ BoardFile ∷ WordMemory ∷ []
 
 abbrev pub fault_numbered : ℕ → Option Fault
 fault_numbered n = find (λ f. number_of f == n) all_faults
@@ -52,7 +57,9 @@ fault_numbered n = find (λ f. number_of f == n) all_faults
 abbrev pub words_of : Fault → List ℕ
 words_of (File b) = board_file.fault_words b
 words_of (SetUp s) = set_up_words s
+words_of NotInOrder = codes "not in order"
 words_of NotReady = codes "not ready"
+words_of RefusedLine = codes "refused line"
 words_of Read = codes "read failed"
 words_of Write = codes "write failed"
 words_of Usage = codes "usage"
@@ -104,6 +111,12 @@ IsOutOfMemory (File b) = b ≡ file.Memory
 IsOutOfMemory (SetUp s) = s ≡ set_up.Memory
 IsOutOfMemory _ = ⊥
 
+abbrev pub IsToldLast : Fault → Type 0
+IsToldLast NotInOrder = ⊤
+IsToldLast NotReady = ⊤
+IsToldLast RefusedLine = ⊤
+IsToldLast _ = ⊥
+
 abbrev pub OnFile : (ℕ → Type 0) → Fault → Type 0
 OnFile P (File b) = b ≢ file.Memory → P (board_file.number_of b)
 OnFile P _ = ⊤
@@ -138,6 +151,18 @@ IsOfSession Read = ⊤
 IsOfSession Write = ⊤
 IsOfSession (SetUp s) = s ≡ set_up.Memory
 IsOfSession f = IsOfFile f
+
+abbrev pub IsOfStrictRun : Fault → Type 0
+IsOfStrictRun RefusedLine = ⊤
+IsOfStrictRun f = IsOfRun f
+
+abbrev pub IsOfStrictSession : Bool → Fault → Type 0
+IsOfStrictSession strict RefusedLine = strict ≡ true
+IsOfStrictSession strict f = IsOfSession f
+
+abbrev pub IsOfAudit : Bool → Fault → Type 0
+IsOfAudit strict NotInOrder = strict ≡ true
+IsOfAudit strict f = IsOfStrictSession strict f
 
 abbrev pub IsOfReadiness : Fault → Type 0
 IsOfReadiness NotReady = ⊤

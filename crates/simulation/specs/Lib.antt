@@ -3,9 +3,11 @@ pub mod Demo
 pub mod Listing
 pub mod Lines
 pub mod Checking
+pub mod Refusals
 pub mod Running
 pub mod Sessions
 pub mod AfterLines
 pub mod Auditing
 pub mod Readiness
 pub mod Choices
+pub mod Hints

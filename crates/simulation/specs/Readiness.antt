@@ -9,15 +9,15 @@ use Rattle.std.specs.Option.{ForSome}
 use Rattle.model_guests.specs.Text.{Text, lines}
 use Rattle.model_guests.specs.World.{World}
 use Rattle.model_ready.specs.Lacks.{is_ready}
-use Rattle.model_ready.specs.ReadyText.{ready_report}
 use Rattle.model_lines.specs.Sessions.{SessionNow, session_functions}
 use Rattle.line_runs.specs.Runs.{Ends}
 use Rattle.simulation.specs.declared.fault.Fault.{Fault}
 use Rattle.simulation.specs.declared.fault.Fault.TheVariants.{NotReady}
-use Rattle.simulation.specs.AfterLines.{left_after, IsTold, Tells}
+use Rattle.simulation.specs.declared.questions.Question.TheVariants as question
+use Rattle.simulation.specs.AfterLines.{left_after, told_of, IsTold, Tells}
 
 abbrev pub ready_of : World → SessionNow → Text
-ready_of w x = ready_report w.apertures (session_functions x)
+ready_of = told_of question.Ready
 
 abbrev pub is_ready_after : World → List Text → Bool
 is_ready_after w ls = is_ready w.apertures (session_functions (left_after w ls))

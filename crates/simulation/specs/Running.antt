@@ -1,7 +1,12 @@
 -- What a run says of a board file and a script.
 --     IsRun board at result      what a run did in the file's world; guests are isolated there
-use Rattle.std.specs.Prelude.{Result, IsTrue}
-use Rattle.model_guests.specs.Text.{Text}
+--     HasRun refused board at      all lines were read, and what they write was written and flushed; this is whether one was
+--         refused
+--     RunsStrictly board at result      what was done, by how it ended: a refused line is a fault
+--     RunsAs strict board at result      so too if `strict`, else what a run did
+use Rattle.std.specs.Prelude.{◌≡◌, Bool, true, false, Result, Ok, Err, IsTrue}
+use Rattle.std.specs.Option.{ForSome}
+use Rattle.model_guests.specs.Text.{Text, lines}
 use Rattle.model_guests.specs.Grammar.{has_name}
 use Rattle.model_guests.specs.World.{World, names}
 use Rattle.model_guests.specs.WorldNow.{WorldNow, world_protocol}
@@ -10,6 +15,10 @@ use Rattle.model_handoff.specs.AfterSetUp.{IsIsolated}
 use Rattle.line_runs.specs.declared.running.RunFault.{RunFault}
 use Rattle.line_runs.specs.Runs.{Ends, Runs}
 use Rattle.session.specs.Files.{IsSetUp}
+use Rattle.simulation.specs.declared.fault.Fault.{Fault}
+use Rattle.simulation.specs.declared.fault.Fault.TheVariants.{RefusedLine}
+use Rattle.simulation.specs.Faults.{OnRun}
+use Rattle.simulation.specs.Refusals.{refuses}
 
 -- the replies to each guest are those of its own functions, as lone register files, to its own lines and the moves that
 -- touch it
@@ -19,3 +28,16 @@ pub record IsRun {T : Type 0} (board : Text) (at : Ends) (result : Result T RunF
   pub end : WorldNow
   pub runs : Runs world_protocol (world_at_first world) end at result
   pub isolated : (name script : Text) → IsTrue (has_name (names world) name) → IsIsolated world name script
+
+pub record HasRun (refused : Bool) (board : Text) (at : Ends) : Type 0 where
+  pub run : IsRun {T = Unit {0}} board at (Ok tt)
+  pub answers : ForSome at.script (λ s. refuses world_protocol (world_at_first run.world) (lines s) ≡ refused)
+
+abbrev pub RunsStrictly : {T : Type 0} → Text → Ends → Result T Fault → Type 0
+RunsStrictly board at (Ok x) = HasRun false board at
+RunsStrictly board at (Err RefusedLine) = HasRun true board at
+RunsStrictly {T} board at (Err other) = OnRun {T = T} (IsRun board at) (Err other)
+
+abbrev pub RunsAs : {T : Type 0} → Bool → Text → Ends → Result T Fault → Type 0
+RunsAs true board at r = RunsStrictly board at r
+RunsAs false board at r = OnRun (IsRun board at) r

@@ -3,22 +3,21 @@ ghost use Rattle.std.specs.Prelude.{◌≡◌, ◌≢◌, ◌+◌, ◌-◌, ◌^
 ghost use Rattle.std.specs.Io.KnownBytes.{Appends};
 ghost use Rattle.streams.specs.Ends.{AppendsPart};
 ghost use Rattle.line_runs.specs.Runs.{ends};
-ghost use Rattle.simulation.specs.Choices.{style_of, Does, IsTelling, IsLacking, IsOfChoice};
-ghost use Rattle.simulation.specs.Faults.{read_faults, write_faults};
+ghost use Rattle.simulation.specs.Choices.{style_of, Does, IsTelling, IsLacking, IsOfChoice, IsOfRunAs};
+ghost use Rattle.simulation.specs.Faults.{read_faults, write_faults, IsOfBoard, IsToldLast};
+ghost use Rattle.simulation.specs.Running.{RunsAs};
 
 use crate::auditing::audit;
 use crate::checking::check;
 use crate::demonstration::demo;
 use crate::driving::drive;
 use crate::fault::Fault;
-use crate::files::board_bytes;
 use crate::listing::list;
 use crate::readiness::ready;
-use crate::running::whole;
+use crate::running::{whole, whole_strictly};
 use command_line::Choice;
 use diagnostics::Style;
 use std::alloc::Global;
-use std::rt::Files;
 use streams::{Reader, Writer, write_and_flush};
 
 /// How a check tells, by whether lines alone are asked for.
@@ -47,28 +46,53 @@ pub(crate) fn print<W: Writer>(text: &str, writer: &mut W) -> Result<(), Fault>
     Ok(())
 }
 
-/// Does what is asked. A script is read from `reader`, and a board file from its path.
+/// Runs a script over a board file, by whether a refused line is a fault.
+fn run_as<R: Reader, W: Writer>(
+    alloc: Global,
+    board: &[u8],
+    strict: bool,
+    reader: &mut R,
+    writer: &mut W,
+) -> Result<(), Fault>
+    requires reader_has_room { R.failures reader.old < 2 ^ 64 - 1 }
+    requires writer_has_room { W.failures writer.old < 2 ^ 64 - 1 }
+    ensures runs { RunsAs strict board.now (ends (R.rest reader.old) (R.rest reader.new)
+        (W.written writer.old) (W.written writer.new) (W.flushed writer.new)) result }
+    ensures faults { IfErr result (IsOfRunAs strict) }
+    ensures nothing { IfErr result (λ f. IsOfBoard f → (reader.new ≡ reader.old) × (writer.new ≡ writer.old)) }
+    ensures reads { R.failures reader.new ≡ R.failures reader.old + read_faults result }
+    ensures writes { W.failures writer.new ≡ W.failures writer.old + write_faults result }
+{
+    if strict {
+        whole_strictly(alloc, board, reader, writer)
+    } else {
+        whole(alloc, board, reader, writer)
+    }
+}
+
+/// Does what is asked. A script is read from `reader`, and `board` is what stands in the board file, where one is asked
+/// for.
 pub fn perform<R: Reader, W: Writer>(
-    rt: &impl Files,
     alloc: Global,
     choice: &Choice<'_>,
+    board: &[u8],
     reader: &mut R,
     writer: &mut W,
 ) -> Result<(), Fault>
     requires reader_has_room { R.failures reader.old < 2 ^ 64 - 1 }
     requires writer_has_room { W.failures writer.old < 2 ^ 64 - 1 }
 
-    // The text, the report of some board file, what a check says of it or the output of all lines was written.
-    ensures does { Does choice.now (ends (R.rest reader.old) (R.rest reader.new)
+    // The text, the report of the board file, what a check says of it or the output of all lines was written.
+    ensures does { Does choice.now board.now (ends (R.rest reader.old) (R.rest reader.new)
         (W.written writer.old) (W.written writer.new) (W.flushed writer.new)) result }
 
-    // Only a failed write or read, what a check tells, a board that isn't ready and no memory once lines ran come
-    // after a part was written.
+    // Only a failed write or read, what a check tells, what is told last and no memory once lines ran come after a
+    // part was written.
     ensures unread { IfErr result (λ f.
-        f ≢ Fault.Read → f ≢ Fault.Write → f ≢ Fault.NotReady
+        f ≢ Fault.Read → f ≢ Fault.Write → ¬ IsToldLast f
         → ¬ IsLacking choice.now f → reader.new ≡ reader.old) }
     ensures nothing { IfErr result (λ f.
-        f ≢ Fault.Read → f ≢ Fault.Write → f ≢ Fault.NotReady
+        f ≢ Fault.Read → f ≢ Fault.Write → ¬ IsToldLast f
         → ¬ IsTelling choice.now f → ¬ IsLacking choice.now f
         → writer.new ≡ writer.old) }
 
@@ -85,29 +109,11 @@ pub fn perform<R: Reader, W: Writer>(
     match choice {
         Choice::Help(text) => print(text.as_str(), writer),
         Choice::Demo => demo(alloc, reader, writer),
-        Choice::List(path) => {
-            let board = board_bytes(rt, alloc, path)?;
-            list(alloc, &board, writer)
-        }
-        Choice::Check { path, plain } => {
-            let board = board_bytes(rt, alloc, path)?;
-            check(alloc, style_of(*plain), path, &board, writer)
-        }
-        Choice::Run(path) => {
-            let board = board_bytes(rt, alloc, path)?;
-            whole(alloc, &board, reader, writer)
-        }
-        Choice::Firmware(path) => {
-            let board = board_bytes(rt, alloc, path)?;
-            drive(alloc, &board, reader, writer)
-        }
-        Choice::Audit(path) => {
-            let board = board_bytes(rt, alloc, path)?;
-            audit(alloc, &board, reader, writer)
-        }
-        Choice::Ready(path) => {
-            let board = board_bytes(rt, alloc, path)?;
-            ready(alloc, &board, reader, writer)
-        }
+        Choice::List(_) => list(alloc, board, writer),
+        Choice::Check { path, plain } => check(alloc, style_of(*plain), path, board, writer),
+        Choice::Run { strict, .. } => run_as(alloc, board, *strict, reader, writer),
+        Choice::Firmware { strict, .. } => drive(alloc, board, *strict, reader, writer),
+        Choice::Audit { strict, .. } => audit(alloc, board, *strict, reader, writer),
+        Choice::Ready(_) => ready(alloc, board, reader, writer),
     }
 }

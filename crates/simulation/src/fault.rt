@@ -19,9 +19,15 @@ pub enum Fault {
     /// about or given to guests (299).
     #[error(transparent)]
     SetUp(bus_scan::Fault),
+    /// An audit tells a problem, where that is a fault.
+    #[error("not in order")]
+    NotInOrder,
     /// Something is wrong or lacking in the registers of the board.
     #[error("not ready")]
     NotReady,
+    /// A line was refused, where that is a fault.
+    #[error("refused line")]
+    RefusedLine,
     /// A read of the script failed.
     #[error("read failed")]
     Read,
@@ -47,7 +53,9 @@ impl Fault {
         match self {
             Fault::File(fault) => fault.number(),
             Fault::SetUp(fault) => fault.number(),
+            Fault::NotInOrder => 207,
             Fault::NotReady => 208,
+            Fault::RefusedLine => 209,
             Fault::Read => 501,
             Fault::Write => 502,
             Fault::Usage => 701,
@@ -63,7 +71,9 @@ impl Fault {
         match self {
             Fault::File(fault) => fault.words(),
             Fault::SetUp(fault) => set_up_words(fault),
+            Fault::NotInOrder => "not in order",
             Fault::NotReady => "not ready",
+            Fault::RefusedLine => "refused line",
             Fault::Read => "read failed",
             Fault::Write => "write failed",
             Fault::Usage => "usage",

@@ -1,23 +1,49 @@
 //! Board files.
-ghost use Rattle.std.specs.Prelude.{◌≡◌, IfErr};
+ghost use Rattle.std.specs.Prelude.{◌≡◌, IfErr, IfSome, string_bytes};
+ghost use Rattle.std.specs.declared.io.ErrorKind.{ErrorKind};
+ghost use Rattle.simulation.specs.Hints.{file_hint};
 
 use crate::fault::Fault;
+use crate::hints::file_hint;
 use std::alloc::Global;
 use std::fs;
-use std::io::Read;
+use std::io::{ErrorKind, Read};
 use std::rt::Files;
+
+/// The bytes of the file at a path, or why the system doesn't give them. Want of memory is such a reason too.
+fn file_bytes(rt: &impl Files, alloc: Global, path: &str) -> Result<Vec<u8>, ErrorKind> {
+    let mut file = match fs::open(rt, path) {
+        Ok(file) => file,
+        Err(error) => return Err(error.kind()),
+    };
+    let mut bytes = Vec::new(alloc);
+    match file.read_to_end(&mut bytes) {
+        Ok(_) => Ok(bytes),
+        Err(error) => Err(error.kind()),
+    }
+}
 
 /// The bytes of the file at a path. It fails where the file can't be opened or read, for want of
 /// memory too.
 pub fn board_bytes(rt: &impl Files, alloc: Global, path: &str) -> Result<Vec<u8>, Fault>
     ensures { IfErr result (λ f. f ≡ Fault.BoardFile) }
 {
-    let Ok(mut file) = fs::open(rt, path) else {
-        return Err(Fault::BoardFile);
-    };
-    let mut bytes = Vec::new(alloc);
-    match file.read_to_end(&mut bytes) {
-        Ok(_) => Ok(bytes),
+    match file_bytes(rt, alloc, path) {
+        Ok(bytes) => Ok(bytes),
         Err(_) => Err(Fault::BoardFile),
+    }
+}
+
+/// The same, and where it fails the line that tells why, if there is memory for it.
+pub fn board_or_hint(rt: &impl Files, alloc: Global, path: &str) -> Result<Vec<u8>, Option<String>>
+    ensures { IfErr result (λ hint. IfSome hint (λ t.
+        (why : ErrorKind) × (string_bytes t ≡ file_hint path.now why))) }
+{
+    match file_bytes(rt, alloc, path) {
+        Ok(bytes) => Ok(bytes),
+        Err(why) => match file_hint(alloc, path, why) {
+            Ok(hint) => Err(Some(hint)),
+            Err(_) => Err(None),
+        },
     }
 }

@@ -1,7 +1,7 @@
 //! What the program does, over bytes, a reader and a writer: the report of a board file, what is
 //! wrong with one, a script over its board, a session over it from reset on, the same with an audit or
-//! with readiness after it, and a script over the demo board; and the law of two worlds, over the
-//! definitions alone.
+//! with readiness after it, and a script over the demo board; what a fault and the line below it say; and
+//! the law of two worlds, over the definitions alone.
 #![tactic(auto)]
 
 mod auditing;
@@ -12,11 +12,14 @@ mod driving;
 mod fault;
 mod fault_lines;
 mod files;
+mod hints;
 mod listing;
 mod numbered;
+mod questions;
 mod readiness;
 mod running;
 mod standard_streams;
+mod watching;
 
 pub use auditing::audit;
 pub use checking::{Checked, check, check_text};
@@ -27,10 +30,11 @@ pub use diagnostics::Style;
 pub use driving::drive;
 pub use fault::Fault;
 pub use fault_lines::fault_line;
-pub use files::board_bytes;
+pub use files::{board_bytes, board_or_hint};
+pub use hints::{check_hint, usage_hint};
 pub use listing::{list, list_text};
 pub use model_guests::two_worlds;
 pub use monitor::Monitor;
 pub use readiness::ready;
-pub use running::whole;
+pub use running::{whole, whole_strictly};
 pub use standard_streams::{InputStream, OutputStream};

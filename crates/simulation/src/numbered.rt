@@ -6,7 +6,7 @@ use crate::fault::Fault;
 use board_file::BoardFault;
 
 /// All faults, by their numbers.
-const ALL: [Fault; 25] = [
+const ALL: [Fault; 27] = [
     Fault::File(BoardFault::NotToml),
     Fault::File(BoardFault::Key),
     Fault::File(BoardFault::UnknownKey),
@@ -25,7 +25,9 @@ const ALL: [Fault; 25] = [
     Fault::SetUp(bus_scan::Fault::IoPool),
     Fault::SetUp(bus_scan::Fault::MemoryPool),
     Fault::SetUp(bus_scan::Fault::PrefetchablePool),
+    Fault::NotInOrder,
     Fault::NotReady,
+    Fault::RefusedLine,
     Fault::SetUp(bus_scan::Fault::Memory),
     Fault::Read,
     Fault::Write,

@@ -6,9 +6,8 @@ ghost use Rattle.session.specs.Files.{Refuses};
 ghost use Rattle.simulation.specs.Readiness.{Readies};
 ghost use Rattle.simulation.specs.Faults.{read_faults, write_faults, OnFile, IsOfFile, IsOfReadiness};
 
-use crate::choice::print;
-use crate::driving::session_after;
 use crate::fault::Fault;
+use crate::questions::{Question, tell_after};
 use std::alloc::Global;
 use streams::{Reader, Writer};
 
@@ -48,11 +47,7 @@ pub fn ready<R: Reader, W: Writer>(
     ensures reads { R.failures reader.new ≡ R.failures reader.old + read_faults result }
     ensures writes { W.failures writer.new ≡ W.failures writer.old + write_faults result }
 {
-    let (mut session, apertures) = session_after(alloc, board, reader, writer)?;
-    let Ok(told) = session.ready(alloc, &apertures) else {
-        return Err(Fault::SetUp(bus_scan::Fault::Memory));
-    };
-    print(told.text.as_str(), writer)?;
+    let told = tell_after(alloc, board, Question::Ready, false, reader, writer)?;
     if told.count == 0 {
         return Ok(());
     }

@@ -1,12 +1,14 @@
 //! A script over the board of a board file.
 ghost use Rattle.std.specs.Prelude.{◌≡◌, ◌+◌, ◌-◌, ◌^◌, ◌<◌, IfErr};
 ghost use Rattle.line_runs.specs.Runs.{ends};
-ghost use Rattle.simulation.specs.Faults.{read_faults, write_faults, OnFile, OnSetUp, OnRun, IsOfBoard, IsOfRun};
+ghost use Rattle.simulation.specs.Faults.{read_faults, write_faults, OnFile, OnSetUp, OnRun, IsOfBoard, IsOfRun, IsOfStrictRun};
 ghost use Rattle.session.specs.Files.{Refuses, Breaks};
-ghost use Rattle.simulation.specs.Running.{IsRun};
+ghost use Rattle.simulation.specs.Running.{IsRun, RunsStrictly};
 
 use crate::fault::Fault;
-use script::run;
+use crate::watching::run_lines;
+use monitor::Monitor;
+use script::{Script, run};
 use session::open;
 use std::alloc::Global;
 use streams::{Reader, Writer};
@@ -44,5 +46,37 @@ pub fn whole<R: Reader, W: Writer>(
 {
     let mut monitor = open(alloc, board)?;
     run(&mut monitor, reader, writer)?;
+    Ok(())
+}
+
+/// Does the same, and answers 209 where a line was refused, once all lines ran and what they write was written and
+/// flushed.
+pub fn whole_strictly<R: Reader, W: Writer>(
+    alloc: Global,
+    board: &[u8],
+    reader: &mut R,
+    writer: &mut W,
+) -> Result<(), Fault>
+    requires reader_has_room { R.failures reader.old < 2 ^ 64 - 1 }
+    requires writer_has_room { W.failures writer.old < 2 ^ 64 - 1 }
+
+    // What it did of the script in the world of the file, and whether a line was refused.
+    ensures runs { RunsStrictly board.now (ends (R.rest reader.old) (R.rest reader.new)
+        (W.written writer.old) (W.written writer.new) (W.flushed writer.new)) result }
+
+    ensures file { IfErr result (OnFile (Refuses board.now)) }
+    ensures placement { IfErr result (OnSetUp (Breaks board.now)) }
+    ensures faults { IfErr result IsOfStrictRun }
+    ensures nothing { IfErr result (λ f. IsOfBoard f → (reader.new ≡ reader.old) × (writer.new ≡ writer.old)) }
+
+    // A fault is the reader's or the writer's exactly where that end failed during the call.
+    ensures reads { R.failures reader.new ≡ R.failures reader.old + read_faults result }
+    ensures writes { W.failures writer.new ≡ W.failures writer.old + write_faults result }
+{
+    let monitor = open(alloc, board)?;
+    let (_, refused) = run_lines::<Script, Monitor, R, W>(monitor, true, reader, writer)?;
+    if refused {
+        return Err(Fault::RefusedLine);
+    }
     Ok(())
 }

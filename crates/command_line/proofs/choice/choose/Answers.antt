@@ -5,12 +5,8 @@ use Rattle.clap.specs.Takes.{takes}
 use Rattle.clap.specs.Faults.{fault_of, is_simple_and_free}
 use Rattle.clap.proofs.OnLiterals.{clap_on_literals}
 use Rattle.command_line.specs.Words.{pciguest_app}
-use Rattle.command_line.proofs.Values.{asked, asked_alike, no_other}
+use Rattle.command_line.proofs.Values.{asked, asked_alike, no_other, simple}
 use Rattle.command_line.proofs.choice.choose.Goals as goal
-
-simple : is_simple_and_free pciguest_app ≡ true
-unfolding clap_on_literals
-simple = refl
 
 is_one : is_simple pciguest_app ≡ true
 unfolding clap_on_literals

@@ -1,16 +1,10 @@
-use Rattle.std.proofs.Common.{◌++◌, length, drop, ap, sym, ◌∙◌, append_assoc, subst, take-append-drop}
+use Rattle.std.proofs.Common.{◌++◌, subst}
 use Rattle.std.specs.Io.{StartsWith}
 use Rattle.std.proofs.KnownBytes.{Appends-trans}
-use Rattle.std.proofs.Transfers.{starts_with_of_append}
 use Rattle.std.proofs.lemmas.Result.{on_err_weaker}
 use Rattle.model_guests.specs.Text.{Text}
+use Rattle.model_guests.proofs.RunLines.{starts_after}
 use Rattle.line_runs.proofs.pieces.write_answer.Goals as goal
-
-starts_behind : (text more part : Text) → StartsWith more part → StartsWith (text ++ more) (text ++ part)
-starts_behind text more part begins =
-    let rest = drop (length part) more in
-    starts_with_of_append (text ++ more) (text ++ part) rest
-    (ap (λ (t : Text). text ++ t) (sym (take-append-drop (length part) more) ∙ ap (λ (t : Text). t ++ rest) begins) ∙ sym (append_assoc text part rest))
 
 pub returns-in-Some-clause-err : goal.returns-in-Some-clause-err
 returns-in-Some-clause-err g c =
@@ -20,6 +14,6 @@ returns-in-Some-clause-err g c =
     let text = c.args.text.now in
     rw c.in-Some.is (on_err_weaker c.write_all-in-Some.result (λ failed. (
       text ++ failed.0,
-      subst (λ (t : Text). StartsWith (text ++ t) (text ++ failed.0)) c.as_bytes.ensures.value (starts_behind text c.as_bytes.result.now failed.0 failed.1),
+      subst (λ (t : Text). StartsWith (text ++ t) (text ++ failed.0)) c.as_bytes.ensures.value (starts_after text c.as_bytes.result.now failed.0 failed.1),
       Appends-trans old mid new text failed.0 c.in_ok-write_all.ensures.ok failed.2,
     )) c.write_all-in-Some.ensures.err)

@@ -5,13 +5,12 @@ use Rattle.simulation.specs.Choices.{Checks}
 use Rattle.simulation.proofs.Told.{checks}
 use Rattle.simulation.proofs.choice.perform.Goals as goal
 
-pub returns-in_ok-board-in-Check-clause-does : goal.returns-in_ok-board-in-Check-clause-does
-returns-in_ok-board-in-Check-clause-does g c =
-    let board = c.deref-in-Check.result.now in
+pub returns-in-Check-clause-does : goal.returns-in-Check-clause-does
+returns-in-Check-clause-does g c =
+    let board = c.args.board.now in
     let at = ends (g.R.Reader.rest c.args.reader.now) (g.R.Reader.rest c.args.reader.now) (g.W.Writer.written c.args.writer.now) (g.W.Writer.written c.check.new.writer) (g.W.Writer.flushed c.check.new.writer) in
     let told = c.check.ensures in
     rw c.in-Check.is (
-      board,
-      subst (λ (s : Style). Checks s c.in-Check.path.now board at c.check.result) c.style_of.ensures
-          (checks _ _ _ at c.check.result told.fits told.flushed told.told told.told_flushed told.stopped),
+    subst (λ (s : Style). Checks s c.in-Check.path.now board at c.check.result) c.style_of.ensures
+    (checks _ _ _ at c.check.result told.fits told.flushed told.told told.told_flushed told.stopped)
     )

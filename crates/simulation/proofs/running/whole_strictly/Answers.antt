@@ -1,0 +1,39 @@
+use Rattle.line_runs.specs.Runs.{ends}
+use Rattle.session.specs.Files.{Refuses, Breaks}
+use Rattle.simulation.proofs.Ran.{opened_file, opened_set_up, read_again, written_again}
+use Rattle.simulation.proofs.Strict.{has_run, none_ran, strict_early}
+use Rattle.simulation.proofs.running.whole_strictly.Goals as goal
+
+pub returns-in_err-monitor-clause-file : goal.returns-in_err-monitor-clause-file
+returns-in_err-monitor-clause-file g c =
+    opened_file (Refuses c.args.board.now) c.from_residual.result _ c.from_residual.ensures.1 c.in_err-monitor.ensures.file
+
+pub returns-in_err-monitor-clause-placement : goal.returns-in_err-monitor-clause-placement
+returns-in_err-monitor-clause-placement g c =
+    opened_set_up (Breaks c.args.board.now) c.from_residual.result _ c.from_residual.ensures.1 c.in_err-monitor.ensures.placement
+
+pub returns-in_err-monitor-clause-runs : goal.returns-in_err-monitor-clause-runs
+returns-in_err-monitor-clause-runs g c =
+    let at = ends (g.R.Reader.rest c.args.reader.now) (g.R.Reader.rest c.args.reader.now) (g.W.Writer.written c.args.writer.now) (g.W.Writer.written c.args.writer.now) (g.W.Writer.flushed c.args.writer.now) in
+    none_ran c.args.board.now at c.from_residual.result _ c.from_residual.ensures.1
+
+pub returns-in_err-refused-clause-reads : goal.returns-in_err-refused-clause-reads
+returns-in_err-refused-clause-reads g c = read_again c.from_residual-in_err-refused.result _ _ _ c.from_residual-in_err-refused.ensures.1 c.in_err-refused.ensures.reads
+
+pub returns-in_err-refused-clause-writes : goal.returns-in_err-refused-clause-writes
+returns-in_err-refused-clause-writes g c = written_again c.from_residual-in_err-refused.result _ _ _ c.from_residual-in_err-refused.ensures.1 c.in_err-refused.ensures.writes
+
+pub returns-in_err-refused-clause-runs : goal.returns-in_err-refused-clause-runs
+returns-in_err-refused-clause-runs g c =
+    let at = ends (g.R.Reader.rest c.args.reader.now) (g.R.Reader.rest c.run_lines.new.reader) (g.W.Writer.written c.args.writer.now) (g.W.Writer.written c.run_lines.new.writer) (g.W.Writer.flushed c.run_lines.new.writer) in
+    strict_early c.args.board.now _ at c.from_residual-in_err-refused.result _ c.from_residual-in_err-refused.ensures.1 c.in_ok-monitor.ensures.opened c.in_err-refused.ensures.runs
+
+pub returns-then-refused-clause-runs : goal.returns-then-refused-clause-runs
+returns-then-refused-clause-runs g c =
+    let at = ends (g.R.Reader.rest c.args.reader.now) (g.R.Reader.rest c.run_lines.new.reader) (g.W.Writer.written c.args.writer.now) (g.W.Writer.written c.run_lines.new.writer) (g.W.Writer.flushed c.run_lines.new.writer) in
+    has_run c.args.board.now _ _ at _ c.in_ok-monitor.ensures.opened c.in_ok-refused.ensures.runs c.if-refused.true
+
+pub returns-clause-runs : goal.returns-clause-runs
+returns-clause-runs g c =
+    let at = ends (g.R.Reader.rest c.args.reader.now) (g.R.Reader.rest c.run_lines.new.reader) (g.W.Writer.written c.args.writer.now) (g.W.Writer.written c.run_lines.new.writer) (g.W.Writer.flushed c.run_lines.new.writer) in
+    has_run c.args.board.now _ _ at _ c.in_ok-monitor.ensures.opened c.in_ok-refused.ensures.runs c.if-refused.false
