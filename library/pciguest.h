@@ -191,6 +191,7 @@ enum pciguest_status {
 /* Numbers that no call answers: 401 to 403 stand in replies to lines, and the others in the program's last line. */
 enum pciguest_told {
     PCIGUEST_NOT_READY = 208,     /* not ready */
+    PCIGUEST_REFUSED_LINE = 209,  /* refused line */
     PCIGUEST_BAD_LINE = 401,      /* bad line */
     PCIGUEST_UNKNOWN_GUEST = 402, /* unknown guest */
     PCIGUEST_LONG_LINE = 403,     /* long line */
@@ -240,6 +241,8 @@ uint32_t pciguest_raw_region(struct pciguest *machine, size_t guest, uint64_t sl
 uint32_t pciguest_raw_changed(struct pciguest *machine, size_t guest, uint64_t *count);
 uint32_t pciguest_raw_locate(struct pciguest *machine, size_t guest, uint32_t space, uint64_t slot, uint64_t place,
                              struct pciguest_hit *hit);
+uint32_t pciguest_raw_why(struct pciguest *machine, size_t guest, uint32_t space, uint64_t slot, uint64_t place,
+                          uint8_t *text, size_t room, size_t *needed);
 uint32_t pciguest_raw_count(struct pciguest *machine, size_t *count);
 uint32_t pciguest_raw_function(struct pciguest *machine, size_t index, struct pciguest_function *function);
 uint32_t pciguest_raw_slot(struct pciguest *machine, size_t guest, uint64_t slot, struct pciguest_function *function);
@@ -540,6 +543,24 @@ PCIGUEST_CALL uint32_t pciguest_locate(struct pciguest *machine, size_t guest, u
     if (!machine || !hit)
         return PCIGUEST_ARGUMENT;
     return pciguest_raw_locate(machine, guest, space, slot, place, hit);
+}
+
+/* Writes why an access of the guest at a place, as pciguest_locate takes it, finds what it finds, a line for each thing: at
+ * port CF8h, and at CFCh to CFFh, what the guest's CONFIG_ADDRESS makes of it (PCI Local Bus 3.0, 3.2.2.3.2); then the slot,
+ * the region or configuration space and the offset there that answers, or that nobody does, that the slot is empty, or that
+ * CONFIG_ADDRESS selects no slot; and where nobody answers, each region of the guest's functions that holds the address and
+ * whose space Command doesn't open (6.2.5), by slot, then by register. It tells the text's length, which has no 0 at its
+ * end. It tells of the guest's own functions and CONFIG_ADDRESS alone: two guests that hold the same are told the same.
+ * Nothing changes.
+ * Numbers as for a read of one byte there. 902 too: there is less room than the text needs, whose length alone is told.
+ * 299: out of memory. */
+PCIGUEST_CALL uint32_t pciguest_why(struct pciguest *machine, size_t guest, uint32_t space, uint64_t slot,
+                                    uint64_t place, char *text, size_t room, size_t *needed)
+{
+    uint8_t none;
+    if (!machine || (!text && room) || !needed)
+        return PCIGUEST_ARGUMENT;
+    return pciguest_raw_why(machine, guest, space, slot, place, text ? (uint8_t *)text : &none, room, needed);
 }
 
 /* How many functions the board has, endpoints and bridges. */

@@ -35,6 +35,7 @@ const char *pciguest_strerror(uint32_t number)
     case PCIGUEST_IN_USE: return "in use";
     case PCIGUEST_NOT_AT_RESET: return "not at reset";
     case PCIGUEST_NOT_READY: return "not ready";
+    case PCIGUEST_REFUSED_LINE: return "refused line";
     case PCIGUEST_BAD_LINE: return "bad line";
     case PCIGUEST_UNKNOWN_GUEST: return "unknown guest";
     case PCIGUEST_LONG_LINE: return "long line";

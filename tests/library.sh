@@ -72,6 +72,11 @@ for kind in "${kinds[@]}"; do
     holds "$kind: queries, seed $seed" "./queries.$kind" "$board" 2000 "$seed"
   done
 
+  holds "$kind: the reasons are built" build "why.$kind" "$top/tests/library/why.c" "${wraps[@]}" "${words[@]}"
+  for seed in 1 2 3; do
+    holds "$kind: why guests find what they find, seed $seed" "./why.$kind" "$board" 2000 "$seed"
+  done
+
   holds "$kind: the functions are built" build "functions.$kind" "$top/tests/library/functions.c" "${words[@]}"
   for seed in 1 2 3; do
     holds "$kind: functions of the board, seed $seed" "./functions.$kind" "$board" 2000 "$seed"

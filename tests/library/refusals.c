@@ -378,7 +378,7 @@ static void words(uint32_t number, const char *wanted)
 
 static void all_words(void)
 {
-    static const uint32_t without[] = {0, 1, 100, 113, 200, 209, 300, 304, 400, 404, 603, 900, 905, 0xffffffff, 0x10065};
+    static const uint32_t without[] = {0, 1, 100, 113, 200, 210, 300, 304, 400, 404, 603, 900, 905, 0xffffffff, 0x10065};
     uint32_t number, known = 0;
     char text[PCIGUEST_WORDS] = {0};
     size_t needed = 0;
@@ -390,6 +390,7 @@ static void all_words(void)
     words(206, "closed region");
     words(207, "not in order");
     words(208, "not ready");
+    words(209, "refused line");
     words(299, "memory");
     words(301, "misaligned");
     words(403, "long line");
@@ -406,7 +407,7 @@ static void all_words(void)
         IS(pciguest_words(number, text, sizeof text, &needed), 0);
         known += needed != 0;
     }
-    IS(known, 39);
+    IS(known, 40);
 }
 
 /* Each allocation fails in turn: the answer is out of memory, the handle stays empty, and nothing is lost. */

@@ -4,7 +4,7 @@ use Rattle.std.proofs.lemmas.List.{length-map}
 use Rattle.model_guests.specs.Text.{Text}
 use Rattle.model_audit.specs.AuditText.{audit_line, total_text, audit_text}
 use Rattle.report.specs.Found.{ended}
-use Rattle.report.proofs.LineTexts.{text_of_lines-append}
+use Rattle.model_guests.proofs.WrittenLines.{text_of_lines-append}
 use Rattle.board_audit.specs.Told.{problem_of}
 use Rattle.board_audit.specs.declared.problem.Problem.{Problem}
 use Rattle.audit_text.specs.Lines.{problem_lines}

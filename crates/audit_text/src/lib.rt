@@ -3,9 +3,11 @@
 #![tactic(auto)]
 
 mod lines;
+mod parts;
 mod whole;
 
 pub use board_audit::Problem;
 pub use host_bridge::Host;
-pub use lines::{push_address, push_problem, push_region};
+pub use lines::push_problem;
+pub use parts::{push_address, push_bus, push_number, push_reached, push_region, push_space};
 pub use whole::{audit_text, problems_text, push_problems};

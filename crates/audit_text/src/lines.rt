@@ -1,30 +1,17 @@
 //! A problem's line, and the last line.
-ghost use Rattle.std.specs.Prelude.{codes, OnOk};
-ghost use Rattle.std.specs.Option.{option_map_or};
+ghost use Rattle.std.specs.Prelude.{OnOk};
 ghost use Rattle.lists.specs.Texts.{Adds};
 ghost use Rattle.paths.specs.BusAddresses.{bus_address_of};
-ghost use Rattle.model_guests.specs.PathTexts.{hexadecimal, path_text};
-ghost use Rattle.model_audit.specs.AuditText.{region_text, agent_text, space_text, number_text, problem_text, total_text, audit_line};
+ghost use Rattle.model_audit.specs.AuditText.{agent_text, space_text, problem_text, total_text, audit_line};
 ghost use Rattle.model_audit.specs.Problems.{not_forwarded, contended, not_found};
 ghost use Rattle.board_audit.specs.Told.{problem_of};
 ghost use Rattle.report.specs.Found.{ended};
 
-use bars::Space;
+use crate::parts::{push_address, push_number, push_reached, push_region, push_space};
 use board_audit::{Agent, Problem, RegionNow};
 use paths::{Bdf, Path};
 use report::push_path;
 use std::alloc::AllocError;
-
-/// Appends the path of a region, its register, and where it stands.
-pub fn push_region(text: &mut String, region: &RegionNow) -> Result<(), AllocError>
-    ensures { OnOk result (Adds text.old text.new (region_text region.now)) }
-{
-    push_path(text, &region.path)?;
-    let index = region.region.index;
-    let base = region.region.base;
-    let size = region.region.size;
-    write!(text, " bar{index} at 0x{base:x} size 0x{size:x}")
-}
 
 /// Appends the path of an agent, and its register, if it has one.
 fn push_agent(text: &mut String, agent: &Agent) -> Result<(), AllocError>
@@ -37,40 +24,11 @@ fn push_agent(text: &mut String, agent: &Agent) -> Result<(), AllocError>
     }
 }
 
-/// Appends an address.
-pub fn push_address(text: &mut String, address: u64) -> Result<(), AllocError>
-    ensures { OnOk result (Adds text.old text.new (hexadecimal address)) }
-{
-    write!(text, "0x{address:x}")
-}
-
 /// Appends the name of the space whose addresses an agent answers.
-fn push_space(text: &mut String, agent: &Agent) -> Result<(), AllocError>
+fn push_agent_space(text: &mut String, agent: &Agent) -> Result<(), AllocError>
     ensures { OnOk result (Adds text.old text.new (space_text agent.now.space)) }
 {
-    match agent.space {
-        Space::Io => text.push_str("I/O"),
-        Space::Mem => text.push_str("memory"),
-    }
-}
-
-/// Appends a bus, device and function number.
-fn push_number(text: &mut String, bus: u8, device: u8, function: u8) -> Result<(), AllocError>
-    ensures { OnOk result (Adds text.old text.new
-        (number_text (record { bus = bus; part = record { device = device; function = function } }))) }
-{
-    write!(text, "{bus:02x}:{device:02x}.{function}")
-}
-
-/// Appends a path, or `nothing`.
-fn push_reached(text: &mut String, path: &Option<Path>) -> Result<(), AllocError>
-    ensures { OnOk result (Adds text.old text.new
-        (option_map_or path_text path.now (codes "nothing"))) }
-{
-    match path {
-        Some(path) => push_path(text, path),
-        None => text.push_str("nothing"),
-    }
+    push_space(text, agent.space)
 }
 
 /// Appends what is wrong with the forwarding to a region.
@@ -104,7 +62,7 @@ fn push_contended(
     text.push_str(" and ")?;
     push_agent(text, other)?;
     text.push_str(" both answer ")?;
-    push_space(text, one)?;
+    push_agent_space(text, one)?;
     text.push_str(" ")?;
     push_address(text, address)
 }
@@ -121,7 +79,7 @@ fn push_not_found(
 {
     push_path(text, path)?;
     text.push_str(": a cycle for ")?;
-    push_number(text, address.bus, address.device, address.function)?;
+    push_number(text, address)?;
     text.push_str(" reaches ")?;
     push_reached(text, instead)
 }

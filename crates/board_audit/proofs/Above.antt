@@ -4,19 +4,19 @@ use Rattle.std.proofs.lemmas.List.Elements.{filter-append}
 use Rattle.std.proofs.lemmas.Grind.{flat_map-append}
 use Rattle.std.proofs.lemmas.Option.{slice_get-get_or}
 use Rattle.std.proofs.lemmas.List.{take_more}
-use Rattle.std.proofs.Common.{◌≡◌, ℕ, ◌+◌, ◌<◌, Bool, true, false, inl, inr, List, [], ◌∷◌, ◌++◌, length, take, drop, get_or, Option, Some, None, refl, sym, ap, ap₂, ◌∙◌, arith, append-nil, add-one}
+use Rattle.std.proofs.Common.{◌≡◌, ℕ, ◌+◌, ◌<◌, Bool, true, false, List, [], ◌∷◌, ◌++◌, length, take, drop, get_or, Option, Some, None, refl, sym, ap, ap₂, ◌∙◌, arith, append-nil, add-one}
 use Rattle.std.specs.Prelude.{filter, flat_map, slice_get}
 use Rattle.std.specs.Option.{option_to_list}
 use Rattle.lists.specs.Elements.{first_of_two, first_some, IsIn}
 use Rattle.model_board.specs.Paths.{Path, leads_to}
 use Rattle.model_board.specs.Routing.{Ranges, RoutingRow}
 use Rattle.model_set_up.specs.PlacedRegions.{PlacedRegion}
-use Rattle.lists.proofs.Members.{from_filter, from_map}
-use Rattle.model_audit.specs.OpenRegions.{open_of, open_regions}
+use Rattle.lists.proofs.Members.{flat_map_same, from_filter, from_map}
+use Rattle.model_audit.specs.OpenRegions.{open_of}
 use Rattle.model_audit.specs.Problems.{blame, forwarding_problem}
 use Rattle.board_audit.specs.Bridges.{rows_nth}
 
-abbrev leads : Path → RoutingRow → Bool
+abbrev pub leads : Path → RoutingRow → Bool
 leads p r = leads_to r.path p
 
 pub blames_above : (q : PlacedRegion) (rows : List RoutingRow) → first_some (blame q) (filter (leads q.path) rows) ≡ first_some (blame q) rows
@@ -27,41 +27,34 @@ blames_above q (r ∷ rows) = grind (arith, blames_above q rows)
 path_of : (p : Path) (command : ℕ) (rs : Ranges) (q : PlacedRegion) → IsIn q (open_of (record { path = p; command = command; ranges = rs })) → q.path ≡ p
 path_of p command rs q m = grind (arith, from_filter, from_map)
 
-pub flat_same : {A B : Type 0} (f g : A → List B) (xs : List A) → ((x : A) → IsIn x xs → f x ≡ g x) → flat_map f xs ≡ flat_map g xs
-flat_same f g [] h = refl
-flat_same f g (x ∷ xs) h = ap₂ ◌++◌ (h x (inl refl)) (flat_same f g xs (λ y m. h y (inr m)))
-
 pub function_blames : (rows above : List RoutingRow) (r : RoutingRow) → above ≡ filter (leads r.path) rows → flat_map (λ q. option_to_list (first_some (blame q) above)) (open_of r) ≡ flat_map (forwarding_problem rows) (open_of r)
-function_blames rows above r e = flat_same (λ q. option_to_list (first_some (blame q) above)) (forwarding_problem rows) (open_of r) one
+function_blames rows above r e = flat_map_same (λ q. option_to_list (first_some (blame q) above)) (forwarding_problem rows) (open_of r) one
   where
     one : (q : PlacedRegion) → IsIn q (open_of r) → option_to_list (first_some (blame q) above) ≡ forwarding_problem rows q
     one q m =
         let same : above ≡ filter (leads q.path) rows = e ∙ ap (λ (p : Path). filter (leads p) rows) (sym (path_of r.path r.command r.ranges q m)) in
         ap option_to_list (ap (first_some (blame q)) same ∙ blames_above q rows)
 
-pub all_blames : (rows rest : List RoutingRow) → flat_map (λ r. flat_map (forwarding_problem rows) (open_of r)) rest ≡ flat_map (forwarding_problem rows) (open_regions rest)
-all_blames rows [] = refl
-all_blames rows (r ∷ rest) = ap (λ zs. flat_map (forwarding_problem rows) (open_of r) ++ zs) (all_blames rows rest) ∙ sym (flat_map-append (forwarding_problem rows) (open_of r) (open_regions rest))
-
 -- ---- one more row
 
 next_row : (xs : List RoutingRow) (i : ℕ) (a d : RoutingRow) → a ≡ get_or xs i d → i < length xs → (take (i + 1) xs ≡ take i xs ++ a ∷ []) × (slice_get xs i ≡ Some a)
 next_row xs i a d e h = (rw e (take_more xs i d h), rw e (slice_get-get_or xs i d h))
 
-pub above_kept : (rows : List RoutingRow) (p : Path) (is js : List ℕ) (i : ℕ) (r d : RoutingRow) → r ≡ get_or rows i d → i < length rows → leads p r ≡ true → js ≡ is ++ i ∷ [] → rows_nth rows is ≡ filter (leads p) (take i rows)
-    → rows_nth rows js ≡ filter (leads p) (take (i + 1) rows)
-above_kept rows p is js i r d e h over more so_far =
-    let t = next_row rows i r d e h in
-    let one : filter (leads p) (r ∷ []) ≡ r ∷ [] = rw over refl in
-    let here : rows_nth rows (i ∷ []) ≡ r ∷ [] = ap (λ o. option_to_list o ++ []) t.1 in
-    ap (rows_nth rows) more ∙ flat_map-append (λ i. option_to_list (slice_get rows i)) is (i ∷ []) ∙ ap₂ ◌++◌ so_far (here ∙ sym one) ∙ sym (ap (filter (leads p)) t.0 ∙ filter-append (leads p) (take i rows) (r ∷ []))
+-- the rows at some indices are those that pass a test so far
+pub row_kept : (t : RoutingRow → Bool) (rows : List RoutingRow) (is js : List ℕ) (i : ℕ) (r d : RoutingRow) → r ≡ get_or rows i d → i < length rows → t r ≡ true → js ≡ is ++ i ∷ [] → rows_nth rows is ≡ filter t (take i rows)
+    → rows_nth rows js ≡ filter t (take (i + 1) rows)
+row_kept t rows is js i r d e h passes more so_far =
+    let n = next_row rows i r d e h in
+    let one : filter t (r ∷ []) ≡ r ∷ [] = rw passes refl in
+    let here : rows_nth rows (i ∷ []) ≡ r ∷ [] = ap (λ o. option_to_list o ++ []) n.1 in
+    ap (rows_nth rows) more ∙ flat_map-append (λ i. option_to_list (slice_get rows i)) is (i ∷ []) ∙ ap₂ ◌++◌ so_far (here ∙ sym one) ∙ sym (ap (filter t) n.0 ∙ filter-append t (take i rows) (r ∷ []))
 
-pub above_passed : (rows : List RoutingRow) (p : Path) (is : List ℕ) (i : ℕ) (r d : RoutingRow) → r ≡ get_or rows i d → i < length rows → leads p r ≡ false → rows_nth rows is ≡ filter (leads p) (take i rows)
-    → rows_nth rows is ≡ filter (leads p) (take (i + 1) rows)
-above_passed rows p is i r d e h over so_far =
-    let t = next_row rows i r d e h in
-    let none : filter (leads p) (r ∷ []) ≡ [] = rw over refl in
-    so_far ∙ sym (append-nil (filter (leads p) (take i rows))) ∙ ap (λ zs. filter (leads p) (take i rows) ++ zs) (sym none) ∙ sym (ap (filter (leads p)) t.0 ∙ filter-append (leads p) (take i rows) (r ∷ []))
+pub row_passed : (t : RoutingRow → Bool) (rows : List RoutingRow) (is : List ℕ) (i : ℕ) (r d : RoutingRow) → r ≡ get_or rows i d → i < length rows → t r ≡ false → rows_nth rows is ≡ filter t (take i rows)
+    → rows_nth rows is ≡ filter t (take (i + 1) rows)
+row_passed t rows is i r d e h passes so_far =
+    let n = next_row rows i r d e h in
+    let none : filter t (r ∷ []) ≡ [] = rw passes refl in
+    so_far ∙ sym (append-nil (filter t (take i rows))) ∙ ap (λ zs. filter t (take i rows) ++ zs) (sym none) ∙ sym (ap (filter t) n.0 ∙ filter-append t (take i rows) (r ∷ []))
 
 -- ---- the first that is blamed
 

@@ -15,8 +15,8 @@ use Rattle.model_board.proofs.PathOrder.{path_same}
 use Rattle.model_audit.specs.Agents.{Extent, Agent, answers}
 use Rattle.model_audit.specs.Orderly.{AreAlone}
 use Rattle.model_audit.specs.Problems.{contention, contentions}
-use Rattle.model_audit.proofs.Problems.{Within, by_extent, no_contentions}
-use Rattle.lists.proofs.Members.{none_front, none_each, each_none}
+use Rattle.model_audit.proofs.Problems.{Within, by_extent, no_contention}
+use Rattle.lists.proofs.Members.{each_none}
 use Rattle.board_audit.specs.declared.span.Span.{Span}
 use Rattle.board_audit.specs.Spans.{bus_key, space_key, group_of, extent_span, agent_spans, spans_from, place_of, key_of, crowds, AreApartBut, is_crowded}
 
@@ -70,11 +70,6 @@ indexed n b [] m = absurd m
 indexed n b (c ∷ cs) (inl e) = (n, omega arith, λ x k. in_front x (agent_spans n c) (spans_from (n + 1) cs) (subst (λ (y : Agent). IsIn x (agent_spans n y)) e k))
 indexed n b (c ∷ cs) (inr m) = let r = indexed (n + 1) b cs m in (r.0, omega (arith, r.1), λ x k. in_back x (agent_spans n c) (spans_from (n + 1) cs) (r.2 x k))
 
-one_pair : (a b : Agent) → AreAlone a b → contention a b ≡ []
-one_pair a b h =
-    let none : contentions (a ∷ b ∷ []) ≡ [] = no_contentions (a ∷ b ∷ []) ((h, tt), (tt, tt)) in
-    (none_each (contention a) (b ∷ []) (none_front (flat_map (contention a) (b ∷ [])) (contentions (b ∷ [])) none)).0
-
 -- what gives nothing may be left out
 left_out : {A B : Type 0} (f : A → List B) (p : A → Bool) (xs : List A) → ((x : A) → IsIn x xs → p x ≡ false → f x ≡ []) → flat_map f (filter p xs) ≡ flat_map f xs
 left_out f p [] none = refl
@@ -111,7 +106,7 @@ module _ (all spans : List Span) (moved : IsPermutation all spans) (rising : IsN
     where
       none : (b : Agent) → IsIn b bs → (is_crowded groups a ≡ false) ⊎ (is_crowded groups b ≡ false) → contention a b ≡ []
       none b m quiet = let r = indexed (n + 1) b bs m in
-          one_pair a b (alone n r.0 a b (omega (arith, r.1)) (λ x k. there x (in_front x (agent_spans n a) (spans_from (n + 1) bs) k)) (λ x k. there x (in_back x (agent_spans n a) (spans_from (n + 1) bs) (r.2 x k))) quiet)
+          no_contention a b (alone n r.0 a b (omega (arith, r.1)) (λ x k. there x (in_front x (agent_spans n a) (spans_from (n + 1) bs) k)) (λ x k. there x (in_back x (agent_spans n a) (spans_from (n + 1) bs) (r.2 x k))) quiet)
 
       by : (t : Bool) → is_crowded groups a ≡ t → contentions (filter (is_crowded groups) bs) ≡ contentions bs → contentions (cond t (a ∷ filter (is_crowded groups) bs) (filter (is_crowded groups) bs)) ≡ contentions (a ∷ bs)
       by true e rest = ap₂ ◌++◌ (left_out (contention a) (is_crowded groups) bs (λ b m k. none b m (inr k))) rest

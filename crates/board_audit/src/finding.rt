@@ -1,8 +1,7 @@
 //! Finding what is wrong.
-ghost use Rattle.std.specs.Prelude.{◌≡◌, [], ◌∷◌, ◌++◌, ◌&&◌, not, map, filter, flat_map, IfOk, OnOk, IsTrue};
+ghost use Rattle.std.specs.Prelude.{◌≡◌, ◌++◌, ◌&&◌, not, map, filter, flat_map, IfOk, OnOk, IsTrue};
 ghost use Rattle.std.specs.Option.{option_map, option_to_list};
 ghost use Rattle.std.specs.List.{list_any};
-ghost use Rattle.lists.specs.Texts.{Adds};
 ghost use Rattle.model_registers.specs.Decoding.{same_space};
 ghost use Rattle.model_set_up.specs.PlacedRegions.{holds};
 ghost use Rattle.model_audit.specs.Agents.{extent_holds, answers};

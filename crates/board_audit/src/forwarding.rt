@@ -1,7 +1,6 @@
 //! Open regions that a bridge above them doesn't forward.
 ghost use Rattle.std.specs.Prelude.{◌≡◌, ◌++◌, map, filter, flat_map, slice_get, IfOk, OnOk};
 ghost use Rattle.std.specs.Option.{option_map, option_to_list};
-ghost use Rattle.lists.specs.Texts.{Adds};
 ghost use Rattle.lists.specs.Elements.{first_some};
 ghost use Rattle.model_board.specs.Paths.{leads_to};
 ghost use Rattle.model_audit.specs.OpenRegions.{open_of, open_regions};

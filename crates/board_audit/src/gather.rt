@@ -40,11 +40,7 @@ pub fn add_open(told: &mut Vec<RegionNow>, row: &RoutingRow) -> Result<(), Alloc
 {
     match &row.ranges {
         Ranges::Regions(regions) => add_regions(told, &row.path, row.command, regions),
-        Ranges::Windows {
-            io: _,
-            mem: _,
-            pref: _,
-        } => Ok(()),
+        Ranges::Windows { .. } => Ok(()),
     }
 }
 
@@ -68,11 +64,7 @@ fn add_agents(alloc: Global, told: &mut Vec<Agent>, row: &RoutingRow) -> Result<
             add_open(&mut regions, row)?;
             add_region_agents(told, &regions)
         }
-        Ranges::Windows {
-            io: _,
-            mem: _,
-            pref: _,
-        } => {
+        Ranges::Windows { .. } => {
             told.push(Agent::of_bridge(row, Space::Io))?;
             told.push(Agent::of_bridge(row, Space::Mem))?;
             Ok(())

@@ -18,4 +18,4 @@ pub use gather::add_open;
 pub use numbering::address_now;
 pub use problem::Problem;
 pub use region::RegionNow;
-pub use row::opens;
+pub use row::{is_in, opens};

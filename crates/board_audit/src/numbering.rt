@@ -1,7 +1,6 @@
 //! Which functions no configuration cycle finds (PCI-to-PCI Bridge Architecture 1.2, chapter 3).
-ghost use Rattle.std.specs.Prelude.{◌≡◌, ◌++◌, map, flat_map, position, slice_get, OnOk, option_map};
+ghost use Rattle.std.specs.Prelude.{◌≡◌, ◌++◌, map, position, slice_get, OnOk, option_map};
 ghost use Rattle.std.specs.Option.{option_and_then, option_to_list};
-ghost use Rattle.lists.specs.Texts.{Adds};
 ghost use Rattle.model_board.specs.Routing.{routing, RoutingRow as RowValue};
 ghost use Rattle.model_audit.specs.Found.{bus_now, address_now};
 ghost use Rattle.model_audit.specs.Problems.{numbering_problems};
@@ -21,11 +20,7 @@ fn is_bridge_at(row: &RoutingRow, bus: &[Part]) -> bool
 {
     match &row.ranges {
         Ranges::Regions(_) => false,
-        Ranges::Windows {
-            io: _,
-            mem: _,
-            pref: _,
-        } => is_same(row.path.parts(), bus),
+        Ranges::Windows { .. } => is_same(row.path.parts(), bus),
     }
 }
 

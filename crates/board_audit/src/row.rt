@@ -1,9 +1,11 @@
 //! What routing registers say of one function.
-ghost use Rattle.std.specs.Prelude.{◌≡◌};
+ghost use Rattle.std.specs.Prelude.{◌≡◌, option_map};
 ghost use Rattle.std.specs.List.{list_any};
 ghost use Rattle.bars.specs.Kinds.{named_space};
 ghost use Rattle.model_registers.specs.Decoding.{opens_space, same_space};
+ghost use Rattle.model_board.specs.Windows.{is_in};
 ghost use Rattle.model_audit.specs.Agents.{extent_holds, forwarded_extents};
+ghost use Rattle.bridge_forward.specs.RoutingRows.{window_of};
 ghost use Rattle.board_audit.specs.Extents.{extent_of, extents_of};
 
 use bars::Space;
@@ -28,6 +30,16 @@ pub(crate) fn holds(window: Window, addr: u64) -> bool
     ensures { result ≡ extent_holds addr (extent_of window) }
 {
     window.first <= addr && addr <= window.last
+}
+
+/// Whether an address lies in a window, if there is one.
+pub fn is_in(window: Option<Window>, addr: u64) -> bool
+    ensures { result ≡ is_in addr (option_map window_of window) }
+{
+    match window {
+        Some(held) => held.first <= addr && addr <= held.last,
+        None => false,
+    }
 }
 
 /// Whether one of two windows holds an address.

@@ -40,11 +40,7 @@ fn add_function(told: &mut Vec<Lack>, row: &RoutingRow) -> Result<(), AllocError
 {
     match &row.ranges {
         Ranges::Regions(regions) => add_regions(told, &row.path, row.command, regions),
-        Ranges::Windows {
-            io: _,
-            mem: _,
-            pref: _,
-        } => Ok(()),
+        Ranges::Windows { .. } => Ok(()),
     }
 }
 

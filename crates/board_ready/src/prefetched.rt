@@ -54,11 +54,7 @@ fn add_plain(told: &mut Vec<RegionNow>, row: &RoutingRow) -> Result<(), AllocErr
 {
     match &row.ranges {
         Ranges::Regions(regions) => add_regions(told, &row.path, row.command, regions),
-        Ranges::Windows {
-            io: _,
-            mem: _,
-            pref: _,
-        } => Ok(()),
+        Ranges::Windows { .. } => Ok(()),
     }
 }
 

@@ -2,28 +2,16 @@
 //! chapter 4).
 ghost use Rattle.std.specs.Prelude.{◌≡◌, [], ◌∷◌, ◌++◌, ◌&&◌, map, filter};
 ghost use Rattle.std.specs.Option.{option_map, option_to_list};
-ghost use Rattle.model_board.specs.Windows.{is_in};
 ghost use Rattle.model_set_up.specs.PlacedRegions.{holds};
 ghost use Rattle.model_ready.specs.Lacks.{prefetches, prefetch_edges, first_prefetched, prefetch_blame};
-ghost use Rattle.bridge_forward.specs.RoutingRows.{window_of};
 ghost use Rattle.board_audit.specs.Extents.{extent_of};
 ghost use Rattle.board_ready.specs.Gathered.{may_prefetch};
 ghost use Rattle.board_ready.specs.Told.{lack_of};
 
 use crate::lack::Lack;
 use bars::Space;
-use board_audit::{RegionNow, lesser, opens};
+use board_audit::{RegionNow, is_in, lesser, opens};
 use bridge_forward::{Ranges, RoutingRow, Window};
-
-/// Whether an address lies in a window.
-fn is_in(window: Option<Window>, addr: u64) -> bool
-    ensures { result ≡ is_in addr (option_map window_of window) }
-{
-    match window {
-        Some(window) => window.first <= addr && addr <= window.last,
-        None => false,
-    }
-}
 
 /// Whether a bridge has a prefetchable window, and Command opens memory.
 pub(crate) fn may_prefetch(row: &RoutingRow) -> bool
@@ -31,11 +19,7 @@ pub(crate) fn may_prefetch(row: &RoutingRow) -> bool
 {
     match &row.ranges {
         Ranges::Regions(_) => false,
-        Ranges::Windows {
-            io: _,
-            mem: _,
-            pref,
-        } => opens(row.command, Space::Mem) && pref.is_some(),
+        Ranges::Windows { pref, .. } => opens(row.command, Space::Mem) && pref.is_some(),
     }
 }
 

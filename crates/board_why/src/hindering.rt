@@ -3,7 +3,6 @@ ghost use Rattle.std.specs.Prelude.{◌≡◌, map, option_map};
 ghost use Rattle.std.specs.Option.{option_to_list};
 ghost use Rattle.bars.specs.Kinds.{named_space};
 ghost use Rattle.model_board.specs.Routing.{row_forwards};
-ghost use Rattle.model_board.specs.Windows.{is_in};
 ghost use Rattle.model_why.specs.Why.{io_windows, pref_windows};
 ghost use Rattle.bridge_forward.specs.RoutingRows.{named_ranges, window_of};
 ghost use Rattle.board_why.specs.ByRows.{row_windows, row_hindrance};
@@ -11,19 +10,9 @@ ghost use Rattle.board_why.specs.Told.{window_told, windows_told, hindrance_told
 
 use crate::causes::{Hindrance, NamedWindow, WindowName};
 use bars::Space;
-use board_audit::opens;
+use board_audit::{is_in, opens};
 use bridge_forward::{Ranges, RoutingRow, Window};
 use headers::{BridgeDecl, IoDecode, PrefDecode};
-
-/// Whether an address lies in a window.
-fn is_in(window: Option<Window>, addr: u64) -> bool
-    ensures { result ≡ is_in addr (option_map window_of window) }
-{
-    match window {
-        Some(window) => window.first <= addr && addr <= window.last,
-        None => false,
-    }
-}
 
 /// Whether a bridge forwards an address. Nothing else does.
 pub(crate) fn forwards(row: &RoutingRow, space: Space, addr: u64) -> bool

@@ -81,11 +81,7 @@ fn add_function(held: &mut Vec<Held>, asked: &Asked, row: &RoutingRow) -> Result
 {
     match &row.ranges {
         Ranges::Regions(regions) => add_regions(held, asked, &row.path, row.command, regions),
-        Ranges::Windows {
-            io: _,
-            mem: _,
-            pref: _,
-        } => Ok(()),
+        Ranges::Windows { .. } => Ok(()),
     }
 }
 

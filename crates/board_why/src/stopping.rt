@@ -5,6 +5,7 @@ ghost use Rattle.lists.specs.Elements.{first_some};
 ghost use Rattle.bars.specs.Kinds.{named_space};
 ghost use Rattle.model_board.specs.Routing.{routing};
 ghost use Rattle.model_why.specs.Why.{stop};
+ghost use Rattle.bridge_forward.specs.BridgeDecls.{declared_bridge_nth};
 ghost use Rattle.board_why.specs.ByRows.{row_stop, cause_at};
 ghost use Rattle.board_why.specs.Told.{cause_told};
 
@@ -13,17 +14,19 @@ use crate::hindering::{forwards, hindrance_of};
 use crate::holding::{Asked, Held};
 use board_audit::opens;
 use bridge_forward::{Path, RoutingRow};
-use headers::BridgeDecl;
 use host_bridge::Host;
 
-/// What keeps the address from a path at a bridge, if that is above the path and doesn't forward it.
-fn stop(row: &RoutingRow, decl: Option<BridgeDecl>, asked: &Asked, path: &Path) -> Option<Cause>
-    ensures { let space = named_space asked.now.space in option_map cause_told result
-        ≡ row_stop space asked.now.addr path.now decl row.now }
+/// What keeps the address from a path at the function at an index, whose row is given, if that is above the path and
+/// doesn't forward it. Most functions are not above: what is declared of them isn't asked for.
+fn stop(host: &Host, index: usize, row: &RoutingRow, asked: &Asked, path: &Path) -> Option<Cause>
+    ensures { let space = named_space asked.now.space in
+        let decl = declared_bridge_nth host.now.state.functions index in
+        option_map cause_told result ≡ row_stop space asked.now.addr path.now decl row.now }
 {
     if !row.path.leads_to(path) || forwards(row, asked.space, asked.addr) {
         return None;
     }
+    let decl = host.bridge_decl_nth(index);
     Some(Cause::StoppedAt {
         bridge: row.path.copied(),
         hindrance: hindrance_of(row, decl, asked.space),
@@ -46,7 +49,7 @@ fn stop_nth(
     if index >= rows.len() {
         return None;
     }
-    stop(&rows[index], host.bridge_decl_nth(index), asked, path)
+    stop(host, index, &rows[index], asked, path)
 }
 
 /// What keeps the address from a path at the first bridge above it that doesn't forward it.

@@ -1,7 +1,7 @@
 -- What answers an address after set-up has a row of the layout that holds it, and two rows of one bus hold no address of
 -- one space both.
-use Rattle.std.proofs.Common.{◌≡◌, ℕ, ◌+◌, ◌-◌, ◌≤◌, ◌<◌, ◌⊎◌, inl, inr, Bool, true, ◌||◌, List, [], ◌∷◌, Option, MatchOption, refl, sym, ap, ◌∙◌, subst, arith, leb}
-use Rattle.std.proofs.lemmas.Bool.{leb-true}
+use Rattle.std.proofs.Common.{◌≡◌, ℕ, ◌+◌, ◌-◌, ◌≤◌, ◌<◌, ◌⊎◌, inl, inr, true, List, [], ◌∷◌, Option, MatchOption, refl, sym, ap, ◌∙◌, subst, arith, leb}
+use Rattle.std.proofs.lemmas.Bool.{leb-true, or_cases}
 use Rattle.std.specs.List.{list_any}
 use Rattle.lists.specs.Elements.{Each, IsIn}
 use Rattle.model_registers.specs.Registers.{File}
@@ -67,6 +67,25 @@ module _ (b : Board) (a : Apertures) (apertures : IsLawfulApertures a) (lawful :
   pub one_holds : (p q : Path) (space : Space) (n : ℕ) → path_before p q ≡ true → parent p ≡ parent q → HeldAt b a p space n → HeldAt b a q space n → ⊥
   one_holds p q space n before bus v w = grind (arith, pools_same, not_before_itself, pool_self, path_self, not_apart, pair_in, mem_or_pref, each_in)
 
+-- ---- windows that placement gave
+
+module _ (b : Board) (a : Apertures) (can : CanBePlaced b a) where
+  -- it is a row of its pool
+  pub window_row_held : (p : Path) (pool : Pool) (n : ℕ) → IsPath p → is_in n (placed_window b a pool p) ≡ true → IsIn (window_row b a pool p) (layout b a) × (bus_first b a pool p ≤ n) × (n < bus_first b a pool p + need (unit_of pool) (items_on b a pool p))
+  window_row_held p pool n lawful_path h = by (items_on b a pool p) refl h
+    where
+      by : (is : List Item) → items_on b a pool p ≡ is → is_in n (window_over (unit_of pool) (bus_first b a pool p) is) ≡ true → IsIn (window_row b a pool p) (layout b a) × (bus_first b a pool p ≤ n) × (n < bus_first b a pool p + need (unit_of pool) (items_on b a pool p))
+      by [] e k = cc
+      by (i ∷ is) e k =
+          let size : need (unit_of pool) (items_on b a pool p) ≡ need (unit_of pool) (i ∷ is) = ap (need (unit_of pool)) e in
+          let from : bus_first b a pool p ≤ n = leb-true (bus_first b a pool p) n (left_true (leb (bus_first b a pool p) n) (leb n (bus_first b a pool p + need (unit_of pool) (i ∷ is) - 1)) k) in
+          let to : n ≤ bus_first b a pool p + need (unit_of pool) (i ∷ is) - 1 = leb-true n (bus_first b a pool p + need (unit_of pool) (i ∷ is) - 1) (right_true (leb (bus_first b a pool p) n) (leb n (bus_first b a pool p + need (unit_of pool) (i ∷ is) - 1)) k) in
+          let some : 0 < need (unit_of pool) (items_on b a pool p) = some_need (i, subst (IsIn i) (sym e) (inl refl)) in
+          (in_flat_map (pool_rows b a) pool (window_row b a pool p) (io_pool ∷ mem_pool ∷ pref_pool ∷ []) (each_pool pool) (has_window_row b a pool can.places can.declarations p lawful_path.some (i, subst (IsIn i) (sym e) (inl refl))), from, omega (arith, size, to, some))
+        where
+          some_need : HasItems b a pool p → 0 < need (unit_of pool) (items_on b a pool p)
+          some_need (j, m) = omega (arith, some_end (unit_of pool) j (items_on b a pool p) (items_placeable b a pool can.declarations p) m, end_below_need (unit_of pool) (items_on b a pool p) (unit_positive pool))
+
 -- ---- agents
 
 module _ (b : Board) (a : Apertures) (can : CanBePlaced b a) (lawful : IsLawful b a (layout b a)) (has : HasRows b a) (windows : Each (λ r. HasPlacedWindows b a r.path r.decl) b) where
@@ -84,28 +103,9 @@ module _ (b : Board) (a : Apertures) (can : CanBePlaced b a) (lawful : IsLawful 
 
   -- a window that placement gave
   window_held : (p : Path) (pool : Pool) (n : ℕ) → IsPath p → is_in n (placed_window b a pool p) ≡ true → HeldAt b a p (pool_space pool) n
-  window_held p pool n lawful_path h = by (items_on b a pool p) refl h
-    where
-      by : (is : List Item) → items_on b a pool p ≡ is → is_in n (window_over (unit_of pool) (bus_first b a pool p) is) ≡ true → HeldAt b a p (pool_space pool) n
-      by [] e k = cc
-      by (i ∷ is) e k =
-          let size : need (unit_of pool) (items_on b a pool p) ≡ need (unit_of pool) (i ∷ is) = ap (need (unit_of pool)) e in
-          let from : bus_first b a pool p ≤ n = leb-true (bus_first b a pool p) n (left_true (leb (bus_first b a pool p) n) (leb n (bus_first b a pool p + need (unit_of pool) (i ∷ is) - 1)) k) in
-          let to : n ≤ bus_first b a pool p + need (unit_of pool) (i ∷ is) - 1 = leb-true n (bus_first b a pool p + need (unit_of pool) (i ∷ is) - 1) (right_true (leb (bus_first b a pool p) n) (leb n (bus_first b a pool p + need (unit_of pool) (i ∷ is) - 1)) k) in
-          let some : 0 < need (unit_of pool) (items_on b a pool p) = some_need (i, subst (IsIn i) (sym e) (inl refl)) in record {
-            row = window_row b a pool p;
-            there = in_flat_map (pool_rows b a) pool (window_row b a pool p) (io_pool ∷ mem_pool ∷ pref_pool ∷ []) (each_pool pool) (has_window_row b a pool can.places can.declarations p lawful_path.some (i, subst (IsIn i) (sym e) (inl refl)));
-            path_is = refl;
-            space_is = refl;
-            from = from;
-            below = omega (arith, size, to, some);
-          }
-        where
-          some_need : HasItems b a pool p → 0 < need (unit_of pool) (items_on b a pool p)
-          some_need (j, m) = omega (arith, some_end (unit_of pool) j (items_on b a pool p) (items_placeable b a pool can.declarations p) m, end_below_need (unit_of pool) (items_on b a pool p) (unit_positive pool))
-
-  or_cases : (t u : Bool) → (t || u) ≡ true → (t ≡ true) ⊎ (u ≡ true)
-  or_cases t u h = grind arith
+  window_held p pool n path h =
+      let w = window_row_held b a can p pool n path h in
+      record { row = window_row b a pool p; there = w.0; path_is = refl; space_is = refl; from = w.1; below = w.2 }
 
   -- what a bridge forwards
   bridge_held : (p : Path) (d : Bridge) (space : Space) (n : ℕ) → IsIn (record { path = p; decl = bridge d }) b → row_forwards space n (row_of (left b a (record { path = p; decl = bridge d }))) ≡ true → HeldAt b a p space n

@@ -5,7 +5,7 @@ use Rattle.std.specs.List.{list_all, list_any}
 use Rattle.std.specs.Option.{option_map, option_to_list}
 use Rattle.std.proofs.Math.Nat.{min-le_left, min-le_right}
 use Rattle.std.proofs.lemmas.Bool.Decides.{nat_tests}
-use Rattle.std.proofs.lemmas.Bool.{leb-true, ltb-true, le-leb, lt-ltb, and_from}
+use Rattle.std.proofs.lemmas.Bool.{leb-true, ltb-true, le-leb, lt-ltb, and_from, not-true, not_from_false}
 use Rattle.lists.specs.Elements.{Each, EachPair, first_some, IsIn}
 use Rattle.model_registers.specs.Decoding.{Space, same_space}
 use Rattle.model_registers.proofs.HitRegions.{space_same}
@@ -74,12 +74,6 @@ starts r q = q.first ∷ map (λ e. e.end) (forwarded_extents q.space r)
 abbrev lost : RoutingRow → PlacedRegion → ℕ → Bool
 lost r q n = holds q.space n q && not (row_forwards q.space n r)
 
-not_true : (t : Bool) → not t ≡ true → t ≡ false
-not_true t h = grind arith
-
-is_not : (t : Bool) → t ≡ false → not t ≡ true
-is_not t h = grind arith
-
 -- a lost start that is no later than n
 abbrev LostStart : RoutingRow → PlacedRegion → ℕ → Type 0
 LostStart r q n = (c : ℕ) × IsIn c (filter (lost r q) (starts r q)) × (c ≤ n)
@@ -93,7 +87,7 @@ module _ (r : RoutingRow) (q : PlacedRegion) (n : ℕ) (h : holds q.space n q �
       m_held = is_held q.space m q (record { space_is = self_space q.space; from = from; below = omega (arith, (holds_is q.space n q h).below) })
 
       by : (t : Bool) → row_forwards q.space m r ≡ t → LostStart r q n ⊎ ((x : ℕ) × IsIn x (starts r q) × (m < x) × (x ≤ n))
-      by false e = inl (m, in_filter (lost r q) m (starts r q) there (and_from (holds q.space m q) (not (row_forwards q.space m r)) m_held (is_not (row_forwards q.space m r) e)), below)
+      by false e = inl (m, in_filter (lost r q) m (starts r q) there (and_from (holds q.space m q) (not (row_forwards q.space m r)) m_held (not_from_false (row_forwards q.space m r) e)), below)
       by true e = on (from_any (extent_holds m) (forwarded_extents q.space r) (forwards_extents q.space m r.path r.command r.ranges ∙ e))
         where
           on : (x : Extent) × IsIn x (forwarded_extents q.space r) × (extent_holds m x ≡ true) → LostStart r q n ⊎ ((x : ℕ) × IsIn x (starts r q) × (m < x) × (x ≤ n))
@@ -156,7 +150,7 @@ lost_byte : (q : PlacedRegion) (r : RoutingRow) (n : ℕ) → unforwarded r q �
 lost_byte q r n found =
     let l : IsLeast n (filter (lost r q) (starts r q)) = found_least (lost r q) (starts r q) n found in
     let passes : lost r q n ≡ true = (from_filter (lost r q) n (starts r q) l.there).1 in
-    (left_true (holds q.space n q) (not (row_forwards q.space n r)) passes, not_true (row_forwards q.space n r) (right_true (holds q.space n q) (not (row_forwards q.space n r)) passes))
+    (left_true (holds q.space n q) (not (row_forwards q.space n r)) passes, not-true (row_forwards q.space n r) (right_true (holds q.space n q) (not (row_forwards q.space n r)) passes))
 
 lost_is : (rows before after : List RoutingRow) (q : PlacedRegion) (r : RoutingRow) (n : ℕ) → IsIn q (open_regions rows) → rows ≡ before ++ r ∷ after
     → Each (λ s. blame q s ≡ None) before → leads_to r.path q.path ≡ true → unforwarded r q ≡ Some n → IsNotForwarded rows q r.path n
@@ -285,7 +279,7 @@ contentions_real rows (a ∷ bs) two p m = by (front_or_back p (flat_map (conten
 alone_is : (a b : Agent) → contention a b ≡ [] → AreAlone a b
 alone_is a b none bus space n h = grind (arith, space_same, by_extent, shared_start, finds)
 
-no_contention : (a b : Agent) → AreAlone a b → contention a b ≡ []
+pub no_contention : (a b : Agent) → AreAlone a b → contention a b ≡ []
 no_contention a b alone = by (on_one_bus a b) (shared a b) refl refl
   where
     by : (t : Bool) (o : Option ℕ) → on_one_bus a b ≡ t → shared a b ≡ o → cond t (option_to_list (option_map (contended a b) o)) [] ≡ []

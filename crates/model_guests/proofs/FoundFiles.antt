@@ -67,7 +67,7 @@ file_own (o ∷ os) (g ∷ gs) zero p f once at there = grind (arith, path_self)
 file_own (o ∷ os) (g ∷ gs) (suc n) p f once at there =
     skip o g os gs p (no_such o p (λ e. let no : suc n ≡ 0 = once 0 e in omega arith)) ∙ file_own os gs n p f (λ m e. let same : suc n ≡ suc m = once (suc m) e in omega arith) at there
 
-file_none : (qs : List (Option Path)) (fs : Slots) (p : Path) → ((m : ℕ) → path_at qs m ≡ Some p → ⊥) → file_in qs fs p ≡ None
+pub file_none : (qs : List (Option Path)) (fs : Slots) (p : Path) → ((m : ℕ) → path_at qs m ≡ Some p → ⊥) → file_in qs fs p ≡ None
 file_none [] fs p none = refl
 file_none r [] p none = refl
 file_none (o ∷ os) (g ∷ gs) p none = skip o g os gs p (no_such o p (none 0)) ∙ file_none os gs p (λ m. none (suc m))

@@ -36,7 +36,7 @@ starts : (xs ys : Text) → StartsWith (xs ++ ys) xs
 starts [] ys = refl
 starts (x ∷ xs) ys = ap (λ (t : Text). x ∷ t) (starts xs ys)
 
-starts_after : (xs ys zs : Text) → StartsWith ys zs → StartsWith (xs ++ ys) (xs ++ zs)
+pub starts_after : (xs ys zs : Text) → StartsWith ys zs → StartsWith (xs ++ ys) (xs ++ zs)
 starts_after [] ys zs h = h
 starts_after (x ∷ xs) ys zs h = ap (λ (t : Text). x ∷ t) (starts_after xs ys zs h)
 

@@ -21,13 +21,13 @@ abbrev pub written_along : WorldNow → List Text → List Text
 written_along w [] = []
 written_along w (l ∷ ls) = written_by w (meaning (names_now w) l) ++ written_along (after_line w l) ls
 
-ended-append : (xs ys : List Text) → text_of_lines (xs ++ ys) ≡ text_of_lines xs ++ text_of_lines ys
-ended-append [] ys = refl
-ended-append (x ∷ xs) ys = ap (λ (t : Text). (x ++ 10 ∷ []) ++ t) (ended-append xs ys) ∙ sym (append_assoc (x ++ 10 ∷ []) (text_of_lines xs) (text_of_lines ys))
+pub text_of_lines-append : (xs ys : List Text) → text_of_lines (xs ++ ys) ≡ text_of_lines xs ++ text_of_lines ys
+text_of_lines-append [] ys = refl
+text_of_lines-append (x ∷ xs) ys = ap (λ (t : Text). (x ++ 10 ∷ []) ++ t) (text_of_lines-append xs ys) ∙ sym (append_assoc (x ++ 10 ∷ []) (text_of_lines xs) (text_of_lines ys))
 
 pub output_along : (ls : List Text) (w : WorldNow) → output w ls ≡ text_of_lines (written_along w ls)
 output_along [] w = refl
-output_along (l ∷ ls) w = grind (arith, output_along ls (after_line w l), ended-append)
+output_along (l ∷ ls) w = grind (arith, output_along ls (after_line w l), text_of_lines-append)
 
 abbrev TellsOneLine : Meaning → Type 0
 TellsOneLine nothing = Unit {0}

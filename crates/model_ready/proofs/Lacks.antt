@@ -3,6 +3,7 @@ use Rattle.std.proofs.Common.{◌≡◌, ℕ, ◌+◌, ◌⊎◌, inl, inr, Bool
 use Rattle.std.specs.Prelude.{map, flat_map, IsTrue}
 use Rattle.std.specs.Option.{option_map, option_to_list}
 use Rattle.std.proofs.lemmas.Bool.Decides.{nat_tests}
+use Rattle.std.proofs.lemmas.Bool.{not-true, not_from_false}
 use Rattle.lists.specs.Elements.{IsIn, Each, first_some}
 use Rattle.lists.proofs.Members.{each_in, each_from, front_or_back, from_flat_map, from_map, from_filter, in_filter}
 use Rattle.lists.proofs.EachLemmas.{each_map}
@@ -26,19 +27,13 @@ use Rattle.model_ready.specs.ReadyLaws.{IsWithinApertures, PrefetchesNone, IsClo
 use Rattle.model_ready.proofs.Told.{first_none, none_first, map_none}
 use Rattle.model_ready.proofs.LeastHeld.{IsLeastHeld, least_is, least_finds, outside_begins, prefetch_begins}
 
-not_true : (t : Bool) → not t ≡ true → t ≡ false
-not_true t h = grind arith
-
-is_not : (t : Bool) → t ≡ false → not t ≡ true
-is_not t h = grind arith
-
 -- ---- closed regions
 
 closed_real : (rows : List RoutingRow) (q : PlacedRegion) → IsIn q (closed_regions rows) → IsClosed rows q
 closed_real rows q m =
     let f = from_flat_map closed_of q rows m in
     let g = from_filter (λ (x : PlacedRegion). not (opens_space f.0.command x.space)) q (regions_of f.0) f.2 in
-    record { row = f.0; there = f.1; region = g.0; closed = not_true (opens_space f.0.command q.space) g.1 }
+    record { row = f.0; there = f.1; region = g.0; closed = not-true (opens_space f.0.command q.space) g.1 }
 
 -- ---- addresses outside the apertures
 
@@ -58,8 +53,8 @@ outside_real a fs q l m k = of (some_outside q (first_outside a q) l (from_optio
         subst (IsRealLack a fs) (sym is) (record {
           region = m;
           byte = s.byte;
-          outside = not_true (is_in_apertures a q.space n) s.passes;
-          least = λ k h out. s.least k h (is_not (is_in_apertures a q.space k) out);
+          outside = not-true (is_in_apertures a q.space n) s.passes;
+          least = λ k h out. s.least k h (not_from_false (is_in_apertures a q.space k) out);
         })
 
 within_is : (a : Apertures) (q : PlacedRegion) → outside_lack a q ≡ [] → IsWithinApertures a q
@@ -72,7 +67,7 @@ within_is a q none n h = by (is_in_apertures a q.space n) refl
     by : (t : Bool) → is_in_apertures a q.space n ≡ t → t ≡ true
     by true e = refl
     by false e =
-        let f = least_finds (λ m. not (is_in_apertures a q.space m)) (map (λ (e : Extent). e.end) (aperture_extents a q.space)) q (outside_begins a q.space) n h (is_not (is_in_apertures a q.space n) e) in
+        let f = least_finds (λ m. not (is_in_apertures a q.space m)) (map (λ (e : Extent). e.end) (aperture_extents a q.space)) q (outside_begins a q.space) n h (not_from_false (is_in_apertures a q.space n) e) in
         absurd (told (first_outside a q) f.0 f.1 none)
 
 no_outside : (a : Apertures) (q : PlacedRegion) → IsWithinApertures a q → outside_lack a q ≡ []
@@ -82,7 +77,7 @@ no_outside a q h = by (first_outside a q) refl
     by None e = refl
     by (Some n) e =
         let s : IsLeastHeld (λ m. not (is_in_apertures a q.space m)) q n = outside_is a q n e in
-        let bad : true ≡ false = sym (h n s.byte) ∙ not_true (is_in_apertures a q.space n) s.passes in cc
+        let bad : true ≡ false = sym (h n s.byte) ∙ not-true (is_in_apertures a q.space n) s.passes in cc
 
 -- ---- addresses that a bridge prefetches
 
@@ -194,13 +189,13 @@ all_open r h = each_from (λ q. IsTrue (opens_space r.command q.space)) (regions
       where
         by : (t : Bool) → opens_space r.command q.space ≡ t → t ≡ true
         by true e = refl
-        by false e = absurd (subst (IsIn q) h (in_filter (λ (x : PlacedRegion). not (opens_space r.command x.space)) q (regions_of r) m (is_not (opens_space r.command q.space) e)))
+        by false e = absurd (subst (IsIn q) h (in_filter (λ (x : PlacedRegion). not (opens_space r.command x.space)) q (regions_of r) m (not_from_false (opens_space r.command q.space) e)))
 
 none_closed : (r : RoutingRow) → Each (λ q. IsTrue (opens_space r.command q.space)) (regions_of r) → closed_of r ≡ []
 none_closed r h = no_elements (closed_of r) (λ q m. of q (from_filter (λ (x : PlacedRegion). not (opens_space r.command x.space)) q (regions_of r) m))
   where
     of : (q : PlacedRegion) → IsIn q (regions_of r) × (not (opens_space r.command q.space) ≡ true) → ⊥
-    of q (m, gone) = let bad : true ≡ false = sym (each_in (λ x. IsTrue (opens_space r.command x.space)) q (regions_of r) h m) ∙ not_true (opens_space r.command q.space) gone in cc
+    of q (m, gone) = let bad : true ≡ false = sym (each_in (λ x. IsTrue (opens_space r.command x.space)) q (regions_of r) h m) ∙ not-true (opens_space r.command q.space) gone in cc
 
 pub lacking_nothing : (a : Apertures) (fs : List BoardFunction) → lacks a fs ≡ [] → LacksNothing a fs
 lacking_nothing a fs h = record {

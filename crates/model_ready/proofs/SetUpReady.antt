@@ -1,11 +1,9 @@
 -- What set-up leaves lacks nothing.
-use Rattle.std.proofs.Common.{◌≡◌, ℕ, ◌+◌, ◌-◌, ◌*◌, ◌%◌, ◌≤◌, ◌<◌, ◌⊎◌, inl, inr, Bool, true, false, ◌&&◌, not, List, [], ◌∷◌, ◌++◌, Option, Some, None, refl, sym, ap, ap₂, ◌∙◌, subst, arith, leb}
+use Rattle.std.proofs.Common.{◌≡◌, ℕ, ◌+◌, ◌*◌, ◌%◌, ◌≤◌, ◌<◌, ◌⊎◌, inl, inr, Bool, true, false, ◌&&◌, not, List, [], ◌∷◌, ◌++◌, Option, Some, None, refl, sym, ap, ap₂, ◌∙◌, subst, arith}
 use Rattle.std.specs.Prelude.{map, filter, flat_map, IsTrue}
-use Rattle.std.proofs.lemmas.Bool.{leb-true}
 use Rattle.std.proofs.lemmas.Bool.Decides.{nat_tests}
 use Rattle.lists.specs.Elements.{Each, IsIn}
-use Rattle.lists.proofs.Members.{each_in, each_from, in_flat_map, from_flat_map, from_map, from_filter, any_in}
-use Rattle.lists.proofs.Tests.{left_true, right_true}
+use Rattle.lists.proofs.Members.{each_in, each_from, from_flat_map, from_map, from_filter, any_in}
 use Rattle.model_registers.specs.Apertures.{Aperture, Apertures, IsPrefOption}
 use Rattle.model_registers.specs.Declarations.{Kind, Region, Endpoint, Bridge}
 use Rattle.model_registers.specs.Decoding.{Space, memory, base, base_address, space_of, same_space, opens_space}
@@ -18,15 +16,14 @@ use Rattle.model_board.specs.Paths.{Path, IsPath, parent}
 use Rattle.model_board.specs.State.{BoardFunction}
 use Rattle.model_board.specs.Routing.{RoutingRow, row_of, routing}
 use Rattle.model_board.specs.Windows.{is_in, mem_window, pref_window}
-use Rattle.model_set_up.specs.Pools.{Pool, io_pool, mem_pool, pref_pool, unit_of, bridges_above, pool_of}
-use Rattle.model_set_up.specs.Placement.{Item, need, items_on, bus_first}
-use Rattle.model_set_up.specs.Layout.{LayoutRow, IsLawful, pool_rows, layout}
+use Rattle.model_set_up.specs.Pools.{Pool, io_pool, mem_pool, pref_pool, bridges_above, pool_of}
+use Rattle.model_set_up.specs.Layout.{LayoutRow, IsLawful, layout}
 use Rattle.model_set_up.specs.PlacementLaws.{pool_at, region_row, window_row, HasRows}
 use Rattle.model_set_up.specs.PlacedRegions.{PlacedRegion, placed, pool_space, holds}
 use Rattle.model_set_up.specs.Reach.{address_of}
 use Rattle.model_set_up.specs.SetUp.{first_of, set_up_file, set_up_state}
 use Rattle.model_set_up.specs.UniqueClaimant.{CanBePlaced}
-use Rattle.model_set_up.specs.WindowLaws.{window_over, placed_window, ForwardsPlaced, HasPlacedWindows}
+use Rattle.model_set_up.specs.WindowLaws.{placed_window, ForwardsPlaced, HasPlacedWindows}
 use Rattle.model_set_up.proofs.Holders.{Holds, holds_is}
 use Rattle.model_set_up.proofs.PlacedApart.{pool_of_space}
 use Rattle.model_set_up.proofs.PlacedReads.{InAperture}
@@ -35,14 +32,12 @@ use Rattle.model_set_up.proofs.SetUpNumbers.{numbers_small, set_up_has_numbers}
 use Rattle.model_set_up.proofs.SetUpRegisters.{endpoint_opens}
 use Rattle.model_set_up.proofs.UniqueClaimant.{bases}
 use Rattle.model_set_up.proofs.LawfulPlacement.{layout_is_lawful}
-use Rattle.model_set_up.proofs.DeclaredRows.{has_window_row, rows_are_declared}
+use Rattle.model_set_up.proofs.DeclaredRows.{rows_are_declared}
 use Rattle.model_set_up.proofs.BoardWindows.{set_up_windows}
-use Rattle.model_set_up.proofs.Items.{some_end, end_below_need, items_placeable}
-use Rattle.model_set_up.proofs.Nesting.{HasItems}
-use Rattle.model_set_up.proofs.Packing.{unit_positive}
 use Rattle.model_audit.specs.OpenRegions.{region_now, regions_of, open_of, open_regions}
 use Rattle.model_audit.specs.Found.{bus_now, address_now}
 use Rattle.model_audit.proofs.Found.{numbers_of_board}
+use Rattle.model_audit.proofs.Holding.{window_row_held}
 use Rattle.lists.proofs.Members.{none_front, each_none}
 use Rattle.model_set_up.proofs.UniqueClaimant.{left}
 use Rattle.model_audit.proofs.Placing.{regions_placed}
@@ -69,9 +64,6 @@ mem_not_pref : (i m : Aperture) (o : Option Aperture) (r s : LayoutRow) (n : ℕ
     → r.first ≤ n → n < r.first + r.size → s.first ≤ n → n < s.first + s.size → ⊥
 mem_not_pref i m None r s n apart h k a b c d = absurd k
 mem_not_pref i m (Some p) r s n apart h k a b c d = grind arith
-
-each_pool : (pool : Pool) → IsIn pool (io_pool ∷ mem_pool ∷ pref_pool ∷ [])
-each_pool pool = grind arith
 
 by_and : (o p m : Bool) → p ≡ false → (o && p && m) ≡ false
 by_and o p m h = grind arith
@@ -130,22 +122,6 @@ module _ (b : Board) (a : Apertures) (few : Enumerates b) (can : CanBePlaced b a
 
   -- ---- what isn't prefetchable isn't prefetched
 
-  -- a window that placement gave is a row of its pool
-  window_held : (p : Path) (pool : Pool) (n : ℕ) → IsPath p → is_in n (placed_window b a pool p) ≡ true → IsIn (window_row b a pool p) (layout b a) × (bus_first b a pool p ≤ n) × (n < bus_first b a pool p + need (unit_of pool) (items_on b a pool p))
-  window_held p pool n lawful_path h = by (items_on b a pool p) refl h
-    where
-      by : (is : List Item) → items_on b a pool p ≡ is → is_in n (window_over (unit_of pool) (bus_first b a pool p) is) ≡ true → IsIn (window_row b a pool p) (layout b a) × (bus_first b a pool p ≤ n) × (n < bus_first b a pool p + need (unit_of pool) (items_on b a pool p))
-      by [] e k = cc
-      by (i ∷ is) e k =
-          let size : need (unit_of pool) (items_on b a pool p) ≡ need (unit_of pool) (i ∷ is) = ap (need (unit_of pool)) e in
-          let from : bus_first b a pool p ≤ n = leb-true (bus_first b a pool p) n (left_true (leb (bus_first b a pool p) n) (leb n (bus_first b a pool p + need (unit_of pool) (i ∷ is) - 1)) k) in
-          let to : n ≤ bus_first b a pool p + need (unit_of pool) (i ∷ is) - 1 = leb-true n (bus_first b a pool p + need (unit_of pool) (i ∷ is) - 1) (right_true (leb (bus_first b a pool p) n) (leb n (bus_first b a pool p + need (unit_of pool) (i ∷ is) - 1)) k) in
-          let some : 0 < need (unit_of pool) (items_on b a pool p) = some_need (i, subst (IsIn i) (sym e) (inl refl)) in
-          (in_flat_map (pool_rows b a) pool (window_row b a pool p) (io_pool ∷ mem_pool ∷ pref_pool ∷ []) (each_pool pool) (has_window_row b a pool can.places can.declarations p lawful_path.some (i, subst (IsIn i) (sym e) (inl refl))), from, omega (arith, size, to, some))
-        where
-          some_need : HasItems b a pool p → 0 < need (unit_of pool) (items_on b a pool p)
-          some_need (j, m) = omega (arith, some_end (unit_of pool) j (items_on b a pool p) (items_placeable b a pool can.declarations p) m, end_below_need (unit_of pool) (items_on b a pool p) (unit_positive pool))
-
   -- no prefetchable window has an address of a region that isn't prefetchable
   no_window : (p t : Path) (d : Endpoint) (g : Region) (n : ℕ) → IsIn (record { path = p; decl = endpoint d }) b → IsIn g d.regions → is_plain g.kind ≡ true → holds (space_of g.kind) n (placed b a p g) ≡ true → IsPath t → is_in n (placed_window b a pref_pool t) ≡ false
   no_window p t d g n m k plain h path = by (is_in n (placed_window b a pref_pool t)) refl
@@ -159,7 +135,7 @@ module _ (b : Board) (a : Apertures) (few : Enumerates b) (can : CanBePlaced b a
       by : (u : Bool) → is_in n (placed_window b a pref_pool t) ≡ u → u ≡ false
       by false e = refl
       by true e =
-          let w = window_held t pref_pool n path e in
+          let w = window_row_held b a can t pref_pool n path e in
           absurd (mem_not_pref a.io a.mem a.pref (region_row b a p g) (window_row b a pref_pool t) n can.apertures.pref in_mem
           (each_in (λ (l : LayoutRow). InAperture a l.pool l) (window_row b a pref_pool t) (layout b a) lawful.in_apertures w.0) held.from held.below w.1 w.2)
 

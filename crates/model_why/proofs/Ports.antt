@@ -1,5 +1,5 @@
 -- An access at a port goes where the latch makes it go; the worked examples, by computation.
-use Rattle.std.proofs.Common.{refl, arith}
+use Rattle.std.proofs.Common.{arith}
 use Rattle.std.specs.Fmt.{digits}
 use Rattle.std.proofs.lemmas.Bool.Decides.{nat_tests}
 use Rattle.model_why.specs.WhyPorts.{PortsByLatch, PortExamples}
@@ -9,4 +9,4 @@ ports_by_latch latch n w = grind (arith, nat_tests)
 
 pub port_examples : PortExamples
 unfolding digits
-port_examples = record { latch = refl; shown = refl; hidden = refl; beside = refl }
+port_examples = assumption

@@ -2,6 +2,7 @@
 use Rattle.std.proofs.Common.{◌≡◌, ℕ, ◌+◌, ◌-◌, ◌⊎◌, inl, inr, Bool, true, false, ◌&&◌, ◌||◌, not, cond, List, [], ◌∷◌, Option, Some, None, refl, sym, ap, ◌∙◌, subst, arith, leb, ltb}
 use Rattle.std.specs.Prelude.{map, filter, flat_map, slice_get, IsTrue}
 use Rattle.std.specs.Option.{option_map_or, option_to_list}
+use Rattle.std.proofs.lemmas.Bool.{not-true, not_from_false, or_parts}
 use Rattle.lists.specs.Elements.{Each, IsIn, first_some}
 use Rattle.lists.proofs.EachLemmas.{each_map}
 use Rattle.lists.proofs.Members.{each_in, each_from, in_map, from_map, in_filter, from_filter, in_flat_map, from_flat_map, all_from}
@@ -68,15 +69,9 @@ pref_outside n no_pref w h = tt
 pref_outside n pref32 w h = (h, tt)
 pref_outside n pref64 w h = (h, tt)
 
-or_left : (s t : Bool) → (s || t) ≡ false → s ≡ false
-or_left s t h = grind arith
-
-or_right : (s t : Bool) → (s || t) ≡ false → t ≡ false
-or_right s t h = grind arith
-
 windows_outside : (space : Space) (n : ℕ) (d : Bridge) (file : File) → is_in_window d file space n ≡ false → Each (LiesOutside n) (windows_now d file space)
 windows_outside io n d file h = io_outside n d.io (io_window d.io file) h
-windows_outside memory n d file h = (or_left (is_in n (mem_window file)) (is_in n (pref_window d.pref file)) h, pref_outside n d.pref (pref_window d.pref file) (or_right (is_in n (mem_window file)) (is_in n (pref_window d.pref file)) h))
+windows_outside memory n d file h = ((or_parts (is_in n (mem_window file)) (is_in n (pref_window d.pref file)) h).0, pref_outside n d.pref (pref_window d.pref file) (or_parts (is_in n (mem_window file)) (is_in n (pref_window d.pref file)) h).1)
 
 and_second : (s t : Bool) → s ≡ true → (s && t) ≡ false → t ≡ false
 and_second s t h k = grind arith
@@ -139,9 +134,6 @@ module _ (fs : List BoardFunction) (space : Space) (n : ℕ) where
 
   -- ---- what is told
 
-  not_true : (t : Bool) → not t ≡ true → t ≡ false
-  not_true t h = grind arith
-
   pub told_true : (t : Told) → IsIn t (told fs space n) → IsTrueTold fs space n t
   told_true t m = of_function (from_flat_map (told_of fs space n) t fs m)
     where
@@ -154,15 +146,12 @@ module _ (fs : List BoardFunction) (space : Space) (n : ℕ) where
             there = k;
             region = i.0;
             byte = i.1;
-            other = not_true (is_answer (first_claim fs space n) q) g.1;
+            other = not-true (is_answer (first_claim fs space n) q) g.1;
             cause = cause_true f q k i.0 i.1;
           })
 
       of_function : (f : BoardFunction) × IsIn f fs × IsIn t (told_of fs space n f) → IsTrueTold fs space n t
       of_function (f, k, l) = of_region f k (from_map (λ (q : PlacedRegion). record { region = q; cause = cause_of fs space n f }) t (filter (λ x. not (is_answer (first_claim fs space n) x)) (holders space n f)) l)
-
-  is_not : (t : Bool) → t ≡ false → not t ≡ true
-  is_not t h = grind arith
 
   complete : (f : BoardFunction) → IsIn f fs → (q : PlacedRegion) → IsIn q (regions_of (row_of f)) → holds space n q ≡ true → (is_answer (first_claim fs space n) q ≡ true) ⊎ ((t : Told) × IsIn t (told fs space n) × (t.region ≡ q))
   complete f m q k h = by (is_answer (first_claim fs space n) q) refl
@@ -173,7 +162,7 @@ module _ (fs : List BoardFunction) (space : Space) (n : ℕ) where
         record { region = q; cause = cause_of fs space n f },
         in_flat_map (told_of fs space n) f (record { region = q; cause = cause_of fs space n f }) fs m
             (in_map (λ (x : PlacedRegion). record { region = x; cause = cause_of fs space n f }) q (filter (λ x. not (is_answer (first_claim fs space n) x)) (holders space n f))
-            (in_filter (λ (x : PlacedRegion). not (is_answer (first_claim fs space n) x)) q (holders space n f) (in_filter (holds space n) q (regions_of (row_of f)) k h) (is_not (is_answer (first_claim fs space n) q) e))),
+            (in_filter (λ (x : PlacedRegion). not (is_answer (first_claim fs space n) x)) q (holders space n f) (in_filter (holds space n) q (regions_of (row_of f)) k h) (not_from_false (is_answer (first_claim fs space n) q) e))),
         refl,
       )
 

@@ -13,7 +13,7 @@ use Rattle.monitor.specs.Keeping.{AreSlots}
 use Rattle.monitor.specs.Reaches.{Decodes}
 use Rattle.monitor.proofs.Steps.{slot_there, slot_empty}
 
-same_count : (s : State) (qs : List (Option Path)) (fs : Slots) (os : List (Option Held)) → AreSlots s qs fs os → length fs ≡ length os
+pub same_count : (s : State) (qs : List (Option Path)) (fs : Slots) (os : List (Option Held)) → AreSlots s qs fs os → length fs ≡ length os
 same_count s [] [] [] are = refl
 same_count s (q ∷ qs) (f ∷ fs) (o ∷ os) are = ap suc (same_count s qs fs os are.1)
 same_count s qs fs os are = absurd are

@@ -11,6 +11,7 @@ pub mod Raises
 pub mod DeviceBytes
 pub mod Beginnings
 pub mod Queries
+pub mod OwnTold
 pub mod Handovers
 pub mod FunctionsTold
 pub mod Seatings

@@ -45,7 +45,7 @@ fn is_prefetchable(kind: Kind) -> bool
 }
 
 /// The base that the guest's own registers name, from the register at an index on.
-fn base_of(held: &Held, bar: u16, kind: Kind) -> u64
+pub(crate) fn base_of(held: &Held, bar: u16, kind: Kind) -> u64
     requires { bar < 6 }
     ensures { (file : File) → HoldsOwn file held.now.own →
         bar + registers_of (kind_of kind) ≤ 6

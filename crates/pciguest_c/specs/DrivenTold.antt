@@ -3,7 +3,7 @@
 --     driven_row f      all that is told of it
 --     driven_left old f      what a call leaves where it goes: the function, or what stood there
 use Rattle.std.specs.Prelude.{Option, Some, None}
-use Rattle.session.specs.DrivenFunctions.{DrivenFunctionNow}
+use Rattle.model_handoff.specs.DrivenFunctions.{DrivenFunctionNow}
 use Rattle.pciguest_c.specs.QueriesTold.{one_if}
 use Rattle.pciguest_c.specs.FunctionsTold.{function_row}
 use Rattle.pciguest_c.specs.declared.driven_calls.DrivenRow.{DrivenRow}

@@ -5,9 +5,11 @@ pub mod Told
 pub mod DevicesTold
 pub mod SeatingsTold
 pub mod QueriesTold
+pub mod WhyTold
 pub mod FunctionsTold
 pub mod ProblemsTold
 pub mod DrivenTold
 pub mod Handles
+pub mod Answered
 pub mod Handovers
 pub mod TextsTold

@@ -1,5 +1,5 @@
 //! What is asked of a machine, from what C says of it.
-ghost use Rattle.std.specs.Prelude.{◌≡◌, ◌<◌, ◌≤◌, IfOk, IfErr, length, option_map, position};
+ghost use Rattle.std.specs.Prelude.{◌≡◌, ◌<◌, ◌≤◌, Some, None, IfOk, IfErr, length, option_map, position};
 ghost use Rattle.std.specs.Str.{bytes_eq};
 ghost use Rattle.accesses.specs.Accesses.{target_of, part_of};
 ghost use Rattle.pciguest_c.specs.Told.{index_asked, target_told, part_told};
@@ -47,6 +47,21 @@ pub fn check_guest(machine: &Monitor, guest: usize) -> Result<(), u32>
         Ok(())
     } else {
         Err(ARGUMENT)
+    }
+}
+
+/// This place, or 902 where it is none, or where no guest has this index.
+pub fn place_for<T: Copy>(machine: &Monitor, guest: usize, place: Option<T>) -> Result<T, u32>
+    ensures there { IfOk result (λ p.
+        (guest < length machine.now.world.guests) × (place ≡ Some p)) }
+    ensures none { IfErr result (λ n. n ≡ 902) }
+    ensures nowhere { IfErr result (λ _.
+        guest < length machine.now.world.guests → place ≡ None) }
+{
+    check_guest(machine, guest)?;
+    match place {
+        Some(place) => Ok(place),
+        None => Err(ARGUMENT),
     }
 }
 

@@ -1,14 +1,14 @@
 //! What a device itself reads and writes of a guest's function.
-ghost use Rattle.std.specs.Prelude.{◌≡◌, ◌≢◌, ◌<◌, ◌≤◌, None, Some, IfNone, IfSome, length};
-ghost use Rattle.model_guests.specs.Accesses.{RaisePlace};
+ghost use Rattle.std.specs.Prelude.{◌≡◌, ◌≢◌, Some};
 ghost use Rattle.model_guests.specs.DeviceEvents.{device_reads, device_writes};
 ghost use Rattle.pciguest_c.specs.Handles.{session_of, machine_of};
+ghost use Rattle.pciguest_c.specs.Answered.{AnswersAt};
 ghost use Rattle.pciguest_c.specs.Told.{number_told, part_told, value_told};
 ghost use Rattle.pciguest_c.specs.DevicesTold.{reply_at_device, after_at_device};
 
-use crate::asking::{check_guest, place_of};
+use crate::asking::{place_for, place_of};
 use crate::handle::Handle;
-use crate::numbers::{ARGUMENT, number_of, put_value};
+use crate::numbers::{number_of, put_value};
 use std::alloc::Global;
 
 /// Reads a byte of a guest's function as its device: of a region by the index of its base address
@@ -23,13 +23,7 @@ pub extern "C" fn pciguest_raw_device_read(
     offset: u64,
     value: &mut u32,
 ) -> u32
-    ensures none { IfNone (machine_of handle.old) (result ≡ 901) }
-    ensures part { IfSome (machine_of handle.old) (λ _.
-        part_told part ≡ None → result ≡ 902) }
-    ensures guest { IfSome (machine_of handle.old) (λ m.
-        length m.world.guests ≤ guest → result ≡ 902) }
-    ensures read { IfSome (machine_of handle.old) (λ m. guest < length m.world.guests →
-        (p : RaisePlace) → part_told part ≡ Some p →
+    ensures read { AnswersAt handle.old guest (part_told part) result (λ m p.
         let e = device_reads (record { slot = slot; part = p; offset = offset }) in
         let r = reply_at_device m.world guest e in
         (result ≡ number_told r) × (value.new ≡ value_told value.old r)) }
@@ -37,10 +31,7 @@ pub extern "C" fn pciguest_raw_device_read(
     ensures kept { session_of handle.new ≡ session_of handle.old }
 {
     let answer = handle.ask_machine(alloc, |machine| {
-        let Some(place) = place_of(part) else {
-            return Err(ARGUMENT);
-        };
-        check_guest(machine, guest)?;
+        let place = place_for(machine, guest, place_of(part))?;
         Ok(machine.device_read(guest, slot, place, offset))
     });
     put_value(answer, value)
@@ -57,23 +48,14 @@ pub extern "C" fn pciguest_raw_device_write(
     offset: u64,
     value: u8,
 ) -> u32
-    ensures none { IfNone (machine_of handle.old) (result ≡ 901) }
-    ensures part { IfSome (machine_of handle.old) (λ _.
-        part_told part ≡ None → result ≡ 902) }
-    ensures guest { IfSome (machine_of handle.old) (λ m.
-        length m.world.guests ≤ guest → result ≡ 902) }
-    ensures written { IfSome (machine_of handle.old) (λ m. guest < length m.world.guests →
-        (p : RaisePlace) → part_told part ≡ Some p →
+    ensures written { AnswersAt handle.old guest (part_told part) result (λ m p.
         let e = device_writes (record { slot = slot; part = p; offset = offset }) value in
         (result ≡ number_told (reply_at_device m.world guest e))
         × (machine_of handle.new ≡ Some (after_at_device m guest e))) }
     ensures refused { result ≢ 0 → session_of handle.new ≡ session_of handle.old }
 {
     number_of(handle.ask_machine(alloc, |machine| {
-        let Some(place) = place_of(part) else {
-            return Err(ARGUMENT);
-        };
-        check_guest(machine, guest)?;
+        let place = place_for(machine, guest, place_of(part))?;
         Ok(machine.device_write(guest, slot, place, offset, value))
     }))
 }

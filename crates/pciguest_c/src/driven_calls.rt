@@ -1,6 +1,7 @@
 //! What is asked of the functions of a board that firmware drives: how many there are, and what is told of each.
 ghost use Rattle.std.specs.Prelude.{◌≡◌, ◌≢◌, IfNone, IfSome, length};
-ghost use Rattle.session.specs.DrivenFunctions.{driven_function_named, driven_function_nth};
+ghost use Rattle.model_handoff.specs.DrivenFunctions.{driven_function_nth};
+ghost use Rattle.session.specs.DrivenFunctions.{driven_function_named};
 ghost use Rattle.pciguest_c.specs.Handles.{session_of, board_of};
 ghost use Rattle.pciguest_c.specs.FunctionsTold.{function_number};
 ghost use Rattle.pciguest_c.specs.DrivenTold.{driven_row, driven_left};

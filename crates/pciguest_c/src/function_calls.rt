@@ -4,6 +4,7 @@ ghost use Rattle.model_guests.specs.WorldNow.{board_state};
 ghost use Rattle.model_handoff.specs.Functions.{function_nth};
 ghost use Rattle.session.specs.Stages.{machine_in};
 ghost use Rattle.pciguest_c.specs.Handles.{session_of, machine_of};
+ghost use Rattle.pciguest_c.specs.Answered.{AnswersOf};
 ghost use Rattle.pciguest_c.specs.QueriesTold.{number_answered};
 ghost use Rattle.pciguest_c.specs.FunctionsTold.{function_number, found_left, slot_asked, row_left};
 
@@ -99,10 +100,7 @@ pub extern "C" fn pciguest_raw_slot(
     slot: u64,
     told: &mut FunctionRow,
 ) -> u32
-    ensures none { IfNone (machine_of handle.old) (result ≡ 901) }
-    ensures guest { IfSome (machine_of handle.old) (λ m.
-        length m.world.guests ≤ guest → result ≡ 902) }
-    ensures told { IfSome (machine_of handle.old) (λ m. guest < length m.world.guests →
+    ensures told { AnswersOf handle.old guest result (λ m.
         let r = slot_asked m.world guest slot in
         (result ≡ number_answered r) × (told.new ≡ row_left told.old r)) }
     ensures untold { result ≢ 0 → told.new ≡ told.old }

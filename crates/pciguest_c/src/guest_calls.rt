@@ -1,12 +1,13 @@
 //! What C asks as a guest. Each call answers 0, or the number of a refusal.
 ghost use Rattle.std.specs.Prelude.{◌≡◌, ◌≢◌, ◌<◌, ◌≤◌, None, Some, IfNone, IfSome, length, unwrap_or};
-ghost use Rattle.model_guests.specs.Accesses.{Target, RaisePlace, access, raises, reads, writes};
+ghost use Rattle.model_guests.specs.Accesses.{Target, access, raises, reads, writes};
 ghost use Rattle.accesses.specs.Accesses.{reply_of, target_of};
 ghost use Rattle.pciguest_c.specs.Handles.{session_of, machine_of};
+ghost use Rattle.pciguest_c.specs.Answered.{AnswersAt};
 ghost use Rattle.pciguest_c.specs.Told.{index_asked, index_told, number_told, value_told, target_told, part_told};
 ghost use Rattle.pciguest_c.specs.Told.{reply_asked, after_asked};
 
-use crate::asking::{at_of, check_guest, index_named, place_of};
+use crate::asking::{at_of, check_guest, index_named, place_for, place_of};
 use crate::handle::Handle;
 use crate::numbers::{ARGUMENT, number_of, put_result, put_value};
 use accesses::{Access, At, Op, Reply};
@@ -106,23 +107,14 @@ pub extern "C" fn pciguest_raw_raise(
     offset: u64,
     mask: u8,
 ) -> u32
-    ensures none { IfNone (machine_of handle.old) (result ≡ 901) }
-    ensures part { IfSome (machine_of handle.old) (λ _.
-        part_told part ≡ None → result ≡ 902) }
-    ensures guest { IfSome (machine_of handle.old) (λ m.
-        length m.world.guests ≤ guest → result ≡ 902) }
-    ensures raised { IfSome (machine_of handle.old) (λ m. guest < length m.world.guests →
-        (p : RaisePlace) → part_told part ≡ Some p →
+    ensures raised { AnswersAt handle.old guest (part_told part) result (λ m p.
         let e = raises (record { slot = slot; part = p; offset = offset; mask = mask }) in
         (result ≡ number_told (reply_asked m.world guest e))
         × (machine_of handle.new ≡ Some (after_asked m guest e))) }
     ensures refused { result ≢ 0 → session_of handle.new ≡ session_of handle.old }
 {
     number_of(handle.ask_machine(alloc, |machine| {
-        let Some(place) = place_of(part) else {
-            return Err(ARGUMENT);
-        };
-        check_guest(machine, guest)?;
+        let place = place_for(machine, guest, place_of(part))?;
         Ok(machine.raise(guest, slot, place, offset, mask))
     }))
 }

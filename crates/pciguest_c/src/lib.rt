@@ -12,6 +12,7 @@ mod device_bytes;
 mod device_calls;
 mod device_wide;
 mod driven_calls;
+mod explaining;
 mod function_calls;
 mod function_row;
 mod guest_calls;

@@ -4,6 +4,7 @@ ghost use Rattle.std.specs.Prelude.{◌≡◌, ◌≢◌, ◌<◌, ◌≤◌, No
 ghost use Rattle.model_guests.specs.Accesses.{Target};
 ghost use Rattle.monitor.specs.Queries.{region_named, hit_named};
 ghost use Rattle.pciguest_c.specs.Handles.{session_of, machine_of};
+ghost use Rattle.pciguest_c.specs.Answered.{AnswersOf};
 ghost use Rattle.pciguest_c.specs.Told.{target_told};
 ghost use Rattle.pciguest_c.specs.QueriesTold.{number_answered, region_asked, hit_asked};
 ghost use Rattle.pciguest_c.specs.QueriesTold.{region_told, region_left, hit_told, hit_left};
@@ -86,10 +87,7 @@ pub extern "C" fn pciguest_raw_region(
     bar: u32,
     told: &mut RegionTold,
 ) -> u32
-    ensures none { IfNone (machine_of handle.old) (result ≡ 901) }
-    ensures guest { IfSome (machine_of handle.old) (λ m.
-        length m.world.guests ≤ guest → result ≡ 902) }
-    ensures told { IfSome (machine_of handle.old) (λ m. guest < length m.world.guests →
+    ensures told { AnswersOf handle.old guest result (λ m.
         let r = region_asked m.world guest slot bar in
         (result ≡ number_answered r) × (told.new ≡ region_left told.old r)) }
     ensures untold { result ≢ 0 → told.new ≡ told.old }
@@ -113,10 +111,7 @@ pub extern "C" fn pciguest_raw_changed(
     guest: usize,
     count: &mut u64,
 ) -> u32
-    ensures none { IfNone (machine_of handle.old) (result ≡ 901) }
-    ensures guest { IfSome (machine_of handle.old) (λ m.
-        length m.world.guests ≤ guest → result ≡ 902) }
-    ensures told { IfSome (machine_of handle.old) (λ m. guest < length m.world.guests →
+    ensures told { AnswersOf handle.old guest result (λ m.
         (result ≡ 0) × (slice_get m.counts guest ≡ Some count.new)) }
     ensures untold { result ≢ 0 → count.new ≡ count.old }
     ensures kept { session_of handle.new ≡ session_of handle.old }

@@ -6,8 +6,8 @@ ghost use Rattle.pciguest_c.specs.Handles.{session_of, board_of};
 ghost use Rattle.pciguest_c.specs.TextsTold.{at_front};
 
 use crate::handle::Handle;
-use crate::numbers::{ARGUMENT, MEMORY};
-use crate::text_calls::tell;
+use crate::numbers::MEMORY;
+use crate::text_calls::tell_counted;
 use session::Readiness;
 use std::alloc::Global;
 
@@ -43,11 +43,7 @@ pub extern "C" fn pciguest_raw_board_ready(
     });
     match answer {
         Ok(Readiness { text, count: lacks }) => {
-            if !tell(text.as_bytes(), out, needed) {
-                return ARGUMENT;
-            }
-            *count = lacks;
-            0
+            tell_counted(text.as_bytes(), lacks, out, needed, count)
         }
         Err(number) => number,
     }

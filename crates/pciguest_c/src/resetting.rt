@@ -1,7 +1,8 @@
 //! Functions of guests that are reset where they are.
-ghost use Rattle.std.specs.Prelude.{◌≡◌, ◌≢◌, ◌<◌, ◌≤◌, Some, IfNone, IfSome, length};
+ghost use Rattle.std.specs.Prelude.{◌≡◌, ◌≢◌, Some};
 ghost use Rattle.model_guests.specs.DeviceEvents.{resets};
 ghost use Rattle.pciguest_c.specs.Handles.{session_of, machine_of};
+ghost use Rattle.pciguest_c.specs.Answered.{AnswersOf};
 ghost use Rattle.pciguest_c.specs.Told.{number_told};
 ghost use Rattle.pciguest_c.specs.DevicesTold.{reply_at_device, after_at_device};
 
@@ -18,10 +19,7 @@ pub extern "C" fn pciguest_raw_reset(
     guest: usize,
     slot: u64,
 ) -> u32
-    ensures none { IfNone (machine_of handle.old) (result ≡ 901) }
-    ensures guest { IfSome (machine_of handle.old) (λ m.
-        length m.world.guests ≤ guest → result ≡ 902) }
-    ensures reset { IfSome (machine_of handle.old) (λ m. guest < length m.world.guests →
+    ensures reset { AnswersOf handle.old guest result (λ m.
         (result ≡ number_told (reply_at_device m.world guest (resets slot)))
         × (machine_of handle.new ≡ Some (after_at_device m guest (resets slot)))) }
     ensures refused { result ≢ 0 → session_of handle.new ≡ session_of handle.old }

@@ -1,6 +1,7 @@
 //! Functions of the board that come to a guest from none, or leave it for no other.
-ghost use Rattle.std.specs.Prelude.{◌≡◌, ◌≢◌, ◌<◌, ◌≤◌, Some, IfNone, IfSome, length};
+ghost use Rattle.std.specs.Prelude.{◌≡◌, ◌≢◌, Some};
 ghost use Rattle.pciguest_c.specs.Handles.{session_of, machine_of};
+ghost use Rattle.pciguest_c.specs.Answered.{AnswersOf};
 ghost use Rattle.pciguest_c.specs.Told.{number_told};
 ghost use Rattle.pciguest_c.specs.SeatingsTold.{gift_reply, after_gift, taking_reply, after_taking};
 
@@ -22,10 +23,7 @@ pub extern "C" fn pciguest_raw_give(
     guest: usize,
     slot: u64,
 ) -> u32
-    ensures none { IfNone (machine_of handle.old) (result ≡ 901) }
-    ensures guest { IfSome (machine_of handle.old) (λ m.
-        length m.world.guests ≤ guest → result ≡ 902) }
-    ensures given { IfSome (machine_of handle.old) (λ m. guest < length m.world.guests →
+    ensures given { AnswersOf handle.old guest result (λ m.
         (result ≡ number_told (gift_reply m.world path.now guest slot))
         × (machine_of handle.new ≡ Some (after_gift m path.now guest slot))) }
     ensures refused { result ≢ 0 → session_of handle.new ≡ session_of handle.old }
@@ -52,10 +50,7 @@ pub extern "C" fn pciguest_raw_take(
     guest: usize,
     slot: u64,
 ) -> u32
-    ensures none { IfNone (machine_of handle.old) (result ≡ 901) }
-    ensures guest { IfSome (machine_of handle.old) (λ m.
-        length m.world.guests ≤ guest → result ≡ 902) }
-    ensures taken { IfSome (machine_of handle.old) (λ m. guest < length m.world.guests →
+    ensures taken { AnswersOf handle.old guest result (λ m.
         (result ≡ number_told (taking_reply m.world guest slot))
         × (machine_of handle.new ≡ Some (after_taking m guest slot))) }
     ensures refused { result ≢ 0 → session_of handle.new ≡ session_of handle.old }

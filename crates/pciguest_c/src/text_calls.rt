@@ -37,6 +37,28 @@ pub fn tell(text: &[u8], out: &mut [u8], needed: &mut usize) -> bool
     true
 }
 
+/// Tells a text so with a number beside it, which stays where the buffer has less room: then it answers 902.
+pub fn tell_counted(
+    text: &[u8],
+    counted: usize,
+    out: &mut [u8],
+    needed: &mut usize,
+    count: &mut usize,
+) -> u32
+    ensures text { result ≡ 0 → out.new ≡ at_front text.now out.old }
+    ensures count { result ≡ 0 → count.new ≡ counted }
+    ensures room { result ≡ 902 → length out.old < length text.now }
+    ensures needed { needed.new ≡ length text.now }
+    ensures numbers { (result ≡ 0) ⊎ (result ≡ 902) }
+    ensures refused { result ≢ 0 → (out.new ≡ out.old) × (count.new ≡ count.old) }
+{
+    if !tell(text, out, needed) {
+        return ARGUMENT;
+    }
+    *count = counted;
+    0
+}
+
 /// Writes the report of a board file to the front of `out`, and tells how long it is, also where `out`
 /// has less room than that.
 #[unsafe(no_mangle)]

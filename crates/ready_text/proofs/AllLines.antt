@@ -5,7 +5,7 @@ use Rattle.model_guests.specs.Text.{Text, text_of_lines}
 use Rattle.model_audit.specs.AuditText.{problem_text, audit_line}
 use Rattle.model_ready.specs.ReadyText.{lack_text, lack_total, ready_line, ready_text}
 use Rattle.report.specs.Found.{ended}
-use Rattle.report.proofs.LineTexts.{text_of_lines-append}
+use Rattle.model_guests.proofs.WrittenLines.{text_of_lines-append}
 use Rattle.board_audit.specs.Told.{problem_of}
 use Rattle.board_audit.specs.declared.problem.Problem.{Problem}
 use Rattle.audit_text.specs.Lines.{problem_lines}

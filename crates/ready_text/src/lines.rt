@@ -1,25 +1,17 @@
 //! A lack's line, and the last line.
 ghost use Rattle.std.specs.Prelude.{OnOk};
 ghost use Rattle.lists.specs.Texts.{Adds};
-ghost use Rattle.model_guests.specs.Replies.{hex_digits};
 ghost use Rattle.model_ready.specs.Lacks.{not_open, outside_apertures, prefetched_by, other_primary};
 ghost use Rattle.model_ready.specs.ReadyText.{lack_text, lack_total, ready_line};
 ghost use Rattle.board_ready.specs.Told.{lack_of};
 ghost use Rattle.report.specs.Found.{ended};
 
-use audit_text::{push_address, push_region};
+use audit_text::{push_address, push_bus, push_region};
 use board_audit::RegionNow;
 use board_ready::Lack;
 use paths::Path;
 use report::push_path;
 use std::alloc::AllocError;
-
-/// Appends a bus number.
-fn push_bus(text: &mut String, bus: u8) -> Result<(), AllocError>
-    ensures { OnOk result (Adds text.old text.new (hex_digits 2 bus)) }
-{
-    write!(text, "{bus:02x}")
-}
 
 /// Appends what is lacking of a region that is closed.
 fn push_not_open(text: &mut String, region: &RegionNow) -> Result<(), AllocError>

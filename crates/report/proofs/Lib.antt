@@ -1,5 +1,4 @@
 pub mod HexTexts
-pub mod LineTexts
 pub mod Loops
 pub mod PathTexts
 pub mod RowTexts

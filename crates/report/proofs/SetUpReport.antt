@@ -24,7 +24,7 @@ use Rattle.model_guests.specs.Replies.{hex_digits}
 use Rattle.model_handoff.specs.Report.{pin_lines, region_line, window_line, window_lines, function_lines, slot_lines, report}
 use Rattle.report.specs.Found.{ended, base_line, known_pin_lines, named_window_lines, head_text, range_text, found_text, rows_text, guests_text, found_report, count_line}
 use Rattle.report.specs.OfWorld.{IsOf}
-use Rattle.report.proofs.LineTexts.{text_of_lines-append}
+use Rattle.model_guests.proofs.WrittenLines.{text_of_lines-append}
 
 -- ---- windows
 

@@ -9,7 +9,7 @@ use Rattle.model_why.specs.Ways as ways
 use Rattle.model_why.specs.WhyPorts.{PortUse, holds_latch, shows_data, hides_data, like_others, port_lines}
 use Rattle.model_why.specs.WhyText.{taker_text, missing_lines, why_line, number_lines, why_text, why_number_text}
 use Rattle.report.specs.Found.{ended}
-use Rattle.report.proofs.LineTexts.{text_of_lines-append}
+use Rattle.model_guests.proofs.WrittenLines.{text_of_lines-append}
 use Rattle.board_why.specs.Told.{number_told}
 use Rattle.board_why.specs.declared.number.WhyNumber.{WhyNumber}
 use Rattle.why_text.specs.Lines.{number_head, taker_lines, lines_of_missing, use_line}

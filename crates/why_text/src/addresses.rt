@@ -1,5 +1,5 @@
 //! The lines of an address.
-ghost use Rattle.std.specs.Prelude.{◌≡◌, ◌++◌, codes, OnOk};
+ghost use Rattle.std.specs.Prelude.{◌++◌, codes, OnOk};
 ghost use Rattle.std.specs.Option.{option_map_or};
 ghost use Rattle.lists.specs.Texts.{Adds};
 ghost use Rattle.bars.specs.Kinds.{named_space};
@@ -9,8 +9,8 @@ ghost use Rattle.board_why.specs.Told.{hindrance_told, cause_told, region_told};
 ghost use Rattle.report.specs.Found.{ended};
 ghost use Rattle.why_text.specs.Lines.{address_head, told_lines};
 
-use crate::parts::{push_command, push_space, push_windows};
-use audit_text::{push_address, push_region};
+use crate::parts::{push_command, push_windows};
+use audit_text::{push_address, push_region, push_space};
 use bars::Space;
 use board_why::{Cause, Hindrance, Told};
 use bridge_forward::{Claim, Path};

@@ -9,4 +9,6 @@ mod ports;
 mod whole;
 
 pub use board_why::{Bdf, Host, Space};
+pub use parts::push_command;
+pub use ports::push_use;
 pub use whole::{why_number_text, why_port_text, why_text};

@@ -1,10 +1,7 @@
 //! The lines of a configuration number.
-ghost use Rattle.std.specs.Prelude.{[], codes, unwrap_or, OnOk};
-ghost use Rattle.std.specs.Option.{option_map_or};
+ghost use Rattle.std.specs.Prelude.{[], unwrap_or, OnOk};
 ghost use Rattle.lists.specs.Texts.{Adds};
 ghost use Rattle.model_board.specs.Paths.{Part};
-ghost use Rattle.model_guests.specs.PathTexts.{path_text};
-ghost use Rattle.model_guests.specs.Replies.{hex_digits};
 ghost use Rattle.model_why.specs.Ways.{no_bridge, no_function};
 ghost use Rattle.model_why.specs.WhyText.{bus_text, missing_text, taker_text, why_line};
 ghost use Rattle.paths.specs.BusAddresses.{bus_address_of};
@@ -12,18 +9,11 @@ ghost use Rattle.board_why.specs.Told.{missing_told};
 ghost use Rattle.report.specs.Found.{ended};
 ghost use Rattle.why_text.specs.Lines.{number_head, taker_lines, lines_of_missing};
 
-use crate::parts::push_number;
+use audit_text::{push_bus, push_number, push_reached};
 use board_why::{Bdf, Missing};
 use bridge_forward::Path;
 use report::push_path;
 use std::alloc::AllocError;
-
-/// Appends a bus number.
-fn push_bus(text: &mut String, bus: u8) -> Result<(), AllocError>
-    ensures { OnOk result (Adds text.old text.new (hex_digits 2 bus)) }
-{
-    write!(text, "{bus:02x}")
-}
 
 /// Appends where a bus is.
 fn push_behind(text: &mut String, behind: &Option<Path>) -> Result<(), AllocError>
@@ -122,17 +112,6 @@ pub(crate) fn push_takers(text: &mut String, at: Bdf, bridges: &[Path]) -> Resul
         push_taker_line(text, at, bridge)?;
     }
     Ok(())
-}
-
-/// Appends a path, or `nothing`.
-fn push_reached(text: &mut String, path: &Option<Path>) -> Result<(), AllocError>
-    ensures { OnOk result (Adds text.old text.new
-        (option_map_or path_text path.now (codes "nothing"))) }
-{
-    match path {
-        Some(path) => push_path(text, path),
-        None => text.push_str("nothing"),
-    }
 }
 
 /// Appends a number, and what it reaches.

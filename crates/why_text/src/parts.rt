@@ -2,41 +2,14 @@
 ghost use Rattle.std.specs.Prelude.{codes, option_map, OnOk};
 ghost use Rattle.std.specs.Option.{option_map_or};
 ghost use Rattle.lists.specs.Texts.{Adds};
-ghost use Rattle.bars.specs.Kinds.{named_space};
 ghost use Rattle.bridge_forward.specs.RoutingRows.{window_of};
-ghost use Rattle.paths.specs.BusAddresses.{bus_address_of};
 ghost use Rattle.model_guests.specs.Replies.{hex_digits};
-ghost use Rattle.model_audit.specs.AuditText.{number_text, space_text};
 ghost use Rattle.model_why.specs.WhyText.{command_text, name_text, range_text, window_text, windows_text};
 ghost use Rattle.board_why.specs.Told.{name_told, window_told, windows_told};
 
-use bars::Space;
-use board_why::{Bdf, NamedWindow, WindowName};
+use board_why::{NamedWindow, WindowName};
 use bridge_forward::Window;
 use std::alloc::AllocError;
-
-/// Appends the name of a space.
-pub(crate) fn push_space(text: &mut String, space: Space) -> Result<(), AllocError>
-    ensures { OnOk result (Adds text.old text.new (space_text (named_space space))) }
-{
-    match space {
-        Space::Io => text.push_str("I/O"),
-        Space::Mem => text.push_str("memory"),
-    }
-}
-
-/// Appends a bus, device and function number.
-pub(crate) fn push_number(text: &mut String, at: Bdf) -> Result<(), AllocError>
-    ensures { OnOk result (Adds text.old text.new (number_text (bus_address_of at))) }
-{
-    let Bdf {
-        bus,
-        device,
-        function,
-        ..
-    } = at;
-    write!(text, "{bus:02x}:{device:02x}.{function}")
-}
 
 /// Appends two bytes.
 fn push_word(text: &mut String, word: u16) -> Result<(), AllocError>
@@ -46,7 +19,7 @@ fn push_word(text: &mut String, word: u16) -> Result<(), AllocError>
 }
 
 /// Appends what a Command register holds.
-pub(crate) fn push_command(text: &mut String, command: u16) -> Result<(), AllocError>
+pub fn push_command(text: &mut String, command: u16) -> Result<(), AllocError>
     ensures { OnOk result (Adds text.old text.new (command_text command)) }
 {
     text.push_str("Command 0x")?;

@@ -9,7 +9,7 @@ ghost use Rattle.board_why.specs.Told.{use_told};
 ghost use Rattle.report.specs.Found.{ended};
 ghost use Rattle.why_text.specs.Lines.{data_line, use_line};
 
-use crate::parts::push_number;
+use audit_text::push_number;
 use board_why::{Bdf, PortUse};
 use paths::Latch;
 use std::alloc::AllocError;
@@ -56,12 +56,7 @@ fn push_data(
 }
 
 /// Appends the line of what the latch makes of a port, if it makes something of it.
-pub(crate) fn push_use(
-    text: &mut String,
-    latch: Latch,
-    port: u64,
-    used: PortUse,
-) -> Result<(), AllocError>
+pub fn push_use(text: &mut String, latch: Latch, port: u64, used: PortUse) -> Result<(), AllocError>
     ensures { OnOk result (Adds text.old text.new (use_line latch port (use_told used))) }
 {
     match used {

@@ -632,6 +632,51 @@ impl Machine {
         Ok(Hit::of(&told))
     }
 
+    /// Why an access of the guest at a place finds what it finds, a line for each thing: at port CF8h, and at CFCh to CFFh,
+    /// what the guest's CONFIG_ADDRESS makes of it; then what answers, or that nobody does, that the slot is empty or that
+    /// CONFIG_ADDRESS selects no slot; and where nobody answers, each region of the guest's functions that holds the address
+    /// and whose space Command doesn't open. It tells of the guest's own functions and CONFIG_ADDRESS alone. It changes
+    /// nothing.
+    ///
+    /// # Errors
+    ///
+    /// As a read of one byte is refused, or out of memory.
+    ///
+    /// ```
+    /// # const BOARD: &str = include_str!("board.toml");
+    /// use pciguest::{At, Machine};
+    ///
+    /// let mut machine = Machine::new(BOARD)?;
+    /// let a = machine.guest("a")?;
+    /// let bell = At::Memory { address: 0x8000_0010 };
+    /// machine.write(a, At::Config { slot: 0, offset: 0x10 }, 4, 0x8000_0000)?;
+    /// assert_eq!(
+    ///     machine.why(a, bell)?,
+    ///     "why: memory 0x80000010: nobody answers\n\
+    ///      why: slot 0 bar0 at 0x80000000 size 0x1000: closed, Command 0x0000\n"
+    /// );
+    /// machine.write(a, At::Config { slot: 0, offset: 0x04 }, 2, 2)?;
+    /// assert_eq!(machine.why(a, bell)?, "why: memory 0x80000010: slot 0 bar0 offset 0x10 answers\n");
+    /// # Ok::<(), pciguest::Error>(())
+    /// ```
+    pub fn why(&mut self, guest: Guest, at: At) -> Result<String, Error> {
+        let (space, slot, place) = at.parts();
+        // SAFETY: the text has as many bytes as is said, and nothing overlaps.
+        let (number, text) = told(512, |text, room, needed| unsafe {
+            raw::pciguest_why(
+                &mut self.handle,
+                guest.index(),
+                space,
+                slot,
+                place,
+                text,
+                room,
+                needed,
+            )
+        });
+        answered(number).map(|()| text)
+    }
+
     /// Runs one line of a script, with its line feed or without; a line feed elsewhere makes it a bad line. The reply
     /// stands without its line feed, and a blank line or a comment has none. A line that is refused is answered by its
     /// reply.

@@ -86,6 +86,8 @@ pub const NOT_AT_RESET: u32 = 904;
 
 /// not ready
 pub const NOT_READY: u32 = 208;
+/// refused line
+pub const REFUSED_LINE: u32 = 209;
 /// bad line
 pub const BAD_LINE: u32 = 401;
 /// unknown guest
@@ -517,6 +519,25 @@ extern "C" {
         slot: u64,
         place: u64,
         hit: *mut Hit,
+    ) -> u32;
+    /// Writes why an access of the guest at a place, as pciguest_locate takes it, finds what it finds, a line for each
+    /// thing: at port CF8h, and at CFCh to CFFh, what the guest's CONFIG_ADDRESS makes of it (PCI Local Bus 3.0,
+    /// 3.2.2.3.2); then the slot, the region or configuration space and the offset there that answers, or that nobody
+    /// does, that the slot is empty, or that CONFIG_ADDRESS selects no slot; and where nobody answers, each region of
+    /// the guest's functions that holds the address and whose space Command doesn't open (6.2.5), by slot, then by
+    /// register. It tells the text's length, which has no 0 at its end. It tells of the guest's own functions and
+    /// CONFIG_ADDRESS alone: two guests that hold the same are told the same. Nothing changes. Numbers as for a read of
+    /// one byte there. 902 too: there is less room than the text needs, whose length alone is told.
+    /// 299: out of memory.
+    pub fn pciguest_why(
+        machine: *mut Handle,
+        guest: usize,
+        space: u32,
+        slot: u64,
+        place: u64,
+        text: *mut u8,
+        room: usize,
+        needed: *mut usize,
     ) -> u32;
     /// How many functions the board has, endpoints and bridges.
     pub fn pciguest_count(machine: *mut Handle, count: *mut usize) -> u32;

@@ -207,6 +207,43 @@ fn regions_stand_where_their_guest_put_them() -> Result<(), Error> {
 }
 
 #[test]
+fn a_guest_is_told_why() -> Result<(), Error> {
+    let mut machine = Machine::new(BOARD)?;
+    let (a, b) = (machine.guest("a")?, machine.guest("b")?);
+    let bell = At::Memory {
+        address: 0xd000_0010,
+    };
+    machine.write(a, config(0, 0x14), 4, 0xd000_0000)?;
+    assert_eq!(
+        machine.why(a, bell)?,
+        "why: memory 0xd0000010: nobody answers\n\
+         why: slot 0 bar1 at 0xd0000000 size 0x1000: closed, Command 0x0000\n"
+    );
+    assert_eq!(
+        machine.why(b, bell)?,
+        "why: memory 0xd0000010: nobody answers\n"
+    );
+    machine.write(a, config(0, 4), 2, 2)?;
+    assert_eq!(
+        machine.why(a, bell)?,
+        "why: memory 0xd0000010: slot 0 bar1 offset 0x10 answers\n"
+    );
+    assert_eq!(
+        machine.why(a, config(2, 0))?,
+        "why: slot 2 offset 0x0: slot 2 is empty\n"
+    );
+    machine.write(a, At::Io { port: 0xcf8 }, 4, 0x8000_0840)?;
+    assert_eq!(
+        machine.why(a, At::Io { port: 0xcfe })?,
+        "why: I/O 0xcfe: offset 0x42 of 00:01.0 by the latch, 0x80000840\n\
+         why: I/O 0xcfe: slot 1 configuration offset 0x42 answers\n"
+    );
+    assert_eq!(number(machine.why(a, config(0, 256))), 303);
+    assert_eq!(number(machine.why(Guest::of_index(2), bell)), 902);
+    Ok(())
+}
+
+#[test]
 fn a_function_moves() -> Result<(), Error> {
     let mut machine = Machine::new(BOARD)?;
     let (a, b) = (machine.guest("a")?, machine.guest("b")?);

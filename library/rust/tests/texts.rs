@@ -54,7 +54,7 @@ fn numbers_have_words() {
     let known = (0..1 << 16)
         .filter(|&number| !words(number).is_empty())
         .count();
-    assert_eq!(known, 39);
+    assert_eq!(known, 40);
     assert_eq!(words(205), "prefetchable pool");
     assert_eq!(words(u32::MAX), "");
 }

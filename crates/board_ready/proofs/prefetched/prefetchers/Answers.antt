@@ -1,7 +1,7 @@
 use Rattle.std.proofs.Common.{ap, sym, ◌∙◌}
 use Rattle.board_audit.specs.Bridges.{rows_nth}
 use Rattle.board_ready.specs.Gathered.{may_prefetch}
-use Rattle.board_ready.proofs.BridgesAbove.{row_kept, row_passed}
+use Rattle.board_audit.proofs.Above.{row_kept, row_passed}
 use Rattle.board_ready.proofs.prefetched.prefetchers.Goals as goal
 use Rattle.board_ready.proofs.prefetched.prefetchers.Goals.{then-may_prefetch+in_ok-push, else-may_prefetch}
 

@@ -1,6 +1,6 @@
 use Rattle.std.proofs.Common.{arith}
 use Rattle.report.proofs.HexTexts.{hex_pair}
-use Rattle.why_text.proofs.numbers.push_bus.Goals as goal
+use Rattle.audit_text.proofs.parts.push_number.Goals as goal
 
 pub returns : goal.returns
 returns c = grind (arith, hex_pair)

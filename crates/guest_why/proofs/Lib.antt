@@ -1,0 +1,3 @@
+pub mod ClosedSlots
+pub mod WholeTexts
+pub mod Alone

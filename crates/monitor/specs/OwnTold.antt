@@ -1,0 +1,20 @@
+-- What a guest's own registers hold, as code tells it.
+--     own_now f      Command and the base address registers of a function, as they stand
+--     own_told o      the same, from the program's words
+--     standing file n r      a region at a base address register, with the base that a file has there
+use Rattle.std.specs.Prelude.{ℕ, map}
+use Rattle.bars.specs.declared.region.BasedRegion.{BasedRegion}
+use Rattle.bars.specs.Slots.{bases_from}
+use Rattle.model_registers.specs.Registers.{File}
+use Rattle.model_registers.specs.OwnCopies.{OwnCopies}
+use Rattle.model_registers.specs.Decoding.{Function, base, base_address, command_word}
+use Rattle.monitor.specs.declared.own.OwnRegisters.{OwnRegisters}
+
+abbrev pub own_now : Function → OwnCopies
+own_now f = record { command = command_word f.file; bases = map (base_address f.file) f.decl.regions }
+
+abbrev pub own_told : OwnRegisters → OwnCopies
+own_told o = record { command = o.command; bases = bases_from 0 o.regions }
+
+abbrev pub standing : File → ℕ → BasedRegion → BasedRegion
+standing file n r = record r { base = base file n r.decl.kind }

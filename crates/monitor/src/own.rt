@@ -1,0 +1,126 @@
+//! What a guest's own registers hold: its address latch, and the own copies of the function in each slot.
+ghost use Rattle.std.specs.Prelude.{◌≡◌, ◌<◌, ℕ, length, option_map};
+ghost use Rattle.model_registers.specs.Registers.{File};
+ghost use Rattle.model_registers.specs.OwnCopies.{HoldsOwn, IsLawfulOwn};
+ghost use Rattle.model_registers.specs.Decoding.{Function, command_word};
+ghost use Rattle.model_board.specs.Paths.{Path};
+ghost use Rattle.model_board.specs.State.{State};
+ghost use Rattle.model_guests.specs.Slots.{slot_at};
+ghost use Rattle.model_guests.specs.Guests.{lone_of};
+ghost use Rattle.model_guests.specs.WorldNow.{WorldNow};
+ghost use Rattle.bars.specs.Slots as bars;
+ghost use Rattle.monitor.specs.Keeping.{IsHeld};
+ghost use Rattle.monitor.specs.ByIndex.{name_nth, lone_nth};
+ghost use Rattle.monitor.specs.Queries.{IsGuestNth};
+ghost use Rattle.monitor.specs.OwnTold.{own_now, own_told, standing};
+
+use crate::config::held_in;
+use crate::engine::Engine;
+use crate::guest::{Guest, Held};
+use crate::regions::base_of;
+use bars::BasedRegion;
+use guest_functions::Latch;
+use host_bridge::Route;
+
+/// Command and the base address registers of a function in a guest's slot, as the guest has them.
+#[derive(Clone, Copy, Debug)]
+pub struct OwnRegisters {
+    pub command: u16,
+    /// At the index of its first register, each region with its base.
+    pub regions: [Option<BasedRegion>; 6],
+}
+
+/// What the guest's own Command holds.
+fn command_of(held: &Held) -> u16
+    ensures { (file : File) → HoldsOwn file held.now.own → result ≡ command_word file }
+{
+    let (command, _) = held.own.config_read(4, 0b0011);
+    command as u16
+}
+
+/// The region that begins at a base address register, if one does, with the base that the guest's own
+/// registers name.
+fn region_held(held: &Held, bar: usize) -> Option<BasedRegion>
+    ensures told { (s : State) (p : Path) (f : Function) → IsHeld s p f held.now
+        → IsLawfulOwn held.now.own →
+        result ≡ option_map (standing f.file bar) (bars.slot_at held.now.placed bar) }
+    ensures six { length held.now.placed ≡ 6 }
+{
+    match held.placed.get(bar) {
+        Some(Some(region)) => {
+            let kind = region.decl.kind();
+            Some(BasedRegion {
+                decl: region.decl,
+                base: base_of(held, bar as u16, kind),
+            })
+        }
+        Some(None) => None,
+        None => None,
+    }
+}
+
+/// The own registers of a function.
+fn registers_of(held: &Held) -> OwnRegisters
+    ensures { (s : State) (p : Path) (f : Function) → IsHeld s p f held.now
+        → IsLawfulOwn held.now.own → own_told result ≡ own_now f }
+{
+    OwnRegisters {
+        command: command_of(held),
+        regions: [
+            region_held(held, 0),
+            region_held(held, 1),
+            region_held(held, 2),
+            region_held(held, 3),
+            region_held(held, 4),
+            region_held(held, 5),
+        ],
+    }
+}
+
+/// Those of the function in a slot, if there is one.
+fn registers_in(guest: &Guest, slot: usize) -> Option<OwnRegisters>
+    ensures { (w : WorldNow) (i : ℕ) → IsGuestNth w i guest.now
+        → option_map own_told result ≡ option_map own_now (slot_at (lone_nth w i).slots slot) }
+{
+    match held_in(&guest.slots, slot) {
+        Some(held) => Some(registers_of(held)),
+        None => None,
+    }
+}
+
+/// How many slots there are.
+fn slot_count(guest: &Guest) -> usize
+    ensures { (w : WorldNow) (i : ℕ) → IsGuestNth w i guest.now
+        → result ≡ length (lone_nth w i).slots }
+{
+    guest.slots.len()
+}
+
+impl<R: Route> Engine<R> {
+    /// What a guest's address latch holds.
+    pub fn latch(&self, guest: usize) -> Latch
+        requires { guest < length self.now.world.guests }
+        ensures { result ≡ (lone_of self.now.world.guests (name_nth self.now.world guest)).latch }
+    {
+        self.guest(guest).latch
+    }
+
+    /// How many slots a guest has.
+    pub fn slots(&self, guest: usize) -> usize
+        requires { guest < length self.now.world.guests }
+        ensures { result
+            ≡ length (lone_of self.now.world.guests (name_nth self.now.world guest)).slots }
+    {
+        slot_count(self.guest(guest))
+    }
+
+    /// What Command and the base address registers of the function in a slot hold, as its guest has them. None
+    /// for an empty slot, and past the last. No memory is taken.
+    pub fn own_registers(&self, guest: usize, slot: usize) -> Option<OwnRegisters>
+        requires { guest < length self.now.world.guests }
+        ensures { let g = lone_of self.now.world.guests (name_nth self.now.world guest) in
+            option_map own_told result ≡ option_map own_now (slot_at g.slots slot) }
+    {
+        registers_in(self.guest(guest), slot)
+    }
+}

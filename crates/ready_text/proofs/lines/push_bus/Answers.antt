@@ -1,6 +1,0 @@
-use Rattle.std.proofs.Common.{arith}
-use Rattle.report.proofs.HexTexts.{hex_pair}
-use Rattle.ready_text.proofs.lines.push_bus.Goals as goal
-
-pub returns : goal.returns
-returns c = grind (arith, hex_pair)
