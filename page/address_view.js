@@ -1,13 +1,14 @@
 // A bar for each aperture, to scale: windows by the depth of their bus, regions below them, gaps between. A bar can be
-// zoomed into, and read by mouse and by keys.
+// zoomed into, and read by mouse and by keys, and asked why something answers at an address or doesn't.
 
 import { aperture_of, hex, size_in_words } from './report.js';
 import { make, mark_of, owner_in_words } from './marks.js';
-import { bang_at, lack_at, name_in, region_box, svg, ticks } from './bars.js';
+import { bang_at, cause_box, lack_at, name_in, question_mark_at, region_box, svg, ticks } from './bars.js';
+import { question_at } from './why.js';
 
 const ROW = 20, TICKS = 36;
 const NAMES = { io: 'I/O', mem: 'Memory', pref: 'Prefetchable memory' };
-const KEYS = 'arrow keys go from one to the next, Enter zooms into it, Escape shows all';
+const keys_in_words = can_ask => `arrow keys go from one to the next, ${can_ask ? 'Enter asks who answers there and why, +' : 'Enter or +'} zooms into it, Escape shows all`;
 
 // Everything that is placed in one aperture, by address, with the depth of the bus it stands on.
 function spans_in(space, functions, apertures) {
@@ -43,42 +44,63 @@ function at_address(address, spans, board) {
 const naming = ({ of, region, first, last }, findings) => findings.filter(one => one.of.some(({ path, register }) => path === of.path
   && (region ? register === region.name : register === null && first <= one.address && one.address <= last)));
 
-const findings_in_words = ({ problems, lacks }, chosen) => [...chosen(problems).map(one => `; ! ${one.text}`), ...chosen(lacks).map(one => `; left to do: ${one.text}`)].join('');
+// The causes that name a region or, where they name no register, a bridge.
+const causes_naming = ({ of, region }, causes) => causes.filter(one => one.of.some(({ path, register }) => path === of.path && (region ? region.name : null) === register));
+
+const findings_in_words = ({ problems, lacks, asked }, spans) => {
+  const told = (those, name) => those.filter(one => spans.some(span => name(span, [one]).length > 0));
+  return [...told(problems, naming).map(one => `; ! ${one.text}`), ...told(lacks, naming).map(one => `; left to do: ${one.text}`),
+    ...told(asked.causes, causes_naming).map(one => `; why: ${one.text}`)].join('');
+};
 
 const span_in_words = (span, board, findings) => `${span.of.place} ${span.name} ${hex(span.first)} to ${hex(span.last)}, `
-  + size_in_words(span.last - span.first + 1n) + (span.region ? whose(span.of.path, board) : '') + findings_in_words(findings, those => naming(span, those));
+  + size_in_words(span.last - span.first + 1n) + (span.region ? whose(span.of.path, board) : '') + findings_in_words(findings, [span]);
 
-// The used part of an aperture in a thin strip of the whole, and the part that is shown.
-function strip_of(used, shown, aperture, width) {
+const NOTHING_FOUND = { problems: [], lacks: [], asked: { space: null, address: null, causes: [] } };
+
+// The used part of an aperture in a thin strip of the whole, the part that is shown, and the address that is asked about.
+function strip_of(used, shown, aperture, width, asked) {
   const strip = svg('svg', { class: 'strip', width, height: 9, 'aria-hidden': 'true' });
   for (const [range, name] of [[used, 'used'], [shown, 'shown']]) {
     const from = place_of(most(range[0], aperture[0]), aperture, width), to = place_of(least(range[1], aperture[1]) + 1n, aperture, width);
     strip.append(svg('rect', { x: from, y: 1, width: Math.max(to - from, 3), height: 7, class: name }));
   }
+  if (asked !== null && aperture[0] <= asked && asked <= aperture[1]) {
+    strip.append(svg('rect', { x: place_of(asked, aperture, width), y: 0, width: 2, height: 9, class: 'asked' }));
+  }
   return strip;
 }
 
 export class Addresses {
-  // `light` is given the path of the function that is pointed at, or null.
-  constructor(into, light) {
-    Object.assign(this, { into, light, ranges: new Map(), at: new Map(), width: 0, board: null });
+  // `light` is given the path of the function that is pointed at, or null; `question` is what one asks.
+  constructor(into, light, question) {
+    Object.assign(this, { into, light, question, ranges: new Map(), at: new Map(), width: 0, board: null });
     new ResizeObserver(() => { if (this.width !== this.into.clientWidth) this.redraw(); }).observe(into);
   }
 
   forget() { this.ranges.clear(); this.at.clear(); }
 
-  // `findings` are problems and lacks, with the address and the space at which they are seen; `none` is told where there is nothing to draw.
-  draw(functions, apertures, owners, marks, findings = { problems: [], lacks: [] }, none = '') {
+  // `findings` are problems and lacks, with the address and the space at which they are seen, and what is asked; `none` is told where there
+  // is nothing to draw.
+  draw(functions, apertures, owners, marks, findings = NOTHING_FOUND, none = '') {
     this.board = { functions, apertures, owners, marks, findings, none };
     this.redraw();
   }
 
+  // A bar that has the keys keeps them, and a question whose bar is gone stands below the others.
   redraw() {
     if (this.board === null) return;
     this.width = this.into.clientWidth;
-    const figures = Object.keys(NAMES).map(space => this.figure(space)).filter(one => one !== null);
-    this.into.replaceChildren(...(figures.length > 0 ? figures : [make('p', 'hint', this.board.none)]));
+    const keys_at = document.activeElement?.matches('.bars') ? document.activeElement.closest('[data-space]').dataset.space : null;
+    const drawn = Object.keys(NAMES).map(space => ({ space, figure: this.figure(space) })), figures = drawn.map(one => one.figure).filter(one => one !== null);
+    const without = drawn.filter(one => one.figure === null).flatMap(one => this.question.below(one.space));
+    this.into.replaceChildren(...(figures.length > 0 ? figures : [make('p', 'hint', this.board.none)]), ...without);
+    if (keys_at !== null) this.bar_of(keys_at)?.focus({ preventScroll: true });
   }
+
+  bar_of(space) { return this.into.querySelector(`[data-space=${space}] .bars`); }
+
+  ask(space, address) { this.question.ask(question_at(space === 'io' ? 'io' : 'mem', hex(address)), space, () => this.bar_of(space)); }
 
   // Shows another range of a bar, or all; the bar keeps the keys.
   zoom(space, range) {
@@ -86,26 +108,41 @@ export class Addresses {
     else this.ranges.set(space, range);
     const old = this.into.querySelector(`[data-space=${space}]`), fresh = this.figure(space);
     old.replaceWith(fresh);
-    fresh.querySelector('.bars').focus({ preventScroll: true });
+    this.bar_of(space).focus({ preventScroll: true });
+  }
+
+  // Shows what one is at, or else the middle half of what is shown.
+  zoom_in(space, spans, range) {
+    const one = spans[this.at.get(space)], wanted = one ? this.around(one) : range, quarter = (range[1] - range[0] + 1n) / 4n;
+    const is_shown = wanted[0] === range[0] && wanted[1] === range[1];
+    this.zoom(space, is_shown ? [range[0] + quarter, range[1] - quarter] : wanted);
   }
 
   figure(space) {
     const { functions, apertures } = this.board, spans = spans_in(space, functions, apertures), findings = this.findings_in(space);
     if (spans.length === 0) return null;
     const [aperture, used, outside] = this.extent_of(spans, apertures[space]), range = this.ranges.get(space) ?? used;
-    const figure = make('div', 'space'), told = make('div', 'told'), bar = this.bar(spans, range, findings);
+    const figure = make('div', 'space'), told = make('div', 'told'), bar = this.bar(space, spans, range, findings);
     figure.dataset.space = space;
     told.setAttribute('role', 'status');
-    bar.setAttribute('aria-label', `${NAMES[space]}: ${KEYS}`);
+    bar.setAttribute('aria-label', `${NAMES[space]}: ${keys_in_words(this.question.can_ask())}`);
     this.follow_pointer(bar, told, space, spans, range, findings);
-    this.follow_keys(bar, told, space, spans, findings);
-    figure.append(this.title(space, range, outside, aperture), strip_of(used, range, aperture, this.width), bar, told);
+    this.follow_keys(bar, told, space, spans, range, findings);
+    figure.append(this.title(space, spans, range, outside, aperture), strip_of(used, range, aperture, this.width, findings.asked.address), bar, told,
+      ...this.question.below(space));
     return figure;
   }
 
   findings_in(space) {
-    const { findings, apertures } = this.board, is_here = one => one.address !== null && aperture_of(one.space, one.address, apertures) === space;
-    return { problems: findings.problems.filter(is_here), lacks: findings.lacks.filter(is_here) };
+    const { findings: { problems, lacks, asked }, apertures } = this.board;
+    const is_here = one => one.address !== null && aperture_of(one.space, one.address, apertures) === space;
+    return { problems: problems.filter(is_here), lacks: lacks.filter(is_here), asked: { ...asked, address: is_here(asked) ? asked.address : null } };
+  }
+
+  // Where regions and windows stand that causes name, in one aperture, with the depth of their bus.
+  places_told(space, { causes }) {
+    return causes.flatMap(({ text, places }) => places.filter(one => aperture_of(one.space, one.first, this.board.apertures) === space)
+      .map(one => ({ ...one, text, depth: one.path.split('/').length - 1 })));
   }
 
   // The aperture, what is used of it, and how many spans stand outside, which only firmware leaves. Where nothing is in the
@@ -117,37 +154,42 @@ export class Addresses {
     return [[least(aperture[0], used[0]), most(aperture[1], used[1])], used, spans.length - inside.length];
   }
 
-  title(space, range, outside, aperture) {
+  title(space, spans, range, outside, aperture) {
     const title = make('div', 'title'), buttons = make('span', 'buttons'), size = range[1] - range[0] + 1n;
     title.append(make('span', '', NAMES[space]), make('span', '', `${hex(range[0])} to ${hex(range[1])}, ${size_in_words(size)}`
       + ` of the aperture's ${size_in_words(aperture[1] - aperture[0] + 1n)}${outside > 0 ? `; ${outside} outside it, by the arrow keys` : ''}`), buttons);
     const out = [most(range[0] - size / 2n, aperture[0]), least(range[1] + size / 2n, aperture[1])];
-    for (const [name, words, wanted] of [['−', 'Zoom out', out], ['used', 'Show all that is used', null], ['aperture', 'Show the whole aperture', aperture]]) {
+    for (const [name, words, act] of [['−', 'Zoom out', () => this.zoom(space, out)], ['+', 'Zoom in', () => this.zoom_in(space, spans, range)],
+      ['used', 'Show all that is used', () => this.zoom(space, null)], ['aperture', 'Show the whole aperture', () => this.zoom(space, aperture)]]) {
       const button = Object.assign(make('button', '', name), { type: 'button', title: words });
       button.setAttribute('aria-label', `${words}, ${NAMES[space]}`);
-      button.addEventListener('click', () => this.zoom(space, wanted));
+      button.addEventListener('click', act);
       buttons.append(button);
     }
     return title;
   }
 
-  bar(spans, range, { problems, lacks }) {
-    const { owners, marks } = this.board, seen = spans.filter(span => span.first <= range[1] && range[0] <= span.last);
-    const deepest = Math.max(0, ...seen.map(span => span.depth)) + 1, height = deepest * ROW + 4;
+  bar(space, spans, range, { problems, lacks, asked }) {
+    const { owners, marks } = this.board, is_seen = span => span.first <= range[1] && range[0] <= span.last, seen = spans.filter(is_seen);
+    const told = this.places_told(space, asked).filter(is_seen);
+    const deepest = Math.max(0, ...[...seen, ...told].map(span => span.depth)) + 1, height = deepest * ROW + 4;
+    const sides_of = span => [place_of(most(span.first, range[0]), range, this.width), place_of(least(span.last, range[1]) + 1n, range, this.width)];
     const bar = svg('svg', { width: this.width, height: height + TICKS, class: 'bars', tabindex: 0, role: 'group' });
     bar.append(svg('rect', { x: 0, y: 0, width: this.width, height, class: 'well' }));
     for (const span of seen.slice().sort((a, b) => a.depth - b.depth || !b.region - !a.region)) {
-      const from = place_of(most(span.first, range[0]), range, this.width), to = place_of(least(span.last, range[1]) + 1n, range, this.width);
-      const y = span.depth * ROW + 2, mark = mark_of(owners.get(span.of.path), marks);
+      const [from, to] = sides_of(span), y = span.depth * ROW + 2, mark = mark_of(owners.get(span.of.path), marks);
       const wrong = naming(span, problems).length > 0 ? ' wrong' : naming(span, lacks).length > 0 ? ' lacks' : '';
       if (span.region) bar.append(region_box(from, to - from, y, ROW - 1, mark, [`${span.of.place} ${span.name}`, span.of.place], wrong, this.board.marks.size > 0));
       else bar.append(svg('rect', { x: from, width: Math.max(to - from, 2), y, height: ROW * (deepest - span.depth), class: `window${wrong}` }),
         ...name_in([`${span.name} of ${span.of.place}`, `of ${span.of.place}`], from, to - from, y + ROW / 2 + 4, 'of'));
     }
-    bar.append(...ticks(this.ticks_of(seen, range), this.width, height, 2, 14));
+    bar.append(...told.map(one => {
+      const [from, to] = sides_of(one);
+      return cause_box(from, to - from, one.depth * ROW + 2, one.register === null ? ROW * (deepest - one.depth) : ROW - 1, one.text);
+    }), ...ticks(this.ticks_of(seen, range), this.width, height, 2, 14));
     const at = (those, mark) => those.filter(({ address }) => range[0] <= address && address <= range[1])
       .map(one => mark(place_of(one.address, range, this.width), this.width, height, one.text));
-    bar.append(...at(lacks, lack_at), ...at(problems, bang_at));
+    bar.append(...at(lacks, lack_at), ...at(problems, bang_at), ...at(asked.address === null ? [] : [{ ...asked, text: hex(asked.address) }], question_mark_at));
     return bar;
   }
 
@@ -172,8 +214,7 @@ export class Addresses {
       for (const name of ['x1', 'x2']) cursor.setAttribute(name, share * this.width);
       cursor.setAttribute('visibility', 'visible');
       const here = spans.filter(span => span.first <= address && address <= span.last);
-      told.textContent = `${hex(address)}: ${at_address(address, spans, this.board)}`
-        + findings_in_words(findings, those => those.filter(one => here.some(span => naming(span, [one]).length > 0)));
+      told.textContent = `${hex(address)}: ${at_address(address, spans, this.board)}${findings_in_words(findings, here)}`;
       this.light(spans.find(span => span.region && span.first <= address && address <= span.last)?.of.path ?? null);
     });
     bar.addEventListener('pointerleave', () => { cursor.setAttribute('visibility', 'hidden'); told.textContent = ''; this.light(null); });
@@ -181,9 +222,9 @@ export class Addresses {
       const { address, row } = pointed(event);
       const those = spans.filter(span => span.first <= address && address <= span.last).sort((a, b) => b.depth - a.depth);
       const one = those.find(span => span.depth <= row) ?? those[0];
-      if (!one) return;
-      this.at.set(space, spans.indexOf(one));
-      this.zoom(space, this.around(one));
+      if (one) this.at.set(space, spans.indexOf(one));
+      if (this.question.can_ask()) this.ask(space, address);
+      else if (one) this.zoom(space, this.around(one));
     });
   }
 
@@ -193,7 +234,7 @@ export class Addresses {
     return [most(first - beside, 0n), last + beside];
   }
 
-  follow_keys(bar, told, space, spans, findings) {
+  follow_keys(bar, told, space, spans, range, findings) {
     const show = nth => {
       this.at.set(space, nth);
       told.textContent = span_in_words(spans[nth], this.board, findings);
@@ -202,7 +243,12 @@ export class Addresses {
     const at = () => this.at.get(space) ?? -1;
     const acts = {
       ArrowRight: () => show(Math.min(at() + 1, spans.length - 1)), ArrowLeft: () => show(Math.max(at() - 1, 0)),
-      Enter: () => { if (at() >= 0) this.zoom(space, this.around(spans[at()])); },
+      Enter: () => {
+        if (!spans[at()]) return;
+        if (this.question.can_ask()) this.ask(space, spans[at()].first);
+        else this.zoom_in(space, spans, range);
+      },
+      '+': () => this.zoom_in(space, spans, range),
       Escape: () => this.zoom(space, null),
     };
     bar.addEventListener('keydown', event => {
@@ -210,7 +256,7 @@ export class Addresses {
       event.preventDefault();
       acts[event.key]();
     });
-    bar.addEventListener('focus', () => { if (spans[at()]) show(at()); else told.textContent = `The ${KEYS}`; });
+    bar.addEventListener('focus', () => { if (spans[at()]) show(at()); else told.textContent = `The ${keys_in_words(this.question.can_ask())}`; });
     bar.addEventListener('blur', () => { this.light(null); told.textContent = ''; });
   }
 }

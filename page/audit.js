@@ -20,7 +20,7 @@ export function problem_of(text) {
   return found ? { ...one, of: [{ path: found[1], register: null }], number: found[2] } : one;
 }
 
-// Of problems or of lacks, the texts that name each function.
+// Of problems, lacks or causes, the texts that name each function.
 export function texts_by_path(findings) {
   const texts = new Map();
   for (const { text, of } of findings) for (const { path } of of) texts.set(path, [...(texts.get(path) ?? []), text]);

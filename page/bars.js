@@ -44,6 +44,20 @@ export function bang_at(x, width, height, text) {
 
 export const lack_at = (x, width, height, text) => sign_at('lack-at', x, height, text, svg('circle', { cx: inside(x, width), cy: 6, r: 4 }));
 
+// What is asked at an address.
+export function question_mark_at(x, width, height, text) {
+  const sign = svg('g', {}), at = inside(x, width);
+  sign.append(svg('circle', { cx: at, cy: 7, r: 6 }), svg('text', { x: at, y: 11, 'text-anchor': 'middle' }, '?'));
+  return sign_at('asked-at', x, height, text, sign);
+}
+
+// An edge around a place that a cause names, whether anything is drawn there or not.
+export function cause_box(x, width, y, height, text) {
+  const edge = svg('rect', { x, y, width: Math.max(width, 2), height, class: 'cause-at' });
+  edge.append(svg('title', {}, text));
+  return edge;
+}
+
 // Addresses under or above a bar: [{ x, text }], the first ones first. One that would lie on another, or say the same, is left out.
 export function ticks(wanted, width, y, rows, step) {
   const taken = Array.from({ length: rows }, () => []);

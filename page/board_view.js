@@ -41,15 +41,15 @@ function button_of(text, words, act) {
 }
 
 export class Board {
-  // `parts` are the elements `tree`, `told` and `table`; `light` is given the path of a function, or null, and `choose` that of
-  // one that is chosen.
-  constructor(parts, light, choose) { Object.assign(this, { parts, light, choose, chosen: null, turned: new Set(), whole: new Set() }); }
+  // `parts` are the elements `tree`, `told` and `table`; `light` is given the path of a function, or null, `choose` that of one
+  // that is chosen, and `ask` such a function first where no cycle finds it.
+  constructor(parts, light, choose, ask) { Object.assign(this, { parts, light, choose, ask, chosen: null, turned: new Set(), whole: new Set() }); }
 
   forget() { this.turned.clear(); this.whole.clear(); }
 
-  // `troubles` are the texts that name a function as wrong, by its path, and `lacks` those that name it as lacking something.
-  draw(functions, owners, marks, { troubles, lacks } = { troubles: new Map(), lacks: new Map() }) {
-    Object.assign(this, { functions, owners, marks, troubles, lacks, below: new Map() });
+  // The texts that name a function, by its path: as wrong, as lacking something, and as a cause of what was asked.
+  draw(functions, owners, marks, { troubles, lacks, causes } = { troubles: new Map(), lacks: new Map(), causes: new Map() }) {
+    Object.assign(this, { functions, owners, marks, troubles, lacks, causes, below: new Map() });
     for (const one of functions) {
       const parent = parent_of(one.path);
       if (!this.below.has(parent)) this.below.set(parent, []);
@@ -109,32 +109,34 @@ export class Board {
 
   chip_of(one) {
     const owner = this.owners.get(one.path), mark = mark_of(owner, this.marks), chip = make('div', 'chip');
-    const [troubles, lacks] = [this.troubles, this.lacks].map(texts => this.told_at(one, texts));
+    const [troubles, lacks, causes] = [this.troubles, this.lacks, this.causes].map(texts => this.told_at(one, texts));
     const owned = one.kind === 'bridge' || this.marks.size === 0 ? [] : [owner_in_words(owner)];
-    const words = [`${one.place}, ${one.words}, ${one.path}`, ...few_of(troubles), ...few_of(lacks).map(text => `left to do: ${text}`), ...owned,
-      ...places_of(one, lacks)];
+    const words = [`${one.place}, ${one.words}, ${one.path}`, ...few_of(troubles), ...few_of(lacks).map(text => `left to do: ${text}`),
+      ...few_of(causes).map(text => `why: ${text}`), ...(one.lost ? ['a click or Enter asks why'] : []), ...owned, ...places_of(one, lacks)];
     chip.title = words.join('\n');
     chip.dataset.path = one.path;
     chip.tabIndex = 0;
     if (one.kind === 'bridge') chip.classList.add('bridge');
     else { colour(chip, mark); chip.append(badge(mark)); }
     chip.append(`${one.place.slice(3)} ${one.words}`, ...(troubles.length > 0 ? [sign_of('bang', '!', 'wrong', troubles)] : []),
-      ...(lacks.length > 0 ? [sign_of('lack', '○', 'left to do', lacks)] : []), make('small', '', one.identity));
+      ...(lacks.length > 0 ? [sign_of('lack', '○', 'left to do', lacks)] : []), ...(causes.length > 0 ? [sign_of('cause', '?', 'why', causes)] : []),
+      make('small', '', one.identity));
     chip.classList.toggle('troubled', troubles.length > 0);
     chip.classList.toggle('lost', Boolean(one.lost));
-    if (this.chosen !== null) this.let_choose(chip, one.path);
+    if (this.chosen !== null) this.let_choose(chip, one);
     const tell = said => { this.parts.told.textContent = said ? words.join('; ') : ''; this.light(said ? one.path : null); };
     for (const event of ['focus', 'pointerenter']) chip.addEventListener(event, () => tell(true));
     for (const event of ['blur', 'pointerleave']) chip.addEventListener(event, () => tell(false));
     return chip;
   }
 
-  let_choose(chip, path) {
+  let_choose(chip, one) {
+    const act = () => { if (one.lost) this.ask(one); this.choose(one.path); };
     chip.setAttribute('role', 'button');
-    chip.setAttribute('aria-pressed', path === this.chosen);
-    chip.classList.toggle('chosen', path === this.chosen);
-    chip.addEventListener('click', () => this.choose(path));
-    chip.addEventListener('keydown', event => { if (event.key === 'Enter' || event.key === ' ') { event.preventDefault(); this.choose(path); } });
+    chip.setAttribute('aria-pressed', one.path === this.chosen);
+    chip.classList.toggle('chosen', one.path === this.chosen);
+    chip.addEventListener('click', act);
+    chip.addEventListener('keydown', event => { if (event.key === 'Enter' || event.key === ' ') { event.preventDefault(); act(); } });
   }
 
   draw_table() {
@@ -159,8 +161,9 @@ export class Board {
   row_of(one, names) {
     const row = make('tr', ''), owner = this.owners.get(one.path), held = make('td', ''), taken = make('td', 'owner');
     row.dataset.path = one.path;
-    const [troubles, lacks] = [this.troubles, this.lacks].map(texts => texts.get(one.path) ?? []);
-    held.append(...troubles.map(text => line_of('wrong', '!', 'wrong', text)), ...lacks.map(text => line_of('lacks', '○', 'left to do', text)));
+    const [troubles, lacks, causes] = [this.troubles, this.lacks, this.causes].map(texts => texts.get(one.path) ?? []);
+    held.append(...troubles.map(text => line_of('wrong', '!', 'wrong', text)), ...lacks.map(text => line_of('lacks', '○', 'left to do', text)),
+      ...causes.map(text => line_of('causes', '?', 'why', text)));
     for (const place of places_of(one, lacks)) held.append(make('div', '', place));
     if (one.kind !== 'bridge') taken.append(badge(mark_of(owner, this.marks)), owner ? `${owner.guest}, slot\u00a0${owner.slot}` : 'no guest');
     row.append(make('td', '', one.place), taken, make('td', '', one.path), make('td', '', `${one.words} ${one.identity}`), held, make('td', '', one.interrupt));

@@ -11,6 +11,7 @@ import tomllib
 import types
 
 import browse_ready
+import browse_why
 from tried import CUT, FIELD, PAINTED, holds, said_last, text_of, type_line, until, write_field
 
 HERE = pathlib.Path(__file__).resolve().parent
@@ -294,8 +295,9 @@ ALL = [lessons_are_done, a_lesson_leads_on, a_teacher_hands_out, lines_are_expla
 
 
 def in_browser(browser, page, folder, shot=''):
-    for check in [*ALL, *browse_ready.ALL]:
+    for check in [*ALL, *browse_ready.ALL, *browse_why.ALL]:
         check(browser, page)
+    browse_why.questions_look_well(browser, page, folder, shot)
     looks_fit(browser, page, folder, shot)
 
 

@@ -103,7 +103,7 @@ def each_kind_is_marked(browser, page):
             for _ in range(12):
                 browser.press('ArrowRight')
             holds('the keys tell of what is outside', browser.run(told).endswith(f'; left to do: {text}'), browser.run(told))
-            browser.press('Enter')
+            browser.press('+')
             holds('and zoom to it', browser.run(BARS) == [1, 1, 0, 0, 0], browser.run(BARS))
 
 

@@ -1,8 +1,11 @@
-// Compares what the module answers with what the proved program wrote: reports, checks, refusals, replies, audits, and whether
-// boards are ready. Where a guest's region stands is compared with what the guest finds as it sizes the region itself.
+// Compares what the module answers with what the proved program wrote: reports, checks, refusals, replies, audits, whether boards are
+// ready, and why something finds what it finds. Where a guest's region stands is compared with what the guest finds as it sizes it, and why
+// its access finds what it finds with what it reads.
 
 import { Engine, run } from './engine.js';
 import { read_readiness } from './readiness.js';
+import { words_in } from './reasons.js';
+import { question_of, read_why, read_why_of_guest, SPACE_READ } from './why.js';
 
 // what an audit writes of a board in order
 const NO_PROBLEM = new TextEncoder().encode('audit: ok\n');
@@ -53,6 +56,44 @@ function readiness_of(made) {
   return new TextEncoder().encode(is_read ? `${text}\n` : '');
 }
 
+// Whether each line of the replies that tell why is read back, with the functions that it names.
+const why_is_read = replies => replies.map(one => new TextDecoder().decode(one).trimEnd()).filter(text => text.startsWith('why: '))
+  .every(text => read_why(text)?.every(one => [...one.of, ...one.places].every(({ path }) => one.text.includes(path))));
+
+const hexadecimal = (number, digits = 1) => `0x${number.toString(16).padStart(digits, '0')}`;
+
+// The closed regions of a guest that hold a place, as lines tell them.
+function closed_at(machine, { guest, space, place }) {
+  const told = (slot, register, region) => `why: slot ${slot} bar${register} at ${hexadecimal(region.first)} size ${hexadecimal(region.size)}: closed, Command `
+    + hexadecimal(machine.number(`${guest} cr ${slot} 4 2`), 4);
+  return Array.from({ length: 32 }, (_, slot) => [0, 1, 2, 3, 4, 5].flatMap(register => {
+    const region = machine.region(guest, slot, register), holds = region?.space === space && region.first <= place && place < region.first + region.size;
+    return holds && !region.open ? [told(slot, register, region)] : [];
+  })).flat();
+}
+
+// Whether what a guest is told of a place is what it read there: what answers gives the reply, and where nothing does the reply is all ones,
+// and all that is closed there is told.
+function told_as_read(machine, call, width, reply) {
+  const lines = machine.why(call).split('\n'), latch = /^why: I\/O 0xcf8: 4 bytes are the latch, (0x[0-9a-f]+)$/.exec(lines[0]);
+  if (latch && width === '4') return BigInt(latch[1]) === BigInt(reply);
+  const nth = lines.findIndex(line => / answers$| is empty$| is no slot$/.test(line)), rest = lines.slice(nth + 1).join('\n');
+  const [, slot, register, offset] = /: slot (\d+) (?:bar(\d)|configuration) offset (0x[0-9a-f]+) answers$/.exec(lines[nth]) ?? [];
+  if (slot === undefined) return /^0x(?:ff)+$/.test(reply) && rest === (lines[nth].endsWith(': nobody answers') ? closed_at(machine, call).join('\n') : '');
+  if (register === undefined) return rest === '' && machine.number(`${call.guest} cr ${slot} ${offset} ${width}`) === BigInt(reply);
+  const region = machine.region(call.guest, Number(slot), Number(register));
+  return rest === '' && region.open && region.space === call.space && region.first + BigInt(offset) === call.place;
+}
+
+// Whether a guest that read a place is told what it found there, in lines that are read back.
+function guest_is_told(machine, line, output) {
+  const [who, verb, ...places] = words_in(new TextDecoder().decode(line)).map(one => one.word), width = places.pop();
+  const [, name, reply] = /^(\S+): (0x[0-9a-f]+)\n$/.exec(new TextDecoder().decode(output)) ?? [];
+  if (SPACE_READ[verb] === undefined || name !== who || who === 'host') return true;
+  const { call } = question_of(who, SPACE_READ[verb], ...places);
+  return read_why_of_guest(machine.why(call), String) !== null && told_as_read(machine, call, width, reply);
+}
+
 // What is told after a script, by the work that is asked.
 const AFTER = { audit: made => [made.audit() ?? NO_PROBLEM], ready: made => [readiness_of(made)], run: () => [], firmware: () => [] };
 
@@ -64,8 +105,9 @@ function holds(engine, { work, board, script, number, output }) {
   }
   const { number: refusal, made } = work === 'run' ? engine.open(board) : engine.open_at_reset(board);
   if (made === null) return refusal === number;
-  const text = joined([...run(made, script), ...AFTER[work](made)]), is_ready = new TextDecoder().decode(text).endsWith('ready: ok\n');
-  const good = work !== 'run' || regions_hold(engine, made, board);
+  let told = true;
+  const replies = run(made, script, (line, reply) => { told &&= guest_is_told(made, line, reply); }), text = joined([...replies, ...AFTER[work](made)]), is_ready = new TextDecoder().decode(text).endsWith('ready: ok\n');
+  const good = told && (work !== 'run' || regions_hold(engine, made, board)) && why_is_read(replies);
   made.close();
   return good && number === (work === 'ready' && !is_ready ? NOT_READY : 0) && same(text, output);
 }

@@ -3,6 +3,7 @@
 import { count_in_words } from './report.js';
 import { make } from './marks.js';
 import { why_refused } from './reasons.js';
+import { question_after } from './why.js';
 
 const PAUSE = 650;
 const LONGEST = 500;
@@ -11,9 +12,9 @@ const NOTED = 4;
 export class Console {
   // `parts` are its elements, and `box` the one in which lines are typed; `machine` gives what answers lines, or null; `whose` tells
   // whose lines they are; `moved` is told of each move that was done, `heard` of each reply, `begins` of each line before it runs, with
-  // whether problems are noted, and `ran` of each line.
-  constructor(parts, box, { machine, whose, moved, heard, begins, ran }) {
-    Object.assign(this, { parts, box, machine, whose, moved, heard, begins, ran, marks: new Map(), before: [], back: 0, playing: 0, said: [], scrolls: false });
+  // whether problems are noted, and `ran` of each line; `question` is what one asks of a reply.
+  constructor(parts, box, { machine, whose, moved, heard, begins, ran, question }) {
+    Object.assign(this, { parts, box, machine, whose, moved, heard, begins, ran, question, marks: new Map(), before: [], back: 0, playing: 0, said: [], scrolls: false });
     parts.entry.addEventListener('submit', event => { event.preventDefault(); this.enter(); });
     parts.line.addEventListener('keydown', event => this.recall(event));
   }
@@ -63,7 +64,8 @@ export class Console {
   tell(line, machine, row) {
     const reply = this.reply_of(line, machine);
     if (reply === '') return;
-    const who = reply.slice(0, reply.indexOf(':')), one = make('span', who === 'host' ? 'reply host' : 'reply', reply);
+    const who = reply.slice(0, reply.indexOf(':')), one = this.reply_in(row, line, reply);
+    one.className = who === 'host' ? 'reply host' : 'reply';
     row.append(' ', one);
     if (this.marks.has(who)) one.style.setProperty('--hue', this.marks.get(who).hue);
     one.classList.toggle('refused', reply.includes(': refused '));
@@ -72,6 +74,19 @@ export class Console {
     this.follow_move(line, reply);
     this.heard(reply);
   }
+
+  // A reply of all ones asks why, by a click or Enter, and takes the answer back by another.
+  reply_in(row, line, reply) {
+    const asked = question_after(line, reply, this.whose());
+    if (asked === null) return make('span', '', reply);
+    const button = Object.assign(make('button', '', reply), { type: 'button', title: asked.line });
+    button.setAttribute('aria-expanded', false);
+    button.addEventListener('click', () => this.question.turn(asked, row, () => button));
+    return button;
+  }
+
+  // Guests' board answers no question of firmware's.
+  ask_no_more() { for (const one of this.parts.transcript.querySelectorAll('button.reply.host')) one.disabled = true; }
 
   follow_move(line, reply) {
     const words = line.trim().split(/\s+/);

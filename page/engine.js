@@ -6,6 +6,7 @@ const TOO_SMALL = 902;
 const LONGEST_REPLY = 48;
 const LONGEST_LINE = 256;
 const ROOM = 1 << 16;
+const SPACE_NUMBERS = { cfg: 0, io: 1, mem: 2 };
 
 export class Engine {
   static async of(bytes) {
@@ -128,6 +129,14 @@ class Held {
       open: told.getUint32(24, true) !== 0 };
   }
 
+  // Why a guest's access finds what it finds, or nobody. A slot is asked of configuration space alone.
+  why({ guest, space, slot, place }) {
+    const { engine, handle } = this, at = [BigInt(this.guest(guest)), SPACE_NUMBERS[space], slot, place];
+    const { number, text } = engine.told((...rooms) => engine.exports.pciguest_raw_why(handle, ...at, ...rooms));
+    if (number !== 0) throw new Error(`why is refused: ${number}`);
+    return new TextDecoder().decode(text).trimEnd();
+  }
+
   close() {
     this.free(this.handle);
     for (const room of [this.handle, this.text, this.out, this.written]) this.engine.exports.rattle_dealloc(room);
@@ -151,14 +160,16 @@ class Driven extends Held {
 
   free(handle) { this.engine.exports.pciguest_raw_board_free(handle); }
 
-  // The reply to `host ready`, which may have thousands of lines.
-  readiness() {
-    const { engine, handle, text: line, room } = this, said = new TextEncoder().encode('host ready');
+  // The reply to a question, which may have thousands of lines.
+  long_reply(question) {
+    const { engine, handle, text: line, room } = this, said = new TextEncoder().encode(question);
     engine.bytes(line, said.length).set(said);
     const { text } = engine.told((...rooms) => this.run_line(handle, line, BigInt(said.length), ...rooms), room);
     this.room = Math.max(room, 2 * text.length);
     return new TextDecoder().decode(text).trimEnd();
   }
+
+  readiness() { return this.long_reply('host ready'); }
 
   // What is wrong in the registers as they stand: a line for each problem, and one that counts them. Null once the board is
   // given to its guests: it was in order then, and stays so.
@@ -170,13 +181,15 @@ class Driven extends Held {
   }
 }
 
-// Every output of the lines of a script, as one text.
-export function run(held, script) {
+// The output of each line of a script; `ran` is told of each line and its output.
+export function run(held, script, ran = () => {}) {
   const parts = [];
   let start = 0;
   while (start < script.length) {
     const feed = script.indexOf(10, start), end = feed < 0 ? script.length : feed;
-    parts.push(held.answer(script.subarray(start, end)));
+    const line = script.subarray(start, end), output = held.answer(line);
+    parts.push(output);
+    ran(line, output);
     start = end + 1;
   }
   return parts;

@@ -1,4 +1,4 @@
-// Problems or lacks as a list. Each leads to the functions that it names.
+// Problems, lacks or the lines of a reply as a list. Each leads to the functions that it names.
 
 import { parent_of } from './report.js';
 import { make } from './marks.js';
@@ -24,8 +24,9 @@ export class Findings {
     this.list.append(item);
   }
 
-  // A function that isn't found leads to the bridge above it.
+  // A function that isn't found leads to the bridge above it; what names none leads nowhere.
   item_of({ text, of, number }) {
+    if (of.length === 0) return make('li', '', text);
     const item = make('li', this.came.includes(text) ? 'came' : ''), button = Object.assign(make('button', '', text), { type: 'button' });
     for (const event of ['focus', 'pointerenter']) button.addEventListener(event, () => this.light(...of.map(one => one.path)));
     for (const event of ['blur', 'pointerleave']) button.addEventListener(event, () => this.light());

@@ -85,7 +85,7 @@ class Browser:
         self.run(f"document.execCommand('insertText', false, {json.dumps(text)})")
 
     def press(self, key):
-        acts = [{'type': kind, 'value': KEYS[key]} for kind in ('keyDown', 'keyUp')]
+        acts = [{'type': kind, 'value': KEYS.get(key, key)} for kind in ('keyDown', 'keyUp')]
         self.ask('WebDriver:PerformActions', actions=[{'type': 'key', 'id': 'keys', 'actions': acts}])
 
     def picture(self, file):

@@ -40,14 +40,14 @@ export class Firmware {
     return found;
   }
 
-  // `owners` and `marks` are those of guests, who have nothing until the board is given to them.
-  draw(apertures, owners, marks) {
+  // `owners` and `marks` are those of guests, who have nothing until the board is given to them; `asked` is what one asks, with its causes.
+  draw(apertures, owners, marks, asked) {
     if (this.now === null) { this.problems.draw([], ''); this.lacks.draw([], ''); return; }
     const { functions, problems, lacks, given } = this.now, nobody = new Map(), whose = given ? [owners, marks] : [nobody, nobody];
     this.draw_findings(problems, lacks);
     if (functions.length === 0) return;
-    this.board.draw(functions, ...whose, { troubles: texts_by_path(problems), lacks: texts_by_path(lacks) });
-    this.addresses.draw(functions, apertures, ...whose, { problems, lacks }, 'No region and no window is open.');
+    this.board.draw(functions, ...whose, { troubles: texts_by_path(problems), lacks: texts_by_path(lacks), causes: texts_by_path(asked.causes) });
+    this.addresses.draw(functions, apertures, ...whose, { problems, lacks, asked }, 'No region and no window is open.');
     if (!given) this.draw_registers();
   }
 

@@ -4,6 +4,7 @@ import { hex, size_in_words } from './report.js';
 import { all_open } from './guest_map.js';
 import { badge, make, mark_of } from './marks.js';
 import { region_box, svg, ticks } from './bars.js';
+import { question_of } from './why.js';
 
 const BAR = 20, LINKS = 36, EDGE = 18;
 const SPACES = { io: 'I/O', mem: 'Memory' };
@@ -23,7 +24,15 @@ function scale_of(spans, width) {
   const total = weights.reduce((sum, one) => sum + one, 0.6), places = new Map();
   let at = 0.3;
   ends.forEach((end, nth) => { places.set(end, at / total * width); at += weights[nth] ?? 0; });
-  return address => places.get(address);
+  return { at: address => places.get(address), address_at: x => address_between(x, ends, places) };
+}
+
+// The address at a place between the first end and the last, or null.
+function address_between(x, ends, places) {
+  const nth = ends.findLastIndex(end => places.get(end) <= x), [from, to] = [ends[nth], ends[nth + 1]];
+  if (to === undefined || from === undefined) return null;
+  const share = (x - places.get(from)) / (places.get(to) - places.get(from));
+  return from + BigInt(Math.floor(share * 1000000)) * (to - from) / 1000000n;
 }
 
 const on_board = ({ region }) => ({ first: region.first, last: region.first + region.size - 1n });
@@ -31,34 +40,41 @@ const on_board = ({ region }) => ({ first: region.first, last: region.first + re
 const in_words = one => `guest ${one.owner.guest}, slot ${one.owner.slot} ${one.region.name}: ${hex(one.first)} to ${hex(one.last)}, `
   + `on the board ${hex(one.region.first)} to ${hex(on_board(one).last)} (${one.of.place}, ${size_in_words(one.region.size)})`;
 
-// Where spans begin, and then where they end.
-const ends_of = (spans, scale) => spans.map(({ first }) => ({ x: scale(first), text: hex(first) }))
-  .concat(spans.map(({ last }) => ({ x: scale(last + 1n), text: hex(last) })));
+const name_of = ({ owner, region }) => `${owner.guest} ${owner.slot} ${region.name}`;
 
-// A guest's bar above, the board's below, and a band from each region to its place.
-function picture(those, all, scales, marks, width, tell) {
+// Where spans begin, and then where they end.
+const ends_of = (spans, scale) => spans.map(({ first }) => ({ x: scale.at(first), text: hex(first) }))
+  .concat(spans.map(({ last }) => ({ x: scale.at(last + 1n), text: hex(last) })));
+
+// A guest's bar above, the board's below, and a band from each region to its place. A click on the guest's bar asks at its address.
+function picture(those, all, scales, marks, width, { tell, ask }) {
   const top = EDGE, below = top + BAR + LINKS;
-  const picture = svg('svg', { height: below + BAR + EDGE, width, class: 'map', role: 'group', 'aria-label': 'What this guest opens, and where it stands' });
+  const picture = svg('svg', { height: below + BAR + EDGE, width, class: 'map', role: 'group', 'aria-label': 'What this guest opens, and where it stands; Enter asks where a region begins' });
   for (const y of [top, below]) picture.append(svg('rect', { x: 0, y, width, height: BAR, class: 'well' }));
   for (const { first, last } of all.map(on_board)) {
-    const x = scales.board(first);
-    picture.append(svg('rect', { x, y: below, width: scales.board(last + 1n) - x, height: BAR, class: 'window' }));
+    const x = scales.board.at(first);
+    picture.append(svg('rect', { x, y: below, width: scales.board.at(last + 1n) - x, height: BAR, class: 'window' }));
   }
-  for (const one of those.slice().reverse()) picture.append(joined(one, scales, marks, top, below, tell));
+  for (const one of those.slice().reverse()) picture.append(joined(one, scales, marks, top, below, { tell, ask }));
   picture.append(...ticks(ends_of(those, scales.guest), width, top, 1, -1), ...ticks(ends_of(those.map(on_board), scales.board), width, below + BAR, 1, 1));
+  picture.addEventListener('click', event => {
+    const box = picture.getBoundingClientRect(), y = event.clientY - box.top, address = scales.guest.address_at((event.clientX - box.left) / box.width * width);
+    if (top <= y && y < top + BAR && address !== null) ask(address, event.target.closest('.joined')?.dataset.one);
+  });
   return picture;
 }
 
-function joined(one, scales, marks, top, below, tell) {
-  const a = scales.guest(one.first), b = scales.guest(one.last + 1n), place = on_board(one);
-  const c = scales.board(place.first), d = scales.board(place.last + 1n), mark = mark_of(one.owner, marks);
-  const all = svg('g', { class: 'joined', tabindex: 0, role: 'img', 'aria-label': in_words(one) });
+function joined(one, scales, marks, top, below, { tell, ask }) {
+  const a = scales.guest.at(one.first), b = scales.guest.at(one.last + 1n), place = on_board(one);
+  const c = scales.board.at(place.first), d = scales.board.at(place.last + 1n), mark = mark_of(one.owner, marks);
+  const all = svg('g', { class: 'joined', tabindex: 0, role: 'button', 'aria-label': in_words(one), 'data-one': name_of(one) });
   all.style.setProperty('--hue', mark.hue);
   all.append(svg('path', { d: `M${a} ${top + BAR}L${b} ${top + BAR}L${d} ${below}L${c} ${below}Z`, class: 'link' }),
     region_box(a, b - a, top, BAR, mark, [`slot ${one.owner.slot} ${one.region.name}`, one.region.name]),
     region_box(c, d - c, below, BAR, mark, [`${one.of.place} ${one.region.name}`, one.of.place]));
   for (const event of ['pointerenter', 'focus']) all.addEventListener(event, () => tell(one));
   for (const event of ['pointerleave', 'blur']) all.addEventListener(event, () => tell(null));
+  all.addEventListener('keydown', event => { if (event.key === 'Enter') ask(one.first, name_of(one)); });
   return all;
 }
 
@@ -100,9 +116,15 @@ function shut_of(all, owners, marks) {
   });
 }
 
-// `light` is given the path of a function, or null.
+// `light` is given the path of a function, or null; `question` is what one asks, whose box stands in `below`.
 export class GuestMaps {
-  constructor(into, light) { Object.assign(this, { into, light, seen: '' }); }
+  constructor(into, light, question, below) { Object.assign(this, { into, light, question, below, seen: '' }); }
+
+  // A region that one asks about takes the keys back, by its name, if it is still open.
+  ask(guest, space, address, name) {
+    const back = () => [...this.into.querySelectorAll('.joined')].find(one => one.dataset.one === name) ?? null;
+    this.question.ask(question_of(guest, space, hex(address)), this.below, back);
+  }
 
   figure(space, all, marks, told) {
     const width = Math.max(this.into.clientWidth, 240), figure = make('div', 'space');
@@ -112,7 +134,8 @@ export class GuestMaps {
     for (const guest of new Set(all.map(one => one.owner.guest))) {
       const line = make('div', 'whose');
       line.append(badge(marks.get(guest)), `guest ${guest} above, the board below`);
-      figure.append(line, picture(all.filter(one => one.owner.guest === guest), all, scales, marks, width, tell));
+      const ask = (address, name) => this.ask(guest, space, address, name);
+      figure.append(line, picture(all.filter(one => one.owner.guest === guest), all, scales, marks, width, { tell, ask }));
     }
     return figure;
   }

@@ -18,6 +18,9 @@ import { fragment_of, keep, kept, kept_in, task_in } from './keep.js';
 import { Lessons } from './lessons.js';
 import { TaskForm } from './task_form.js';
 import { places_on } from './places.js';
+import { Question } from './question.js';
+import { question_at } from './why.js';
+import { texts_by_path } from './audit.js';
 
 const part = Object.fromEntries([...document.querySelectorAll('[id]')].map(one => [one.id, one]));
 const still = matchMedia('(prefers-reduced-motion: reduce)').matches;
@@ -31,14 +34,19 @@ const give = line => script_console.give(line);
 const answers = () => (as === 'firmware' ? firmware.driven : machine);
 const speaking = () => (given() ? 'guests' : as);
 const guests = () => (speaking() === 'firmware' ? [] : [...marks.keys()]);
-const board = new Board({ tree: part.tree, told: part.told, table: part.functions }, light, choose);
-const addresses = new Addresses(part.addresses, light);
-const maps = new GuestMaps(part.maps, light);
+const path_in = (guest, slot) => [...owners].find(([, owner]) => owner.guest === guest && owner.slot === slot)?.[0];
+// What is asked of firmware's board, or of a guest: why something finds what it finds.
+const question = new Question(part.heard, { light, choose, path_in, held: answers, driven: () => (speaking() === 'firmware' ? firmware.driven : null),
+  changed: () => { if (as !== 'firmware') question.look(); draw(); } });
+const board = new Board({ tree: part.tree, told: part.told, table: part.functions }, light, choose, ask_of_lost);
+const addresses = new Addresses(part.addresses, light, question);
+const maps = new GuestMaps(part.maps, light, question, part.asked_there);
 const registers = new Registers(part, choose);
 const guest_registers = new GuestRegisters(part, registers, board, give);
 const firmware = new Firmware(part, board, addresses, registers, light, give);
 const box = new ScriptBox(part, known);
-const script_console = new Console(part, box, { machine: answers, whose: () => ({ as: speaking(), guests: guests() }), moved, heard: reply => lessons.hear(reply), begins, ran });
+const script_console = new Console(part, box,
+  { machine: answers, whose: () => ({ as: speaking(), guests: guests() }), moved, heard: reply => lessons.hear(reply), begins, ran, question });
 const lacks = () => (firmware.now === null ? ['firmware alone is told'] : [...firmware.now.problems, ...firmware.now.lacks].map(one => one.text));
 const lessons = new Lessons(part, TASKS, { open: open_task, held: answers, guests, left: set_up, lacks });
 const held = () => ({ board: part.board.value, script: script_console.script(), as, task: lessons.kept() });
@@ -58,8 +66,8 @@ function known() {
 }
 
 function moved(from, to) {
-  const path = [...owners].find(([, owner]) => owner.guest === from.guest && owner.slot === from.slot)?.[0];
-  if (path !== undefined) { owners.set(path, to); draw(); }
+  const path = path_in(from.guest, from.slot);
+  if (path !== undefined) { owners.set(path, to); question.doubt(); draw(); }
 }
 
 // A board is looked at before a line gives it to its guests, as it doesn't tell from there on what it lacks. What runs before a task
@@ -70,9 +78,9 @@ function begins(line, is_noted) {
   else firmware.look();
 }
 
-// What is wrong after a line of firmware is noted under it; on a large board, after all that run at once. A read changes nothing.
+// What is wrong after a line of firmware is noted under it; on a large board, after all that run at once. Reads and questions change nothing.
 function ran(line) {
-  unseen ||= !/^\s*\S+\s+[cim]r\s/.test(line);
+  unseen ||= !/^\s*\S+\s+([cim]r|why|audit|ready)(\s|$)/.test(line);
   if (as === 'firmware' && functions.length <= LARGE) note();
   follow();
 }
@@ -93,7 +101,10 @@ function follow() {
     if (as === 'firmware') {
       if (functions.length > LARGE) note();
       draw_firmware();
-    } else if (machine !== null) draw_guests(machine, functions);
+    } else if (machine !== null) {
+      if (question.look()) draw();
+      draw_guests(machine, functions);
+    }
     lessons.look();
     keep(held());
   });
@@ -104,11 +115,18 @@ function draw_guests(held, those) {
   guest_registers.draw(held, those, owners);
 }
 
-// What firmware sees, and the guests' part beside it once they have the board.
+// What firmware sees, with what it asks, and the guests' part beside it once they have the board.
 function draw_firmware() {
-  firmware.draw(apertures, owners, marks);
+  if (given()) { question.forget_firmware(); script_console.ask_no_more(); }
+  question.look();
+  firmware.draw(apertures, owners, marks, question.marked());
   document.body.toggleAttribute('data-given', given());
   if (given()) draw_guests(firmware.driven, firmware.now.functions);
+}
+
+// Why no cycle finds a function, by the number at which it is looked for.
+function ask_of_lost({ path, place }) {
+  question.turn(question_at('cfg', place), part.asked, () => document.querySelector(`#tree [data-path="${path}"]`));
 }
 
 // Marks functions where they are drawn; of one behind a folded bus, the bridge before it.
@@ -125,8 +143,9 @@ function draw() {
   document.body.toggleAttribute('data-given', given());
   draw_key(part.guests, marks, functions.some(one => one.kind !== 'bridge' && !owners.has(one.path)));
   if (as === 'firmware') { draw_firmware(); return; }
-  board.draw(functions, owners, marks);
-  addresses.draw(functions, apertures, owners, marks);
+  const asked = question.marked();
+  board.draw(functions, owners, marks, { troubles: new Map(), lacks: new Map(), causes: texts_by_path(asked.causes) });
+  addresses.draw(functions, apertures, owners, marks, { problems: [], lacks: [], asked });
 }
 
 // Numbers the lines of the editor, and marks those of which a check tells: what is wrong, and what it warns of.
@@ -197,6 +216,7 @@ function set_up() {
   tell_check(new TextDecoder().decode(engine.check(file).text));
   board.forget();
   addresses.forget();
+  question.forget();
   if (report.number === 0) {
     take(new TextDecoder().decode(report.text), file);
   } else {

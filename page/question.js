@@ -1,0 +1,93 @@
+// Why something finds what it finds: the question that the reader asked last, where he asked it. It is asked again after each line, as
+// registers may have changed, until he closes it or asks another one.
+
+import { make } from './marks.js';
+import { Findings } from './findings_view.js';
+import { read_why, read_why_of_guest } from './why.js';
+
+const LINES_SHOWN = 8;
+const UNASKED = { asked: null, place: null, back: () => null, reply: null, lines: [] };
+
+export class Question {
+  // `heard` is told each reply; `driven` gives what answers firmware's questions, or null where none can be asked, and `held` what answers
+  // those of guests; `path_in` gives the function in a guest's slot; `changed` lets the question look, and draws what is marked.
+  constructor(heard, { driven, held, path_in, light, choose, changed }) {
+    Object.assign(this, { heard, driven, held, path_in, changed, ...UNASKED });
+    const head = make('div', 'line'), line = make('code', ''), list = make('ul', '');
+    head.append(line, this.button_to_close());
+    this.box = make('div', 'question');
+    for (const [name, value] of [['role', 'group'], ['aria-label', 'Why'], ['aria-live', 'off']]) this.box.setAttribute(name, value);
+    this.box.addEventListener('keydown', event => { if (event.key === 'Escape') this.close(); });
+    this.box.append(head, list);
+    this.findings = new Findings({ total: line, list, few: LINES_SHOWN }, light, choose);
+  }
+
+  button_to_close() {
+    const button = Object.assign(make('button', 'fold', '×'), { type: 'button' });
+    button.setAttribute('aria-label', 'Close the question');
+    button.addEventListener('click', () => this.close());
+    return button;
+  }
+
+  can_ask() { return this.driven() !== null; }
+
+  // Asks at a place: an element that takes the reply, or the space of a bar, which takes it as it is drawn. `back` finds what asked.
+  ask(asked, place, back) {
+    this.forget();
+    Object.assign(this, { asked, place, back });
+    this.findings.whole = false;
+    if (place instanceof Element) place.append(this.box);
+    this.changed();
+    this.unfold(true);
+    this.box.scrollIntoView({ block: 'nearest' });
+  }
+
+  // What asked this question last closes it.
+  turn(asked, place, back) {
+    if (this.asked?.line === asked.line && this.place === place) this.close();
+    else this.ask(asked, place, back);
+  }
+
+  // The reply as registers are now; says whether it is another one.
+  look() {
+    if (this.asked === null) return false;
+    const { line, call } = this.asked, reply = call === null ? this.driven().long_reply(line) : this.held().why(call);
+    if (reply === this.reply) return false;
+    const read = call === null ? read_why(reply) : read_why_of_guest(reply, slot => this.path_in(call.guest, slot));
+    Object.assign(this, { reply, lines: read ?? [{ text: reply, of: [], places: [], number: null, is_cause: false }] });
+    this.findings.draw(this.lines, this.asked.line);
+    this.heard.textContent = this.lines.map(one => one.text).join('; ');
+    return true;
+  }
+
+  // Functions have moved, so the same reply may name others.
+  doubt() { this.reply = null; }
+
+  // What is marked: the address, with its space where it has one, and the causes.
+  marked() { return { space: this.asked?.space ?? null, address: this.asked?.address ?? null, causes: this.lines.filter(one => one.is_cause) }; }
+
+  // The box, where the bar of this space takes it.
+  below(space) { return this.place === space ? [this.box] : []; }
+
+  unfold(is_open) {
+    const by = this.back();
+    if (by?.matches('[aria-expanded]')) by.setAttribute('aria-expanded', is_open);
+  }
+
+  forget() {
+    this.unfold(false);
+    Object.assign(this, UNASKED);
+    this.box.remove();
+    this.heard.textContent = '';
+  }
+
+  // Guests' board answers no question of firmware's.
+  forget_firmware() { if (this.asked?.call === null) this.forget(); }
+
+  close() {
+    const { back } = this;
+    this.forget();
+    this.changed();
+    back()?.focus({ preventScroll: true });
+  }
+}
