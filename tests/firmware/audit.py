@@ -1,5 +1,8 @@
-"""What `pciguest audit` says of what a firmware left: its accesses are kept as lines, and asked of the program again."""
+"""What `pciguest audit` and `pciguest ready` say of what a firmware left: its accesses are kept as lines, and asked of the
+program again."""
 import subprocess
+
+NOT_READY = "pciguest: fault 208 not ready\n"
 
 
 class Logged:
@@ -10,7 +13,7 @@ class Logged:
 
     def keep(self, line, answer):
         self.lines.append(f"host {line}\n")
-        self.answers.append(f"host: {answer}\n")
+        self.answers.append(f"host: {answer}")
 
     def port_read(self, port, width):
         value = self.board.port_read(port, width)
@@ -33,10 +36,12 @@ class Logged:
     def close(self):
         self.board.close()
 
-    def audit(self, program, file):
-        """The lines of the audit after all accesses, each of which the program has to answer as the board did."""
-        ran = subprocess.run([program, "audit", file], input="".join(self.lines), capture_output=True, text=True)
-        told = ran.stdout.splitlines(keepends=True)
-        if ran.returncode or told[:len(self.answers)] != self.answers:
-            return [f"the audit answers otherwise, or ends with status {ran.returncode}: {ran.stderr.strip()}"]
-        return [line.strip() for line in told[len(self.answers):]]
+    def told(self, program, command, file):
+        """The lines that `audit` or `ready` tells after all accesses, each of which it has to answer as the board did.
+        `ready` ends with a fault where the board isn't ready."""
+        ran = subprocess.run([program, command, file], input="".join(self.lines), capture_output=True, text=True)
+        lines, count = ran.stdout.splitlines(), len(self.answers)
+        is_lacking = command == "ready" and lines[-1:] != ["ready: ok"]
+        if (ran.returncode, ran.stderr) != ((1, NOT_READY) if is_lacking else (0, "")) or lines[:count] != self.answers:
+            return [f"{command} answers otherwise, or ends with status {ran.returncode}: {ran.stderr.strip()}"]
+        return lines[count:]

@@ -87,6 +87,16 @@ def is_bridge(cells):
     return cells[0x0E] & 0x7F == 1
 
 
+def paths(cells):
+    """The path of each function, as a board file writes it."""
+    above, found = {0: ""}, {}
+    for at, bytes_of in cells.items():
+        found[at] = f"{above[at[0]]}{at[1]}.{at[2]}"
+        if is_bridge(bytes_of):
+            above[bytes_of[0x19]] = found[at] + "/"
+    return found
+
+
 def number(at):
     """A function's number as BB:DD.F."""
     return f"{at[0]:02x}:{at[1]:02x}.{at[2]}"

@@ -4,9 +4,10 @@ from pathlib import Path
 from typing import NamedTuple
 
 from audit import Logged
-from board import BoardError, LibraryBoard, is_bridge, registers
+from board import BoardError, LibraryBoard, paths, registers
 from guests import Given
 from pc import PC, BootError
+from shown import Shown, altered
 
 
 class Firmware(NamedTuple):
@@ -25,7 +26,7 @@ UBOOT = Firmware("U-Boot", "/usr/lib/u-boot/qemu-x86/u-boot.rom", "\n=> ", (("st
 
 class Left(NamedTuple):
     """What a boot left: each function's 256 bytes, regions that answer at their place, all that is wrong, what an audit
-    says, and what came of giving the board to the guests of its file."""
+    says and what `ready` says, and what came of giving the board to the guests of its file."""
 
     cells: dict
     answering: int
@@ -33,17 +34,8 @@ class Left(NamedTuple):
     accesses: int
     told: str
     audit: list
+    ready: list
     given: Given
-
-
-def paths(cells):
-    """The path of each function, as a board file writes it."""
-    above, found = {0: ""}, {}
-    for at, bytes_of in cells.items():
-        found[at] = f"{above[at[0]]}{at[1]}.{at[2]}"
-        if is_bridge(bytes_of):
-            above[bytes_of[0x19]] = found[at] + "/"
-    return found
 
 
 def place_of(cells, bar):
@@ -78,6 +70,15 @@ def answering(board, declared, cells):
     return len(regions) - len(silent), silent
 
 
+def untrue(board, declared, ready):
+    """Each line of what `ready` says, but for the last, that isn't so on the board, or that would be with another number."""
+    if not ready[:-1]:
+        return []
+    shown = Shown(board, declared)
+    wrong = [f"isn't so: {line}" for line in ready[:-1] if not shown.is_so(line)]
+    return wrong + [f"is taken to be so: {line}" for line in map(altered, ready[:-1]) if shown.is_so(line)]
+
+
 def boot(program, file, firmware):
     """Boots the firmware over the board of a file. A boot that doesn't end, or an access that is refused, is wrong."""
     declared = tomllib.loads(Path(file).read_text())
@@ -86,14 +87,15 @@ def boot(program, file, firmware):
     pc.prompts = dict(firmware.prompts)
     try:
         pc.boot(firmware.ending)
-        accesses, audit = len(board.lines), board.audit(program, file)
+        accesses, audit, ready = len(board.lines), *(board.told(program, command, file) for command in ("audit", "ready"))
         cells = registers(board)
         answered, wrong = answering(board, declared, cells)
-        given = Given(program, file, board.board.board, audit)
+        wrong += untrue(board.board.board, declared, ready)
+        given = Given(program, file, board.board.board, audit, ready)
     except (BoardError, BootError, OSError) as error:
-        return Left({}, 0, [str(error)], len(board.lines), pc.told, [], None)
+        return Left({}, 0, [str(error)], len(board.lines), pc.told, [], [], None)
     finally:
         board.close()
     expected = {entry["at"] for key in ("endpoint", "bridge") for entry in declared.get(key, [])}
     wrong += [f"{path} isn't found" for path in sorted(expected - set(paths(cells).values()))]
-    return Left(cells, answered, wrong + given.wrong, accesses, pc.told, audit, given)
+    return Left(cells, answered, wrong + given.wrong, accesses, pc.told, audit, ready, given)

@@ -1,35 +1,34 @@
 #!/usr/bin/python3 -B
 """Is firmware that is broken on purpose found out? SeaBIOS boots on a board, and what it writes to one register comes
-changed.
+changed, or what it reads there.
 
     broken.py PROGRAM
 
-Each row of BREAKS says what is changed, and what the program's audit then has to tell, among others. Whether that is so
-is asked of the board itself: the address that is not forwarded reads all ones, and the byte before it, where that is
-the region's, doesn't; two that both answer have the address in their windows; a cycle for a function's number reads
-what the audit says. No such board is given to its guests: 207 refuses it, and what the library's audit tells first is what
-the program's does. Status 1 says that a break was not told, or that something was told that isn't so."""
+Each row of BREAKS says what is changed, and what the program's `ready` then has to tell, among others: a problem that its
+audit tells too, or a lack. Each line that is told is held against the board itself (shown.py), and what the library tells is
+what the program does. A board with a problem is refused to its guests by 207, and one whose guests get a closed region by
+206. Status 1 says that a break was not told, or that something was told that isn't so."""
 import argparse
-import re
 import sys
+import tempfile
 import tomllib
 from pathlib import Path
 from typing import Callable, NamedTuple
 
 from audit import Logged
-from board import DATA, LATCH, LibraryBoard, configuration, registers
-from boot import SEABIOS, paths
+from board import DATA, LATCH, LibraryBoard
+from boot import SEABIOS, untrue
 from guests import Given
 from pc import PC
+from pciguest._board_file import text_of
+from trees import HOST
 
 SERVER = Path(__file__).resolve().parents[2] / "boards/server.toml"
-NOT_FORWARDED = re.compile(r"audit: \S+ bar\d at (\S+) size (\S+): (\S+) is not forwarded by \S+")
-BOTH_ANSWER = re.compile(r"audit: (\S+) and (\S+) both answer memory (\S+)")
-NOT_FOUND = re.compile(r"audit: \S+: a cycle for (\w+):(\w+)\.(\w) reaches (\S+)")
 
 
 class Break(NamedTuple):
-    """Writes of a register, by number, offset and width, and what comes of their value; what the audit has to tell."""
+    """Writes of a register, or reads of it, by number, offset and width, and what comes of their value; what `ready` has to
+    tell; and by what the board is refused to its guests, where it is."""
 
     name: str
     at: tuple
@@ -37,84 +36,76 @@ class Break(NamedTuple):
     width: int
     change: Callable
     told: str
+    refusal: int = 207
+    is_read: bool = False
 
 
 BREAKS = [
     Break("a limit one unit short", (0, 3, 0), 0x26, 2, lambda value: value - 0x10,
-          "3.0/0.0/2.0 bar2 at 0xf8800000 size 0x800000: 0xf8f00000 is not forwarded by 3.0"),
+          "audit: 3.0/0.0/2.0 bar2 at 0xf8800000 size 0x800000: 0xf8f00000 is not forwarded by 3.0"),
     Break("two siblings' windows that share a unit", (0, 3, 0), 0x20, 2, lambda value: value - 0x10,
-          "2.0 and 3.0 both answer memory 0xfdb00000"),
+          "audit: 2.0 and 3.0 both answer memory 0xfdb00000"),
     Break("a Subordinate left at FFh", (0, 2, 0), 0x1A, 1, lambda value: 0xFF,
-          "3.0/0.0: a cycle for 02:00.0 reaches nothing"),
+          "audit: 3.0/0.0: a cycle for 02:00.0 reaches nothing"),
     Break("a Subordinate too low", (0, 3, 0), 0x1A, 1, lambda value: 2 if value == 3 else value,
-          "3.0/0.0/1.0: a cycle for 03:01.0 reaches nothing"),
+          "audit: 3.0/0.0/1.0: a cycle for 03:01.0 reaches nothing"),
     Break("a bridge's Command closed", (0, 4, 0), 0x04, 2, lambda value: value & ~2,
-          "4.0/0.0 bar0 at 0xfb000000 size 0x1000000: 0xfb000000 is not forwarded by 4.0"),
+          "audit: 4.0/0.0 bar0 at 0xfb000000 size 0x1000000: 0xfb000000 is not forwarded by 4.0"),
     Break("a base moved out of its window", (4, 0, 1), 0x10, 4,
           lambda value: 0xEC000000 if value == 0xFC000000 else value,
-          "4.0/0.1 bar0 at 0xec000000 size 0x100000: 0xec000000 is not forwarded by 4.0"),
+          "audit: 4.0/0.1 bar0 at 0xec000000 size 0x100000: 0xec000000 is not forwarded by 4.0"),
     Break("two bridges with one Secondary", (0, 4, 0), 0x19, 1, lambda value: 1,
-          "4.0/0.0: a cycle for 01:00.0 reaches 2.0/0.0"),
+          "audit: 4.0/0.0: a cycle for 01:00.0 reaches 2.0/0.0"),
     Break("a 64-bit base whose high half stays all ones", (3, 1, 0), 0x14, 4, lambda value: 0xFFFFFFFF,
-          "3.0/0.0/1.0 bar0 at 0xfffffffffdc00000 size 0x400000: 0xfffffffffdc00000 is not forwarded by 3.0"),
+          "audit: 3.0/0.0/1.0 bar0 at 0xfffffffffdc00000 size 0x400000: 0xfffffffffdc00000 is not forwarded by 3.0"),
+    Break("a device left closed", (1, 0, 0), 0x04, 2, lambda value: value & ~3,
+          "ready: 2.0/0.0 bar0 at 0xfd800000 size 0x20000 is closed", 206),
+    Break("a region past the aperture", (0, 5, 0), 0x10, 4,
+          lambda value: 0xFEC00000 if 0xF < value < 0xFFFFFFFF else value,
+          "ready: 5.0 bar0 at 0xfec00000 size 0x100000: 0xfec00000 is outside the apertures", 0),
+    Break("a region that is taken for prefetchable", (3, 1, 0), 0x10, 4, lambda value: value | 8,
+          "ready: 3.0/0.0/1.0 bar0 at 0xf9000000 size 0x400000: 3.0 prefetches 0xf9000000", 0, is_read=True),
+    Break("a wrong Primary", (2, 0, 0), 0x18, 1, lambda value: 0,
+          "ready: 3.0/0.0: Primary is 00 on bus 02", 0),
 ]
 
 
 class Broken:
-    """A board that gets what one register is to hold changed."""
+    """A board that gets what one register is to hold changed, or of which one register is read so."""
 
     def __init__(self, board, broken):
         self.board, self.broken, self.latch = board, broken, 0
-        self.port_read, self.memory_read, self.memory_write = board.port_read, board.memory_read, board.memory_write
+        self.memory_read, self.memory_write = board.memory_read, board.memory_write
+
+    def changed(self, is_read, port, width, value):
+        """What comes of a value that is read or written at a port."""
+        if not DATA <= port < DATA + 4 or not self.latch >> 31 or is_read != self.broken.is_read:
+            return value
+        at = self.latch >> 16 & 0xFF, self.latch >> 11 & 31, self.latch >> 8 & 7
+        is_broken = (at, (self.latch & 0xFC) + port - DATA, width) == self.broken[1:4]
+        return self.broken.change(value) if is_broken else value
+
+    def port_read(self, port, width):
+        return self.changed(True, port, width, self.board.port_read(port, width))
 
     def port_write(self, port, width, value):
         if (port, width) == (LATCH, 4):
             self.latch = value
-        elif DATA <= port < DATA + 4 and self.latch >> 31:
-            at = self.latch >> 16 & 0xFF, self.latch >> 11 & 31, self.latch >> 8 & 7
-            if (at, (self.latch & 0xFC) + port - DATA, width) == self.broken[1:4]:
-                value = self.broken.change(value)
-        self.board.port_write(port, width, value)
+        self.board.port_write(port, width, self.changed(False, port, width, value))
 
 
-def has_in_window(cells, address):
-    """Whether a bridge forwards an address of memory."""
-    def end(offset, upper):
-        high = int.from_bytes(cells[upper:upper + 4], "little") if upper else 0
-        return high << 32 | (int.from_bytes(cells[offset:offset + 2], "little") & 0xFFF0) << 16
-
-    windows = [(end(0x20, 0), end(0x22, 0)), (end(0x24, 0x28), end(0x26, 0x2C))]
-    return cells[4] & 2 and any(base <= address <= limit | 0xFFFFF for base, limit in windows)
-
-
-def is_so(board, identities, line):
-    """Whether what a line of the audit tells is so on the board."""
-    if found := NOT_FORWARDED.fullmatch(line):
-        base, size, address = (int(word, 16) for word in found.groups())
-        is_least = address == base or board.memory_read(address - 1, 1) != 0xFF
-        return base <= address < base + size and is_least and board.memory_read(address, 1) == 0xFF
-    if found := BOTH_ANSWER.fullmatch(line):
-        cells = registers(board)
-        by_path = {path: cells[at] for at, path in paths(cells).items()}
-        return all(has_in_window(by_path[path], int(found[3], 16)) for path in found.groups()[:2])
-    if found := NOT_FOUND.fullmatch(line):
-        number = (int(word, 16) for word in found.groups()[:3])
-        return configuration(board, *number, 0) == identities.get(found[4], 0xFFFFFFFF)
-    return False
-
-
-def examine(program, broken, identities):
-    """What is wrong with what the audit tells after SeaBIOS, broken so: nothing, where it is right."""
-    board = Logged(LibraryBoard(SERVER))
+def examine(program, file, broken):
+    """What is wrong with what is told after SeaBIOS, broken so: nothing, where it is right."""
+    board, declared = Logged(LibraryBoard(file)), tomllib.loads(file.read_text())
     pc = PC(Broken(board, broken), Path(SEABIOS.rom).read_bytes(), SEABIOS.plain)
     try:
         pc.boot(SEABIOS.ending)
-        told = board.audit(program, SERVER)
-        print(f"{broken.name}: {told[-1]}", *told[:-1], sep="\n  ", flush=True)
-        wrong = [f"isn't so: {line}" for line in told[:-1] if not is_so(board, identities, line)]
-        given = Given(program, SERVER, board.board.board, told)
-        wrong += given.wrong + ["it is given to guests"] * (given.number != 207)
-        return wrong + [f"isn't told: {broken.told}"] * (f"audit: {broken.told}" not in told)
+        audit, ready = (board.told(program, command, file) for command in ("audit", "ready"))
+        print(f"{broken.name}: {audit[-1]}, {ready[-1]}", *ready[:-1], sep="\n  ", flush=True)
+        wrong = untrue(board.board.board, declared, ready)
+        given = Given(program, file, board.board.board, audit, ready)
+        wrong += given.wrong + [f"it is refused to guests by {given.number}"] * (given.number != broken.refusal)
+        return wrong + [f"isn't told: {broken.told}"] * (broken.told not in ready)
     finally:
         board.close()
 
@@ -123,13 +114,13 @@ def main():
     parser = argparse.ArgumentParser(description=__doc__.split("\n\n")[0])
     parser.add_argument("program")
     program, failed = parser.parse_args().program, 0
-    declared = tomllib.loads(SERVER.read_text())
-    functions = declared["endpoint"] + declared["bridge"]
-    identities = {one["at"]: one["vendor"] | one["device"] << 16 for one in functions}
-    for broken in BREAKS:
-        for line in examine(program, broken, identities):
-            print(f"FAILED: {broken.name}: {line}")
-            failed += 1
+    with tempfile.TemporaryDirectory() as room:
+        file = Path(room) / "server.toml"
+        file.write_text(text_of({**tomllib.loads(SERVER.read_text()), "host": HOST}))
+        for broken in BREAKS:
+            for line in examine(program, file, broken):
+                print(f"FAILED: {broken.name}: {line}")
+                failed += 1
     print(f"breaks {len(BREAKS)}, failures {failed}")
     sys.exit(failed > 0)
 

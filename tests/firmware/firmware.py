@@ -4,15 +4,17 @@ QEMU.
 
     firmware.py PROGRAM [--trees N] [--seed S] [--keep FOLDER]
 
-First each firmware boots on boards of the folder boards. Then it boots on N random trees (30), here and in QEMU's machine,
-and the configuration bytes of all functions are compared; the same seed makes the same trees. After each boot the
-program audits what the firmware left, and what is wrong there is told; then the board is given to the guests of its
-file, or refused, and scripts are told what they are after our own set-up. With --keep the consoles and the boards of the
-trees are kept. Status 1 says that a boot went wrong, or that a byte differs and no rule names it. The last line
-counts."""
+First each firmware boots on boards of the folder boards, with the addresses that it gives out. Then it boots on N random
+trees (30), here and in QEMU's machine, and the configuration bytes of all functions are compared; the same seed makes the
+same trees. After each boot the program audits what the firmware left, and says whether that is ready; what is wrong or
+lacking is told, and each such line is held against the board. Then the board is given to the guests of its file, or
+refused, and scripts are told what they are after our own set-up. With --keep the consoles and the boards are kept. Status 1
+says that a boot went wrong, that a line of what is wrong or lacking isn't so, or that a byte differs and no rule names it.
+The last line counts."""
 import argparse
 import sys
 import tempfile
+import tomllib
 from collections import Counter
 from pathlib import Path
 
@@ -20,8 +22,10 @@ from board import registers
 from boot import SEABIOS, UBOOT, boot
 from guests import guests_text
 from machine import Machine, MachineError
+from pciguest._board_file import text_of
+from pciguest._judge import kind_of
 from rules import Comparison
-from trees import Reading, Tree
+from trees import HOST, Reading, Tree
 
 FOLDER = Path(__file__).resolve().parents[2] / "boards"
 # U-Boot stops before its first words on the other two
@@ -35,6 +39,7 @@ class Run:
     def __init__(self, options, room):
         self.program, self.room, self.failed = options.program, Path(options.keep or room), 0
         self.boots, self.in_order, self.given, self.replies = Counter(), Counter(), Counter(), Counter()
+        self.ready, self.kinds = Counter(), {SEABIOS.name: Counter(), UBOOT.name: Counter()}
         self.room.mkdir(parents=True, exist_ok=True)
 
     def fail(self, what):
@@ -46,11 +51,13 @@ class Run:
         left = boot(self.program, str(file), firmware)
         (self.room / f"{name}.{firmware.name}.told").write_text(left.told)
         print(f"{firmware.name:7} {name:13} functions {len(left.cells):4}  regions that answer {left.answering:3}"
-              f"  accesses {left.accesses:6}  {left.audit[-1] if left.audit else 'no audit'}", flush=True)
-        for line in left.audit[:-1]:
+              f"  accesses {left.accesses:6}  {', '.join([*left.audit[-1:], *left.ready[-1:]]) or 'no audit'}", flush=True)
+        for line in left.ready[:-1]:
             print(f"  {line}")
         self.boots[firmware.name] += 1
         self.in_order[firmware.name] += left.audit == ["audit: ok"]
+        self.ready[firmware.name] += left.ready == ["ready: ok"]
+        self.kinds[firmware.name].update(map(kind_of, left.ready[:-1]))
         if left.given:
             self.given[firmware.name, left.given.number] += 1
             self.replies[firmware.name] += left.given.lines
@@ -64,6 +71,15 @@ class Run:
             print(f"{name}: boots {count}, in order by their audit {self.in_order[name]}, given to guests "
                   f"{self.given[name, 0]}, refused by 207 {self.given[name, 207]}, by 206 {self.given[name, 206]}; "
                   f"replies to guests, each as after our own set-up, {self.replies[name]}")
+            kinds = ", ".join(f"{kind} {number}" for kind, number in sorted(self.kinds[name].items())) or "none"
+            print(f"{name}: ready {self.ready[name]}; problems and lacks, each held against the board: {kinds}")
+
+    def own_board(self, name):
+        """The file of a board of the folder boards, with the addresses that firmware gives out."""
+        document = tomllib.loads((FOLDER / f"{name}.toml").read_text())
+        file = self.room / f"{name}.toml"
+        file.write_text(text_of({**document, "host": HOST}))
+        return file
 
     def read_tree(self, seed):
         """A random tree as QEMU has it at reset, and the file of its board."""
@@ -104,7 +120,7 @@ def examine(options, room):
     run, comparison = Run(options, room), Comparison()
     for firmware in (SEABIOS, UBOOT):
         for name in BOARDS[firmware]:
-            run.boot(name, FOLDER / f"{name}.toml", firmware)
+            run.boot(name, run.own_board(name), firmware)
     for seed in range(options.seed, options.seed + options.trees):
         try:
             run.compare(seed, comparison)

@@ -69,14 +69,24 @@ def tell(machine, lines):
     return [reply for reply in replies if reply is not None]
 
 
+def told_otherwise(board, audit, ready):
+    """What the library tells of a board otherwise than the program; and `ready` begins with the problems of the audit."""
+    before, told = board.audit().text.splitlines(), board.ready()
+    wrong = [f"the library's audit tells {before[0]} in place of {audit[0]}"] * (before != audit)
+    found = told.text.splitlines()
+    wrong += [f"the library tells {found[0]} in place of {ready[0]}"] * (found != ready)
+    wrong += [f"{told.lacks} problems and lacks in place of {len(ready) - 1}"] * (told.lacks != len(ready) - 1)
+    wrong += ["the line 'host ready' tells something else"] * (board.run_line("host ready") != "\n".join(ready))
+    return wrong + ["ready tells other problems than the audit"] * (ready[:len(audit) - 1] != audit[:-1])
+
+
 class Given:
     """What came of giving a board to the guests of its file: `number` is 0 or that of the refusal."""
 
-    def __init__(self, program, file, board, audit):
-        """`board` is of the library, and `audit` are the lines that the program's audit tells of it."""
-        self.number, self.lines, self.wrong = 0, 0, []
+    def __init__(self, program, file, board, audit, ready):
+        """`board` is of the library, and `audit` and `ready` are the lines that the program tells of it."""
+        self.number, self.lines, self.wrong = 0, 0, told_otherwise(board, audit, ready)
         before = board.audit().text.splitlines()
-        self.wrong += [f"the library's audit tells {before[0]} in place of {audit[0]}"] * (before != audit)
         try:
             machine = board.into_guests()
         except pciguest.Refusal as refusal:

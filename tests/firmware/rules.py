@@ -4,8 +4,7 @@ No rule speaks of Command, base address registers, bus numbers and windows: they
 from collections import Counter
 from typing import NamedTuple
 
-from board import is_bridge, number
-from boot import paths
+from board import is_bridge, number, paths
 
 
 class Rule(NamedTuple):

@@ -5,6 +5,7 @@ and in endpoints each byte from 40h on with the bits that can be written there."
 import random
 
 from board import DATA, LATCH, configuration, functions_of, number
+from pciguest._drawing import PLAIN
 
 # QEMU's devices without a driver in either firmware, whose regions a board file can have
 ENDPOINTS = ["edu", "pci-testdev", "pci-testdev,membar={size}M", "pci-serial,chardev=null{n}", "ES1370,audiodev=none",
@@ -12,6 +13,8 @@ ENDPOINTS = ["edu", "pci-testdev", "pci-testdev,membar={size}M", "pci-serial,cha
              "pcm3680_pci,canbus0=can,canbus1=can", "ivshmem-plain,memdev=memory{n}", "intel-hda"]
 BRIDGE = "pci-bridge,chassis_nr={n},msi=off,shpc=off"
 DEEPEST, MOST_BRIDGES = 4, 8
+# the addresses that SeaBIOS and U-Boot give out
+HOST = PLAIN.table()
 
 
 class Tree:
@@ -103,7 +106,7 @@ class Reading:
 
     def __init__(self, machine):
         self.machine, self.last, self.reset, self.text = machine, 0, {}, ""
-        self.text = "[host]\nio = [0x1000, 0xffff]\nmem = [0x80000000, 0xfebfffff]\n"
+        self.text = "".join(["[host]\n", *(f"{key} = [{first:#x}, {last:#x}]\n" for key, (first, last) in HOST.items())])
         self.walk(0, "")
 
     def walk(self, bus, above):

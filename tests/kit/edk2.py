@@ -18,9 +18,9 @@ import places
 from pciguest._board_file import functions, text_of
 from pciguest._driven import Library, Program
 from pciguest._judge import findings, kind_of
-from registers import memory_window, prefetchable_window, registers
 
-board, boot, machine, rules, trees = places.modules("firmware", "board", "boot", "machine", "rules", "trees")
+board, boot, machine, registers, rules, trees = places.modules(
+    "firmware", "board", "boot", "machine", "registers", "rules", "trees")
 
 
 class System(NamedTuple):
@@ -88,7 +88,7 @@ class Count:
                 if reply != "host: ok":
                     self.fail(f"tree {seed}: {line}: {reply}")
             found = findings(driven)
-            ours = registers(driven, document)
+            ours = registers.of_all(driven, document)
         self.compare(seed, reading.reset, cells, ours)
         self.add_windows(document, ours)
         kinds = Counter(kind_of(line) for line in found)
@@ -103,13 +103,13 @@ class Count:
     def add_windows(self, document, ours):
         """How long the windows of bridges are."""
         for bridge in (one for one in functions(document) if one.is_bridge):
-            windows = {"memory": memory_window(ours[bridge.at]),
-                       "prefetchable": prefetchable_window(ours[bridge.at], bridge.table["pref"])}
+            windows = {"memory": registers.memory_window(ours[bridge.at]),
+                       "prefetchable": registers.prefetchable_window(ours[bridge.at], bridge.table["pref"])}
             for name, (first, last) in windows.items():
                 self.windows[name, max(0, last + 1 - first) >> 20] += 1
 
     def compare(self, seed, reset, cells, ours):
-        known, names = len(self.comparison.unnamed), boot.paths(cells)
+        known, names = len(self.comparison.unnamed), board.paths(cells)
         self.comparison.add(reset, cells, {at: ours[names[at]] for at in cells if names[at] in ours})
         for line in self.comparison.unnamed[known:]:
             self.fail(f"tree {seed}: {line}")

@@ -8,8 +8,8 @@ and a console at the ports 3F8h and 402h. The ROM stands below 4 GB, and its las
 address is the board's: by default six of the folder boards, one after the other. The addresses that the ROM may give out
 are those of such a PC, 1000h to FFFFh and 80000000h to FEBFFFFFh, unless others are given. A boot ends where the console
 has told the last words (--ending), where the processor halts with interrupts off, or, if no last words are given, once its
-time is over (30 seconds). --old is a processor without time stamps and APIC. Status 1 says that a boot went wrong or that a
-board isn't ready."""
+time is over (30 seconds). Of what is wrong or lacking first the board is asked why. --old is a processor without time stamps
+and APIC. Status 1 says that a boot went wrong or that a board isn't ready."""
 import argparse
 import sys
 import tomllib
@@ -21,6 +21,7 @@ from pciguest._board_file import text_of
 from pciguest._drawing import PLAIN, Apertures
 from pciguest._driven import Library, Program
 from pciguest._judge import findings
+from pciguest._reasons import reasons
 from pciguest.firmware_test import aperture, example_files
 
 board, pc = places.modules("firmware", "board", "pc")
@@ -73,9 +74,10 @@ def examine(rom, file, options, maker):
         machine = pc.PC(lines, rom, options.old)
         ended, is_wrong = boot(machine, options.ending, options.time)
         found = findings(driven)
+        why = reasons(driven, document, found[0]) if found else []
     words = [line.strip() for line in machine.told.splitlines() if line.strip()]
     print(f"{file.name}: {ended}, after {lines.count} accesses; console: {words[-1] if words else 'nothing'}")
-    print(*(f"  {line}" for line in found or ["ready"]), sep="\n", flush=True)
+    print(*(f"  {line}" for line in [*found, *why] or ["ready"]), sep="\n", flush=True)
     return is_wrong or bool(found)
 
 

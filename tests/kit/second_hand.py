@@ -7,11 +7,13 @@ import tomllib
 import places
 from pciguest._board_file import functions
 
-audited, board, placement, ready, rules = places.modules("fuzz", "audited", "board", "placement", "ready", "rules")
+audited, board, placement, ready, rules, why = places.modules(
+    "fuzz", "audited", "board", "placement", "ready", "rules", "why")
 
 ACCESS = re.compile(r"host c([rw]) (\w\w):(\w\w)\.(\d) (\w+) ([124])(?: (\w+))?")
 LATCH = re.compile(r"host i([rw]) 0xcf8 4(?: (\w+))?")
 DATA = re.compile(r"host i([rw]) (0xcf[cdef]) ([124])(?: (\w+))?")
+WHY = re.compile(r"host why (?:(mem|io) (\w+)|cfg (\w\w):(\w\w)\.(\d))")
 
 
 def patterns(table):
@@ -44,6 +46,10 @@ class SecondHandBoard:
     def run_line(self, line):
         if not line.split() or line.startswith("#"):
             return None
+        if line == "host ready":
+            return self.ready_text()[:-1]
+        if found := WHY.fullmatch(line):
+            return "\n".join(f"why: {each}" for each in self.why(found))
         if found := ACCESS.fullmatch(line):
             self.latch = 0
             at = int(found[2], 16), int(found[3], 16), int(found[4])
@@ -65,6 +71,14 @@ class SecondHandBoard:
         path = self.state.reached(at)
         read = (1 << 8 * width) - 1 if path is None else self.state.read_bytes(path, offset, width)
         return f"host: 0x{read:0{2 * width}x}"
+
+    def why(self, found):
+        """The lines of a question why, but for their first word."""
+        if found[1] is None:
+            return why.why_number(self.state, (int(found[3], 16), int(found[4], 16), int(found[5])))
+        if found[1] == "io":
+            return why.why_port(self.state, self.latch, int(found[2], 0))
+        return why.why(self.state, "memory", int(found[2], 0))
 
     def ready_text(self):
         return "".join(f"{line}\n" for line in ready.ready(self.board, self.state))

@@ -13,10 +13,10 @@ from pciguest._board_file import functions
 from pciguest._driven import Library, Program
 from pciguest._judge import findings
 from pciguest.strategies import PLAIN, boards, firmware, scripts
-from registers import registers
 from second_hand import SecondHandBoard, board_of
 
 (answers,) = places.modules("fuzz", "answers")
+(registers,) = places.modules("firmware", "registers")
 
 PROGRAM = os.environ.get("PROGRAM")
 MAKER = Program(PROGRAM) if PROGRAM else Library()
@@ -57,7 +57,7 @@ def test_firmware(data):
             if reply and line.split()[1:2] in (["cr"], ["cw"]) and "refused" not in reply:
                 assert reply == other, line
         assert findings(first) == findings(second)
-        cells = registers(first, document)
+        cells = registers.of_all(first, document)
         for one in functions(document):
             state = second.state.read_bytes(one.path, 0, 256).to_bytes(256, "little")
             assert cells[one.at] == state, one.at

@@ -8,14 +8,25 @@ from pciguest._board_file import functions, text_of
 from pciguest._drawing import PLAIN, RandomChoices, draw_board
 from pciguest._firmware_run import findings
 from pciguest._judge import KINDS, Sizing, first_register, kind_of, same_problem
+from pciguest._reasons import reasons
 from pciguest._shrink import shrunk
-from registers import registers
 from second_hand import SecondHand, SecondHandBoard
 
+(registers,) = places.modules("firmware", "registers")
 BOARDS = places.TOP / "boards"
 AUDITED = tomllib.loads((places.TOP / "examples/audit/board.toml").read_text())
 AUDITED["host"]["pref"] = [0x400000000, 0x4FFFFFFFF]
 SET_UP = (places.TOP / "examples/audit/set_up.script").read_text().splitlines()
+#: what is asked of the first finding after a script of examples/audit
+ASKED = {
+    "limit_short": "mem 0xc0300000",
+    "shared_unit": "mem 0xc0300000",
+    "subordinate_low": "cfg 02:00.0",
+    "never_opened": "mem 0xc0000000",
+    "outside_apertures": "mem 0xe0000000",
+    "prefetched": "mem 0xc0300000",
+    "primary_left": "cfg 01:02.0",
+}
 
 
 def after(*lines):
@@ -89,9 +100,9 @@ class Findings(unittest.TestCase):
     def test_reading_registers_changes_nothing(self):
         board = after("host cw 00:03.0 0x18 4 0x00010100", "host iw 0xcf8 4 0x80001234")
         before = board.ready_text(), board.run_line("host ir 0xcf8 4")
-        cells = registers(board, AUDITED)
+        cells = registers.of_all(board, AUDITED)
         self.assertEqual((board.ready_text(), board.run_line("host ir 0xcf8 4")), before)
-        self.assertEqual(cells, registers(board, AUDITED))
+        self.assertEqual(cells, registers.of_all(board, AUDITED))
         self.assertEqual({at: value[0x18:0x1B].hex() for at, value in cells.items() if value[0x0E] & 0x7F},
                          {"2.0": "000102", "2.0/2.0": "010202", "3.0": "000101"})
 
@@ -116,6 +127,33 @@ class Findings(unittest.TestCase):
         one = "ready: 1.0 bar0 at 0x0 size 0x10 is closed"
         self.assertEqual(same_problem(one), same_problem(one.replace("0x0 ", "0xc0000000 ")))
         self.assertNotEqual(same_problem(one), same_problem(one.replace("bar0", "bar1")))
+
+
+class Reasons(unittest.TestCase):
+    def test_each_kind(self):
+        for name, asked in ASKED.items():
+            board = after(*(places.TOP / f"examples/audit/{name}.script").read_text().splitlines())
+            told = reasons(board, AUDITED, findings(board)[0])
+            self.assertEqual(told[0], f"host why {asked}", name)
+            self.assertEqual({line[:5] for line in told[1:]}, {"why: "}, told)
+
+    def test_ports(self):
+        board = after("host cw 01:01.0 4 2 0")
+        self.assertEqual(reasons(board, AUDITED, findings(board)[0]), [
+            "host why io 0x1000",
+            "why: I/O 0x1000: nobody answers",
+            "why: 2.0/1.0 bar0 at 0x1000 size 0x20: closed, Command 0x0000",
+        ])
+        both = "audit: 1.0 bar1 and 2.0 both answer I/O 0x1000"
+        self.assertEqual(reasons(board, AUDITED, both)[0], "host why io 0x1000")
+
+    def test_sizing(self):
+        for line, asked in (("host cw 01:00.0 0x18 4 0xffffffff", "mem 0x4fff00000"),
+                            ("host cw 01:00.0 0x1c 4 0xffffffff", "mem 0xffffffff00000000"),
+                            ("host cw 00:01.0 0x10 4 0xffffffff", "mem 0xfffff000"),
+                            ("host cw 01:01.0 0x10 4 0xffffffff", "io 0xffffffe0")):
+            board = after(line)
+            self.assertEqual(reasons(board, AUDITED, Sizing(board).seen(line))[0], f"host why {asked}")
 
 
 if __name__ == "__main__":

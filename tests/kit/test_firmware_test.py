@@ -9,6 +9,7 @@ import tempfile
 import time
 import tomllib
 import unittest
+from contextlib import closing
 from pathlib import Path
 from unittest import mock
 from xml.etree import ElementTree
@@ -16,6 +17,7 @@ from xml.etree import ElementTree
 import places  # noqa: F401
 from pciguest import firmware_test
 from pciguest._child import Limits
+from pciguest._driven import Program
 from pciguest._firmware_run import Firmware
 from second_hand import SecondHand
 
@@ -40,6 +42,15 @@ import os, sys, time
 def ask(line):
     print(line, flush=True)
     return input()
+"""
+#: the second hand as a program that reads lines
+PROGRAM = f"""#!{sys.executable} -B
+import sys, tomllib
+sys.path.insert(0, {os.path.dirname(os.path.abspath(__file__))!r})
+from second_hand import SecondHandBoard
+board = SecondHandBoard(tomllib.load(open(sys.argv[2], "rb")))
+for line in sys.stdin:
+    print(board.run_line(line.strip()), flush=True)
 """
 PLACE = "ask('host cw 00:01.0 0x10 4 0xc0000000'); ask('host cw 00:01.0 0x14 4 0x1000');"
 OPEN = "ask('host cw 00:01.0 4 2 3')"
@@ -89,17 +100,22 @@ class FirmwareTest(unittest.TestCase):
     def test_a_lack_since_reset(self):
         told = self.fails("pass", "ready: 1.0 bar0 at 0x0 size 0x[14]0? is closed\n.*so since reset: none of the 0 lines")
         self.assertIn('at = "1.0"', told)
+        why = "\nhost why (mem|io) 0x0\nwhy: .* 0x0: nobody answers\nwhy: 1.0 bar0 .*: closed, Command 0x0000\n"
+        self.assertTrue(re.search(why, told), told)
         self.assertNotIn("2.0", told.split("this board again")[0])
         self.assertIn("size = 0x", self.failed.read_text())
 
     def test_since_which_line(self):
         told = self.fails(PLACE + OPEN + "; ask('host cr 00:01.0 0 4'); ask('host cw 00:01.0 0x10 4 0xe0000000')",
                           "0xe0000000 is outside the apertures\n")
-        self.assertIn("so since line 5 of 5: host cw 00:01.0 0x10 4 0xe0000000\n", told)
+        self.assertIn("so since line 5 of 5: host cw 00:01.0 0x10 4 0xe0000000\n"
+                      "host why mem 0xe0000000\nwhy: memory 0xe0000000: 1.0 bar0 offset 0x0 answers\n\n", told)
 
     def test_sizing(self):
         sizing = "ask('host cw 00:01.0 4 2 2'); ask('host cw 00:01.0 0x10 4 0xffffffff');"
-        self.fails(sizing + PLACE + OPEN, "sizing: 00:01.0 bar0: all ones are written while Command 0x0002 opens memory")
+        words = "sizing: 00:01.0 bar0: all ones are written while Command 0x0002 opens memory"
+        told = self.fails(sizing + PLACE + OPEN, words)
+        self.assertTrue(re.search("host why mem (0xf+0+)\nwhy: memory \\1: 1.0 bar0 offset 0x0 answers\n", told), told)
         ports = "ask('host iw 0xcf8 4 0x80000810'); ask('host iw 0xcfc 4 0xffffffff');"
         self.fails("ask('host cw 00:01.0 4 2 2');" + ports + PLACE + OPEN, "sizing: 00:01.0 bar0: all ones")
         self.assertEqual(self.run_firmware(ports + PLACE + OPEN)[0], 0)
@@ -140,6 +156,21 @@ class FirmwareTest(unittest.TestCase):
         self.fails("sys.stdout.buffer.write(b'\\xff\\n')", r"no access .*'\\\\xff'", "--shrink", "0")
         self.fails("ask('host cr 00:01.0 1 4')", r"an access that no board takes \(host: refused 301 misaligned\)",
                    "--shrink", "0")
+        self.fails("ask('host guests')", "no access, and gives the board away: 'host guests'", "--shrink", "0")
+
+    def test_questions_of_the_firmware(self):
+        for question in ("host ready", "host why mem 0xc0000000"):
+            self.assertEqual(self.run_firmware(f"ask('{question}');" + PLACE + OPEN)[0], 0)
+
+    def test_replies_of_several_lines_by_a_program(self):
+        program = Path(self.folder.name) / "program"
+        program.write_text(PROGRAM)
+        program.chmod(0o755)
+        with closing(Program(str(program)).board(BOARD)) as board, closing(SecondHand().board(BOARD)) as other:
+            for line in ("ready", "cr 00:01.0 0 4", "why mem 0x0", "why cfg 00:01.0", "cw 00:01.0 4 2 3"):
+                self.assertEqual(board.run_line(f"host {line}"), other.run_line(f"host {line}"))
+            self.assertEqual(board.ready_text(), other.ready_text())
+            self.assertEqual(board.run_line("host cr 00:01.0 4 2"), "host: 0x0003")
 
     def test_nothing_is_left_running(self):
         mark = Path(self.folder.name) / "pid"

@@ -64,8 +64,9 @@ class Transcripts(unittest.TestCase):
 
     def test_record(self):
         back_end = Fixed(self.right)
+        back_end.replies |= {"host ready": "ready: ok", "host guests": "closed: 1.0 bar0\nhost: refused 206 closed region"}
         section = transcript.record(back_end, "run", "the board", "board.toml", "two guests",
-                                    ["# a comment", "a cr 0 0 4", "b cr 0 0 4"])
+                                    ["# a comment", "a cr 0 0 4", "host ready", "host guests", "b cr 0 0 4"])
         self.assertEqual((section, back_end.begun, back_end.open), (self.sections[0], [("run", "the board")], 0))
 
     def replay(self, replies, guest=None):

@@ -60,6 +60,7 @@ IN_USE = 903  # in use
 NOT_AT_RESET = 904  # not at reset
 
 NOT_READY = 208  # not ready
+REFUSED_LINE = 209  # refused line
 BAD_LINE = 401  # bad line
 UNKNOWN_GUEST = 402  # unknown guest
 LONG_LINE = 403  # long line
@@ -334,6 +335,19 @@ DECLARED: Dict[str, Tuple[Any, Tuple[Any, ...]]] = {
     # this byte, but for four bytes at port CF8h, which are the guest's own CONFIG_ADDRESS. Numbers as for a read of one
     # byte there.
     "locate": (c_uint32, (POINTER(Handle), c_size_t, c_uint32, c_uint64, c_uint64, POINTER(HitTold))),
+    # Writes why an access of the guest at a place, as pciguest_locate takes it, finds what it finds, a line for each
+    # thing: at port CF8h, and at CFCh to CFFh, what the guest's CONFIG_ADDRESS makes of it (PCI Local Bus 3.0,
+    # 3.2.2.3.2); then the slot, the region or configuration space and the offset there that answers, or that nobody
+    # does, that the slot is empty, or that CONFIG_ADDRESS selects no slot; and where nobody answers, each region of the
+    # guest's functions that holds the address and whose space Command doesn't open (6.2.5), by slot, then by register.
+    # It tells the text's length, which has no 0 at its end. It tells of the guest's own functions and CONFIG_ADDRESS
+    # alone: two guests that hold the same are told the same. Nothing changes. Numbers as for a read of one byte there.
+    # 902 too: there is less room than the text needs, whose length alone is told.
+    # 299: out of memory.
+    "why": (
+        c_uint32,
+        (POINTER(Handle), c_size_t, c_uint32, c_uint64, c_uint64, POINTER(c_char), c_size_t, POINTER(c_size_t)),
+    ),
     # How many functions the board has, endpoints and bridges.
     "count": (c_uint32, (POINTER(Handle), POINTER(c_size_t))),
     # The function at an index, from 0 to one less than pciguest_count tells, in the order of paths: a bridge stands

@@ -3,19 +3,15 @@
 from __future__ import annotations
 
 import math
-import re
 import subprocess
 import sys
 import tempfile
 from pathlib import Path
-from typing import Optional, Protocol
+from typing import List, Optional, Protocol
 
 from . import _board, _texts
 from ._child import Child, Limits, Misbehaviour
-
-#: the last line of the text of readiness
-LAST = re.compile(r"ready: (ok|\d+ lacks?)\Z")
-
+from ._lines import is_question
 
 class DrivenBoard(Protocol):
     """A board that firmware drives by lines, from reset on."""
@@ -63,7 +59,8 @@ class ProgramFailed(Exception):
 
 
 class ProgramBoard:
-    """The board of a file at reset, by the program. Each line is answered before the next is written."""
+    """The board of a file at reset, by the program. Each line is answered before the next is written, but for one after a
+    question."""
 
     LIMITS = Limits(60, math.inf, sys.maxsize)
 
@@ -86,13 +83,20 @@ class ProgramBoard:
 
     def run_line(self, line: str) -> Optional[str]:
         words = line.split()
-        return None if not words or words[0].startswith("#") else self.ask(line)
+        if not words or words[0].startswith("#"):
+            return None
+        return "\n".join(self.told(line)) if is_question(line) else self.ask(line)
+
+    def told(self, question: str) -> List[str]:
+        """The reply to a question: all lines that come before the reply to the next line, which reads the address latch."""
+        self.child.answer(question)
+        lines = [self.ask("host ir 0xcf8 4")]
+        while not lines[-1].startswith("host: 0x"):
+            lines.append(self.reply())
+        return lines[:-1]
 
     def ready_text(self) -> str:
-        lines = [self.ask("host ready")]
-        while not LAST.match(lines[-1]):
-            lines.append(self.reply())
-        return "".join(f"{line}\n" for line in lines)
+        return "".join(f"{line}\n" for line in self.told("host ready"))
 
     def close(self) -> None:
         self.child.close()

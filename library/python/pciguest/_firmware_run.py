@@ -10,6 +10,7 @@ from ._board_file import Document, text_of
 from ._child import Child, Limits, Misbehaviour
 from ._driven import DrivenBoard, Maker
 from ._judge import Sizing, findings, kind_of, same_problem
+from ._reasons import reasons
 
 REFUSED = re.compile(r"\S+ refused (\d+) ")
 #: numbers of lines that are no access at all; what else is refused is an access that no board takes
@@ -65,6 +66,8 @@ class Firmware:
         sizing, found = Sizing(board), []
         for raw in child.lines():
             line = raw.decode("utf-8", "backslashreplace")
+            if line.split()[:2] == ["host", "guests"]:
+                raise Misbehaviour("nonsense", f"writes a line that is no access, and gives the board away: {line[:100]!r}")
             reply = board.run_line(line)
             refusal = REFUSED.match(reply or "")
             if refusal and refusal[1] in NO_ACCESS:
@@ -103,6 +106,14 @@ def since(maker: Maker, document: Document, lines: List[str], finding: str) -> i
             now = wanted in problems(board)
             place, was = (count if now and not was else place), now
     return place
+
+
+def reasons_after(maker: Maker, document: Document, lines: List[str], finding: str) -> List[str]:
+    """Why a finding is so once these lines have run: the line that asks it, and the board's reply."""
+    with closing(maker.board(text_of(document))) as board:
+        for line in lines:
+            board.run_line(line)
+        return reasons(board, document, finding)
 
 
 def problems(board: DrivenBoard) -> Set[str]:

@@ -55,6 +55,13 @@ class Held:
             answer = CALLS[name](byref(self._handle), *arguments)
         answered(answer)
 
+    def _told(self, name: str, room: int, *arguments: Any) -> str:
+        """The text of a call on what is held. Arguments are in range."""
+        with self._lock:
+            answer, text = told(room, lambda *rest: CALLS[name](byref(self._handle), *arguments, *rest))
+        answered(answer)
+        return text
+
     def _reply(self, name: str, line: Union[str, bytes]) -> Optional[str]:
         """Runs a line by a call, which takes it with its line feed or without. Where its reply needs more room, nothing
         happened, and it runs once more."""

@@ -1,5 +1,5 @@
-"""The accesses of guests that lines of a script ask for. The library judges lines; what is read here of one counts only
-where its reply says that it was done."""
+"""What lines ask for: accesses of guests, and questions of a session. The library judges lines; what is read here of one
+counts only where its reply says that it was done."""
 
 from __future__ import annotations
 
@@ -11,6 +11,8 @@ from ._calls import CONFIG, IO, MEMORY
 SPACES = {b"c": CONFIG, b"i": IO, b"m": MEMORY}
 #: most bytes of a line
 LONGEST = 200
+#: the second words of lines that ask of the registers; their replies may have several lines
+QUESTIONS = ("audit", "ready", "why")
 
 
 class Access(NamedTuple):
@@ -39,6 +41,12 @@ def number_of(word: bytes) -> Optional[int]:
     else:
         return None
     return value if value < 1 << 64 else None
+
+
+def is_question(line: str) -> bool:
+    """Whether a line asks of the registers of a board that firmware drives."""
+    words = line.split()
+    return words[:1] == ["host"] and any(words[1:2] == [word] for word in QUESTIONS)
 
 
 def access_of(line: bytes, index_of: Callable[[bytes], Optional[int]]) -> Optional[AskedFor]:

@@ -344,6 +344,20 @@ class Guest:
             return None
         return Hit(told.slot, None if told.part == RAISE_CONFIG else told.part, told.offset)
 
+    def why(self, space: str, place: int, slot: int = 0) -> str:
+        """Why an access of the guest at a port ("io"), at an address ("memory") or at an offset of a slot ("config") finds
+        what it finds, a line for each thing: at port CF8h, and at CFCh to CFFh, what the guest's CONFIG_ADDRESS makes of it;
+        then what answers, or that nobody does, that the slot is empty or that CONFIG_ADDRESS selects no slot; and where
+        nobody answers, each region of the guest's functions that holds the address and whose space Command doesn't open. It
+        tells of the guest's own functions and CONFIG_ADDRESS alone. It changes nothing. 303: the slot, the offset or the
+        port is out of range. 299: out of memory.
+        """
+        spaces = {"config": CONFIG, "io": IO, "memory": MEMORY}
+        if space not in spaces:
+            raise ValueError(f"space: {space!r} is none of 'config', 'io' and 'memory'")
+        at = spaces[space], number("slot", slot, 64), number("place", place, 64)
+        return self.machine._told("why", 512, self.index, *at)
+
     def _space(self, space: int, slot: int) -> Space:
         machine, guest = self.machine, self.index
 

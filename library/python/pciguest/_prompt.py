@@ -7,6 +7,7 @@ from typing import Callable, Dict, Iterator, List, Sequence, Tuple
 
 from ._explain import GUEST, MEANING, why_bad
 from ._functions import Function
+from ._lines import number_of
 from ._machine import Machine
 from ._names import BRIDGE, ENDPOINT
 from ._places import PATH, WrongPlace, function_at, is_place, line_of
@@ -19,8 +20,12 @@ a.mem[0x80000000:4] as a guest; 2.0.command, 2.0/1.0.bar0[0:4], host.mem[0xc0000
   tree           all functions of the board, with their numbers and who has them
   regs PATH      the registers of a function, as the board has them; regs a or regs a.1 as a guest is told of its slot
   slots          what each guest has, and where its regions stand in its own view
+  why a mem 0x80000000      why a guest's access finds what it finds, or nobody; so why a io 0xcfc, why a cfg 1 0x10
   undo           takes back the last line that may have changed something
   quit           ends, as the end of input does"""
+
+# the space that a word means, and how many numbers stand behind it
+SPACES: Dict[str, Tuple[str, int]] = {"cfg": ("config", 2), "io": ("io", 1), "mem": ("memory", 1)}
 
 
 class Prompt:
@@ -36,6 +41,7 @@ class Prompt:
             "tree": lambda _: self._tell(self._tree()),
             "slots": lambda _: self._tell(self._slots()),
             "regs": self._registers,
+            "why": self._why,
             "undo": lambda _: self._undo(),
         }
 
@@ -130,10 +136,21 @@ class Prompt:
         for name, (offset, width) in sorted(names.items(), key=lambda row: row[1]):
             self._write(f"{offset:02x} {name:17} {space[offset:width]:#0{2 + 2 * width}x}")
 
+    def _why(self, words: List[str]) -> None:
+        space, count = SPACES.get(words[1] if len(words) > 1 else "", ("", 0))
+        found = [number_of(word.encode(errors="surrogateescape")) for word in words[2:]]
+        numbers = [value for value in found if value is not None]
+        if not numbers or not len(found) == len(numbers) == count:
+            raise WrongPlace("write a guest and a place, as why a mem 0x80000000, why a io 0xcfc or why a cfg 1 0x10")
+        text = self.machine.guest(words[0]).why(space, numbers[-1], numbers[0] if count == 2 else 0)
+        self._tell(iter(text.splitlines()))
+
     def _offers(self, before: Sequence[str], word: str) -> List[str]:
         paths = {one.path: BRIDGE if one.is_bridge else ENDPOINT for one in self.machine.functions()}
         if before[:1] == ["regs"]:
             return [*paths, *self.guests]
+        if before[:1] == ["why"]:
+            return self.guests if len(before) == 1 else [*SPACES] if len(before) == 2 else []
         if before[:2] == ["host", "move"]:
             return self.guests
         if len(before) == 1:

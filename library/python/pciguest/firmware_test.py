@@ -23,7 +23,7 @@ from ._drawing import PARTED, PLAIN, WIDE, Apertures, RandomChoices, draw_board
 from ._child import CannotStart, Limits
 from ._driven import Library, Maker, Program, ProgramFailed
 from ._files import find
-from ._firmware_run import Firmware, Run, since
+from ._firmware_run import Firmware, Run, reasons_after, since
 from ._judge import KINDS
 from ._shrink import shrunk
 
@@ -169,19 +169,22 @@ class Test:
         again = [*called(), *self.repeated()]
         lines = [f"FAILED on {board.name} ({count}), and on this board ({least}):", ""]
         lines += [text_of(small).rstrip(), "", *last.wrong]
-        lines += [self.told_since(small, last)] if last.kind in KINDS else []
+        lines += self.told_since(small, last) if last.kind in KINDS else []
         lines += ["", "its standard error:", last.last_words] if last.last_words else []
         words = shlex.join([*again, "--board", self.options.save, "--", *self.options.command])
         lines += ["", f"this board again:  {words}"]
         words = f"{shlex.join(again)} {board.again} -- {shlex.join(self.options.command)}"
         return "\n".join([*lines, f"the first one:     {words}"])
 
-    def told_since(self, document: Document, run: Run) -> str:
-        """Since which line the first problem is there."""
-        place = since(self.maker, document, run.lines, run.wrong[0])
-        if not place:
-            return f"the first of these is so since reset: none of the {len(run.lines)} lines changed it"
-        return f"the first of these is so since line {place} of {len(run.lines)}: {run.lines[place - 1]}"
+    def told_since(self, document: Document, run: Run) -> List[str]:
+        """Since which line the first problem is there, and why it is at the end, or after that line where it went by."""
+        place, count = since(self.maker, document, run.lines, run.wrong[0]), len(run.lines)
+        told = f"reset: none of the {count} lines changed it"
+        if place:
+            told = f"line {place} of {count}: {run.lines[place - 1]}"
+        lines = run.lines[:place] if run.kind == "sizing" else run.lines
+        why = reasons_after(self.maker, document, lines, run.wrong[0])
+        return [f"the first of these is so since {told}", *why]
 
     def repeated(self) -> List[str]:
         """The words that say what is asked of firmware."""

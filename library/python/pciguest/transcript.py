@@ -23,8 +23,10 @@ from typing import Callable, Iterable, Iterator, List, NamedTuple, Optional, Pro
 from ._board import Board
 from ._calls import CONFIG, IO, MEMORY
 from ._child import CannotStart, Child, Limits, Misbehaviour
-from ._lines import LONGEST, access_of, number_of
+from ._lines import LONGEST, access_of, is_question, number_of
 from ._machine import Machine
+from ._recording import RecordedBoard as RecordedBoard
+from ._recording import RecordedMachine as RecordedMachine
 from ._refusal import Refusal
 
 ARROW = " -> "
@@ -113,6 +115,13 @@ class Process:
         if not has_reply(line):
             return None
         self.child.answer(line)
+        told = [self.reply()]
+        # where the board isn't given to its guests, a line says why before it is refused
+        while line.split() == ["host", "guests"] and not told[-1].startswith("host: "):
+            told.append(self.reply())
+        return "\n".join(told)
+
+    def reply(self) -> str:
         reply = next(self.replies, None)
         if reply is None:
             raise Misbehaviour("dies", "ended before its last line")
@@ -159,11 +168,13 @@ def read(text: str) -> List[Section]:
 
 
 def record(back_end: BackEnd, mode: str, board: str, name: str, title: str, lines: Iterable[str]) -> Section:
-    """A section with what a back end answers. A board is given as a text, and its name stands in the section."""
+    """A section with what a back end answers. A board is given as a text, and its name stands in the section. Questions of
+    a session, as `host ready`, are left out, and so are replies of several lines, as of `host guests` that is refused: none
+    of these changes anything."""
     back_end.begin(mode, board)
     try:
-        rows = ((line, back_end.answer(line)) for line in lines)
-        return Section(mode, name, title, [(line, reply) for line, reply in rows if reply is not None])
+        rows = ((line, back_end.answer(line)) for line in lines if not is_question(line))
+        return Section(mode, name, title, [(line, reply) for line, reply in rows if reply and "\n" not in reply])
     finally:
         back_end.close()
 

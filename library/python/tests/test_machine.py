@@ -83,6 +83,29 @@ class Guests(Case):
         with self.assertRaises(ValueError):
             a.region(0, -1)
 
+    def test_a_guest_is_told_why(self):
+        a, function = self.a, self.a.config[0]
+        function[0x14:4] = 0xD0000000
+        self.assertEqual(
+            a.why("memory", 0xD0000010),
+            "why: memory 0xd0000010: nobody answers\n"
+            "why: slot 0 bar1 at 0xd0000000 size 0x1000: closed, Command 0x0000\n",
+        )
+        self.assertEqual(self.b.why("memory", 0xD0000010), "why: memory 0xd0000010: nobody answers\n")
+        function[4:2] = 2
+        self.assertEqual(a.why("memory", 0xD0000010), "why: memory 0xd0000010: slot 0 bar1 offset 0x10 answers\n")
+        self.assertEqual(a.why("config", 0, slot=2), "why: slot 2 offset 0x0: slot 2 is empty\n")
+        a.io[0xCF8:4] = 0x80010000
+        self.assertEqual(
+            a.why("io", 0xCFC),
+            "why: I/O 0xcfc: offset 0x0 of 01:00.0 by the latch, 0x80010000\n"
+            "why: I/O 0xcfc: 01:00.0 is no slot\n",
+        )
+        self.refused(303, a.why, "io", 1 << 32)
+        self.refused(303, a.why, "config", 0, 32)
+        with self.assertRaises(ValueError):
+            a.why("mem", 0)
+
     def test_a_function_moves(self):
         self.a.config[0][4:2] = 2
         self.machine.move(self.a, 0, self.b, 5)

@@ -105,6 +105,25 @@ class Lines(Case):
         self.assertEqual(self.asked("slots")[0], "a slot 0: 1.0 1234:0001")
         self.assertIn("tree", self.asked("help")[0])
 
+    def test_why(self):
+        asked = self.asked
+        self.asked("a.bar1 = 0xd0000000")
+        self.assertEqual(
+            asked("why a mem 0xd0000010"),
+            [
+                "why: memory 0xd0000010: nobody answers",
+                "why: slot 0 bar1 at 0xd0000000 size 0x1000: closed, Command 0x0000",
+            ],
+        )
+        self.asked("a.command = 2")
+        self.assertEqual(asked("why a mem 0xd0000010"), ["why: memory 0xd0000010: slot 0 bar1 offset 0x10 answers"])
+        self.assertEqual(asked("why a cfg 2 0"), ["why: slot 2 offset 0x0: slot 2 is empty"])
+        self.assertEqual(asked("why a io 0xcfc")[0], "why: I/O 0xcfc: not enabled by the latch, 0x0")
+        self.assertIn("303 range", asked("why a cfg 32 0")[0])
+        self.assertIn("902 argument", asked("why nobody mem 0")[0])
+        for line in ("why", "why a", "why a mem", "why a mem x", "why a cfg 1", "why a io 1 2", "why a bar 0"):
+            self.assertIn("write a guest and a place", asked(line)[0])
+
     def test_completion(self):
         words = self.prompt.words
         self.assertEqual(words("", "t"), ["tree"])
@@ -116,6 +135,8 @@ class Lines(Case):
         self.assertEqual(words("host ", "m"), ["move", "mr"])
         self.assertEqual(words("host move ", ""), ["a", "b"])
         self.assertEqual(words("regs ", "1"), ["1.0"])
+        self.assertEqual(words("why ", ""), ["a", "b"])
+        self.assertEqual(words("why a ", ""), ["cfg", "io", "mem"])
         self.assertEqual(words("x ", ""), [])
 
 

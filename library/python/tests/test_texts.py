@@ -9,7 +9,8 @@ from pciguest import Machine, Refusal, Register, check, report, words
 
 def load_tests(loader, tests, pattern):
     extra = {"BOARD": MAIN, "Machine": Machine, "Register": Register}
-    for name in ("", "._board", "._devices", "._explain", "._held", "._machine", "._refusal", "._spaces", "._texts"):
+    for name in ("", "._board", "._devices", "._explain", "._held", "._machine", "._recording",
+                 "._refusal", "._spaces", "._texts"):
         tests.addTests(doctest.DocTestSuite("pciguest" + name, extraglobs=extra))
     return tests
 
@@ -43,7 +44,7 @@ class Texts(unittest.TestCase):
         self.assertTrue(text.startswith("endpoints 769 bridges 255\n") and text.endswith("\n"))
 
     def test_words(self):
-        self.assertEqual(sum(words(each) != "" for each in range(1000)), 39)
+        self.assertEqual(sum(words(each) != "" for each in range(1000)), 40)
         self.assertEqual(words(205), "prefetchable pool")
         self.assertEqual(words(0xFFFFFFFF), "")
 

@@ -1,8 +1,7 @@
 """The configuration bytes of a board that firmware drives by lines, and what its bridges' windows hold."""
 
+from board import LATCH
 from pciguest._board_file import functions
-
-LATCH = 0xCF8
 
 
 def asked(board, line):
@@ -14,6 +13,16 @@ def number(cells, offset, width):
     return int.from_bytes(cells[offset:offset + width], "little")
 
 
+def io_window(cells, decode):
+    """First and last port; None where the bridge has none."""
+    if decode == "none":
+        return None
+    first, last = (number(cells, 0x1C, 1) & 0xF0) << 8, (number(cells, 0x1D, 1) & 0xF0) << 8 | 0xFFF
+    if decode == "32":
+        first, last = first | number(cells, 0x30, 2) << 16, last | number(cells, 0x32, 2) << 16
+    return first, last
+
+
 def memory_window(cells):
     """First and last address."""
     base, limit = number(cells, 0x20, 2), number(cells, 0x22, 2)
@@ -21,7 +30,7 @@ def memory_window(cells):
 
 
 def prefetchable_window(cells, decode):
-    """None where the bridge has none."""
+    """First and last address; None where the bridge has none."""
     if decode == "none":
         return None
     base, limit = number(cells, 0x24, 2), number(cells, 0x26, 2)
@@ -66,8 +75,8 @@ class Walk:
             self.give_numbers(bus, bridge, number(self.found[bridge.at], 0x18, 4))
 
 
-def registers(board, document):
-    """The configuration bytes of each declared function. The board stays as it is."""
+def of_all(board, document):
+    """The configuration bytes of each declared function, by its path. The board stays as it is."""
     latch = asked(board, f"host ir {LATCH:#x} 4")
     walk = Walk(board, document)
     walk.go(0, ())

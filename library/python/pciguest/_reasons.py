@@ -1,0 +1,56 @@
+"""Why a finding is so: the line `host why ..` for the first address or number that it tells, and the board's reply to it."""
+
+from __future__ import annotations
+
+import re
+from typing import List, Optional
+
+from ._board_file import Document, functions, path_of
+from ._driven import DrivenBoard
+
+REGION = re.compile(r"\w+: (?P<path>\S+) bar(?P<register>\d) at (?P<base>0x[0-9a-f]+) size 0x[0-9a-f]+")
+SIZED = re.compile(r"sizing: (?P<number>\S+) bar(?P<register>\d): .* opens (?P<space>\S+)")
+WORDS = {"I/O": "io", "memory": "mem"}
+
+
+def reasons(board: DrivenBoard, document: Document, finding: str) -> List[str]:
+    """The line that asks why, and all lines of the reply, as the registers of the board stand. The board stays as it is, but
+    for CONFIG_ADDRESS."""
+    line = question(board, document, finding)
+    return [line, *(board.run_line(line) or "").splitlines()] if line else []
+
+
+def question(board: DrivenBoard, document: Document, finding: str) -> Optional[str]:
+    """The line that asks why of the first address of a finding, or else of its number."""
+    if found := re.search(r"both answer (I/O|memory) (\S+)", finding):
+        return f"host why {WORDS[found[1]]} {found[2]}"
+    if found := re.search(r"a cycle for (\S+) reaches", finding):
+        return f"host why cfg {found[1]}"
+    if found := re.search(r"(\S+): Primary is \w\w on bus (\w\w)", finding):
+        device, function = path_of(found[1])[-1]
+        return f"host why cfg {found[2]}:{device:02x}.{function}"
+    if found := SIZED.match(finding):
+        return f"host why {WORDS[found['space']]} {base(board, found['number'], int(found['register'])):#x}"
+    if found := REGION.match(finding):
+        address = re.search(r"0x[0-9a-f]+", finding[found.end() :])
+        space = space_of(document, found["path"], int(found["register"]))
+        return f"host why {space} {address[0] if address else found['base']}"
+    return None
+
+
+def space_of(document: Document, path: str, register: int) -> str:
+    """The word for the space of a declared region."""
+    declared = (one.regions() for one in functions(document) if one.at == path)
+    return "io" if any(region.index == register and region.is_io for regions in declared for region in regions) else "mem"
+
+
+def base(board: DrivenBoard, number: str, register: int) -> int:
+    """Where the region of a function's register stands, by what its registers read."""
+
+    def word(offset: int) -> int:
+        return int((board.run_line(f"host cr {number} {offset:#x} 4") or "").split()[-1], 16)
+
+    low = word(0x10 + 4 * register)
+    if low & 1:
+        return low & ~3
+    return low & ~15 | (word(0x14 + 4 * register) << 32 if low & 6 == 4 else 0)

@@ -1,0 +1,106 @@
+"""Machines and boards that keep what is asked of them as rows of a transcript: lines with their replies."""
+
+from __future__ import annotations
+
+from typing import Any, List, Optional, Tuple, Union
+
+from ._board import Board
+from ._calls import CONFIG, IO, MEMORY, RAISE_CONFIG
+from ._held import Held
+from ._lines import is_question
+from ._machine import Machine
+from ._refusal import Refusal
+from ._texts import NAME
+
+LETTERS = {CONFIG: "c", IO: "i", MEMORY: "m"}
+
+
+class Recorded(Held):
+    """Keeps each access, raise and move by a call as the line that does the same, and each line as it is, but for
+    questions. Calls that no line does, as those of a device, are not kept, nor are those that no line's refusal refuses."""
+
+    rows: List[Tuple[str, Optional[str]]]
+
+    def _line(self, name: str, arguments: Tuple[Any, ...]) -> Optional[str]:
+        """The line that does what a call does, if one does."""
+        raise NotImplementedError
+
+    def _call(self, name: str, *arguments: Any) -> None:
+        line = self._line(name, arguments)
+        try:
+            super()._call(name, *arguments)
+        except Refusal as refusal:
+            if line and refusal.number < 900:
+                self._keep(line, f"refused {refusal}")
+            raise
+        if line:
+            who, verb, *words = line.split()
+            is_read = verb in ("cr", "ir", "mr")
+            self._keep(line, f"0x{arguments[-1]._obj.value:0{2 * int(words[-1])}x}" if is_read else "ok")
+
+    def _keep(self, line: str, reply: str) -> None:
+        self.rows.append((line, f"{line.split()[0]}: {reply}"))
+
+    def _reply(self, name: str, line: Union[str, bytes]) -> Optional[str]:
+        reply = super()._reply(name, line)
+        text = (line if isinstance(line, str) else line.decode("utf-8", "backslashreplace")).rstrip("\n")
+        if reply is not None and "\n" not in reply and not is_question(text):
+            self.rows.append((text, reply))
+        return reply
+
+
+def access(who: str, space: int, function: str, place: int, width: int, value: Optional[int] = None) -> str:
+    """The line of an access, a write where there is a value."""
+    at = f"{function} {place:#x}" if space == CONFIG else f"{place:#x}"
+    if value is None:
+        return f"{who} {LETTERS[space]}r {at} {width}"
+    return f"{who} {LETTERS[space]}w {at} {width} {value:#x}"
+
+
+def by_host(space: int, bus: int, device: int, function: int, place: int, width: int, value: Optional[int] = None) -> str:
+    """The line of an access by the host, or by firmware."""
+    return access("host", space, f"{bus:02x}:{device:02x}.{function}", place, width, value)
+
+
+class RecordedMachine(Recorded, Machine):
+    """A machine that keeps in `rows` what is asked of it.
+
+    >>> machine = RecordedMachine(BOARD)
+    >>> machine.guest("a").config[0][0x14:4] = 0x80000000
+    >>> machine.run_line("a cr 0 0x14 4")
+    'a: 0x80000000'
+    >>> machine.rows
+    [('a cw 0 0x14 4 0x80000000', 'a: ok'), ('a cr 0 0x14 4', 'a: 0x80000000')]
+    """
+
+    def __init__(self, board: Union[str, bytes], name: str = NAME) -> None:
+        self.rows = []
+        super().__init__(board, name)
+
+    def _line(self, name: str, arguments: Tuple[Any, ...]) -> Optional[str]:
+        if name == "host_read":
+            return by_host(*arguments[:-1])
+        if name == "move":
+            source, slot, target, target_slot = arguments
+            return f"host move {self._name(source)} {slot} {self._name(target)} {target_slot}"
+        if name == "raise":
+            guest, slot, part, offset, mask = arguments
+            place = "cfg" if part == RAISE_CONFIG else f"bar{part}"
+            return f"{self._name(guest)} raise {slot} {place} {offset:#x} {mask:#x}"
+        if name not in ("read", "write"):
+            return None
+        guest, space, slot, place, width, value = arguments
+        return access(self._name(guest), space, str(slot), place, width, value if name == "write" else None)
+
+
+class RecordedBoard(Recorded, Board):
+    """A board that firmware drives, and that keeps in `rows` what is asked of it."""
+
+    def __init__(self, file: Union[str, bytes], name: str = NAME) -> None:
+        self.rows = []
+        super().__init__(file, name)
+
+    def _line(self, name: str, arguments: Tuple[Any, ...]) -> Optional[str]:
+        if name == "board_write":
+            return by_host(*arguments)
+        return by_host(*arguments[:-1]) if name == "board_read" else None
