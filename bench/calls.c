@@ -36,6 +36,7 @@ int main(int argc, char **argv)
     static uint8_t board[65536];
     static const char line[] = "a mr 0xc0100010 4";
     static const char asked[] = "host mr 0xc0100010 4";
+    static const char why[] = "host why mem 0xc0100010";
     struct pciguest machine = {0}, other = {0};
     struct pciguest_board at_reset = {0}, driven = {0};
     FILE *file = argc == 2 || argc == 3 ? fopen(argv[1], "rb") : NULL;
@@ -71,6 +72,8 @@ int main(int argc, char **argv)
     COST("tell where a region stands", 1000000, pciguest_region(&machine, 0, 0, 1, &region));
     COST("tell how often regions may have moved", 1000000, pciguest_changed(&machine, 0, &changes));
     COST("tell what an address hits", 1000000, pciguest_locate(&machine, 0, PCIGUEST_MEMORY, 0, 0xc0100010, &hit));
+    COST("tell why an address finds nobody", 30000,
+         pciguest_why(&machine, 0, PCIGUEST_MEMORY, 0, 0xd0000000, text, sizeof text, &written));
     COST("tell of a function by its index", 1000000, pciguest_function(&machine, 0, &function));
     COST("tell of a function by its slot", 1000000, pciguest_slot(&machine, 0, 0, &function));
     COST("read memory as the host", 1000000, pciguest_host_read(&machine, PCIGUEST_MEMORY, 0, 0, 0, 0xc0100010, 4, &value));
@@ -87,6 +90,9 @@ int main(int argc, char **argv)
     COST("run a line of firmware that reads memory", 300000,
          pciguest_board_run_line(&driven, asked, sizeof asked - 1, reply, sizeof reply, &written));
     COST("audit a board", 3000, pciguest_board_audit(&driven, text, sizeof text, &written, &problems));
+    COST("ask whether a board is ready", 3000, pciguest_board_ready(&driven, text, sizeof text, &written, &problems));
+    COST("run a line that asks why memory answers", 100000,
+         pciguest_board_run_line(&driven, why, sizeof why - 1, text, sizeof text, &written));
     pciguest_board_free(&driven);
     COST("new and free a board", 300, pciguest_board_new(&driven, board, length) + (pciguest_board_free(&driven), 0));
     COST("set up a board, and free the machine", 300, pciguest_set_up(&at_reset, &other) + (pciguest_free(&other), 0));

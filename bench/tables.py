@@ -9,7 +9,7 @@ import sys
 import tempfile
 from pathlib import Path
 
-UNITS = ("ns", "us", "ms", "MB", "instructions", "problems")
+UNITS = ("ns", "us", "ms", "MB", "instructions", "problems", "lacks", "lines")
 
 
 def figure(value):
@@ -33,9 +33,24 @@ def missing_valgrind():
     return False
 
 
+def whole(words, given):
+    """The instructions of a program from its beginning to its end, with what it is given to read; and 0 where they can't be
+    counted."""
+    if not shutil.which("valgrind"):
+        return 0
+    with tempfile.TemporaryDirectory() as room:
+        counted = ["valgrind", "--tool=callgrind", f"--callgrind-out-file={room}/out"]
+        told = subprocess.run(counted + list(map(str, words)), input=given, text=True, stdout=subprocess.DEVNULL,
+                              stderr=subprocess.PIPE)
+        found = re.search(r"^totals: (\d+)", Path(f"{room}/out").read_text(), re.MULTILINE)
+    if not found:
+        sys.exit(f"{words[0]} under valgrind: {told.stderr[-2000:]}")
+    return int(found[1])
+
+
 def instructions(words, calls):
     """The instructions of a call, for each span between two times that a program asks for, in which it makes so many. Calls
-    that the program makes between spans don't count. None where the program can't be counted."""
+    that the program makes between spans don't count. None are told where the program can't be counted."""
     if not shutil.which("valgrind"):
         return []
     with tempfile.TemporaryDirectory() as room:
