@@ -93,8 +93,8 @@ deb-test: deb
 	@tests/deb.sh packages
 
 # What an access, an event of a guest and a call from C cost, in nanoseconds, on boards of 1, 4, 1003 and 1024 functions,
-# and in instructions, where valgrind is there; and what an audit costs. It takes Python 3. Two outputs are compared by
-# bench/compare OLD NEW.
+# and in instructions, where valgrind is there; and what an audit, `ready` and `why` cost. It takes Python 3. Two outputs are
+# compared by bench/compare OLD NEW.
 bench: build
 	@bench/boards crates/bench_accesses/out/boards
 	@$(PROVE) bench_accesses
@@ -136,8 +136,9 @@ has-qemu:
 	@examples/qemu/needs
 
 # Debian's SeaBIOS and U-Boot, unmodified, on boards of the library; and on random trees, where each byte that they leave
-# is compared with what they leave in QEMU. Then whether that comparison notices an edited board, and the audit a SeaBIOS
-# that is broken on purpose. It takes Debian's packages, which it names where they are missing, and some minutes.
+# is compared with what they leave in QEMU; an audit and `ready` say what is wrong and what is lacking. Then whether that
+# comparison notices an edited board, and these two a SeaBIOS that is broken on purpose. It takes Debian's packages, which it
+# names where they are missing, and some minutes.
 # make firmware ROM=my.rom OPTIONS=..: a ROM of one's own in that PC, and what it leaves; tests/kit/rom.py tells the options.
 ifdef ROM
 firmware: has-firmware library/libpciguest.so.0
@@ -183,7 +184,7 @@ library/libpciguest.a library/libpciguest.so.0:
 
 # A page that runs the proved code in a browser: pciguest.html. Node or Chromium compares what the page answers with the
 # program; where neither is there, that is said, and not compared.
-EXPORTS := $(addprefix pciguest_raw_,new free guest region report check run_line \
+EXPORTS := $(addprefix pciguest_raw_,new free guest region why report check run_line \
   board_new board_free board_run_line board_audit)
 page: pciguest
 	@$(PROVE) pciguest_c
@@ -202,7 +203,7 @@ browse: page
 	@page/contrast
 	@page/browse pciguest.html page/out
 
-# The program compiled once, with checks, and asked what the tests ask: some two minutes, and nothing is proved.
+# The program compiled once, with checks, and asked what the tests ask: a minute, and nothing is proved.
 # make quick ONLY=moves.rows asks only that in whose name these words stand.
 ONLY :=
 quick:

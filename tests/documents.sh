@@ -1,7 +1,7 @@
 #!/usr/bin/env bash
 # Checks what the documents say of files: definitions have headings, each link leads somewhere, each file that is named is
-# there, so each edit and test that refuses a body, and each edit of the tests can be made. It needs no program. The last
-# line is 'N passed, M failed'.
+# there, so each edit and test that refuses a body, each edit of the tests can be made, and all code has the kit's layout.
+# It needs the kit and no program. The last line is 'N passed, M failed'.
 set -u
 cd "$(dirname "$0")/.."
 passed=0
@@ -137,6 +137,15 @@ lost_bodies() {
 }
 holds 'bodies whose edit or test is not there' lost_bodies
 
+# ---- the gate tries no other edits, but for those of the crate that shows how one is made
+unasked_edits() {
+  local edit
+  for edit in crates/*/must-fail/*.edit; do
+    [[ $edit == crates/example_presence/* ]] || grep -qF "\`$edit\`" docs/PROMISES.md || echo "$edit: no row in docs/PROMISES.md"
+  done
+}
+holds 'edits of the gate for which no body is told' unasked_edits
+
 # ---- examples in the headings of crates: their lines stand in a test, one after the other
 strange_examples() {
   local tests; tests=$(sed 's/^ *//' crates/test_worked/src/examples.rt)
@@ -195,6 +204,13 @@ lost_edits() {
   done
 }
 holds 'edits whose text is not there once' lost_edits
+
+# ---- layout: a crate is not proved by the gate before each of its files is as `rt fmt` writes it
+unformatted() {
+  local kit=$(dirname "$(realpath "$(command -v rt)")")
+  find crates -path '*/out' -prune -o \( -name '*.rt' -o -name '*.antt' \) -print0 | xargs -0 "$kit/rattle" fmt --check 2>&1
+}
+holds 'files that rt fmt writes otherwise' unformatted
 
 echo "$passed passed, $failed failed"
 [ "$failed" = 0 ]

@@ -60,6 +60,8 @@ holds 'a board' test "$(completed pciguest list "${board%ain.toml}")" = "$board"
 holds 'a board for firmware' test "$(completed pciguest firmware "${board%ain.toml}")" = "$board"
 holds 'a word of a check' same '--plain' completed pciguest check --p
 holds 'a board after it' test "$(completed pciguest check --plain "${board%ain.toml}")" = "$board"
+holds 'a word of a run' same '--strict' completed pciguest run --s
+holds 'a board after that' test "$(completed pciguest audit --strict "${board%ain.toml}")" = "$board"
 holds 'no board of the demo' same '' completed pciguest demo "${board%ain.toml}"
 # the same of zsh and fish, where they are there; zsh's own functions are stood in for
 if command -v zsh > /dev/null; then
@@ -74,6 +76,8 @@ if command -v zsh > /dev/null; then
   holds 'a board in zsh' same 'chain.toml' in_zsh pciguest list ch
   holds 'a word of a check in zsh' same '--plain chain.toml' in_zsh pciguest check ch
   holds 'a board after it in zsh' same 'chain.toml' in_zsh pciguest check --plain ch
+  holds 'a word of a run in zsh' same '--strict chain.toml' in_zsh pciguest run ch
+  holds 'a board after that in zsh' same 'chain.toml' in_zsh pciguest audit --strict ch
   holds 'no board of the demo in zsh' same '' in_zsh pciguest demo ch
 fi
 if command -v fish > /dev/null; then
@@ -85,6 +89,8 @@ if command -v fish > /dev/null; then
   holds 'a board in fish' same 'chain.toml' in_fish 'pciguest list ch'
   holds 'a word of a check in fish' same '--plain' in_fish 'pciguest check -'
   holds 'a board after it in fish' same 'chain.toml' in_fish 'pciguest check --plain ch'
+  holds 'a word of a run in fish' same '--strict' in_fish 'pciguest run -'
+  holds 'a board after that in fish' same 'chain.toml' in_fish 'pciguest audit --strict ch'
   holds 'no board of the demo in fish' same '' in_fish 'pciguest demo ch'
 fi
 
