@@ -48,11 +48,12 @@ class Prompt:
     def run(self, text: str) -> bool:
         """Does what a line asks. False: it is the last one."""
         words = text.split()
-        if words[:1] == ["quit"]:
+        own = "" if self._is_of_a_guest(words) else "".join(words[:1])
+        if own == "quit":
             return False
         try:
-            if words and words[0] in self._words:
-                self._words[words[0]](words[1:])
+            if own in self._words:
+                self._words[own](words[1:])
             elif is_place(text):
                 line = line_of(text, self.machine)
                 self._write(line.text)
@@ -64,6 +65,10 @@ class Prompt:
         except (WrongPlace, Refusal) as wrong:
             self._write(f"  {wrong}")
         return True
+
+    def _is_of_a_guest(self, words: List[str]) -> bool:
+        """Whether words that begin as one of the prompt's do are a line of a guest that is called so."""
+        return len(words) > 1 and words[0] in self.guests and re.fullmatch("[cim][rw]|raise", words[1]) is not None
 
     def words(self, before: str, word: str) -> List[str]:
         """The words that may stand after what stands before on a line, and begin so."""

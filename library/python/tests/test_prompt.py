@@ -37,6 +37,12 @@ class Lines(Case):
         self.assertIn("the address, '0xg', is no number", self.asked("a mr 0xg 4")[1])
         self.assertFalse(self.prompt.run("quit"))
 
+    def test_lines_of_a_guest_that_is_called_as_a_word(self):
+        self.prompt = Prompt(MAIN.replace('"a"', '"slots"').encode(), "main.toml", self.written.append)
+        self.assertEqual(self.asked("slots cr 0 0 4"), ["slots: 0x00011234"])
+        self.assertEqual(self.asked("slots raise 0 cfg 6 0"), ["slots: ok"])
+        self.assertTrue(self.asked("slots")[0].startswith("slots"))
+
     def test_places_of_a_guest(self):
         asked = self.asked
         self.assertEqual(asked("a.vendor"), ["a cr 0 0x0 2", "a: 0x1234"])
