@@ -15,3 +15,5 @@ pub mod OwnTold
 pub mod Handovers
 pub mod FunctionsTold
 pub mod Seatings
+pub mod ShownImages
+pub mod Restarts

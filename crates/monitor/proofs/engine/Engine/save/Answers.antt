@@ -1,0 +1,23 @@
+use Rattle.std.proofs.Common.{◌≤◌, ◌∙◌, length, ap, sym, subst, arith}
+use Rattle.model_images.specs.Images.{Image}
+use Rattle.model_image_bytes.specs.ImageBytes.{image_bytes}
+use Rattle.image_bytes.specs.Puts.{put}
+use Rattle.monitor.proofs.Calls.{guest_in, inside_guests}
+use Rattle.monitor.proofs.SavedImages.{image_is, places_kept}
+use Rattle.monitor.proofs.engine.Engine.save.Goals as goal
+
+pub index-requires : goal.index-requires
+index-requires g c = omega (arith, inside_guests c.self.invariant.1 c.self.view_is c.args.guest c.requires.there)
+
+pub put_image-requires-clause-places : goal.put_image-requires-clause-places
+put_image-requires-clause-places g c = places_kept (guest_in c.self.invariant.1 c.self.view_is c.args.guest c.requires.there c.index.ensures)
+
+pub put_image-requires-clause-room : goal.put_image-requires-clause-room
+put_image-requires-clause-room g c =
+    let at = guest_in c.self.invariant.1 c.self.view_is c.args.guest c.requires.there c.index.ensures in
+    subst (λ (i : Image). length (image_bytes i) ≤ length c.args.out.now) (image_is at) c.requires.room
+
+pub returns : goal.returns
+returns g c =
+    let at = guest_in c.self.invariant.1 c.self.view_is c.args.guest c.requires.there c.index.ensures in
+    c.put_image.ensures ∙ ap (λ (i : Image). put 0 (image_bytes i) c.args.out.now) (sym (image_is at))

@@ -1,0 +1,9 @@
+-- A guest by its index that is put to reset.
+--     slots_at_reset i w      the world in which all its functions are at reset
+use Rattle.std.specs.Prelude.{ℕ, map}
+use Rattle.model_guests.specs.WorldNow.{WorldNow}
+use Rattle.model_images.specs.Images.{function_at_reset}
+use Rattle.monitor.specs.ByIndex.{lone_nth, with_lone_nth}
+
+abbrev pub slots_at_reset : ℕ → WorldNow → WorldNow
+slots_at_reset i w = with_lone_nth i (record (lone_nth w i) { slots = map function_at_reset (lone_nth w i).slots }) w

@@ -1,0 +1,191 @@
+//! Images of guests: how many bytes a guest's image has, writing it into a buffer, and whether bytes can be loaded
+//! into a guest. No call takes memory.
+ghost use Rattle.std.specs.Prelude.{◌≡◌, ◌≤◌, ◌<◌, ◌+◌, [], Ok, Err, IfErr, IfOk, length, map, option_map};
+ghost use Rattle.model_guests.specs.Guests.{lone_of};
+ghost use Rattle.model_images.specs.Images.{image_of_guest, image_of_lone};
+ghost use Rattle.model_image_bytes.specs.ImageBytes.{image_bytes};
+ghost use Rattle.model_image_bytes.specs.LoadedBytes.{after_image, after_slot, after_slots, load_fault};
+ghost use Rattle.image_bytes.specs.Faults.{number_of};
+ghost use Rattle.image_bytes.specs.Puts.{put};
+ghost use Rattle.function_images.specs.Shown.{seen};
+ghost use Rattle.monitor.specs.ByIndex.{name_nth};
+ghost use Rattle.monitor.specs.Views.{slot_shown};
+ghost use Rattle.monitor.specs.ShownImages.{HasPlaces, HavePlaces, lone_shown, slot_image, slots_image};
+
+use crate::engine::Engine;
+use crate::guest::{Guest, Held};
+use bridge_forward::EndpointFn;
+use function_images::{after_function, function_size, write_function};
+use guest_functions::VirtualFunction;
+use host_bridge::{Host, Route};
+use image_bytes::{
+    ImageFault, after_header, after_latch, after_tag, at_end, header, latch_bytes, put,
+};
+
+/// The function in a slot, as its guest has it: the board's endpoint with the guest's own copies.
+fn slot_shown<'a>(
+    host: &'a Host,
+    slot: &'a Option<Held>,
+) -> Option<(&'a EndpointFn, &'a VirtualFunction)>
+    ensures { option_map (λ f. seen f.0.now f.1.now) result
+        ≡ slot_shown host.now.state.functions slot.now }
+{
+    let Some(held) = slot else {
+        return None;
+    };
+    let endpoint = host.endpoint_ref_nth(held.index)?;
+    Some((endpoint, &held.own))
+}
+
+/// How many bytes a slot has in an image.
+fn slot_size(host: &Host, slot: &Option<Held>) -> usize
+    requires { HasPlaces (slot_shown host.now.state.functions slot.now) }
+    ensures size { result ≡ length (slot_image host.now.state.functions slot.now) }
+    ensures bound { result ≤ 246307 }
+{
+    match slot_shown(host, slot) {
+        Some((endpoint, _)) => 1 + function_size(endpoint),
+        None => 1,
+    }
+}
+
+fn slots_size(host: &Host, slots: &[Option<Held>]) -> usize
+    requires places { HavePlaces host.now.state.functions slots.now }
+    requires few { length slots.now ≤ 32 }
+    ensures size { result ≡ length (slots_image host.now.state.functions slots.now) }
+    ensures bound { result ≤ 7881824 }
+{
+    let mut left = slots;
+    let mut size = 0;
+    while let Some((slot, rest)) = left.split_first() {
+        size += slot_size(host, slot);
+        left = rest;
+    }
+    size
+}
+
+/// Puts the bytes of a slot into a buffer from an index on, and gives the index behind them.
+fn put_slot(host: &Host, slot: &Option<Held>, out: &mut [u8], at: usize) -> usize
+    requires places { HasPlaces (slot_shown host.now.state.functions slot.now) }
+    requires room { at + length (slot_image host.now.state.functions slot.now) ≤ length out.old }
+    ensures bytes { out.new
+        ≡ put at (slot_image host.now.state.functions slot.now) out.old }
+    ensures end { result ≡ at + length (slot_image host.now.state.functions slot.now) }
+{
+    match slot_shown(host, slot) {
+        Some((endpoint, own)) => {
+            let next = put(out, at, &[1]);
+            write_function(endpoint, own, out, next)
+        }
+        None => put(out, at, &[0]),
+    }
+}
+
+fn put_slots(host: &Host, slots: &[Option<Held>], out: &mut [u8], at: usize) -> usize
+    requires places { HavePlaces host.now.state.functions slots.now }
+    requires room { at + length (slots_image host.now.state.functions slots.now)
+        ≤ length out.old }
+    ensures bytes { out.new
+        ≡ put at (slots_image host.now.state.functions slots.now) out.old }
+    ensures end { result ≡ at + length (slots_image host.now.state.functions slots.now) }
+{
+    let mut left = slots;
+    let mut next = at;
+    while let Some((slot, rest)) = left.split_first() {
+        next = put_slot(host, slot, out, next);
+        left = rest;
+    }
+    next
+}
+
+/// Puts the image of a guest at the beginning of a buffer.
+fn put_image(host: &Host, guest: &Guest, out: &mut [u8])
+    requires places { HavePlaces host.now.state.functions guest.now.slots.items }
+    requires room { let g = lone_shown host.now.state.functions guest.now in
+        length (image_bytes (image_of_lone g)) ≤ length out.old }
+    ensures { let g = lone_shown host.now.state.functions guest.now in
+        out.new ≡ put 0 (image_bytes (image_of_lone g)) out.old }
+{
+    let next = put(out, 0, &header());
+    let next = put(out, next, &latch_bytes(guest.latch.value()));
+    put_slots(host, &guest.slots, out, next);
+}
+
+/// The bytes after those of a slot. Refuses too few bytes, a value that its cell can't hold, and a
+/// slot that is filled otherwise.
+fn after_slot<'a>(host: &Host, slot: &Option<Held>, bytes: &'a [u8]) -> Result<&'a [u8], ImageFault>
+    ensures left { let f = slot_shown host.now.state.functions slot.now in
+        IfOk result (λ rest. after_slot f bytes.now ≡ Ok rest.now) }
+    ensures refused { let f = slot_shown host.now.state.functions slot.now in
+        IfErr result (λ why. after_slot f bytes.now ≡ Err (number_of why)) }
+{
+    match slot_shown(host, slot) {
+        Some((endpoint, _)) => after_function(endpoint, bytes),
+        None => after_tag(false, bytes),
+    }
+}
+
+/// Refuses bytes that are no slots of an image with these functions, whatever their cells hold.
+fn compare_slots(host: &Host, slots: &[Option<Held>], bytes: &[u8]) -> Result<(), ImageFault>
+    ensures all { let fs = map (slot_shown host.now.state.functions) slots.now in
+        IfOk result (λ _. after_slots fs bytes.now ≡ Ok []) }
+    ensures refused { let fs = map (slot_shown host.now.state.functions) slots.now in
+        IfErr result (λ why. after_slots fs bytes.now ≡ Err (number_of why)) }
+{
+    let mut left = slots;
+    let mut bytes = bytes;
+    while let Some((slot, rest)) = left.split_first() {
+        bytes = after_slot(host, slot, bytes)?;
+        left = rest;
+    }
+    at_end(bytes)
+}
+
+/// Refuses bytes that are no image of this guest, whatever its latch and its cells hold.
+fn compare_image(host: &Host, guest: &Guest, bytes: &[u8]) -> Result<(), ImageFault>
+    ensures all { let g = lone_shown host.now.state.functions guest.now in
+        IfOk result (λ _. after_image g bytes.now ≡ Ok []) }
+    ensures refused { let g = lone_shown host.now.state.functions guest.now in
+        IfErr result (λ why. after_image g bytes.now ≡ Err (number_of why)) }
+{
+    let bytes = after_header(bytes)?;
+    let (_, bytes) = after_latch(bytes)?;
+    compare_slots(host, &guest.slots, bytes)
+}
+
+impl<R: Route> Engine<R> {
+    /// How many bytes the image of a guest has as it is now: 12, and 1 to 246,307 for each of its 32 slots.
+    pub fn image_size(&self, guest: usize) -> usize
+        requires { guest < length self.now.world.guests }
+        ensures size { let image = image_of_guest (name_nth self.now.world guest) self.now.world in
+            result ≡ length (image_bytes image) }
+        ensures bound { result ≤ 7881836 }
+    {
+        let _ = &self.names;
+        12 + slots_size(&self.host, &self.guests[guest].slots)
+    }
+
+    /// Saves a guest: puts the bytes of its image at the beginning of a buffer, which has room for them. What
+    /// stands behind them stays.
+    pub fn save(&self, guest: usize, out: &mut [u8])
+        requires there { guest < length self.now.world.guests }
+        requires room { let image = image_of_guest (name_nth self.now.world guest) self.now.world in
+            length (image_bytes image) ≤ length out.old }
+        ensures { let image = image_of_guest (name_nth self.now.world guest) self.now.world in
+            out.new ≡ put 0 (image_bytes image) out.old }
+    {
+        let _ = &self.names;
+        put_image(&self.host, &self.guests[guest], out)
+    }
+
+    /// Why bytes can't be loaded into a guest, if they can't: they are no image (905), or one of other functions
+    /// than the guest has in its slots (906). Of both, what the first byte that fails tells.
+    pub fn image_fault(&self, guest: usize, bytes: &[u8]) -> Option<ImageFault>
+        requires { guest < length self.now.world.guests }
+        ensures { let g = lone_of self.now.world.guests (name_nth self.now.world guest) in
+            option_map number_of result ≡ load_fault g bytes.now }
+    {
+        let _ = &self.names;
+        compare_image(&self.host, &self.guests[guest], bytes).err()
+    }
+}
