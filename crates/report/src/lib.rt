@@ -6,5 +6,6 @@ mod lines;
 mod texts;
 mod whole;
 
-pub use texts::push_path;
-pub use whole::report_text;
+pub use lines::pin_text;
+pub use texts::{kind_text, push_path};
+pub use whole::{bridges, endpoints, report_text};

@@ -39,8 +39,8 @@ fn push_regions(text: &mut String, bases: &[Option<BasedRegion>]) -> Result<(), 
     Ok(())
 }
 
-/// The name of a pin.
-fn pin_text(pin: u8) -> &'static str
+/// The name of an interrupt pin, from 1 to 4: INTA to INTD.
+pub fn pin_text(pin: u8) -> &'static str
     requires least { 1 ≤ pin }
     requires most { pin ≤ 4 }
     ensures { result.now ≡ pin_text pin }

@@ -11,7 +11,7 @@ use paths::{Part, Path};
 use std::alloc::AllocError;
 
 /// The word for what a region's register opens.
-pub(crate) fn kind_text(kind: Kind) -> &'static str
+pub fn kind_text(kind: Kind) -> &'static str
     ensures { result.now ≡ kind_text (kind_of kind) }
 {
     match kind {

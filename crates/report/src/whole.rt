@@ -23,13 +23,15 @@ fn is_bridge(row: &FunctionRow) -> bool
     }
 }
 
-fn endpoints(rows: &[FunctionRow]) -> usize
+/// How many of the functions are endpoints.
+pub fn endpoints(rows: &[FunctionRow]) -> usize
     ensures { result ≡ count_by (λ r. not (is_bridge r.decl)) rows.now }
 {
     rows.iter().filter(|row| !is_bridge(row)).count()
 }
 
-fn bridges(rows: &[FunctionRow]) -> usize
+/// How many of the functions are bridges.
+pub fn bridges(rows: &[FunctionRow]) -> usize
     ensures { result ≡ count_by (λ r. is_bridge r.decl) rows.now }
 {
     rows.iter().filter(|row| is_bridge(row)).count()

@@ -1,0 +1,4 @@
+pub mod NoFloats
+pub mod RowValues
+pub mod RowsOfJson
+pub mod SetUpValue

@@ -1,0 +1,2 @@
+pub mod ReportValue
+pub mod Found
