@@ -4,3 +4,4 @@ pub mod PoolsOfRegions
 pub mod LeastApertures
 pub mod NamedReasons
 pub mod Needs
+pub mod PathSets

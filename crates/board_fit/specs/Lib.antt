@@ -1,4 +1,5 @@
 pub mod Warnings
+pub mod PathSets
 pub mod Misfits
 pub mod Texts
 pub mod Telling

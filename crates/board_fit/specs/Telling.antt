@@ -3,8 +3,8 @@
 --     told_text      the same, with the line of the file below it where that is asked
 --     IsLocated text ms l      the place of a remark, where there is one, is that of the value at its key, and so is
 --                              that of the other entry
---     AreWarnings style name bytes b a text      a line for each thing that may be a mistake in the file with these
---                                                bytes and in its board, in order
+--     AreWarnings style warned name bytes b a text      a line for each thing that is warned of in the file with these
+--                                                       bytes and in its board, in order
 --     AreReasons style name bytes f text      the same for all in the file that is why its board can't be set up
 use Rattle.std.specs.Prelude.{◌≡◌, ℕ, List, ◌++◌, codes, map, flat_map, Some, option_map, IfSome}
 use Rattle.toml.specs.Data.{Members}
@@ -20,6 +20,7 @@ use Rattle.diagnostics.specs.declared.style.Style.{Style}
 use Rattle.diagnostics.specs.declared.style.Style.TheVariants.{Plain, WithExcerpts}
 use Rattle.board_fit.specs.declared.remark.Remark.{Remark}
 use Rattle.board_fit.specs.declared.located.Located.{Located}
+use Rattle.board_fit.specs.declared.warned.Warned.{Warned}
 use Rattle.board_fit.specs.Warnings.{warnings}
 use Rattle.board_fit.specs.Texts.{entry_of, key_of, label_of, other_of, other_key, said_text}
 use Rattle.board_fit.specs.Misfits.{reasons}
@@ -49,10 +50,10 @@ pub record AreTold (style : Style) (name bytes : List ℕ) (ms : Members) (rs : 
   pub have_places : Each (IsLocated bytes ms) located
   pub is_text : text ≡ flat_map (told_text style name ms bytes) located
 
-pub record AreWarnings (style : Style) (name bytes : List ℕ) (b : Board) (a : Apertures) (text : List ℕ) : Type 0 where
+pub record AreWarnings (style : Style) (warned : Warned) (name bytes : List ℕ) (b : Board) (a : Apertures) (text : List ℕ) : Type 0 where
   pub document : Members
   pub parsed : parse_document bytes ≡ Some document
-  pub told : AreTold style name bytes document (warnings (file document) b a) text
+  pub told : AreTold style name bytes document (warnings warned (file document) b a) text
 
 pub record AreReasons (style : Style) (name bytes : List ℕ) (f : Fault) (text : List ℕ) : Type 0 where
   pub document : Members

@@ -2,8 +2,9 @@
 --     has_none_behind      of these functions none stands on the bus behind the bridge at a path
 --     is_given      one of the guests has the function at a path in a slot
 --     is_wide      the aperture of a pool is more than ten times what the pool uses, and it uses something
---     empty_bridges, endpoints_of_none (where the file has guests), guests_without_slots, wide_apertures      all of which this is so, in order
---     warnings      all of these
+--     empty_bridges, endpoints_of_none (where the file has guests), guests_without_slots      all of which this is so, in order
+--     all_wide_apertures, wide_apertures      the same of apertures; and so where all is warned of
+--     warnings      what is warned of, in order
 use Rattle.std.specs.Prelude.{ℕ, ◌+◌, ◌-◌, ◌*◌, ◌==◌, Bool, false, not, ◌&&◌, nat_lt, List, [], ◌∷◌, ◌++◌, length, map, flat_map, Option, Some, None, if◌then◌else◌}
 use Rattle.std.specs.List.{list_all, list_any, enumerate_from}
 use Rattle.model_registers.specs.Apertures.{Aperture, Apertures}
@@ -20,6 +21,8 @@ use Rattle.window_packing.specs.Plans.{named_pool}
 use Rattle.window_packing.specs.Uses.{told_use}
 use Rattle.board_fit.specs.declared.remark.Remark.{Remark}
 use Rattle.board_fit.specs.declared.remark.Remark.TheVariants as remark
+use Rattle.board_fit.specs.declared.warned.Warned.{Warned}
+use Rattle.board_fit.specs.declared.warned.Warned.TheVariants as warned
 
 abbrev pub if_so : Bool → Remark → List Remark
 if_so holds r = if holds then r ∷ [] else []
@@ -91,10 +94,15 @@ is_wide b a pool = is_wide_for (aperture_of a (named_pool pool)) (told_use b a (
 abbrev pub wide_aperture : Board → Apertures → Pool → List Remark
 wide_aperture b a pool = if_so (is_wide b a pool) (remark.WideAperture pool)
 
-abbrev pub wide_apertures : Board → Apertures → List Remark
-wide_apertures b a = wide_aperture b a Io ++ wide_aperture b a Mem ++ wide_aperture b a Pref
+abbrev pub all_wide_apertures : Board → Apertures → List Remark
+all_wide_apertures b a = wide_aperture b a Io ++ wide_aperture b a Mem ++ wide_aperture b a Pref
+
+-- on a small board wide apertures are no mistake
+abbrev pub wide_apertures : Warned → Board → Apertures → List Remark
+wide_apertures warned.Likely b a = []
+wide_apertures warned.All b a = all_wide_apertures b a
 
 -- ---- all
 
-abbrev pub warnings : File → Board → Apertures → List Remark
-warnings f b a = empty_bridges f ++ endpoints_of_none f ++ guests_without_slots f ++ wide_apertures b a
+abbrev pub warnings : Warned → File → Board → Apertures → List Remark
+warnings w f b a = empty_bridges f ++ endpoints_of_none f ++ guests_without_slots f ++ wide_apertures w b a

@@ -6,9 +6,10 @@ ghost use Rattle.model_set_up.specs.FunctionTable.{board_in};
 ghost use Rattle.model_set_up.specs.Pools.{aperture_of};
 ghost use Rattle.bus_scan.specs.SizedTables.{IsTableOf};
 ghost use Rattle.window_packing.specs.Plans.{named_pool};
-ghost use Rattle.board_fit.specs.Warnings.{is_wide_use, is_wide_for, wide_aperture};
+ghost use Rattle.board_fit.specs.Warnings.{is_wide_use, is_wide_for, wide_aperture, all_wide_apertures, wide_apertures};
 
 use crate::remark::Remark;
+use crate::warned::Warned;
 use crate::warnings::push_if;
 use bus_scan::FunctionTable;
 use headers::{Aperture, Apertures};
@@ -48,7 +49,7 @@ fn is_wide_for(aperture: Option<Aperture>, used: Option<PoolUse>) -> bool
 }
 
 /// Appends the aperture of a pool, where it is more than ten times what the pool uses.
-pub(crate) fn push_wide(
+fn push_wide(
     alloc: Global,
     remarks: &mut Vec<Remark>,
     pool: Pool,
@@ -62,4 +63,38 @@ pub(crate) fn push_wide(
     let used = pool_use(alloc, pool, table, apertures)?;
     let is_wide = is_wide_for(aperture_of(apertures, pool), used);
     push_if(remarks, Remark::WideAperture(pool), is_wide)
+}
+
+/// Appends the apertures that are more than ten times what their pools use.
+fn push_all_wide(
+    alloc: Global,
+    remarks: &mut Vec<Remark>,
+    table: &FunctionTable,
+    apertures: &Apertures,
+) -> Result<(), AllocError>
+    requires { IsTableOf (board_in table.now) table.now }
+    ensures { OnOk result ((b : Board) → IsTableOf b table.now
+        → remarks.new.items ≡ remarks.old.items ++ all_wide_apertures b apertures.now) }
+{
+    push_wide(alloc, remarks, Pool::Io, table, apertures)?;
+    push_wide(alloc, remarks, Pool::Mem, table, apertures)?;
+    push_wide(alloc, remarks, Pool::Pref, table, apertures)
+}
+
+/// The same, where they are warned of.
+pub(crate) fn push_wide_apertures(
+    alloc: Global,
+    remarks: &mut Vec<Remark>,
+    warned: Warned,
+    table: &FunctionTable,
+    apertures: &Apertures,
+) -> Result<(), AllocError>
+    requires { IsTableOf (board_in table.now) table.now }
+    ensures { OnOk result ((b : Board) → IsTableOf b table.now
+        → remarks.new.items ≡ remarks.old.items ++ wide_apertures warned b apertures.now) }
+{
+    match warned {
+        Warned::Likely => Ok(()),
+        Warned::All => push_all_wide(alloc, remarks, table, apertures),
+    }
 }

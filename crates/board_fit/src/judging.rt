@@ -17,6 +17,7 @@ use crate::costs::costs_text;
 use crate::fitting::fit_text;
 use crate::shortage::{Shortage, find_shortage, refusal_line};
 use crate::telling::{reasons_text, warnings_text};
+use crate::warned::Warned;
 use board_file::Source;
 use bus_scan::{Fault, FunctionTable};
 use diagnostics::{Style, Telling};
@@ -36,6 +37,7 @@ pub struct Verdict {
 fn accept(
     alloc: Global,
     telling: &Telling<'_>,
+    warned: Warned,
     source: &Source<'_>,
     table: &FunctionTable,
     apertures: &Apertures,
@@ -45,10 +47,10 @@ fn accept(
     ensures fault { IfOk result (λ v. v.fault ≡ None) }
     ensures text { let t = telling.now in let bytes = source.now.bytes.now in
         IfOk result (λ v. (b : Board) → IsTableOf b table.now
-        → IsFitText t.style t.name.now bytes b apertures.now (string_bytes v.text)) }
+        → IsFitText t.style warned t.name.now bytes b apertures.now (string_bytes v.text)) }
 {
     let mut text = fit_text(alloc, table, apertures)?;
-    let warnings = warnings_text(alloc, telling, source, table, apertures)?;
+    let warnings = warnings_text(alloc, telling, warned, source, table, apertures)?;
     text.push_str(warnings.as_str())?;
     Ok(Verdict { text, fault: None })
 }
@@ -122,6 +124,7 @@ fn can_be_placed(alloc: Global, table: &FunctionTable, apertures: &Apertures) ->
 fn fit(
     alloc: Global,
     telling: &Telling<'_>,
+    warned: Warned,
     source: &Source<'_>,
     table: &FunctionTable,
     apertures: &Apertures,
@@ -131,22 +134,23 @@ fn fit(
     ensures known { IfOk result (λ v. v.fault ≢ Some Memory) }
     ensures verdict { let t = telling.now in let bytes = source.now.bytes.now in
         IfOk result (λ v. (b : Board) → IsTableOf b table.now
-        → IsVerdict t.style t.name.now bytes b apertures.now v.fault (string_bytes v.text)) }
+        → IsVerdict t.style warned t.name.now bytes b apertures.now v.fault (string_bytes v.text)) }
 {
     match can_be_placed(alloc, table, apertures) {
-        Ok(()) => accept(alloc, telling, source, table, apertures),
+        Ok(()) => accept(alloc, telling, warned, source, table, apertures),
         Err(fault) => reject(alloc, telling, source, table, apertures, fault),
     }
 }
 
 /// What is said of the board of a host at reset, which the file declares: how much of each
-/// aperture its pools take, and what may be a mistake in the file; or why it can't be set up, with the
-/// entries of the file that are why, and of a pool that doesn't fit its five largest regions, what gaps cost
-/// and the least aperture that fits. `name` is what the file is called. With excerpts the line of the file
-/// stands below what is said of an entry. It fails where memory is out.
+/// aperture its pools take, and a warning of what may be a mistake in the file, by `warned`; or why it can't be
+/// set up, with the entries of the file that are why, and of a pool that doesn't fit its five largest regions,
+/// what gaps cost and the least aperture that fits. `name` is what the file is called. With excerpts the line
+/// of the file stands below what is said of an entry. It fails where memory is out.
 pub fn judge(
     alloc: Global,
     style: Style,
+    warned: Warned,
     name: &str,
     source: &Source<'_>,
     host: Host,
@@ -154,14 +158,15 @@ pub fn judge(
     requires read { IsRead source.now }
     requires reset { IsAtReset host.state }
     ensures known { IfOk result (λ v. v.fault ≢ Some Memory) }
-    ensures verdict { let bytes = source.now.bytes.now in IfOk result (λ v.
-        IsVerdict style name.now bytes (board_below host) host.apertures v.fault (string_bytes v.text)) }
+    ensures verdict { let bytes = source.now.bytes.now in let b = board_below host in
+        IfOk result (λ v. IsVerdict style warned name.now bytes b host.apertures
+        v.fault (string_bytes v.text)) }
 {
     let telling = Telling { style, name };
     let apertures = host.apertures();
     let mut host = host;
     match enumerate(alloc, &mut host) {
-        Ok(table) => fit(alloc, &telling, source, &table, &apertures),
+        Ok(table) => fit(alloc, &telling, warned, source, &table, &apertures),
         Err(fault) => decline(alloc, &telling, source, &apertures, None, fault),
     }
 }

@@ -11,6 +11,7 @@ use crate::located::with_places;
 use crate::misfit::reasons;
 use crate::remark::Remark;
 use crate::texts::push_remarks;
+use crate::warned::Warned;
 use crate::warnings::warnings;
 use board_file::Source;
 use bus_scan::{Fault, FunctionTable};
@@ -52,12 +53,14 @@ pub(crate) fn told_text(
 }
 
 /// What may be a mistake in a board file that was accepted, and is no fault: a line for each bridge with
-/// nothing behind it, each endpoint in no slot where the file has guests, each guest without slots, and each
-/// aperture of more than ten times what its pool uses, where it uses something; in this order, and of each
-/// kind in the order of the file. The table is that of its board. It fails where memory is out.
+/// nothing behind it, each endpoint in no slot where the file has guests, each guest without slots, and, where
+/// all is warned of, each aperture of more than ten times what its pool uses, where it uses something; in this
+/// order, and of each kind in the order of the file. The table is that of its board. It fails where memory is
+/// out.
 pub(crate) fn warnings_text(
     alloc: Global,
     telling: &Telling<'_>,
+    warned: Warned,
     source: &Source<'_>,
     table: &FunctionTable,
     apertures: &Apertures,
@@ -67,9 +70,9 @@ pub(crate) fn warnings_text(
 
     // Of whatever board this is the table.
     ensures { let t = telling.now in IfOk result (λ text. (b : Board) → IsTableOf b table.now
-        → AreWarnings t.style t.name.now source.now.bytes.now b apertures.now (string_bytes text)) }
+        → AreWarnings t.style warned t.name.now source.now.bytes.now b apertures.now (string_bytes text)) }
 {
-    let warnings = warnings(alloc, &source.file, table, apertures)?;
+    let warnings = warnings(alloc, warned, &source.file, table, apertures)?;
     told_text(alloc, telling, source, &warnings)
 }
 

@@ -1,19 +1,24 @@
 //! What may be a mistake in a file, and is no fault.
-ghost use Rattle.std.specs.Prelude.{◌≡◌, ◌++◌, IfOk, OnOk, map};
+ghost use Rattle.std.specs.Prelude.{◌≡◌, ◌++◌, ◌&&◌, IfOk, OnOk, map, not};
+ghost use Rattle.std.specs.BTreeSet.{contains};
 ghost use Rattle.model_board.specs.Board.{Board};
 ghost use Rattle.model_set_up.specs.FunctionTable.{board_in};
+ghost use Rattle.paths.specs.PathOrders.{path_cmp};
 ghost use Rattle.bus_scan.specs.SizedTables.{IsTableOf};
-ghost use Rattle.board_fit.specs.Warnings.{if_so, endpoint_path, bridge_path, all_paths, is_behind, has_none_behind, has_as_slot, is_given, empty_bridge, empty_bridges, endpoint_of_none, all_endpoints_of_none, endpoints_of_none, guest_without_slots, guests_without_slots, warnings};
+ghost use Rattle.board_file.specs.PathTexts.{is_path_text, path_at};
+ghost use Rattle.board_fit.specs.Warnings.{if_so, endpoint_path, bridge_path, all_paths, empty_bridges, all_endpoints_of_none, endpoints_of_none, guest_without_slots, guests_without_slots, warnings};
 
-use crate::apertures::push_wide;
+use crate::apertures::push_wide_apertures;
+use crate::path_sets::{bridges_above, given_paths};
 use crate::remark::Remark;
+use crate::warned::Warned;
 use board_file::entries::{BridgeEntry, EndpointEntry, FileEntries, GuestEntry};
-use board_file::path_text::{PathText, are_same_place};
+use board_file::path_text::PathText;
 use bus_scan::FunctionTable;
 use headers::Apertures;
 use paths::Path;
 use std::alloc::{AllocError, Global};
-use window_packing::Pool;
+use std::collections::BTreeSet;
 
 /// Appends a remark, where it holds.
 pub(crate) fn push_if(
@@ -62,32 +67,25 @@ fn all_paths(alloc: Global, file: &FileEntries<'_>) -> Result<Vec<Path>, AllocEr
     Ok(paths)
 }
 
-/// Whether a path is on the bus behind the bridge at another.
-fn is_behind(bridge: &Path, path: &Path) -> bool
-    ensures { result ≡ is_behind bridge.now path.now }
+/// Whether the bridge at a path is one of those behind which something stands.
+fn is_filled(filled: &BTreeSet<Path>, at: &PathText<'_>) -> bool
+    ensures { result ≡ contains path_cmp filled.now (path_at at.now) }
 {
-    bridge.has_parts(path.parent())
+    filled.contains(&at.path())
 }
 
-/// Whether none of these paths is there.
-fn has_none_behind(paths: &[Path], bridge: &Path) -> bool
-    ensures { result ≡ has_none_behind paths.now bridge.now }
-{
-    paths.iter().all(|path| !is_behind(bridge, path))
-}
-
-/// Appends a bridge behind which nothing stands.
+/// Appends a bridge that is none of those.
 fn push_empty_bridge(
     remarks: &mut Vec<Remark>,
-    paths: &[Path],
+    filled: &BTreeSet<Path>,
     index: usize,
     bridge: &BridgeEntry<'_>,
 ) -> Result<(), AllocError>
-    ensures { OnOk result (remarks.new.items
-        ≡ remarks.old.items ++ empty_bridge paths.now (index, bridge.now)) }
+    ensures { OnOk result (remarks.new.items ≡ remarks.old.items
+        ++ if_so (not (contains path_cmp filled.now (bridge_path bridge.now))) (Remark.EmptyBridge index)) }
 {
-    let is_empty = has_none_behind(paths, &bridge.at.path());
-    push_if(remarks, Remark::EmptyBridge(index), is_empty)
+    let has_some_behind = is_filled(filled, &bridge.at);
+    push_if(remarks, Remark::EmptyBridge(index), !has_some_behind)
 }
 
 /// Appends the bridges behind which nothing stands.
@@ -99,57 +97,53 @@ fn push_empty_bridges(
     ensures { OnOk result (remarks.new.items ≡ remarks.old.items ++ empty_bridges file.now) }
 {
     let paths = all_paths(alloc, file)?;
+    let filled = bridges_above(alloc, &paths)?;
     'bridges: for (index, bridge) in file.bridges.iter().enumerate() {
-        push_empty_bridge(remarks, &paths, index, bridge)?;
+        push_empty_bridge(remarks, &filled, index, bridge)?;
     }
     Ok(())
 }
 
-/// Whether a guest has the function at a path in a slot.
-fn has_as_slot(at: &PathText<'_>, guest: &GuestEntry<'_>) -> bool
-    ensures { result ≡ has_as_slot at.now guest.now }
+/// Whether the function at a path is one of those that guests have.
+fn is_given(given: &BTreeSet<Path>, at: &PathText<'_>) -> bool
+    ensures { result ≡ (is_path_text at.now && contains path_cmp given.now (path_at at.now)) }
 {
-    guest.slots.iter().any(|slot| are_same_place(slot, at))
+    at.is_path() && given.contains(&at.path())
 }
 
-/// Whether one of the guests has the function at a path.
-fn is_given(guests: &[GuestEntry<'_>], at: &PathText<'_>) -> bool
-    ensures { result ≡ is_given guests.now at.now }
-{
-    guests.iter().any(|guest| has_as_slot(at, guest))
-}
-
-/// Appends an endpoint that no guest has.
+/// Appends an endpoint that is none of those that guests have.
 fn push_endpoint_of_none(
     remarks: &mut Vec<Remark>,
-    guests: &[GuestEntry<'_>],
+    given: &BTreeSet<Path>,
     index: usize,
     endpoint: &EndpointEntry<'_>,
 ) -> Result<(), AllocError>
-    ensures { OnOk result
-        (remarks.new.items
-        ≡ remarks.old.items ++ endpoint_of_none guests.now (index, endpoint.now)) }
+    ensures { let at = endpoint.now.at in OnOk result (remarks.new.items ≡ remarks.old.items
+        ++ if_so (not (is_path_text at && contains path_cmp given.now (path_at at))) (Remark.EndpointOfNone index)) }
 {
-    let has_guest = is_given(guests, &endpoint.at);
+    let has_guest = is_given(given, &endpoint.at);
     push_if(remarks, Remark::EndpointOfNone(index), !has_guest)
 }
 
 /// Appends the endpoints that no guest has, also where there are no guests.
 fn push_all_endpoints_of_none(
+    alloc: Global,
     remarks: &mut Vec<Remark>,
     file: &FileEntries<'_>,
 ) -> Result<(), AllocError>
     ensures { OnOk result (remarks.new.items
         ≡ remarks.old.items ++ all_endpoints_of_none file.now) }
 {
+    let given = given_paths(alloc, &file.guests)?;
     'endpoints: for (index, endpoint) in file.endpoints.iter().enumerate() {
-        push_endpoint_of_none(remarks, &file.guests, index, endpoint)?;
+        push_endpoint_of_none(remarks, &given, index, endpoint)?;
     }
     Ok(())
 }
 
 /// Appends the endpoints that no guest has, where there are guests.
 fn push_endpoints_of_none(
+    alloc: Global,
     remarks: &mut Vec<Remark>,
     file: &FileEntries<'_>,
 ) -> Result<(), AllocError>
@@ -158,7 +152,7 @@ fn push_endpoints_of_none(
     if file.guests.len() == 0 {
         return Ok(());
     }
-    push_all_endpoints_of_none(remarks, file)
+    push_all_endpoints_of_none(alloc, remarks, file)
 }
 
 /// Appends a guest, where it has no slots.
@@ -191,23 +185,22 @@ fn push_guests_without_slots(
     Ok(())
 }
 
-/// All that may be a mistake in a file, by the table of its board and its apertures.
+/// What is warned of in a file, by the table of its board and its apertures.
 pub(crate) fn warnings(
     alloc: Global,
+    warned: Warned,
     file: &FileEntries<'_>,
     table: &FunctionTable,
     apertures: &Apertures,
 ) -> Result<Vec<Remark>, AllocError>
     requires { IsTableOf (board_in table.now) table.now }
     ensures { IfOk result (λ v.
-        (b : Board) → IsTableOf b table.now → v.items ≡ warnings file.now b apertures.now) }
+        (b : Board) → IsTableOf b table.now → v.items ≡ warnings warned file.now b apertures.now) }
 {
     let mut remarks = Vec::new(alloc);
     push_empty_bridges(alloc, &mut remarks, file)?;
-    push_endpoints_of_none(&mut remarks, file)?;
+    push_endpoints_of_none(alloc, &mut remarks, file)?;
     push_guests_without_slots(&mut remarks, file)?;
-    push_wide(alloc, &mut remarks, Pool::Io, table, apertures)?;
-    push_wide(alloc, &mut remarks, Pool::Mem, table, apertures)?;
-    push_wide(alloc, &mut remarks, Pool::Pref, table, apertures)?;
+    push_wide_apertures(alloc, &mut remarks, warned, table, apertures)?;
     Ok(remarks)
 }

@@ -12,5 +12,5 @@ pub returns-in-Ok-clause-verdict : goal.returns-in-Ok-clause-verdict
 returns-in-Ok-clause-verdict c =
     let t = c.args.telling.now in
     both c.accept.result _ _ _
-    (λ v none said. λ b is. subst (λ (f : Option Fault). IsVerdict t.style t.name.now c.args.source.now.bytes.now b c.args.apertures.now f (string_bytes v.text)) (sym none) (record { rule = c.in-Ok.ensures.kept b is; said = said b is }))
+    (λ v none said. λ b is. subst (λ (f : Option Fault). IsVerdict t.style c.args.warned t.name.now c.args.source.now.bytes.now b c.args.apertures.now f (string_bytes v.text)) (sym none) (record { rule = c.in-Ok.ensures.kept b is; said = said b is }))
     c.accept.ensures.fault c.accept.ensures.text

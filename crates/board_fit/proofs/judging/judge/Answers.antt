@@ -13,5 +13,5 @@ returns-in-Ok-clause-verdict c =
     let table = subst (λ (x : Board). IsTableOf x c.in-Ok.table) c.in-Ok.ensures.found.board c.in-Ok.ensures.found.table in
     let same = c.apertures-apertures.ensures in
     IfOk-weaker c.fit.result _ _
-    (λ v said. subst (λ (a : Apertures). IsVerdict c.args.style c.args.name.now c.args.source.now.bytes.now b a v.fault (string_bytes v.text)) same (said b table))
+    (λ v said. subst (λ (a : Apertures). IsVerdict c.args.style c.args.warned c.args.name.now c.args.source.now.bytes.now b a v.fault (string_bytes v.text)) same (said b table))
     c.fit.ensures.verdict

@@ -17,6 +17,6 @@ returns c =
       document = ms;
       parsed = c.requires.read.parsed;
       told = subst (λ (rs : List Remark). AreTold t.style t.name.now s.bytes.now ms rs (string_bytes text))
-          (c.deref.ensures.value ∙ c.in_ok-warnings.ensures b is ∙ ap (λ (f : File). warnings f b c.args.apertures.now) s.entries) said;
+          (c.deref.ensures.value ∙ c.in_ok-warnings.ensures b is ∙ ap (λ (f : File). warnings c.args.warned f b c.args.apertures.now) s.entries) said;
     })
     c.told_text.ensures

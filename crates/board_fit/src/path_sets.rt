@@ -1,0 +1,57 @@
+//! Paths that are asked for again and again, in sets. A set finds a path by halving: so no bridge is compared with all
+//! functions, and no endpoint with all slots.
+ghost use Rattle.std.specs.Prelude.{◌≡◌, ◌<◌, IfOk, length};
+ghost use Rattle.std.specs.List.{filter_map};
+ghost use Rattle.std.specs.BTreeSet.{IsFromIterResult};
+ghost use Rattle.paths.specs.PathOrders.{path_cmp};
+ghost use Rattle.board_fit.specs.PathSets.{bridge_at, bridge_above, given_paths};
+
+use board_file::entries::GuestEntry;
+use paths::{Part, Path};
+use std::alloc::{AllocError, Global};
+use std::collections::BTreeSet;
+
+/// The bridge behind which a bus is, by the parts of its path; none is where that is bus 0.
+fn bridge_at(bus: &[Part]) -> Option<Path>
+    requires { length bus.now < 16 }
+    ensures { result ≡ bridge_at bus.now }
+{
+    let (first, rest) = bus.split_first()?;
+    let mut bridge = Path::on_root(*first);
+    'rest: for part in rest {
+        bridge.push(*part);
+    }
+    Some(bridge)
+}
+
+/// The bridge behind which a function is, where it isn't on bus 0.
+fn bridge_above(path: &Path) -> Option<Path>
+    ensures { result ≡ bridge_above path.now }
+{
+    bridge_at(path.parent())
+}
+
+/// The bridges behind which these functions are.
+pub(crate) fn bridges_above(alloc: Global, paths: &[Path]) -> Result<BTreeSet<Path>, AllocError>
+    ensures { IfOk result (IsFromIterResult path_cmp (filter_map bridge_above paths.now)) }
+{
+    paths
+        .iter()
+        .filter_map(|path| bridge_above(path))
+        .collect(alloc)
+}
+
+/// The functions that guests have.
+pub(crate) fn given_paths(
+    alloc: Global,
+    guests: &[GuestEntry<'_>],
+) -> Result<BTreeSet<Path>, AllocError>
+    ensures { IfOk result (IsFromIterResult path_cmp (given_paths guests.now)) }
+{
+    guests
+        .iter()
+        .flat_map(|guest| guest.slots.iter())
+        .filter(|slot| slot.is_path())
+        .map(|slot| slot.path())
+        .collect(alloc)
+}
