@@ -617,10 +617,10 @@ PCIGUEST_CALL uint32_t pciguest_report(const void *board, size_t length, char *t
                                room, needed);
 }
 
-/* Writes what is wrong with a board file, or that its board fits, as `pciguest check board.toml` does, and tells the
- * text's length; it has no 0 at its end. 0: the board fits. 101 to 112 or 201 to 205: the file or its board is refused,
- * and the text says why. 199 or 299: out of memory, and nothing was written or told. 902: there is less room than the
- * text needs, and nothing was written. No machine is needed. */
+/* Writes what is wrong with a board file, or that its board fits, as `pciguest check board.toml` does, without the
+ * warnings that `--all` adds, and tells the text's length; it has no 0 at its end. 0: the board fits. 101 to 112 or 201
+ * to 205: the file or its board is refused, and the text says why. 199 or 299: out of memory, and nothing was written or
+ * told. 902: there is less room than the text needs, and nothing was written. No machine is needed. */
 PCIGUEST_CALL uint32_t pciguest_check(const void *board, size_t length, char *text, size_t room, size_t *needed)
 {
     uint8_t none;

@@ -9,8 +9,8 @@ whose board has a file of guests beside it. The last line is 'N passed, M failed
 program so, and tests/quick.py one that was only compiled.
 
 In boards/expected.txt, and in boards/refused for the boards that are refused, a section begins with '== BOARD' (its
-report), '== check BOARD', '== check BOARD with excerpts' (on a terminal), '== SCRIPT over BOARD' or '== SCRIPT over BOARD at
-reset' (firmware's lines), and ends with a line 'fault N WORDS' where the program does.
+report, of which tests/report_json.py makes what `list --json` writes), '== check BOARD' or '== check --all BOARD', either with ' with excerpts' after it (on a terminal), '== SCRIPT over BOARD'
+or '== SCRIPT over BOARD at reset' (firmware's lines), and ends with a line 'fault N WORDS' where the program does.
 
 In tests/rows a section begins with '== run BOARD: TITLE', '== firmware BOARD: TITLE' or '== ready BOARD: TITLE' and has
 rows 'LINE -> REPLY', of one script, where ' -> REPLY' is one more line of an answer; a last row 'fault N WORDS' is the
@@ -27,6 +27,8 @@ import sys
 import tempfile
 from concurrent.futures import ThreadPoolExecutor
 
+import report_json
+
 TOP = pathlib.Path(__file__).resolve().parent.parent
 ROWS, BOARDS, REFUSED = TOP / "tests/rows", TOP / "boards", TOP / "boards/refused"
 # the seconds that the program has for a case
@@ -34,7 +36,7 @@ SECONDS = 240
 # the heads of sections of boards/expected.txt
 FORMS = [
     r"(?P<board>\S+)",
-    r"(?P<check>check) (?P<board>\S+)(?P<excerpts> with excerpts)?",
+    r"(?P<check>check)(?P<all> --all)? (?P<board>\S+)(?P<excerpts> with excerpts)?",
     r"(?P<script>\S+) over (?P<board>\S+)(?P<reset> at reset)?",
 ]
 # a command of examples/audit/README.md, what it prints, and the fault below
@@ -111,19 +113,23 @@ def board_cases(said, lines, sections):
     """The cases of such a section."""
     board, script = said["board"], said.get("script")
     verb = ("firmware" if said["reset"] else "run") if script else "check" if said.get("check") else "list"
-    name, given = f"{verb} {board}", b""
+    words, given = [verb, *["--all"] * bool(said.get("all"))], b""
+    name = " ".join([*words, board])
     if script:
         name, given = f"{name} < {script}", (BOARDS / script).read_bytes()
     wanted, fault = without_fault(lines)
-    case = Case(name, [verb, board], given, wanted, board_files(board), fault)
+    case = Case(name, [*words, board], given, wanted, board_files(board), fault)
+    if verb == "list" and not fault:
+        as_json = [report_json.text_of(wanted, case.files[board].decode())]
+        yield dataclasses.replace(case, name=f"list --json {board}", words=["list", "--json", board], wanted=as_json)
     if not said.get("excerpts"):
         yield case
         return
     on_terminal = dataclasses.replace(case, name=f"{name}, on a terminal", on_terminal=True)
     yield on_terminal
-    plain, above = ["check", "--plain", board], f"check {board}"
-    if above in sections:
-        wanted = without_fault(sections[above])[0]
+    plain = [*words, "--plain", board]
+    if name in sections:
+        wanted = without_fault(sections[name])[0]
         yield dataclasses.replace(on_terminal, name=f"{name}, plain on a terminal", words=plain, wanted=wanted)
     elif not fault.startswith("101 "):
         # a plain check has the same lines, but for the excerpts and for the reason why a file is no TOML

@@ -60,6 +60,10 @@ holds 'a board' test "$(completed pciguest list "${board%ain.toml}")" = "$board"
 holds 'a board for firmware' test "$(completed pciguest firmware "${board%ain.toml}")" = "$board"
 holds 'a word of a check' same '--plain' completed pciguest check --p
 holds 'a board after it' test "$(completed pciguest check --plain "${board%ain.toml}")" = "$board"
+holds 'another word of a check' same '--all' completed pciguest check --plain -
+holds 'a board after both' test "$(completed pciguest check --all --plain "${board%ain.toml}")" = "$board"
+holds 'a word of a list' same '--json' completed pciguest list --j
+holds 'a board after this' test "$(completed pciguest list --json "${board%ain.toml}")" = "$board"
 holds 'a word of a run' same '--strict' completed pciguest run --s
 holds 'a board after that' test "$(completed pciguest audit --strict "${board%ain.toml}")" = "$board"
 holds 'no board of the demo' same '' completed pciguest demo "${board%ain.toml}"
@@ -73,9 +77,11 @@ if command -v zsh > /dev/null; then
       source $file' - "$at/share/zsh/site-functions/_pciguest" "$@")
   }
   holds 'all words in zsh' same 'audit check demo firmware list ready run --help' in_zsh pciguest ''
-  holds 'a board in zsh' same 'chain.toml' in_zsh pciguest list ch
-  holds 'a word of a check in zsh' same '--plain chain.toml' in_zsh pciguest check ch
-  holds 'a board after it in zsh' same 'chain.toml' in_zsh pciguest check --plain ch
+  holds 'a word of a list in zsh' same '--json chain.toml' in_zsh pciguest list ch
+  holds 'a board in zsh' same 'chain.toml' in_zsh pciguest list --json ch
+  holds 'a word of a check in zsh' same '--all --plain chain.toml' in_zsh pciguest check ch
+  holds 'a board after it in zsh' same '--all chain.toml' in_zsh pciguest check --plain ch
+  holds 'a board after both in zsh' same 'chain.toml' in_zsh pciguest check --all --plain ch
   holds 'a word of a run in zsh' same '--strict chain.toml' in_zsh pciguest run ch
   holds 'a board after that in zsh' same 'chain.toml' in_zsh pciguest audit --strict ch
   holds 'no board of the demo in zsh' same '' in_zsh pciguest demo ch
@@ -87,8 +93,12 @@ if command -v fish > /dev/null; then
   }
   holds 'all words in fish' same 'audit check demo firmware list ready run' in_fish 'pciguest '
   holds 'a board in fish' same 'chain.toml' in_fish 'pciguest list ch'
-  holds 'a word of a check in fish' same '--plain' in_fish 'pciguest check -'
+  holds 'a word of a list in fish' same '--json' in_fish 'pciguest list -'
+  holds 'a board after this in fish' same 'chain.toml' in_fish 'pciguest list --json ch'
+  holds 'words of a check in fish' same '--all --plain' in_fish 'pciguest check -'
+  holds 'another word of a check in fish' same '--all' in_fish 'pciguest check --plain -'
   holds 'a board after it in fish' same 'chain.toml' in_fish 'pciguest check --plain ch'
+  holds 'a board after both in fish' same 'chain.toml' in_fish 'pciguest check --all --plain ch'
   holds 'a word of a run in fish' same '--strict' in_fish 'pciguest run -'
   holds 'a board after that in fish' same 'chain.toml' in_fish 'pciguest audit --strict ch'
   holds 'no board of the demo in fish' same '' in_fish 'pciguest demo ch'

@@ -124,19 +124,32 @@ fails_with 'list, an empty path' '702 board file' list ''
 full 'list' list "$boards/main.toml"
 section main.toml > wanted.out
 ends_with 'list, without standard input' list "$boards/main.toml" <&-
+fails_with 'list --json, no board' '701 usage' list --json
+fails_with 'list --json twice' '701 usage' list --json --json "$boards/main.toml"
+fails_with 'list --json, a board that is refused' '107 size' list --json "$boards/refused/size.toml"
+full 'list --json' list --json "$boards/main.toml"
+timeout 60 "$program" list --json "$boards/main.toml" > wanted.out
+ends_with 'list, and then --json' list "$boards/main.toml" --json
 
 # ---- check
 fails_with 'check, no such file' '702 board file' check nothing.toml
 fails_with 'check, no board' '701 usage' check
 fails_with 'check --plain, no board' '701 usage' check --plain
+fails_with 'check --all, no board' '701 usage' check --all
 fails_with 'check --plain twice' '701 usage' check --plain --plain "$boards/main.toml"
+fails_with 'check --all twice' '701 usage' check --all --all "$boards/main.toml"
 section 'check main.toml' > wanted.out
 cp "$boards/main.toml" main.toml
 ends_with 'check --plain' check --plain main.toml
 ends_with 'check, and then --plain' check main.toml --plain
+section 'check --all main.toml' > wanted.out
+ends_with 'check --all --plain' check --all --plain main.toml
+ends_with 'check --plain --all' check --plain --all main.toml
+ends_with 'check, and then --all' check main.toml --all
 rm main.toml
 
 full 'check' check "$boards/main.toml"
+full 'check --all' check --all "$boards/main.toml"
 full 'check, a board that is refused' check "$boards/refused/size.toml"
 
 # ---- run: guests, a move, and what the host sees
@@ -282,6 +295,8 @@ for verb in run firmware audit; do
   fails_with "$verb --strict twice" '701 usage' $verb --strict --strict "$boards/main.toml"
 done
 for verb in list check ready; do fails_with "$verb --strict" '701 usage' $verb --strict "$boards/main.toml"; done
+for verb in list run audit; do fails_with "$verb --all" '701 usage' $verb --all "$boards/main.toml"; done
+for verb in check run ready; do fails_with "$verb --json" '701 usage' $verb --json "$boards/main.toml"; done
 
 # ---- run: lines at the ends of what a line may say
 longest=$(printf '%190s' '')
@@ -432,13 +447,15 @@ hints "$usage" "$all; not taken: help" help list
 hints "$usage" "$all; not taken: --" -- list board.toml
 hints "$usage" "$all; not taken: a?b??" $'a\tb\303\251'
 hints "$usage" 'usage: pciguest demo; not taken: --x' demo --x
-hints "$usage" 'usage: pciguest list BOARD' list
-hints "$usage" 'usage: pciguest list BOARD; not taken: --plain' list --plain board.toml
-hints "$usage" 'usage: pciguest list BOARD; not taken: y' list -- board.toml y z
-hints "$usage" 'usage: pciguest check [--plain] BOARD' check --plain
-hints "$usage" 'usage: pciguest check [--plain] BOARD; not taken: --plan' check --plan board.toml
-hints "$usage" 'usage: pciguest check [--plain] BOARD; not taken: --plain' check --plain --plain board.toml
-hints "$usage" 'usage: pciguest check [--plain] BOARD; not taken: --plain=1' check --plain=1 board.toml
+hints "$usage" 'usage: pciguest list [--json] BOARD' list
+hints "$usage" 'usage: pciguest list [--json] BOARD; not taken: --plain' list --plain board.toml
+hints "$usage" 'usage: pciguest list [--json] BOARD; not taken: y' list -- board.toml y z
+hints "$usage" 'usage: pciguest list [--json] BOARD; not taken: --json' list --json --json board.toml
+hints "$usage" 'usage: pciguest check [--all] [--plain] BOARD' check --all --plain
+hints "$usage" 'usage: pciguest check [--all] [--plain] BOARD; not taken: --plan' check --plan board.toml
+hints "$usage" 'usage: pciguest check [--all] [--plain] BOARD; not taken: --plain' check --plain --plain board.toml
+hints "$usage" 'usage: pciguest check [--all] [--plain] BOARD; not taken: --plain=1' check --plain=1 board.toml
+hints "$usage" 'usage: pciguest check [--all] [--plain] BOARD; not taken: --all' check --all --all board.toml
 hints "$usage" 'usage: pciguest run [--strict] BOARD; not taken: y' run board.toml y
 hints "$usage" 'usage: pciguest firmware [--strict] BOARD' firmware --strict
 hints "$usage" 'usage: pciguest audit [--strict] BOARD; not taken: -s' audit -s board.toml

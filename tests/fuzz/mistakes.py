@@ -208,7 +208,7 @@ class Files:
                 rng.choice(MISTAKES)(rng, lines)
         text = "\n".join(lines) + "\n"
         (self.folder / "board.toml").write_text(text)
-        done = subprocess.run([self.program, "check", "board.toml"], cwd=self.folder, capture_output=True, text=True,
+        done = subprocess.run([self.program, "check", "--all", "board.toml"], cwd=self.folder, capture_output=True, text=True,
                               timeout=60)
         self.compare(seed, lines, text, done)
 

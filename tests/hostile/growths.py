@@ -110,7 +110,8 @@ def main(program, *options):
     for mode in ["onward", "once"]:
         refuse_each(room, "demo", ["demo"], (BOARDS / "guest.script").read_bytes(), mode, DEMO)
         refuse_each(room, "list, main board", ["list", MAIN], b"", mode)
-        refuse_each(room, "check, main board", ["check", MAIN], b"", mode)
+        refuse_each(room, "list --json, main board", ["list", "--json", MAIN], b"", mode)
+        refuse_each(room, "check --all, main board", ["check", "--all", MAIN], b"", mode)
         refuse_each(room, "check, many places", ["check", PLACES], b"", mode, PLACES, "105")
         refuse_each(room, "run, main board, empty script", ["run", MAIN], b"", mode)
         refuse_each(room, "run, main board", ["run", MAIN], every, mode)

@@ -15,7 +15,7 @@ use Rattle.clap.specs.declared.parser.matches.ArgMatches.{ArgMatches}
 use Rattle.clap.specs.declared.parser.matches.ArgMatches.TheViews.{out-ArgMatches, out-SubCommand}
 use Rattle.clap.specs.declared.parser.matches.SubCommand.{SubCommand}
 use Rattle.command_line.specs.Words.{pciguest_app, subcommand, value, value_in}
-use Rattle.command_line.specs.Choices.{is_plain, is_strict, is_true, board_in, IsAskedBy, IsNoCommand}
+use Rattle.command_line.specs.Choices.{is_json, is_all, is_plain, is_strict, is_true, board_in, IsAskedBy, IsNoCommand}
 use Rattle.command_line.specs.declared.choice.Choice.{Choice}
 use Rattle.command_line.specs.declared.choice.Choice.TheVariants.{Help, Demo, List as Lists, Check, Run, Firmware, Audit, Ready}
 
@@ -112,6 +112,12 @@ no_other m words n read known none =
 board_alike : {v w : List ℕ → Option (List ℕ)} → ((id : List ℕ) → w id ≡ v id) → board_in w ≡ board_in v
 board_alike alike = ap (λ o. unwrap_or o []) (alike (codes "board"))
 
+json_alike : {v w : List ℕ → Option (List ℕ)} → ((id : List ℕ) → w id ≡ v id) → is_json w ≡ is_json v
+json_alike alike = ap is_true (alike (codes "json"))
+
+all_alike : {v w : List ℕ → Option (List ℕ)} → ((id : List ℕ) → w id ≡ v id) → is_all w ≡ is_all v
+all_alike alike = ap is_true (alike (codes "all"))
+
 strict_alike : {v w : List ℕ → Option (List ℕ)} → ((id : List ℕ) → w id ≡ v id) → is_strict w ≡ is_strict v
 strict_alike alike = ap is_true (alike (codes "strict"))
 
@@ -120,11 +126,12 @@ pub asked_alike : {name : List ℕ} {o : Option (List ℕ)} {v w : List ℕ → 
     → IsAskedBy o w terminal c
 asked_alike same alike terminal (Help text) said = said
 asked_alike same alike terminal Demo said = same ∙ said
-asked_alike same alike terminal (Lists path) said = (same ∙ said.0, said.1 ∙ sym (board_alike alike))
-asked_alike same alike terminal (Check path plain) said = (
+asked_alike same alike terminal (Lists path json) said = (same ∙ said.0, said.1 ∙ sym (board_alike alike), said.2 ∙ sym (json_alike alike))
+asked_alike same alike terminal (Check path all plain) said = (
   same ∙ said.0,
   said.1 ∙ sym (board_alike alike),
-  said.2 ∙ sym (ap (λ o. is_plain o terminal) (alike (codes "plain"))),
+  said.2 ∙ sym (all_alike alike),
+  said.3 ∙ sym (ap (λ o. is_plain o terminal) (alike (codes "plain"))),
 )
 asked_alike same alike terminal (Run path strict) said = (same ∙ said.0, said.1 ∙ sym (board_alike alike), said.2 ∙ sym (strict_alike alike))
 asked_alike same alike terminal (Firmware path strict) said = (same ∙ said.0, said.1 ∙ sym (board_alike alike), said.2 ∙ sym (strict_alike alike))

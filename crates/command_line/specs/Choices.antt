@@ -1,5 +1,7 @@
 -- What the words of the command line ask for.
 --     is_plain given is_terminal      a check tells lines alone, by what is given for `--plain` and where it is written
+--     is_json value      the report is written as JSON
+--     is_all value      a check tells every warning
 --     is_strict value      a refused line is a fault
 --     board_path choice      the path of the board file that is read
 --     IsAskedBy name value is_terminal choice      the choice is the subcommand of this name, with what is given for its arguments
@@ -19,6 +21,14 @@ is_true given = option_map_or (λ t. bytes_eq t (codes "true")) given false
 abbrev pub is_plain : Option (List ℕ) → Bool → Bool
 is_plain given is_terminal = not is_terminal || is_true given
 
+-- `--json` is given
+abbrev pub is_json : (List ℕ → Option (List ℕ)) → Bool
+is_json value = is_true (value (codes "json"))
+
+-- `--all` is given
+abbrev pub is_all : (List ℕ → Option (List ℕ)) → Bool
+is_all value = is_true (value (codes "all"))
+
 -- `--strict` is given
 abbrev pub is_strict : (List ℕ → Option (List ℕ)) → Bool
 is_strict value = is_true (value (codes "strict"))
@@ -30,9 +40,11 @@ board_in value = unwrap_or (value (codes "board")) []
 abbrev pub IsAskedBy : Option (List ℕ) → (List ℕ → Option (List ℕ)) → Bool → Choice → Type 0
 IsAskedBy name value terminal (Help text) = Unit {0}
 IsAskedBy name value terminal Demo = name ≡ Some (codes "demo")
-IsAskedBy name value terminal (Lists path) = (name ≡ Some (codes "list")) × (path.now ≡ board_in value)
-IsAskedBy name value terminal (Check path plain) =
-    (name ≡ Some (codes "check")) × (path.now ≡ board_in value) × (plain ≡ is_plain (value (codes "plain")) terminal)
+IsAskedBy name value terminal (Lists path json) =
+    (name ≡ Some (codes "list")) × (path.now ≡ board_in value) × (json ≡ is_json value)
+IsAskedBy name value terminal (Check path all plain) =
+    (name ≡ Some (codes "check")) × (path.now ≡ board_in value) × (all ≡ is_all value)
+    × (plain ≡ is_plain (value (codes "plain")) terminal)
 IsAskedBy name value terminal (Run path strict) =
     (name ≡ Some (codes "run")) × (path.now ≡ board_in value) × (strict ≡ is_strict value)
 IsAskedBy name value terminal (Firmware path strict) =
@@ -56,8 +68,8 @@ pub record IsNoCommand (name : List ℕ) : Type 0 where
 abbrev pub board_path : Choice → Option (List ℕ)
 board_path (Help text) = None
 board_path Demo = None
-board_path (Lists path) = Some path.now
-board_path (Check path plain) = Some path.now
+board_path (Lists path json) = Some path.now
+board_path (Check path all plain) = Some path.now
 board_path (Run path strict) = Some path.now
 board_path (Firmware path strict) = Some path.now
 board_path (Audit path strict) = Some path.now

@@ -36,8 +36,8 @@ any_subcommand = codes "demo|list|check|run|firmware|audit|ready .."
 abbrev pub taken_by : List ℕ → List ℕ
 taken_by name =
     if bytes_eq name (codes "demo") then codes "demo"
-    else if bytes_eq name (codes "list") then codes "list BOARD"
-    else if bytes_eq name (codes "check") then codes "check [--plain] BOARD"
+    else if bytes_eq name (codes "list") then codes "list [--json] BOARD"
+    else if bytes_eq name (codes "check") then codes "check [--all] [--plain] BOARD"
     else if bytes_eq name (codes "run") then codes "run [--strict] BOARD"
     else if bytes_eq name (codes "firmware") then codes "firmware [--strict] BOARD"
     else if bytes_eq name (codes "audit") then codes "audit [--strict] BOARD"

@@ -15,19 +15,25 @@ use Rattle.clap.specs.Takes.{takes}
 abbrev pub board_rule : Rule
 board_rule = record (new_rule (codes "board")) { required = true }
 
+abbrev pub json_rule : Rule
+json_rule = record (new_rule (codes "json")) { long = Some (codes "json"); action = Some SetTrue }
+
+abbrev pub all_rule : Rule
+all_rule = record (new_rule (codes "all")) { long = Some (codes "all"); action = Some SetTrue }
+
 abbrev pub plain_rule : Rule
 plain_rule = record (new_rule (codes "plain")) { long = Some (codes "plain"); action = Some SetTrue }
 
 abbrev pub strict_rule : Rule
 strict_rule = record (new_rule (codes "strict")) { long = Some (codes "strict"); action = Some SetTrue }
 
--- `list BOARD`, `check [--plain] BOARD`, `run [--strict] BOARD`, `firmware [--strict] BOARD`, `audit [--strict] BOARD` and
--- `ready BOARD`
+-- `list [--json] BOARD`, `check [--all] [--plain] BOARD`, `run [--strict] BOARD`, `firmware [--strict] BOARD`,
+-- `audit [--strict] BOARD` and `ready BOARD`
 abbrev pub list_shape : Shape
-list_shape = record (new_shape (codes "list")) { rules = board_rule ∷ [] }
+list_shape = record (new_shape (codes "list")) { rules = json_rule ∷ board_rule ∷ [] }
 
 abbrev pub check_shape : Shape
-check_shape = record (new_shape (codes "check")) { rules = plain_rule ∷ board_rule ∷ [] }
+check_shape = record (new_shape (codes "check")) { rules = all_rule ∷ plain_rule ∷ board_rule ∷ [] }
 
 abbrev pub run_shape : Shape
 run_shape = record (new_shape (codes "run")) { rules = strict_rule ∷ board_rule ∷ [] }
@@ -41,14 +47,14 @@ audit_shape = record (new_shape (codes "audit")) { rules = strict_rule ∷ board
 abbrev pub ready_shape : Shape
 ready_shape = record (new_shape (codes "ready")) { rules = board_rule ∷ [] }
 
--- `pciguest demo` and `pciguest list BOARD`, with no help subcommand and no version
+-- `pciguest demo` and `pciguest list [--json] BOARD`, with no help subcommand and no version
 abbrev pub demo_and_list_app : App
 demo_and_list_app =
     with_subcommand (with_subcommand
     (on_top (λ s. record s { disable_help_subcommand = true; subcommand_required = true }) (new_app (codes "pciguest")))
     (new_shape (codes "demo"))) list_shape
 
--- and `pciguest check [--plain] BOARD`
+-- and `pciguest check [--all] [--plain] BOARD`
 abbrev pub with_check_app : App
 with_check_app = with_subcommand demo_and_list_app check_shape
 

@@ -19,18 +19,35 @@ pub enum Choice<'a> {
     Help(String),
     /// Run a script over the demo board.
     Demo,
-    /// Write the report of the board file at this path.
-    List(&'a str),
-    /// Say what is wrong with the board file at this path, or that its board fits. `plain` asks for lines alone.
-    Check { path: &'a str, plain: bool },
+    /// Write the report of the board file at this path, as JSON if `json`.
+    List {
+        path: &'a str,
+        json: bool,
+    },
+    /// Say what is wrong with the board file at this path, or that its board fits. `all` asks for every warning,
+    /// `plain` for lines alone.
+    Check {
+        path: &'a str,
+        all: bool,
+        plain: bool,
+    },
     /// Run a script over the board of the board file at this path. If `strict`, a refused line is a fault, once
     /// all lines ran.
-    Run { path: &'a str, strict: bool },
+    Run {
+        path: &'a str,
+        strict: bool,
+    },
     /// Run a session over the board of the board file at this path, at reset.
-    Firmware { path: &'a str, strict: bool },
+    Firmware {
+        path: &'a str,
+        strict: bool,
+    },
     /// Do the same, and then write all that is wrong in the registers as they stand. If `strict`, that is a fault
     /// too.
-    Audit { path: &'a str, strict: bool },
+    Audit {
+        path: &'a str,
+        strict: bool,
+    },
     /// Do the same, and then write all that is wrong and all that is lacking in them.
     Ready(&'a str),
 }
@@ -43,7 +60,7 @@ impl<'a> Choice<'a> {
         match self {
             Choice::Help(_) => None,
             Choice::Demo => None,
-            Choice::List(path) => Some(*path),
+            Choice::List { path, .. } => Some(*path),
             Choice::Check { path, .. } => Some(*path),
             Choice::Run { path, .. } => Some(*path),
             Choice::Firmware { path, .. } => Some(*path),
@@ -103,10 +120,14 @@ fn asked<'a>(name: &str, given: &ArgMatches<'a>, is_terminal: bool) -> Option<Ch
     let strict = is_true(given.get_str("strict"));
     match name {
         "demo" => Some(Choice::Demo),
-        "list" => Some(Choice::List(path)),
+        "list" => {
+            let json = is_true(given.get_str("json"));
+            Some(Choice::List { path, json })
+        }
         "check" => {
+            let all = is_true(given.get_str("all"));
             let plain = !is_terminal || is_true(given.get_str("plain"));
-            Some(Choice::Check { path, plain })
+            Some(Choice::Check { path, all, plain })
         }
         "run" => Some(Choice::Run { path, strict }),
         "firmware" => Some(Choice::Firmware { path, strict }),

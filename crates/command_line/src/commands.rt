@@ -3,12 +3,16 @@ ghost use Rattle.std.specs.Prelude.{◌≡◌, false, codes, IfOk};
 ghost use Rattle.clap.specs.declared.builder.command.Command.TheViews.{out-Command as fields_of};
 ghost use Rattle.clap.specs.Simple.{app_of, shape_of, new_shape};
 ghost use Rattle.clap.specs.Walk.{rule_of};
-ghost use Rattle.command_line.specs.Words.{board_rule, plain_rule, strict_rule, list_shape, check_shape, run_shape, firmware_shape, audit_shape, ready_shape};
+ghost use Rattle.command_line.specs.Words.{board_rule, json_rule, all_rule, plain_rule, strict_rule, list_shape, check_shape, run_shape, firmware_shape, audit_shape, ready_shape};
 ghost use Rattle.command_line.specs.Words.{demo_and_list_app, with_check_app, with_run_app};
 ghost use Rattle.command_line.specs.Words.{with_firmware_app, with_audit_app, pciguest_app};
 
 use clap::{Arg, ArgAction, Command};
 use std::alloc::{AllocError, Global};
+
+const REFUSED: &str = "End with status 1 where a line was refused";
+
+const REFUSED_OR_TOLD: &str = "End with status 1 where a line was refused or a problem told";
 
 /// The argument that names a board file.
 fn board<'a>(alloc: Global) -> Arg<'a>
@@ -26,25 +30,37 @@ fn demo<'a>(alloc: Global) -> Command<'a>
     Command::new(alloc, "demo").about("Run the script on standard input over the demo board")
 }
 
-/// `list BOARD`.
+/// The flag that asks for the report as JSON.
+fn json<'a>(alloc: Global) -> Arg<'a>
+    ensures rule { rule_of result ≡ json_rule }
+    ensures local { result.global ≡ false }
+{
+    Arg::new(alloc, "json")
+        .long("json")
+        .action(ArgAction::SetTrue)
+        .help("Write the report as JSON")
+}
+
+/// `list [--json] BOARD`.
 fn list<'a>(alloc: Global) -> Result<Command<'a>, AllocError>
     ensures shape { IfOk result (λ c. shape_of c ≡ list_shape) }
     ensures local { IfOk result (λ c. (fields_of c).has_globals ≡ false) }
 {
     Command::new(alloc, "list")
         .about("Set up the board that the file <board> declares, and report it")
+        .arg(json(alloc))?
         .arg(board(alloc))
 }
 
-/// The flag that asks for a fault where a line is refused.
-fn strict<'a>(alloc: Global) -> Arg<'a>
+/// The flag that asks for a fault where a line is refused, and what help says of it.
+fn strict<'a>(alloc: Global, help: &'a str) -> Arg<'a>
     ensures rule { rule_of result ≡ strict_rule }
     ensures local { result.global ≡ false }
 {
     Arg::new(alloc, "strict")
         .long("strict")
         .action(ArgAction::SetTrue)
-        .help("End with status 1 where a line was refused or a problem told")
+        .help(help)
 }
 
 /// `run [--strict] BOARD`.
@@ -54,8 +70,19 @@ fn run<'a>(alloc: Global) -> Result<Command<'a>, AllocError>
 {
     Command::new(alloc, "run")
         .about("Run the script on standard input over the board that the file <board> declares")
-        .arg(strict(alloc))?
+        .arg(strict(alloc, REFUSED))?
         .arg(board(alloc))
+}
+
+/// The flag that asks a check for every warning.
+fn all<'a>(alloc: Global) -> Arg<'a>
+    ensures rule { rule_of result ≡ all_rule }
+    ensures local { result.global ≡ false }
+{
+    Arg::new(alloc, "all")
+        .long("all")
+        .action(ArgAction::SetTrue)
+        .help("Warn also of apertures of more than ten times what their pools use")
 }
 
 /// The flag that asks a check for lines alone.
@@ -69,13 +96,14 @@ fn plain<'a>(alloc: Global) -> Arg<'a>
         .help("Write a line for each problem and nothing below it")
 }
 
-/// `check [--plain] BOARD`.
+/// `check [--all] [--plain] BOARD`.
 fn check<'a>(alloc: Global) -> Result<Command<'a>, AllocError>
     ensures shape { IfOk result (λ c. shape_of c ≡ check_shape) }
     ensures local { IfOk result (λ c. (fields_of c).has_globals ≡ false) }
 {
     Command::new(alloc, "check")
         .about("Say what is wrong with the board file <board>, or that its board fits")
+        .arg(all(alloc))?
         .arg(plain(alloc))?
         .arg(board(alloc))
 }
@@ -89,7 +117,7 @@ fn firmware<'a>(alloc: Global) -> Result<Command<'a>, AllocError>
         .about(
             "Do what firmware asks on standard input, at the board of the file <board>, at reset",
         )
-        .arg(strict(alloc))?
+        .arg(strict(alloc, REFUSED))?
         .arg(board(alloc))
 }
 
@@ -100,7 +128,7 @@ fn audit<'a>(alloc: Global) -> Result<Command<'a>, AllocError>
 {
     Command::new(alloc, "audit")
         .about("Do the same, and then say what is wrong in the board's registers as they stand")
-        .arg(strict(alloc))?
+        .arg(strict(alloc, REFUSED_OR_TOLD))?
         .arg(board(alloc))
 }
 

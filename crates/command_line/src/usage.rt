@@ -87,9 +87,9 @@ fn taken_by(name: &str) -> &'static str
     if name == "demo" {
         "demo"
     } else if name == "list" {
-        "list BOARD"
+        "list [--json] BOARD"
     } else if name == "check" {
-        "check [--plain] BOARD"
+        "check [--all] [--plain] BOARD"
     } else if name == "run" {
         "run [--strict] BOARD"
     } else if name == "firmware" {

@@ -14,6 +14,7 @@ use Rattle.bus_scan.specs.declared.fault.Fault.{Fault as SetUpFault}
 use Rattle.bus_scan.specs.declared.fault.Fault.TheVariants as set_up
 use Rattle.bus_scan.specs.Faults as bus_scan
 use Rattle.diagnostics.specs.declared.style.Style.{Style}
+use Rattle.board_fit.specs.declared.warned.Warned.{Warned}
 use Rattle.simulation.specs.declared.fault.Fault.{Fault}
 use Rattle.simulation.specs.declared.fault.Fault.TheVariants.{File, SetUp}
 use Rattle.simulation.specs.Faults.{number_of, IsOfBoard, IsOutOfMemory, OnFile, OnSetUp}
@@ -43,12 +44,12 @@ known_set_up : (s : SetUpFault) → s ≢ set_up.Memory → (bus_scan.number_of 
 known_set_up set_up.Memory other = absurd (other refl)
 known_set_up _ other = (lit< tt, λ wrong. omega arith)
 
-pub known : (style : Style) (name board text : Text) (o : Option Fault) → IsCheckText style name board o text
+pub known : (style : Style) (warned : Warned) (name board text : Text) (o : Option Fault) → IsCheckText style warned name board o text
     → (option_map_or number_of o 0 < 299) × (option_map_or number_of o 0 ≢ 199)
-known style name board text None said = (lit< tt, λ wrong. omega arith)
-known style name board text (Some (File b)) said = known_file b said.known
-known style name board text (Some (SetUp s)) said = known_set_up s (λ memory. said.known (ap Some memory))
-known style name board text (Some _) said = absurd said
+known style warned name board text None said = (lit< tt, λ wrong. omega arith)
+known style warned name board text (Some (File b)) said = known_file b said.known
+known style warned name board text (Some (SetUp s)) said = known_set_up s (λ memory. said.known (ap Some memory))
+known style warned name board text (Some _) said = absurd said
 
 pub out_of_memory : (f : Fault) → IsOutOfMemory f → (number_of f ≡ 199) ⊎ (number_of f ≡ 299)
 out_of_memory (File b) is = inl (ap board_file.number_of is)

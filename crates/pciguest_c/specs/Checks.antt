@@ -7,6 +7,7 @@ use Rattle.model_guests.specs.Text.{Text}
 use Rattle.simulation.specs.declared.fault.Fault.{Fault}
 use Rattle.simulation.specs.Faults.{number_of}
 use Rattle.diagnostics.specs.declared.style.Style.TheVariants.{Plain}
+use Rattle.board_fit.specs.declared.warned.Warned.TheVariants.{Likely}
 use Rattle.simulation.specs.Checking.{IsCheckText}
 
 abbrev pub board_name : Text
@@ -16,4 +17,4 @@ board_name = codes "board.toml"
 pub record IsCheckOf (board : Text) (n : ℕ) (text : Text) : Type 0 where
   pub fault : Option Fault
   pub number : n ≡ option_map_or number_of fault 0
-  pub is_text : IsCheckText Plain board_name board fault text
+  pub is_text : IsCheckText Plain Likely board_name board fault text

@@ -7,7 +7,7 @@ ghost use Rattle.simulation.specs.Faults.{number_of};
 ghost use Rattle.session.specs.Files.{Refuses, Breaks, IsSetUp};
 ghost use Rattle.pciguest_c.specs.Checks.{IsCheckOf};
 
-use simulation::{Fault, Style, check_text, list_text};
+use simulation::{Fault, ReportForm, Style, Warned, check_text, list_text};
 use std::alloc::Global;
 
 /// The report of a board file, or the number of its refusal.
@@ -18,7 +18,7 @@ pub fn report_of(alloc: Global, board: &[u8]) -> Result<String, u32>
     ensures placement { IfErr result (λ n. 199 < n → n < 299 → Breaks board.now n) }
     ensures numbers { IfErr result (λ n. (n ≢ 0) × (n ≤ 299)) }
 {
-    match list_text(alloc, board) {
+    match list_text(alloc, board, ReportForm::Lines) {
         Ok(text) => Ok(text),
         Err(fault) => Err(u32::from(fault.number())),
     }
@@ -43,7 +43,7 @@ pub fn check_of(alloc: Global, board: &[u8]) -> Result<(String, u32), u32>
     ensures numbers { IfOk result (λ v. (v.1 < 299) × (v.1 ≢ 199)) }
     ensures memory { IfErr result (λ n. (n ≡ 199) ⊎ (n ≡ 299)) }
 {
-    match check_text(alloc, Style::Plain, BOARD_NAME, board) {
+    match check_text(alloc, Style::Plain, Warned::Likely, BOARD_NAME, board) {
         Ok(checked) => Ok((checked.text, number_or_zero(checked.fault))),
         Err(fault) => Err(u32::from(fault.number())),
     }

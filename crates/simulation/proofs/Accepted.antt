@@ -6,6 +6,7 @@ use Rattle.model_guests.specs.World.{World}
 use Rattle.bus_scan.specs.declared.fault.Fault.{Fault as SetUpFault}
 use Rattle.bus_scan.specs.declared.fault.Fault.TheVariants as set_up
 use Rattle.diagnostics.specs.declared.style.Style.{Style}
+use Rattle.board_fit.specs.declared.warned.Warned.{Warned}
 use Rattle.board_fit.specs.Verdicts.{IsVerdict}
 use Rattle.simulation.specs.declared.fault.Fault.{Fault}
 use Rattle.simulation.specs.declared.fault.Fault.TheVariants.{SetUp}
@@ -13,12 +14,12 @@ use Rattle.session.specs.Files.{Declares}
 use Rattle.simulation.specs.Checking.{IsCheckText}
 
 -- the fault of a board is that of the check
-pub said_of : (style : Style) (name bytes : Text) (w : World) (fault : Option SetUpFault) (told : Option Fault) (text : Text)
-    → fault ≢ Some set_up.Memory → Declares bytes w → IsVerdict style name bytes w.board w.apertures fault text
-    → told ≡ option_map SetUp fault → IsCheckText style name bytes told text
-said_of style name bytes w None told text known declared verdict same =
-    subst (λ (f : Option Fault). IsCheckText style name bytes f text) (sym same)
+pub said_of : (style : Style) (warned : Warned) (name bytes : Text) (w : World) (fault : Option SetUpFault) (told : Option Fault) (text : Text)
+    → fault ≢ Some set_up.Memory → Declares bytes w → IsVerdict style warned name bytes w.board w.apertures fault text
+    → told ≡ option_map SetUp fault → IsCheckText style warned name bytes told text
+said_of style warned name bytes w None told text known declared verdict same =
+    subst (λ (f : Option Fault). IsCheckText style warned name bytes f text) (sym same)
     (record { known = known; world = w; declared = declared; verdict = verdict })
-said_of style name bytes w (Some s) told text known declared verdict same =
-    subst (λ (f : Option Fault). IsCheckText style name bytes f text) (sym same)
+said_of style warned name bytes w (Some s) told text known declared verdict same =
+    subst (λ (f : Option Fault). IsCheckText style warned name bytes f text) (sym same)
     (record { known = known; world = w; declared = declared; verdict = verdict })

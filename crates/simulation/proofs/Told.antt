@@ -4,16 +4,17 @@ use Rattle.std.specs.Prelude.{OnOk, IfErr, IsErrOf, None, Some}
 use Rattle.model_guests.specs.Text.{Text}
 use Rattle.line_runs.specs.Runs.{Ends}
 use Rattle.diagnostics.specs.declared.style.Style.{Style}
+use Rattle.board_fit.specs.declared.warned.Warned.{Warned}
 use Rattle.simulation.specs.declared.fault.Fault.{Fault}
 use Rattle.simulation.specs.declared.fault.Fault.TheVariants.{Write}
 use Rattle.simulation.specs.Checking.{IsChecked, IsCheckedInPart}
 use Rattle.simulation.specs.Choices.{Checks}
 use Rattle.simulation.specs.Faults.{IsRefusal}
 
-pub checks : {T : Type 0} (style : Style) (name board : Text) (at : Ends) (r : Result T Fault)
-    → OnOk r (IsChecked style name board None at.before at.after) → OnOk r (at.flushed ≡ at.after)
-    → IfErr r (λ f. IsRefusal f → IsChecked style name board (Some f) at.before at.after) → IfErr r (λ f. IsRefusal f → at.flushed ≡ at.after)
-    → (IsErrOf r Write → IsCheckedInPart style name board at.before at.after) → Checks style name board at r
-checks style name board at (Ok x) fits flushed told told_flushed stopped = (fits, flushed)
-checks style name board at (Err Write) fits flushed told told_flushed stopped = stopped refl
-checks style name board at (Err _) fits flushed told told_flushed stopped = λ is. (told is, told_flushed is)
+pub checks : {T : Type 0} (style : Style) (warned : Warned) (name board : Text) (at : Ends) (r : Result T Fault)
+    → OnOk r (IsChecked style warned name board None at.before at.after) → OnOk r (at.flushed ≡ at.after)
+    → IfErr r (λ f. IsRefusal f → IsChecked style warned name board (Some f) at.before at.after) → IfErr r (λ f. IsRefusal f → at.flushed ≡ at.after)
+    → (IsErrOf r Write → IsCheckedInPart style warned name board at.before at.after) → Checks style warned name board at r
+checks style warned name board at (Ok x) fits flushed told told_flushed stopped = (fits, flushed)
+checks style warned name board at (Err Write) fits flushed told told_flushed stopped = stopped refl
+checks style warned name board at (Err _) fits flushed told told_flushed stopped = λ is. (told is, told_flushed is)

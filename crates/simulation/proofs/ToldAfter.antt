@@ -12,7 +12,7 @@ use Rattle.model_guests.specs.World.{World}
 use Rattle.model_lines.specs.Sessions.{SessionNow, session_functions}
 use Rattle.line_runs.specs.Runs.{Ends, ends}
 use Rattle.bus_scan.specs.declared.fault.Fault.TheVariants as set_up
-use Rattle.simulation.specs.AfterLines.{counted_by, left_after, session_text, told_by, told_of, IsAnswer, IsTold, IsToldInPart, Tells}
+use Rattle.simulation.specs.AfterLines.{counted_by, left_after, session_text, told_by, told_of, IsAnswer, IsToldInPart, Tells}
 use Rattle.simulation.specs.Auditing.{audit_of, Audits, IsAudited, IsJudged}
 use Rattle.simulation.specs.Faults.{IsOfSession, OnSession}
 use Rattle.simulation.specs.Readiness.{IsToldReady, Readies, ready_of}

@@ -1,8 +1,8 @@
 -- What a check says of a board file.
---     IsCheckText style name board fault text      of a file that declares a board, what is said of its board; of one
+--     IsCheckText style warned name board fault text      of a file that declares a board, what is said of its board; of one
 --         that doesn't, what is said of the check that it fails. The fault is that of the file or its board, if there is one
---     IsChecked style name board fault old new      this was written, after what was written before
---     IsCheckedInPart style name board old new      so was a beginning of it, whatever the fault
+--     IsChecked style warned name board fault old new      this was written, after what was written before
+--     IsCheckedInPart style warned name board old new      so was a beginning of it, whatever the fault
 use Rattle.std.specs.Prelude.{◌≢◌, Option, None, Some}
 use Rattle.std.specs.Io.KnownBytes.{Appends}
 use Rattle.model_guests.specs.Text.{Text}
@@ -15,6 +15,7 @@ use Rattle.bus_scan.specs.declared.fault.Fault.{Fault as SetUpFault}
 use Rattle.bus_scan.specs.declared.fault.Fault.TheVariants as set_up
 use Rattle.diagnostics.specs.declared.style.Style.{Style}
 use Rattle.board_refusal.specs.Telling.{IsRefusalText}
+use Rattle.board_fit.specs.declared.warned.Warned.{Warned}
 use Rattle.board_fit.specs.Verdicts.{IsVerdict}
 use Rattle.simulation.specs.declared.fault.Fault.{Fault}
 use Rattle.simulation.specs.declared.fault.Fault.TheVariants.{File, SetUp}
@@ -27,25 +28,25 @@ pub record IsRefused (style : Style) (name board : Text) (b : BoardFault) (text 
   pub told : IsRefusalText style name board b text
 
 -- of a file that is accepted
-pub record IsJudged (style : Style) (name board : Text) (fault : Option SetUpFault) (text : Text) : Type 0 where
+pub record IsJudged (style : Style) (warned : Warned) (name board : Text) (fault : Option SetUpFault) (text : Text) : Type 0 where
   pub known : fault ≢ Some set_up.Memory
   pub world : World
   pub declared : Declares board world
-  pub verdict : IsVerdict style name board world.board world.apertures fault text
+  pub verdict : IsVerdict style warned name board world.board world.apertures fault text
 
-abbrev pub IsCheckText : Style → (name board : Text) → Option Fault → Text → Type 0
-IsCheckText style name board None text = IsJudged style name board None text
-IsCheckText style name board (Some (File b)) text = IsRefused style name board b text
-IsCheckText style name board (Some (SetUp s)) text = IsJudged style name board (Some s) text
-IsCheckText style name board (Some _) text = ⊥
+abbrev pub IsCheckText : Style → Warned → (name board : Text) → Option Fault → Text → Type 0
+IsCheckText style warned name board None text = IsJudged style warned name board None text
+IsCheckText style warned name board (Some (File b)) text = IsRefused style name board b text
+IsCheckText style warned name board (Some (SetUp s)) text = IsJudged style warned name board (Some s) text
+IsCheckText style warned name board (Some _) text = ⊥
 
-pub record IsChecked (style : Style) (name board : Text) (fault : Option Fault) (old new : Option Text) : Type 0 where
+pub record IsChecked (style : Style) (warned : Warned) (name board : Text) (fault : Option Fault) (old new : Option Text) : Type 0 where
   pub text : Text
-  pub is_text : IsCheckText style name board fault text
+  pub is_text : IsCheckText style warned name board fault text
   pub written : Appends old new text
 
-pub record IsCheckedInPart (style : Style) (name board : Text) (old new : Option Text) : Type 0 where
+pub record IsCheckedInPart (style : Style) (warned : Warned) (name board : Text) (old new : Option Text) : Type 0 where
   pub fault : Option Fault
   pub text : Text
-  pub is_text : IsCheckText style name board fault text
+  pub is_text : IsCheckText style warned name board fault text
   pub part : AppendsPart old new text

@@ -1,8 +1,9 @@
 -- What the program does, by what it is asked.
---     style_of plain      how a check tells
---     Prints text at result, Lists board at result, Checks style name board at result      a text was written whole and
---         flushed, or a beginning of it where a write or flush failed: one that is given, the report of a board, or what
---         a check says
+--     form_of json      the form of a report
+--     style_of plain, warned_of all      how a check tells, and of what it warns
+--     Prints text at result, Lists form board at result, Checks style warned name board at result      a text was written
+--         whole and flushed, or a beginning of it where a write or flush failed: one that is given, the report of a
+--         board, or what a check says
 --     Does choice board at result      what was done, by how it ended, with a board file of these bytes
 --     IsTelling choice f      the choice tells of the fault
 --     IsLacking choice f      memory is out once lines ran
@@ -20,6 +21,10 @@ use Rattle.command_line.specs.declared.choice.Choice.TheVariants.{Help, Demo, Li
 use Rattle.bus_scan.specs.declared.fault.Fault.TheVariants as set_up
 use Rattle.diagnostics.specs.declared.style.Style.{Style}
 use Rattle.diagnostics.specs.declared.style.Style.TheVariants.{Plain, WithExcerpts}
+use Rattle.board_fit.specs.declared.warned.Warned.{Warned}
+use Rattle.board_fit.specs.declared.warned.Warned.TheVariants as of
+use Rattle.simulation.specs.declared.listing.ReportForm.{ReportForm}
+use Rattle.simulation.specs.declared.listing.ReportForm.TheVariants.{Lines, Json}
 use Rattle.simulation.specs.Demo.{demo_board}
 use Rattle.simulation.specs.Faults.{IsRefusal, IsOfAudit, IsOfList, IsOfReadiness, IsOfRun, IsOfStrictRun, IsOfStrictSession, OnRun}
 use Rattle.session.specs.Files.{Declares}
@@ -33,49 +38,55 @@ use Rattle.simulation.specs.declared.fault.Fault.{Fault}
 use Rattle.simulation.specs.declared.fault.Fault.TheVariants.{SetUp, Write}
 
 -- the report of the board that some bytes declare, once it is set up
-pub record IsReported (board : Text) (old new : Option Text) : Type 0 where
+pub record IsReported (form : ReportForm) (board : Text) (old new : Option Text) : Type 0 where
   pub world : World
   pub declared : Declares board world
   pub set_up : first_broken (set_up_rules world.board world.apertures) ≡ None
-  pub listed : IsListed world old new
+  pub listed : IsListed form world old new
 
-pub record IsReportedInPart (board : Text) (old new : Option Text) : Type 0 where
+pub record IsReportedInPart (form : ReportForm) (board : Text) (old new : Option Text) : Type 0 where
   pub world : World
   pub declared : Declares board world
-  pub listed : IsListedInPart world old new
+  pub listed : IsListedInPart form world old new
 
 abbrev pub Prints : {T : Type 0} → Text → Ends → Result T Fault → Type 0
 Prints text at (Ok x) = Appends at.before at.after text × (at.flushed ≡ at.after)
 Prints text at (Err Write) = AppendsPart at.before at.after text
 Prints text at (Err other) = ⊤
 
-abbrev pub Lists : {T : Type 0} → Text → Ends → Result T Fault → Type 0
-Lists board at (Ok x) = IsReported board at.before at.after × (at.flushed ≡ at.after)
-Lists board at (Err Write) = IsReportedInPart board at.before at.after
-Lists board at (Err other) = ⊤
+abbrev pub Lists : {T : Type 0} → ReportForm → Text → Ends → Result T Fault → Type 0
+Lists form board at (Ok x) = IsReported form board at.before at.after × (at.flushed ≡ at.after)
+Lists form board at (Err Write) = IsReportedInPart form board at.before at.after
+Lists form board at (Err other) = ⊤
 
 -- a check tells of a fault of the file or its board
-abbrev pub Checks : {T : Type 0} → Style → (name board : Text) → Ends → Result T Fault → Type 0
-Checks style name board at (Ok x) = IsChecked style name board None at.before at.after × (at.flushed ≡ at.after)
-Checks style name board at (Err Write) = IsCheckedInPart style name board at.before at.after
-Checks style name board at (Err f) =
-    IsRefusal f → IsChecked style name board (Some f) at.before at.after × (at.flushed ≡ at.after)
+abbrev pub Checks : {T : Type 0} → Style → Warned → (name board : Text) → Ends → Result T Fault → Type 0
+Checks style warned name board at (Ok x) = IsChecked style warned name board None at.before at.after × (at.flushed ≡ at.after)
+Checks style warned name board at (Err Write) = IsCheckedInPart style warned name board at.before at.after
+Checks style warned name board at (Err f) =
+    IsRefusal f → IsChecked style warned name board (Some f) at.before at.after × (at.flushed ≡ at.after)
+
+abbrev pub form_of : Bool → ReportForm
+form_of json = if json then Json else Lines
 
 abbrev pub style_of : Bool → Style
 style_of plain = if plain then Plain else WithExcerpts
 
+abbrev pub warned_of : Bool → Warned
+warned_of all = if all then of.All else of.Likely
+
 abbrev pub Does : {T : Type 0} → Choice → Text → Ends → Result T Fault → Type 0
 Does (Help text) board at r = Prints (string_bytes text) at r
 Does Demo board at r = OnRun (IsRun demo_board at) r
-Does (List path) board at r = Lists board at r
-Does (Check path plain) board at r = Checks (style_of plain) path.now board at r
+Does (List path json) board at r = Lists (form_of json) board at r
+Does (Check path all plain) board at r = Checks (style_of plain) (warned_of all) path.now board at r
 Does (Run path strict) board at r = RunsAs strict board at r
 Does (Firmware path strict) board at r = Drives strict board at r
 Does (Audit path strict) board at r = Audits strict board at r
 Does (Ready path) board at r = Readies board at r
 
 abbrev pub IsTelling : Choice → Fault → Type 0
-IsTelling (Check path plain) f = IsRefusal f
+IsTelling (Check path all plain) f = IsRefusal f
 IsTelling _ f = ⊥
 
 -- no memory for a question or for a handover
@@ -92,8 +103,8 @@ IsOfRunAs false f = IsOfRun f
 abbrev pub IsOfChoice : Choice → Fault → Type 0
 IsOfChoice (Help text) f = f ≡ Write
 IsOfChoice Demo f = IsOfRun f
-IsOfChoice (List path) f = IsOfList f
-IsOfChoice (Check path plain) f = IsOfList f
+IsOfChoice (List path json) f = IsOfList f
+IsOfChoice (Check path all plain) f = IsOfList f
 IsOfChoice (Run path strict) f = IsOfRunAs strict f
 IsOfChoice (Firmware path strict) f = IsOfStrictSession strict f
 IsOfChoice (Audit path strict) f = IsOfAudit strict f

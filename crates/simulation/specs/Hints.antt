@@ -59,7 +59,7 @@ see_check path = codes "see: pciguest check " ++ shown path ++ codes "\n"
 
 -- a check tells all
 abbrev pub hinted_path : Choice → Option Text
-hinted_path (Check path plain) = None
+hinted_path (Check path all plain) = None
 hinted_path choice = board_path choice
 
 abbrev pub check_hint : Choice → Fault → Option Text

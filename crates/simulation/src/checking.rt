@@ -16,7 +16,7 @@ ghost use Rattle.simulation.specs.Checking.{IsCheckText, IsChecked, IsCheckedInP
 use crate::choice::print;
 use crate::fault::Fault;
 use board_file::{BoardFault, Source};
-use board_fit::judge;
+use board_fit::{Warned, judge};
 use board_refusal::{refusal_text, unread_text};
 use diagnostics::Style;
 use host_bridge::Host;
@@ -32,7 +32,7 @@ pub struct Checked {
     pub fault: Option<Fault>,
 }
 
-/// Of bytes that are no document: where and why they were given up.
+/// Of bytes that are no document: where and why they were given up, whatever is warned of.
 fn refuse_bytes(
     alloc: Global,
     style: Style,
@@ -42,7 +42,8 @@ fn refuse_bytes(
 ) -> Result<Checked, Fault>
     requires within { IsWithin board.now error.now }
     requires no_document { IsUtf8 board.now → parse_document board.now ≡ None }
-    ensures told { IfOk result (λ c. IsCheckText style name.now board.now c.fault (string_bytes c.text)) }
+    ensures told { IfOk result (λ c. (w : Warned)
+        → IsCheckText style w name.now board.now c.fault (string_bytes c.text)) }
     ensures memory { IfErr result IsOutOfMemory }
 {
     match unread_text(alloc, style, name, board, error) {
@@ -54,7 +55,7 @@ fn refuse_bytes(
     }
 }
 
-/// Of a document that is refused: what is wrong with it.
+/// Of a document that is refused: what is wrong with it, whatever is warned of.
 fn refuse(
     alloc: Global,
     style: Style,
@@ -66,7 +67,8 @@ fn refuse(
     requires refused { fault ≢ Memory
         → meaning (table_view source.now.document.now) ≡ Err (of_file.number_of fault) }
     ensures told { let board = source.now.bytes.now in
-        IfOk result (λ c. IsCheckText style name.now board c.fault (string_bytes c.text)) }
+        IfOk result (λ c. (w : Warned)
+        → IsCheckText style w name.now board c.fault (string_bytes c.text)) }
     ensures memory { IfErr result IsOutOfMemory }
 {
     if fault == BoardFault::Memory {
@@ -92,6 +94,7 @@ fn of_board(fault: Option<bus_scan::Fault>) -> Option<Fault>
 fn accept(
     alloc: Global,
     style: Style,
+    warned: Warned,
     name: &str,
     source: &Source<'_>,
     host: Host,
@@ -100,10 +103,10 @@ fn accept(
     requires declared { (gs : List Guest) × (meaning (table_view source.now.document.now) ≡ Ok (world_in host gs)) }
     requires reset { IsAtReset host.state }
     ensures told { let board = source.now.bytes.now in
-        IfOk result (λ c. IsCheckText style name.now board c.fault (string_bytes c.text)) }
+        IfOk result (λ c. IsCheckText style warned name.now board c.fault (string_bytes c.text)) }
     ensures memory { IfErr result IsOutOfMemory }
 {
-    match judge(alloc, style, name, source, host) {
+    match judge(alloc, style, warned, name, source, host) {
         Ok(verdict) => Ok(Checked {
             text: verdict.text,
             fault: of_board(verdict.fault),
@@ -116,16 +119,17 @@ fn accept(
 fn check_source(
     alloc: Global,
     style: Style,
+    warned: Warned,
     name: &str,
     source: &Source<'_>,
 ) -> Result<Checked, Fault>
     requires { IsRead source.now }
     ensures told { let board = source.now.bytes.now in
-        IfOk result (λ c. IsCheckText style name.now board c.fault (string_bytes c.text)) }
+        IfOk result (λ c. IsCheckText style warned name.now board c.fault (string_bytes c.text)) }
     ensures memory { IfErr result IsOutOfMemory }
 {
     match source.world(alloc) {
-        Ok((host, _)) => accept(alloc, style, name, source, host),
+        Ok((host, _)) => accept(alloc, style, warned, name, source, host),
         Err(fault) => refuse(alloc, style, name, source, fault),
     }
 }
@@ -134,31 +138,41 @@ fn check_source(
 fn check_document(
     alloc: Global,
     style: Style,
+    warned: Warned,
     name: &str,
     board: &[u8],
     document: &Table,
 ) -> Result<Checked, Fault>
     requires is_text { IsUtf8 board.now }
     requires parsed { parse_document board.now ≡ Some (table_view document.now) }
-    ensures told { IfOk result (λ c. IsCheckText style name.now board.now c.fault (string_bytes c.text)) }
+    ensures told { IfOk result (λ c.
+        IsCheckText style warned name.now board.now c.fault (string_bytes c.text)) }
     ensures memory { IfErr result IsOutOfMemory }
 {
     match Source::new(alloc, board, document) {
-        Ok(source) => check_source(alloc, style, name, &source),
+        Ok(source) => check_source(alloc, style, warned, name, &source),
         Err(_) => Err(Fault::File(BoardFault::Memory)),
     }
 }
 
 /// What is wrong with a board file, a line for each entry that breaks the first check that the file fails;
 /// or `ok`, where its board can be set up, with how much of each aperture it takes, and a line for each thing
-/// that may be a mistake and is no fault. `name` is what the file is called. With excerpts the line of the
-/// file stands below what is said of an entry. It fails where memory is out (199 or 299), and nowhere else.
-pub fn check_text(alloc: Global, style: Style, name: &str, board: &[u8]) -> Result<Checked, Fault>
-    ensures told { IfOk result (λ c. IsCheckText style name.now board.now c.fault (string_bytes c.text)) }
+/// that may be a mistake and is no fault, by `warned`. `name` is what the file is called. With excerpts the
+/// line of the file stands below what is said of an entry. It fails where memory is out (199 or 299), and
+/// nowhere else.
+pub fn check_text(
+    alloc: Global,
+    style: Style,
+    warned: Warned,
+    name: &str,
+    board: &[u8],
+) -> Result<Checked, Fault>
+    ensures told { IfOk result (λ c.
+        IsCheckText style warned name.now board.now c.fault (string_bytes c.text)) }
     ensures memory { IfErr result IsOutOfMemory }
 {
     match toml::table_from_slice(alloc, board) {
-        Ok(document) => check_document(alloc, style, name, board, &document),
+        Ok(document) => check_document(alloc, style, warned, name, board, &document),
         Err(e) if e.is_memory() => Err(Fault::File(BoardFault::Memory)),
         Err(e) => refuse_bytes(alloc, style, name, board, &e),
     }
@@ -170,6 +184,7 @@ pub fn check_text(alloc: Global, style: Style, name: &str, board: &[u8]) -> Resu
 pub fn check<W: Writer>(
     alloc: Global,
     style: Style,
+    warned: Warned,
     name: &str,
     board: &[u8],
     writer: &mut W,
@@ -178,21 +193,23 @@ pub fn check<W: Writer>(
 
     // The file declares a board that can be set up, and this was said; or what is wrong with the file, or why its
     // board can't be set up.
-    ensures fits { OnOk result (IsChecked style name.now board.now None (W.written writer.old) (W.written writer.new)) }
+    ensures fits { OnOk result (IsChecked style warned name.now board.now None
+        (W.written writer.old) (W.written writer.new)) }
     ensures flushed { OnOk result (W.flushed writer.new ≡ W.written writer.new) }
     ensures told { IfErr result (λ f. IsRefusal f →
-        IsChecked style name.now board.now (Some f) (W.written writer.old) (W.written writer.new)) }
+        IsChecked style warned name.now board.now (Some f)
+        (W.written writer.old) (W.written writer.new)) }
     ensures told_flushed { IfErr result (λ f. IsRefusal f → W.flushed writer.new ≡ W.written writer.new) }
 
     ensures stopped { IsErrOf result Fault.Write →
-        IsCheckedInPart style name.now board.now (W.written writer.old) (W.written writer.new) }
+        IsCheckedInPart style warned name.now board.now (W.written writer.old) (W.written writer.new) }
     ensures faults { IfErr result IsOfList }
     ensures nothing { IfErr result (λ f. f ≢ Fault.Write → ¬ IsRefusal f → writer.new ≡ writer.old) }
 
     // A fault is the writer's exactly where the writer failed during the call.
     ensures failures { W.failures writer.new ≡ W.failures writer.old + write_faults result }
 {
-    let checked = check_text(alloc, style, name, board)?;
+    let checked = check_text(alloc, style, warned, name, board)?;
     print(checked.text.as_str(), writer)?;
     match checked.fault {
         None => Ok(()),

@@ -3,7 +3,7 @@ ghost use Rattle.std.specs.Prelude.{◌≡◌, ◌≢◌, ◌+◌, ◌-◌, ◌^
 ghost use Rattle.std.specs.Io.KnownBytes.{Appends};
 ghost use Rattle.streams.specs.Ends.{AppendsPart};
 ghost use Rattle.line_runs.specs.Runs.{ends};
-ghost use Rattle.simulation.specs.Choices.{style_of, Does, IsTelling, IsLacking, IsOfChoice, IsOfRunAs};
+ghost use Rattle.simulation.specs.Choices.{form_of, style_of, warned_of, Does, IsTelling, IsLacking, IsOfChoice, IsOfRunAs};
 ghost use Rattle.simulation.specs.Faults.{read_faults, write_faults, IsOfBoard, IsToldLast};
 ghost use Rattle.simulation.specs.Running.{RunsAs};
 
@@ -12,13 +12,25 @@ use crate::checking::check;
 use crate::demonstration::demo;
 use crate::driving::drive;
 use crate::fault::Fault;
-use crate::listing::list;
+use crate::listing::{ReportForm, list};
 use crate::readiness::ready;
 use crate::running::{whole, whole_strictly};
+use board_fit::Warned;
 use command_line::Choice;
 use diagnostics::Style;
 use std::alloc::Global;
 use streams::{Reader, Writer, write_and_flush};
+
+/// The form of a report, by whether JSON is asked for.
+fn form_of(json: bool) -> ReportForm
+    ensures { result ≡ form_of json }
+{
+    if json {
+        ReportForm::Json
+    } else {
+        ReportForm::Lines
+    }
+}
 
 /// How a check tells, by whether lines alone are asked for.
 fn style_of(plain: bool) -> Style
@@ -29,6 +41,13 @@ fn style_of(plain: bool) -> Style
     } else {
         Style::WithExcerpts
     }
+}
+
+/// Of what a check warns, by whether all is asked for.
+fn warned_of(all: bool) -> Warned
+    ensures { result ≡ warned_of all }
+{
+    if all { Warned::All } else { Warned::Likely }
 }
 
 /// Writes a text and flushes once.
@@ -109,8 +128,15 @@ pub fn perform<R: Reader, W: Writer>(
     match choice {
         Choice::Help(text) => print(text.as_str(), writer),
         Choice::Demo => demo(alloc, reader, writer),
-        Choice::List(_) => list(alloc, board, writer),
-        Choice::Check { path, plain } => check(alloc, style_of(*plain), path, board, writer),
+        Choice::List { json, .. } => list(alloc, board, form_of(*json), writer),
+        Choice::Check { path, all, plain } => check(
+            alloc,
+            style_of(*plain),
+            warned_of(*all),
+            path,
+            board,
+            writer,
+        ),
         Choice::Run { strict, .. } => run_as(alloc, board, *strict, reader, writer),
         Choice::Firmware { strict, .. } => drive(alloc, board, *strict, reader, writer),
         Choice::Audit { strict, .. } => audit(alloc, board, *strict, reader, writer),

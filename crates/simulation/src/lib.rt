@@ -22,6 +22,7 @@ mod standard_streams;
 mod watching;
 
 pub use auditing::audit;
+pub use board_fit::Warned;
 pub use checking::{Checked, check, check_text};
 pub use choice::perform;
 pub use command_line::Choice;
@@ -32,7 +33,7 @@ pub use fault::Fault;
 pub use fault_lines::fault_line;
 pub use files::{board_bytes, board_or_hint};
 pub use hints::{check_hint, usage_hint};
-pub use listing::{list, list_text};
+pub use listing::{ReportForm, list, list_text};
 pub use model_guests::two_worlds;
 pub use monitor::Monitor;
 pub use readiness::ready;

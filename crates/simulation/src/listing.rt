@@ -3,32 +3,62 @@ ghost use Rattle.std.specs.Prelude.{◌≡◌, ◌≢◌, ◌+◌, ◌-◌, ◌^
 ghost use Rattle.model_registers.specs.DeclarationRules.{first_broken};
 ghost use Rattle.model_set_up.specs.SetUpWrites.{set_up_rules};
 ghost use Rattle.model_guests.specs.World.{World};
-ghost use Rattle.model_handoff.specs.Report.{report};
+ghost use Rattle.report.specs.OfWorld.{IsOf};
 ghost use Rattle.simulation.specs.Faults.{write_faults, OnFile, OnSetUp, IsOfBoard, IsOfList};
 ghost use Rattle.session.specs.Files.{Declares, Refuses, Breaks};
-ghost use Rattle.simulation.specs.Listing.{IsListed, IsListedInPart};
+ghost use Rattle.simulation.specs.Listing.{report_in, IsListed, IsListedInPart};
 
 use crate::choice::print;
 use crate::fault::Fault;
+use accesses::GuestDecl;
 use board_file::read_board;
+use bus_scan::FunctionTable;
 use report::report_text;
-use std::alloc::Global;
+use report_json::report_json;
+use std::alloc::{AllocError, Global};
 use streams::Writer;
-use window_packing::set_up;
+use window_packing::{Plan, set_up};
+
+/// The form of a report.
+#[derive(Clone, Copy, Debug, PartialEq, Eq)]
+pub enum ReportForm {
+    /// A line for each function, region, interrupt, window and slot.
+    Lines,
+    /// A JSON object on one line.
+    Json,
+}
+
+/// The report of a board that is set up, from its table, its plan and its guests.
+fn report_in(
+    alloc: Global,
+    form: ReportForm,
+    table: &FunctionTable,
+    plan: &Plan,
+    guests: &[GuestDecl],
+) -> Result<String, AllocError>
+    ensures { IfOk result (λ t. (w : World)
+        → IsOf w table.now plan.now guests.now → string_bytes t ≡ report_in form w) }
+{
+    match form {
+        ReportForm::Lines => report_text(alloc, table, plan, guests),
+        ReportForm::Json => report_json(alloc, table, plan, guests),
+    }
+}
 
 /// The report of the board that a board file declares, once it is set up.
 ///
 /// A refusal is the file's (101 to 112), the board's (201 to 205), or out of memory (199 or 299).
-pub fn list_text(alloc: Global, board: &[u8]) -> Result<String, Fault>
+pub fn list_text(alloc: Global, board: &[u8], form: ReportForm) -> Result<String, Fault>
     ensures report { IfOk result (λ t. (w : World) × Declares board.now w
-        × (first_broken (set_up_rules w.board w.apertures) ≡ None) × (string_bytes t ≡ report w)) }
+        × (first_broken (set_up_rules w.board w.apertures) ≡ None)
+        × (string_bytes t ≡ report_in form w)) }
     ensures file { IfErr result (OnFile (Refuses board.now)) }
     ensures placement { IfErr result (OnSetUp (Breaks board.now)) }
     ensures faults { IfErr result IsOfBoard }
 {
     let (host, guests) = read_board(alloc, board)?;
     let ready = set_up(alloc, host)?;
-    let Ok(text) = report_text(alloc, ready.table(), ready.plan(), &guests) else {
+    let Ok(text) = report_in(alloc, form, ready.table(), ready.plan(), &guests) else {
         return Err(Fault::SetUp(bus_scan::Fault::Memory));
     };
     Ok(text)
@@ -38,26 +68,32 @@ pub fn list_text(alloc: Global, board: &[u8]) -> Result<String, Fault>
 ///
 /// A refusal is the file's (101 to 112), the board's (201 to 205), out of memory (199 or 299), or
 /// `Write`, and nothing else. Only `Write` comes after a part of the report was written.
-pub fn list<W: Writer>(alloc: Global, board: &[u8], writer: &mut W) -> Result<(), Fault>
+pub fn list<W: Writer>(
+    alloc: Global,
+    board: &[u8],
+    form: ReportForm,
+    writer: &mut W,
+) -> Result<(), Fault>
     requires { W.failures writer.old < 2 ^ 64 - 1 }
 
     // The file declares a board that is set up, whose report was written and nothing else.
     ensures listed { OnOk result ((w : World) × Declares board.now w
         × (first_broken (set_up_rules w.board w.apertures) ≡ None)
-        × IsListed w (W.written writer.old) (W.written writer.new)) }
+        × IsListed form w (W.written writer.old) (W.written writer.new)) }
     ensures flushed { OnOk result (W.flushed writer.new ≡ W.written writer.new) }
 
     ensures file { IfErr result (OnFile (Refuses board.now)) }
     ensures placement { IfErr result (OnSetUp (Breaks board.now)) }
     ensures stopped { IsErrOf result Fault.Write →
-        (w : World) × Declares board.now w × IsListedInPart w (W.written writer.old) (W.written writer.new) }
+        (w : World) × Declares board.now w
+        × IsListedInPart form w (W.written writer.old) (W.written writer.new) }
     ensures faults { IfErr result IsOfList }
     ensures nothing { IfErr result (λ f. f ≢ Fault.Write → writer.new ≡ writer.old) }
 
     // A fault is the writer's exactly where the writer failed during the call.
     ensures failures { W.failures writer.new ≡ W.failures writer.old + write_faults result }
 {
-    let text = list_text(alloc, board)?;
+    let text = list_text(alloc, board, form)?;
     print(text.as_str(), writer)?;
     Ok(())
 }

@@ -1,5 +1,5 @@
 use crate::scripts::{Board, Example, LONG, SHORT, Streams, run};
-use simulation::{Fault, list};
+use simulation::{Fault, ReportForm, list};
 use std::process::Abort;
 use std::test::Fail;
 use test_streams::FakeWriter;
@@ -19,18 +19,21 @@ fn report_to_a_writer_that_fails(rt: HostRuntime) -> Result<(), Fail> {
     assert_eq!(rt; report.len(), 93);
     for failing in 0..7u32 {
         let mut writer = FakeWriter::<128>::new(16, Some(failing));
-        let listed = list(rt.alloc(), BOARD.as_bytes(), &mut writer);
+        let listed = list(rt.alloc(), BOARD.as_bytes(), ReportForm::Lines, &mut writer);
         assert_eq!(rt; listed, Err(Fault::Write), "call {failing}");
         let end = report.len().min(16 * failing as usize);
         assert_eq!(rt; writer.bytes(), &report[..end], "call {failing}");
         assert_eq!(rt; writer.flushed(), b"".as_slice(), "call {failing}");
     }
     let mut writer = FakeWriter::<128>::new(16, Some(7));
-    assert_eq!(rt; list(rt.alloc(), BOARD.as_bytes(), &mut writer), Ok(()));
+    assert_eq!(rt;
+        list(rt.alloc(), BOARD.as_bytes(), ReportForm::Lines, &mut writer),
+        Ok(())
+    );
     assert_eq!(rt; writer.flushed(), report);
     let mut full = FakeWriter::<64>::new(16, None);
     assert_eq!(rt;
-        list(rt.alloc(), BOARD.as_bytes(), &mut full),
+        list(rt.alloc(), BOARD.as_bytes(), ReportForm::Lines, &mut full),
         Err(Fault::Write)
     );
     assert_eq!(rt; full.bytes(), &report[..64]);

@@ -366,10 +366,10 @@ DECLARED: Dict[str, Tuple[Any, Tuple[Any, ...]]] = {
     # Writes the report of a board file, as `pciguest list` does, and tells its length; it has no 0 at its end. 902:
     # there is less room than that, and nothing was written; other numbers as for pciguest_new. No machine is needed.
     "report": (c_uint32, (c_char_p, c_size_t, POINTER(c_char), c_size_t, POINTER(c_size_t))),
-    # Writes what is wrong with a board file, or that its board fits, as `pciguest check board.toml` does, and tells the
-    # text's length; it has no 0 at its end. 0: the board fits. 101 to 112 or 201 to 205: the file or its board is
-    # refused, and the text says why. 199 or 299: out of memory, and nothing was written or told. 902: there is less
-    # room than the text needs, and nothing was written. No machine is needed.
+    # Writes what is wrong with a board file, or that its board fits, as `pciguest check board.toml` does, without the
+    # warnings that `--all` adds, and tells the text's length; it has no 0 at its end. 0: the board fits. 101 to 112 or
+    # 201 to 205: the file or its board is refused, and the text says why. 199 or 299: out of memory, and nothing was
+    # written or told. 902: there is less room than the text needs, and nothing was written. No machine is needed.
     "check": (c_uint32, (c_char_p, c_size_t, POINTER(c_char), c_size_t, POINTER(c_size_t))),
     # Writes the words of a number that a call answers, or that the program or a reply tells, and tells their length;
     # they have no 0 at their end. A number that stands for nothing, as 0, has no words, and length 0. 902: there is

@@ -17,7 +17,8 @@ NAME = "board.toml"
 class Check(NamedTuple):
     """What a check says of a board file."""
 
-    #: what is wrong with the file, or that its board fits, as `pciguest check board.toml` writes it
+    #: what is wrong with the file, or that its board fits, as `pciguest check --plain board.toml` writes it, so without
+    #: the warnings that `--all` adds
     text: str
     #: what the file or its board is refused by, or None
     refusal: Optional[Refusal]

@@ -47,7 +47,7 @@ class Refused(unittest.TestCase):
         told = check((BOARDS / "warnings.toml").read_bytes())
         self.assertIsNone(told.refusal)
         self.assertTrue(all(problem.text.startswith("warning: ") for problem in told.problems))
-        self.assertEqual(len(told.problems), 4)
+        self.assertEqual(len(told.problems), 3)
 
 
 class Loaded(unittest.TestCase):

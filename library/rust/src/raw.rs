@@ -575,10 +575,10 @@ extern "C" {
         room: usize,
         needed: *mut usize,
     ) -> u32;
-    /// Writes what is wrong with a board file, or that its board fits, as `pciguest check board.toml` does, and tells
-    /// the text's length; it has no 0 at its end. 0: the board fits. 101 to 112 or 201 to 205: the file or its board is
-    /// refused, and the text says why. 199 or 299: out of memory, and nothing was written or told. 902: there is less
-    /// room than the text needs, and nothing was written. No machine is needed.
+    /// Writes what is wrong with a board file, or that its board fits, as `pciguest check board.toml` does, without the
+    /// warnings that `--all` adds, and tells the text's length; it has no 0 at its end. 0: the board fits. 101 to 112
+    /// or 201 to 205: the file or its board is refused, and the text says why. 199 or 299: out of memory, and nothing
+    /// was written or told. 902: there is less room than the text needs, and nothing was written. No machine is needed.
     pub fn pciguest_check(
         board: *const u8,
         length: usize,

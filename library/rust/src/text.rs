@@ -6,7 +6,8 @@ use crate::raw::{pciguest_check, pciguest_report, pciguest_words, ARGUMENT, REPL
 /// What a check says of a board file.
 #[derive(Clone, Debug, PartialEq, Eq)]
 pub struct Check {
-    /// What is wrong with the file, or that its board fits, as `pciguest check board.toml` writes it.
+    /// What is wrong with the file, or that its board fits, as `pciguest check --plain board.toml` writes it, so without
+    /// the warnings that `--all` adds.
     pub text: String,
     /// What the file or its board is refused by.
     pub refusal: Option<Error>,

@@ -14,5 +14,5 @@ returns-in-Ok-clause-told c =
       is_text = c.requires.read.is_text;
       meaning = ap document_meaning c.requires.read.parsed ∙ c.requires.declared.1;
     } in
-    said_of c.args.style c.args.name.now board w verdict.fault _ (string_bytes verdict.text)
+    said_of c.args.style c.args.warned c.args.name.now board w verdict.fault _ (string_bytes verdict.text)
     c.in-Ok.ensures.known declared c.in-Ok.ensures.verdict c.of_board.ensures

@@ -9,7 +9,7 @@ returns-in-Ok-clause-told c =
     let same : c.eq.result ≡ true = rw memory at c.eq.ensures in
     let wrong : true ≡ false = sym same ∙ c.if-eq.false in
     cc
-    in record {
+    in λ w. record {
       known = known;
       refuses = record {
         no_text = λ no. absurd (no c.requires.read.is_text);
