@@ -54,7 +54,7 @@ outside: pciguest library/libpciguest.a
 	@tests/parts.py --outside hostile fuzz firmware kit peers qemu page browse bench
 
 # Wrong bodies beside those of the gate, each of which the check of its crate must refuse: all, or those of some crates,
-# as in make edits CRATES='monitor headers'. All are some 70 checks beyond the proofs of their crates.
+# as in make edits CRATES='monitor headers'. All of them take longer than the gate.
 CRATES :=
 edits:
 	@tests/edits.py $(CRATES)
