@@ -19,6 +19,9 @@ from board import board_file, random_board
 from placement import Refused
 from script import Writer
 
+sys.path.append(str(Path(__file__).parent.parent))
+import report_json  # it stands beside, as the gate asks it too
+
 
 def run(program, words, script):
     done = subprocess.run([program, *words], input=script, capture_output=True, timeout=120)
@@ -60,10 +63,17 @@ class Fuzz:
         report = world.layout.report()
         if (status, out.decode(), err) != (0, report, ""):
             self.differs(seed, "the report", err or first_difference(report, out.decode()))
+        self.check_json(seed, path, report)
         self.fit += 1
         writer = Writer(rng, board, world.layout.bases)
         lines = [writer.line() for _ in range(self.lines)]
         self.check_script(seed, path, world, lines)
+
+    def check_json(self, seed, path, report):
+        status, out, err = run(self.program, ["list", "--json", path], b"")
+        wanted = report_json.text_of(report.splitlines(), path.read_text()) + "\n"
+        if (status, out.decode(), err) != (0, wanted, ""):
+            self.differs(seed, "the report as JSON", err or first_difference(wanted, out.decode()))
 
     def check_refusal(self, seed, path, number):
         self.refused[number] = self.refused.get(number, 0) + 1
