@@ -1,5 +1,6 @@
 //! The parts of a declaration as bytes, least byte first.
 ghost use Rattle.std.specs.Prelude.{◌≡◌, ◌≤◌, ◌<◌, length};
+ghost use Rattle.model_registers.specs.Cell.{IsCell};
 ghost use Rattle.model_registers.specs.DeclarationRules.{IsLawfulEndpoint};
 ghost use Rattle.bars.specs.Kinds.{kind_of};
 ghost use Rattle.model_image_bytes.specs.Layouts.{le_bytes};
@@ -56,7 +57,8 @@ fn clearable(cell: &Cell) -> u8
 /// A cell: its value, the bits that a write sets, and those that writing a one clears.
 #[tactic(auto, unfolding(crate::specs::Parts::cell_bytes))]
 pub(crate) fn cell_bytes(cell: &Cell) -> [u8; 3]
-    ensures { result ≡ cell_bytes cell.now }
+    ensures bytes { result ≡ cell_bytes cell.now }
+    ensures lawful { IsCell cell.now }
 {
     [cell.value(), writable(cell), clearable(cell)]
 }

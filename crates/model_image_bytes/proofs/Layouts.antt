@@ -1,11 +1,11 @@
 -- Each layout reads what it writes, and nothing else.
-use Rattle.std.proofs.Common.{◌≡◌, ◌<◌, ℕ, zero, suc, Bool, true, false, cond, eqb, List, [], ◌∷◌, ◌++◌, length, Some, None, Option, refl, sym, ap, ◌∙◌, subst, append_assoc, append-nil, arith}
+use Rattle.std.proofs.Common.{◌≡◌, ◌<◌, ℕ, zero, suc, Bool, true, false, cond, eqb, List, [], ◌∷◌, ◌++◌, length, Some, None, Option, refl, sym, ap, ap₂, ◌∙◌, subst, append_assoc, append-nil, arith}
 use Rattle.std.specs.Prelude.{flat_map, nat_le, option_map, option_and_then, IsTrue}
 use Rattle.std.proofs.lemmas.Bool.{and_from, eqb-true}
 use Rattle.std.proofs.lemmas.Option.{same_Some}
 use Rattle.lists.proofs.EachLemmas.{each_append}
 use Rattle.lists.proofs.Tests.{left_true, right_true}
-use Rattle.model_image_bytes.specs.Layouts.{Layout, Parsed, parsed, number, if_passed, checked, seen, through, paired, parse_next, followed, both, exactly, fit_times, before, parse_times, repeated, counted, first_of, at_most_one, optional, if_no_rest, whole}
+use Rattle.model_image_bytes.specs.Layouts.{Layout, Parsed, parsed, number, if_passed, checked, seen, through, paired, parse_next, followed, both, exactly, fit_times, before, parse_times, repeated, counted, fit_each, bytes_each, parse_each, for_each, first_of, at_most_one, optional, fits_either, bytes_either, parse_either, OneOf, one, other, either, if_no_rest, whole}
 use Rattle.model_image_bytes.specs.ByteLaws.{AreBytes, Spells, IsLayout}
 use Rattle.model_image_bytes.proofs.Options.{from_next, from_map}
 use Rattle.model_image_bytes.proofs.Numbers.{number_is}
@@ -45,7 +45,7 @@ module _ {A : Type 0} (L : Layout A) (l : IsLayout L) where
 -- ---- one value after another
 
 module _ {A B : Type 0} (L : Layout A) (M : A → Layout B) (l : IsLayout L) (m : (x : A) → IsLayout (M x)) where
-  followed_spells : (bs : List ℕ) (q : Parsed A) (r : Parsed B) → Spells L bs q → Spells (M q.value) q.rest r → Spells (followed L M) bs (paired q.value r)
+  pub followed_spells : (bs : List ℕ) (q : Parsed A) (r : Parsed B) → Spells L bs q → Spells (M q.value) q.rest r → Spells (followed L M) bs (paired q.value r)
   followed_spells bs q r s t = record {
     fits = and_from (L.fits q.value) ((M q.value).fits r.value) s.fits t.fits;
     bytes = s.bytes ∙ ap (λ (xs : List ℕ). L.bytes q.value ++ xs) t.bytes ∙ sym (append_assoc (L.bytes q.value) ((M q.value).bytes r.value) r.rest);
@@ -88,7 +88,7 @@ module _ {A : Type 0} (L : Layout A) (l : IsLayout L) where
       ∙ ap (option_and_then (λ (p : Parsed A). option_map (before p.value) (parse_times L.parse n p.rest))) (l.again x (flat_map L.bytes xs ++ rest) (left_true (L.fits x) (fit_times L.fits n xs) h))
       ∙ ap (option_map (before x)) (times_again n xs rest (right_true (L.fits x) (fit_times L.fits n xs) h))
 
-  times_more : (n : ℕ) (bs : List ℕ) (q : Parsed A) (r : Parsed (List A)) → Spells L bs q → Spells (repeated n L) q.rest r → Spells (repeated (suc n) L) bs (before q.value r)
+  pub times_more : (n : ℕ) (bs : List ℕ) (q : Parsed A) (r : Parsed (List A)) → Spells L bs q → Spells (repeated n L) q.rest r → Spells (repeated (suc n) L) bs (before q.value r)
   times_more n bs q r s t = record {
     fits = and_from (L.fits q.value) (fit_times L.fits n r.value) s.fits t.fits;
     bytes = s.bytes ∙ ap (λ (xs : List ℕ). L.bytes q.value ++ xs) t.bytes ∙ sym (append_assoc (L.bytes q.value) (flat_map L.bytes r.value) r.rest);
@@ -104,7 +104,7 @@ module _ {A : Type 0} (L : Layout A) (l : IsLayout L) where
   pub repeated_is : (n : ℕ) → IsLayout (repeated n L)
   repeated_is n = record { are_bytes = times_bytes; again = times_again n; spells = times_spells n }
 
-  fit_count : (n : ℕ) (xs : List A) → fit_times L.fits n xs ≡ true → length xs ≡ n
+  pub fit_count : (n : ℕ) (xs : List A) → fit_times L.fits n xs ≡ true → length xs ≡ n
   fit_count zero [] h = refl
   fit_count zero (x ∷ xs) h = cc
   fit_count (suc n) [] h = cc
@@ -131,6 +131,69 @@ module _ {A : Type 0} (L : Layout A) (l : IsLayout L) where
   optional_is =
       through_is short (checked_is (counted 1 L) (counted_is 1) (λ xs. nat_le (length xs) 1)) first_of at_most_one one_back
       (λ xs h. one_same xs (right_true ((counted 1 L).fits xs) (nat_le (length xs) 1) h))
+
+-- ---- a value for each of many
+
+module _ {A B : Type 0} (L : A → Layout B) (l : (x : A) → IsLayout (L x)) where
+  each_bytes : (xs : List A) (ys : List B) → AreBytes (bytes_each L xs ys)
+  each_bytes [] ys = tt
+  each_bytes (x ∷ xs) [] = tt
+  each_bytes (x ∷ xs) (y ∷ ys) = each_append (λ b. b < 256) ((L x).bytes y) (bytes_each L xs ys) ((l x).are_bytes y) (each_bytes xs ys)
+
+  each_again : (xs : List A) (ys : List B) (rest : List ℕ) → fit_each L xs ys ≡ true → parse_each L xs (bytes_each L xs ys ++ rest) ≡ Some (parsed ys rest)
+  each_again [] [] rest h = refl
+  each_again [] (y ∷ ys) rest h = cc
+  each_again (x ∷ xs) [] rest h = cc
+  each_again (x ∷ xs) (y ∷ ys) rest h =
+      ap (parse_each L (x ∷ xs)) (append_assoc ((L x).bytes y) (bytes_each L xs ys) rest)
+      ∙ ap (option_and_then (λ (p : Parsed B). option_map (before p.value) (parse_each L xs p.rest))) ((l x).again y (bytes_each L xs ys ++ rest) (left_true ((L x).fits y) (fit_each L xs ys) h))
+      ∙ ap (option_map (before y)) (each_again xs ys rest (right_true ((L x).fits y) (fit_each L xs ys) h))
+
+  each_more : (x : A) (xs : List A) (bs : List ℕ) (q : Parsed B) (r : Parsed (List B)) → Spells (L x) bs q → Spells (for_each L xs) q.rest r → Spells (for_each L (x ∷ xs)) bs (before q.value r)
+  each_more x xs bs q r s t = record {
+    fits = and_from ((L x).fits q.value) (fit_each L xs r.value) s.fits t.fits;
+    bytes = s.bytes ∙ ap (λ (ys : List ℕ). (L x).bytes q.value ++ ys) t.bytes ∙ sym (append_assoc ((L x).bytes q.value) (bytes_each L xs r.value) r.rest);
+  }
+
+  each_spells : (xs : List A) (bs : List ℕ) (p : Parsed (List B)) → parse_each L xs bs ≡ Some p → Spells (for_each L xs) bs p
+  each_spells [] bs p h = subst (Spells (for_each L []) bs) (same_Some (parsed [] bs) p h) (record { fits = refl; bytes = refl })
+  each_spells (x ∷ xs) bs p h =
+      let q = from_next (λ (p : Parsed B). option_map (before p.value) (parse_each L xs p.rest)) ((L x).parse bs) p h in
+      let r = from_map (before q.0.value) (parse_each L xs q.0.rest) p q.2 in
+      subst (Spells (for_each L (x ∷ xs)) bs) r.2 (each_more x xs bs q.0 r.0 ((l x).spells bs q.0 q.1) (each_spells xs q.0.rest r.0 r.1))
+
+  pub for_each_is : (xs : List A) → IsLayout (for_each L xs)
+  for_each_is xs = record { are_bytes = each_bytes xs; again = each_again xs; spells = each_spells xs }
+
+-- ---- a value of two kinds
+
+module _ {A B : Type 0} (L : Layout A) (M : Layout B) (l : IsLayout L) (m : IsLayout M) where
+  either_bytes : (x : OneOf A B) → AreBytes (bytes_either L M x)
+  either_bytes (one x) = (omega arith, l.are_bytes x)
+  either_bytes (other y) = (omega arith, m.are_bytes y)
+
+  either_again : (x : OneOf A B) (rest : List ℕ) → fits_either L M x ≡ true → parse_either L M (bytes_either L M x ++ rest) ≡ Some (parsed x rest)
+  either_again (one x) rest h = ap (option_map (seen one)) (l.again x rest h)
+  either_again (other y) rest h = ap (option_map (seen other)) (m.again y rest h)
+
+  either_spells : (bs : List ℕ) (p : Parsed (OneOf A B)) → parse_either L M bs ≡ Some p → Spells (either L M) bs p
+  either_spells [] p h = cc
+  either_spells (b ∷ bs) p h = of (eqb b 0) refl (eqb b 1) refl h
+    where
+      left : b ≡ 0 → (q : Parsed A) → L.parse bs ≡ Some q → Spells (either L M) (b ∷ bs) (seen one q)
+      left e q i = let s = l.spells bs q i in record { fits = s.fits; bytes = ap₂ (λ (c : ℕ) (cs : List ℕ). c ∷ cs) e s.bytes }
+
+      right : b ≡ 1 → (q : Parsed B) → M.parse bs ≡ Some q → Spells (either L M) (b ∷ bs) (seen other q)
+      right e q i = let s = m.spells bs q i in record { fits = s.fits; bytes = ap₂ (λ (c : ℕ) (cs : List ℕ). c ∷ cs) e s.bytes }
+
+      of : (t : Bool) → eqb b 0 ≡ t → (u : Bool) → eqb b 1 ≡ u → cond t (option_map (seen one) (L.parse bs)) (cond u (option_map (seen other) (M.parse bs)) None) ≡ Some p
+          → Spells (either L M) (b ∷ bs) p
+      of true e u i h = let q = from_map (seen one) (L.parse bs) p h in subst (Spells (either L M) (b ∷ bs)) q.2 (left (eqb-true b 0 e) q.0 q.1)
+      of false e true i h = let q = from_map (seen other) (M.parse bs) p h in subst (Spells (either L M) (b ∷ bs)) q.2 (right (eqb-true b 1 i) q.0 q.1)
+      of false e false i h = cc
+
+  pub either_is : IsLayout (either L M)
+  either_is = record { are_bytes = either_bytes; again = either_again; spells = either_spells }
 
 -- ---- all the bytes
 

@@ -5,4 +5,11 @@ pub mod ImageLayouts
 pub mod ImageBytes
 pub mod Savable
 pub mod LoadedBytes
+pub mod TakenBytes
+pub mod MachineBytes
+pub mod ReadMachines
+mod TakenMachines
+mod FittingMachines
+mod SavableMachines
+mod SavedMachines
 mod Examples

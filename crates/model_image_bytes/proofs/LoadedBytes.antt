@@ -1,11 +1,9 @@
 -- Bytes that are loaded into a guest.
-use Rattle.std.proofs.Common.{◌≡◌, ◌⊎◌, inl, inr, ℕ, zero, suc, ◌%◌, ◌^◌, ◌<◌, Bool, true, false, cond, ◌&&◌, eqb, List, [], ◌∷◌, ◌++◌, length, Some, None, Option, Ok, Err, refl, sym, ap, ap₂, ◌∙◌, subst, append_assoc, append-nil, arith}
-use Rattle.std.specs.Prelude.{flat_map, is_some, IsTrue}
-use Rattle.std.specs.Option.{option_map_or}
-use Rattle.std.proofs.lemmas.Bool.{and_from, eq-eqb, eqb-true, lt-ltb, ltb-true}
+use Rattle.std.proofs.Common.{◌≡◌, ◌⊎◌, inl, inr, ℕ, zero, suc, ◌%◌, ◌^◌, ◌<◌, Bool, true, false, cond, eqb, List, [], ◌∷◌, ◌++◌, length, Some, None, Option, Ok, Err, refl, sym, ap, ap₂, ◌∙◌, subst, append_assoc, append-nil, arith}
+use Rattle.std.specs.Prelude.{flat_map, IsTrue}
+use Rattle.std.proofs.lemmas.Bool.{eqb-true, ltb-true}
 use Rattle.std.proofs.lemmas.Option.{same_Some}
 use Rattle.lists.specs.Elements.{Each}
-use Rattle.lists.proofs.EachLemmas.{each_parts}
 use Rattle.lists.proofs.Tests.{left_true, right_true}
 use Rattle.model_registers.specs.Registers.{File}
 use Rattle.model_registers.specs.ConfigAddress.{latched}
@@ -13,19 +11,15 @@ use Rattle.model_registers.specs.EndpointTable.{endpoint_reset}
 use Rattle.model_registers.specs.Decoding.{Function}
 use Rattle.model_guests.specs.Slots.{Slots}
 use Rattle.model_guests.specs.Lone.{LoneGuest}
-use Rattle.model_guests.specs.Text.{Text}
-use Rattle.model_guests.specs.Guests.{lone_of}
-use Rattle.model_guests.specs.WorldNow.{WorldNow}
-use Rattle.model_images.specs.Images.{SavedFunction, Image, image_of_lone, image_of_guest, after_load, can_hold, fit_cells, Fits, FitsSlot, FitSlots}
+use Rattle.model_images.specs.Images.{SavedFunction, Image, image_of_lone, can_hold, fit_cells, Fits, FitsSlot, FitSlots}
 use Rattle.model_images.specs.FitLaws.{HoldsFitting}
 use Rattle.model_images.proofs.Fitting.{saved_slots}
-use Rattle.model_images.proofs.Loading.{keeps_what_was_saved}
-use Rattle.model_image_bytes.specs.Layouts.{Layout, Parsed, parsed, le_bytes, parse_number, number, fit_times, optional}
-use Rattle.model_image_bytes.specs.ImageBytes.{endpoint_layout, function_layout, declaration_bytes, image_bytes, image_of}
-use Rattle.model_image_bytes.specs.ByteLaws.{AreBytes, IsLayout, HasBytes, IsSavable, HoldsSavable}
-use Rattle.model_image_bytes.specs.LoadedBytes.{Left, then_read, after_bytes, after_values, after_slot, after_slots, after_number, after_latch, header, after_image, fault_of, load_fault, after_load_bytes}
-use Rattle.model_image_bytes.specs.LoadedLaws.{AcceptedIsImage, ImagesDecided, OwnAccepted, IsOfOthers, LoadsImage, RefusedStays, KeepsSavedBytes}
-use Rattle.model_image_bytes.proofs.Numbers.{number_again, number_spells}
+use Rattle.model_image_bytes.specs.Layouts.{Layout, Parsed, parsed, le_bytes, number, fit_times, optional}
+use Rattle.model_image_bytes.specs.ImageBytes.{endpoint_layout, function_layout, declaration_bytes, image_bytes}
+use Rattle.model_image_bytes.specs.ByteLaws.{IsLayout, HasBytes, IsSavable, HoldsSavable}
+use Rattle.model_image_bytes.specs.LoadedBytes.{Left, then_read, after_bytes, after_values, after_slot, after_slots, after_number, after_latch, after_image, fault_of, load_fault}
+use Rattle.model_image_bytes.specs.LoadedLaws.{ImagesDecided, OwnAccepted, IsOfOthers}
+use Rattle.model_image_bytes.proofs.Numbers.{number_again}
 use Rattle.model_image_bytes.proofs.ImageLayouts.{endpoint_is}
 use Rattle.model_image_bytes.proofs.ImageBytes.{bytes_are_read, read_are_bytes, HasParts, parts_of, FunctionParts, function_parts, slot_fits}
 use Rattle.model_image_bytes.proofs.Savable.{endpoint_fits, guests_have_bytes}
@@ -56,11 +50,11 @@ compared k (x ∷ xs) (b ∷ bytes) = cases (eqb x b) refl (compared k xs bytes)
     cases true e (inr (inl m)) = inr (inl (ap (λ t. cond t (after_bytes k xs bytes) (Err k)) e ∙ m))
     cases true e (inr (inr m)) = inr (inr (record { next = m.next; rest = m.rest; are = ap₂ (λ (y : ℕ) (ys : List ℕ). y ∷ ys) (eqb-true x b e) m.are }))
 
-same_left : (xs ys : List ℕ) → ◌≡◌ {A = Left} (Ok xs) (Ok ys) → xs ≡ ys
+pub same_left : (xs ys : List ℕ) → ◌≡◌ {A = Left} (Ok xs) (Ok ys) → xs ≡ ys
 same_left xs ys e = cc
 
 -- no other bytes are left after the same ones
-follows : (k : ℕ) (xs bytes rest : List ℕ) → after_bytes k xs bytes ≡ Ok rest → bytes ≡ xs ++ rest
+pub follows : (k : ℕ) (xs bytes rest : List ℕ) → after_bytes k xs bytes ≡ Ok rest → bytes ≡ xs ++ rest
 follows k [] bytes rest h = same_left bytes rest h
 follows k (x ∷ xs) [] rest h = cc
 follows k (x ∷ xs) (b ∷ bytes) rest h = cases (eqb x b) refl h (follows k xs bytes rest)
@@ -102,7 +96,7 @@ module _ {A : Type 0} (L : Layout A) (l : IsLayout L) (x y : A) (fits : IsTrue (
 
 -- ---- values
 
-value_bytes : (n : ℕ) (vs : List ℕ) → fit_times (number 1).fits n vs ≡ true → flat_map (number 1).bytes vs ≡ vs
+pub value_bytes : (n : ℕ) (vs : List ℕ) → fit_times (number 1).fits n vs ≡ true → flat_map (number 1).bytes vs ≡ vs
 value_bytes n [] h = refl
 value_bytes zero (v ∷ vs) h = cc
 value_bytes (suc n) (v ∷ vs) h =
@@ -118,34 +112,12 @@ values_taken (e ∷ es) (v ∷ vs) rest h =
     ap (λ t. cond t (after_values es (vs ++ rest)) (Err 905)) (left_true (can_hold e v) (fit_cells es vs) h)
     ∙ values_taken es vs rest (right_true (can_hold e v) (fit_cells es vs) h)
 
-pub record AreValues (file : File) (bytes rest : List ℕ) : Type 0 where
-  pub values : List ℕ
-  pub are : bytes ≡ values ++ rest
-  pub fit : fit_cells file values ≡ true
-  pub count : fit_times (number 1).fits (length file) values ≡ true
-
-values_there : (file : File) (bytes rest : List ℕ) → AreBytes bytes → after_values file bytes ≡ Ok rest → AreValues file bytes rest
-values_there [] bytes rest all h = record { values = []; are = same_left bytes rest h; fit = refl; count = refl }
-values_there (e ∷ es) [] rest all h = cc
-values_there (e ∷ es) (b ∷ bytes) rest all h = cases (can_hold e b) refl h (values_there es bytes rest all.1)
-  where
-    cases : (t : Bool) → can_hold e b ≡ t → cond t (after_values es bytes) (Err 905) ≡ Ok rest → (after_values es bytes ≡ Ok rest → AreValues es bytes rest) → AreValues (e ∷ es) (b ∷ bytes) rest
-    cases false i j later = cc
-    cases true i j later =
-        let more = later j in
-        record {
-          values = b ∷ more.values;
-          are = ap (λ (xs : List ℕ). b ∷ xs) more.are;
-          fit = and_from (can_hold e b) (fit_cells es more.values) i more.fit;
-          count = and_from ((number 1).fits b) (fit_times (number 1).fits (length es) more.values) (lt-ltb b 256 all.0) more.count;
-        }
-
 -- ---- a slot
 
-abbrev slot_bytes : Option SavedFunction → List ℕ
+abbrev pub slot_bytes : Option SavedFunction → List ℕ
 slot_bytes s = (optional function_layout).bytes s
 
-function_bytes : (s : SavedFunction) (rest : List ℕ) → FunctionParts s → slot_bytes (Some s) ++ rest ≡ 1 ∷ (declaration_bytes s.decl ++ (s.values ++ rest))
+pub function_bytes : (s : SavedFunction) (rest : List ℕ) → FunctionParts s → slot_bytes (Some s) ++ rest ≡ 1 ∷ (declaration_bytes s.decl ++ (s.values ++ rest))
 function_bytes s rest parts =
     ap (λ (xs : List ℕ). (1 ∷ xs) ++ rest) (append-nil (function_layout.bytes s) ∙ ap (λ (vs : List ℕ). declaration_bytes s.decl ++ vs) (value_bytes (length (endpoint_reset s.decl false)) s.values parts.count))
     ∙ ap (λ (xs : List ℕ). 1 ∷ xs) (append_assoc (declaration_bytes s.decl) s.values rest)
@@ -177,7 +149,7 @@ slot_decided (Some s) (Some f) rest h k = function_decided s f rest (function_pa
 
 -- ---- slots
 
-abbrev slots_bytes : List (Option SavedFunction) → List ℕ
+abbrev pub slots_bytes : List (Option SavedFunction) → List ℕ
 slots_bytes ss = flat_map slot_bytes ss
 
 abbrev SlotsDecided : List (Option SavedFunction) → Slots → Type 0
@@ -236,118 +208,3 @@ own_accepted g savable = of (images_decided g savable (image_bytes (image_of_lon
     of : ((load_fault g (image_bytes (image_of_lone g)) ≡ None) × Fits (image_of_lone g) g) ⊎ IsOfOthers g (image_bytes (image_of_lone g)) (image_of_lone g) → load_fault g (image_bytes (image_of_lone g)) ≡ None
     of (inl m) = m.0
     of (inr m) = absurd (m.not_fitting own)
-
--- ---- what is accepted
-
-pub record IsRead (fs : Slots) (bytes : List ℕ) : Type 0 where
-  pub slots : List (Option SavedFunction)
-  pub are : bytes ≡ slots_bytes slots
-  pub fit : FitSlots slots fs
-  pub has : fit_times (optional function_layout).fits (length fs) slots ≡ true
-
-pub record IsReadSlot (f : Option Function) (bytes rest : List ℕ) : Type 0 where
-  pub slot : Option SavedFunction
-  pub are : bytes ≡ slot_bytes slot ++ rest
-  pub fit : FitsSlot slot f
-  pub has : (optional function_layout).fits slot ≡ true
-
-read_before : (next : List ℕ → Left) (r : Left) (rest : List ℕ) → then_read next r ≡ Ok rest → (bytes : List ℕ) × (r ≡ Ok bytes) × (next bytes ≡ Ok rest)
-read_before next (Ok bytes) rest h = (bytes, refl, h)
-read_before next (Err k) rest h = cc
-
-slot_there : (f : Option Function) (bytes rest : List ℕ) → AreBytes bytes → HoldsSavable f → after_slot f bytes ≡ Ok rest → IsReadSlot f bytes rest
-slot_there None bytes rest all savable h = record { slot = None; are = follows 906 (0 ∷ []) bytes rest h; fit = tt; has = refl }
-slot_there (Some f) bytes rest all savable h =
-    let tagged : List ℕ = 1 ∷ declaration_bytes f.decl in
-    let first = read_before (after_values (endpoint_reset f.decl false)) (after_bytes 906 tagged bytes) rest h in
-    let are : bytes ≡ tagged ++ first.0 = follows 906 tagged bytes first.0 first.1 in
-    let later : AreBytes first.0 = (each_parts (λ b. b < 256) tagged first.0 (subst AreBytes are all)).1 in
-    let values = values_there (endpoint_reset f.decl false) first.0 rest later first.2 in
-    let s : SavedFunction = record { decl = f.decl; values = values.values } in
-    let parts : FunctionParts s = record { decl = endpoint_fits f.decl savable.declared; count = values.count; values = values.fit } in
-    let fits = and_from (endpoint_layout.fits f.decl) (fit_times (number 1).fits (length (endpoint_reset f.decl false)) values.values && fit_cells (endpoint_reset f.decl false) values.values) parts.decl
-    (and_from (fit_times (number 1).fits (length (endpoint_reset f.decl false)) values.values) (fit_cells (endpoint_reset f.decl false) values.values) values.count values.fit) in
-    record {
-      slot = Some s;
-      are = are ∙ ap (λ (xs : List ℕ). tagged ++ xs) values.are ∙ sym (function_bytes s rest parts);
-      fit = record { decl = refl; values = values.fit };
-      has = ap (λ t. (t && true) && true) fits;
-    }
-
-slots_there : (fs : Slots) (bytes rest : List ℕ) → AreBytes bytes → Each HoldsSavable fs → after_slots fs bytes ≡ Ok rest → IsRead fs bytes
-slots_there [] [] rest all savable h = record { slots = []; are = refl; fit = tt; has = refl }
-slots_there [] (b ∷ bytes) rest all savable h = cc
-slots_there (f ∷ fs) bytes rest all savable h =
-    let first = read_before (after_slots fs) (after_slot f bytes) rest h in
-    let slot = slot_there f bytes first.0 all savable.0 first.1 in
-    let later : AreBytes first.0 = (each_parts (λ b. b < 256) (slot_bytes slot.slot) first.0 (subst AreBytes slot.are all)).1 in
-    let more = slots_there fs first.0 rest later savable.1 first.2 in
-    record {
-      slots = slot.slot ∷ more.slots;
-      are = slot.are ∙ ap (λ (xs : List ℕ). slot_bytes slot.slot ++ xs) more.are;
-      fit = (slot.fit, more.fit);
-      has = and_from ((optional function_layout).fits slot.slot) (fit_times (optional function_layout).fits (length fs) more.slots) slot.has more.has;
-    }
-
-latch_there : (bytes rest : List ℕ) → after_latch bytes ≡ Ok rest → (n : ℕ) × (bytes ≡ le_bytes 4 n ++ rest) × ((number 4).fits n ≡ true) × (latched n ≡ n)
-latch_there bytes rest h = of (parse_number 4 bytes) refl h
-  where
-    of : (o : Option (Parsed ℕ)) → parse_number 4 bytes ≡ o → after_number o ≡ Ok rest → (n : ℕ) × (bytes ≡ le_bytes 4 n ++ rest) × ((number 4).fits n ≡ true) × (latched n ≡ n)
-    of None e i = cc
-    of (Some p) e i = cases (eqb (latched p.value) p.value) refl i
-      where
-        cases : (t : Bool) → eqb (latched p.value) p.value ≡ t → cond {A = Left} t (Ok p.rest) (Err 905) ≡ Ok rest → (n : ℕ) × (bytes ≡ le_bytes 4 n ++ rest) × ((number 4).fits n ≡ true) × (latched n ≡ n)
-        cases false j k = cc
-        cases true j k =
-            let s = number_spells 4 bytes p e in
-            let left : p.rest ≡ rest = cc in
-            (p.value, s.bytes ∙ ap (λ (r : List ℕ). le_bytes 4 p.value ++ r) left, s.fits, eqb-true (latched p.value) p.value j)
-
-in_order : (bytes later last : List ℕ) (latch : ℕ) (ss : List (Option SavedFunction)) → bytes ≡ header ++ later → later ≡ le_bytes 4 latch ++ last → last ≡ slots_bytes ss
-    → bytes ≡ image_bytes (record { latch = latch; slots = ss })
-in_order bytes later last latch ss a b c = a ∙ ap (λ (xs : List ℕ). header ++ xs) (b ∙ ap (λ (xs : List ℕ). le_bytes 4 latch ++ xs) c)
-
-read_as : (bytes : List ℕ) (i : Image) → bytes ≡ image_bytes i → HasBytes i → image_of bytes ≡ Some i
-read_as bytes i are has = ap image_of are ∙ bytes_are_read i has
-
-pub accepted_is_image : AcceptedIsImage
-accepted_is_image g savable bytes all h =
-    let read = left_of (after_image g bytes) h in
-    let first = read_before (after_slots g.slots) (then_read after_latch (after_bytes 905 header bytes)) read.0 read.1 in
-    let begin = read_before after_latch (after_bytes 905 header bytes) first.0 first.1 in
-    let headed : bytes ≡ header ++ begin.0 = follows 905 header bytes begin.0 begin.1 in
-    let latch = latch_there begin.0 first.0 begin.2 in
-    let later : AreBytes begin.0 = (each_parts (λ b. b < 256) header begin.0 (subst AreBytes headed all)).1 in
-    let last : AreBytes first.0 = (each_parts (λ b. b < 256) (le_bytes 4 latch.0) first.0 (subst AreBytes latch.1 later)).1 in
-    let slots = slots_there g.slots first.0 read.0 last savable.functions first.2 in
-    let i : Image = record { latch = latch.0; slots = slots.slots } in
-    let has : HasBytes i = and_from ((number 4).fits latch.0 && eqb (latched latch.0) latch.0) (fit_times (optional function_layout).fits 32 slots.slots)
-    (and_from ((number 4).fits latch.0) (eqb (latched latch.0) latch.0) latch.2 (eq-eqb (latched latch.0) latch.0 latch.3))
-    (subst (λ n. fit_times (optional function_layout).fits n slots.slots ≡ true) savable.count slots.has) in
-    let are : bytes ≡ image_bytes i = in_order bytes begin.0 first.0 latch.0 slots.slots headed latch.1 slots.are in
-    (i, record { image = read_as bytes i are has; fits = record { latch = latch.3; slots = slots.fit } })
-  where
-    left_of : (r : Left) → fault_of r ≡ None → (rest : List ℕ) × (r ≡ Ok rest)
-    left_of (Ok rest) e = (rest, refl)
-    left_of (Err k) e = cc
-
--- ---- in a world
-
-taken_now : (w : WorldNow) (name : Text) (bytes : List ℕ) (i : Image) → load_fault (lone_of w.guests name) bytes ≡ None → image_of bytes ≡ Some i → after_load_bytes name bytes w ≡ after_load name i w
-taken_now w name bytes i none is =
-    ap (λ (o : Option ℕ). cond (is_some o) w (option_map_or (λ (x : Image). after_load name x w) (image_of bytes) w)) none
-    ∙ ap (λ (o : Option Image). option_map_or (λ (x : Image). after_load name x w) o w) is
-
-pub loads_image : LoadsImage
-loads_image w name savable bytes all none =
-    let i = accepted_is_image (lone_of w.guests name) savable bytes all none in
-    record { image = i.0; is_image = i.1; world = taken_now w name bytes i.0 none i.1.image }
-
-pub refused_stays : RefusedStays
-refused_stays w name bytes k some = ap (λ (o : Option ℕ). cond (is_some o) w (option_map_or (λ (x : Image). after_load name x w) (image_of bytes) w)) some
-
-pub keeps_saved_bytes : KeepsSavedBytes
-keeps_saved_bytes b w seated name savable =
-    let i = image_of_guest name w in
-    taken_now w name (image_bytes i) i (own_accepted (lone_of w.guests name) savable) (bytes_are_read i (guests_have_bytes (lone_of w.guests name) savable))
-    ∙ keeps_what_was_saved b w seated name

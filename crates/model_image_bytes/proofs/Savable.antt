@@ -26,11 +26,11 @@ use Rattle.model_image_bytes.specs.ByteLaws.{IsDeclared, IsSavable, HoldsSavable
 
 -- ---- lists
 
-times_fit : {A : Type 0} (fits : A → Bool) (xs : List A) → Each (λ x. fits x ≡ true) xs → fit_times fits (length xs) xs ≡ true
+pub times_fit : {A : Type 0} (fits : A → Bool) (xs : List A) → Each (λ x. fits x ≡ true) xs → fit_times fits (length xs) xs ≡ true
 times_fit fits [] h = refl
 times_fit fits (x ∷ xs) h = and_from (fits x) (fit_times fits (length xs) xs) h.0 (times_fit fits xs h.1)
 
-counted_fit : {A : Type 0} (k : ℕ) (L : Layout A) (xs : List A) → length xs < 256 ^ k → Each (λ x. L.fits x ≡ true) xs → (counted k L).fits xs ≡ true
+pub counted_fit : {A : Type 0} (k : ℕ) (L : Layout A) (xs : List A) → length xs < 256 ^ k → Each (λ x. L.fits x ≡ true) xs → (counted k L).fits xs ≡ true
 counted_fit k L xs few h = and_from ((number k).fits (length xs)) (fit_times L.fits (length xs) xs) (lt-ltb (length xs) (256 ^ k) few) (times_fit L.fits xs h)
 
 -- ---- cells, regions and blocks
@@ -159,17 +159,17 @@ endpoint_fits d h =
 
 -- ---- guests
 
-values_fit : (file : File) → HoldsBytes file → Each (λ n. (number 1).fits n ≡ true) (values_of file)
+pub values_fit : (file : File) → HoldsBytes file → Each (λ n. (number 1).fits n ≡ true) (values_of file)
 values_fit [] h = tt
 values_fit (e ∷ es) h = (lt-ltb e.cell.value 256 h.0, values_fit es h.1)
 
-as_long : (f g : File) → shape_of f ≡ shape_of g → length (values_of f) ≡ length g
+pub as_long : (f g : File) → shape_of f ≡ shape_of g → length (values_of f) ≡ length g
 as_long f g same = length-map f (λ (e : PlacedCell). e.cell.value) ∙ sym (length-map f bare) ∙ ap (λ (x : File). length x) same ∙ length-map g bare
   where
     bare : PlacedCell → PlacedCell
     bare e = record e { cell = record e.cell { value = 0 } }
 
-function_fits : (f : Function) → IsSavable f → function_layout.fits (saved f) ≡ true
+pub function_fits : (f : Function) → IsSavable f → function_layout.fits (saved f) ≡ true
 function_fits f h =
     let reset = endpoint_reset f.decl false in
     let many = fit_times (number 1).fits (length reset) (values_of f.file) in
@@ -181,7 +181,7 @@ slots_fit [] h = tt
 slots_fit (None ∷ fs) h = (refl, slots_fit fs h.1)
 slots_fit (Some f ∷ fs) h = (ap (λ t. (t && true) && true) (function_fits f h.0), slots_fit fs h.1)
 
-latch_fits : (n : ℕ) → latched n ≡ n → latch_layout.fits n ≡ true
+pub latch_fits : (n : ℕ) → latched n ≡ n → latch_layout.fits n ≡ true
 latch_fits n h =
     let a = masked n 0x80fffffc h in
     and_from ((number 4).fits n) (eqb (latched n) n) (lt-ltb n (256 ^ 4) (omega arith)) (eq-eqb (latched n) n h)

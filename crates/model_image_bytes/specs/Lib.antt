@@ -3,4 +3,10 @@ pub mod ImageBytes
 pub mod ByteLaws
 pub mod LoadedBytes
 pub mod LoadedLaws
+pub mod TakenBytes
+pub mod MachineBytes
+pub mod MachineByteLaws
+pub mod LoadedMachines
+pub mod LoadedMachineLaws
 pub mod ByteExamples
+pub mod MachineByteExamples

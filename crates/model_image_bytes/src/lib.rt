@@ -5,6 +5,10 @@
 ghost use Rattle.model_image_bytes.specs.ByteExamples.{ByteExamples};
 ghost use Rattle.model_image_bytes.specs.ByteLaws.{BytesAreBytes, BytesAreRead, GuestsHaveBytes, OneImage, ReadAreBytes, ReadIsOfAGuest};
 ghost use Rattle.model_image_bytes.specs.LoadedLaws.{AcceptedIsImage, ImagesDecided, KeepsSavedBytes, LoadsImage, OwnAccepted, RefusedStays};
+ghost use Rattle.model_image_bytes.specs.LoadedMachineLaws.{AcceptedIsMachine, FittingIsAccepted, FittingIsLoaded, RefusedKeeps, TakesSavedMachine};
+ghost use Rattle.model_image_bytes.specs.MachineByteExamples.{MachineByteExamples};
+ghost use Rattle.model_image_bytes.specs.MachineByteLaws.{MachineBytesAreBytes, MachineBytesAreRead, MachineReadAreBytes, MachinesHaveBytes, OneMachineImage};
+ghost use Rattle.model_image_bytes.specs.TakenBytes.{AcceptedIsTaken, ImageIsTaken, SlotsAreTaken};
 
 /// Every list of numbers is either the bytes of one image, which is that of a guest, or read as
 /// none. What is read of the bytes of an image is the image.
@@ -32,7 +36,45 @@ pub fn fitting_bytes_are_taken()
     ensures saved { KeepsSavedBytes }
 {}
 
+/// Where bytes that a guest takes say what each slot holds. They are the image of just that, which
+/// fits the guest; that its declarations can be written is all that it needs for this.
+pub fn taken_bytes_are_slots()
+    ensures slots { SlotsAreTaken }
+    ensures image { ImageIsTaken }
+    ensures accepted { AcceptedIsTaken }
+{}
+
+/// Every list of numbers is either the bytes of one image of a machine, or read as none. What is
+/// read of the bytes of such an image is the image.
+pub fn machine_images_are_bytes()
+    ensures are_bytes { MachineBytesAreBytes }
+    ensures are_read { MachineBytesAreRead }
+    ensures spelled { MachineReadAreBytes }
+    ensures one { OneMachineImage }
+{}
+
+/// The image of each machine whose functions are lawful and hold bytes has bytes.
+pub fn machines_have_bytes()
+    ensures { MachinesHaveBytes }
+{}
+
+/// Bytes that a machine doesn't refuse are the image of a machine that fits it, and it is loaded.
+/// The bytes of each image that fits are taken, and refused bytes change nothing. So a machine that
+/// takes what was saved of one like it is that other one.
+pub fn machine_bytes_are_taken()
+    ensures accepted { AcceptedIsMachine }
+    ensures fitting { FittingIsAccepted }
+    ensures loaded { FittingIsLoaded }
+    ensures saved { TakesSavedMachine }
+    ensures refused { RefusedKeeps }
+{}
+
 /// The bytes of an image, how they are read, and what is refused.
 pub fn worked_examples()
     ensures { ByteExamples }
+{}
+
+/// The bytes of the image of a machine, how they are read, and what is refused.
+pub fn worked_machine_examples()
+    ensures { MachineByteExamples }
 {}

@@ -67,7 +67,7 @@ request_counts_grow m i name n is (r ∷ rs) =
     subst (IsCounted (after_all_requests m (r ∷ rs)) i name) (grown (changes_by name m.world r) n (changes_along name (after_request m.world r) rs) is.fits)
     (request_counts_grow (after_request_on_machine m r) i name (after_change (changes_by name m.world r) n) (counted_after m i name n is r) rs)
 
-world_along : (rs : List Request) (m : MachineNow) → (after_all_requests m rs).world ≡ after_requests m.world rs
+pub world_along : (rs : List Request) (m : MachineNow) → (after_all_requests m rs).world ≡ after_requests m.world rs
 world_along [] m = refl
 world_along (r ∷ rs) m = world_along rs (after_request_on_machine m r)
 

@@ -1,5 +1,9 @@
--- The worked example, by computation.
+-- The worked examples, by computation.
 use Rattle.model_images.specs.ImageExamples.{ImageExamples}
+use Rattle.model_images.specs.MachineExamples.{MachineExamples}
 
 pub image_examples : ImageExamples
 image_examples = assumption
+
+pub machine_examples : MachineExamples
+machine_examples = assumption

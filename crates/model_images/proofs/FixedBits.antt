@@ -8,7 +8,7 @@ use Rattle.model_registers.specs.Cell.{Cell, except, written, raised}
 use Rattle.model_images.specs.Images.{fixed_bits}
 
 -- a mask has no bit of the others
-none_outside : (m : ℕ) → bit_and m (except m) ≡ 0
+pub none_outside : (m : ℕ) → bit_and m (except m) ≡ 0
 none_outside m = elim (cases_lt m 256) [
   | inl low ↦
       let parts : bit_and (255 - m) m + bit_and m m ≡ m = and-not 8 m m low low in
@@ -19,7 +19,7 @@ none_outside m = elim (cases_lt m 256) [
 ]
 
 -- two masks that share no bit with the rest of the others
-none_in : (p q r s : ℕ) → bit_and q s ≡ 0 → bit_and (bit_and p q) (bit_and r s) ≡ 0
+pub none_in : (p q r s : ℕ) → bit_and q s ≡ 0 → bit_and (bit_and p q) (bit_and r s) ≡ 0
 none_in p q r s none =
     and_assoc (bit_and r s) p q ∙ ap (bit_and p) (ap (bit_and q) (and_comm r s) ∙ sym (and_assoc r q s) ∙ ap (λ n. bit_and n r) none ∙ and_zero_l r) ∙ and_zero_r p
 

@@ -2,6 +2,14 @@ pub mod Loading
 mod BesideLoads
 pub mod Requests
 mod FixedBits
+mod Settling
+mod Runs
+pub mod Steps
 pub mod Fitting
 mod Counts
+pub mod Machines
+mod Shapes
+mod Emptying
+pub mod Filling
+pub mod MachineLoads
 mod Examples

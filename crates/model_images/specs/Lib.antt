@@ -3,4 +3,8 @@ pub mod Requests
 pub mod LoadLaws
 pub mod FitLaws
 pub mod RequestLaws
+pub mod StepLaws
+pub mod MachineImages
+pub mod MachineLaws
 pub mod ImageExamples
+pub mod MachineExamples

@@ -7,8 +7,13 @@ ghost use Rattle.model_images.specs.ImageExamples.{ImageExamples};
 ghost use Rattle.model_images.specs.LoadLaws.{AnswersAsSaved, BoardAfterLoad, BoardBesideLoad, HandoffAfterLoad, HoldsAsSaved, KeepsWhatWasSaved};
 ghost use Rattle.model_images.specs.LoadLaws.{LawfulAfterLoad, LoadedHolds, LoadsAlike, NamesAfterLoad, OthersAfterLoad};
 ghost use Rattle.model_images.specs.LoadLaws.{PathsAfterLoad, RestartedHolds, SeatedAfterLoad, ShownAfterLoad};
+ghost use Rattle.model_images.specs.MachineExamples.{MachineExamples};
+ghost use Rattle.model_images.specs.MachineLaws.{FittingAfterLoadAll, LawfulAfterLoadAll, LoadAfterSave, LoadsAllByRequests, LoadsAllOnMachine};
+ghost use Rattle.model_images.specs.MachineLaws.{SavableAfterLoadAll, SavableAtFirst, SavedMachineFits, SavesWhatWasLoaded, ShapesAtReset};
+ghost use Rattle.model_images.specs.MachineLaws.{ShapesStay, ShownAfterLoadAll, ShownAlike};
 ghost use Rattle.model_images.specs.RequestLaws.{AnswersStayAlong, AnswersStayByCount, LawfulAlongRequests, RequestCountsGrow};
 ghost use Rattle.model_images.specs.Requests.{IsolatedByRequests};
+ghost use Rattle.model_images.specs.StepLaws.{LoadsBySteps};
 
 /// A guest that is loaded with an image holds what the guest held that was saved, in whatever
 /// world, and is told by the same inputs the same. Loading what was saved changes nothing.
@@ -63,7 +68,47 @@ pub fn counts_tell_requests()
     ensures stay { AnswersStayByCount }
 {}
 
+/// A function that is loaded holds what a guest and its device could have brought about from reset,
+/// byte by byte.
+pub fn loads_are_steps()
+    ensures { LoadsBySteps }
+{}
+
+/// Over a handoff of functions whose cells are as declared, but for what they hold, the world at
+/// first can be saved. At reset they are such functions, and no request changes that.
+pub fn machines_can_be_saved()
+    ensures first { SavableAtFirst }
+    ensures at_reset { ShapesAtReset }
+    ensures stay { ShapesStay }
+{}
+
+/// A machine that is loaded with the image of one like it is that other one, so each later call
+/// tells the same. Whatever machine is saved fits each one like it, and what is saved after a load
+/// is what was loaded.
+pub fn machines_load_as_saved()
+    ensures alike { ShownAlike }
+    ensures saved { LoadAfterSave }
+    ensures fits { SavedMachineFits }
+    ensures again { SavesWhatWasLoaded }
+{}
+
+/// A load of a whole machine is what functions that are taken and given and guests that are loaded
+/// come to. So the world stays lawful, and the handoff of the image is shown.
+pub fn machine_loads_are_requests()
+    ensures requests { LoadsAllByRequests }
+    ensures machine { LoadsAllOnMachine }
+    ensures lawful { LawfulAfterLoadAll }
+    ensures savable { SavableAfterLoadAll }
+    ensures fitting { FittingAfterLoadAll }
+    ensures shown { ShownAfterLoadAll }
+{}
+
 /// What an image has, and what a loaded guest holds.
 pub fn worked_examples()
     ensures { ImageExamples }
+{}
+
+/// What the image of a machine has, and what its guests hold over the same handoff.
+pub fn worked_machine_examples()
+    ensures { MachineExamples }
 {}

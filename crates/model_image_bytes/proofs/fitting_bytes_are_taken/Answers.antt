@@ -1,4 +1,5 @@
-use Rattle.model_image_bytes.proofs.LoadedBytes.{accepted_is_image, images_decided, own_accepted, loads_image, refused_stays, keeps_saved_bytes}
+use Rattle.model_image_bytes.proofs.LoadedBytes.{images_decided, own_accepted}
+use Rattle.model_image_bytes.proofs.TakenBytes.{accepted_is_image, loads_image, refused_stays, keeps_saved_bytes}
 use Rattle.model_image_bytes.proofs.fitting_bytes_are_taken.Goals as goal
 
 pub returns : goal.returns

@@ -1,0 +1,65 @@
+-- Laws of images of machines as bytes.
+--     HasMachineBytes i      the numbers of the image fit their fields, its functions hold what they can, and each
+--                            function of the board has a byte for each of its cells
+--     MachineBytesAreBytes, MachineBytesAreRead, MachineReadAreBytes      the bytes of an image are read as it, and no
+--                            others are
+--     OneMachineImage      two images that have bytes don't have the same
+--     IsWritableFunction, IsWritableGuest, IsWritableWorld      a function of the board that holds bytes, and whose
+--                            declaration can be written; a guest of such functions; a world of no more than there are
+--                            numbers for
+--     MachinesHaveBytes      the image of such a world has bytes
+use Rattle.std.specs.Prelude.{◌≡◌, ◌<◌, ◌^◌, ℕ, List, Some, IsTrue, ⊤, length}
+use Rattle.lists.specs.Elements.{Each}
+use Rattle.model_registers.specs.AccessLaws.{HoldsBytes}
+use Rattle.model_board.specs.Board.{Decl, endpoint, bridge}
+use Rattle.model_board.specs.State.{BoardFunction}
+use Rattle.model_guests.specs.Guests.{GuestNow}
+use Rattle.model_guests.specs.WorldNow.{WorldNow}
+use Rattle.model_images.specs.MachineImages.{MachineImage, image_of_machine}
+use Rattle.model_images.specs.MachineLaws.{IsSavableWorld}
+use Rattle.model_image_bytes.specs.ByteLaws.{AreBytes, IsDeclared, IsSavableGuest}
+use Rattle.model_image_bytes.specs.MachineBytes.{machine_layout, machine_bytes, machine_of}
+
+abbrev pub HasMachineBytes : MachineImage → Type 0
+HasMachineBytes i = IsTrue (machine_layout.fits i)
+
+abbrev pub MachineBytesAreBytes : Type 0
+MachineBytesAreBytes = (i : MachineImage) → AreBytes (machine_bytes i)
+
+abbrev pub MachineBytesAreRead : Type 0
+MachineBytesAreRead = (i : MachineImage) → HasMachineBytes i → machine_of (machine_bytes i) ≡ Some i
+
+-- any list of numbers
+abbrev pub MachineReadAreBytes : Type 0
+MachineReadAreBytes = (bs : List ℕ) (i : MachineImage) → machine_of bs ≡ Some i
+    → (bs ≡ machine_bytes i) × HasMachineBytes i
+
+abbrev pub OneMachineImage : Type 0
+OneMachineImage = (i j : MachineImage) → HasMachineBytes i → HasMachineBytes j → machine_bytes i ≡ machine_bytes j
+    → i ≡ j
+
+-- ---- machines that have bytes
+
+-- a lawful bridge can be written
+abbrev pub CanBeDeclared : Decl → Type 0
+CanBeDeclared (endpoint d) = IsDeclared d
+CanBeDeclared (bridge d) = ⊤
+
+pub record IsWritableFunction (f : BoardFunction) : Type 0 where
+  pub declared : CanBeDeclared f.decl
+  pub bytes : HoldsBytes f.file
+
+pub record IsWritableGuest (g : GuestNow) : Type 0 where
+  pub name : AreBytes g.name
+  pub short : length g.name < 256
+  pub lone : IsSavableGuest g.lone
+
+pub record IsWritableWorld (w : WorldNow) : Type 0 where
+  pub functions : Each IsWritableFunction w.handoff.functions
+  pub many : length w.handoff.functions < 2 ^ 32
+  pub latch : w.handoff.latch < 2 ^ 32
+  pub guests : Each IsWritableGuest w.guests
+  pub few : length w.guests < 2 ^ 16
+
+abbrev pub MachinesHaveBytes : Type 0
+MachinesHaveBytes = (w : WorldNow) → IsSavableWorld w → IsWritableWorld w → HasMachineBytes (image_of_machine w)

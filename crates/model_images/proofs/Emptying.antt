@@ -1,0 +1,234 @@
+-- A machine whose slots are emptied: the same handoff is shown, and nobody has a function.
+use Rattle.std.proofs.Common.{◌≡◌, ℕ, zero, suc, ◌<◌, ◌≤◌, Bool, true, false, not, ◌||◌, cond, eqb, List, [], ◌∷◌, ◌++◌, length, Some, None, Option, refl, sym, ap, ap₂, ◌∙◌, subst, arith}
+use Rattle.std.specs.Prelude.{flat_map, is_some, nat_le}
+use Rattle.std.specs.List.{list_any}
+use Rattle.std.specs.Str.{bytes_eq}
+use Rattle.std.proofs.lemmas.Bool.{eqb-true}
+use Rattle.std.proofs.lemmas.Bool.Decides.{nat_tests}
+use Rattle.lists.specs.Elements.{Each}
+use Rattle.model_registers.specs.Decoding.{Function}
+use Rattle.model_board.specs.Paths.{Path, path_eq}
+use Rattle.model_board.specs.Board.{Board}
+use Rattle.model_board.specs.AtReset.{board_at}
+use Rattle.model_board.proofs.PathOrder.{path_same}
+use Rattle.model_guests.specs.Text.{Text}
+use Rattle.model_guests.specs.Guests.{GuestNow, GuestsNow, function_in, guest_named, path_in, with_guest, with_slot_emptied}
+use Rattle.model_guests.specs.Seated.{IsSeat, IsSeatedGuest}
+use Rattle.model_guests.specs.WorldNow.{WorldNow, names_of, names_now}
+use Rattle.model_guests.proofs.FoundFiles.{in_rest}
+use Rattle.model_guests.proofs.GuestsByName.{found, path_at, path_of}
+use Rattle.model_guests.proofs.Names.{equal_texts, same_text}
+use Rattle.model_guests.proofs.OneGuest.{AreApart}
+use Rattle.model_guests.proofs.SeatedMoves.{Placed, placed, put_there, was_there, seat_in}
+use Rattle.model_guests.proofs.Seats.{no_path, some_path}
+use Rattle.model_handoff.specs.Actions.{takes}
+use Rattle.model_handoff.specs.Giving.{take_fault, taken, after_take}
+use Rattle.model_handoff.specs.Kept.{IsLawfulOver}
+use Rattle.model_handoff.specs.ViewLaws.{is_at, sits}
+use Rattle.model_handoff.proofs.Counting.{names_after}
+use Rattle.model_handoff.proofs.GivenSeats.{left_was}
+use Rattle.model_handoff.proofs.Giving.{can_take, lawful_after_taking, shown_after_taking, taken_is}
+use Rattle.model_images.specs.Requests.{Request, after_request, after_requests}
+use Rattle.model_images.specs.FitLaws.{AreFittingRequests}
+use Rattle.model_images.specs.MachineImages.{shown_handoff}
+use Rattle.model_images.specs.MachineLaws.{takings}
+
+-- ---- requests, one list after another
+
+pub after_both : (rs ss : List Request) (w : WorldNow) → after_requests w (rs ++ ss) ≡ after_requests (after_requests w rs) ss
+after_both [] ss w = refl
+after_both (r ∷ rs) ss w = after_both rs ss (after_request w r)
+
+pub both_fit : (rs ss : List Request) (w : WorldNow) → AreFittingRequests w rs → AreFittingRequests (after_requests w rs) ss → AreFittingRequests w (rs ++ ss)
+both_fit [] ss w h k = k
+both_fit (r ∷ rs) ss w h k = (h.0, both_fit rs ss (after_request w r) h.1 k)
+
+-- ---- who has a path
+
+inside : (qs : List (Option Path)) (k : ℕ) (q : Path) → path_at qs k ≡ Some q → k < length qs
+inside [] k q h = cc
+inside (p ∷ ps) zero q h = omega arith
+inside (p ∷ ps) (suc k) q h = let more : k < length ps = inside ps k q h in omega arith
+
+pub path_low : (b : Board) (gs : GuestsNow) → Each (IsSeatedGuest b) gs → (a : Text) (k : ℕ) (q : Path) → path_in gs a k ≡ Some q → k < 32
+path_low b gs all a k q h = of (guest_named gs a) refl h
+  where
+    of : (o : Option GuestNow) → guest_named gs a ≡ o → path_of o k ≡ Some q → k < 32
+    of None e h = cc
+    of (Some t) e h = subst (λ n. k < n) (found (IsSeatedGuest b) gs a t all e).has.count (inside t.paths k q h)
+
+-- who has a path is one of these guests
+pub named : (P : Text → Type 0) (gs : GuestsNow) → Each P (names_of gs) → (a : Text) (k : ℕ) (q : Path) → path_in gs a k ≡ Some q → P a
+named P [] all a k q h = cc
+named P (t ∷ ts) all a k q h = of (bytes_eq t.name a) refl h (named P ts all.1 a k q)
+  where
+    of : (v : Bool) → bytes_eq t.name a ≡ v → path_of (cond v (Some t) (guest_named ts a)) k ≡ Some q → (path_in ts a k ≡ Some q → P a) → P a
+    of true e h more = subst P (equal_texts t.name a e) all.0
+    of false e h more = more h
+
+-- a path that no guest has sits nowhere
+none_in : (qs : List (Option Path)) (p : Path) → ((m : ℕ) → path_at qs m ≡ Some p → ⊥) → list_any (is_at p) qs ≡ false
+none_in [] p h = refl
+none_in (None ∷ qs) p h = none_in qs p (λ m. h (suc m))
+none_in (Some q ∷ qs) p h = of (path_eq q p) refl (none_in qs p (λ m. h (suc m)))
+  where
+    of : (t : Bool) → path_eq q p ≡ t → list_any (is_at p) qs ≡ false → (t || list_any (is_at p) qs) ≡ false
+    of true e more = absurd (h zero (ap Some (path_same q p e)))
+    of false e more = more
+
+pub none_sits : (gs : GuestsNow) (p : Path) → AreApart gs → ((a : Text) (m : ℕ) → path_in gs a m ≡ Some p → ⊥) → sits gs p ≡ false
+none_sits [] p names free = refl
+none_sits (t ∷ ts) p names free =
+    ap₂ ◌||◌ (none_in t.paths p (λ m h. free t.name m (ap (λ v. path_of (cond v (Some t) (guest_named ts t.name)) m) (same_text t.name) ∙ h)))
+    (none_sits ts p names.1 (λ a m h. free a m (in_rest t ts a m p names.0 h)))
+
+-- ---- one slot
+
+pub record IsEmptied (w x : WorldNow) : Type 0 where
+  pub lawful : IsLawfulOver x
+  pub shown : shown_handoff x ≡ shown_handoff w
+  pub names : names_now x ≡ names_now w
+  pub within : (a : Text) (k : ℕ) (q : Path) → path_in x.guests a k ≡ Some q → path_in w.guests a k ≡ Some q
+
+twice_emptied : (w x y : WorldNow) → IsEmptied w x → IsEmptied x y → IsEmptied w y
+twice_emptied w x y h k = record {
+  lawful = k.lawful;
+  shown = k.shown ∙ h.shown;
+  names = k.names ∙ h.names;
+  within = λ a n q at. h.within a n q (k.within a n q at);
+}
+
+module _ (w : WorldNow) (h : IsLawfulOver w) (name : Text) (n : ℕ) where
+  abbrev b : Board
+  b = board_at w.handoff.functions
+
+  abbrev now : WorldNow
+  now = after_take w name n
+
+  abbrev lower : GuestsNow
+  lower = with_guest (with_slot_emptied n) name w.guests
+
+  seat : IsSeat b (path_in w.guests name n) (function_in w.guests name n)
+  seat = seat_in b w.guests h.seated.guests name n
+
+  stays : (k : ℕ) → take_fault w name n ≡ Some k → now ≡ w
+  stays k e = ap (λ (o : Option ℕ). cond (is_some o) w (taken name n w)) e
+
+  its_path : take_fault w name n ≡ None → (p : Path) × (path_in w.guests name n ≡ Some p)
+  its_path e =
+      let can = can_take w name n e in
+      some_path b (path_in w.guests name n) can.f (subst (IsSeat b (path_in w.guests name n)) can.there seat)
+
+  lower_is : take_fault w name n ≡ None → now.guests ≡ lower
+  lower_is e = let p = its_path e in ap (λ (v : WorldNow). v.guests) (taken_is w name n e p.0 p.1)
+
+  within_now : (a : Text) (k : ℕ) (q : Path) → path_in now.guests a k ≡ Some q → path_in w.guests a k ≡ Some q
+  within_now a k q at = of (take_fault w name n) refl
+    where
+      of : (o : Option ℕ) → take_fault w name n ≡ o → path_in w.guests a k ≡ Some q
+      of (Some c) e = sym (ap (λ (v : WorldNow). path_in v.guests a k) (stays c e)) ∙ at
+      of None e = left_was b w.guests h.seated name n a k q (sym (ap (λ (gs : GuestsNow). path_in gs a k) (lower_is e)) ∙ at)
+
+  shown_now : shown_handoff now ≡ shown_handoff w
+  shown_now = of (take_fault w name n) refl
+    where
+      of : (o : Option ℕ) → take_fault w name n ≡ o → shown_handoff now ≡ shown_handoff w
+      of (Some c) e = ap shown_handoff (stays c e)
+      of None e = let p = its_path e in shown_after_taking w h name n e p.0 p.1
+
+  -- a slot of which nothing is taken has no path
+  was_empty : (c : ℕ) → take_fault w name n ≡ Some c → (q : Path) → path_in w.guests name n ≡ Some q → ⊥
+  was_empty c fault q at = of (nat_le 32 n) refl (function_in w.guests name n) refl
+    where
+      of : (t : Bool) → nat_le 32 n ≡ t → (o : Option Function) → function_in w.guests name n ≡ o → ⊥
+      of true e o i = let low : n < 32 = path_low b w.guests h.seated.guests name n q at in grind (arith, nat_tests)
+      of false e None i = let none : path_in w.guests name n ≡ None = no_path b (path_in w.guests name n) (function_in w.guests name n) seat i in cc
+      of false e (Some f) i =
+          let none : take_fault w name n ≡ None = ap₂ (λ (t : Bool) (x : Option Function). cond t (Some 303) (cond (not (is_some x)) (Some 601) None)) e i in cc
+
+  is_empty : (q : Path) → path_in now.guests name n ≡ Some q → ⊥
+  is_empty q at = of (take_fault w name n) refl
+    where
+      gone : Placed w.guests name name n n None q → ⊥
+      gone (put_there c d e) = cc
+      gone (was_there c d) = d refl refl
+
+      of : (o : Option ℕ) → take_fault w name n ≡ o → ⊥
+      of (Some c) e = was_empty c e q (sym (ap (λ (v : WorldNow). path_in v.guests name n) (stays c e)) ∙ at)
+      of None e =
+          gone (placed (with_slot_emptied n) n None (λ t. refl) (λ t. refl) w.guests name name n q (sym (ap (λ (gs : GuestsNow). path_in gs name n) (lower_is e)) ∙ at))
+
+  one_emptied : IsEmptied w now
+  one_emptied = record { lawful = lawful_after_taking w h name n; shown = shown_now; names = names_after w (takes name n); within = within_now }
+
+-- ---- all slots of a guest, and of all guests
+
+-- a guest has no path below this slot
+abbrev pub HasNoneBelow : ℕ → WorldNow → Text → Type 0
+HasNoneBelow n x a = (k : ℕ) (q : Path) → path_in x.guests a k ≡ Some q → n ≤ k
+
+stays_empty : (n : ℕ) (w x : WorldNow) → IsEmptied w x → (a : Text) → HasNoneBelow n w a → HasNoneBelow n x a
+stays_empty n w x h a none k q at = none k q (h.within a k q at)
+
+next_up : (n k : ℕ) → n ≤ k → (k ≡ n → ⊥) → suc n ≤ k
+next_up n k h other = of (eqb k n) refl
+  where
+    of : (t : Bool) → eqb k n ≡ t → suc n ≤ k
+    of true e = absurd (other (eqb-true k n e))
+    of false e = grind (arith, nat_tests)
+
+pub record HaveTaken (n : ℕ) (w x : WorldNow) (names : List Text) : Type 0 where
+  pub emptied : IsEmptied w x
+  pub none : Each (HasNoneBelow n x) names
+
+slots_emptied : (n : ℕ) (w : WorldNow) → IsLawfulOver w → (name : Text) → HaveTaken n w (after_requests w (takings name n)) (name ∷ [])
+slots_emptied zero w h name = record {
+  emptied = record { lawful = h; shown = refl; names = refl; within = λ a k q at. at };
+  none = (λ k q at. omega arith, tt);
+}
+slots_emptied (suc n) w h name =
+    let x : WorldNow = after_take w name n in
+    let y : WorldNow = after_requests x (takings name n) in
+    let one : IsEmptied w x = one_emptied w h name n in
+    let more = slots_emptied n x one.lawful name in
+    record {
+      emptied = twice_emptied w x y one more.emptied;
+      none = (
+        λ k q at. next_up n k (more.none.0 k q at)
+            (λ e. is_empty w h name n q (more.emptied.within name n q (subst (λ m. path_in y.guests name m ≡ Some q) e at))),
+        tt,
+      );
+    }
+
+abbrev pub all_takings : List Text → List Request
+all_takings names = flat_map (λ (name : Text). takings name 32) names
+
+pub all_emptied : (names : List Text) (w : WorldNow) → IsLawfulOver w → HaveTaken 32 w (after_requests w (all_takings names)) names
+all_emptied [] w h = record { emptied = record { lawful = h; shown = refl; names = refl; within = λ a k q at. at }; none = tt }
+all_emptied (name ∷ names) w h =
+    let x : WorldNow = after_requests w (takings name 32) in
+    let y : WorldNow = after_requests x (all_takings names) in
+    let one = slots_emptied 32 w h name in
+    let more = all_emptied names x one.emptied.lawful in
+    subst (λ (v : WorldNow). HaveTaken 32 w v (name ∷ names)) (sym (after_both (takings name 32) (all_takings names) w))
+    (record {
+      emptied = twice_emptied w x y one.emptied more.emptied;
+      none = (stays_empty 32 x y more.emptied name one.none.0, more.none);
+    })
+
+takings_fit : (n : ℕ) (w : WorldNow) (name : Text) → AreFittingRequests w (takings name n)
+takings_fit zero w name = tt
+takings_fit (suc n) w name = (tt, takings_fit n (after_take w name n) name)
+
+pub all_takings_fit : (names : List Text) (w : WorldNow) → AreFittingRequests w (all_takings names)
+all_takings_fit [] w = tt
+all_takings_fit (name ∷ names) w =
+    both_fit (takings name 32) (all_takings names) w (takings_fit 32 w name) (all_takings_fit names (after_requests w (takings name 32)))
+
+-- nobody has a path any more
+pub nobody_has : (w x : WorldNow) → HaveTaken 32 w x (names_now w) → (a : Text) (k : ℕ) (q : Path) → path_in x.guests a k ≡ Some q → ⊥
+nobody_has w x h a k q at =
+    let none : HasNoneBelow 32 x a = named (HasNoneBelow 32 x) x.guests (subst (Each (HasNoneBelow 32 x)) (sym h.emptied.names) h.none) a k q at in
+    let high : 32 ≤ k = none k q at in
+    let low : k < 32 = path_low (board_at x.handoff.functions) x.guests h.emptied.lawful.seated.guests a k q at in
+    omega arith

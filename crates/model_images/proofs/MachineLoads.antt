@@ -1,0 +1,376 @@
+-- A machine that is loaded: its slots are emptied and filled, and each guest is loaded.
+use Rattle.std.proofs.Common.{◌≡◌, ℕ, suc, Bool, true, false, ◌||◌, cond, List, [], ◌∷◌, ◌++◌, length, Some, None, Option, refl, sym, ap, ap₂, ◌∙◌, subst, arith}
+use Rattle.std.specs.Prelude.{map, option_map, is_some, IsFalse, IsTrue}
+use Rattle.std.specs.List.{list_any}
+use Rattle.std.specs.Option.{option_map_or}
+use Rattle.std.specs.Str.{bytes_eq}
+use Rattle.lists.specs.Elements.{Each, EachPair}
+use Rattle.lists.proofs.EachLemmas.{each_both, each_map}
+use Rattle.model_registers.specs.Decoding.{Function}
+use Rattle.model_board.specs.Paths.{Path}
+use Rattle.model_board.specs.Board.{Board}
+use Rattle.model_board.specs.AtReset.{board_at}
+use Rattle.model_board.specs.State.{BoardFunction, State}
+use Rattle.model_guests.specs.Slots.{Slots}
+use Rattle.model_guests.specs.Text.{Text}
+use Rattle.model_guests.specs.World.{declared}
+use Rattle.model_guests.specs.Lone.{reset_guest}
+use Rattle.model_guests.specs.Guests.{GuestNow, GuestsNow, guest_named, lone_of, path_in, with_guest}
+use Rattle.model_guests.specs.AgreedBoard.{agreed_function}
+use Rattle.model_guests.specs.Seated.{AreSeated, AreSeats, IsSeat, IsSeatedGuest}
+use Rattle.model_guests.specs.WorldNow.{WorldNow, names_of, names_now}
+use Rattle.model_guests.proofs.Changes.{files_same}
+use Rattle.model_guests.proofs.FoundFiles.{others_stay}
+use Rattle.model_guests.proofs.GuestFiles.{other_name}
+use Rattle.model_guests.proofs.GuestsByName.{path_at, path_of}
+use Rattle.model_guests.proofs.Names.{same_text}
+use Rattle.model_guests.proofs.OneGuest.{AreApart, lone_found}
+use Rattle.model_handoff.specs.Handoffs.{file_at_reset}
+use Rattle.model_handoff.specs.Kept.{IsLawfulOver}
+use Rattle.model_handoff.specs.Regions.{AreServed}
+use Rattle.model_handoff.specs.ViewLaws.{is_at, sits, seated_files, with_seated_reset}
+use Rattle.model_images.specs.Images.{SavedFunction, fits_declaration, restored, lone_of_image, loaded, Fits, FitsSlot, FitSlots}
+use Rattle.model_images.specs.Requests.{Request, after_request, after_requests}
+use Rattle.model_images.specs.FitLaws.{AreFitting, AreFittingRequests}
+use Rattle.model_images.specs.MachineImages.{SavedSeat, SavedGuest, paths_of, image_in, MachineImage, shown_handoff, IsShown, restored_guest, restored_guests, handoff_under, after_load_all, HoldsFittingValues, HoldsWhatFits, FitsMachine}
+use Rattle.model_images.specs.MachineLaws.{load_of, requests_for, IsReached, LoadsAllByRequests, LoadsAllOnMachine, LawfulAfterLoadAll, FittingAfterLoadAll, SavableAfterLoadAll}
+use Rattle.model_images.proofs.Counts.{lawful_along_requests, world_along}
+use Rattle.model_images.proofs.Loading.{others_after_load}
+use Rattle.model_images.proofs.Fitting.{fitting_along}
+use Rattle.model_images.proofs.Machines.{OpensAlike, opens_alike, served_alike, board_stays, shapes_stay, shown_after_load_all}
+use Rattle.model_images.proofs.Emptying.{after_both, both_fit, none_sits, HaveTaken, all_takings, all_emptied, all_takings_fit, nobody_has}
+use Rattle.model_images.proofs.Filling.{IsFilled, FillGuests, HasAll, IsWanted, all_gifts, all_gifts_fit, guests_filled}
+
+-- ---- files put in where nobody sits, and where the same paths sit
+
+no_files : (fs : List BoardFunction) → map (agreed_function (λ p. None)) fs ≡ fs
+no_files [] = refl
+no_files (f ∷ fs) = ap (λ (xs : List BoardFunction). f ∷ xs) (no_files fs)
+
+sits_alike : (s : State) (gs hs : GuestsNow) → ((p : Path) → sits gs p ≡ sits hs p) → with_seated_reset s gs ≡ with_seated_reset s hs
+sits_alike s gs hs same =
+    ap (λ (fs : List BoardFunction). record s { functions = fs })
+    (files_same (seated_files s hs) (seated_files s gs) (λ p. ap (λ v. cond v (option_map file_at_reset (declared (board_at s.functions) p)) None) (same p)) s.functions)
+
+nobody_seated : (s : State) (gs : GuestsNow) → ((p : Path) → sits gs p ≡ false) → with_seated_reset s gs ≡ s
+nobody_seated s gs none =
+    ap (λ (fs : List BoardFunction). record s { functions = fs })
+    (files_same (λ p. None) (seated_files s gs) (λ p. ap (λ v. cond v (option_map file_at_reset (declared (board_at s.functions) p)) None) (none p)) s.functions ∙ no_files s.functions)
+
+-- ---- guests beside what is saved of them
+
+-- of equal names, and with the paths that the image has
+abbrev AreMatched : List SavedGuest → GuestsNow → Type 0
+AreMatched [] [] = Unit {0}
+AreMatched [] (g ∷ gs) = ⊥
+AreMatched (s ∷ ss) [] = ⊥
+AreMatched (s ∷ ss) (g ∷ gs) = (g.name ≡ s.name) × (g.paths ≡ paths_of s) × AreMatched ss gs
+
+abbrev pub ApartSaved : List SavedGuest → Type 0
+ApartSaved ss = EachPair (λ (s t : SavedGuest). IsFalse (bytes_eq s.name t.name)) ss
+
+abbrev names_in : List SavedGuest → List Text
+names_in ss = map (λ (s : SavedGuest). s.name) ss
+
+paths_same : (qs rs : List (Option Path)) → length qs ≡ length rs → ((k : ℕ) → path_at qs k ≡ path_at rs k) → qs ≡ rs
+paths_same [] [] h same = refl
+paths_same [] (r ∷ rs) h same = cc
+paths_same (q ∷ qs) [] h same = cc
+paths_same (q ∷ qs) (r ∷ rs) h same = ap₂ (λ (x : Option Path) (xs : List (Option Path)). x ∷ xs) (same 0) (let rest : length qs ≡ length rs = omega arith in paths_same qs rs rest (λ k. same (suc k)))
+
+-- of the guest at the front, and of others
+at_front : (g : GuestNow) (gs : GuestsNow) (name : Text) → g.name ≡ name → guest_named (g ∷ gs) name ≡ Some g
+at_front g gs name same = ap (λ v. cond v (Some g) (guest_named gs name)) (ap (bytes_eq g.name) (sym same) ∙ same_text g.name)
+
+past_front : (g : GuestNow) (gs : GuestsNow) (name : Text) → bytes_eq g.name name ≡ false → guest_named (g ∷ gs) name ≡ guest_named gs name
+past_front g gs name other = ap (λ v. cond v (Some g) (guest_named gs name)) other
+
+abbrev Has32 : GuestNow → Type 0
+Has32 g = length g.paths ≡ 32
+
+abbrev Has32Paths : SavedGuest → Type 0
+Has32Paths s = length (paths_of s) ≡ 32
+
+abbrev HasJust : GuestsNow → SavedGuest → Type 0
+HasJust gs s = (k : ℕ) → path_in gs s.name k ≡ path_at (paths_of s) k
+
+matched : (ss : List SavedGuest) (gs : GuestsNow) → names_in ss ≡ names_of gs → ApartSaved ss → Each Has32 gs → Each Has32Paths ss → Each (HasJust gs) ss → AreMatched ss gs
+matched [] [] same apart many each has = tt
+matched [] (g ∷ gs) same apart many each has = cc
+matched (s ∷ ss) [] same apart many each has = cc
+matched (s ∷ ss) (g ∷ gs) same apart many each has =
+    let first : g.name ≡ s.name = cc in
+    let rest : names_in ss ≡ names_of gs = cc in
+    let paths : g.paths ≡ paths_of s =
+    paths_same g.paths (paths_of s) (many.0 ∙ sym each.0) (λ k. sym (ap (λ (o : Option GuestNow). path_of o k) (at_front g gs s.name first)) ∙ has.0 k) in
+    let others : Each (HasJust gs) ss =
+    each_map (λ (t : SavedGuest). IsFalse (bytes_eq s.name t.name) × HasJust (g ∷ gs) t) (HasJust gs) ss
+    (λ t h k. sym (ap (λ (o : Option GuestNow). path_of o k) (past_front g gs t.name (ap (λ (n : Text). bytes_eq n t.name) first ∙ h.0))) ∙ h.1 k)
+    (each_both (λ (t : SavedGuest). IsFalse (bytes_eq s.name t.name)) (HasJust (g ∷ gs)) ss apart.0 has.1) in
+    (first, paths, matched ss gs rest apart.1 many.1 each.1 others)
+
+-- the same paths sit
+matched_sit : (ss : List SavedGuest) (gs : GuestsNow) → AreMatched ss gs → (p : Path) → sits gs p ≡ sits (map restored_guest ss) p
+matched_sit [] [] h p = refl
+matched_sit [] (g ∷ gs) h p = absurd h
+matched_sit (s ∷ ss) [] h p = absurd h
+matched_sit (s ∷ ss) (g ∷ gs) h p = ap₂ ◌||◌ (ap (list_any (is_at p)) h.1) (matched_sit ss gs h.2 p)
+
+-- ---- what is loaded fits
+
+abbrev HoldsValues : Option SavedFunction → Type 0
+HoldsValues None = Unit {0}
+HoldsValues (Some s) = IsTrue (fits_declaration s)
+
+values_held : (xs : List (Option SavedSeat)) → Each HoldsFittingValues xs → Each HoldsValues (map (option_map (λ (x : SavedSeat). x.function)) xs)
+values_held [] h = tt
+values_held (None ∷ xs) h = (tt, values_held xs h.1)
+values_held (Some x ∷ xs) h = (h.0, values_held xs h.1)
+
+fit_slots : (b : Board) (qs : List (Option Path)) (fs : Slots) (ss : List (Option SavedFunction)) → AreSeats b qs fs → AreSeats b qs (map (option_map restored) ss) → Each HoldsValues ss → FitSlots ss fs
+fit_slots b [] [] [] h k fits = tt
+fit_slots b [] (f ∷ fs) ss h k fits = absurd h
+fit_slots b [] [] (s ∷ ss) h k fits = absurd k
+fit_slots b (q ∷ qs) [] ss h k fits = absurd h
+fit_slots b (q ∷ qs) (f ∷ fs) [] h k fits = absurd k
+fit_slots b (q ∷ qs) (f ∷ fs) (s ∷ ss) h k fits = (fit q f s h.0 k.0 fits.0, fit_slots b qs fs ss h.1 k.1 fits.1)
+  where
+    fit : (q : Option Path) (f : Option Function) (s : Option SavedFunction) → IsSeat b q f → IsSeat b q (option_map restored s) → HoldsValues s → FitsSlot s f
+    fit None None None h k v = tt
+    fit None (Some f) s h k v = absurd h
+    fit None None (Some s) h k v = absurd k
+    fit (Some p) None s h k v = absurd h
+    fit (Some p) (Some f) None h k v = absurd k
+    fit (Some p) (Some f) (Some s) h k v = let one = h.decl in let other = k.decl in record { decl = cc (one, other); values = v }
+
+abbrev FitsOwn : GuestsNow → SavedGuest → Type 0
+FitsOwn gs s = Fits (image_in s) (lone_of gs s.name)
+
+all_fit : (b : Board) (ss : List SavedGuest) (gs : GuestsNow) → AreMatched ss gs → ApartSaved ss → Each (IsSeatedGuest b) gs → Each (IsSeatedGuest b) (map restored_guest ss) → Each HoldsWhatFits ss → Each (FitsOwn gs) ss
+all_fit b [] gs h apart seated wanted held = tt
+all_fit b (s ∷ ss) [] h apart seated wanted held = absurd h
+all_fit b (s ∷ ss) (g ∷ gs) h apart seated wanted held = (
+  record {
+    latch = held.0.latch;
+    slots = subst (λ (l : Slots). FitSlots (image_in s).slots l) (sym (ap (λ l. l.slots) (lone_found (g ∷ gs) s.name g (at_front g gs s.name h.0))))
+        (fit_slots b (paths_of s) g.lone.slots (image_in s).slots (subst (λ (qs : List (Option Path)). AreSeats b qs g.lone.slots) h.1 seated.0.seats) wanted.0.seats (values_held s.seats held.0.seats));
+  },
+  each_map (λ (t : SavedGuest). IsFalse (bytes_eq s.name t.name) × FitsOwn gs t) (FitsOwn (g ∷ gs)) ss
+      (λ t k. subst (λ l. Fits (image_in t) l) (sym (others g gs t (ap (λ (n : Text). bytes_eq n t.name) h.0 ∙ k.0))) k.1)
+      (each_both (λ (t : SavedGuest). IsFalse (bytes_eq s.name t.name)) (FitsOwn gs) ss apart.0 (all_fit b ss gs h.2 apart.1 seated.1 wanted.1 held.1)),
+)
+  where
+    others : (g : GuestNow) (gs : GuestsNow) (t : SavedGuest) → bytes_eq g.name t.name ≡ false → lone_of (g ∷ gs) t.name ≡ lone_of gs t.name
+    others g gs t other = ap (λ (o : Option GuestNow). option_map_or (λ (x : GuestNow). x.lone) o (reset_guest [])) (past_front g gs t.name other)
+
+loads_fit : (ss : List SavedGuest) (x : WorldNow) → ApartSaved ss → Each (FitsOwn x.guests) ss → AreFittingRequests x (map load_of ss)
+loads_fit [] x apart fits = tt
+loads_fit (s ∷ ss) x apart fits = (
+  fits.0,
+  loads_fit ss (after_request x (load_of s)) apart.1
+      (each_map (λ (t : SavedGuest). IsFalse (bytes_eq s.name t.name) × FitsOwn x.guests t) (FitsOwn (after_request x (load_of s)).guests) ss
+      (λ t k. subst (λ l. Fits (image_in t) l) (sym (others_after_load x s.name t.name (image_in s) k.0)) k.1)
+      (each_both (λ (t : SavedGuest). IsFalse (bytes_eq s.name t.name)) (FitsOwn x.guests) ss apart.0 fits.1)),
+)
+
+-- ---- all guests are loaded
+
+abbrev loads_over : List SavedGuest → GuestsNow → GuestsNow
+loads_over [] gs = gs
+loads_over (s ∷ ss) gs = loads_over ss (with_guest (loaded (image_in s)) s.name gs)
+
+loads_are : (ss : List SavedGuest) (x : WorldNow) → after_requests x (map load_of ss) ≡ record { handoff = x.handoff; guests = loads_over ss x.guests }
+loads_are [] x = refl
+loads_are (s ∷ ss) x = loads_are ss (after_request x (load_of s))
+
+-- a guest of another name stays
+past_loads : (ss : List SavedGuest) (g : GuestNow) (gs : GuestsNow) → Each (λ (s : SavedGuest). IsFalse (bytes_eq s.name g.name)) ss → loads_over ss (g ∷ gs) ≡ g ∷ loads_over ss gs
+past_loads [] g gs apart = refl
+past_loads (s ∷ ss) g gs apart =
+    ap (λ v. loads_over ss (cond v (loaded (image_in s) g) g ∷ with_guest (loaded (image_in s)) s.name gs)) apart.0
+    ∙ past_loads ss g (with_guest (loaded (image_in s)) s.name gs) apart.1
+
+other_way : (ss : List SavedGuest) (s : SavedGuest) (g : GuestNow) → g.name ≡ s.name → Each (λ (t : SavedGuest). IsFalse (bytes_eq s.name t.name)) ss → Each (λ (t : SavedGuest). IsFalse (bytes_eq t.name g.name)) ss
+other_way ss s g same apart =
+    each_map (λ (t : SavedGuest). IsFalse (bytes_eq s.name t.name)) (λ (t : SavedGuest). IsFalse (bytes_eq t.name g.name)) ss
+    (λ t h. ap (bytes_eq t.name) same ∙ other_name s.name t.name h) apart
+
+-- no guest of the rest has the name
+names_rest : (ss : List SavedGuest) (gs : GuestsNow) (s : SavedGuest) → AreMatched ss gs → Each (λ (t : SavedGuest). IsFalse (bytes_eq s.name t.name)) ss → Each (λ (v : GuestNow). IsFalse (bytes_eq s.name v.name)) gs
+names_rest [] [] s h apart = tt
+names_rest [] (g ∷ gs) s h apart = absurd h
+names_rest (t ∷ ss) [] s h apart = absurd h
+names_rest (t ∷ ss) (g ∷ gs) s h apart = (ap (bytes_eq s.name) h.0 ∙ apart.0, names_rest ss gs s h.2 apart.1)
+
+all_loaded : (ss : List SavedGuest) (gs : GuestsNow) → AreMatched ss gs → ApartSaved ss → loads_over ss gs ≡ map restored_guest ss
+all_loaded [] [] h apart = refl
+all_loaded [] (g ∷ gs) h apart = absurd h
+all_loaded (s ∷ ss) [] h apart = absurd h
+all_loaded (s ∷ ss) (g ∷ gs) h apart =
+    let here : bytes_eq s.name g.name ≡ true = ap (bytes_eq s.name) h.0 ∙ same_text s.name in
+    let is : loaded (image_in s) g ≡ restored_guest s = ap₂ (λ (n : Text) (qs : List (Option Path)). record { name = n; paths = qs; lone = lone_of_image (image_in s) }) h.0 h.1 in
+    ap₂ (λ (v : Bool) (ts : GuestsNow). loads_over ss (cond v (loaded (image_in s) g) g ∷ ts)) here (others_stay (loaded (image_in s)) s.name gs (names_rest ss gs s h.2 apart.0))
+    ∙ past_loads ss (loaded (image_in s) g) gs (other_way ss s (loaded (image_in s) g) h.0 apart.0)
+    ∙ ap₂ (λ (x : GuestNow) (xs : GuestsNow). x ∷ xs) is (all_loaded ss gs h.2 apart.1)
+
+-- ---- what the guests are to come to
+
+pub saved_apart : (ss : List SavedGuest) → AreApart (map restored_guest ss) → ApartSaved ss
+saved_apart [] h = tt
+saved_apart (s ∷ ss) h = (first ss h.0, saved_apart ss h.1)
+  where
+    first : (ts : List SavedGuest) → Each (λ (v : GuestNow). IsFalse (bytes_eq s.name v.name)) (map restored_guest ts) → Each (λ (t : SavedGuest). IsFalse (bytes_eq s.name t.name)) ts
+    first [] h = tt
+    first (t ∷ ts) h = (h.0, first ts h.1)
+
+names_restored : (ss : List SavedGuest) → names_of (map restored_guest ss) ≡ names_in ss
+names_restored [] = refl
+names_restored (s ∷ ss) = ap (λ (ns : List Text). s.name ∷ ns) (names_restored ss)
+
+abbrev pub IsFound : GuestsNow → SavedGuest → Type 0
+IsFound gs s = guest_named gs s.name ≡ Some (restored_guest s)
+
+pub each_found : (ss : List SavedGuest) → ApartSaved ss → Each (IsFound (map restored_guest ss)) ss
+each_found [] apart = tt
+each_found (s ∷ ss) apart = (
+  at_front (restored_guest s) (map restored_guest ss) s.name refl,
+  each_map (λ (t : SavedGuest). IsFalse (bytes_eq s.name t.name) × IsFound (map restored_guest ss) t) (IsFound (map restored_guest (s ∷ ss))) ss
+      (λ t h. past_front (restored_guest s) (map restored_guest ss) t.name h.0 ∙ h.1)
+      (each_both (λ (t : SavedGuest). IsFalse (bytes_eq s.name t.name)) (IsFound (map restored_guest ss)) ss apart.0 (each_found ss apart.1)),
+)
+
+each_32 : (b : Board) (ss : List SavedGuest) → Each (IsSeatedGuest b) (map restored_guest ss) → Each Has32Paths ss
+each_32 b [] h = tt
+each_32 b (s ∷ ss) h = (h.0.count, each_32 b ss h.1)
+
+either_way : (o x : Option Path) → ((q : Path) → o ≡ Some q → x ≡ Some q) → ((q : Path) → x ≡ Some q → o ≡ Some q) → o ≡ x
+either_way None None h k = refl
+either_way (Some q) x h k = sym (h q refl)
+either_way None (Some q) h k = k q refl
+
+-- ---- all of it
+
+module _ (i : MachineImage) (w : WorldNow) (h : IsLawfulOver w) (fits : FitsMachine i w) where
+  abbrev target : GuestsNow
+  target = restored_guests i
+
+  abbrev base : State
+  base = shown_handoff w
+
+  over : OpensAlike base w.handoff
+  over = opens_alike (seated_files w.handoff w.guests) w.handoff
+
+  seated : AreSeated (board_at base.functions) target
+  seated = subst (λ (b : Board). AreSeated b target) (sym over.board) fits.seated
+
+  served : AreServed base target
+  served = served_alike w.handoff base (record { board = sym over.board; opens = λ p r. sym (over.opens p r) }) target fits.served
+
+  abbrev taking : List Request
+  taking = all_takings (names_now w)
+
+  abbrev giving : List Request
+  giving = all_gifts base target seated served i.guests
+
+  abbrev loading : List Request
+  loading = map load_of i.guests
+
+  -- the slots are empty
+  abbrev x : WorldNow
+  x = after_requests w taking
+
+  taken : HaveTaken 32 w x (names_now w)
+  taken = all_emptied (names_now w) w h
+
+  nobody_there : (p : Path) → sits x.guests p ≡ false
+  nobody_there p = none_sits x.guests p taken.emptied.lawful.seated.names_apart (λ a m. nobody_has w x taken a m p)
+
+  shown_there : IsShown x
+  shown_there = nobody_seated x.handoff x.guests nobody_there
+
+  names_there : names_of target ≡ names_now w
+  names_there = names_restored i.guests ∙ fits.names
+
+  start : IsFilled base target seated served x
+  start = record {
+    lawful = taken.emptied.lawful;
+    shown = shown_there;
+    beneath = ap (λ (s : State). with_seated_reset s target) (sym shown_there ∙ taken.emptied.shown);
+    names = taken.emptied.names ∙ sym names_there;
+    within = λ a k q at. absurd (nobody_has w x taken a k q at);
+  }
+
+  apart : ApartSaved i.guests
+  apart = saved_apart i.guests fits.seated.names_apart
+
+  wanted : Each (IsWanted base target seated served) i.guests
+  wanted =
+      each_map (IsFound target) (IsWanted base target seated served) i.guests (λ s e. (ap is_some e, λ k. ap (λ (o : Option GuestNow). path_of o k) e))
+      (each_found i.guests apart)
+
+  -- the slots are filled
+  abbrev y : WorldNow
+  y = after_requests x giving
+
+  given : FillGuests base target seated served x y i.guests
+  given = guests_filled base target seated served i.guests x start wanted
+
+  filled : IsFilled base target seated served y
+  filled = given.fills.filled
+
+  has_just : Each (HasJust y.guests) i.guests
+  has_just =
+      each_map (λ (s : SavedGuest). IsWanted base target seated served s × HasAll base target seated served y s) (HasJust y.guests) i.guests
+      (λ s h k. either_way (path_in y.guests s.name k) (path_at (paths_of s) k) (λ q at. sym (h.0.1 k) ∙ filled.within s.name k q at) (h.1 k))
+      (each_both (IsWanted base target seated served) (HasAll base target seated served y) i.guests wanted given.has)
+
+  matched_there : AreMatched i.guests y.guests
+  matched_there =
+      matched i.guests y.guests (sym (names_restored i.guests) ∙ sym filled.names) apart
+      (each_map (IsSeatedGuest (board_at y.handoff.functions)) Has32 y.guests (λ t k. k.count) filled.lawful.seated.guests)
+      (each_32 (board_at base.functions) i.guests seated.guests) has_just
+
+  handoff_is : y.handoff ≡ handoff_under i w
+  handoff_is = sym filled.shown ∙ sits_alike y.handoff y.guests target (matched_sit i.guests y.guests matched_there) ∙ filled.beneath
+
+  board_is : board_at y.handoff.functions ≡ board_at base.functions
+  board_is = ap (λ (s : State). board_at s.functions) handoff_is ∙ (opens_alike (seated_files base target) base).board
+
+  own_fit : Each (FitsOwn y.guests) i.guests
+  own_fit =
+      all_fit (board_at base.functions) i.guests y.guests matched_there apart (subst (λ (b : Board). Each (IsSeatedGuest b) y.guests) board_is filled.lawful.seated.guests)
+      seated.guests fits.held
+
+  loaded_there : after_requests y loading ≡ after_load_all i w
+  loaded_there =
+      loads_are i.guests y ∙ ap₂ (λ (s : State) (gs : GuestsNow). record { handoff = s; guests = gs }) handoff_is (all_loaded i.guests y.guests matched_there apart)
+
+  pub is_reached : IsReached i w
+  is_reached = record {
+    fitting = both_fit taking (giving ++ loading) w (all_takings_fit (names_now w) w)
+        (both_fit giving loading x (all_gifts_fit base target seated served i.guests x) (loads_fit i.guests y apart own_fit));
+    world = after_both taking (giving ++ loading) w ∙ after_both giving loading x ∙ loaded_there;
+  }
+
+pub loads_all_by_requests : LoadsAllByRequests
+loads_all_by_requests = is_reached
+
+pub lawful_after_load_all : LawfulAfterLoadAll
+lawful_after_load_all i w h fits =
+    let reached = is_reached i w h fits in
+    subst IsLawfulOver reached.world (lawful_along_requests w h (requests_for i w) reached.fitting)
+
+pub fitting_after_load_all : FittingAfterLoadAll
+fitting_after_load_all i w h holds fits =
+    let reached = is_reached i w h fits in
+    subst (λ (v : WorldNow). AreFitting v.guests) reached.world (fitting_along w holds (requests_for i w) reached.fitting)
+
+pub savable_after_load_all : SavableAfterLoadAll
+savable_after_load_all i w h fits = record {
+  lawful = lawful_after_load_all i w h.lawful fits;
+  shown = (shown_after_load_all i w fits).shown;
+  shapes = shapes_stay (shown_handoff w) (board_stays w.handoff h.lawful.handoff.board w.guests) (shapes_stay w.handoff h.lawful.handoff.board h.shapes w.guests) (restored_guests i);
+}
+
+pub loads_all_on_machine : LoadsAllOnMachine
+loads_all_on_machine i m h fits = world_along (requests_for i m.world) m ∙ (is_reached i m.world h fits).world

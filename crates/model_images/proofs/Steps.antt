@@ -1,0 +1,208 @@
+-- The steps by which a function is loaded, as segments of its file.
+use Rattle.std.proofs.Common.{◌≡◌, ℕ, zero, suc, ◌+◌, ◌*◌, ◌≤◌, List, [], ◌∷◌, ◌++◌, length, refl, sym, ap, ◌∙◌, subst, arith}
+use Rattle.std.specs.Prelude.{take, drop, flat_map, true, false}
+use Rattle.std.proofs.lemmas.List.{append_assoc, drop-drop}
+use Rattle.lists.specs.Elements.{Each, EachPair}
+use Rattle.lists.proofs.Tests.{right_true}
+use Rattle.model_registers.specs.Cell.{Cell}
+use Rattle.model_registers.specs.Registers.{Place, config, block, after, File, field, cells_from}
+use Rattle.model_registers.specs.Declarations.{Region, ConfigBlock, Endpoint, IsLawfulRegion}
+use Rattle.model_registers.specs.EndpointTable.{base_register, base_cells, region_cells, block_cells, header_type, header_cells, endpoint_reset}
+use Rattle.model_registers.specs.CopiedFiles.{places_of}
+use Rattle.model_guests.proofs.DistinctPlaces.{Apart, distinct_places}
+use Rattle.model_images.specs.Images.{with_values, can_hold, fit_cells}
+use Rattle.model_images.specs.StepLaws.{put_run, header_steps, blocks_steps, blocks_size, base_size, region_steps, regions_steps, steps, LoadsBySteps}
+use Rattle.model_images.proofs.Settling.{keeps, writes, puts, from, AreNoDeviceBytes, kept_field, written_field, put_cells, no_device_bytes}
+use Rattle.model_images.proofs.Runs.{Segment, IsSegment, cells_of, segment_steps, steps_settle}
+
+-- ---- the segments
+
+-- a register that no step reaches
+abbrev kept : ℕ → ℕ → ℕ → Segment
+kept a n v = record { way = keeps; first = config a; count = n; file = field (config a) n v 0 0 }
+
+abbrev settable : ℕ → ℕ → ℕ → Segment
+settable a n rw = record { way = writes; first = config a; count = n; file = field (config a) n 0 rw 0 }
+
+abbrev status : Endpoint → Segment
+status d = record { way = puts; first = config 0x06; count = 2; file = field (config 0x06) 2 d.status 0 0xf900 }
+
+-- 00h to 07h
+abbrev first_segments : Endpoint → List Segment → List Segment
+first_segments d more = kept 0x00 2 d.vendor ∷ kept 0x02 2 d.device ∷ settable 0x04 2 0x0547 ∷ status d ∷ more
+
+-- 08h to 0Eh
+abbrev class_segments : Endpoint → List Segment → List Segment
+class_segments d more = kept 0x08 1 d.revision ∷ kept 0x09 3 d.class ∷ settable 0x0c 2 0xffff ∷ kept 0x0e 1 (header_type 0 false) ∷ more
+
+-- 2Ch to 3Fh
+abbrev last_segments : Endpoint → List Segment → List Segment
+last_segments d more =
+    kept 0x2c 2 d.subvendor ∷ kept 0x2e 2 d.subsystem ∷ settable 0x3c 1 0xff ∷ kept 0x3d 1 d.pin ∷ kept 0x3e 1 d.min_gnt ∷ kept 0x3f 1 d.max_lat ∷ more
+
+abbrev header_segments : Endpoint → List Segment → List Segment
+header_segments d more = first_segments d (class_segments d (last_segments d more))
+
+abbrev block_segment : ConfigBlock → Segment
+block_segment b = record { way = puts; first = config b.offset; count = length b.cells; file = block_cells b }
+
+abbrev base_segment : Region → Segment
+base_segment r = record { way = writes; first = base_register r.index; count = base_size r; file = base_cells r.index r.kind r.size 0 }
+
+abbrev bytes_segment : Region → Segment
+bytes_segment r = record { way = puts; first = block r.index 0; count = length r.cells; file = cells_from (block r.index 0) r.cells }
+
+abbrev region_segments : List Region → List Segment
+region_segments [] = []
+region_segments (r ∷ rs) = base_segment r ∷ bytes_segment r ∷ region_segments rs
+
+abbrev block_segments : List ConfigBlock → List Segment → List Segment
+block_segments [] more = more
+block_segments (b ∷ bs) more = block_segment b ∷ block_segments bs more
+
+abbrev segments : Endpoint → List Segment
+segments d = header_segments d (block_segments d.blocks (region_segments d.regions))
+
+-- ---- they are all cells
+
+regions_are : (rs : List Region) → cells_of (region_segments rs) ≡ flat_map (region_cells (λ r. 0)) rs
+regions_are [] = refl
+regions_are (r ∷ rs) =
+    let base : File = base_cells r.index r.kind r.size 0 in
+    let bytes : File = cells_from (block r.index 0) r.cells in
+    ap (λ (x : File). base ++ (bytes ++ x)) (regions_are rs) ∙ sym (append_assoc base bytes (flat_map (region_cells (λ r. 0)) rs))
+
+blocks_are : (bs : List ConfigBlock) (more : List Segment) → cells_of (block_segments bs more) ≡ flat_map block_cells bs ++ cells_of more
+blocks_are [] more = refl
+blocks_are (b ∷ bs) more =
+    ap (λ (x : File). block_cells b ++ x) (blocks_are bs more) ∙ sym (append_assoc (block_cells b) (flat_map block_cells bs) (cells_of more))
+
+header_is : (d : Endpoint) (more : List Segment) → cells_of (header_segments d more) ≡ header_cells d false 0 ++ cells_of more
+header_is d more = refl
+
+cells_are : (d : Endpoint) → cells_of (segments d) ≡ endpoint_reset d false
+cells_are d =
+    let header : File = header_cells d false 0 in
+    let blocks : File = flat_map block_cells d.blocks in
+    let regions : File = flat_map (region_cells (λ r. 0)) d.regions in
+    header_is d (block_segments d.blocks (region_segments d.regions))
+    ∙ ap (λ (x : File). header ++ x) (blocks_are d.blocks (region_segments d.regions) ∙ ap (λ (x : File). blocks ++ x) (regions_are d.regions))
+    ∙ sym (append_assoc header blocks regions)
+
+-- ---- each is a segment
+
+field_places : (p : Place) (n v rw w1c : ℕ) → places_of (field p n v rw w1c) ≡ from p n
+field_places p zero v rw w1c = refl
+field_places p (suc n) v rw w1c = ap (λ (ps : List Place). p ∷ ps) (field_places (after p) n _ _ _)
+
+cells_places : (p : Place) (cs : List Cell) → places_of (cells_from p cs) ≡ from p (length cs)
+cells_places p [] = refl
+cells_places p (c ∷ cs) = ap (λ (ps : List Place). p ∷ ps) (cells_places (after p) cs)
+
+kept_is : (a n v : ℕ) → AreNoDeviceBytes (config a) n → IsSegment (kept a n v)
+kept_is a n v none = record { places = field_places (config a) n v 0 0; settles = kept_field a n v none }
+
+settable_is : (a n rw : ℕ) → AreNoDeviceBytes (config a) n → IsSegment (settable a n rw)
+settable_is a n rw none = record { places = field_places (config a) n 0 rw 0; settles = written_field a n 0 rw none }
+
+block_is : (b : ConfigBlock) → IsSegment (block_segment b)
+block_is b = record { places = cells_places (config b.offset) b.cells; settles = put_cells (block_cells b) }
+
+base_is : (r : Region) → IsLawfulRegion r → IsSegment (base_segment r)
+base_is r lawful = record {
+  places = field_places (base_register r.index) (base_size r) _ _ 0;
+  settles = written_field (0x10 + 4 * r.index) (base_size r) _ _ (no_device_bytes (0x10 + 4 * r.index) (base_size r) (omega arith) (omega (arith, lawful.registers)));
+}
+
+bytes_is : (r : Region) → IsSegment (bytes_segment r)
+bytes_is r = record { places = cells_places (block r.index 0) r.cells; settles = put_cells (cells_from (block r.index 0) r.cells) }
+
+regions_settle : (rs : List Region) → Each IsLawfulRegion rs → Each IsSegment (region_segments rs)
+regions_settle [] lawful = tt
+regions_settle (r ∷ rs) lawful = (base_is r lawful.0, (bytes_is r, regions_settle rs lawful.1))
+
+blocks_settle : (bs : List ConfigBlock) (more : List Segment) → Each IsSegment more → Each IsSegment (block_segments bs more)
+blocks_settle [] more are = are
+blocks_settle (b ∷ bs) more are = (block_is b, blocks_settle bs more are)
+
+status_is : (d : Endpoint) → IsSegment (status d)
+status_is d = record { places = refl; settles = put_cells (status d).file }
+
+first_settle : (d : Endpoint) (more : List Segment) → Each IsSegment more → Each IsSegment (first_segments d more)
+first_settle d more are =
+    (kept_is 0x00 2 d.vendor (refl, (refl, tt)), (kept_is 0x02 2 d.device (refl, (refl, tt)), (settable_is 0x04 2 0x0547 (refl, (refl, tt)), (status_is d, are))))
+
+class_settle : (d : Endpoint) (more : List Segment) → Each IsSegment more → Each IsSegment (class_segments d more)
+class_settle d more are =
+    let end : Each IsSegment (kept 0x0e 1 (header_type 0 false) ∷ more) = (kept_is 0x0e 1 (header_type 0 false) (refl, tt), are) in
+    (kept_is 0x08 1 d.revision (refl, tt), (kept_is 0x09 3 d.class (refl, (refl, (refl, tt))), (settable_is 0x0c 2 0xffff (refl, (refl, tt)), end)))
+
+last_settle : (d : Endpoint) (more : List Segment) → Each IsSegment more → Each IsSegment (last_segments d more)
+last_settle d more are =
+    let end : Each IsSegment (kept 0x3d 1 d.pin ∷ kept 0x3e 1 d.min_gnt ∷ kept 0x3f 1 d.max_lat ∷ more) =
+    (kept_is 0x3d 1 d.pin (refl, tt), (kept_is 0x3e 1 d.min_gnt (refl, tt), (kept_is 0x3f 1 d.max_lat (refl, tt), are))) in
+    (kept_is 0x2c 2 d.subvendor (refl, (refl, tt)), (kept_is 0x2e 2 d.subsystem (refl, (refl, tt)), (settable_is 0x3c 1 0xff (refl, tt), end)))
+
+header_settles : (d : Endpoint) (more : List Segment) → Each IsSegment more → Each IsSegment (header_segments d more)
+header_settles d more are = first_settle d (class_segments d (last_segments d more)) (class_settle d (last_segments d more) (last_settle d more are))
+
+-- ---- their steps are the steps
+
+region_steps_are : (rs : List Region) (vs : List ℕ) (file : File) → segment_steps (region_segments rs) vs file ≡ regions_steps rs vs file
+region_steps_are [] vs file = refl
+region_steps_are (r ∷ rs) vs file =
+    region_steps_are rs (drop (length r.cells) (drop (base_size r) vs)) (region_steps r vs file)
+    ∙ ap (λ (x : List ℕ). regions_steps rs x (region_steps r vs file)) (drop-drop (length r.cells) (base_size r) vs)
+
+block_steps_are : (bs : List ConfigBlock) (rs : List Region) (vs : List ℕ) (file : File)
+    → segment_steps (block_segments bs (region_segments rs)) vs file ≡ regions_steps rs (drop (blocks_size bs) vs) (blocks_steps bs vs file)
+block_steps_are [] rs vs file = region_steps_are rs vs file
+block_steps_are (b ∷ bs) rs vs file =
+    block_steps_are bs rs (drop (length b.cells) vs) (put_run (take (length b.cells) vs) (config b.offset) file)
+    ∙ ap (λ (x : List ℕ). regions_steps rs x (blocks_steps bs (drop (length b.cells) vs) (put_run (take (length b.cells) vs) (config b.offset) file))) (drop-drop (blocks_size bs) (length b.cells) vs)
+
+abbrev first_of : List ℕ → ℕ
+first_of [] = 0
+first_of (v ∷ vs) = v
+
+abbrev rest_of : List ℕ → List ℕ
+rest_of [] = []
+rest_of (v ∷ vs) = vs
+
+-- the first n of a list written out
+abbrev spelled : ℕ → List ℕ → List ℕ
+spelled zero vs = vs
+spelled (suc n) vs = first_of vs ∷ spelled n (rest_of vs)
+
+spelled_is : (n : ℕ) (vs : List ℕ) → n ≤ length vs → spelled n vs ≡ vs
+spelled_is zero vs long = refl
+spelled_is (suc n) [] long = absurd (omega (arith, long))
+spelled_is (suc n) (v ∷ vs) long = ap (λ (x : List ℕ). v ∷ x) (spelled_is n vs (omega arith))
+
+steps_are : (d : Endpoint) (vs : List ℕ) (file : File) → 23 ≤ length vs → segment_steps (segments d) vs file ≡ steps d vs file
+steps_are d vs file long =
+    subst (λ (x : List ℕ). segment_steps (segments d) x file ≡ steps d x file) (spelled_is 23 vs long)
+    (block_steps_are d.blocks d.regions (drop 23 xs) (header_steps xs file)
+    ∙ ap (λ (x : List ℕ). regions_steps d.regions x (blocks_steps d.blocks (drop 23 xs) (header_steps xs file))) (drop-drop (blocks_size d.blocks) 23 xs))
+  where
+    xs : List ℕ
+    xs = spelled 23 vs
+
+-- ---- so what is loaded comes about by them
+
+fits_length : (file : File) (vs : List ℕ) → fit_cells file vs ≡ true → length vs ≡ length file
+fits_length [] [] h = refl
+fits_length [] (v ∷ vs) h = cc
+fits_length (e ∷ es) [] h = cc
+fits_length (e ∷ es) (v ∷ vs) h = ap (λ n. suc n) (fits_length es vs (right_true (can_hold e v) (fit_cells es vs) h))
+
+pub loads_by_steps : LoadsBySteps
+loads_by_steps s lawful low fits =
+    let d : Endpoint = s.decl in
+    let long : 23 ≤ length s.values = omega (arith, fits_length (endpoint_reset d false) s.values fits) in
+    let is = cells_are d in
+    let settled : Each IsSegment (segments d) = header_settles d (block_segments d.blocks (region_segments d.regions)) (blocks_settle d.blocks (region_segments d.regions) (regions_settle d.regions lawful.regions.each)) in
+    let apart : EachPair Apart (places_of (cells_of (segments d))) = subst (λ (x : File). EachPair Apart (places_of x)) (sym is) (distinct_places d lawful false 0 (λ r. 0)) in
+    sym (steps_are d s.values (endpoint_reset d false) long)
+    ∙ subst (λ (x : File). segment_steps (segments d) s.values x ≡ with_values s.values x) is
+    (steps_settle (segments d) s.values settled apart (ap (λ (x : File). fit_cells x s.values) is ∙ fits) low)
