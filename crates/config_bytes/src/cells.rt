@@ -85,6 +85,21 @@ fn is_free(off: u16, cells: &[(u16, Cell)]) -> bool
     cells.iter().all(|(other, _)| off != *other)
 }
 
+/// The same, asked of the cell at the index `off` first. In a region's block, whose cells stand one after the
+/// other from 0 on, it stands at this offset: then the others are not looked at.
+fn is_gap(off: u16, cells: &[(u16, Cell)]) -> bool
+    ensures { result ≡ list_all (λ c. not (off == c.0)) cells.now }
+{
+    let at = usize::from(off);
+    if at < cells.len() {
+        let (other, _) = cells[at];
+        if other == off {
+            return false;
+        }
+    }
+    is_free(off, cells)
+}
+
 /// Whether each cell's offset is free of the later ones.
 fn offsets_differ(cells: &[(u16, Cell)]) -> bool
     ensures { result ≡ all_pairs differ cells.now }
@@ -232,7 +247,7 @@ impl Cells {
         ensures places { IsConfigFile self.new.now }
         ensures kept { KeepsPlaces self.new }
     {
-        if is_free(off, &self.initial) {
+        if is_gap(off, &self.initial) {
             return;
         }
         let at = usize::from(off);
