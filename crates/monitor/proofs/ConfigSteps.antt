@@ -69,7 +69,7 @@ module _ {w : WorldNow} {h : HostState} {names : List Text} {gs : List Guest} {i
     }
 
     -- an access to the slot lands there
-    lands : (off : ℕ) → landing (lone_nth w i).slots (configuration n off) ≡ Some (record { slot = n; place = config off })
+    pub lands : (off : ℕ) → landing (lone_nth w i).slots (configuration n off) ≡ Some (record { slot = n; place = config off })
     lands off = ap (λ (o : Option Function). cond (is_some o) (Some (let l : Landing = record { slot = n; place = config off } in l)) None) slot.function
 
     pub config_changes : (off width v : ℕ) → changes_at (lone_nth w i) (writes v) width (at_target (configuration n off)) ≡ any_tells width (config off)

@@ -103,7 +103,7 @@ module _ {w : WorldNow} {h : HostState} {names : List Text} {gs : List Guest} {i
     found_on_board = found_at on_board functions held.index distinct board_row
 
     -- the host has the endpoint, and its cells
-    held_row : slice_get h.state.functions held.index ≡ Some on_board
+    pub held_row : slice_get h.state.functions held.index ≡ Some on_board
     held_row = ap (λ (s : State). slice_get s.functions held.index) at.kept.agrees ∙ board_row
 
     pub endpoint_held : IsSome (endpoint_nth h.state.functions held.index)

@@ -2,11 +2,12 @@
 --     restarted_to n fs      slots of which those below n are at reset
 --     one_more, all_restarted      one slot more, and all of them
 --     lone_set, set_again      a guest that holds something else, and then something else again
+--     none_set      an empty slot that is left empty
 --     kept_one, kept_none      a world that is kept, after the reset of a function in a slot, and of no function in it
 --     restarted_is      a guest of a world at reset
 --     slots_restarted, latch_cleared      the world with such slots of it, or with its latch clear
 --     goes_on, ends, both, kept_clear      slot after slot, to the last; and the latch before them
---     restarted      the machine after the call
+--     requested, restarted      the machine after a call that counts this guest alone, and after the restart
 use Rattle.std.proofs.Common.{◌≡◌, ◌≤◌, ◌<◌, ◌+◌, ◌&&◌, ℕ, zero, suc, Bool, true, List, [], ◌∷◌, length, Some, None, Option, slice_get, slice_set, refl, sym, ap, ap₂, ◌∙◌, subst, arith}
 use Rattle.std.specs.Prelude.{map, unwrap_or}
 use Rattle.std.specs.Option.{option_map_or}
@@ -27,7 +28,7 @@ use Rattle.model_images.specs.Images.{Image, after_restart, at_reset, function_a
 use Rattle.model_images.specs.Requests.{restarts}
 use Rattle.model_images.specs.RequestLaws.{after_request_on_machine}
 use Rattle.model_images.proofs.Loading.{lone_reset_back}
-use Rattle.model_handoff.specs.Changes.{after_change, MachineNow}
+use Rattle.model_handoff.specs.Changes.{after_change, counts_where, MachineNow}
 use Rattle.host_bridge.specs.HostState.{HostState}
 use Rattle.monitor.specs.declared.guest.Held.{Held}
 use Rattle.monitor.specs.declared.guest.Guest.{Guest}
@@ -70,7 +71,7 @@ one_set (suc n) [] = refl
 one_set (suc n) (f ∷ fs) = ap (λ (xs : Slots). function_at_reset f ∷ xs) (one_set n fs)
 
 -- an empty slot is left empty
-none_set : {A : Type 0} (xs : List (Option A)) (n : ℕ) → unwrap_or (slice_get xs n) None ≡ None → slice_set xs n None ≡ xs
+pub none_set : {A : Type 0} (xs : List (Option A)) (n : ℕ) → unwrap_or (slice_get xs n) None ≡ None → slice_set xs n None ≡ xs
 none_set xs n h = ap (slice_set xs n) (sym h ∙ unwrap_or-slice_get xs n None) ∙ set-get_or xs n None
 
 abbrev pub restarted_lone : ℕ → LoneGuest → LoneGuest
@@ -191,12 +192,17 @@ module _ {w : WorldNow} {h : HostState} {names : List Text} {gs : List Guest} {i
 -- ---- a call that puts a guest to reset
 
 module _ {h : HostState} {names : List Text} {gs : List Guest} (sound : IsSound h names gs) {now : MachineNow} (view : machine_shown h names gs ≡ now) (i : ℕ) (inside : i < length now.world.guests) where
-  pub restarted : {new : HostState} {back : List Guest} → Leaves (after_restart (name_nth now.world i) now.world) h new names back → counts_of back ≡ counted_nth i true (counts_of gs)
-      → machine_shown new names back ≡ after_request_on_machine now (restarts (name_nth now.world i))
-  restarted {new} {back} left counts =
+  -- to which a request that changes it alone comes
+  pub requested : {v : WorldNow} {new : HostState} {back : List Guest} → Leaves v h new names back → counts_of back ≡ counted_nth i true (counts_of gs)
+      → machine_shown new names back ≡ (let m : MachineNow = record { world = v; counts = counts_where (bytes_eq (name_nth now.world i)) (names_now now.world) now.counts } in m)
+  requested {v} {new} {back} left counts =
       let kept = kept_in sound view in
       let name : Text = name_nth now.world i in
       ap₂ (λ (v : WorldNow) (ns : List ℕ). let m : MachineNow = record { world = v; counts = ns } in m) left.world
       (counts ∙ ap (counted_nth i true) (ap (λ (m : MachineNow). m.counts) view)
       ∙ counted_one now.world.guests kept.lawful.seated.names_apart i _ (nth_stands now.world i inside) true now.counts
       ∙ counts_alike (λ x. bytes_eq name x && true) (bytes_eq name) (λ x. and_true (bytes_eq name x)) (names_now now.world) now.counts)
+
+  pub restarted : {new : HostState} {back : List Guest} → Leaves (after_restart (name_nth now.world i) now.world) h new names back → counts_of back ≡ counted_nth i true (counts_of gs)
+      → machine_shown new names back ≡ after_request_on_machine now (restarts (name_nth now.world i))
+  restarted left counts = requested left counts

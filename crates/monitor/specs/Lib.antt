@@ -17,3 +17,5 @@ pub mod FunctionsTold
 pub mod Seatings
 pub mod ShownImages
 pub mod Restarts
+pub mod Loadings
+pub mod Loads

@@ -30,9 +30,9 @@ pub(crate) fn counted(count: u64, changes: bool) -> u64
 }
 
 impl<R: Route> Engine<R> {
-    /// How often it came, by an access of a guest, a move, a reset, a restart, a gift or a taking, that a region
-    /// of a function in a slot of the guest may stand elsewhere. So while this stays, each answer of `region` for
-    /// the guest stays. It goes on from 0 after 2^64 - 1.
+    /// How often it came, by an access of a guest, a move, a reset, a load, a restart, a gift or a taking, that a
+    /// region of a function in a slot of the guest may stand elsewhere. So while this stays, each answer of
+    /// `region` for the guest stays. It goes on from 0 after 2^64 - 1.
     pub fn changed(&self, guest: usize) -> u64
         requires { guest < length self.now.world.guests }
         ensures { slice_get self.now.counts guest ≡ Some result }

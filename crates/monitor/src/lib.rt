@@ -28,6 +28,8 @@ mod guest;
 mod handover;
 mod landing;
 mod latch;
+mod loading;
+mod loads;
 mod locating;
 mod monitor;
 mod moving;

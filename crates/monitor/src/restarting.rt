@@ -63,7 +63,7 @@ fn clear_latch(guests: &mut [Guest], guest: usize)
 }
 
 /// Resets all functions of a guest and its latch, and counts the guest once.
-fn restart(host: &mut Host, guests: &mut [Guest], guest: usize)
+pub(crate) fn restart(host: &mut Host, guests: &mut [Guest], guest: usize)
     requires { HasSlot guests.old guest 31 }
     ensures kept { (w : WorldNow) (names : List Text) → IsKept w host.old names guests.old
         → IsKept (with_lone_nth guest (at_reset (lone_nth w guest)) w) host.new names guests.new }

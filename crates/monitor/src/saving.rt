@@ -1,10 +1,13 @@
 //! Images of guests: how many bytes a guest's image has, writing it into a buffer, and whether bytes can be loaded
 //! into a guest. No call takes memory.
 ghost use Rattle.std.specs.Prelude.{◌≡◌, ◌≤◌, ◌<◌, ◌+◌, [], Ok, Err, IfErr, IfOk, length, map, option_map};
+ghost use Rattle.lists.specs.Elements.{Each};
 ghost use Rattle.model_guests.specs.Guests.{lone_of};
 ghost use Rattle.model_images.specs.Images.{image_of_guest, image_of_lone};
+ghost use Rattle.model_image_bytes.specs.ByteLaws.{AreBytes};
 ghost use Rattle.model_image_bytes.specs.ImageBytes.{image_bytes};
 ghost use Rattle.model_image_bytes.specs.LoadedBytes.{after_image, after_slot, after_slots, load_fault};
+ghost use Rattle.model_image_bytes.specs.TakenBytes.{HoldsDeclared};
 ghost use Rattle.image_bytes.specs.Faults.{number_of};
 ghost use Rattle.image_bytes.specs.Puts.{put};
 ghost use Rattle.function_images.specs.Shown.{seen};
@@ -23,7 +26,7 @@ use image_bytes::{
 };
 
 /// The function in a slot, as its guest has it: the board's endpoint with the guest's own copies.
-fn slot_shown<'a>(
+pub(crate) fn slot_shown<'a>(
     host: &'a Host,
     slot: &'a Option<Held>,
 ) -> Option<(&'a EndpointFn, &'a VirtualFunction)>
@@ -112,12 +115,14 @@ fn put_image(host: &Host, guest: &Guest, out: &mut [u8])
 }
 
 /// The bytes after those of a slot. Refuses too few bytes, a value that its cell can't hold, and a
-/// slot that is filled otherwise.
+/// slot that is filled otherwise. Where it takes them, a declaration in the slot can be written.
 fn after_slot<'a>(host: &Host, slot: &Option<Held>, bytes: &'a [u8]) -> Result<&'a [u8], ImageFault>
     ensures left { let f = slot_shown host.now.state.functions slot.now in
         IfOk result (λ rest. after_slot f bytes.now ≡ Ok rest.now) }
     ensures refused { let f = slot_shown host.now.state.functions slot.now in
         IfErr result (λ why. after_slot f bytes.now ≡ Err (number_of why)) }
+    ensures declared { let f = slot_shown host.now.state.functions slot.now in
+        IfOk result (λ _. HoldsDeclared f) }
 {
     match slot_shown(host, slot) {
         Some((endpoint, _)) => after_function(endpoint, bytes),
@@ -131,6 +136,8 @@ fn compare_slots(host: &Host, slots: &[Option<Held>], bytes: &[u8]) -> Result<()
         IfOk result (λ _. after_slots fs bytes.now ≡ Ok []) }
     ensures refused { let fs = map (slot_shown host.now.state.functions) slots.now in
         IfErr result (λ why. after_slots fs bytes.now ≡ Err (number_of why)) }
+    ensures declared { let fs = map (slot_shown host.now.state.functions) slots.now in
+        IfOk result (λ _. Each HoldsDeclared fs) }
 {
     let mut left = slots;
     let mut bytes = bytes;
@@ -142,11 +149,14 @@ fn compare_slots(host: &Host, slots: &[Option<Held>], bytes: &[u8]) -> Result<()
 }
 
 /// Refuses bytes that are no image of this guest, whatever its latch and its cells hold.
-fn compare_image(host: &Host, guest: &Guest, bytes: &[u8]) -> Result<(), ImageFault>
+pub(crate) fn compare_image(host: &Host, guest: &Guest, bytes: &[u8]) -> Result<(), ImageFault>
     ensures all { let g = lone_shown host.now.state.functions guest.now in
         IfOk result (λ _. after_image g bytes.now ≡ Ok []) }
     ensures refused { let g = lone_shown host.now.state.functions guest.now in
         IfErr result (λ why. after_image g bytes.now ≡ Err (number_of why)) }
+    ensures declared { let g = lone_shown host.now.state.functions guest.now in
+        IfOk result (λ _. Each HoldsDeclared g.slots) }
+    ensures are_bytes { AreBytes bytes.now }
 {
     let bytes = after_header(bytes)?;
     let (_, bytes) = after_latch(bytes)?;

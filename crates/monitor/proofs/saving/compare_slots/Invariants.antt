@@ -1,6 +1,8 @@
 use Rattle.std.proofs.Common.{◌≡◌, length}
 use Rattle.std.specs.Prelude.{map}
+use Rattle.lists.specs.Elements.{Each}
 use Rattle.model_image_bytes.specs.LoadedBytes.{after_slots}
+use Rattle.model_image_bytes.specs.TakenBytes.{HoldsDeclared}
 use Rattle.monitor.specs.Views.{slot_shown}
 use Rattle.monitor.proofs.saving.compare_slots.Given as goal
 
@@ -8,6 +10,7 @@ use Rattle.monitor.proofs.saving.compare_slots.Given as goal
 abbrev pub invariant-loop-slot : goal.invariant-loop-slot
 invariant-loop-slot l = record {
   same : after_slots (map (slot_shown l.host.state.functions) l.left) l.bytes ≡ after_slots (map (slot_shown l.host.state.functions) l.slots) l.fn.bytes;
+  declared : Each HoldsDeclared (map (slot_shown l.host.state.functions) l.left) → Each HoldsDeclared (map (slot_shown l.host.state.functions) l.slots);
 }
 
 abbrev pub decreases-loop-slot : goal.decreases-loop-slot

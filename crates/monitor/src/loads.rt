@@ -1,0 +1,150 @@
+//! Images that are loaded into guests: slot after slot, and then the latch. No call takes memory.
+ghost use Rattle.std.specs.Prelude.{◌≡◌, ◌<◌, List, ℕ, None, Ok, IsSome, true, length, map, option_map, take, drop};
+ghost use Rattle.model_guests.specs.Slots.{slot_at};
+ghost use Rattle.model_guests.specs.Guests.{lone_of};
+ghost use Rattle.model_images.specs.Images.{lone_of_image};
+ghost use Rattle.model_image_bytes.specs.LoadedBytes.{after_latch, load_fault};
+ghost use Rattle.model_image_bytes.specs.TakenBytes.{le_number, slot_size, taken_image};
+ghost use Rattle.image_bytes.specs.Faults.{number_of};
+ghost use Rattle.monitor.specs.ByIndex.{lone_nth, name_nth, with_lone_nth};
+ghost use Rattle.monitor.specs.Counts.{counts_of, counted_nth};
+ghost use Rattle.monitor.specs.Keeping.{IsKept};
+ghost use Rattle.monitor.specs.Moves.{HasSlot};
+ghost use Rattle.monitor.specs.Views.{slot_shown};
+ghost use Rattle.monitor.specs.Loads.{AreLoadable, CanLoad, IsLoaded, KeepsWorld, Takes, slot_loaded, slots_loaded, value_span};
+
+use crate::engine::Engine;
+use crate::guest::{Guest, Held};
+use crate::latch::write_latch;
+use crate::loading::load_function;
+use crate::restarting::restart;
+use crate::saving::{compare_image, slot_shown};
+use host_bridge::{Host, Route};
+use image_bytes::{ImageFault, after_latch, declaration_size, values_size};
+
+/// So many bytes at the front, or all where they are fewer.
+fn front(bytes: &[u8], count: usize) -> &[u8]
+    ensures { result.now ≡ take count bytes.now }
+{
+    if bytes.len() < count {
+        return bytes;
+    }
+    &bytes[..count]
+}
+
+/// The bytes behind so many, or none where they are fewer.
+fn behind(bytes: &[u8], count: usize) -> &[u8]
+    ensures { result.now ≡ drop count bytes.now }
+{
+    if bytes.len() < count {
+        return &[];
+    }
+    &bytes[count..]
+}
+
+/// How many bytes of a slot stand before its function's values, and how many values there are; None for an empty
+/// slot.
+fn value_span(host: &Host, slots: &[Option<Held>], slot: usize) -> Option<(usize, usize)>
+    ensures { let fs = map (slot_shown host.now.state.functions) slots.now in
+        result ≡ option_map value_span (slot_at fs slot) }
+{
+    let (endpoint, _) = slot_shown(host, slots.get(slot)?)?;
+    let decl = endpoint.decl();
+    Some((1 + declaration_size(decl), values_size(decl)))
+}
+
+/// Loads the function in a slot from the bytes of the slot, which stand at the front, and gives those behind them.
+/// Nobody is counted.
+fn load_slot<'a>(
+    host: &mut Host,
+    guests: &mut [Guest],
+    guest: usize,
+    slot: usize,
+    bytes: &'a [u8],
+) -> &'a [u8]
+    requires there { guest < length guests.old }
+    requires can { (k : KeepsWorld host.old guests.old)
+        × CanLoad (slot_at (lone_nth k.world guest).slots slot) bytes.now }
+    ensures kept { (k : KeepsWorld host.old guests.old)
+        → CanLoad (slot_at (lone_nth k.world guest).slots slot) bytes.now
+        → let loaded = slot_loaded slot bytes.now (lone_nth k.world guest) in
+        IsKept (with_lone_nth guest loaded k.world) host.new k.names guests.new }
+    ensures behind { (k : KeepsWorld host.old guests.old)
+        → result.now ≡ drop (slot_size (slot_at (lone_nth k.world guest).slots slot)) bytes.now }
+    ensures counts { counts_of guests.new ≡ counts_of guests.old }
+{
+    let Some((first, count)) = value_span(host, &guests[guest].slots, slot) else {
+        return behind(bytes, 1);
+    };
+    let bytes = behind(bytes, first);
+    load_function(host, guests, guest, slot, front(bytes, count));
+    behind(bytes, count)
+}
+
+/// The same in each slot of a guest.
+fn load_slots(host: &mut Host, guests: &mut [Guest], guest: usize, bytes: &[u8])
+    requires there { guest < length guests.old }
+    requires can { (k : KeepsWorld host.old guests.old)
+        × AreLoadable (lone_nth k.world guest).slots bytes.now }
+    ensures kept { (k : KeepsWorld host.old guests.old)
+        → AreLoadable (lone_nth k.world guest).slots bytes.now
+        → let loaded = slots_loaded bytes.now (lone_nth k.world guest) in
+        IsKept (with_lone_nth guest loaded k.world) host.new k.names guests.new }
+    ensures counts { counts_of guests.new ≡ counts_of guests.old }
+{
+    let mut left = bytes;
+    for slot in 0..32 {
+        left = load_slot(host, guests, guest, slot, left);
+    }
+}
+
+/// The latch at the front of bytes, where one stands there.
+fn latch_in(bytes: &[u8]) -> u32
+    ensures { (rest : List ℕ) → after_latch bytes.now ≡ Ok rest
+        → result ≡ le_number (take 4 bytes.now) }
+{
+    match after_latch(bytes) {
+        Ok((latch, _)) => latch,
+        Err(_) => 0,
+    }
+}
+
+/// Loads bytes that a guest takes: it goes to reset, which counts it once, and then its functions take their
+/// values, and it its latch.
+fn load_image(host: &mut Host, guests: &mut [Guest], guest: usize, bytes: &[u8])
+    requires has { HasSlot guests.old guest 31 }
+    requires takes { (k : KeepsWorld host.old guests.old)
+        × Takes (lone_nth k.world guest) bytes.now }
+    ensures kept { (k : KeepsWorld host.old guests.old)
+        → Takes (lone_nth k.world guest) bytes.now
+        → let loaded = lone_of_image (taken_image (lone_nth k.world guest) bytes.now) in
+        IsKept (with_lone_nth guest loaded k.world) host.new k.names guests.new }
+    ensures counts { counts_of guests.new ≡ counted_nth guest true (counts_of guests.old) }
+{
+    restart(host, guests, guest);
+    load_slots(host, guests, guest, behind(bytes, 12));
+    write_latch(guests, guest, latch_in(behind(bytes, 8)));
+}
+
+impl<R: Route> Engine<R> {
+    /// Loads a guest from bytes. Its functions and its latch then hold what the image says that these bytes are:
+    /// they come to it from reset, by steps that the guest and its devices can take themselves. The guest is counted
+    /// once, and what others have stays. Or refuses the bytes and changes nothing: 905 where they are no image, or
+    /// 906 for one of other functions than the guest has in its slots; of both, what the first byte that fails
+    /// tells. No memory is taken.
+    pub fn load(&mut self, guest: usize, bytes: &[u8]) -> Option<ImageFault>
+        requires { guest < length self.old.world.guests }
+        ensures fault { let g = lone_of self.old.world.guests (name_nth self.old.world guest) in
+            option_map number_of result ≡ load_fault g bytes.now }
+        ensures refused { IsSome result → self.new ≡ self.old }
+        ensures loaded { result ≡ None
+            → IsLoaded self.old (name_nth self.old.world guest) bytes.now self.new }
+    {
+        let _ = &self.names;
+        if let Err(why) = compare_image(&self.host, &self.guests[guest], bytes) {
+            return Some(why);
+        }
+        load_image(&mut self.host, &mut self.guests, guest, bytes);
+        None
+    }
+}
