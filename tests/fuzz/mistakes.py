@@ -25,13 +25,21 @@ TEXTS = ["x", "a", "host", "A", "", "0.0", "1.0", "01.0", "15.7", "16.0", "1.8",
 OTHERS = ["true", "[1, 2]", '["x"]', "[0x1000, 0x1fff]", "[-4096, 8191]", "[0x100000, 0xffffffff]"]
 
 
+def written(rng, number):
+    """An integer in one of the ways of TOML."""
+    ways = [f"{number}", f"{number:_}"]
+    if number >= 0:
+        ways += [f"+{number}", f"{number:#x}", f"0x{number:06X}", f"{number:#_b}", f"{number:#o}"]
+    return rng.choice(ways)
+
+
 def some_value(rng, old=""):
     """A value as it is written, mostly of the type of the one before."""
     if rng.random() < 0.1:
         old = rng.choice(["1", '"', "["])
     if old.startswith('"'):
         return f'"{rng.choice(TEXTS)}"'
-    return rng.choice(OTHERS) if old.startswith("[") else str(rng.choice(NUMBERS))
+    return rng.choice(OTHERS) if old.startswith("[") else written(rng, rng.choice(NUMBERS))
 
 
 def keys_in(lines):
@@ -49,7 +57,7 @@ def inner_value(rng, lines):
     places = [place for place in keys_in(lines) if "{" in lines[place]]
     if places:
         place = rng.choice(places)
-        found = rng.choice(list(re.finditer(r'(\w+) = (\d+|"\w*")', lines[place])))
+        found = rng.choice(list(re.finditer(r'(\w+) = ([+-]?\d\w*|"\w*")', lines[place])))
         put = "" if rng.random() < 0.1 else f"{found[1]} = {some_value(rng, found[2])}"
         if rng.random() < 0.1:
             put = f"{found[0]}, colour = 1"
@@ -122,6 +130,19 @@ def without_others(text):
     return IN_LINE.sub("", text), [int(line) for line in IN_LINE.findall(text)]
 
 
+VALUE = re.compile(r'([\w.\[\]]+\.(\w+) = )([+-]?\w+)(?=: | of ")')
+
+
+def with_decimal(lines, number, text):
+    """What a line says, with its integer in decimal, if the line of the file has that integer so at the key."""
+    told = VALUE.match(text)
+    if not told:
+        return text
+    if number is None or not re.search(rf"(?<!\w){told[2]} = {re.escape(told[3])}(?!\w)", lines[number - 1]):
+        return f"{text} (not as in line {number})"
+    return f"{told[1]}{int(told[3], 0)}{text[told.end():]}"
+
+
 def differs(lines, told, problems):
     """What is wrong with the lines that a check told, if anything is."""
     where, numbers, wanted = lines_of_keys(lines), [], {problem.text: problem for problem in problems}
@@ -143,16 +164,17 @@ def differs(lines, told, problems):
     return None if numbers == sorted(numbers) else f"order {numbers}"
 
 
-def with_numbers(lines):
-    """Lines of a check, each with the number of its line in the file."""
-    found = [re.match(r"board\.toml(?::(\d+))?: (.*)$", line) for line in lines]
-    return [(int(line[1]) if line[1] else None, line[2]) for line in found]
+def with_numbers(lines, said):
+    """Lines of a check, each with the number of its line in the file, and with its integer in decimal."""
+    found = [re.match(r"board\.toml(?::(\d+))?: (.*)$", line) for line in said]
+    told = [(int(line[1]) if line[1] else None, line[2]) for line in found]
+    return [(number, with_decimal(lines, number, text)) for number, text in told]
 
 
-def told_lines(out):
+def told_lines(lines, out):
     """The lines of a check with their numbers, and the last line."""
-    *lines, count = out.split("\n")[:-1]
-    return with_numbers(lines), count
+    *said, count = out.split("\n")[:-1]
+    return with_numbers(lines, said), count
 
 
 def judged_differs(lines, text, out):
@@ -161,7 +183,7 @@ def judged_differs(lines, text, out):
     said = out.split("\n")[:-1]
     if said[:4] != head:
         return f"{said[:4]}, not {head}"
-    return remarks_differ(lines, with_numbers(said[4:]), warnings)
+    return remarks_differ(lines, with_numbers(lines, said[4:]), warnings)
 
 
 def remarks_differ(lines, told, remarks):
@@ -182,10 +204,12 @@ def misfit_differs(lines, text, number, out):
     if number > 202:
         head, largest, ends = costs(tomllib.loads(text), number)
         told, wanted = [first, *said[len(largest):]], [f"board.toml: {line}" for line in [head, *ends]]
-        return f"{told}, not {wanted}" if told != wanted else remarks_differ(lines, with_numbers(said[:len(largest)]), largest)
+        if told != wanted:
+            return f"{told}, not {wanted}"
+        return remarks_differ(lines, with_numbers(lines, said[:len(largest)]), largest)
     if not first.startswith(f"board.toml: cannot be set up ({number} "):
         return first
-    return remarks_differ(lines, with_numbers(said), reasons(tomllib.loads(text), number))
+    return remarks_differ(lines, with_numbers(lines, said), reasons(tomllib.loads(text), number))
 
 
 class Files:
@@ -227,7 +251,7 @@ class Files:
         if number == 101 and not re.fullmatch(r"board\.toml:\d+: refused \(101 not TOML\)\n", done.stdout):
             self.differ(seed, done.stdout)
         if number > 101:
-            told, count = told_lines(done.stdout)
+            told, count = told_lines(lines, done.stdout)
             wrong = differs(lines, told, problems)
             if wrong or count != (f"{len(told)} problems" if len(told) != 1 else "1 problem"):
                 self.differ(seed, wrong or count)

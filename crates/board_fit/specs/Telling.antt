@@ -25,16 +25,16 @@ use Rattle.board_fit.specs.Warnings.{warnings}
 use Rattle.board_fit.specs.Texts.{entry_of, key_of, label_of, other_of, other_key, said_text}
 use Rattle.board_fit.specs.Misfits.{reasons}
 
-abbrev pub remark_text : List ℕ → Members → Located → List ℕ
-remark_text name ms l =
-    name ++ line_text (line_at l.place) ++ codes ": " ++ label_of l.remark ++ said_text ms l.remark l.other
+abbrev pub remark_text : List ℕ → Members → List ℕ → Located → List ℕ
+remark_text name ms bytes l =
+    name ++ line_text (line_at l.place) ++ codes ": " ++ label_of l.remark ++ said_text ms bytes l
 
 abbrev pub below_remark_text : Members → List ℕ → Located → List ℕ
 below_remark_text ms bytes l = below_text ms bytes (entry_of l.remark) (key_of l.remark) l.place
 
 abbrev pub told_text : Style → List ℕ → Members → List ℕ → Located → List ℕ
-told_text Plain name ms bytes l = remark_text name ms l
-told_text WithExcerpts name ms bytes l = remark_text name ms l ++ below_remark_text ms bytes l
+told_text Plain name ms bytes l = remark_text name ms bytes l
+told_text WithExcerpts name ms bytes l = remark_text name ms bytes l ++ below_remark_text ms bytes l
 
 abbrev pub remark_of : Located → Remark
 remark_of l = l.remark

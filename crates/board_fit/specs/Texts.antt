@@ -15,6 +15,7 @@ use Rattle.diagnostics.specs.Texts.{place_text, other_text}
 use Rattle.diagnostics.specs.declared.entry_places.Other.{Other}
 use Rattle.window_packing.specs.declared.pool.Pool.{Pool}
 use Rattle.window_packing.specs.declared.pool.Pool.TheVariants.{Io, Mem, Pref}
+use Rattle.board_fit.specs.declared.located.Located.{Located}
 use Rattle.board_fit.specs.declared.remark.Remark.{Remark}
 use Rattle.board_fit.specs.declared.remark.Remark.TheVariants as remark
 
@@ -85,5 +86,6 @@ abbrev pub ending_text : Remark → Option Other → List ℕ
 ending_text r o = codes ": " ++ words_of r ++ size_text (size_told r) ++ other_text o ++ codes "\n"
 
 -- ENTRY.KEY = VALUE of OWNER: what is said
-abbrev pub said_text : Members → Remark → Option Other → List ℕ
-said_text ms r o = place_text ms (entry_of r) (key_of r) ++ ending_text r o
+abbrev pub said_text : Members → List ℕ → Located → List ℕ
+said_text ms bytes l =
+    place_text ms bytes (entry_of l.remark) (key_of l.remark) l.place ++ ending_text l.remark l.other

@@ -39,32 +39,41 @@ fn push_words(text: &mut String, remark: Remark, other: Option<Other>) -> Result
 /// Appends the entry that a remark is about, and what is said of it, and ends the line.
 fn push_said(
     text: &mut String,
+    bytes: &[u8],
     document: &Table,
-    remark: Remark,
-    other: Option<Other>,
+    located: &Located,
 ) -> Result<(), AllocError>
     ensures { OnOk result (Adds text.old text.new
-        (said_text (table_view document.now) remark other)) }
+        (said_text (table_view document.now) bytes.now located.now)) }
 {
-    push_place(text, document, remark.entry(), remark.key())?;
-    push_words(text, remark, other)
+    let remark = located.remark;
+    push_place(
+        text,
+        bytes,
+        document,
+        remark.entry(),
+        remark.key(),
+        located.place,
+    )?;
+    push_words(text, remark, located.other)
 }
 
 /// Appends the line of a remark.
 fn push_remark(
     text: &mut String,
     name: &str,
+    bytes: &[u8],
     document: &Table,
     located: &Located,
 ) -> Result<(), AllocError>
     ensures { OnOk result (Adds text.old text.new
-        (remark_text name.now (table_view document.now) located.now)) }
+        (remark_text name.now (table_view document.now) bytes.now located.now)) }
 {
     text.push_str(name)?;
     push_line_number(text, line_at(located.place))?;
     text.push_str(": ")?;
     text.push_str(located.remark.label())?;
-    push_said(text, document, located.remark, located.other)
+    push_said(text, bytes, document, located)
 }
 
 /// Appends what is told of a remark.
@@ -78,7 +87,7 @@ fn push_told(
     ensures { OnOk result (Adds text.old text.new
         (told_text telling.now.style telling.now.name.now (table_view source.now.document.now) source.now.bytes.now located.now)) }
 {
-    push_remark(text, telling.name, source.document, located)?;
+    push_remark(text, telling.name, source.bytes, source.document, located)?;
     let remark = located.remark;
     match telling.style {
         Style::Plain => Ok(()),

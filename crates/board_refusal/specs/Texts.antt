@@ -25,17 +25,17 @@ abbrev pub said_text : File → Told → List ℕ
 said_text f t = words_of t.problem.rule ++ cause_text f t ++ fault_text (fault_of t.problem.rule)
 
 -- FILE:LINE: ENTRY.KEY = VALUE of OWNER: what is wrong (N WORDS)
-abbrev pub problem_text : List ℕ → Members → Told → List ℕ
-problem_text name ms t =
-    name ++ line_text (line_at t.place) ++ codes ": " ++ place_text ms t.problem.entry t.problem.key.now ++ codes ": "
-    ++ said_text (file ms) t
+abbrev pub problem_text : List ℕ → Members → List ℕ → Told → List ℕ
+problem_text name ms bytes t =
+    name ++ line_text (line_at t.place) ++ codes ": "
+    ++ place_text ms bytes t.problem.entry t.problem.key.now t.place ++ codes ": " ++ said_text (file ms) t
 
 abbrev pub below_problem_text : Members → List ℕ → Told → List ℕ
 below_problem_text ms bytes t = below_text ms bytes t.problem.entry t.problem.key.now t.place
 
 abbrev pub told_text : Style → List ℕ → Members → List ℕ → Told → List ℕ
-told_text Plain name ms bytes t = problem_text name ms t
-told_text WithExcerpts name ms bytes t = problem_text name ms t ++ below_problem_text ms bytes t
+told_text Plain name ms bytes t = problem_text name ms bytes t
+told_text WithExcerpts name ms bytes t = problem_text name ms bytes t ++ below_problem_text ms bytes t
 
 -- of a fault of which no entry is told
 abbrev pub bare_text : List ℕ → Option ℕ → BoardFault → List ℕ

@@ -48,12 +48,20 @@ fn push_problem_line(
     told: &Told<'_>,
 ) -> Result<(), AllocError>
     ensures { OnOk result (Adds text.old text.new
-        (problem_text name.now (table_view source.now.document.now) told.now)) }
+        (problem_text name.now (table_view source.now.document.now) source.now.bytes.now told.now)) }
 {
     text.push_str(name)?;
     push_line_number(text, line_at(told.place))?;
     text.push_str(": ")?;
-    push_place(text, source.document, told.problem.entry, told.problem.key)?;
+    let problem = told.problem;
+    push_place(
+        text,
+        source.bytes,
+        source.document,
+        problem.entry,
+        problem.key,
+        told.place,
+    )?;
     text.push_str(": ")?;
     push_said(alloc, text, source, told)
 }

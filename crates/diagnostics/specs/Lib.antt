@@ -7,5 +7,6 @@ pub mod LineParts
 pub mod Characters
 pub mod Excerpts
 pub mod Shown
+pub mod Integers
 pub mod EntryPlaces
 pub mod Texts

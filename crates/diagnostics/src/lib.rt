@@ -7,6 +7,7 @@ mod confirmation;
 mod cuts;
 mod descent;
 mod entry_places;
+mod integers;
 mod line_numbers;
 mod line_parts;
 mod marking;

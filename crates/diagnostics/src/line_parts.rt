@@ -17,7 +17,7 @@ pub(crate) fn first_bytes(text: &[u8], count: usize) -> &[u8]
 }
 
 /// The bytes of a text from an offset on.
-fn bytes_from(text: &[u8], offset: usize) -> &[u8]
+pub(crate) fn bytes_from(text: &[u8], offset: usize) -> &[u8]
     ensures { result.now ≡ drop offset text.now }
 {
     if offset < text.len() {

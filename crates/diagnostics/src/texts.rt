@@ -5,6 +5,7 @@ ghost use Rattle.toml.specs.View.{view, table_view};
 ghost use Rattle.diagnostics.specs.Texts.{key_text, line_text, quoted_text, data_text, scalar_text, name_text, is_own_name, place_text, shown_text, below_text, named_text, other_text};
 
 use crate::entry_places::{Other, line_at};
+use crate::integers::push_integer;
 use crate::place::Place;
 use crate::rows::{push_excerpt, push_line};
 use crate::shown::{push_entry, push_in_line, push_shown};
@@ -45,12 +46,20 @@ fn push_quoted(text: &mut String, quoted: &str) -> Result<(), AllocError>
     text.push('"')
 }
 
-/// Appends an integer or a text, as it was read. Of other values nothing is shown.
-fn push_data(text: &mut String, value: &Value) -> Result<(), AllocError>
-    ensures { OnOk result (Adds text.old text.new (data_text (view value.now))) }
+/// Appends an integer as the file writes it, or a text as it was read. Of other values nothing is shown.
+fn push_data(
+    text: &mut String,
+    bytes: &[u8],
+    place: Option<Place>,
+    value: &Value,
+) -> Result<(), AllocError>
+    ensures { OnOk result (Adds text.old text.new (data_text bytes.now place (view value.now))) }
 {
     match value {
-        Value::Integer(number) => write!(text, " = {number}"),
+        Value::Integer(number) => {
+            text.push_str(" = ")?;
+            push_integer(text, bytes, place, *number)
+        }
         Value::String(quoted) => {
             text.push_str(" = ")?;
             push_quoted(text, quoted.as_str())
@@ -60,12 +69,17 @@ fn push_data(text: &mut String, value: &Value) -> Result<(), AllocError>
 }
 
 /// Appends a value, where there is one.
-fn push_scalar(text: &mut String, value: Option<&Value>) -> Result<(), AllocError>
+fn push_scalar(
+    text: &mut String,
+    bytes: &[u8],
+    place: Option<Place>,
+    value: Option<&Value>,
+) -> Result<(), AllocError>
     ensures { OnOk result (Adds text.old text.new
-        (scalar_text (option_map (λ v. view v.now) value.entry))) }
+        (scalar_text bytes.now place (option_map (λ v. view v.now) value.entry))) }
 {
     match value {
-        Some(value) => push_data(text, value),
+        Some(value) => push_data(text, bytes, place, value),
         None => Ok(()),
     }
 }
@@ -91,20 +105,22 @@ fn is_own_name(key: &str) -> bool
     key == "at" || key == "name"
 }
 
-/// Appends where a problem is: the entry with its key and value, and what it belongs to, unless the value
-/// says that.
+/// Appends where a problem is: the entry with its key and value, as the file writes that at its place, and what it
+/// belongs to, unless the value says that.
 pub fn push_place(
     text: &mut String,
+    bytes: &[u8],
     document: &Table,
     entry: Entry,
     key: &str,
+    place: Option<Place>,
 ) -> Result<(), AllocError>
     ensures { OnOk result (Adds text.old text.new
-        (place_text (table_view document.now) entry key.now)) }
+        (place_text (table_view document.now) bytes.now entry key.now place)) }
 {
     push_entry(text, entry)?;
     push_key(text, key)?;
-    push_scalar(text, value_at(document, entry, key))?;
+    push_scalar(text, bytes, place, value_at(document, entry, key))?;
     if is_own_name(key) {
         return Ok(());
     }
