@@ -8,9 +8,12 @@ _pciguest() {
     check) flags='--all --plain' ;;
     'check --all') flags=--plain ;;
     'check --plain') flags=--all ;;
-    audit | firmware | run) flags=--strict ;;
+    audit) flags='--json --strict' ;;
+    'audit --strict') flags=--json ;;
+    'audit --json' | firmware | run) flags=--strict ;;
     list) flags=--json ;;
-    ready | 'check --all --plain' | 'check --plain --all' | 'audit --strict' | 'firmware --strict' | 'run --strict' | 'list --json') flags='' ;;
+    ready | 'check --all --plain' | 'check --plain --all' | 'audit --json --strict' | 'audit --strict --json') flags='' ;;
+    'firmware --strict' | 'run --strict' | 'list --json') flags='' ;;
     *) return ;;
   esac
   compopt -o filenames 2> /dev/null

@@ -1,6 +1,7 @@
 #!/usr/bin/env python3
 """What the program is asked, and what it has to answer: the demo, the files of tests/rows, the boards and scripts of
-`boards`, and the sessions and audits of the examples, with what stands beside them.
+`boards`, and the sessions and audits of the examples, with what stands beside them. tests/audit_json.py makes of an
+audit's lines what `audit --json` writes.
 
     tests/cases.py PROGRAM [LONE_ANSWERS]
 
@@ -27,6 +28,7 @@ import sys
 import tempfile
 from concurrent.futures import ThreadPoolExecutor
 
+import audit_json
 import report_json
 
 TOP = pathlib.Path(__file__).resolve().parent.parent
@@ -147,6 +149,8 @@ def session():
     for verb in ("audit", "ready"):
         told = [*wanted, f"{verb}: ok"]
         yield Case(f"{verb} examples/session/board.toml < session.script", [verb, *files], script, told, files)
+    words, told = ["audit", "--json", *files], [*wanted, audit_json.text_of(["audit: ok"], board.decode())]
+    yield Case("audit --json examples/session/board.toml < session.script", words, script, told, files)
 
 
 def audits():
@@ -162,6 +166,9 @@ def audits():
         given = b"".join((folder / it).read_bytes() for it in scripts)
         name = f"{verb} examples/audit/board.toml < {' '.join(scripts)}"
         yield Case(name, [verb, *files], given, wanted.splitlines(), files, fault, only=verb)
+        if verb == "audit":
+            as_json = [audit_json.text_of(wanted.splitlines(), files["audit/board.toml"].decode())]
+            yield Case(f"{name}, --json", [verb, "--json", *files], given, as_json, files, only='"problems"')
 
 
 # ---- tests/rows

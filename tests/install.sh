@@ -65,7 +65,10 @@ holds 'a board after both' test "$(completed pciguest check --all --plain "${boa
 holds 'a word of a list' same '--json' completed pciguest list --j
 holds 'a board after this' test "$(completed pciguest list --json "${board%ain.toml}")" = "$board"
 holds 'a word of a run' same '--strict' completed pciguest run --s
-holds 'a board after that' test "$(completed pciguest audit --strict "${board%ain.toml}")" = "$board"
+holds 'a board after that' test "$(completed pciguest run --strict "${board%ain.toml}")" = "$board"
+holds 'words of an audit' same '--json --strict' completed pciguest audit --
+holds 'another word of an audit' same '--json' completed pciguest audit --strict -
+holds 'a board after these' test "$(completed pciguest audit --strict --json "${board%ain.toml}")" = "$board"
 holds 'no board of the demo' same '' completed pciguest demo "${board%ain.toml}"
 # the same of zsh and fish, where they are there; zsh's own functions are stood in for
 if command -v zsh > /dev/null; then
@@ -83,7 +86,10 @@ if command -v zsh > /dev/null; then
   holds 'a board after it in zsh' same '--all chain.toml' in_zsh pciguest check --plain ch
   holds 'a board after both in zsh' same 'chain.toml' in_zsh pciguest check --all --plain ch
   holds 'a word of a run in zsh' same '--strict chain.toml' in_zsh pciguest run ch
-  holds 'a board after that in zsh' same 'chain.toml' in_zsh pciguest audit --strict ch
+  holds 'a board after that in zsh' same 'chain.toml' in_zsh pciguest run --strict ch
+  holds 'words of an audit in zsh' same '--json --strict chain.toml' in_zsh pciguest audit ch
+  holds 'another word of an audit in zsh' same '--strict chain.toml' in_zsh pciguest audit --json ch
+  holds 'a board after these in zsh' same 'chain.toml' in_zsh pciguest audit --json --strict ch
   holds 'no board of the demo in zsh' same '' in_zsh pciguest demo ch
 fi
 if command -v fish > /dev/null; then
@@ -100,7 +106,10 @@ if command -v fish > /dev/null; then
   holds 'a board after it in fish' same 'chain.toml' in_fish 'pciguest check --plain ch'
   holds 'a board after both in fish' same 'chain.toml' in_fish 'pciguest check --all --plain ch'
   holds 'a word of a run in fish' same '--strict' in_fish 'pciguest run -'
-  holds 'a board after that in fish' same 'chain.toml' in_fish 'pciguest audit --strict ch'
+  holds 'a board after that in fish' same 'chain.toml' in_fish 'pciguest run --strict ch'
+  holds 'words of an audit in fish' same '--json --strict' in_fish 'pciguest audit -'
+  holds 'another word of an audit in fish' same '--json' in_fish 'pciguest audit --strict -'
+  holds 'a board after these in fish' same 'chain.toml' in_fish 'pciguest audit --strict --json ch'
   holds 'no board of the demo in fish' same '' in_fish 'pciguest demo ch'
 fi
 

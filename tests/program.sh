@@ -290,13 +290,24 @@ ends_with_fault 'audit --strict, problems and a refused line' '209 refused line'
 full 'audit --strict, problems' audit --strict "$boards/main.toml" < /dev/null
 { section 'firmware.script over main.toml at reset'; echo 'audit: ok'; } > wanted.out
 ends_with 'audit --strict' audit --strict "$boards/main.toml" < "$boards/firmware.script"
+# --json: the same as a JSON object on one line, after what the lines write
+{ section 'firmware.script over main.toml at reset'; echo '{"problems":[]}'; } > wanted.out
+ends_with 'audit --json' audit --json "$boards/main.toml" < "$boards/firmware.script"
+ends_with 'audit, and then both flags' audit "$boards/main.toml" --strict --json < "$boards/firmware.script"
+echo '{"problems":[{"number":{"bus":0,"device":0,"function":0},"path":"2.0/0.0","reached":null,"type":"not found"},{"number":{"bus":0,"device":1,"function":0},"path":"2.0/1.0","reached":"1.0","type":"not found"}]}' > wanted.out
+ends_with 'audit --json, problems' audit --json "$boards/main.toml" < /dev/null
+ends_with_fault 'audit --json --strict, problems' '207 not in order' audit --json --strict "$boards/main.toml" < /dev/null
+full 'audit --json, problems' audit --json "$boards/main.toml" < /dev/null
+fails_with 'audit --json, a faulty file' '107 size' audit --json "$boards/refused/size.toml" < /dev/null
+fails_with 'audit --json, no board' '701 usage' audit --json
+fails_with 'audit --json twice' '701 usage' audit --json --json "$boards/main.toml"
 for verb in run firmware audit; do
   fails_with "$verb --strict, no board" '701 usage' $verb --strict
   fails_with "$verb --strict twice" '701 usage' $verb --strict --strict "$boards/main.toml"
 done
 for verb in list check ready; do fails_with "$verb --strict" '701 usage' $verb --strict "$boards/main.toml"; done
 for verb in list run audit; do fails_with "$verb --all" '701 usage' $verb --all "$boards/main.toml"; done
-for verb in check run ready; do fails_with "$verb --json" '701 usage' $verb --json "$boards/main.toml"; done
+for verb in check run firmware ready; do fails_with "$verb --json" '701 usage' $verb --json "$boards/main.toml"; done
 
 # ---- run: lines at the ends of what a line may say
 longest=$(printf '%190s' '')
@@ -458,7 +469,7 @@ hints "$usage" 'usage: pciguest check [--all] [--plain] BOARD; not taken: --plai
 hints "$usage" 'usage: pciguest check [--all] [--plain] BOARD; not taken: --all' check --all --all board.toml
 hints "$usage" 'usage: pciguest run [--strict] BOARD; not taken: y' run board.toml y
 hints "$usage" 'usage: pciguest firmware [--strict] BOARD' firmware --strict
-hints "$usage" 'usage: pciguest audit [--strict] BOARD; not taken: -s' audit -s board.toml
+hints "$usage" 'usage: pciguest audit [--json] [--strict] BOARD; not taken: -s' audit -s board.toml
 hints "$usage" 'usage: pciguest ready BOARD; not taken: --strict' ready board.toml --strict
 hints '702 board file' "cannot read 'nothing.toml': no such file" list nothing.toml
 hints '702 board file' "cannot read '': no such file" run ''

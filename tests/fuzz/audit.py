@@ -19,6 +19,9 @@ from audited import State, audit
 from board import Bridge, Endpoint, board_file, random_board
 from placement import Refused
 
+sys.path.append(str(Path(__file__).parent.parent))
+import audit_json  # it stands beside, as the gate asks it too
+
 EDGES = [0, 0x10, 0xCF8, 0x1000, 0x2000, 0xF000, 0x100000, 0x80000000, 0xC0000000, 0xFFF00000, 0xFFFFFFF0, 0xFFFFFFFF]
 WINDOWS = [(0x1C, 1), (0x1D, 1), (0x1C, 2), (0x20, 2), (0x22, 2), (0x20, 4), (0x24, 2), (0x26, 2), (0x24, 4), (0x28, 4),
            (0x2C, 4), (0x30, 2), (0x32, 2)]
@@ -179,6 +182,14 @@ def main():
             (folder / "wanted").write_text(wanted)
             (folder / "came").write_bytes(ran.stdout + ran.stderr)
             print(f"seed {seed}: the audit differs, or an answer: see wanted and came in {folder}")
+            sys.exit(1)
+        ran = subprocess.run([chosen.program, "audit", "--json", folder / "board.toml"], input=script.encode(), capture_output=True,
+                             timeout=120)
+        as_json = audit_json.text_of(told, (folder / "board.toml").read_text())
+        if (ran.returncode, ran.stdout.decode().split("\n")[-2:], ran.stderr) != (0, [as_json, ""], b""):
+            (folder / "wanted").write_text(as_json)
+            (folder / "came").write_bytes(ran.stdout + ran.stderr)
+            print(f"seed {seed}: the audit as JSON differs: see wanted and came in {folder}")
             sys.exit(1)
         kinds.update({kind_of(line) for line in told})
         in_order += told == ["audit: ok"]

@@ -40,7 +40,7 @@ taken_by name =
     else if bytes_eq name (codes "check") then codes "check [--all] [--plain] BOARD"
     else if bytes_eq name (codes "run") then codes "run [--strict] BOARD"
     else if bytes_eq name (codes "firmware") then codes "firmware [--strict] BOARD"
-    else if bytes_eq name (codes "audit") then codes "audit [--strict] BOARD"
+    else if bytes_eq name (codes "audit") then codes "audit [--json] [--strict] BOARD"
     else if bytes_eq name (codes "ready") then codes "ready BOARD"
     else any_subcommand
 

@@ -28,7 +28,7 @@ abbrev pub strict_rule : Rule
 strict_rule = record (new_rule (codes "strict")) { long = Some (codes "strict"); action = Some SetTrue }
 
 -- `list [--json] BOARD`, `check [--all] [--plain] BOARD`, `run [--strict] BOARD`, `firmware [--strict] BOARD`,
--- `audit [--strict] BOARD` and `ready BOARD`
+-- `audit [--json] [--strict] BOARD` and `ready BOARD`
 abbrev pub list_shape : Shape
 list_shape = record (new_shape (codes "list")) { rules = json_rule ∷ board_rule ∷ [] }
 
@@ -42,7 +42,7 @@ abbrev pub firmware_shape : Shape
 firmware_shape = record (new_shape (codes "firmware")) { rules = strict_rule ∷ board_rule ∷ [] }
 
 abbrev pub audit_shape : Shape
-audit_shape = record (new_shape (codes "audit")) { rules = strict_rule ∷ board_rule ∷ [] }
+audit_shape = record (new_shape (codes "audit")) { rules = json_rule ∷ strict_rule ∷ board_rule ∷ [] }
 
 abbrev pub ready_shape : Shape
 ready_shape = record (new_shape (codes "ready")) { rules = board_rule ∷ [] }
@@ -66,7 +66,7 @@ with_run_app = with_subcommand with_check_app run_shape
 abbrev pub with_firmware_app : App
 with_firmware_app = with_subcommand with_run_app firmware_shape
 
--- and `pciguest audit [--strict] BOARD`
+-- and `pciguest audit [--json] [--strict] BOARD`
 abbrev pub with_audit_app : App
 with_audit_app = with_subcommand with_firmware_app audit_shape
 

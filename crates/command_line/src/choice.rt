@@ -42,10 +42,11 @@ pub enum Choice<'a> {
         path: &'a str,
         strict: bool,
     },
-    /// Do the same, and then write all that is wrong in the registers as they stand. If `strict`, that is a fault
-    /// too.
+    /// Do the same, and then write all that is wrong in the registers as they stand, as JSON if `json`. If
+    /// `strict`, that is a fault too.
     Audit {
         path: &'a str,
+        json: bool,
         strict: bool,
     },
     /// Do the same, and then write all that is wrong and all that is lacking in them.
@@ -117,13 +118,11 @@ fn asked<'a>(name: &str, given: &ArgMatches<'a>, is_terminal: bool) -> Option<Ch
 {
     // No words are taken that name no board.
     let path = given.get_str("board").unwrap_or("");
+    let json = is_true(given.get_str("json"));
     let strict = is_true(given.get_str("strict"));
     match name {
         "demo" => Some(Choice::Demo),
-        "list" => {
-            let json = is_true(given.get_str("json"));
-            Some(Choice::List { path, json })
-        }
+        "list" => Some(Choice::List { path, json }),
         "check" => {
             let all = is_true(given.get_str("all"));
             let plain = !is_terminal || is_true(given.get_str("plain"));
@@ -131,7 +130,7 @@ fn asked<'a>(name: &str, given: &ArgMatches<'a>, is_terminal: bool) -> Option<Ch
         }
         "run" => Some(Choice::Run { path, strict }),
         "firmware" => Some(Choice::Firmware { path, strict }),
-        "audit" => Some(Choice::Audit { path, strict }),
+        "audit" => Some(Choice::Audit { path, json, strict }),
         "ready" => Some(Choice::Ready(path)),
         _ => None,
     }

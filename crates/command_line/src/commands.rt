@@ -12,6 +12,10 @@ use std::alloc::{AllocError, Global};
 
 const REFUSED: &str = "End with status 1 where a line was refused";
 
+const REPORT_AS_JSON: &str = "Write the report as JSON";
+
+const AUDIT_AS_JSON: &str = "Write the audit as JSON";
+
 const REFUSED_OR_TOLD: &str = "End with status 1 where a line was refused or a problem told";
 
 /// The argument that names a board file.
@@ -30,15 +34,15 @@ fn demo<'a>(alloc: Global) -> Command<'a>
     Command::new(alloc, "demo").about("Run the script on standard input over the demo board")
 }
 
-/// The flag that asks for the report as JSON.
-fn json<'a>(alloc: Global) -> Arg<'a>
+/// The flag that asks for JSON, and what help says of it.
+fn json<'a>(alloc: Global, help: &'a str) -> Arg<'a>
     ensures rule { rule_of result ≡ json_rule }
     ensures local { result.global ≡ false }
 {
     Arg::new(alloc, "json")
         .long("json")
         .action(ArgAction::SetTrue)
-        .help("Write the report as JSON")
+        .help(help)
 }
 
 /// `list [--json] BOARD`.
@@ -48,7 +52,7 @@ fn list<'a>(alloc: Global) -> Result<Command<'a>, AllocError>
 {
     Command::new(alloc, "list")
         .about("Set up the board that the file <board> declares, and report it")
-        .arg(json(alloc))?
+        .arg(json(alloc, REPORT_AS_JSON))?
         .arg(board(alloc))
 }
 
@@ -121,13 +125,14 @@ fn firmware<'a>(alloc: Global) -> Result<Command<'a>, AllocError>
         .arg(board(alloc))
 }
 
-/// `audit [--strict] BOARD`.
+/// `audit [--json] [--strict] BOARD`.
 fn audit<'a>(alloc: Global) -> Result<Command<'a>, AllocError>
     ensures shape { IfOk result (λ c. shape_of c ≡ audit_shape) }
     ensures local { IfOk result (λ c. (fields_of c).has_globals ≡ false) }
 {
     Command::new(alloc, "audit")
         .about("Do the same, and then say what is wrong in the board's registers as they stand")
+        .arg(json(alloc, AUDIT_AS_JSON))?
         .arg(strict(alloc, REFUSED_OR_TOLD))?
         .arg(board(alloc))
 }

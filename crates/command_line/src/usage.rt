@@ -95,7 +95,7 @@ fn taken_by(name: &str) -> &'static str
     } else if name == "firmware" {
         "firmware [--strict] BOARD"
     } else if name == "audit" {
-        "audit [--strict] BOARD"
+        "audit [--json] [--strict] BOARD"
     } else if name == "ready" {
         "ready BOARD"
     } else {

@@ -1,5 +1,5 @@
 //! A session over a board.
-ghost use Rattle.std.specs.Prelude.{◌≡◌, ◌≢◌, ◌++◌, [], ⊤, length, option_map, string_bytes, is_some};
+ghost use Rattle.std.specs.Prelude.{◌≡◌, ◌≢◌, ◌++◌, [], ⊤, length, map, option_map, string_bytes, is_some};
 ghost use Rattle.std.specs.Prelude.{Ok, None, IsOk, IfOk, IfErr, IfSome, OnOk, OnErr, IsFalse};
 ghost use Rattle.std.specs.Borrow.{sem};
 ghost use Rattle.std.specs.Option.{option_copied_mut};
@@ -7,6 +7,7 @@ ghost use Rattle.model_guests.specs.Text.{Text};
 ghost use Rattle.model_guests.specs.World.{World, IsLawfulWorld};
 ghost use Rattle.model_audit.specs.AuditText.{audit};
 ghost use Rattle.model_audit.specs.Problems.{problems};
+ghost use Rattle.board_audit.specs.Told.{problem_of};
 ghost use Rattle.model_ready.specs.Lacks.{lack_count};
 ghost use Rattle.model_ready.specs.ReadyText.{ready_report};
 ghost use Rattle.model_lines.specs.Sessions.{driven, given, at_reset, session_functions, session_protocol};
@@ -22,6 +23,7 @@ use crate::asking::{Asked, asked_by};
 use crate::audit::Audit;
 use crate::board::Board;
 use crate::stage::{Stage, answer_handover, hand_over};
+use board_audit::Problem;
 use board_file::BoardFault;
 use headers::Apertures;
 use line_runs::Answers;
@@ -170,6 +172,19 @@ impl Session {
                 let found = monitor.problems(alloc)?;
                 Audit::of(alloc, &found)
             }
+            Stage::Between => unreachable!(),
+        }
+    }
+
+    /// The same, problem by problem.
+    pub fn problems(&mut self, alloc: Global) -> Result<Vec<Problem>, AllocError>
+        ensures told { IfOk result (λ v.
+            map problem_of v.items ≡ problems (session_functions self.old)) }
+        ensures after { self.new ≡ self.old }
+    {
+        match &mut self.stage {
+            Stage::Driven(board) => board.problems(alloc),
+            Stage::Given(monitor) => monitor.problems(alloc),
             Stage::Between => unreachable!(),
         }
     }

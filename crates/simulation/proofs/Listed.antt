@@ -1,5 +1,5 @@
 -- What the parts of a listing say, put together.
-use Rattle.std.proofs.Common.{◌≡◌, Result, Ok, Err, sym, ap, ap₂, ◌∙◌, subst}
+use Rattle.std.proofs.Common.{◌≡◌, refl, Result, Ok, Err, sym, ap, ap₂, ◌∙◌, subst}
 use Rattle.std.specs.Prelude.{◌≢◌, List, IfErr, IsUtf8}
 use Rattle.std.specs.Result.{IsErrAnd}
 use Rattle.toml.specs.Parse.{parse_document}
@@ -10,7 +10,7 @@ use Rattle.model_set_up.specs.SetUpWrites.{Plan, planned}
 use Rattle.host_bridge.specs.HostState.{HostState}
 use Rattle.window_packing.specs.Readies.{ReadyBoard, board_below, IsReady}
 use Rattle.model_guests.specs.Text.{Text}
-use Rattle.model_guests.specs.World.{Guest}
+use Rattle.model_guests.specs.World.{Guest, World}
 use Rattle.board_file.specs.declared.fault.BoardFault.{BoardFault}
 use Rattle.board_file.specs.declared.fault.BoardFault.TheVariants as file
 use Rattle.board_file.specs.Faults as board_file
@@ -40,14 +40,24 @@ pub refused_file : {T : Type 0} (r : Result T Fault) (bytes : Text) (b : BoardFa
 refused_file r bytes b said no_text given =
     refused r bytes b (refused_by bytes b said no_text) given
 
+-- what lends the parts of a board that is set up, and what declares it, put together
+pub of_ready : (w : World) (r : ReadyBoard) (gs : List Guest) (table : List TableRow) (plan : Plan) (guests : List Guest)
+    → IsOf w r.table r.plan gs → table ≡ r.table → plan ≡ r.plan → guests ≡ gs → IsOf w table plan guests
+of_ready w r gs table plan guests of t p g = record {
+  declarations = of.declarations;
+  functions = t ∙ of.functions;
+  placement = p ∙ of.placement;
+  given = g ∙ of.given;
+}
+
 -- a board that is set up, as the report asks for it
-pub of_world : (h : HostState) (r : ReadyBoard) (gs : List Guest) (table : List TableRow) (plan : Plan) (guests : List Guest)
-    → HasLawfulDecls (board_below h) → IsReady r → board_below r.host ≡ board_below h
+pub of_world : (h : HostState) (r : ReadyBoard) (gs : List Guest)
+    → HasLawfulDecls (board_below h) → board_below r.host ≡ board_below h
     → r.host ≡ record h { state = set_up_state (board_below h) h.apertures }
-    → table ≡ r.table → plan ≡ r.plan → guests ≡ gs → IsOf (world_in h gs) table plan guests
-of_world h r gs table plan guests lawful ready below host t p g = record {
+    → IsReady r → IsOf (world_in h gs) r.table r.plan gs
+of_world h r gs lawful below host ready = record {
   declarations = lawful;
-  functions = t ∙ ready.table ∙ ap sized_table below;
-  placement = p ∙ ready.plan ∙ ap₂ planned below (ap (λ k. k.apertures) host);
-  given = g;
+  functions = ready.table ∙ ap sized_table below;
+  placement = ready.plan ∙ ap₂ planned below (ap (λ k. k.apertures) host);
+  given = refl;
 }

@@ -19,6 +19,7 @@ use Rattle.simulation.specs.Readiness.{IsToldReady, Readies, ready_of}
 use Rattle.simulation.specs.Sessions.{IsLeft, IsSession, Left}
 use Rattle.simulation.specs.declared.fault.Fault.{Fault}
 use Rattle.simulation.specs.declared.fault.Fault.TheVariants.{File, SetUp, Read, Write}
+use Rattle.simulation.specs.declared.listing.ReportForm.{ReportForm}
 use Rattle.simulation.specs.declared.questions.Answer.{Answer}
 use Rattle.simulation.specs.declared.questions.Question.{Question}
 use Rattle.simulation.specs.declared.questions.Question.TheVariants as question
@@ -91,12 +92,12 @@ in_text {T} tell board at (Err f) e h is part = subst (λ x. Tells {T = T} tell 
 
 -- ---- an audit, and whether the board is ready: else they end as any text after the lines does
 
-pub audit_early : (S : Type 0) {T : Type 0} (strict : Bool) (board : Text) (at : Ends) (r : Result T Fault) (e : Fault) → IsErrAnd r (λ f. f ≡ e) → IsOfSession e
-    → Tells {T = S} audit_of board at (Err e) → Audits strict board at r
-audit_early S strict board at (Ok x) e h of told = absurd h
-audit_early S {T = T} strict board at (Err f) e h of told = subst (λ x. Audits {T = T} strict board at (Err x)) (sym h) (by_fault e of told)
+pub audit_early : (S : Type 0) {T : Type 0} (form : ReportForm) (strict : Bool) (board : Text) (at : Ends) (r : Result T Fault) (e : Fault) → IsErrAnd r (λ f. f ≡ e) → IsOfSession e
+    → Tells {T = S} (audit_of form) board at (Err e) → Audits form strict board at r
+audit_early S form strict board at (Ok x) e h of told = absurd h
+audit_early S {T = T} form strict board at (Err f) e h of told = subst (λ x. Audits {T = T} form strict board at (Err x)) (sym h) (by_fault e of told)
   where
-    by_fault : (e : Fault) → IsOfSession e → Tells {T = S} audit_of board at (Err e) → Audits {T = T} strict board at (Err e)
+    by_fault : (e : Fault) → IsOfSession e → Tells {T = S} (audit_of form) board at (Err e) → Audits {T = T} form strict board at (Err e)
     by_fault Read of told = told
     by_fault Write of told = told
     by_fault (SetUp s) of told = told
@@ -128,17 +129,17 @@ is_told_ready is_ready strict board at a answer counted = record {
   ready = λ s known. sym (ap (λ (n : ℕ). n == 0) (answer.count s known)) ∙ counted;
 }
 
-pub is_audited : (strict refused : Bool) (board : Text) (at : Ends) (a : Answer) → IsAnswer question.Audit strict board at a → a.refused ≡ refused
-    → IsAudited strict refused board at
-is_audited strict refused board at a answer is = record {
+pub is_audited : (form : ReportForm) (strict refused : Bool) (board : Text) (at : Ends) (a : Answer) → IsAnswer (question.Audit form) strict board at a → a.refused ≡ refused
+    → IsAudited form strict refused board at
+is_audited form strict refused board at a answer is = record {
   told = answer.told;
   answers = λ s known. sym (answer.refused s known) ∙ is;
 }
 
-pub is_judged : (strict disorder : Bool) (board : Text) (at : Ends) (a : Answer) → IsAnswer question.Audit strict board at a → a.refused ≡ false
-    → (strict && nat_lt 0 a.count) ≡ disorder → IsJudged strict disorder board at
+pub is_judged : (form : ReportForm) (strict disorder : Bool) (board : Text) (at : Ends) (a : Answer) → IsAnswer (question.Audit form) strict board at a → a.refused ≡ false
+    → (strict && nat_lt 0 a.count) ≡ disorder → IsJudged form strict disorder board at
 unfolding is_audited
-is_judged strict disorder board at a answer kept counted = record {
-  audited = is_audited strict false board at a answer kept;
+is_judged form strict disorder board at a answer kept counted = record {
+  audited = is_audited form strict false board at a answer kept;
   order = λ s known. sym (ap (λ (n : ℕ). strict && nat_lt 0 n) (answer.count s known)) ∙ counted;
 }

@@ -2,6 +2,7 @@
 -- it, which answers a question.
 --     session_text w ls      what the lines write
 --     left_after w ls      the session as they leave it
+--     audit_in form fs      all that is wrong in some functions, in a form
 --     told_by q a fs, counted_by q a fs      the text that answers a question of some functions, by these apertures, and
 --         how many problems and lacks it counts
 --     told_of q w x, count_of q w x      the same of a session, by the apertures of its world
@@ -20,6 +21,7 @@ use Rattle.model_guests.specs.World.{World}
 use Rattle.model_guests.specs.LineRuns.{output, after_lines}
 use Rattle.model_audit.specs.AuditText.{audit}
 use Rattle.model_audit.specs.Problems.{problems}
+use Rattle.audit_json.specs.AuditValue.{audit_json}
 use Rattle.model_ready.specs.Lacks.{lack_count}
 use Rattle.model_ready.specs.ReadyText.{ready_report}
 use Rattle.model_lines.specs.Sessions.{SessionNow, session_protocol, session_functions}
@@ -29,6 +31,8 @@ use Rattle.bus_scan.specs.declared.fault.Fault.TheVariants as set_up
 use Rattle.session.specs.Files.{Declares}
 use Rattle.simulation.specs.declared.fault.Fault.{Fault}
 use Rattle.simulation.specs.declared.fault.Fault.TheVariants.{SetUp, Read, Write}
+use Rattle.simulation.specs.declared.listing.ReportForm.{ReportForm}
+use Rattle.simulation.specs.declared.listing.ReportForm.TheVariants.{Lines, Json}
 use Rattle.simulation.specs.declared.questions.Answer.{Answer}
 use Rattle.simulation.specs.declared.questions.Question.{Question}
 use Rattle.simulation.specs.declared.questions.Question.TheVariants as question
@@ -41,12 +45,16 @@ session_text w ls = output session_protocol (at_first w) ls
 abbrev pub left_after : World → List Text → SessionNow
 left_after w ls = after_lines session_protocol (at_first w) ls
 
+abbrev pub audit_in : ReportForm → List BoardFunction → Text
+audit_in Lines fs = audit fs
+audit_in Json fs = audit_json fs
+
 abbrev pub told_by : Question → Apertures → List BoardFunction → Text
-told_by question.Audit a fs = audit fs
+told_by (question.Audit form) a fs = audit_in form fs
 told_by question.Ready a fs = ready_report a fs
 
 abbrev pub counted_by : Question → Apertures → List BoardFunction → ℕ
-counted_by question.Audit a fs = length (problems fs)
+counted_by (question.Audit form) a fs = length (problems fs)
 counted_by question.Ready a fs = lack_count a fs
 
 abbrev pub told_of : Question → World → SessionNow → Text

@@ -1,5 +1,5 @@
 -- What the program does, by what it is asked.
---     form_of json      the form of a report
+--     form_of json      the form of a report or of an audit
 --     style_of plain, warned_of all      how a check tells, and of what it warns
 --     Prints text at result, Lists form board at result, Checks style warned name board at result      a text was written
 --         whole and flushed, or a beginning of it where a write or flush failed: one that is given, the report of a
@@ -82,7 +82,7 @@ Does (List path json) board at r = Lists (form_of json) board at r
 Does (Check path all plain) board at r = Checks (style_of plain) (warned_of all) path.now board at r
 Does (Run path strict) board at r = RunsAs strict board at r
 Does (Firmware path strict) board at r = Drives strict board at r
-Does (Audit path strict) board at r = Audits strict board at r
+Does (Audit path json strict) board at r = Audits (form_of json) strict board at r
 Does (Ready path) board at r = Readies board at r
 
 abbrev pub IsTelling : Choice → Fault → Type 0
@@ -92,7 +92,7 @@ IsTelling _ f = ⊥
 -- no memory for a question or for a handover
 abbrev pub IsLacking : Choice → Fault → Type 0
 IsLacking (Firmware path strict) f = f ≡ SetUp set_up.Memory
-IsLacking (Audit path strict) f = f ≡ SetUp set_up.Memory
+IsLacking (Audit path json strict) f = f ≡ SetUp set_up.Memory
 IsLacking (Ready path) f = f ≡ SetUp set_up.Memory
 IsLacking _ f = ⊥
 
@@ -107,5 +107,5 @@ IsOfChoice (List path json) f = IsOfList f
 IsOfChoice (Check path all plain) f = IsOfList f
 IsOfChoice (Run path strict) f = IsOfRunAs strict f
 IsOfChoice (Firmware path strict) f = IsOfStrictSession strict f
-IsOfChoice (Audit path strict) f = IsOfAudit strict f
+IsOfChoice (Audit path json strict) f = IsOfAudit strict f
 IsOfChoice (Ready path) f = IsOfReadiness f

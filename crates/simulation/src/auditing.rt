@@ -7,6 +7,7 @@ ghost use Rattle.simulation.specs.Auditing.{Audits};
 ghost use Rattle.simulation.specs.Faults.{read_faults, write_faults, OnFile, IsOfFile, IsOfAudit};
 
 use crate::fault::Fault;
+use crate::listing::ReportForm;
 use crate::questions::{Question, tell_after};
 use std::alloc::Global;
 use streams::{Reader, Writer};
@@ -19,8 +20,8 @@ fn is_disorder(strict: bool, problems: usize) -> bool
 }
 
 /// Runs a session over the board that a board file declares, as [`drive`](crate::drive) does, and then
-/// writes all that is wrong in the registers as they stand: a line for each problem, and a last line that
-/// counts them. Where the board was given to its guests, it is theirs that is audited.
+/// writes all that is wrong in the registers as they stand, in a form: a line for each problem and a last line
+/// that counts them, or a JSON object on one line. Where the board was given to its guests, it is theirs that is audited.
 ///
 /// Refused are the file (101 to 112) and lack of memory while it is read (199): then nothing is read or
 /// written. Once lines are asked for, a read fails (501), or a write or flush does (502). Memory is out for a
@@ -30,6 +31,7 @@ fn is_disorder(strict: bool, problems: usize) -> bool
 pub fn audit<R: Reader, W: Writer>(
     alloc: Global,
     board: &[u8],
+    form: ReportForm,
     strict: bool,
     reader: &mut R,
     writer: &mut W,
@@ -39,7 +41,7 @@ pub fn audit<R: Reader, W: Writer>(
 
     // The output of the lines over the board of the file, and then the audit's text of the registers after them: if
     // `strict`, whether a line was refused and whether there are problems is told by how it ended.
-    ensures audits { Audits strict board.now (ends (R.rest reader.old) (R.rest reader.new)
+    ensures audits { Audits form strict board.now (ends (R.rest reader.old) (R.rest reader.new)
         (W.written writer.old) (W.written writer.new) (W.flushed writer.new)) result }
 
     ensures file { IfErr result (OnFile (Refuses board.now)) }
@@ -54,7 +56,7 @@ pub fn audit<R: Reader, W: Writer>(
     ensures reads { R.failures reader.new ≡ R.failures reader.old + read_faults result }
     ensures writes { W.failures writer.new ≡ W.failures writer.old + write_faults result }
 {
-    let told = tell_after(alloc, board, Question::Audit, strict, reader, writer)?;
+    let told = tell_after(alloc, board, Question::Audit(form), strict, reader, writer)?;
     if told.refused {
         return Err(Fault::RefusedLine);
     }

@@ -21,7 +21,7 @@ use diagnostics::Style;
 use std::alloc::Global;
 use streams::{Reader, Writer, write_and_flush};
 
-/// The form of a report, by whether JSON is asked for.
+/// The form of a report or an audit, by whether JSON is asked for.
 fn form_of(json: bool) -> ReportForm
     ensures { result ≡ form_of json }
 {
@@ -139,7 +139,9 @@ pub fn perform<R: Reader, W: Writer>(
         ),
         Choice::Run { strict, .. } => run_as(alloc, board, *strict, reader, writer),
         Choice::Firmware { strict, .. } => drive(alloc, board, *strict, reader, writer),
-        Choice::Audit { strict, .. } => audit(alloc, board, *strict, reader, writer),
+        Choice::Audit { json, strict, .. } => {
+            audit(alloc, board, form_of(*json), *strict, reader, writer)
+        }
         Choice::Ready(_) => ready(alloc, board, reader, writer),
     }
 }

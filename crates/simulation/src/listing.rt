@@ -3,52 +3,79 @@ ghost use Rattle.std.specs.Prelude.{◌≡◌, ◌≢◌, ◌+◌, ◌-◌, ◌^
 ghost use Rattle.model_registers.specs.DeclarationRules.{first_broken};
 ghost use Rattle.model_set_up.specs.SetUpWrites.{set_up_rules};
 ghost use Rattle.model_guests.specs.World.{World};
-ghost use Rattle.report.specs.OfWorld.{IsOf};
+ghost use Rattle.model_handoff.specs.Report.{report};
+ghost use Rattle.report_json.specs.ReportValue.{report_json_text};
 ghost use Rattle.simulation.specs.Faults.{write_faults, OnFile, OnSetUp, IsOfBoard, IsOfList};
 ghost use Rattle.session.specs.Files.{Declares, Refuses, Breaks};
-ghost use Rattle.simulation.specs.Listing.{report_in, IsListed, IsListedInPart};
+ghost use Rattle.simulation.specs.Listing.{report_in, IsReadyOf, IsListed, IsListedInPart};
 
 use crate::choice::print;
 use crate::fault::Fault;
 use accesses::GuestDecl;
 use board_file::read_board;
-use bus_scan::FunctionTable;
 use report::report_text;
 use report_json::report_json;
-use std::alloc::{AllocError, Global};
+use std::alloc::Global;
 use streams::Writer;
-use window_packing::{Plan, set_up};
+use window_packing::{Ready, set_up};
 
-/// The form of a report.
+/// The form of a report or of an audit.
 #[derive(Clone, Copy, Debug, PartialEq, Eq)]
 pub enum ReportForm {
-    /// A line for each function, region, interrupt, window and slot.
+    /// A line for each thing that is told.
     Lines,
     /// A JSON object on one line.
     Json,
 }
 
-/// The report of a board that is set up, from its table, its plan and its guests.
-fn report_in(
-    alloc: Global,
-    form: ReportForm,
-    table: &FunctionTable,
-    plan: &Plan,
-    guests: &[GuestDecl],
-) -> Result<String, AllocError>
-    ensures { IfOk result (λ t. (w : World)
-        → IsOf w table.now plan.now guests.now → string_bytes t ≡ report_in form w) }
+/// The board that a board file declares, once it is set up, with its guests.
+fn ready_board(alloc: Global, board: &[u8]) -> Result<(Ready, Vec<GuestDecl>), Fault>
+    ensures declared { IfOk result (λ v. IsReadyOf board.now v.0 v.1.items) }
+    ensures file { IfErr result (OnFile (Refuses board.now)) }
+    ensures placement { IfErr result (OnSetUp (Breaks board.now)) }
+    ensures faults { IfErr result IsOfBoard }
 {
-    match form {
-        ReportForm::Lines => report_text(alloc, table, plan, guests),
-        ReportForm::Json => report_json(alloc, table, plan, guests),
-    }
+    let (host, guests) = read_board(alloc, board)?;
+    let ready = set_up(alloc, host)?;
+    Ok((ready, guests))
 }
 
 /// The report of the board that a board file declares, once it is set up.
 ///
 /// A refusal is the file's (101 to 112), the board's (201 to 205), or out of memory (199 or 299).
-pub fn list_text(alloc: Global, board: &[u8], form: ReportForm) -> Result<String, Fault>
+pub fn list_text(alloc: Global, board: &[u8]) -> Result<String, Fault>
+    ensures report { IfOk result (λ t. (w : World) × Declares board.now w
+        × (first_broken (set_up_rules w.board w.apertures) ≡ None)
+        × (string_bytes t ≡ report w)) }
+    ensures file { IfErr result (OnFile (Refuses board.now)) }
+    ensures placement { IfErr result (OnSetUp (Breaks board.now)) }
+    ensures faults { IfErr result IsOfBoard }
+{
+    let (ready, guests) = ready_board(alloc, board)?;
+    let Ok(text) = report_text(alloc, ready.table(), ready.plan(), &guests) else {
+        return Err(Fault::SetUp(bus_scan::Fault::Memory));
+    };
+    Ok(text)
+}
+
+/// The same report as a JSON object on one line. Its refusals are those of [`list_text`].
+pub fn list_json(alloc: Global, board: &[u8]) -> Result<String, Fault>
+    ensures report { IfOk result (λ t. (w : World) × Declares board.now w
+        × (first_broken (set_up_rules w.board w.apertures) ≡ None)
+        × (string_bytes t ≡ report_json_text w)) }
+    ensures file { IfErr result (OnFile (Refuses board.now)) }
+    ensures placement { IfErr result (OnSetUp (Breaks board.now)) }
+    ensures faults { IfErr result IsOfBoard }
+{
+    let (ready, guests) = ready_board(alloc, board)?;
+    let Ok(text) = report_json(alloc, ready.table(), ready.plan(), &guests) else {
+        return Err(Fault::SetUp(bus_scan::Fault::Memory));
+    };
+    Ok(text)
+}
+
+/// The report in a form.
+fn text_in(alloc: Global, board: &[u8], form: ReportForm) -> Result<String, Fault>
     ensures report { IfOk result (λ t. (w : World) × Declares board.now w
         × (first_broken (set_up_rules w.board w.apertures) ≡ None)
         × (string_bytes t ≡ report_in form w)) }
@@ -56,15 +83,13 @@ pub fn list_text(alloc: Global, board: &[u8], form: ReportForm) -> Result<String
     ensures placement { IfErr result (OnSetUp (Breaks board.now)) }
     ensures faults { IfErr result IsOfBoard }
 {
-    let (host, guests) = read_board(alloc, board)?;
-    let ready = set_up(alloc, host)?;
-    let Ok(text) = report_in(alloc, form, ready.table(), ready.plan(), &guests) else {
-        return Err(Fault::SetUp(bus_scan::Fault::Memory));
-    };
-    Ok(text)
+    match form {
+        ReportForm::Lines => list_text(alloc, board),
+        ReportForm::Json => list_json(alloc, board),
+    }
 }
 
-/// Writes the report of the board that a board file declares, once it is set up, and flushes once.
+/// Writes the report of the board that a board file declares, once it is set up, in a form, and flushes once.
 ///
 /// A refusal is the file's (101 to 112), the board's (201 to 205), out of memory (199 or 299), or
 /// `Write`, and nothing else. Only `Write` comes after a part of the report was written.
@@ -93,7 +118,7 @@ pub fn list<W: Writer>(
     // A fault is the writer's exactly where the writer failed during the call.
     ensures failures { W.failures writer.new ≡ W.failures writer.old + write_faults result }
 {
-    let text = list_text(alloc, board, form)?;
+    let text = text_in(alloc, board, form)?;
     print(text.as_str(), writer)?;
     Ok(())
 }

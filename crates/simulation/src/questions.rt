@@ -1,15 +1,18 @@
 //! What is told of a board once the lines of a session ran.
-ghost use Rattle.std.specs.Prelude.{◌≡◌, ◌+◌, ◌-◌, ◌^◌, ◌<◌, ◌⊎◌, string_bytes, IfOk, IfErr, IsErrOf};
+ghost use Rattle.std.specs.Prelude.{◌≡◌, ◌+◌, ◌-◌, ◌^◌, ◌<◌, ◌⊎◌, length, string_bytes, IfOk, IfErr, IsErrOf};
+ghost use Rattle.model_audit.specs.Problems.{problems};
 ghost use Rattle.model_lines.specs.Sessions.{session_functions};
 ghost use Rattle.line_runs.specs.Runs.{ends};
 ghost use Rattle.bus_scan.specs.declared.fault.Fault.TheVariants.{Memory};
 ghost use Rattle.session.specs.Files.{Refuses};
-ghost use Rattle.simulation.specs.AfterLines.{told_by, counted_by, told_of, IsAnswer, Tells};
+ghost use Rattle.simulation.specs.AfterLines.{audit_in, told_by, counted_by, told_of, IsAnswer, Tells};
 ghost use Rattle.simulation.specs.Faults.{read_faults, write_faults, OnFile, IsOfFile, IsOfSession};
 
 use crate::choice::print;
 use crate::driving::session_after;
 use crate::fault::Fault;
+use crate::listing::ReportForm;
+use audit_json::problems_json;
 use session::{Apertures, Session};
 use std::alloc::{AllocError, Global};
 use streams::{Reader, Writer};
@@ -17,8 +20,8 @@ use streams::{Reader, Writer};
 /// What is asked of a board.
 #[derive(Clone, Copy)]
 pub(crate) enum Question {
-    /// What is wrong in its registers.
-    Audit,
+    /// What is wrong in its registers, in a form.
+    Audit(ReportForm),
     /// What is wrong and what is lacking in them.
     Ready,
 }
@@ -28,6 +31,31 @@ pub(crate) enum Question {
 struct Told {
     text: String,
     count: usize,
+}
+
+/// What is wrong in the registers of the board of a session, in a form.
+fn audit_in(alloc: Global, form: ReportForm, session: &mut Session) -> Result<Told, AllocError>
+    ensures text { IfOk result (λ t. string_bytes t.text
+        ≡ audit_in form (session_functions session.old)) }
+    ensures count { IfOk result (λ t. t.count ≡ length (problems (session_functions session.old))) }
+{
+    match form {
+        ReportForm::Lines => {
+            let audit = session.audit(alloc)?;
+            Ok(Told {
+                text: audit.text,
+                count: audit.problems,
+            })
+        }
+        ReportForm::Json => {
+            let found = session.problems(alloc)?;
+            let text = problems_json(alloc, &found)?;
+            Ok(Told {
+                text,
+                count: found.len(),
+            })
+        }
+    }
 }
 
 /// Answers a question of the board of a session, by these apertures.
@@ -43,13 +71,7 @@ fn tell(
         ≡ counted_by question apertures.now (session_functions session.old)) }
 {
     match question {
-        Question::Audit => {
-            let audit = session.audit(alloc)?;
-            Ok(Told {
-                text: audit.text,
-                count: audit.problems,
-            })
-        }
+        Question::Audit(form) => audit_in(alloc, form, session),
         Question::Ready => {
             let ready = session.ready(alloc, apertures)?;
             Ok(Told {

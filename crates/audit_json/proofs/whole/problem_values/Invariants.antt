@@ -1,0 +1,10 @@
+use Rattle.std.proofs.Common.{◌≡◌, ◌++◌, drop, map}
+use Rattle.serde_json.specs.View.{view}
+use Rattle.board_audit.specs.Told.{problem_of}
+use Rattle.audit_json.specs.AuditValue.{problem_value}
+use Rattle.audit_json.proofs.whole.problem_values.Given as goal
+
+abbrev pub invariant-loop-problem : goal.invariant-loop-problem
+invariant-loop-problem l =
+    map view l.values.items ++ map problem_value (map problem_of (drop l.problem-index l.problems))
+    ≡ map problem_value (map problem_of l.problems)

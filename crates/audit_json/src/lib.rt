@@ -1,0 +1,9 @@
+//! An audit as JSON on one line: all that is wrong in a board's registers as they stand, each problem with its witness.
+#![tactic(auto)]
+
+mod parts;
+mod problems;
+mod whole;
+
+pub use board_audit::Problem;
+pub use whole::problems_json;
