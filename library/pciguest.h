@@ -3,7 +3,8 @@
  * docs/LIBRARY.md says how to build and use the library, and what is proved of it. Every call answers 0, or the number of
  * a refusal (enum pciguest_status), but for pciguest_version and pciguest_strerror, and pciguest_piece and
  * pciguest_ends_within, which only compute. A call that answers a number other than 0 changed nothing and stored nothing,
- * but for a length that tells how much room a text needs, or how many rows there are, and for the text of pciguest_check.
+ * but for a length that tells how much room a text or an image needs, or how many rows there are, and for the text of
+ * pciguest_check.
  *
  * tools/bindings reads the declarations and comments below, and writes from them library/words.c and what the modules for
  * Rust and Python declare.
@@ -153,7 +154,7 @@ enum { PCIGUEST_REPLY = 48, PCIGUEST_WORDS = 20, PCIGUEST_GUEST_NAME = 16 };
 
 /* What a call answers, each with its words; docs/FORMATS.md says what each means. 101 to 112: the board file is refused.
  * 201 to 205: the board can't be set up. 206, 207: a board or a function can't be given to guests. 301 to 303: an access or
- * a path is refused. 601, 602: a slot is empty that must not be, or is taken. */
+ * a path is refused. 601, 602: a slot is empty that must not be, or is taken. 905, 906: bytes are no image for a guest. */
 enum pciguest_status {
     PCIGUEST_OK = 0,
     PCIGUEST_NOT_TOML = 101,          /* not TOML */
@@ -186,6 +187,8 @@ enum pciguest_status {
     PCIGUEST_ARGUMENT = 902,          /* argument */
     PCIGUEST_IN_USE = 903,            /* in use */
     PCIGUEST_NOT_AT_RESET = 904,      /* not at reset */
+    PCIGUEST_BAD_IMAGE = 905,         /* image */
+    PCIGUEST_OTHER_FUNCTIONS = 906,   /* other functions */
 };
 
 /* Numbers that no call answers: 401 to 403 stand in replies to lines, and the others in the program's last line. */
@@ -226,6 +229,10 @@ uint32_t pciguest_raw_host_read(struct pciguest *machine, uint32_t space, uint8_
                                 uint8_t function, uint64_t place, uint32_t width, uint32_t *value);
 uint32_t pciguest_raw_move(struct pciguest *machine, size_t from, uint64_t slot, size_t to, uint64_t target);
 uint32_t pciguest_raw_reset(struct pciguest *machine, size_t guest, uint64_t slot);
+uint32_t pciguest_raw_reset_guest(struct pciguest *machine, size_t guest);
+uint32_t pciguest_raw_image_size(struct pciguest *machine, size_t guest, size_t *size);
+uint32_t pciguest_raw_save(struct pciguest *machine, size_t guest, uint8_t *image, size_t room, size_t *needed);
+uint32_t pciguest_raw_load(struct pciguest *machine, size_t guest, const uint8_t *image, size_t length);
 uint32_t pciguest_raw_give(struct pciguest *machine, const uint8_t *path, size_t length, size_t guest, uint64_t slot);
 uint32_t pciguest_raw_take(struct pciguest *machine, size_t guest, uint64_t slot);
 uint32_t pciguest_raw_device_read(struct pciguest *machine, size_t guest, uint64_t slot, uint32_t part, uint64_t offset,
@@ -446,6 +453,50 @@ PCIGUEST_CALL uint32_t pciguest_reset(struct pciguest *machine, size_t guest, ui
     return pciguest_raw_reset(machine, guest, slot);
 }
 
+/* Resets every function of a guest, each where it is, and the guest's own CONFIG_ADDRESS: nothing is carried over. The
+ * count of pciguest_changed grows by one. It takes no memory. 902: there is no such guest. No line of a script says it. */
+PCIGUEST_CALL uint32_t pciguest_reset_guest(struct pciguest *machine, size_t guest)
+{
+    if (!machine)
+        return PCIGUEST_ARGUMENT;
+    return pciguest_raw_reset_guest(machine, guest);
+}
+
+/* How many bytes the image of a guest has now, which pciguest_save writes. It stays as long as the guest has the same
+ * functions in the same slots: its accesses, its devices, resets and loads don't change it. It takes no memory and changes
+ * nothing. 902: there is no such guest. */
+PCIGUEST_CALL uint32_t pciguest_image_size(struct pciguest *machine, size_t guest, size_t *size)
+{
+    if (!machine || !size)
+        return PCIGUEST_ARGUMENT;
+    return pciguest_raw_image_size(machine, guest, size);
+}
+
+/* Saves a guest: writes its image, and tells its length. The image is all that the guest holds: its CONFIG_ADDRESS, and of
+ * each of its 32 slots what is declared of the function and what the guest's registers hold; nothing of the board, of other
+ * guests or of where its functions stand. docs/FORMATS.md has the bytes. What stands behind them in the room stays. It
+ * takes no memory, and the machine stays as it is. 902: there is less room than the image needs, and nothing was written;
+ * or there is no such guest, and nothing was told. */
+PCIGUEST_CALL uint32_t pciguest_save(struct pciguest *machine, size_t guest, void *image, size_t room, size_t *needed)
+{
+    uint8_t none;
+    if (!machine || (!image && room) || !needed)
+        return PCIGUEST_ARGUMENT;
+    return pciguest_raw_save(machine, guest, image ? (uint8_t *)image : &none, room, needed);
+}
+
+/* Loads an image into a guest, which then holds what the image says: what the guest that was saved held. Its functions are
+ * declared as those of the image, slot by slot; they may stand elsewhere, on another board. Other guests can't tell, and
+ * the count of pciguest_changed grows by one. It takes no memory. 906: another slot is filled, or a function is declared
+ * otherwise. 905: the bytes are no image, as with a value that its register can't hold. Of both, what the first byte that
+ * fails tells. 902: there is no such guest. No line of a script says it. */
+PCIGUEST_CALL uint32_t pciguest_load(struct pciguest *machine, size_t guest, const void *image, size_t length)
+{
+    if (!machine || (!image && length))
+        return PCIGUEST_ARGUMENT;
+    return pciguest_raw_load(machine, guest, image ? (const uint8_t *)image : (const uint8_t *)"", length);
+}
+
 /* Gives a function of the board that no guest has to a guest, into an empty slot: there and on the board it is then at
  * reset, on the board but for what guests have copies of. Its path is a text, as board files and pciguest_function have
  * it. 303: the slot is above 31, or no endpoint stands at the path. 602: a guest has the function, or the slot is taken.
@@ -512,7 +563,7 @@ PCIGUEST_CALL uint32_t pciguest_device_write_wide(struct pciguest *machine, size
 
 /* Where the region that begins at a base address register, 0 to 5, stands now, in the guest's own view. It takes no
  * memory and changes nothing. The answer stays until the guest writes Command or a base address register of this
- * function, or it is moved, reset or taken: while pciguest_changed tells the same, no answer for this guest changes.
+ * function, or it is moved, reset, loaded or taken: while pciguest_changed tells the same, no answer for this guest changes.
  * 303: the slot is above 31, or no region begins at this register. 601: the slot is empty. 902: there is no such
  * guest. */
 PCIGUEST_CALL uint32_t pciguest_region(struct pciguest *machine, size_t guest, uint64_t slot, uint32_t bar,
@@ -524,9 +575,10 @@ PCIGUEST_CALL uint32_t pciguest_region(struct pciguest *machine, size_t guest, u
 }
 
 /* A count of the guest, which grows by one with each access of the guest, move, reset, gift or taking that touches one
- * of its slots so that an answer of pciguest_region for it may be another one: while the count stays, each of these
- * answers stays, for all slots and registers. Nothing else makes it grow. It is 0 in a machine that was made just now,
- * and goes on from 0 after 2^64 - 1. It takes no memory and changes nothing. 902: there is no such guest. */
+ * of its slots so that an answer of pciguest_region for it may be another one, and with each pciguest_reset_guest and
+ * pciguest_load of it: while the count stays, each of these answers stays, for all slots and registers. Nothing else makes
+ * it grow. It is 0 in a machine that was made just now, and goes on from 0 after 2^64 - 1. It takes no memory and changes
+ * nothing. 902: there is no such guest. */
 PCIGUEST_CALL uint32_t pciguest_changed(struct pciguest *machine, size_t guest, uint64_t *count)
 {
     if (!machine || !count)

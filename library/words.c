@@ -34,6 +34,8 @@ const char *pciguest_strerror(uint32_t number)
     case PCIGUEST_ARGUMENT: return "argument";
     case PCIGUEST_IN_USE: return "in use";
     case PCIGUEST_NOT_AT_RESET: return "not at reset";
+    case PCIGUEST_BAD_IMAGE: return "image";
+    case PCIGUEST_OTHER_FUNCTIONS: return "other functions";
     case PCIGUEST_NOT_READY: return "not ready";
     case PCIGUEST_REFUSED_LINE: return "refused line";
     case PCIGUEST_BAD_LINE: return "bad line";

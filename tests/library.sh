@@ -44,6 +44,12 @@ mkdir declared
 awk '/^PCIGUEST_CALL / { sub(/^PCIGUEST_CALL /, ""); call = 1 } call && /^\{/ { body = 1 }
   body { if (/^\}/) { body = call = 0; print ";" } next } { print }' "$top/library/pciguest.h" > declared/pciguest.h
 
+# boards with their functions behind two more bridges, beside others and at other addresses
+for name in main server demo; do
+  { sed -E 's|"([0-9]+\.[0-9][0-9./]*)"|"6.0/3.0/\1"|g; s/io = \[0x1000/io = [0x3000/; s/mem = \[0xc0000000/mem = [0x80000000/' \
+      "$top/boards/$name.toml"; cat "$top/tests/library/beside.toml"; } > "elsewhere.$name.toml"
+done
+
 wraps=(-Wl,--wrap=malloc -Wl,--wrap=realloc -Wl,--wrap=free)
 
 # ---- plain, by the names that the library exports, and under the sanitizers
@@ -92,6 +98,11 @@ for kind in "${kinds[@]}"; do
     holds "$kind: wide accesses of devices, seed $seed" "./devices.$kind" "$board" 20000 "$seed"
   done
 
+  holds "$kind: the images are built" build "images.$kind" "$top/tests/library/images.c" "${words[@]}"
+  for seed in 1 2 3; do
+    holds "$kind: images of guests, seed $seed" "./images.$kind" "$board" 2000 "$seed"
+  done
+
   holds "$kind: the boards are built" build "boards.$kind" "$top/tests/library/boards.c" "${wraps[@]}" "${words[@]}"
   for seed in 1 2 3; do
     holds "$kind: boards of firmware, by calls and by lines, seed $seed" "./boards.$kind" "$board" 20000 "$seed"
@@ -105,6 +116,16 @@ for kind in "${kinds[@]}"; do
   holds "$kind: the firmware is built" build "firmware.$kind" "$top/tests/library/firmware.c" "${words[@]}"
   "./firmware.$kind" "$board" > "firmware.$kind.out" 2>&1
   holds "$kind: the firmware" cmp "firmware.$kind.out" "$top/tests/library/firmware.stdout"
+
+  holds "$kind: the loads are built" build "loads.$kind" "$top/tests/library/loads.c" "${words[@]}"
+  for name in main kinds server; do
+    holds "$kind: images that were changed, over $name.toml" "./loads.$kind" "$top/boards/$name.toml" 5000 1
+  done
+  holds "$kind: the migration is built" build "migrating.$kind" "$top/tests/library/migrating.c" "${words[@]}"
+  for script in main/{guest,two_guests,raise,host,ports,move} server/server demo/demo; do
+    holds "$kind: guests of ${script%/*}.toml go on elsewhere, by ${script#*/}.script" "./migrating.$kind" \
+      "$top/boards/${script%/*}.toml" "elsewhere.${script%/*}.toml" "$top/boards/${script#*/}.script"
+  done
 
   holds "$kind: the checks are built" build "checks.$kind" "$top/tests/library/checks.c" "${words[@]}"
   for file in "$top"/boards/*.toml "$top"/boards/refused/*.toml; do
@@ -155,14 +176,23 @@ elif [ ! -e "$top/library/libpciguest.so.0" ]; then
 else
   holds 'Python: the tests of the module' env -C "$top/library/python" PYTHONDONTWRITEBYTECODE=1 \
     PCIGUEST_LIBRARY_DIR="$top/library" python3 -m unittest discover -s tests
+  holds 'Python: random guests, saved and loaded as by a second hand' env PYTHONDONTWRITEBYTECODE=1 \
+    PCIGUEST_LIBRARY_DIR="$top/library" python3 "$top/tests/fuzz/images.py" --guests 200
   env PYTHONPATH="$top/library/python" PYTHONDONTWRITEBYTECODE=1 PCIGUEST_LIBRARY_DIR="$top/library" \
     python3 "$top/examples/python/device.py" "$top/examples/device.toml" > device.python.out 2>&1
   holds 'Python: the example prints what the one in C does' cmp device.python.out "$top/tests/library/device.stdout"
 fi
 
 # ---- the lines that docs/LIBRARY.md prints, in a program: its firmware reads what the region on the board begins with,
-# and an empty file is refused
-awk '/^```c/ { on = 1; next } /^```/ { on = 0 } on' "$top/docs/LIBRARY.md" > lines.c
+# and an empty file is refused. Blocks that are programs themselves come after it
+# blocks LANGUAGE PATTERN WANTED: the blocks of a language in which the pattern is found, or with 0 is not
+blocks() {
+  awk -v begin="\`\`\`$1" -v pattern="$2" -v wanted="$3" '
+    $0 == begin { on = 1; text = ""; next }
+    /^```/ { if (on && (text ~ pattern) == wanted) printf "%s", text; on = 0 }
+    on { text = text $0 "\n" }' "$top/docs/LIBRARY.md"
+}
+blocks c 'int main' 0 > lines.c
 {
   echo '#include <stdio.h>'
   grep '^#include' lines.c
@@ -173,6 +203,18 @@ awk '/^```c/ { on = 1; next } /^```/ { on = 0 } on' "$top/docs/LIBRARY.md" > lin
 holds 'the lines of LIBRARY.md are built' build printed printed.c
 holds 'the lines of LIBRARY.md' test "$(./printed < "$board")" = '0 a5a5a5a5'
 holds 'the lines of LIBRARY.md over an empty file' test "$(./printed < /dev/null)" = '102 0'
+
+# ---- its program that saves a guest, restores it, and lets it go on over another board
+blocks c 'int main' 1 > migrate.c
+holds 'the program of LIBRARY.md that migrates a guest is built' build migrate migrate.c
+migrated=$(printf '0xffffffff\n0x12345678')
+holds 'the program of LIBRARY.md that migrates a guest' \
+  test "$(./migrate "$board" "$top/tests/rows/other_places.toml")" = "$migrated"
+if [ -e "$top/library/libpciguest.so.0" ] && command -v python3 > /dev/null; then
+  blocks python reset_guest 1 > migrate.py
+  holds 'the same in Python' test "$(env PYTHONPATH="$top/library/python" PYTHONDONTWRITEBYTECODE=1 \
+    PCIGUEST_LIBRARY_DIR="$top/library" python3 migrate.py "$board" "$top/tests/rows/other_places.toml")" = "$migrated"
+fi
 
 # ---- the rows of functions that it prints
 {

@@ -1,5 +1,6 @@
 /* Events over the library: one call each, and its line in the log. */
 #include "events.h"
+#include "images.h"
 
 #include <inttypes.h>
 
@@ -249,14 +250,16 @@ void line_event(struct board *board, const char *line, size_t length, FILE *repl
     char reply[PCIGUEST_REPLY];
     size_t written = 0;
 
-    if (pciguest_run_line(&board->machine, line, length, reply, sizeof reply, &written) || written == 0)
-        return;
-    fwrite(reply, 1, written, replies);
-    fflush(replies);
-    if (!board->log)
-        return;
-    fwrite(line, 1, length, board->log);
-    fprintf(board->log, "\n# %.*s", (int)written, reply);
+    if (!image_event(board, line, length, replies)) {
+        if (pciguest_run_line(&board->machine, line, length, reply, sizeof reply, &written) || written == 0)
+            return;
+        fwrite(reply, 1, written, replies);
+        fflush(replies);
+        if (board->log) {
+            fwrite(line, 1, length, board->log);
+            fprintf(board->log, "\n# %.*s", (int)written, reply);
+        }
+    }
     for (size_t i = 0; i < board->count; i++)
         log_regions(board, &board->seats[i]);
 }

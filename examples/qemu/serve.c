@@ -3,7 +3,7 @@
  *     serve [--log FILE] --give GUEST:SLOT=SOCKET [--give ..] BOARD
  *
  * Lines of a script on standard input are run as they come, each answered on standard output: so the host reads the
- * board, moves functions, and lets devices raise bits. The server ends as standard input does, or by SIGINT or SIGTERM.
+ * board, moves functions, and lets devices raise bits; and two lines more save a guest to a file and load it (images.h). The server ends as standard input does, or by SIGINT or SIGTERM.
  * Who comes, goes and is dropped is told on standard error, and in the log. */
 #define _GNU_SOURCE
 #include "gifts.h"

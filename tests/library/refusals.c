@@ -28,6 +28,10 @@ static void without_a_machine(void)
     IS(pciguest_host_read(&none, PCIGUEST_MEMORY, 0, 0, 0, 0, 4, &value), 901);
     IS(pciguest_move(&none, 0, 0, 0, 1), 901);
     IS(pciguest_reset(&none, 0, 0), 901);
+    IS(pciguest_reset_guest(&none, 0), 901);
+    IS(pciguest_image_size(&none, 0, &count), 901);
+    IS(pciguest_save(&none, 0, reply, sizeof reply, &count), 901);
+    IS(pciguest_load(&none, 0, reply, sizeof reply), 901);
     IS(pciguest_give(&none, "1.0", 3, 0, 0), 901);
     IS(pciguest_take(&none, 0, 0), 901);
     IS(pciguest_device_read(&none, 0, 0, 1, 0, &value), 901);
@@ -77,6 +81,15 @@ static void null_pointers(struct pciguest *machine)
     IS(pciguest_host_read(machine, PCIGUEST_IO, 0, 0, 0, 0, 1, NULL), 902);
     IS(pciguest_move(NULL, 0, 0, 0, 0), 902);
     IS(pciguest_reset(NULL, 0, 0), 902);
+    IS(pciguest_reset_guest(NULL, 0), 902);
+    IS(pciguest_image_size(NULL, 0, &count), 902);
+    IS(pciguest_image_size(machine, 0, NULL), 902);
+    IS(pciguest_save(NULL, 0, reply, sizeof reply, &count), 902);
+    IS(pciguest_save(machine, 0, NULL, 1, &count), 902);
+    IS(pciguest_save(machine, 0, reply, sizeof reply, NULL), 902);
+    IS(pciguest_load(NULL, 0, reply, sizeof reply), 902);
+    IS(pciguest_load(machine, 0, NULL, 1), 902);
+    IS(pciguest_load(machine, 0, NULL, 0), 905);
     IS(pciguest_give(NULL, "1.0", 3, 0, 0), 902);
     IS(pciguest_give(machine, NULL, 1, 0, 0), 902);
     IS(pciguest_give(machine, NULL, 0, 0, 0), 303);
@@ -134,6 +147,11 @@ static void bad_arguments(struct pciguest *machine, const uint8_t *board, size_t
     IS(pciguest_reset(machine, 2, 0), 902);
     IS(pciguest_reset(machine, 0, 31), 601);
     IS(pciguest_reset(machine, 0, 32), 303);
+    IS(pciguest_reset_guest(machine, 2), 902);
+    IS(pciguest_image_size(machine, 2, &count), 902);
+    IS(pciguest_save(machine, 2, reply, sizeof reply, &count), 902);
+    IS(pciguest_load(machine, 2, reply, sizeof reply), 902);
+    IS(pciguest_load(machine, 0, reply, sizeof reply), 905);
     IS(pciguest_give(machine, "1.0", 3, 2, 5), 902);
     IS(pciguest_give(machine, "1.0", 3, 0, 32), 303);
     IS(pciguest_give(machine, "1.0", 3, 0, 5), 602);
@@ -216,6 +234,44 @@ static void resets(struct pciguest *machine)
     IS(value, 0);
     IS(pciguest_read(machine, 0, PCIGUEST_CONFIG, 1, 4, 2, &value), 0);
     IS(value, 2);
+}
+
+/* A guest is saved, loaded and put to reset without memory. Its image tells how much room it needs, and what stands behind it in
+ * the room stays. */
+static void images(struct pciguest *machine)
+{
+    static uint8_t image[4096];
+    uint32_t value = 7;
+    size_t size = 0, needed = 0;
+    long before = blocks;
+
+    IS(pciguest_write(machine, 0, PCIGUEST_CONFIG, 1, 0x3c, 1, 0x5a), 0);
+    calls_left = 1;
+    IS(pciguest_image_size(machine, 0, &size), 0);
+    IS(pciguest_save(machine, 0, NULL, 0, &needed), 902);
+    IS(needed, size);
+    needed = 0;
+    IS(pciguest_save(machine, 0, image, size - 1, &needed), 902);
+    IS(needed, size);
+    IS(image[0], 0);
+    memset(image, 0x5a, sizeof image);
+    IS(pciguest_save(machine, 0, image, sizeof image, &needed), 0);
+    IS(needed, size);
+    IS(memcmp(image, "PCIG\1\0\0\0", 8), 0);
+    IS(image[size], 0x5a);
+    IS(pciguest_reset_guest(machine, 0), 0);
+    IS(pciguest_load(machine, 1, image, size), 906);
+    IS(pciguest_load(machine, 0, image, size + 1), 905);
+    IS(pciguest_load(machine, 0, image, size), 0);
+    IS(pciguest_read(machine, 0, PCIGUEST_CONFIG, 1, 0x3c, 1, &value), 0);
+    IS(value, 0x5a);
+    IS(pciguest_reset_guest(machine, 0), 0);
+    calls_left = -1;
+    IS((uint64_t)blocks, (uint64_t)before);
+    IS(pciguest_image_size(machine, 0, &needed), 0);
+    IS(needed, size);
+    IS(pciguest_read(machine, 0, PCIGUEST_CONFIG, 1, 0x3c, 1, &value), 0);
+    IS(value, 0);
 }
 
 /* A function that is taken from its guest comes to another, at reset in its slot and on the board, and takes no memory. A
@@ -378,7 +434,7 @@ static void words(uint32_t number, const char *wanted)
 
 static void all_words(void)
 {
-    static const uint32_t without[] = {0, 1, 100, 113, 200, 210, 300, 304, 400, 404, 603, 900, 905, 0xffffffff, 0x10065};
+    static const uint32_t without[] = {0, 1, 100, 113, 200, 210, 300, 304, 400, 404, 603, 900, 907, 0xffffffff, 0x10065};
     uint32_t number, known = 0;
     char text[PCIGUEST_WORDS] = {0};
     size_t needed = 0;
@@ -401,13 +457,15 @@ static void all_words(void)
     words(902, "argument");
     words(903, "in use");
     words(904, "not at reset");
+    words(905, "image");
+    words(906, "other functions");
     for (size_t i = 0; i < sizeof without / sizeof *without; i++)
         words(without[i], "");
     for (number = 0; number < 1 << 17; number++) {
         IS(pciguest_words(number, text, sizeof text, &needed), 0);
         known += needed != 0;
     }
-    IS(known, 40);
+    IS(known, 42);
 }
 
 /* Each allocation fails in turn: the answer is out of memory, the handle stays empty, and nothing is lost. */
@@ -473,6 +531,7 @@ int main(int argc, char **argv)
     bad_arguments(&machine, board, length);
     guests(&machine);
     resets(&machine);
+    images(&machine);
     gifts(&machine);
     devices(&machine);
     line_feeds(&machine);

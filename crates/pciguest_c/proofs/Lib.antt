@@ -1,6 +1,7 @@
 mod DeviceBytes
 mod FunctionRows
 mod FaultNumbers
+mod Images
 mod Kept
 mod Moved
 mod OpenFaults

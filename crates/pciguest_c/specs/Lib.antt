@@ -13,3 +13,4 @@ pub mod Handles
 pub mod Answered
 pub mod Handovers
 pub mod TextsTold
+pub mod ImagesTold

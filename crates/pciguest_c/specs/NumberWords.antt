@@ -13,7 +13,9 @@ abbrev pub own_words : ℕ → Text
 own_words n =
     if n == 901 then codes "no machine"
     else (if n == 902 then codes "argument"
-    else (if n == 903 then codes "in use" else (if n == 904 then codes "not at reset" else handover_words n)))
+    else (if n == 903 then codes "in use"
+    else (if n == 904 then codes "not at reset"
+    else (if n == 905 then codes "image" else (if n == 906 then codes "other functions" else handover_words n)))))
 
 abbrev pub words_of_number : ℕ → Text
 words_of_number n =

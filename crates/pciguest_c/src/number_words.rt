@@ -27,6 +27,8 @@ fn own_words(number: u32) -> &'static [u8]
         902 => b"argument",
         903 => b"in use",
         904 => b"not at reset",
+        905 => b"image",
+        906 => b"other functions",
         _ => handover_words(number).as_bytes(),
     }
 }

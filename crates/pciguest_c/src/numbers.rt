@@ -37,6 +37,17 @@ pub fn number_of(answer: Result<Reply, u32>) -> u32
     }
 }
 
+/// The same of what answers nothing else.
+pub fn number_of_done(answer: Result<(), u32>) -> u32
+    ensures done { IfOk answer (λ _. result ≡ 0) }
+    ensures refused { IfErr answer (λ n. result ≡ n) }
+{
+    match answer {
+        Ok(()) => 0,
+        Err(number) => number,
+    }
+}
+
 /// The same, and puts what was read where the value goes.
 pub fn put_value(answer: Result<Reply, u32>, value: &mut u32) -> u32
     ensures told { IfOk answer (λ r. result ≡ number_told (reply_of r)) }

@@ -48,8 +48,9 @@ from ._calls import VERSION
 from ._declared import Register
 from ._devices import Device
 from ._functions import Bar, BoardFunction, Function, Window, Windows
+from ._library import version
 from ._machine import Guest, Host, Machine
-from ._refusal import BoardRefusal, Problem, Refusal, words
+from ._refusal import BoardRefusal, Problem, Refusal, strerror, words
 from ._regions import Hit, Region
 from ._spaces import Functions, ReadableSpace, ReadableWide, Space, Wide
 from ._texts import Check, check, report
@@ -82,6 +83,8 @@ __all__ = [
     "Windows",
     "check",
     "report",
+    "strerror",
+    "version",
     "words",
 ]
 __version__ = VERSION

@@ -58,6 +58,8 @@ NO_MACHINE = 901  # no machine
 ARGUMENT = 902  # argument
 IN_USE = 903  # in use
 NOT_AT_RESET = 904  # not at reset
+BAD_IMAGE = 905  # image
+OTHER_FUNCTIONS = 906  # other functions
 
 NOT_READY = 208  # not ready
 REFUSED_LINE = 209  # refused line
@@ -292,6 +294,26 @@ DECLARED: Dict[str, Tuple[Any, Tuple[Any, ...]]] = {
     # script; two moves do the same, to an empty slot and back. 303: the slot is above 31. 601: the slot is empty. 902:
     # there is no such guest.
     "reset": (c_uint32, (POINTER(Handle), c_size_t, c_uint64)),
+    # Resets every function of a guest, each where it is, and the guest's own CONFIG_ADDRESS: nothing is carried over.
+    # The count of pciguest_changed grows by one. It takes no memory. 902: there is no such guest. No line of a script
+    # says it.
+    "reset_guest": (c_uint32, (POINTER(Handle), c_size_t)),
+    # How many bytes the image of a guest has now, which pciguest_save writes. It stays as long as the guest has the
+    # same functions in the same slots: its accesses, its devices, resets and loads don't change it. It takes no memory
+    # and changes nothing. 902: there is no such guest.
+    "image_size": (c_uint32, (POINTER(Handle), c_size_t, POINTER(c_size_t))),
+    # Saves a guest: writes its image, and tells its length. The image is all that the guest holds: its CONFIG_ADDRESS,
+    # and of each of its 32 slots what is declared of the function and what the guest's registers hold; nothing of the
+    # board, of other guests or of where its functions stand. docs/FORMATS.md has the bytes. What stands behind them in
+    # the room stays. It takes no memory, and the machine stays as it is. 902: there is less room than the image needs,
+    # and nothing was written; or there is no such guest, and nothing was told.
+    "save": (c_uint32, (POINTER(Handle), c_size_t, c_void_p, c_size_t, POINTER(c_size_t))),
+    # Loads an image into a guest, which then holds what the image says: what the guest that was saved held. Its
+    # functions are declared as those of the image, slot by slot; they may stand elsewhere, on another board. Other
+    # guests can't tell, and the count of pciguest_changed grows by one. It takes no memory. 906: another slot is
+    # filled, or a function is declared otherwise. 905: the bytes are no image, as with a value that its register can't
+    # hold. Of both, what the first byte that fails tells. 902: there is no such guest. No line of a script says it.
+    "load": (c_uint32, (POINTER(Handle), c_size_t, c_char_p, c_size_t)),
     # Gives a function of the board that no guest has to a guest, into an empty slot: there and on the board it is then
     # at reset, on the board but for what guests have copies of. Its path is a text, as board files and
     # pciguest_function have it. 303: the slot is above 31, or no endpoint stands at the path. 602: a guest has the
@@ -321,14 +343,16 @@ DECLARED: Dict[str, Tuple[Any, Tuple[Any, ...]]] = {
     "device_write_wide": (c_uint32, (POINTER(Handle), c_size_t, c_uint64, c_uint32, c_uint64, c_uint32, c_uint64)),
     # Where the region that begins at a base address register, 0 to 5, stands now, in the guest's own view. It takes no
     # memory and changes nothing. The answer stays until the guest writes Command or a base address register of this
-    # function, or it is moved, reset or taken: while pciguest_changed tells the same, no answer for this guest changes.
+    # function, or it is moved, reset, loaded or taken: while pciguest_changed tells the same, no answer for this guest
+    # changes.
     # 303: the slot is above 31, or no region begins at this register. 601: the slot is empty. 902: there is no such
     # guest.
     "region": (c_uint32, (POINTER(Handle), c_size_t, c_uint64, c_uint32, POINTER(RegionTold))),
     # A count of the guest, which grows by one with each access of the guest, move, reset, gift or taking that touches
-    # one of its slots so that an answer of pciguest_region for it may be another one: while the count stays, each of
-    # these answers stays, for all slots and registers. Nothing else makes it grow. It is 0 in a machine that was made
-    # just now, and goes on from 0 after 2^64 - 1. It takes no memory and changes nothing. 902: there is no such guest.
+    # one of its slots so that an answer of pciguest_region for it may be another one, and with each
+    # pciguest_reset_guest and pciguest_load of it: while the count stays, each of these answers stays, for all slots
+    # and registers. Nothing else makes it grow. It is 0 in a machine that was made just now, and goes on from 0 after
+    # 2^64 - 1. It takes no memory and changes nothing. 902: there is no such guest.
     "changed": (c_uint32, (POINTER(Handle), c_size_t, POINTER(c_uint64))),
     # What an access of the guest at a place hits, as pciguest_read and pciguest_write take the place: a byte of a
     # function in one of its slots, or nothing. It takes no memory and changes nothing. Every access there begins at

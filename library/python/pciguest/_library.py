@@ -53,6 +53,17 @@ class _Calls(Dict[str, Callable[..., Any]]):
 CALLS = _Calls()
 
 
+def version() -> int:
+    """The version of the library that is loaded, as a number that grows: 10000 times the major version, 100 times the
+    minor one, and the patch. `__version__` is that of the module, as a text.
+
+    >>> version() // 10000
+    0
+    """
+    call: Callable[..., int] = CALLS["version"]
+    return call()
+
+
 def number(name: str, value: SupportsIndex, bits: int) -> int:
     """The number that a value is, if it has no more than so many bits. ctypes would drop the others."""
     found = operator.index(value)

@@ -11,6 +11,7 @@ from ._calls import CONFIG, GUEST_NAME, IO, MEMORY, RAISE_CONFIG, FunctionTold, 
 from ._devices import Device, Touch
 from ._functions import Function, function_of
 from ._held import Held, as_bytes
+from ._images import Saved
 from ._library import CALLS, number, told
 from ._lines import Access, access_of
 from ._refusal import Refusal, answered
@@ -218,7 +219,7 @@ class _Slots:
         return (self[slot] for slot in range(32))
 
 
-class Guest:
+class Guest(Saved):
     """A guest of a machine. What it reads is what its own functions answer, and all ones where nothing of the guest's
     answers; what it writes, no other guest can tell. A read changes nothing.
 

@@ -66,6 +66,16 @@ def words(refusal: int) -> str:
     return told(WORDS, lambda text, room, needed: call(asked, text, room, needed))[1]
 
 
+def strerror(refusal: int) -> str:
+    """The same words, as `pciguest_strerror` of the library has them. A number that stands for nothing has the empty text.
+
+    >>> strerror(602)
+    'slot taken'
+    """
+    call: Callable[..., bytes] = CALLS["strerror"]
+    return call(number("number", refusal, 32)).decode("ascii", "replace")
+
+
 def answered(answer: int) -> None:
     """Raises the refusal that a call answers, if it is not 0."""
     if answer != 0:

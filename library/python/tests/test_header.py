@@ -31,6 +31,7 @@ TYPES = {
     ctypes.c_bool: "bool",
     ctypes.c_char: "char",
     ctypes.c_char_p: "const char *",
+    ctypes.c_void_p: "void *",
     ctypes.c_uint8: "uint8_t",
     ctypes.c_uint32: "uint32_t",
     ctypes.c_uint64: "uint64_t",
@@ -84,11 +85,7 @@ class Header(unittest.TestCase):
             self.assertEqual(told, version, file)
         major, minor, patch = map(int, version.split("."))
         self.assertEqual(_calls.VERSION_NUMBER, 10000 * major + 100 * minor + patch)
-        self.assertEqual(CALLS["version"](), _calls.VERSION_NUMBER)
-
-    def test_words(self):
-        for number in (0, 101, 301, 904, 999):
-            self.assertEqual(CALLS["strerror"](number).decode(), pciguest.words(number))
+        self.assertEqual(pciguest.version(), _calls.VERSION_NUMBER)
 
 
 if __name__ == "__main__":

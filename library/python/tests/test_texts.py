@@ -4,12 +4,12 @@ import doctest
 import unittest
 
 from boards import BOARDS, MAIN
-from pciguest import Machine, Refusal, Register, check, report, words
+from pciguest import Machine, Refusal, Register, check, report, strerror, words
 
 
 def load_tests(loader, tests, pattern):
-    extra = {"BOARD": MAIN, "Machine": Machine, "Register": Register}
-    for name in ("", "._board", "._devices", "._explain", "._held", "._machine", "._recording",
+    extra = {"BOARD": MAIN, "Machine": Machine, "Refusal": Refusal, "Register": Register}
+    for name in ("", "._board", "._devices", "._explain", "._held", "._images", "._library", "._machine", "._recording",
                  "._refusal", "._spaces", "._texts"):
         tests.addTests(doctest.DocTestSuite("pciguest" + name, extraglobs=extra))
     return tests
@@ -44,9 +44,14 @@ class Texts(unittest.TestCase):
         self.assertTrue(text.startswith("endpoints 769 bridges 255\n") and text.endswith("\n"))
 
     def test_words(self):
-        self.assertEqual(sum(words(each) != "" for each in range(1000)), 40)
+        self.assertEqual(sum(words(each) != "" for each in range(1000)), 42)
         self.assertEqual(words(205), "prefetchable pool")
+        self.assertEqual((words(905), words(906)), ("image", "other functions"))
         self.assertEqual(words(0xFFFFFFFF), "")
+        for each in (*range(1000), 0xFFFFFFFF):
+            self.assertEqual(strerror(each), words(each))
+        with self.assertRaises(ValueError):
+            strerror(-1)
 
 
 if __name__ == "__main__":

@@ -86,6 +86,10 @@ pub enum Error {
     Argument(Refusal),
     /// 904: a write was done on a board since reset.
     NotAtReset(Refusal),
+    /// 905: bytes are no image of a guest.
+    Image(Refusal),
+    /// 906: an image is of other functions than the guest has.
+    OtherFunctions(Refusal),
     /// Any other number. The library has none today that a call of this crate meets.
     Other(Refusal),
 }
@@ -103,6 +107,8 @@ impl Error {
             601 | 602 => Error::Slot(refusal),
             902 => Error::Argument(refusal),
             904 => Error::NotAtReset(refusal),
+            905 => Error::Image(refusal),
+            906 => Error::OtherFunctions(refusal),
             _ => Error::Other(refusal),
         }
     }
@@ -119,6 +125,8 @@ impl Error {
             | Error::Slot(refusal)
             | Error::Argument(refusal)
             | Error::NotAtReset(refusal)
+            | Error::Image(refusal)
+            | Error::OtherFunctions(refusal)
             | Error::Other(refusal) => refusal,
         }
     }

@@ -49,6 +49,7 @@ mod declared;
 mod device;
 mod error;
 mod function;
+mod image;
 mod lines;
 mod load;
 mod machine;
@@ -65,6 +66,6 @@ pub use error::{Error, Refusal};
 pub use function::{Bar, BoardFunction, BoardProblem, Function, Functions, Ranges, Window};
 pub use machine::Machine;
 pub use place::{At, Guest, Hit, HostAt, Part, Region, Space};
-pub use text::{check, report, words, Check};
+pub use text::{check, report, strerror, version, words, Check};
 
 pub use load::LoadError;

@@ -83,6 +83,10 @@ pub const ARGUMENT: u32 = 902;
 pub const IN_USE: u32 = 903;
 /// not at reset
 pub const NOT_AT_RESET: u32 = 904;
+/// image
+pub const BAD_IMAGE: u32 = 905;
+/// other functions
+pub const OTHER_FUNCTIONS: u32 = 906;
 
 /// not ready
 pub const NOT_READY: u32 = 208;
@@ -428,6 +432,38 @@ extern "C" {
     /// script; two moves do the same, to an empty slot and back. 303: the slot is above 31. 601: the slot is empty.
     /// 902: there is no such guest.
     pub fn pciguest_reset(machine: *mut Handle, guest: usize, slot: u64) -> u32;
+    /// Resets every function of a guest, each where it is, and the guest's own CONFIG_ADDRESS: nothing is carried over.
+    /// The count of pciguest_changed grows by one. It takes no memory. 902: there is no such guest. No line of a script
+    /// says it.
+    pub fn pciguest_reset_guest(machine: *mut Handle, guest: usize) -> u32;
+    /// How many bytes the image of a guest has now, which pciguest_save writes. It stays as long as the guest has the
+    /// same functions in the same slots: its accesses, its devices, resets and loads don't change it. It takes no
+    /// memory and changes nothing. 902: there is no such guest.
+    pub fn pciguest_image_size(machine: *mut Handle, guest: usize, size: *mut usize) -> u32;
+    /// Saves a guest: writes its image, and tells its length. The image is all that the guest holds: its
+    /// CONFIG_ADDRESS, and of each of its 32 slots what is declared of the function and what the guest's registers
+    /// hold; nothing of the board, of other guests or of where its functions stand. docs/FORMATS.md has the bytes. What
+    /// stands behind them in the room stays. It takes no memory, and the machine stays as it is. 902: there is less
+    /// room than the image needs, and nothing was written; or there is no such guest, and nothing was told.
+    pub fn pciguest_save(
+        machine: *mut Handle,
+        guest: usize,
+        image: *mut u8,
+        room: usize,
+        needed: *mut usize,
+    ) -> u32;
+    /// Loads an image into a guest, which then holds what the image says: what the guest that was saved held. Its
+    /// functions are declared as those of the image, slot by slot; they may stand elsewhere, on another board. Other
+    /// guests can't tell, and the count of pciguest_changed grows by one. It takes no memory. 906: another slot is
+    /// filled, or a function is declared otherwise. 905: the bytes are no image, as with a value that its register
+    /// can't hold. Of both, what the first byte that fails tells. 902: there is no such guest. No line of a script says
+    /// it.
+    pub fn pciguest_load(
+        machine: *mut Handle,
+        guest: usize,
+        image: *const u8,
+        length: usize,
+    ) -> u32;
     /// Gives a function of the board that no guest has to a guest, into an empty slot: there and on the board it is
     /// then at reset, on the board but for what guests have copies of. Its path is a text, as board files and
     /// pciguest_function have it. 303: the slot is above 31, or no endpoint stands at the path. 602: a guest has the
@@ -491,8 +527,8 @@ extern "C" {
     ) -> u32;
     /// Where the region that begins at a base address register, 0 to 5, stands now, in the guest's own view. It takes
     /// no memory and changes nothing. The answer stays until the guest writes Command or a base address register of
-    /// this function, or it is moved, reset or taken: while pciguest_changed tells the same, no answer for this guest
-    /// changes.
+    /// this function, or it is moved, reset, loaded or taken: while pciguest_changed tells the same, no answer for this
+    /// guest changes.
     /// 303: the slot is above 31, or no region begins at this register. 601: the slot is empty. 902: there is no such
     /// guest.
     pub fn pciguest_region(
@@ -503,10 +539,10 @@ extern "C" {
         region: *mut Region,
     ) -> u32;
     /// A count of the guest, which grows by one with each access of the guest, move, reset, gift or taking that touches
-    /// one of its slots so that an answer of pciguest_region for it may be another one: while the count stays, each of
-    /// these answers stays, for all slots and registers. Nothing else makes it grow. It is 0 in a machine that was made
-    /// just now, and goes on from 0 after 2^64 - 1. It takes no memory and changes nothing. 902: there is no such
-    /// guest.
+    /// one of its slots so that an answer of pciguest_region for it may be another one, and with each
+    /// pciguest_reset_guest and pciguest_load of it: while the count stays, each of these answers stays, for all slots
+    /// and registers. Nothing else makes it grow. It is 0 in a machine that was made just now, and goes on from 0 after
+    /// 2^64 - 1. It takes no memory and changes nothing. 902: there is no such guest.
     pub fn pciguest_changed(machine: *mut Handle, guest: usize, count: *mut u64) -> u32;
     /// What an access of the guest at a place hits, as pciguest_read and pciguest_write take the place: a byte of a
     /// function in one of its slots, or nothing. It takes no memory and changes nothing. Every access there begins at

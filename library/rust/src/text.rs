@@ -1,7 +1,11 @@
-//! What is told of a board file and of a number, for which no machine is needed; and replies to lines.
+//! What is told of a board file, of a number and of the library, for which no machine is needed; and replies to lines.
 
 use crate::error::{answered, Error};
-use crate::raw::{pciguest_check, pciguest_report, pciguest_words, ARGUMENT, REPLY, WORDS};
+use crate::raw::{
+    pciguest_check, pciguest_report, pciguest_strerror, pciguest_version, pciguest_words, ARGUMENT,
+    REPLY, WORDS,
+};
+use std::ffi::CStr;
 
 /// What a check says of a board file.
 #[derive(Clone, Debug, PartialEq, Eq)]
@@ -73,6 +77,30 @@ pub fn words(number: u32) -> String {
         pciguest_words(number, text, room, needed)
     })
     .1
+}
+
+/// The words of a number, as [`words`] has them, as a text that is there as long as the program runs. A number that stands
+/// for nothing has the empty text.
+///
+/// ```
+/// assert_eq!(pciguest::strerror(602), "slot taken");
+/// assert_eq!(pciguest::strerror(0), "");
+/// ```
+pub fn strerror(number: u32) -> &'static str {
+    // SAFETY: the library gives a text that ends with a 0 and stays, for any number.
+    let text = unsafe { CStr::from_ptr(pciguest_strerror(number)) };
+    text.to_str().unwrap_or_default()
+}
+
+/// The version of the library that is linked, as a number that grows: 10000 times the major version, 100 times the minor
+/// one, and the patch.
+///
+/// ```
+/// assert_eq!(pciguest::version() / 10000, 0);
+/// ```
+pub fn version() -> u32 {
+    // SAFETY: it takes nothing.
+    unsafe { pciguest_version() }
 }
 
 /// Calls with room for a text; where that is too little, once more with what the text needs. Gives the number that the

@@ -1,6 +1,6 @@
 //! Reports, checks and words, over all boards of the folder `boards`.
 
-use pciguest::{check, report, words, Machine};
+use pciguest::{check, report, strerror, words, Machine};
 use std::ffi::OsStr;
 use std::fs;
 use std::path::{Path, PathBuf};
@@ -54,7 +54,14 @@ fn numbers_have_words() {
     let known = (0..1 << 16)
         .filter(|&number| !words(number).is_empty())
         .count();
-    assert_eq!(known, 40);
+    assert_eq!(known, 42);
     assert_eq!(words(205), "prefetchable pool");
+    assert_eq!(
+        (words(905), words(906)),
+        ("image".into(), "other functions".into())
+    );
     assert_eq!(words(u32::MAX), "");
+    for number in (0..1000).chain([u32::MAX]) {
+        assert_eq!(strerror(number), words(number), "{number}");
+    }
 }

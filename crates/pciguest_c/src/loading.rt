@@ -1,0 +1,53 @@
+//! Images that are loaded into guests.
+ghost use Rattle.std.specs.Prelude.{◌≡◌, ◌≢◌, ◌<◌, Some, IfErr, IfOk, IfSome, length};
+ghost use Rattle.model_handoff.specs.Changes.{MachineNow};
+ghost use Rattle.monitor.specs.ByIndex.{name_nth};
+ghost use Rattle.monitor.specs.Loads.{IsLoaded};
+ghost use Rattle.pciguest_c.specs.Handles.{session_of, machine_of};
+ghost use Rattle.pciguest_c.specs.Answered.{AnswersOf};
+ghost use Rattle.pciguest_c.specs.ImagesTold.{load_number};
+
+use crate::asking::check_guest;
+use crate::handle::Handle;
+use crate::numbers::number_of_done;
+use monitor::Monitor;
+use std::alloc::Global;
+
+/// Loads bytes into a guest, or gives the number of why they can't be loaded.
+#[tactic(auto, unfolding(crate::specs::ImagesTold::load_number))]
+fn load(machine: &mut Monitor, guest: usize, image: &[u8]) -> Result<(), u32>
+    requires { guest < length machine.old.world.guests }
+    ensures fits { IfOk result (λ _. load_number machine.old.world guest image.now ≡ 0) }
+    ensures fault { IfErr result (λ n. n ≡ load_number machine.old.world guest image.now) }
+    ensures loaded { IfOk result (λ _.
+        IsLoaded machine.old (name_nth machine.old.world guest) image.now machine.new) }
+    ensures refused { IfErr result (λ n. (n ≢ 0) × (machine.new ≡ machine.old)) }
+{
+    match machine.load(guest, image) {
+        None => Ok(()),
+        Some(why) => Err(u32::from(why.number())),
+    }
+}
+
+/// Loads the bytes of an image into a guest, which then holds what the image says, and is counted once. Or refuses them
+/// and changes nothing: 905 for bytes that are no image, or 906 for an image of other functions than the guest has in its
+/// slots; of both, what the first byte that fails tells. No memory is taken.
+#[unsafe(no_mangle)]
+pub extern "C" fn pciguest_raw_load(
+    alloc: Global,
+    handle: &mut Handle,
+    guest: usize,
+    image: &[u8],
+) -> u32
+    ensures fault { AnswersOf handle.old guest result (λ m.
+        result ≡ load_number m.world guest image.now) }
+    ensures loaded { IfSome (machine_of handle.old) (λ m. result ≡ 0 → (n : MachineNow)
+        × IsLoaded m (name_nth m.world guest) image.now n
+        × (machine_of handle.new ≡ Some n)) }
+    ensures refused { result ≢ 0 → session_of handle.new ≡ session_of handle.old }
+{
+    number_of_done(handle.ask_machine(alloc, |machine| {
+        check_guest(machine, guest)?;
+        load(machine, guest, image)
+    }))
+}

@@ -1,0 +1,94 @@
+"""What a guest alone holds, as bytes that outlive its machine."""
+
+from __future__ import annotations
+
+from ctypes import byref, c_size_t, create_string_buffer
+from typing import TYPE_CHECKING, Union
+
+if TYPE_CHECKING:
+    from ._machine import Machine
+
+
+class Saved:
+    """A guest that is saved, loaded and reset as a whole."""
+
+    machine: Machine
+    index: int
+
+    def image_size(self) -> int:
+        """How many bytes the image of the guest has, which `save` gives. It stays as long as the guest has the same
+        functions in the same slots. It changes nothing.
+
+        >>> with Machine(BOARD) as machine:
+        ...     a = machine.guest("a")
+        ...     size = a.image_size()
+        ...     a.config[0][4:2] = 2
+        ...     a.image_size() == size
+        ...     for slot in 0, 1:
+        ...         machine.take(a, slot)
+        ...     a.image_size() == 12 + 32  # a byte for each empty slot
+        True
+        True
+        """
+        size = c_size_t(0)
+        self.machine._call("image_size", self.index, byref(size))
+        return size.value
+
+    def save(self) -> bytes:
+        """Saves the guest: its image, which is all that the guest holds. That is its CONFIG_ADDRESS, and of each of its 32
+        slots what is declared of the function and what the guest's registers hold; nothing of the board, of other guests
+        or of where its functions stand. docs/FORMATS.md, section 8, has the bytes. What a `Device` keeps beside its
+        registers is the program's to save. The machine stays as it is.
+
+        >>> with Machine(BOARD) as machine:
+        ...     a = machine.guest("a")
+        ...     a.io[0xCF8:4] = 0x80000804
+        ...     a.save()[:12]  # the format, its version, and the latch
+        b'PCIG\\x01\\x00\\x00\\x00\\x04\\x08\\x00\\x80'
+        """
+        with self.machine._lock:
+            room, needed = self.image_size(), c_size_t(0)
+            image = create_string_buffer(room)
+            self.machine._call("save", self.index, image, room, byref(needed))
+        return image.raw[: needed.value]
+
+    def load(self, image: Union[bytes, bytearray]) -> None:
+        """Loads an image into the guest, which then holds what the image says: what the guest that was saved held. Each of
+        its slots has to be filled or empty as there, and its functions declared as there; they may stand elsewhere, on
+        another board, and the machine of the image isn't needed any more. Other guests can't tell. A `Device` isn't told
+        of it; its registers are as they were saved.
+
+        905: the bytes are no image. 906: another slot is filled, or a function is declared otherwise. Of both, what the
+        first byte that fails tells.
+
+        >>> with Machine(BOARD) as machine:
+        ...     a = machine.guest("a")
+        ...     a.config[0][4:2] = 2
+        ...     image = a.save()
+        >>> with Machine(BOARD) as other:  # the guest goes on there
+        ...     a = other.guest("a")
+        ...     a.load(image)
+        ...     a.config[0][4:2]
+        ...     try:
+        ...         a.load(image[1:])
+        ...     except Refusal as refusal:
+        ...         print(refusal)
+        2
+        905 image
+        """
+        told = bytes(image)
+        self.machine._call("load", self.index, told, len(told))
+
+    def reset_guest(self) -> None:
+        """Resets every function of the guest, each where it is, and the guest's own CONFIG_ADDRESS: nothing is carried
+        over.
+
+        >>> with Machine(BOARD) as machine:
+        ...     a = machine.guest("a")
+        ...     at_reset = a.save()
+        ...     a.config[0][4:2] = 2
+        ...     a.reset_guest()
+        ...     a.save() == at_reset
+        True
+        """
+        self.machine._call("reset_guest", self.index)

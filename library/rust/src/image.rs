@@ -1,0 +1,112 @@
+//! What a guest alone holds, as bytes that outlive its machine.
+
+use crate::error::{answered, Error};
+use crate::machine::Machine;
+use crate::place::Guest;
+use crate::raw;
+
+impl Machine {
+    /// How many bytes the image of a guest has, which [`Machine::save`] gives. It stays as long as the guest has the same
+    /// functions in the same slots. It changes nothing. 902: there is no such guest.
+    ///
+    /// ```
+    /// # const BOARD: &str = include_str!("board.toml");
+    /// let mut machine = pciguest::Machine::new(BOARD)?;
+    /// let a = machine.guest("a")?;
+    /// let size = machine.image_size(a)?;
+    /// machine.run_line("a cw 0 4 2 2")?;
+    /// assert_eq!(machine.image_size(a)?, size);
+    /// machine.take(a, 0)?;
+    /// assert_eq!(machine.image_size(a)?, 12 + 32); // a byte for each empty slot
+    /// # Ok::<(), pciguest::Error>(())
+    /// ```
+    pub fn image_size(&mut self, guest: Guest) -> Result<usize, Error> {
+        let mut size = 0;
+        // SAFETY: `size` is a place of its own.
+        answered(unsafe { raw::pciguest_image_size(&mut self.handle, guest.index(), &mut size) })?;
+        Ok(size)
+    }
+
+    /// Saves a guest: its image, which is all that the guest holds. That is its CONFIG_ADDRESS, and of each of its 32 slots
+    /// what is declared of the function and what the guest's registers hold; nothing of the board, of other guests or of
+    /// where its functions stand. `docs/FORMATS.md`, section 8, has the bytes. What a [`DeviceModel`](crate::DeviceModel)
+    /// keeps beside its registers is the program's to save. The machine stays as it is. 902: there is no such guest.
+    ///
+    /// ```
+    /// # const BOARD: &str = include_str!("board.toml");
+    /// let mut machine = pciguest::Machine::new(BOARD)?;
+    /// let a = machine.guest("a")?;
+    /// machine.run_line("a iw 0xcf8 4 0x80000804")?;
+    /// let image = machine.save(a)?;
+    /// assert_eq!(image.len(), machine.image_size(a)?);
+    /// assert_eq!(&image[..12], b"PCIG\x01\0\0\0\x04\x08\0\x80"); // the format, its version, and the latch
+    /// # Ok::<(), pciguest::Error>(())
+    /// ```
+    pub fn save(&mut self, guest: Guest) -> Result<Vec<u8>, Error> {
+        let mut image = vec![0; self.image_size(guest)?];
+        let mut needed = 0;
+        // SAFETY: `image` has as many bytes as is said, and nothing overlaps.
+        answered(unsafe {
+            raw::pciguest_save(
+                &mut self.handle,
+                guest.index(),
+                image.as_mut_ptr(),
+                image.len(),
+                &mut needed,
+            )
+        })?;
+        image.truncate(needed);
+        Ok(image)
+    }
+
+    /// Loads an image into a guest, which then holds what the image says: what the guest that was saved held. Each of its
+    /// slots has to be filled or empty as there, and its functions declared as there; they may stand elsewhere, on another
+    /// board, and the machine of the image isn't needed any more. Other guests can't tell. A
+    /// [`DeviceModel`](crate::DeviceModel) isn't told of it; its registers are as they were saved.
+    ///
+    /// # Errors
+    ///
+    /// 905: the bytes are no image. 906: another slot is filled, or a function is declared otherwise. Of both, what the first
+    /// byte that fails tells. 902: there is no such guest.
+    ///
+    /// ```
+    /// # const BOARD: &str = include_str!("board.toml");
+    /// let mut machine = pciguest::Machine::new(BOARD)?;
+    /// let a = machine.guest("a")?;
+    /// machine.run_line("a cw 0 4 2 2")?;
+    /// let image = machine.save(a)?;
+    ///
+    /// let mut other = pciguest::Machine::new(BOARD)?; // the guest goes on there
+    /// other.load_image(a, &image)?;
+    /// assert_eq!(other.run_line("a cr 0 4 2")?.as_deref(), Some("a: 0x0002"));
+    /// assert_eq!(other.load_image(a, &image[1..]).unwrap_err().to_string(), "905 image");
+    /// other.take(a, 0)?;
+    /// assert_eq!(other.load_image(a, &image).unwrap_err().to_string(), "906 other functions");
+    /// # Ok::<(), pciguest::Error>(())
+    /// ```
+    pub fn load_image(&mut self, guest: Guest, image: impl AsRef<[u8]>) -> Result<(), Error> {
+        let image = image.as_ref();
+        // SAFETY: `image` has as many bytes as is said, and nothing overlaps.
+        answered(unsafe {
+            raw::pciguest_load(&mut self.handle, guest.index(), image.as_ptr(), image.len())
+        })
+    }
+
+    /// Resets every function of a guest, each where it is, and the guest's own CONFIG_ADDRESS: nothing is carried over. 902:
+    /// there is no such guest.
+    ///
+    /// ```
+    /// # const BOARD: &str = include_str!("board.toml");
+    /// let mut machine = pciguest::Machine::new(BOARD)?;
+    /// let a = machine.guest("a")?;
+    /// let at_reset = machine.save(a)?;
+    /// machine.run_line("a cw 0 4 2 2")?;
+    /// machine.reset_guest(a)?;
+    /// assert_eq!(machine.save(a)?, at_reset);
+    /// # Ok::<(), pciguest::Error>(())
+    /// ```
+    pub fn reset_guest(&mut self, guest: Guest) -> Result<(), Error> {
+        // SAFETY: no pointer but the handle is passed.
+        answered(unsafe { raw::pciguest_reset_guest(&mut self.handle, guest.index()) })
+    }
+}

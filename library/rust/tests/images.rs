@@ -1,0 +1,219 @@
+//! Guests that are saved, loaded and put to reset. Each script of the folder `boards` goes on over another board, wherever
+//! it is cut.
+
+use pciguest::{Error, Guest, Machine};
+
+const BOARD: &str = include_str!("../../../boards/main.toml");
+const SERVER: &str = include_str!("../../../boards/server.toml");
+const SCRIPTS: [(&str, &str); 7] = [
+    (BOARD, include_str!("../../../boards/guest.script")),
+    (BOARD, include_str!("../../../boards/two_guests.script")),
+    (BOARD, include_str!("../../../boards/raise.script")),
+    (BOARD, include_str!("../../../boards/host.script")),
+    (BOARD, include_str!("../../../boards/ports.script")),
+    (BOARD, include_str!("../../../boards/move.script")),
+    (SERVER, include_str!("../../../boards/server.script")),
+];
+/// What stands beside the functions of a board that are moved behind two bridges.
+const BESIDE: &str = include_str!("../../../tests/library/beside.toml");
+
+/// The number by which a call is refused.
+fn number<T>(answer: Result<T, Error>) -> u32 {
+    answer.err().expect("a refusal").number()
+}
+
+/// Where two images of one guest differ.
+fn differences(one: &[u8], other: &[u8]) -> Vec<usize> {
+    assert_eq!(one.len(), other.len());
+    (0..one.len()).filter(|&at| one[at] != other[at]).collect()
+}
+
+#[test]
+fn an_image_tells_what_its_guest_holds() -> Result<(), Error> {
+    let mut machine = Machine::new(BOARD)?;
+    let (a, b) = (machine.guest("a")?, machine.guest("b")?);
+    let (first, other) = (machine.save(a)?, machine.save(b)?);
+    assert_eq!(machine.image_size(a)?, first.len());
+    machine.run_line("a cw 0 4 2 2")?;
+    let opened = machine.save(a)?;
+    let changed = differences(&first, &opened);
+    assert_eq!(changed.len(), 1); // the low byte of Command
+    assert_eq!((first[changed[0]], opened[changed[0]]), (0, 2));
+    machine.run_line("a iw 0xcf8 4 0x80000800")?;
+    assert_eq!(differences(&opened, &machine.save(a)?), [9, 11]); // the latch
+    assert_eq!(machine.save(b)?, other);
+    Ok(())
+}
+
+#[test]
+fn a_guest_is_put_to_reset() -> Result<(), Error> {
+    let mut machine = Machine::new(BOARD)?;
+    let (a, b) = (machine.guest("a")?, machine.guest("b")?);
+    let first = machine.save(a)?;
+    for line in ["a cw 0 4 2 2", "a raise 1 cfg 7 0x80", "b cw 0 4 2 2"] {
+        let reply = machine.run_line(line)?.expect("a reply");
+        assert!(reply.ends_with(": ok"), "{reply}");
+    }
+    let other = machine.save(b)?;
+    let count = machine.changed(a)?;
+    machine.reset_guest(a)?;
+    assert_eq!(machine.save(a)?, first);
+    assert_eq!(machine.save(b)?, other);
+    assert_eq!(machine.changed(a)?, count + 1);
+    Ok(())
+}
+
+#[test]
+fn an_image_is_as_long_as_its_functions_are_many() -> Result<(), Error> {
+    let mut machine = Machine::new(BOARD)?;
+    let (a, b) = (machine.guest("a")?, machine.guest("b")?);
+    let (one, other) = (machine.image_size(a)?, machine.image_size(b)?);
+    machine.move_function(a, 1, b, 9)?;
+    assert_eq!(machine.image_size(a)? + machine.image_size(b)?, one + other);
+    assert!(machine.image_size(a)? < one);
+    machine.take(a, 0)?;
+    assert_eq!(machine.image_size(a)?, 12 + 32);
+    Ok(())
+}
+
+#[test]
+fn a_guest_that_is_not_there_has_no_image() -> Result<(), Error> {
+    let mut machine = Machine::new(BOARD)?;
+    for nobody in [Guest::of_index(2), Guest::of_index(usize::MAX)] {
+        assert_eq!(number(machine.image_size(nobody)), 902);
+        assert_eq!(number(machine.save(nobody)), 902);
+        assert_eq!(number(machine.reset_guest(nobody)), 902);
+    }
+    Ok(())
+}
+
+// ---- loaded
+
+/// The same functions and guests behind two more bridges, at other addresses, and beside others.
+fn elsewhere(board: &str) -> String {
+    let is_path =
+        |text: &str| text.contains('.') && text.starts_with(|it: char| it.is_ascii_digit());
+    let parts = board.split('"').enumerate().map(|(at, part)| {
+        if at % 2 == 1 && is_path(part) {
+            format!("6.0/3.0/{part}")
+        } else {
+            part.to_owned()
+        }
+    });
+    let moved = parts.collect::<Vec<_>>().join("\"");
+    let placed = moved
+        .replace("io = [0x1000", "io = [0x3000")
+        .replace("mem = [0xc0000000", "mem = [0x80000000");
+    assert!(placed != moved && moved != board);
+    placed + BESIDE
+}
+
+fn is_by_a_guest(line: &str) -> bool {
+    !line.starts_with("host ") || line.starts_with("host move ")
+}
+
+/// The replies to lines, without what the host reads of the board.
+fn replies(machine: &mut Machine, lines: &[&str]) -> Result<Vec<String>, Error> {
+    let mut replies = Vec::new();
+    for line in lines.iter().filter(|line| is_by_a_guest(line)) {
+        replies.extend(machine.run_line(line)?);
+    }
+    Ok(replies)
+}
+
+/// Another board, after the moves of these lines and after events of its own.
+fn arranged(board: &str, lines: &[&str]) -> Result<Machine, Error> {
+    let mut machine = Machine::new(elsewhere(board))?;
+    for line in lines.iter().filter(|line| line.starts_with("host move ")) {
+        machine.run_line(line)?;
+    }
+    for guest in machine.guests()? {
+        for line in [
+            "cw 0 4 2 0x547",
+            "cw 0 0x10 4 0xfffffff0",
+            "raise 0 cfg 7 0xff",
+            "iw 0xcf8 4 0xffffffff",
+        ] {
+            machine.run_line(format!("{guest} {line}"))?;
+        }
+    }
+    Ok(machine)
+}
+
+#[test]
+fn guests_go_on_over_another_board() -> Result<(), Error> {
+    for (board, script) in SCRIPTS {
+        let lines: Vec<_> = script.lines().collect();
+        for cut in 0..=lines.len() {
+            let (first, rest) = lines.split_at(cut);
+            let mut here = Machine::new(board)?;
+            replies(&mut here, first)?;
+            let mut there = arranged(board, first)?;
+            for (index, name) in here.guests()?.iter().enumerate() {
+                let (guest, image) = (Guest::of_index(index), here.save(Guest::of_index(index))?);
+                assert_eq!(&there.guest_name(guest)?, name);
+                there.load_image(guest, &image)?;
+                assert_eq!(there.save(guest)?, image, "{name} at line {cut}");
+            }
+            let wanted = replies(&mut here, rest)?;
+            assert_eq!(
+                replies(&mut there, rest)?,
+                wanted,
+                "from line {cut} of\n{script}"
+            );
+        }
+    }
+    Ok(())
+}
+
+#[test]
+fn a_guest_is_loaded_where_it_was_saved() -> Result<(), Error> {
+    let mut machine = Machine::new(BOARD)?;
+    let a = machine.guest("a")?;
+    replies(
+        &mut machine,
+        &[
+            "a cw 0 0x14 4 0xe0000000",
+            "a cw 0 4 2 2",
+            "a mw 0xe0000010 4 0x12345678",
+        ],
+    )?;
+    let image = machine.save(a)?;
+    let count = machine.changed(a)?;
+    machine.reset_guest(a)?;
+    machine.load_image(a, &image)?;
+    assert_eq!(machine.save(a)?, image);
+    assert_eq!(machine.changed(a)?, count + 2);
+    assert_eq!(
+        replies(&mut machine, &["a mr 0xe0000010 4"])?,
+        ["a: 0x12345678"]
+    );
+    Ok(())
+}
+
+#[test]
+fn bytes_that_are_no_image_for_a_guest_are_refused() -> Result<(), Error> {
+    let mut machine = Machine::new(BOARD)?;
+    let (a, b) = (machine.guest("a")?, machine.guest("b")?);
+    let (image, other) = (machine.save(a)?, machine.save(b)?);
+    machine.run_line("a cw 0 4 2 2")?;
+    let held = machine.save(a)?;
+    let longer = [&image[..], &[0]].concat();
+    for bytes in [&[][..], b"PCIG", &image[..image.len() - 1], &longer] {
+        assert!(matches!(machine.load_image(a, bytes), Err(Error::Image(_))));
+    }
+    assert!(matches!(
+        machine.load_image(a, &other),
+        Err(Error::OtherFunctions(_))
+    ));
+    for at in 0..8 {
+        let mut changed = image.clone();
+        changed[at] ^= 0x10;
+        assert_eq!(number(machine.load_image(a, changed)), 905);
+    }
+    assert_eq!(machine.save(a)?, held);
+    machine.move_function(a, 0, a, 5)?;
+    assert_eq!(number(machine.load_image(a, &image)), 906);
+    assert_eq!(number(machine.load_image(Guest::of_index(2), &image)), 902);
+    Ok(())
+}

@@ -1,0 +1,129 @@
+"""Images of guests as docs/FORMATS.md has them, section 8, by a second hand: written, judged and read, over the second hand's
+own guests."""
+from functools import lru_cache
+
+from lone import KINDS
+
+MAGIC, VERSION, LATCH = 0x47494350, 1, 0x80FFFFFC
+IMAGE, OTHERS = 905, 906
+HEADER = [*range(0x00, 0x0F), *range(0x2C, 0x30), *range(0x3C, 0x40)]
+STATUS = (0x06, 0x07)
+IDENTITY = [("vendor", 2), ("device", 2), ("revision", 1), ("class", 3), ("subvendor", 2), ("subsystem", 2), ("pin", 1),
+            ("min_gnt", 1), ("max_lat", 1), ("status", 2)]
+
+
+def le(value, count):
+    return value.to_bytes(count, "little")
+
+
+def masks(cells):
+    """The cells of a block, as their declaration has them."""
+    return b"".join(bytes([cell.reset, cell.writable, cell.clearing]) for _, cell in sorted(cells.items()))
+
+
+@lru_cache(maxsize=128)
+def declaration(function):
+    """The bytes of what a function declares."""
+    endpoint = function.endpoint
+    told = b"".join(le(endpoint.values.get(key, 0), count) for key, count in IDENTITY)
+    told += le(len(endpoint.bars), 1)
+    for bar in sorted(endpoint.bars, key=lambda bar: bar.index):
+        told += le(bar.index, 1) + le(KINDS.index(bar.kind), 1) + le(bar.size, 8) + le(bar.block, 2)
+        told += masks(function.blocks[bar.index])
+    told += le(len(endpoint.config), 1)
+    for off, count, _ in endpoint.config:
+        told += le(off, 1) + le(count, 1)
+        told += masks({at: function.config[at] for at in range(off, off + count)})
+    return told
+
+
+@lru_cache(maxsize=128)
+def held(function):
+    """The cells whose values stand in an image, in this order, each with whether its device writes it; None stands for a
+    byte that has no cell and reads 0."""
+    found = [(function.config.get(off), off in STATUS) for off in HEADER]
+    for off, count, _ in function.endpoint.config:
+        found += [(function.config[at], True) for at in range(off, off + count)]
+    for bar in sorted(function.endpoint.bars, key=lambda bar: bar.index):
+        first = 0x10 + 4 * bar.index
+        found += [(function.config[at], False) for at in range(first, first + (8 if bar.kind.startswith("mem64") else 4))]
+        found += [(cell, True) for _, cell in sorted(function.blocks[bar.index].items())]
+    return found
+
+
+def image_of(guest):
+    """The bytes of a guest's image."""
+    told = le(MAGIC, 4) + le(VERSION, 4) + le(guest.latch, 4)
+    for function in guest.slots:
+        if function is None:
+            told += b"\0"
+            continue
+        told += b"\1" + declaration(function)
+        told += bytes(0 if cell is None else cell.value for cell, _ in held(function))
+    return told
+
+
+class Part:
+    """Bytes of an image that stand one after the other: the number by which others are refused, and the bits that have to
+    be as they are here."""
+
+    def __init__(self, number, wanted, fixed=None):
+        self.number, self.size = number, len(wanted)
+        fixed = b"\xff" * len(wanted) if fixed is None else fixed
+        self.fixed = int.from_bytes(fixed, "little")
+        self.wanted = int.from_bytes(wanted, "little") & self.fixed
+
+    def refuses(self, image):
+        """The number by which these bytes are refused, or 0."""
+        low = (1 << 8 * min(len(image), self.size)) - 1
+        if (int.from_bytes(image, "little") & self.fixed ^ self.wanted) & low:
+            return self.number
+        return IMAGE if len(image) < self.size else 0
+
+
+@lru_cache(maxsize=128)
+def values_of(function):
+    """The values of a function: a device may write any byte of its own, and elsewhere the bits that no access changes are
+    those at reset."""
+    def fixed(cell, is_device):
+        return 0 if is_device else 0xFF if cell is None else 0xFF & ~(cell.writable | cell.clearing)
+    wanted = bytes(0 if cell is None else cell.reset for cell, _ in held(function))
+    return Part(IMAGE, wanted, bytes(fixed(*each) for each in held(function)))
+
+
+def parts(guest):
+    """The parts of an image of this guest."""
+    yield Part(IMAGE, le(MAGIC, 4) + le(VERSION, 4))
+    yield Part(IMAGE, bytes(4), le(~LATCH & 0xFFFFFFFF, 4))
+    for function in guest.slots:
+        if function is None:
+            yield Part(OTHERS, b"\0")
+        else:
+            yield Part(OTHERS, b"\1" + declaration(function))
+            yield values_of(function)
+
+
+def fault(guest, image):
+    """The number by which a guest refuses bytes, or 0. The first byte that fails decides, and else their number."""
+    at = 0
+    for part in parts(guest):
+        number = part.refuses(image[at:at + part.size])
+        if number:
+            return number
+        at += part.size
+    return 0 if at == len(image) else IMAGE
+
+
+def load(guest, image):
+    """Loads bytes that are not refused."""
+    guest.latch, at = int.from_bytes(image[8:12], "little"), 12
+    for function in guest.slots:
+        at += 1
+        if function is None:
+            continue
+        at += len(declaration(function))
+        function.decoding = None
+        for cell, _ in held(function):
+            if cell is not None:
+                cell.value = image[at]
+            at += 1

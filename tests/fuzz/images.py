@@ -1,0 +1,209 @@
+"""Random guests, saved by the library and by a second hand, and images of theirs that were changed: which of these the
+library takes, and what its guests hold then. All has to agree.
+
+    images.py [--guests N] [--changed N] [--lines N] [--seed S]
+
+Each board stands twice: as it is, and with all its functions behind two more bridges, beside others. A script runs over the
+first, and its moves over the second, where the images of the first are loaded; then another script runs over both, which
+have to answer guests alike. The first that differs is printed with its seed. The second hand of images is image.py; what
+guests hold is told by that of scripts. The library is that of PCIGUEST_LIBRARY_DIR, or the one in library/."""
+import argparse
+import random
+import re
+import sys
+from pathlib import Path
+
+import image as second_hand
+from answers import World
+from board import Board, Bridge, Endpoint, board_file, random_board
+from placement import Refused
+from script import Writer
+
+sys.path.append(str(Path(__file__).resolve().parents[2] / "library" / "python"))
+from pciguest import Machine, Refusal  # the module stands there
+
+MOVE = re.compile(rb"[ \t\r]*host[ \t\r]+move[ \t\r]")
+BEHIND = ((6, 0), (3, 0))
+WAYS = ["a bit", "a byte", "the header", "cut", "longer", "a byte left out", "a byte twice", "another's", "a value"]
+
+
+def elsewhere(board):
+    """The board with its functions behind two more bridges, beside others."""
+    def bridge(path):
+        return Bridge(path, {"vendor": 0x1234, "device": 0x0B0B}, "32", "64")
+
+    def moved(function):
+        path = BEHIND + function.path
+        if isinstance(function, Endpoint):
+            return Endpoint(path, function.values, function.bars, function.config)
+        return Bridge(path, function.values, function.io, function.pref)
+
+    beside = [Endpoint(path, {"vendor": 0x1234, "device": 0x0E0E, "class": 0}, [], []) for path in (((0, 0),), ((6, 1),))]
+    functions = [beside[0], bridge(BEHIND[:1]), bridge(BEHIND), *map(moved, board.functions), beside[1]]
+    guests = [(name, [BEHIND + path for path in slots]) for name, slots in board.guests]
+    return Board(board.apertures, functions, guests)
+
+
+def refused(call, *arguments):
+    """The number by which a call is refused, or 0."""
+    try:
+        call(*arguments)
+    except Refusal as refusal:
+        return refusal.number
+    return 0
+
+
+class Pair:
+    """A board and the second hand's world of it, with the library's machine."""
+
+    def __init__(self, board):
+        self.world, self.text = World(board), board_file(board)
+        self.machine = Machine(self.text)
+        self.guests = [(guest, self.machine.guest(name.decode())) for name, guest in self.world.guests.items()]
+
+    def answers(self, line):
+        """What both answer, None for reads of the host, which tell of the board."""
+        wanted, came = self.world.answer(line), self.machine.run_line(line)
+        return (None, None) if wanted is not None and wanted.host_read else (wanted, came)
+
+
+class Fuzz:
+    """Counts, and what is asked of each board."""
+
+    def __init__(self, lines, changed):
+        self.lines, self.changed = lines, changed
+        self.saved, self.moved, self.taken, self.refused = 0, 0, 0, {905: 0, 906: 0}
+
+    def differs(self, what, *told):
+        sys.exit(f"seed {self.seed}: {what}: {', '.join(map(str, told))}")
+
+    def same(self, what, found, wanted):
+        if found != wanted:
+            self.differs(what, f"{found!r} in place of {wanted!r}")
+
+    def same_image(self, what, found, wanted):
+        if found != wanted:
+            at = next((at for at, pair in enumerate(zip(found, wanted)) if pair[0] != pair[1]), min(len(found), len(wanted)))
+            self.differs(what, f"{len(found)} and {len(wanted)} bytes differ from {at} on",
+                         f"{found[at:at + 8].hex()} in place of {wanted[at:at + 8].hex()}")
+
+    def one(self, seed):
+        """One board."""
+        self.seed, self.rng = seed, random.Random(seed)
+        board = random_board(self.rng)
+        try:
+            here = Pair(board)
+        except Refused:
+            return
+        writer = Writer(self.rng, board, here.world.layout.bases)
+        lines = [writer.line() for _ in range(self.lines)]
+        for line in lines:
+            self.same(f"an answer to {line}", *here.answers(line)[::-1])
+        images = [self.save(*pair) for pair in here.guests]
+        there = self.there(board, lines)
+        for (guest, mine), image in zip(there.guests, images):
+            self.same("a load elsewhere", refused(mine.load, image), 0)
+            second_hand.load(guest, image)
+            self.same_image("what was loaded elsewhere", mine.save(), image)
+            self.moved += 1
+        for line in [writer.line() for _ in range(self.lines)]:
+            self.same(f"an answer elsewhere to {line}", there.answers(line)[1], here.answers(line)[1])
+        for guest, mine in there.guests:
+            self.change(guest, mine, images)
+        here.machine.close()
+        there.machine.close()
+
+    def there(self, board, lines):
+        """The board elsewhere, after the moves of these lines and some events of its own."""
+        try:
+            there = Pair(elsewhere(board))
+        except Refused:  # it doesn't fit behind the bridges
+            there = Pair(board)
+        for line in filter(MOVE.match, lines):
+            there.answers(line)
+        for name in there.world.guests:
+            for line in (b" cw 0 4 2 0x547", b" cw 0 0x10 4 0xfffffff0", b" raise 0 cfg 7 0xff", b" iw 0xcf8 4 0xffffffff"):
+                there.answers(name + line)
+        return there
+
+    def save(self, guest, mine):
+        """The image of a guest, which both hands write alike."""
+        wanted, image = second_hand.image_of(guest), mine.save()
+        self.same("the size of an image", mine.image_size(), len(wanted))
+        self.same_image("an image", image, wanted)
+        self.same("an image of its own", second_hand.fault(guest, image), 0)
+        self.saved += 1
+        return image
+
+    def change(self, guest, mine, images):
+        """Loads images that were changed."""
+        for _ in range(self.changed):
+            before = mine.save()
+            image = self.changed_image(guest, before, images)
+            wanted = second_hand.fault(guest, image)
+            self.same("why an image is refused", refused(mine.load, image), wanted)
+            if wanted:
+                self.refused[wanted] += 1
+            else:
+                second_hand.load(guest, image)
+                self.taken += 1
+            self.same_image("what is held after a load", mine.save(), before if wanted else image)
+            self.same_image("what the second hand holds", mine.save(), second_hand.image_of(guest))
+
+    def changed_image(self, guest, image, images):
+        """An image with something changed in it."""
+        rng, at = self.rng, self.rng.randrange(len(image))
+        way = rng.choice(WAYS)
+        if way == "a bit":
+            return image[:at] + bytes([image[at] ^ 1 << rng.randrange(8)]) + image[at + 1:]
+        if way == "a byte":
+            return image[:at] + bytes([rng.choice([0, 1, 0xFF, rng.randrange(256)])]) + image[at + 1:]
+        if way == "the header":
+            at = rng.randrange(12)
+            return image[:at] + bytes([rng.randrange(256)]) + image[at + 1:]
+        if way == "cut":
+            return image[:at]
+        if way == "longer":
+            return image + bytes(rng.choices(range(256), k=rng.choice([1, 2, 100])))
+        if way == "a byte left out":
+            return image[:at] + image[at + 1:]
+        if way == "a byte twice":
+            return image[:at] + image[at:at + 1] + image[at:]
+        if way == "another's":
+            return rng.choice(images)
+        return self.changed_value(guest, image)
+
+    def changed_value(self, guest, image):
+        """An image with other values of a function."""
+        starts, at = [], 12
+        for function in guest.slots:
+            at += 1
+            if function is not None:
+                at += len(second_hand.declaration(function))
+                count = len(second_hand.held(function))
+                starts.append((at, count))
+                at += count
+        changed = bytearray(image)
+        for first, count in starts:
+            for _ in range(self.rng.choice([0, 1, 1, 3])):
+                changed[first + self.rng.randrange(count)] = self.rng.choice([0, 0xFF, self.rng.randrange(256)])
+        return bytes(changed)
+
+
+def main():
+    words = argparse.ArgumentParser()
+    words.add_argument("--guests", type=int, default=300)
+    words.add_argument("--changed", type=int, default=10)
+    words.add_argument("--lines", type=int, default=60)
+    words.add_argument("--seed", type=int, default=1)
+    chosen = words.parse_args()
+    fuzz, seed = Fuzz(chosen.lines, chosen.changed), chosen.seed
+    while fuzz.saved < chosen.guests:
+        fuzz.one(seed)
+        seed += 1
+    print(f"{fuzz.saved} guests saved, {fuzz.moved} loaded elsewhere, of the images that were changed {fuzz.taken} taken and "
+          f"{sum(fuzz.refused.values())} refused (905: {fuzz.refused[905]}, 906: {fuzz.refused[906]}): all agree")
+
+
+if __name__ == "__main__":
+    main()

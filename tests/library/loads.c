@@ -1,0 +1,200 @@
+/* Images that were changed at random are loaded into two guests, between random events of theirs. Each is refused by 905 or
+ * 906, and nothing changes, or it is loaded, and the guest is then saved as these bytes; the other guest stays as it is.
+ * Images are saved to and loaded from the very end of memory that may be touched, so that one byte too far ends the program.
+ *
+ *     loads BOARD COUNT SEED
+ *
+ * BOARD has two guests. The last line tells how many were loaded and refused. */
+#define _DEFAULT_SOURCE
+#include "pciguest.h"
+
+#include <inttypes.h>
+#include <stdio.h>
+#include <stdlib.h>
+#include <string.h>
+#include <sys/mman.h>
+#include <unistd.h>
+
+enum { GUESTS = 2, MORE = 64 };
+
+/* Memory with nothing behind it. */
+struct room {
+    uint8_t *end;
+    size_t size;
+};
+
+static uint64_t state;
+static int wrong;
+
+/* xorshift64 */
+static uint64_t below(uint64_t n)
+{
+    state ^= state << 13;
+    state ^= state >> 7;
+    state ^= state << 17;
+    return state % n;
+}
+
+static void is(int line, uint64_t found, uint64_t wanted)
+{
+    if (found != wanted && !wrong++)
+        fprintf(stderr, "loads.c:%d: 0x%" PRIx64 " in place of 0x%" PRIx64 "\n", line, found, wanted);
+}
+
+#define IS(found, wanted) is(__LINE__, (found), (wanted))
+
+static struct room room_of(size_t size)
+{
+    size_t page = (size_t)sysconf(_SC_PAGESIZE), whole = (size + page - 1) / page * page;
+    uint8_t *at = mmap(NULL, whole + page, PROT_READ | PROT_WRITE, MAP_PRIVATE | MAP_ANONYMOUS, -1, 0);
+
+    if (at == MAP_FAILED || mprotect(at + whole, page, PROT_NONE) != 0) {
+        perror("loads");
+        exit(2);
+    }
+    return (struct room){at + whole, size};
+}
+
+/* ---- what is saved */
+
+static size_t size_of(struct pciguest *machine, size_t guest)
+{
+    size_t size = 0;
+
+    IS(pciguest_image_size(machine, guest, &size), 0);
+    return size;
+}
+
+/* Saves a guest to the end of a room, and gives the image's first byte. */
+static uint8_t *save(struct pciguest *machine, size_t guest, const struct room *room)
+{
+    size_t size = size_of(machine, guest), needed = 0;
+
+    IS(size <= room->size, 1);
+    IS(pciguest_save(machine, guest, room->end - size, size, &needed), 0);
+    IS(needed, size);
+    return room->end - size;
+}
+
+/* ---- what is changed */
+
+/* Changes bytes of an image that ends where its room ends, and gives its new beginning. */
+static uint8_t *change(uint8_t *image, const struct room *room)
+{
+    size_t size = (size_t)(room->end - image), at = below(size), more = 1 + below(MORE);
+
+    switch (below(8)) {
+    case 0:
+        image[at] ^= (uint8_t)(1 << below(8));
+        return image;
+    case 1:
+        image[at] = (uint8_t)below(256);
+        return image;
+    case 2:
+        image[below(12)] = (uint8_t)below(256);
+        return image;
+    case 3: /* cut at its end */
+        memmove(image + at, image, size - at);
+        return image + at;
+    case 4: /* something behind it */
+        memmove(image - more, image, size);
+        for (size_t i = 0; i < more; i++)
+            room->end[(ptrdiff_t)i - (ptrdiff_t)more] = (uint8_t)below(256);
+        return image - more;
+    case 5: /* a byte left out */
+        memmove(image + 1, image, at);
+        return image + 1;
+    case 6: /* many bytes */
+        for (size_t left = 1 + below(20); left > 0; left--)
+            image[below(size)] = (uint8_t)below(256);
+        return image;
+    default: /* any byte, near the end, where a region's cells are */
+        image[size - 1 - below(size < 16 ? size : 16)] = (uint8_t)below(256);
+        return image;
+    }
+}
+
+/* ---- events and loads */
+
+/* An event of a guest or of its device, or at times a move. */
+static void event(struct pciguest *machine)
+{
+    size_t guest = below(GUESTS);
+    uint64_t slot = below(3);
+    uint32_t value = (uint32_t)below(UINT32_MAX);
+
+    switch (below(6)) {
+    case 0:
+        (void)pciguest_write(machine, guest, PCIGUEST_IO, 0, 0xcf8, 4, value);
+        break;
+    case 1:
+        (void)pciguest_device_write_wide(machine, guest, slot, (uint32_t)below(7), below(0x60), 2, value);
+        break;
+    case 2:
+        (void)(below(40) ? pciguest_reset(machine, guest, slot) : pciguest_move(machine, guest, slot, below(GUESTS), below(3)));
+        break;
+    default:
+        (void)pciguest_write(machine, guest, PCIGUEST_CONFIG, slot, 4 * below(0x18), 4, value);
+    }
+}
+
+struct counts {
+    uint64_t loaded, images, others;
+};
+
+/* A load of a guest, by one of these rooms each for what it held, for the image, and for what the other guest holds. */
+static void load(struct pciguest *machine, const struct room rooms[3], struct counts *counts)
+{
+    size_t guest = below(GUESTS), other = 1 - guest, size = size_of(machine, guest), length;
+    uint8_t *held = save(machine, guest, &rooms[0]), *image = save(machine, below(8) ? guest : other, &rooms[1]);
+    uint8_t *beside = save(machine, other, &rooms[2]);
+    uint64_t count = 0, grown = 0;
+    uint32_t number;
+
+    if (below(10))
+        image = change(image, &rooms[1]);
+    length = (size_t)(rooms[1].end - image);
+    IS(pciguest_changed(machine, guest, &count), 0);
+    number = pciguest_load(machine, guest, image, length);
+    IS(pciguest_changed(machine, guest, &grown), 0);
+    IS(grown, count + (number == 0));
+    if (number == 0) {
+        IS(length, size);
+        memcpy(held, image, length < size ? length : size);
+    } else {
+        IS(number == PCIGUEST_BAD_IMAGE || number == PCIGUEST_OTHER_FUNCTIONS, 1);
+    }
+    IS(memcmp(save(machine, guest, &rooms[1]), held, size), 0);
+    IS(memcmp(save(machine, other, &rooms[1]), beside, size_of(machine, other)), 0);
+    counts->loaded += number == 0;
+    counts->images += number == PCIGUEST_BAD_IMAGE;
+    counts->others += number == PCIGUEST_OTHER_FUNCTIONS;
+}
+
+int main(int argc, char **argv)
+{
+    static uint8_t board[1 << 20];
+    struct pciguest machine = PCIGUEST_INIT;
+    FILE *file = argc == 4 ? fopen(argv[1], "rb") : NULL;
+    struct room rooms[3];
+    struct counts counts = {0};
+    size_t length, most;
+
+    if (!file)
+        return 2;
+    length = fread(board, 1, sizeof board, file);
+    fclose(file);
+    state = strtoull(argv[3], NULL, 10) * 0x9e3779b97f4a7c15u + 1;
+    IS(pciguest_new(&machine, board, length), 0);
+    most = size_of(&machine, 0) + size_of(&machine, 1) + MORE;
+    for (size_t i = 0; i < 3; i++)
+        rooms[i] = room_of(most);
+    for (uint64_t left = strtoull(argv[2], NULL, 10); left > 0 && !wrong; left--) {
+        event(&machine);
+        load(&machine, rooms, &counts);
+    }
+    pciguest_free(&machine);
+    printf("%" PRIu64 " images loaded, %" PRIu64 " refused as no image, %" PRIu64 " as of other functions\n", counts.loaded,
+           counts.images, counts.others);
+    return wrong != 0;
+}
