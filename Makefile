@@ -37,10 +37,10 @@ pciguest:
 	@$(MAKE) --no-print-directory build
 
 # The gate: what the documents say of files and what runs tests and proofs, which takes a moment; every proof from nothing,
-# the must-fail edits, the tests and the programs; then the proved program as its user runs it, the commands that the
+# the tests and the programs; the edits of the gate; then the proved program as its user runs it, the commands that the
 # documents print, and each growth of memory refused in turn on the main board. At the end stands how long each took.
-GATE := tests/documents.sh tests/kit.sh tests/tools.sh tests/prove.sh 'rm -rf .prove; rt ci' tests/program.sh \
-  tests/commands.sh 'python3 tests/hostile/growths.py crates/pciguest/out/pciguest --quick --arrays crates/test_landings/out/test_landings'
+GATE := tests/documents.sh tests/kit.sh tests/tools.sh tests/prove.sh tests/proofs.sh 'tests/edits.py --after-gate' \
+  tests/program.sh tests/commands.sh 'python3 tests/hostile/growths.py crates/pciguest/out/pciguest --quick --arrays crates/test_landings/out/test_landings'
 gate:
 	@tests/parts.py $(GATE)
 
@@ -110,25 +110,28 @@ bench-peers: pciguest
 	@bench/peers ./pciguest
 
 # The proved program as it is used by one who means harm: memory refused, streams that fail, odd files and
-# great sizes. It takes cc and Python 3, and some minutes.
-hostile: pciguest
+# great sizes; and the library given images that were changed. It takes cc and Python 3, and some minutes.
+hostile: pciguest library/libpciguest.a
 	@for part in growths streams surroundings sizes; do python3 tests/hostile/$$part.py ./pciguest; done
+	@python3 tests/hostile/images.py
 
 # Random boards and scripts, answered by the program, by the lone guests and by a second hand in Python:
-# about a million lines. Then board files with mistakes, and what a check says of them; and random register
-# states, what an audit says of them, whether they are ready, and why things find what they find. make fuzz SEED=.. begins
-# with another board.
+# about a million lines. Then board files with mistakes, and what a check says of them; random register
+# states, what an audit says of them, whether they are ready, and why things find what they find; and ten thousand guests
+# that the library saves and loads elsewhere. make fuzz SEED=.. begins with another board.
 SEED := 1
-fuzz: pciguest
+fuzz: pciguest library/libpciguest.so.0
 	@$(PROVE) test_lone_answers
 	@python3 tests/fuzz/fuzz.py ./pciguest --lone crates/test_lone_answers/out/test_lone_answers --boards 850 --seed $(SEED)
 	@python3 tests/fuzz/mistakes.py ./pciguest --files 3000 --seed $(SEED)
 	@python3 tests/fuzz/audit.py ./pciguest --states 2000 --seed $(SEED)
 	@python3 tests/fuzz/ready.py ./pciguest --states 2000 --seed $(SEED)
 	@python3 tests/fuzz/why.py ./pciguest --states 2000 --seed $(SEED)
+	@python3 tests/fuzz/images.py --guests 10000 --lines 40 --changed 4 --seed $(SEED)
 
-# Functions of two guests in two machines of QEMU at once, under Linux; and strangers at the sockets. It takes QEMU 7.2
-# and Debian's packages, which it names where they are missing, and a minute or two beyond the proofs.
+# Functions of two guests in two machines of QEMU at once, under Linux; a machine that goes on over another board; and
+# strangers at the sockets. It takes QEMU 7.2 and Debian's packages, which it names where they are missing, and some minutes
+# beyond the proofs.
 qemu: has-qemu pciguest library/libpciguest.a
 	@$(MAKE) --no-print-directory -C examples/qemu check PROGRAM=$(CURDIR)/pciguest
 
