@@ -37,10 +37,10 @@ pciguest:
 	@$(MAKE) --no-print-directory build
 
 # The gate: what the documents say of files and what runs tests and proofs, which takes a moment; every proof from nothing,
-# the tests and the programs; the edits of the gate; then the proved program as its user runs it, the commands that the
+# the must-fail edits, the tests and the programs; then the proved program as its user runs it, the commands that the
 # documents print, and each growth of memory refused in turn on the main board. At the end stands how long each took.
-GATE := tests/documents.sh tests/kit.sh tests/tools.sh tests/prove.sh tests/proofs.sh 'tests/edits.py --after-gate' \
-  tests/program.sh tests/commands.sh 'python3 tests/hostile/growths.py crates/pciguest/out/pciguest --quick --arrays crates/test_landings/out/test_landings'
+GATE := tests/documents.sh tests/kit.sh tests/tools.sh tests/prove.sh 'rm -rf .prove; rt ci' tests/program.sh \
+  tests/commands.sh 'python3 tests/hostile/growths.py crates/pciguest/out/pciguest --quick --arrays crates/test_landings/out/test_landings'
 gate:
 	@tests/parts.py $(GATE)
 
