@@ -5,14 +5,13 @@
 --     after_values file bytes      the bytes after a value for each cell that the cell can hold
 --     after_slot, after_slots, after_image      the bytes after those of a slot, of slots, and of an image of this guest
 --     load_fault g bytes      905 where the bytes are no image, 906 where they declare other functions
---     load_reply, after_load_bytes      what the host is told, and the world after it
+--     after_load_bytes      the world after it
 use Rattle.std.specs.Prelude.{List, [], ◌∷◌, ◌++◌, ℕ, ◌==◌, false, if◌then◌else◌, is_some, Option, Some, None, Result, Ok, Err}
 use Rattle.std.specs.Option.{option_map_or}
 use Rattle.model_registers.specs.Registers.{File}
 use Rattle.model_registers.specs.ConfigAddress.{latched}
 use Rattle.model_registers.specs.EndpointTable.{endpoint_reset}
 use Rattle.model_registers.specs.Decoding.{Function}
-use Rattle.model_guests.specs.Accesses.{Reply, done, refused}
 use Rattle.model_guests.specs.Slots.{Slots}
 use Rattle.model_guests.specs.Text.{Text}
 use Rattle.model_guests.specs.Lone.{LoneGuest}
@@ -73,9 +72,6 @@ fault_of (Err k) = Some k
 
 abbrev pub load_fault : LoneGuest → List ℕ → Option ℕ
 load_fault g bytes = fault_of (after_image g bytes)
-
-abbrev pub load_reply : WorldNow → Text → List ℕ → Reply
-load_reply w name bytes = option_map_or refused (load_fault (lone_of w.guests name) bytes) done
 
 -- refused bytes change nothing
 abbrev pub after_load_bytes : Text → List ℕ → WorldNow → WorldNow
