@@ -163,7 +163,8 @@ fn costs_by(
 ) -> Result<String, AllocError>
     ensures { let t = telling.now in let s = source.now in IfOk result (λ text. (b : Board)
         → needed ≡ told_use b apertures.now (named_pool pool)
-        → AreCostsBy t.style t.name.now s.bytes.now (table_view s.document.now) regions.now b apertures.now pool needed
+        → AreCostsBy t.style t.name.now s.bytes.now
+        (table_view s.document.now) regions.now b apertures.now pool needed
         (string_bytes text)) }
 {
     let mut text = regions_text(alloc, telling, source, pool, regions)?;
@@ -186,7 +187,8 @@ fn pool_costs(
     requires { IsRead source.now }
     ensures { let t = telling.now in IfOk result (λ text. (b : Board)
         → needed ≡ told_use b apertures.now (named_pool pool)
-        → AreCosts t.style t.name.now source.now.bytes.now b apertures.now pool needed (string_bytes text)) }
+        → AreCosts t.style t.name.now source.now.bytes.now b apertures.now pool needed
+        (string_bytes text)) }
 {
     let regions = pool_regions(alloc, pool, &source.file, apertures)?;
     costs_by(alloc, telling, source, &regions, pool, needed, apertures)
@@ -205,7 +207,8 @@ pub(crate) fn costs_text(
     requires { IsRead source.now }
     ensures { let t = telling.now in IfOk result (λ text.
         (b : Board) → IsNeedOf b apertures.now shortage
-        → AreCostsOf t.style t.name.now source.now.bytes.now b apertures.now shortage (string_bytes text)) }
+        → AreCostsOf t.style t.name.now source.now.bytes.now b apertures.now shortage
+        (string_bytes text)) }
 {
     match shortage {
         Some(shortage) => pool_costs(

@@ -70,7 +70,8 @@ fn decline(
     ensures fault { IfOk result (λ v. v.fault ≡ Some fault) }
     ensures text { let t = telling.now in let bytes = source.now.bytes.now in
         IfOk result (λ v. (b : Board) → IsNeedOf b apertures.now shortage
-        → IsMisfit t.style t.name.now bytes b apertures.now shortage fault (string_bytes v.text)) }
+        → IsMisfit t.style t.name.now bytes b apertures.now shortage fault
+        (string_bytes v.text)) }
 {
     if fault == Fault::Memory {
         return Err(AllocError);
@@ -134,7 +135,8 @@ fn fit(
     ensures known { IfOk result (λ v. v.fault ≢ Some Memory) }
     ensures verdict { let t = telling.now in let bytes = source.now.bytes.now in
         IfOk result (λ v. (b : Board) → IsTableOf b table.now
-        → IsVerdict t.style warned t.name.now bytes b apertures.now v.fault (string_bytes v.text)) }
+        → IsVerdict t.style warned t.name.now bytes b apertures.now v.fault
+        (string_bytes v.text)) }
 {
     match can_be_placed(alloc, table, apertures) {
         Ok(()) => accept(alloc, telling, warned, source, table, apertures),

@@ -22,7 +22,8 @@ const OTHER_KEY: &str = "io";
 /// A remark with its place.
 fn locate(alloc: Global, places: &Places<'_>, remark: Remark) -> Result<Located, AllocError>
     ensures same { IfOk result (λ l. l.remark ≡ remark) }
-    ensures located { IfOk result (IsLocated places.now.text.now (table_view places.now.document.now)) }
+    ensures located { IfOk result
+        (IsLocated places.now.text.now (table_view places.now.document.now)) }
 {
     let place = place_of(alloc, places, remark.entry(), remark.key())?;
     let other = with_place(alloc, places, remark.other(), OTHER_KEY)?;

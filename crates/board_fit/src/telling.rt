@@ -70,7 +70,8 @@ pub(crate) fn warnings_text(
 
     // Of whatever board this is the table.
     ensures { let t = telling.now in IfOk result (λ text. (b : Board) → IsTableOf b table.now
-        → AreWarnings t.style warned t.name.now source.now.bytes.now b apertures.now (string_bytes text)) }
+        → AreWarnings t.style warned t.name.now source.now.bytes.now b apertures.now
+        (string_bytes text)) }
 {
     let warnings = warnings(alloc, warned, &source.file, table, apertures)?;
     told_text(alloc, telling, source, &warnings)

@@ -195,7 +195,8 @@ pub(crate) fn warnings(
 ) -> Result<Vec<Remark>, AllocError>
     requires { IsTableOf (board_in table.now) table.now }
     ensures { IfOk result (λ v.
-        (b : Board) → IsTableOf b table.now → v.items ≡ warnings warned file.now b apertures.now) }
+        (b : Board) → IsTableOf b table.now
+        → v.items ≡ warnings warned file.now b apertures.now) }
 {
     let mut remarks = Vec::new(alloc);
     push_empty_bridges(alloc, &mut remarks, file)?;

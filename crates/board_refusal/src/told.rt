@@ -29,7 +29,8 @@ fn tell<'a>(
     problem: &Problem<'a>,
 ) -> Result<Told<'a>, AllocError>
     ensures same { IfOk result (λ t. t.problem ≡ problem.now) }
-    ensures told { IfOk result (IsTold places.now.text.now (table_view places.now.document.now) file.now) }
+    ensures told { IfOk result
+        (IsTold places.now.text.now (table_view places.now.document.now) file.now) }
 {
     let place = place_of(alloc, places, problem.entry, problem.key)?;
     let taker = taker_of(file, problem.entry, problem.rule);

@@ -38,7 +38,7 @@ fn block_file(alloc: Global, block: &[Cell]) -> Result<Cells, AllocError>
     requires { length block.now ≤ 4096 }
     ensures { IfOk result (λ f. f ≡ as_made (cells_from (config 0) block.now)) }
 {
-    let mut cells = Vec::new(alloc);
+    let mut cells = Vec::with_capacity(alloc, block.len())?;
     for (off, cell) in block.iter().enumerate() {
         cells.push((off as u16, *cell))?;
     }
@@ -64,7 +64,7 @@ pub(crate) fn block_files(alloc: Global, regions: &[Region]) -> Result<Vec<Cells
         slice_get v.items n ≡ Some (as_made (declared_block regions.now n))) }
     ensures six { IfOk result (λ v. length v.items ≡ 6) }
 {
-    let mut blocks = Vec::new(alloc);
+    let mut blocks = Vec::with_capacity(alloc, 6)?;
     for index in 0..6 {
         blocks.push(block_at(alloc, regions, index)?)?;
     }

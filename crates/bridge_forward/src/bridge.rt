@@ -102,7 +102,10 @@ impl BridgeFn {
     pub(crate) fn config_write(&mut self, off: u8, enables: u8, data: u32)
         requires { off % 4 ≡ 0 }
         ensures { self.new
-            ≡ record self.old { file = write (lanes enables) «data» (config off) self.old.file } }
+            ≡ record self.old {
+              file = write (lanes enables) «data»
+                  (config off) self.old.file;
+            } }
     {
         self.cells.write(u16::from(off), enables, data);
         self.decoded = decode(&self.cells, &self.decl);

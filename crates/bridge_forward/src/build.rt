@@ -55,7 +55,11 @@ fn multifunction_devices(alloc: Global, decls: &[Decl]) -> Result<Vec<bool>, All
 fn node_at_reset(alloc: Global, decl: Decl, multifunction: bool) -> Result<Node, AllocError>
     ensures made { IfOk result (λ n.
         function_of n
-        ≡ record { path = decl.path; decl = decl.decl; file = reset_cells decl.decl multifunction }) }
+        ≡ record {
+          path = decl.path;
+          decl = decl.decl;
+          file = reset_cells decl.decl multifunction;
+        }) }
     ensures lawful { IfOk result (λ _. IsLawfulDecl decl.decl) }
 {
     let Decl { path, function } = decl;

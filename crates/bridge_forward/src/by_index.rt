@@ -49,7 +49,8 @@ impl Bus {
     pub fn number_nth(&self, index: usize, off: u8, width: u64) -> Option<u32>
         requires { LiesInWord off width }
         ensures { result
-            ≡ option_map (λ (f : BoardFunction). number f.file (config off) width) (slice_get self.now index) }
+            ≡ option_map (λ (f : BoardFunction). number f.file (config off) width)
+            (slice_get self.now index) }
     {
         let node = self.nodes.get(index)?;
         Some(node.function.number(off, width))

@@ -133,7 +133,10 @@ impl EndpointFn {
     pub fn write(&mut self, reg: u8, off: u64, enables: u8, data: u32)
         requires { off % 4 ≡ 0 }
         ensures { self.new
-            ≡ record self.old { file = write (lanes enables) «data» (block reg off) self.old.file } }
+            ≡ record self.old {
+              file = write (lanes enables) «data»
+                  (block reg off) self.old.file;
+            } }
     {
         let Some(block) = self.blocks.get_mut(usize::from(reg)) else {
             return;
@@ -218,7 +221,10 @@ impl EndpointFn {
     pub fn config_write(&mut self, off: u8, enables: u8, data: u32)
         requires { off % 4 ≡ 0 }
         ensures { self.new
-            ≡ record self.old { file = write (lanes enables) «data» (config off) self.old.file } }
+            ≡ record self.old {
+              file = write (lanes enables) «data»
+                  (config off) self.old.file;
+            } }
     {
         match base_register(off) {
             Some(reg) => self.bars.write(reg, enables, data),

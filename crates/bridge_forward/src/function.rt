@@ -94,7 +94,8 @@ impl Function {
     fn config_write(&mut self, off: u8, enables: u8, data: u32)
         requires { off % 4 ≡ 0 }
         ensures { self.new
-            ≡ with_cells self.old (write (lanes enables) «data» (config off) (file_of self.old)) }
+            ≡ with_cells self.old
+            (write (lanes enables) «data» (config off) (file_of self.old)) }
     {
         match self {
             Function::Endpoint(endpoint) => endpoint.config_write(off, enables, data),

@@ -44,7 +44,8 @@ impl Model for RoutingRow {
 
     ghost Value = { RowValue };
 
-    ghost view = { λ r. record { path = r.path; command = r.command; ranges = named_ranges r.ranges } };
+    ghost view = { λ r.
+        record { path = r.path; command = r.command; ranges = named_ranges r.ranges } };
 }
 
 /// A window, from its first and last address.

@@ -59,7 +59,8 @@ fn size_bar(host: &mut Host, at: Bdf, reg: u8) -> Option<BarDecl>
     requires register { reg < 6 }
     requires registers { IsNumbered host.old.state }
     requires endpoint { IsEndpointReached host.old.state.functions (bus_address_of at) }
-    requires begins { IsFalse (is_upper_half reg (regions_reached host.old.state.functions (bus_address_of at))) }
+    requires begins { IsFalse
+        (is_upper_half reg (regions_reached host.old.state.functions (bus_address_of at))) }
     ensures bar { result
         ≡ bar_at reg (regions_reached host.old.state.functions (bus_address_of at)) }
     ensures host { host.new ≡ host.old }

@@ -112,7 +112,8 @@ fn is_true(given: Option<&str>) -> bool
 
 /// What a subcommand asks for with what is given for it, if the program has one of that name.
 fn asked<'a>(name: &str, given: &ArgMatches<'a>, is_terminal: bool) -> Option<Choice<'a>>
-    ensures asked { IfSome result (IsAskedBy (Some name.now) (first_value (found_of given.now)) is_terminal) }
+    ensures asked { IfSome result
+        (IsAskedBy (Some name.now) (first_value (found_of given.now)) is_terminal) }
     ensures work { IfSome result IsWork }
     ensures none { IfNone result (IsNoCommand name.now) }
 {

@@ -11,7 +11,8 @@ use std::alloc::{AllocError, Global};
 
 /// What an error tells of words: a fault was found, unless memory was out.
 fn fault_found(error: &Error) -> Result<bool, WordsFault>
-    ensures found { IfOk result (λ t. (t ≡ false) × (kind_of error.now ≢ ErrorKind.OutOfMemory)) }
+    ensures found { IfOk result
+        (λ t. (t ≡ false) × (kind_of error.now ≢ ErrorKind.OutOfMemory)) }
     ensures memory { IfErr result (λ f. f ≡ WordsFault.Memory) }
 {
     match error.kind() {
@@ -40,7 +41,8 @@ fn with_word<'a>(
     words: &[&'a str],
     word: &'a str,
 ) -> Result<Vec<&'a str>, AllocError>
-    ensures { IfOk result (λ more. map (λ w. w.now) more.items ≡ map (λ w. w.now) words.now ++ word.now ∷ []) }
+    ensures { IfOk result
+        (λ more. map (λ w. w.now) more.items ≡ map (λ w. w.now) words.now ++ word.now ∷ []) }
 {
     let mut more = Vec::from_slice(alloc, words)?;
     more.push(word)?;

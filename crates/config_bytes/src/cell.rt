@@ -36,7 +36,8 @@ impl Model for Cell {
 
     ghost view = { λ c. record { value = c.value; writable = c.rw; clearable = c.w1c } };
 
-    ghost invariant = { λ c. IsCell (record { value = c.value; writable = c.rw; clearable = c.w1c }) };
+    ghost invariant = { λ c. IsCell
+        (record { value = c.value; writable = c.rw; clearable = c.w1c }) };
 
     ghost inverse = { λ c. record { value = c.value; rw = c.writable; w1c = c.clearable } };
 }

@@ -32,7 +32,10 @@ impl Model for Cells {
 
     ghost Value = { CellFile };
 
-    ghost view = { λ f. record { now = file_from f.table.items f.initial.items; initial = file_of f.initial.items } };
+    ghost view = { λ f. record {
+      now = file_from f.table.items f.initial.items;
+      initial = file_of f.initial.items;
+    } };
 
     ghost invariant = { λ f. IsTable f.table.items f.initial.items };
 }

@@ -21,7 +21,8 @@ pub struct Identity {
 fn subsystem_number(host: &Host, index: usize, off: u8) -> Option<u32>
     requires { off % 4 + 2 ≤ 4 }
     ensures { let fs = host.now.state.functions in
-        result ≡ option_map (λ (f : BoardFunction). subsystem_number f.decl f.file off) (slice_get fs index) }
+        result ≡ option_map (λ (f : BoardFunction). subsystem_number f.decl f.file off)
+        (slice_get fs index) }
 {
     match host.secondary_nth(index) {
         Some(_) => Some(0),

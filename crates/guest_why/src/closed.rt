@@ -92,7 +92,8 @@ pub(crate) fn all_closed(
 ) -> Result<Vec<ClosedInSlot>, AllocError>
     requires { guest < length monitor.now.world.guests }
     ensures { let g = lone_asked monitor.now.world guest in
-        IfOk result (λ v. map closed_told v.items ≡ closed_from (named_space space) addr 0 g.slots) }
+        IfOk result (λ v. map closed_told v.items
+        ≡ closed_from (named_space space) addr 0 g.slots) }
 {
     let mut closed = Vec::new(alloc);
     for slot in 0..monitor.slots(guest) {

@@ -92,7 +92,8 @@ impl Model for Apertures {
 
     ghost view = { λ a. record { io = a.io; mem = a.mem; pref = a.pref } };
 
-    ghost invariant = { λ a. IsLawfulApertures (record { io = a.io; mem = a.mem; pref = a.pref }) };
+    ghost invariant = { λ a. IsLawfulApertures
+        (record { io = a.io; mem = a.mem; pref = a.pref }) };
 
     ghost inverse = { λ v. record { io = v.io; mem = v.mem; pref = v.pref } };
 }

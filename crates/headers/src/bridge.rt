@@ -113,9 +113,12 @@ impl Bridge {
     /// The cells of a bridge at reset. `multifunction` says that its device has two functions or more.
     pub fn cells(alloc: Global, decl: &BridgeDecl, multifunction: bool) -> Result<Cells, AllocError>
         ensures { IfOk result (λ f.
-            f ≡ record { now = bridge_reset decl.now multifunction; initial = bridge_reset decl.now multifunction }) }
+            f ≡ record {
+              now = bridge_reset decl.now multifunction;
+              initial = bridge_reset decl.now multifunction;
+            }) }
     {
-        let mut cells = Vec::new(alloc);
+        let mut cells = Vec::with_capacity(alloc, 64)?;
         push_header(&mut cells, decl, multifunction)?;
         push_mem_window(&mut cells)?;
         push_io_window(&mut cells, decl.io())?;

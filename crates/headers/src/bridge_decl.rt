@@ -30,7 +30,13 @@ impl Model for BridgeDecl {
 
     ghost invariant = { λ d. IsLawfulBridge (bridge_of d.vendor d.device d.revision d.io d.pref) };
 
-    ghost inverse = { λ v. record { vendor = v.vendor; device = v.device; revision = v.revision; io = named_io_decode v.io; pref = named_pref_decode v.pref } };
+    ghost inverse = { λ v. record {
+      vendor = v.vendor;
+      device = v.device;
+      revision = v.revision;
+      io = named_io_decode v.io;
+      pref = named_pref_decode v.pref;
+    } };
 }
 
 impl BridgeDecl {

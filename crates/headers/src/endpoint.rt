@@ -71,9 +71,12 @@ impl Endpoint {
         multifunction: bool,
     ) -> Result<Cells, AllocError>
         ensures { IfOk result (λ f.
-            f ≡ record { now = config_reset decl.now multifunction; initial = config_reset decl.now multifunction }) }
+            f ≡ record {
+              now = config_reset decl.now multifunction;
+              initial = config_reset decl.now multifunction;
+            }) }
     {
-        let mut cells = Vec::new(alloc);
+        let mut cells = Vec::with_capacity(alloc, 64)?;
         push_header(&mut cells, decl, multifunction)?;
         push_blocks(&mut cells, &decl.values().config)?;
         Cells::new(alloc, &cells)

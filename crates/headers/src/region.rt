@@ -26,7 +26,8 @@ impl Model for Region {
 
     ghost Value = { Region };
 
-    ghost view = { λ r. record { index = r.index; kind = r.bar.kind; size = r.bar.size; cells = r.block.items } };
+    ghost view = { λ r.
+        record { index = r.index; kind = r.bar.kind; size = r.bar.size; cells = r.block.items } };
 }
 
 impl TakesRegisters for Region {

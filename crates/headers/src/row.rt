@@ -23,7 +23,11 @@ impl Access {
     /// The cell of the lowest byte.
     pub(crate) fn cell(self, value: u32) -> Cell
         ensures { result
-            ≡ record { value = value % 256; writable = writable_of self % 256; clearable = clearable_of self % 256 } }
+            ≡ record {
+              value = value % 256;
+              writable = writable_of self % 256;
+              clearable = clearable_of self % 256;
+            } }
     {
         let value = (value % 256) as u8;
         match self {

@@ -29,7 +29,8 @@ impl Host {
     /// The path of the function at an index, in path order.
     pub fn path_nth(&self, index: usize) -> Option<Path>
         ensures { result
-            ≡ option_map (λ (f : BoardFunction). f.path) (slice_get self.now.state.functions index) }
+            ≡ option_map (λ (f : BoardFunction). f.path)
+            (slice_get self.now.state.functions index) }
     {
         self.root.path_nth(index)
     }
@@ -38,7 +39,8 @@ impl Host {
     pub fn number_nth(&self, index: usize, off: u8, width: u64) -> Option<u32>
         requires { LiesInWord off width }
         ensures { let fs = self.now.state.functions in
-            result ≡ option_map (λ (f : BoardFunction). number f.file (config off) width) (slice_get fs index) }
+            result ≡ option_map (λ (f : BoardFunction). number f.file (config off) width)
+            (slice_get fs index) }
     {
         self.root.number_nth(index, off, width)
     }
@@ -86,7 +88,8 @@ impl Host {
         requires there { IsSome (endpoint_nth self.old.state.functions index) }
         requires reached { IsReached self.old.state.functions index }
         requires word { off % 4 ≡ 0 }
-        ensures { let written = with_file_nth (write (lanes enables) «data» (config off)) index self.old.state.functions in
+        ensures { let written = with_file_nth
+            (write (lanes enables) «data» (config off)) index self.old.state.functions in
             self.new ≡ with_functions written self.old }
     {
         match self.root.endpoint_nth(index) {
@@ -99,7 +102,8 @@ impl Host {
     /// stay.
     pub fn raise_nth(&mut self, index: usize, place: Place, off: u64, mask: u8)
         requires { IsSome (endpoint_nth self.old.state.functions index) }
-        ensures { let raised = with_file_nth (raise mask (place_of place off)) index self.old.state.functions in
+        ensures { let raised = with_file_nth
+            (raise mask (place_of place off)) index self.old.state.functions in
             self.new ≡ with_functions raised self.old }
     {
         match self.root.endpoint_nth(index) {
@@ -127,7 +131,8 @@ impl Host {
     pub fn set_device_value_nth(&mut self, index: usize, place: Place, off: u64, value: u8)
         requires there { IsSome (endpoint_nth self.old.state.functions index) }
         requires own { IsTrue (is_device_byte (place_of place off)) }
-        ensures { let set = with_file_nth (set_value value (place_of place off)) index self.old.state.functions in
+        ensures { let set = with_file_nth
+            (set_value value (place_of place off)) index self.old.state.functions in
             self.new ≡ with_functions set self.old }
     {
         match self.root.endpoint_nth(index) {

@@ -105,7 +105,8 @@ pub fn run<L, S: Answers<L>, R: Reader, W: Writer>(
     ensures writes { W.failures writer.new ≡ W.failures writer.old + write_failures_of result }
 
     // What it did of the lines of the script.
-    ensures runs { Runs S.protocol server.old server.new (ends (R.rest reader.old) (R.rest reader.new)
+    ensures runs { Runs S.protocol server.old server.new
+        (ends (R.rest reader.old) (R.rest reader.new)
         (W.written writer.old) (W.written writer.new) (W.flushed writer.new)) result }
 
     // No memory for a line: all that those before it write was flushed.

@@ -14,7 +14,8 @@ use window_packing::{Setting, Writes};
 
 /// The members of a function's numbers and of its path.
 fn place_members(alloc: Global, row: &FunctionRow) -> Result<Map<String, Value>, AllocError>
-    ensures { IfOk result (λ m. members_view m.entries ≡ place_members row.now.bus row.now.path) }
+    ensures { IfOk result
+        (λ m. members_view m.entries ≡ place_members row.now.bus row.now.path) }
 {
     let part = row.path.last();
     let device = part.device();

@@ -20,11 +20,14 @@ use std::alloc::AllocError;
 #[inline(always)]
 pub fn answer(monitor: &mut Monitor, what: What) -> Option<(Who, Reply)>
     requires { GuestsAre (λ g. g < length (names_now monitor.old.world)) what }
-    ensures written { let written = written_by monitor.old.world (meaning_of (names_now monitor.old.world) what) in
-        MatchOption result (written ≡ []) (λ a. written ≡ line_text (who_of (names_now monitor.new.world) a.0) (reply_of a.1) ∷ []) }
+    ensures written { let written = written_by monitor.old.world
+        (meaning_of (names_now monitor.old.world) what) in
+        MatchOption result (written ≡ []) (λ a. written
+        ≡ line_text (who_of (names_now monitor.new.world) a.0) (reply_of a.1) ∷ []) }
     ensures after { let m = meaning_of (names_now monitor.old.world) what in
         monitor.new ≡ after_on_machine monitor.old (calls (asks m)) }
-    ensures who { IfSome result (λ a. GuestIs (λ g. g < length (names_now monitor.new.world)) a.0) }
+    ensures who { IfSome result
+        (λ a. GuestIs (λ g. g < length (names_now monitor.new.world)) a.0) }
     ensures shown { IfSome result (λ a. IsShown a.1) }
 {
     match what {

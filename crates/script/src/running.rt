@@ -28,7 +28,8 @@ pub fn run<R: Reader, W: Writer>(
     ensures memory { ¬ IsErrOf result RunFault.Memory }
 
     // What it did of the lines.
-    ensures runs { Runs machine_protocol monitor.old monitor.new (ends (R.rest reader.old) (R.rest reader.new)
+    ensures runs { Runs machine_protocol monitor.old monitor.new
+        (ends (R.rest reader.old) (R.rest reader.new)
         (W.written writer.old) (W.written writer.new) (W.flushed writer.new)) result }
 {
     line_runs::run::<Script, Monitor, R, W>(monitor, reader, writer)

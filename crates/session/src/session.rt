@@ -148,7 +148,8 @@ impl Session {
     /// (206), and lack of memory (299): then the board stays as it was.
     pub fn hand_over(&mut self, alloc: Global) -> Result<(), HandoverFault>
         ensures given { OnOk result (IfSome (board_in self.old) (λ b. IsHandedOverAs b self.new)) }
-        ensures stays { IfSome (machine_in self.old) (λ _. IsOk result × (self.new ≡ self.old)) }
+        ensures stays { IfSome (machine_in self.old)
+            (λ _. IsOk result × (self.new ≡ self.old)) }
         ensures kept { OnErr result (self.new ≡ self.old) }
         ensures refused { IfErr result (λ f. IfSome (board_in self.old) (λ b. IsRefusalOf b f)) }
     {
@@ -161,7 +162,8 @@ impl Session {
     /// All that is wrong in the registers of the board as they stand, whoever wrote them. Nothing changes, also
     /// where memory is out.
     pub fn audit(&mut self, alloc: Global) -> Result<Audit, AllocError>
-        ensures text { IfOk result (λ a. string_bytes a.text ≡ audit (session_functions self.old)) }
+        ensures text { IfOk result
+            (λ a. string_bytes a.text ≡ audit (session_functions self.old)) }
         ensures problems { IfOk result (λ a.
             a.problems ≡ length (problems (session_functions self.old))) }
         ensures after { self.new ≡ self.old }

@@ -46,7 +46,8 @@ fn push_refusal(text: &mut String, fault: &HandoverFault) -> Result<(), AllocErr
 
 /// What is written of a fault, unless memory is out.
 pub(crate) fn handover_refusal(alloc: Global, fault: &HandoverFault) -> Result<String, AllocError>
-    ensures text { IfOk result (λ t. string_bytes t ≡ handover_output (handoff_fault fault.now)) }
+    ensures text { IfOk result
+        (λ t. string_bytes t ≡ handover_output (handoff_fault fault.now)) }
     ensures told { IfOk result (λ _. IsSome (handoff_fault fault.now)) }
 {
     let mut text = String::new(alloc);

@@ -46,7 +46,8 @@ pub fn audit<R: Reader, W: Writer>(
 
     ensures file { IfErr result (OnFile (Refuses board.now)) }
     ensures faults { IfErr result (IsOfAudit strict) }
-    ensures nothing { IfErr result (λ f. IsOfFile f → (reader.new ≡ reader.old) × (writer.new ≡ writer.old)) }
+    ensures nothing { IfErr result
+        (λ f. IsOfFile f → (reader.new ≡ reader.old) × (writer.new ≡ writer.old)) }
 
     // No memory for a line or for the audit: what the lines before write was flushed if it is anything.
     ensures lacking_flushed { IsErrOf result (Fault.SetUp Memory) →

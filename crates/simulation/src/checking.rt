@@ -100,7 +100,8 @@ fn accept(
     host: Host,
 ) -> Result<Checked, Fault>
     requires read { IsRead source.now }
-    requires declared { (gs : List Guest) × (meaning (table_view source.now.document.now) ≡ Ok (world_in host gs)) }
+    requires declared { (gs : List Guest)
+        × (meaning (table_view source.now.document.now) ≡ Ok (world_in host gs)) }
     requires reset { IsAtReset host.state }
     ensures told { let board = source.now.bytes.now in
         IfOk result (λ c. IsCheckText style warned name.now board c.fault (string_bytes c.text)) }
@@ -199,12 +200,14 @@ pub fn check<W: Writer>(
     ensures told { IfErr result (λ f. IsRefusal f →
         IsChecked style warned name.now board.now (Some f)
         (W.written writer.old) (W.written writer.new)) }
-    ensures told_flushed { IfErr result (λ f. IsRefusal f → W.flushed writer.new ≡ W.written writer.new) }
+    ensures told_flushed { IfErr result
+        (λ f. IsRefusal f → W.flushed writer.new ≡ W.written writer.new) }
 
     ensures stopped { IsErrOf result Fault.Write →
         IsCheckedInPart style warned name.now board.now (W.written writer.old) (W.written writer.new) }
     ensures faults { IfErr result IsOfList }
-    ensures nothing { IfErr result (λ f. f ≢ Fault.Write → ¬ IsRefusal f → writer.new ≡ writer.old) }
+    ensures nothing { IfErr result
+        (λ f. f ≢ Fault.Write → ¬ IsRefusal f → writer.new ≡ writer.old) }
 
     // A fault is the writer's exactly where the writer failed during the call.
     ensures failures { W.failures writer.new ≡ W.failures writer.old + write_faults result }

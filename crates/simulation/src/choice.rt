@@ -55,7 +55,8 @@ pub(crate) fn print<W: Writer>(text: &str, writer: &mut W) -> Result<(), Fault>
     requires { W.failures writer.old < 2 ^ 64 - 1 }
     ensures ok { OnOk result (Appends (W.written writer.old) (W.written writer.new) text.now) }
     ensures flushed { OnOk result (W.flushed writer.new ≡ W.written writer.new) }
-    ensures stopped { OnErr result (AppendsPart (W.written writer.old) (W.written writer.new) text.now) }
+    ensures stopped { OnErr result
+        (AppendsPart (W.written writer.old) (W.written writer.new) text.now) }
     ensures fault { IfErr result (λ f. f ≡ Fault.Write) }
     ensures failures { W.failures writer.new ≡ W.failures writer.old + write_faults result }
 {
@@ -78,7 +79,8 @@ fn run_as<R: Reader, W: Writer>(
     ensures runs { RunsAs strict board.now (ends (R.rest reader.old) (R.rest reader.new)
         (W.written writer.old) (W.written writer.new) (W.flushed writer.new)) result }
     ensures faults { IfErr result (IsOfRunAs strict) }
-    ensures nothing { IfErr result (λ f. IsOfBoard f → (reader.new ≡ reader.old) × (writer.new ≡ writer.old)) }
+    ensures nothing { IfErr result
+        (λ f. IsOfBoard f → (reader.new ≡ reader.old) × (writer.new ≡ writer.old)) }
     ensures reads { R.failures reader.new ≡ R.failures reader.old + read_faults result }
     ensures writes { W.failures writer.new ≡ W.failures writer.old + write_faults result }
 {

@@ -48,7 +48,8 @@ pub fn demo<R: Reader, W: Writer>(
     ensures file { IfErr result (OnFile (Refuses demo_board)) }
     ensures placement { IfErr result (OnSetUp (Breaks demo_board)) }
     ensures faults { IfErr result IsOfRun }
-    ensures nothing { IfErr result (λ f. IsOfBoard f → (reader.new ≡ reader.old) × (writer.new ≡ writer.old)) }
+    ensures nothing { IfErr result
+        (λ f. IsOfBoard f → (reader.new ≡ reader.old) × (writer.new ≡ writer.old)) }
 
     // A fault is the reader's or the writer's exactly where that end failed during the call.
     ensures reads { R.failures reader.new ≡ R.failures reader.old + read_faults result }

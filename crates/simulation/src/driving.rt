@@ -26,11 +26,13 @@ pub(crate) fn session_after<R: Reader, W: Writer>(
 
     ensures runs { OnSession (IsSession board.now (ends (R.rest reader.old) (R.rest reader.new)
         (W.written writer.old) (W.written writer.new) (W.flushed writer.new))) result }
-    ensures left { IfOk result (IsLeft strict board.now (ends (R.rest reader.old) (R.rest reader.new)
+    ensures left { IfOk result
+        (IsLeft strict board.now (ends (R.rest reader.old) (R.rest reader.new)
         (W.written writer.old) (W.written writer.new) (W.flushed writer.new))) }
     ensures file { IfErr result (OnFile (Refuses board.now)) }
     ensures faults { IfErr result IsOfSession }
-    ensures nothing { IfErr result (λ f. IsOfFile f → (reader.new ≡ reader.old) × (writer.new ≡ writer.old)) }
+    ensures nothing { IfErr result
+        (λ f. IsOfFile f → (reader.new ≡ reader.old) × (writer.new ≡ writer.old)) }
     ensures lacking_flushed { IsErrOf result (Fault.SetUp Memory) →
         (W.flushed writer.new ≡ W.written writer.new) ⊎ (writer.new ≡ writer.old) }
     ensures reads { R.failures reader.new ≡ R.failures reader.old + read_faults result }
@@ -72,7 +74,8 @@ pub fn drive<R: Reader, W: Writer>(
 
     ensures file { IfErr result (OnFile (Refuses board.now)) }
     ensures faults { IfErr result (IsOfStrictSession strict) }
-    ensures nothing { IfErr result (λ f. IsOfFile f → (reader.new ≡ reader.old) × (writer.new ≡ writer.old)) }
+    ensures nothing { IfErr result
+        (λ f. IsOfFile f → (reader.new ≡ reader.old) × (writer.new ≡ writer.old)) }
 
     // No memory for a line: what those before it write was flushed if it is anything.
     ensures lacking_flushed { IsErrOf result (Fault.SetUp Memory) →

@@ -37,7 +37,8 @@ struct Told {
 fn audit_in(alloc: Global, form: ReportForm, session: &mut Session) -> Result<Told, AllocError>
     ensures text { IfOk result (λ t. string_bytes t.text
         ≡ audit_in form (session_functions session.old)) }
-    ensures count { IfOk result (λ t. t.count ≡ length (problems (session_functions session.old))) }
+    ensures count { IfOk result
+        (λ t. t.count ≡ length (problems (session_functions session.old))) }
 {
     match form {
         ReportForm::Lines => {
@@ -107,11 +108,13 @@ pub(crate) fn tell_after<R: Reader, W: Writer>(
 
     ensures tells { Tells (told_of question) board.now (ends (R.rest reader.old) (R.rest reader.new)
         (W.written writer.old) (W.written writer.new) (W.flushed writer.new)) result }
-    ensures answer { IfOk result (IsAnswer question strict board.now (ends (R.rest reader.old) (R.rest reader.new)
+    ensures answer { IfOk result
+        (IsAnswer question strict board.now (ends (R.rest reader.old) (R.rest reader.new)
         (W.written writer.old) (W.written writer.new) (W.flushed writer.new))) }
     ensures file { IfErr result (OnFile (Refuses board.now)) }
     ensures faults { IfErr result IsOfSession }
-    ensures nothing { IfErr result (λ f. IsOfFile f → (reader.new ≡ reader.old) × (writer.new ≡ writer.old)) }
+    ensures nothing { IfErr result
+        (λ f. IsOfFile f → (reader.new ≡ reader.old) × (writer.new ≡ writer.old)) }
     ensures lacking_flushed { IsErrOf result (Fault.SetUp Memory) →
         (W.flushed writer.new ≡ W.written writer.new) ⊎ (writer.new ≡ writer.old) }
     ensures reads { R.failures reader.new ≡ R.failures reader.old + read_faults result }

@@ -38,7 +38,8 @@ pub fn whole<R: Reader, W: Writer>(
     ensures file { IfErr result (OnFile (Refuses board.now)) }
     ensures placement { IfErr result (OnSetUp (Breaks board.now)) }
     ensures faults { IfErr result IsOfRun }
-    ensures nothing { IfErr result (λ f. IsOfBoard f → (reader.new ≡ reader.old) × (writer.new ≡ writer.old)) }
+    ensures nothing { IfErr result
+        (λ f. IsOfBoard f → (reader.new ≡ reader.old) × (writer.new ≡ writer.old)) }
 
     // A fault is the reader's or the writer's exactly where that end failed during the call.
     ensures reads { R.failures reader.new ≡ R.failures reader.old + read_faults result }
@@ -67,7 +68,8 @@ pub fn whole_strictly<R: Reader, W: Writer>(
     ensures file { IfErr result (OnFile (Refuses board.now)) }
     ensures placement { IfErr result (OnSetUp (Breaks board.now)) }
     ensures faults { IfErr result IsOfStrictRun }
-    ensures nothing { IfErr result (λ f. IsOfBoard f → (reader.new ≡ reader.old) × (writer.new ≡ writer.old)) }
+    ensures nothing { IfErr result
+        (λ f. IsOfBoard f → (reader.new ≡ reader.old) × (writer.new ≡ writer.old)) }
 
     // A fault is the reader's or the writer's exactly where that end failed during the call.
     ensures reads { R.failures reader.new ≡ R.failures reader.old + read_faults result }

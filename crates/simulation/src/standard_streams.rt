@@ -81,9 +81,12 @@ impl<W: Write + Drop> OutputStream<W> {
     /// A writer after what `inner` holds, with no failure yet, behind a buffer. It fails where memory is
     /// out, and nowhere else.
     pub fn buffered(alloc: Global, inner: W) -> Result<BufferedWriter<Self>, Fault>
-        ensures written { IfOk result (λ s. ⟦<BufferedWriter<Self> as Writer>⟧.written s ≡ W.contents inner) }
-        ensures flushed { IfOk result (λ s. ⟦<BufferedWriter<Self> as Writer>⟧.flushed s ≡ W.contents inner) }
-        ensures failures { IfOk result (λ s. ⟦<BufferedWriter<Self> as Writer>⟧.failures s ≡ 0) }
+        ensures written { IfOk result
+            (λ s. ⟦<BufferedWriter<Self> as Writer>⟧.written s ≡ W.contents inner) }
+        ensures flushed { IfOk result
+            (λ s. ⟦<BufferedWriter<Self> as Writer>⟧.flushed s ≡ W.contents inner) }
+        ensures failures { IfOk result
+            (λ s. ⟦<BufferedWriter<Self> as Writer>⟧.failures s ≡ 0) }
         ensures goes_on { IfOk result (λ s. is_stopped s ≡ false) }
         ensures memory { IfErr result (λ f. f ≡ Fault.SetUp Memory) }
     {

@@ -141,7 +141,8 @@ impl<W: Writer + Drop> Writer for BufferedWriter<W> {
     fn write(&mut self, bytes: &[u8]) -> Result<usize, Failed>
         requires { W.failures (writer_behind self.old) + refusals self.old < 2 ^ 64 - 1 }
         ensures bound { WritesAtMost result bytes.now }
-        ensures bytes { WriteAppends (append_known (W.written (writer_behind self.old)) (kept_back self.old))
+        ensures bytes { WriteAppends
+            (append_known (W.written (writer_behind self.old)) (kept_back self.old))
             (append_known (W.written (writer_behind self.new)) (kept_back self.new)) result bytes.now }
         ensures failures { W.failures (writer_behind self.new) + refusals self.new
             ≡ W.failures (writer_behind self.old) + refusals self.old + write_failures_of result }
@@ -160,7 +161,8 @@ impl<W: Writer + Drop> Writer for BufferedWriter<W> {
 
     fn flush(&mut self) -> Result<(), Failed>
         requires { W.failures (writer_behind self.old) + refusals self.old < 2 ^ 64 - 1 }
-        ensures bytes { Keeps (append_known (W.written (writer_behind self.old)) (kept_back self.old))
+        ensures bytes { Keeps
+            (append_known (W.written (writer_behind self.old)) (kept_back self.old))
             (append_known (W.written (writer_behind self.new)) (kept_back self.new)) }
         ensures flushed { OnOk result (W.flushed (writer_behind self.new)
             ≡ append_known (W.written (writer_behind self.new)) (kept_back self.new)) }

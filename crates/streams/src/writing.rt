@@ -9,7 +9,8 @@ use crate::ends::{Failed, Writer};
 pub fn write_all<W: Writer>(writer: &mut W, text: &[u8]) -> Result<(), Failed>
     requires { W.failures writer.old < 2 ^ 64 - 1 }
     ensures ok { OnOk result (Appends (W.written writer.old) (W.written writer.new) text.now) }
-    ensures err { OnErr result (AppendsPart (W.written writer.old) (W.written writer.new) text.now) }
+    ensures err { OnErr result
+        (AppendsPart (W.written writer.old) (W.written writer.new) text.now) }
     ensures failures { W.failures writer.new ≡ W.failures writer.old + failures_of result }
 {
     let mut rest = text;
@@ -28,7 +29,8 @@ pub fn write_and_flush<W: Writer>(writer: &mut W, text: &[u8]) -> Result<(), Fai
     requires { W.failures writer.old < 2 ^ 64 - 1 }
     ensures ok { OnOk result (Appends (W.written writer.old) (W.written writer.new) text.now) }
     ensures flushed { OnOk result (W.flushed writer.new ≡ W.written writer.new) }
-    ensures err { OnErr result (AppendsPart (W.written writer.old) (W.written writer.new) text.now) }
+    ensures err { OnErr result
+        (AppendsPart (W.written writer.old) (W.written writer.new) text.now) }
     ensures failures { W.failures writer.new ≡ W.failures writer.old + failures_of result }
 {
     write_all(writer, text)?;

@@ -21,7 +21,8 @@ fn first_byte(rt: &impl Abort, host: &mut Host, row: &PlanRow) -> u32
     requires placed { Each (λ q.
         IsIn q (placed_regions (board_below host.old) host.old.apertures)) (placed_row row.now) }
     ensures own { Each (λ (q : PlacedRegion).
-        result ≡ claim_reply host.old.state.functions 1 (Some (record { path = q.path; index = q.index; offset = 0 })))
+        result ≡ claim_reply host.old.state.functions 1
+        (Some (record { path = q.path; index = q.index; offset = 0 })))
         (placed_row row.now) }
     ensures after { host.new ≡ host.old }
 {

@@ -25,7 +25,8 @@ impl Model for Plan {
 
     ghost Value = { Plan };
 
-    ghost view = { λ p. record { rows = rows_of p.paths.items p.placement; settings = p.settings.items } };
+    ghost view = { λ p.
+        record { rows = rows_of p.paths.items p.placement; settings = p.settings.items } };
 
     ghost invariant = { λ p. AreListable p.paths.items p.placement };
 }

@@ -24,9 +24,11 @@ impl Model for Item {
 
     ghost Value = { Item };
 
-    ghost view = { λ i. record { part = i.part; what = named_placed i.what; align = i.align; size = i.size } };
+    ghost view = { λ i.
+        record { part = i.part; what = named_placed i.what; align = i.align; size = i.size } };
 
-    ghost inverse = { λ v. record { part = v.part; what = placed_named v.what; align = v.align; size = v.size } };
+    ghost inverse = { λ v.
+        record { part = v.part; what = placed_named v.what; align = v.align; size = v.size } };
 }
 
 impl Item {

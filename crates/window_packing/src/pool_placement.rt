@@ -157,7 +157,8 @@ fn bus_firsts(
     requires bounded { Each IsBounded packs.now }
     requires fit { IsTrue (fits (board_in rows.now) apertures.now (named_pool pool)) }
     ensures { IfOk result (λ v. v.items
-        ≡ map (bus_first (board_in rows.now) apertures.now (named_pool pool)) (bus_paths (board_in rows.now))) }
+        ≡ map (bus_first (board_in rows.now) apertures.now (named_pool pool))
+        (bus_paths (board_in rows.now))) }
 {
     let mut firsts = Vec::with_capacity(alloc, packs.len())?;
     firsts.push(root_first(apertures, pool, &packs[0]))?;

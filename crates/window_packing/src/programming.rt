@@ -54,7 +54,8 @@ pub fn program(host: &mut Host, plan: &Plan)
 /// Writes what one function takes.
 fn write_setting(host: &mut Host, setting: &Setting)
     ensures { let words = words_of setting.now.writes in
-        host.new ≡ host_after (after_words setting.now.at words host.old.state.functions) host.old }
+        host.new ≡ host_after
+        (after_words setting.now.at words host.old.state.functions) host.old }
 {
     let writes = setting.writes;
     match writes {
@@ -66,7 +67,8 @@ fn write_setting(host: &mut Host, setting: &Setting)
 /// Writes the base of each region, and then Command.
 fn write_endpoint(host: &mut Host, at: Bdf, command: u16, bases: &[Option<BasedRegion>; 6])
     ensures { let words = endpoint_words command (bases_from 0 bases.now) in
-        host.new ≡ host_after (after_words (bus_address_of at) words host.old.state.functions) host.old }
+        host.new ≡ host_after
+        (after_words (bus_address_of at) words host.old.state.functions) host.old }
 {
     for index in 0..6u8 {
         if let Some(region) = bases[usize::from(index)] {
@@ -80,7 +82,8 @@ fn write_endpoint(host: &mut Host, at: Bdf, command: u16, bases: &[Option<BasedR
 fn write_base(host: &mut Host, at: Bdf, index: u8, region: BasedRegion)
     requires { index < 6 }
     ensures { let words = base_words (placed index region) in
-        host.new ≡ host_after (after_words (bus_address_of at) words host.old.state.functions) host.old }
+        host.new ≡ host_after
+        (after_words (bus_address_of at) words host.old.state.functions) host.old }
 {
     let register = BASE_ADDRESS + 4 * index;
     let lower = (region.base & 0xffff_ffff) as u32;
@@ -96,7 +99,8 @@ fn write_base(host: &mut Host, at: Bdf, index: u8, region: BasedRegion)
 /// its decode are read-only: so the words are the same for each bridge.
 fn write_bridge(host: &mut Host, at: Bdf, io: Window, mem: Window, pref: Window)
     ensures { let words = bridge_words (record { io = io; mem = mem; pref = pref }) in
-        host.new ≡ host_after (after_words (bus_address_of at) words host.old.state.functions) host.old }
+        host.new ≡ host_after
+        (after_words (bus_address_of at) words host.old.state.functions) host.old }
 {
     write_word(host, at, IO_BASE, LOW_HALF, io_word(io));
     write_word(host, at, MEMORY_BASE, WORD, window_word(mem));
@@ -113,7 +117,8 @@ fn write_bridge(host: &mut Host, at: Bdf, io: Window, mem: Window, pref: Window)
 fn write_word(host: &mut Host, at: Bdf, off: u8, enables: u8, value: u32)
     requires { off % 4 ≡ 0 }
     ensures { let write = word off enables value in
-        host.new ≡ host_after (after_word (bus_address_of at) write host.old.state.functions) host.old }
+        host.new ≡ host_after
+        (after_word (bus_address_of at) write host.old.state.functions) host.old }
 {
     host.config_write(at, off, enables, value);
 }

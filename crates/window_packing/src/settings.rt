@@ -176,7 +176,8 @@ fn window_behind(
     requires there { i < length rows.now }
     requires closed { closed < 2 ^ 12 }
     ensures { (r : Row) → slice_get (board_in rows.now) i ≡ Some r
-        → result ≡ set_up_window (board_in rows.now) apertures.now (named_pool pool) closed r.path }
+        → result ≡ set_up_window (board_in rows.now) apertures.now
+        (named_pool pool) closed r.path }
 {
     window_of(pool, closed, placed.firsts[i + 1], &placed.packs[i + 1])
 }
