@@ -12,7 +12,8 @@ use image_bytes::{declaration_size, values_size, write_declaration};
 /// How many bytes a function has in an image, whatever the guest's own copies hold.
 pub fn function_size(endpoint: &EndpointFn) -> usize
     requires { HasDeclaredPlaces endpoint.now }
-    ensures size { (own : OwnCopies) → result ≡ length (function_bytes (seen endpoint.now own)) }
+    ensures size { (own : OwnCopies)
+        → result ≡ length (function_bytes (seen endpoint.now own)) }
     ensures bound { result ≤ 246306 }
 {
     let decl = endpoint.decl();

@@ -8,7 +8,6 @@ use Rattle.lists.specs.Elements.{Each, EachPair, first_of_two}
 use Rattle.model_board.proofs.PathEnds.{path_self}
 use Rattle.model_registers.specs.Registers.{Place, File}
 use Rattle.model_registers.specs.Decoding.{Function}
-use Rattle.model_registers.specs.EndpointTable.{endpoint_reset}
 use Rattle.model_board.specs.Paths.{Path, path_eq}
 use Rattle.model_board.specs.Board.{Board}
 use Rattle.model_board.proofs.PathOrder.{path_same}
@@ -24,7 +23,7 @@ use Rattle.model_guests.proofs.GuestsByName.{path_at, path_of, function_of, past
 
 -- ---- files of one shape have the same places
 
-shape_places : (file : File) → places_of (shape_of file) ≡ places_of file
+pub shape_places : (file : File) → places_of (shape_of file) ≡ places_of file
 shape_places [] = refl
 shape_places (e ∷ es) = ap (λ (ps : List Place). e.place ∷ ps) (shape_places es)
 
@@ -72,18 +71,18 @@ file_none [] fs p none = refl
 file_none r [] p none = refl
 file_none (o ∷ os) (g ∷ gs) p none = skip o g os gs p (no_such o p (none 0)) ∙ file_none os gs p (λ m. none (suc m))
 
-seat_file : (b : Board) (qs : List (Option Path)) (fs : Slots) (p : Path) (file : File) → AreSeats b qs fs → file_in qs fs p ≡ Some file → IsFileOf places_of b p file
+seat_file : (b : Board) (qs : List (Option Path)) (fs : Slots) (p : Path) (file : File) → AreSeats b qs fs → file_in qs fs p ≡ Some file → IsFileOf shape_of b p file
 seat_file b [] fs p file h e = cc
 seat_file b (o ∷ os) [] p file h e = absurd h
 seat_file b (None ∷ os) (g ∷ gs) p file h e = seat_file b os gs p file h.1 e
 seat_file b (Some r ∷ os) (None ∷ gs) p file h e = absurd h.0
 seat_file b (Some r ∷ os) (Some f ∷ gs) p file h e = cases (path_eq r p) refl e (seat_file b os gs p file h.1)
   where
-    cases : (t : Bool) → path_eq r p ≡ t → cond t (Some f.file) (file_in os gs p) ≡ Some file → (file_in os gs p ≡ Some file → IsFileOf places_of b p file) → IsFileOf places_of b p file
+    cases : (t : Bool) → path_eq r p ≡ t → cond t (Some f.file) (file_in os gs p) ≡ Some file → (file_in os gs p ≡ Some file → IsFileOf shape_of b p file) → IsFileOf shape_of b p file
     cases false i e more = more e
     cases true i e more =
         let same : f.file ≡ file = cc in
-        subst (λ (x : Path). IsFileOf places_of b x file) (path_same r p i) (subst (IsFileOf places_of b r) same (record { decl = f.decl; declares = h.0.decl; same = same_places f.file (endpoint_reset f.decl false) h.0.shape }))
+        subst (λ (x : Path). IsFileOf shape_of b x file) (path_same r p i) (subst (IsFileOf shape_of b r) same (record { decl = f.decl; declares = h.0.decl; same = h.0.shape }))
 
 -- ---- all guests
 
@@ -94,7 +93,7 @@ abbrev pub PathsApart : GuestsNow → Type 0
 PathsApart s = (a c : Text) (n m : ℕ) (p : Path) → path_in s a n ≡ Some p → path_in s c m ≡ Some p → (a ≡ c) × (n ≡ m)
 
 -- what a path finds is declared there
-pub seated_file : (b : Board) (s : GuestsNow) (p : Path) (file : File) → Each (IsSeatedGuest b) s → file_of s p ≡ Some file → IsFileOf places_of b p file
+pub seated_file : (b : Board) (s : GuestsNow) (p : Path) (file : File) → Each (IsSeatedGuest b) s → file_of s p ≡ Some file → IsFileOf shape_of b p file
 seated_file b [] p file all e = cc
 seated_file b (t ∷ ts) p file all e = grind (arith, seated_file b ts p file, seat_file)
 

@@ -3,7 +3,7 @@ use Rattle.std.proofs.Common.{◌≡◌, true, false, [], ◌∷◌, ◌++◌, r
 use Rattle.std.specs.List.{list_any}
 use Rattle.std.specs.Io.{StartsWith}
 use Rattle.std.proofs.lemmas.Bool.{and_from}
-use Rattle.model_guests.specs.Text.{Text, ends_line, lines}
+use Rattle.model_guests.specs.Text.{Text, ends_line}
 use Rattle.model_guests.specs.LineRuns.{Protocol, StoppedIsBeginning, CutIsBeginning, OutputAlong, AfterAlong, LinesOfPieces}
 use Rattle.model_guests.specs.WorldLaws.{LongLinesAlike}
 use Rattle.model_guests.proofs.Names.{lacks}

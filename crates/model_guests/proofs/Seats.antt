@@ -26,7 +26,7 @@ pub changed_shape : (f : Cell → Cell) → ((c : Cell) → bare (f c) ≡ bare 
 changed_shape f keeps p [] = refl
 changed_shape f keeps p (e ∷ es) = grind (arith, changed_shape f keeps p es)
 
-written_shape : (ons : List Bool) (v : ℕ) (p : Place) (file : File) → shape_of (write ons v p file) ≡ shape_of file
+pub written_shape : (ons : List Bool) (v : ℕ) (p : Place) (file : File) → shape_of (write ons v p file) ≡ shape_of file
 written_shape [] v p file = refl
 written_shape (on ∷ ons) v p file = grind (arith, written_shape ons (v / 256) (after p) (cond on (changed (written (v % 256)) p file) file), changed_shape)
 

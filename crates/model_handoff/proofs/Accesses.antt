@@ -29,7 +29,7 @@ use Rattle.model_guests.proofs.AgreedFiles.{writes_alike, shows_file}
 use Rattle.model_guests.proofs.KeptCopies.{file_of_seat}
 use Rattle.model_guests.proofs.Changes.{changes_slot}
 use Rattle.model_guests.proofs.DeclaredRows.{declared_row}
-use Rattle.model_handoff.specs.Handoffs.{HasDeclaredPlaces}
+use Rattle.model_handoff.specs.Handoffs.{HasDeclaredShape}
 use Rattle.model_handoff.specs.Regions.{base_in}
 use Rattle.model_handoff.specs.RegionLaws.{HitActs, ActsOver, ReachesOver, RegionReads, RegionWrites, MemoryBySpace, PortsBySpace, CycleReads, CycleWrites, HasSlot}
 use Rattle.model_handoff.proofs.Functions.{Facts, facts, path_stays, decl_stays}
@@ -76,16 +76,16 @@ module _ (s : State) (state : IsStateOfBoard s.functions) (gs : GuestsNow) (seat
       (at_path p) (at_path p) (λ g. ap (λ (q : Path). path_eq q p) (path_stays (file_of gs g.path) g)) s.functions
       ∙ ap (option_map (agreed_function (file_of gs))) there.found_is ∙ ap Some now_is
 
-  same_places : Each HasDeclaredPlaces s.functions → places_of f.file ≡ places_of left
-  same_places places =
+  places_are : Each HasDeclaredShape s.functions → places_of f.file ≡ places_of left
+  places_are shapes =
       (places_in b gs seated.guests (endpoint_at p f.decl left) (each_in (Facts b) (endpoint_at p f.decl left) s.functions (facts s.functions state) there.among)
-      (each_in HasDeclaredPlaces (endpoint_at p f.decl left) s.functions places there.among) f.file own_file_is).same
+      (each_in HasDeclaredShape (endpoint_at p f.decl left) s.functions shapes there.among) f.file own_file_is).same
 
-  pub block_shown : Each HasDeclaredPlaces s.functions → (k a w : ℕ) → claim_reply (state_over s gs).functions w (Some (record { path = p; index = k; offset = a })) ≡ number f.file (block k a) w
-  block_shown places k a w =
+  pub block_shown : Each HasDeclaredShape s.functions → (k a w : ℕ) → claim_reply (state_over s gs).functions w (Some (record { path = p; index = k; offset = a })) ≡ number f.file (block k a) w
+  block_shown shapes k a w =
       let ons : List Bool = all_bytes w in
       ap (λ (o : Option BoardFunction). number (option_map_or (λ (g : BoardFunction). g.file) o []) (block k a) w) found_now
-      ∙ ap (read (agreed_file left f.file) (block k a)) (sym (all_handed k a ons)) ∙ shows_file left f.file (same_places places) (block k a) ons
+      ∙ ap (read (agreed_file left f.file) (block k a)) (sym (all_handed k a ons)) ∙ shows_file left f.file (places_are shapes) (block k a) ons
       ∙ ap (read f.file (block k a)) (all_handed k a ons)
 
   -- the cycle for its address
@@ -113,7 +113,7 @@ module _ (s : State) (state : IsStateOfBoard s.functions) (gs : GuestsNow) (seat
 pub region_reads : RegionReads
 region_reads s handoff orderly gs seated name n p f has r declared opened k small w =
     let claimed = region_is_claimed s handoff.board orderly gs seated p f.decl (row s handoff.board gs seated name n p f has) r declared opened k small in
-    ap (claim_reply (state_over s gs).functions w) claimed.first ∙ block_shown s handoff.board gs seated name n p f has handoff.places r.index k w
+    ap (claim_reply (state_over s gs).functions w) claimed.first ∙ block_shown s handoff.board gs seated name n p f has handoff.shapes r.index k w
 
 pub region_writes : RegionWrites
 region_writes s state orderly gs seated name n p f has r declared opened k small w v =
@@ -142,7 +142,7 @@ pub cycle_reads : CycleReads
 cycle_reads s handoff numbered gs seated name n p f has off ons =
     ap (λ (o : Option BoardFunction). option_map_or (λ (g : BoardFunction). read g.file (config off) (handed_on (config off) ons)) o (enabled_bits (handed_on (config off) ons)))
     (reached_is s handoff.board gs seated name n p f has numbered)
-    ∙ shows_file (left s handoff.board gs seated name n p f has) f.file (same_places s handoff.board gs seated name n p f has handoff.places) (config off) ons
+    ∙ shows_file (left s handoff.board gs seated name n p f has) f.file (places_are s handoff.board gs seated name n p f has handoff.shapes) (config off) ons
 
 pub cycle_writes : CycleWrites
 cycle_writes s state numbered gs seated name n p f has off ons v =

@@ -1,12 +1,12 @@
 -- There is one state that agrees with seated guests over a handoff.
-use Rattle.std.proofs.Common.{◌≡◌, false, List, [], ◌∷◌, Some, None, Option, refl, sym, ap₂, subst, arith}
+use Rattle.std.proofs.Common.{◌≡◌, false, List, [], ◌∷◌, Some, None, Option, refl, sym, ap, ap₂, ◌∙◌, subst, arith}
 use Rattle.std.specs.Prelude.{map}
 use Rattle.lists.specs.Elements.{Each, EachPair}
 use Rattle.model_registers.specs.Registers.{Place, File}
 use Rattle.model_registers.specs.Declarations.{Endpoint}
 use Rattle.model_registers.specs.EndpointTable.{endpoint_reset}
-use Rattle.model_registers.specs.CopiedFiles.{agreed_file, places_of}
-use Rattle.model_board.specs.Board.{Decl, endpoint, Board}
+use Rattle.model_registers.specs.CopiedFiles.{agreed_file, places_of, shape_of}
+use Rattle.model_board.specs.Board.{Decl, endpoint, bridge, Board}
 use Rattle.model_board.specs.AtReset.{board_at}
 use Rattle.model_board.specs.Lawful.{IsLawfulDecl}
 use Rattle.model_board.specs.State.{BoardFunction}
@@ -18,8 +18,9 @@ use Rattle.model_guests.specs.Seated.{IsSeatedGuest}
 use Rattle.model_guests.proofs.AgreedChanges.{agreed_by}
 use Rattle.model_guests.proofs.AgreedFiles.{agreed_holds, only_file}
 use Rattle.model_guests.proofs.DistinctPlaces.{Apart, HasDistinctPlaces, distinct_places}
+use Rattle.model_guests.proofs.FoundFiles.{same_places}
 use Rattle.model_guests.proofs.SlotPlaces.{IsFileOf}
-use Rattle.model_handoff.specs.Handoffs.{HasPlacesOf, HasDeclaredPlaces}
+use Rattle.model_handoff.specs.Handoffs.{declared_cells, HasDeclaredShape}
 use Rattle.model_handoff.specs.AgreementLaws.{StateAgrees, StateIsOnly}
 use Rattle.model_handoff.proofs.Functions.{Facts, facts, file_is}
 
@@ -28,32 +29,37 @@ pub record HasPlaces (left own : File) : Type 0 where
   pub same : places_of own ≡ places_of left
   pub distinct : HasDistinctPlaces left
 
-pub distinct_left : (d : Endpoint) → IsLawfulDecl (endpoint d) → (left : File) → places_of left ≡ places_of (endpoint_reset d false) → HasDistinctPlaces left
-distinct_left d lawful left same = subst (λ (ps : List Place). EachPair Apart ps) (sym same) (distinct_places d lawful false 0 (λ r. 0))
+pub distinct_left : (d : Endpoint) → IsLawfulDecl (endpoint d) → (left : File) → shape_of left ≡ shape_of (endpoint_reset d false) → HasDistinctPlaces left
+distinct_left d lawful left shape =
+    subst (λ (ps : List Place). EachPair Apart ps) (sym (same_places left (endpoint_reset d false) shape)) (distinct_places d lawful false 0 (λ r. 0))
 
-has_places : (b : Board) (f : BoardFunction) (d : Decl) → f.decl ≡ d → declared b f.path ≡ endpoint_of (record { path = f.path; decl = d }) → IsLawfulDecl d → HasPlacesOf d f.file
-    → (own : File) → IsFileOf places_of b f.path own → HasPlaces f.file own
-has_places b f d e found lawful places own is = grind (arith, distinct_left)
+has_places : (b : Board) (f : BoardFunction) (d : Decl) → f.decl ≡ d → declared b f.path ≡ endpoint_of (record { path = f.path; decl = d }) → IsLawfulDecl d → shape_of f.file ≡ shape_of (declared_cells d)
+    → (own : File) → IsFileOf shape_of b f.path own → HasPlaces f.file own
+has_places b f (bridge d) e found lawful shape own is = cc (is.declares, found)
+has_places b f (endpoint d) e found lawful shape own is =
+    let same : is.decl ≡ d = cc (is.declares, found) in
+    let whole : shape_of own ≡ shape_of f.file = is.same ∙ ap (λ (x : Endpoint). shape_of (endpoint_reset x false)) same ∙ sym shape in
+    record { same = same_places own f.file whole; distinct = distinct_left d lawful f.file shape }
 
 module _ (b : Board) (gs : GuestsNow) (all : Each (IsSeatedGuest b) gs) where
-  pub places_in : (f : BoardFunction) → Facts b f → HasDeclaredPlaces f → (own : File) → file_of gs f.path ≡ Some own → HasPlaces f.file own
-  places_in f facts places own e = has_places b f f.decl refl facts.found facts.lawful places own (file_is b gs all f own e)
+  pub places_in : (f : BoardFunction) → Facts b f → HasDeclaredShape f → (own : File) → file_of gs f.path ≡ Some own → HasPlaces f.file own
+  places_in f facts shape own e = has_places b f f.decl refl facts.found facts.lawful shape own (file_is b gs all f own e)
 
-  functions_agree : (fs : List BoardFunction) → Each (Facts b) fs → Each HasDeclaredPlaces fs → AgreesAtEach (file_of gs) fs (map (agreed_function (file_of gs)) fs)
-  functions_agree [] facts places = tt
-  functions_agree (f ∷ fs) facts places = grind (arith, functions_agree fs, agreed_holds, places_in)
+  functions_agree : (fs : List BoardFunction) → Each (Facts b) fs → Each HasDeclaredShape fs → AgreesAtEach (file_of gs) fs (map (agreed_function (file_of gs)) fs)
+  functions_agree [] facts shapes = tt
+  functions_agree (f ∷ fs) facts shapes = grind (arith, functions_agree fs, agreed_holds, places_in)
 
-  function_is_only : (f : BoardFunction) → Facts b f → HasDeclaredPlaces f → (own : Option File) → file_of gs f.path ≡ own → (now : BoardFunction) → AgreesAt f own now → now ≡ agreed_by own f
-  function_is_only f facts places None e now agrees = λ i. record { path = agrees.path i; decl = agrees.decl i; file = agrees.cells i }
-  function_is_only f facts places (Some file) e now agrees =
-      let same : now.file ≡ agreed_file f.file file = only_file f.file file now.file (places_in f facts places file e).distinct agrees.cells in
+  function_is_only : (f : BoardFunction) → Facts b f → HasDeclaredShape f → (own : Option File) → file_of gs f.path ≡ own → (now : BoardFunction) → AgreesAt f own now → now ≡ agreed_by own f
+  function_is_only f facts shape None e now agrees = λ i. record { path = agrees.path i; decl = agrees.decl i; file = agrees.cells i }
+  function_is_only f facts shape (Some file) e now agrees =
+      let same : now.file ≡ agreed_file f.file file = only_file f.file file now.file (places_in f facts shape file e).distinct agrees.cells in
       λ i. record { path = agrees.path i; decl = agrees.decl i; file = same i }
 
-  functions_are_only : (fs : List BoardFunction) → Each (Facts b) fs → Each HasDeclaredPlaces fs → (ns : List BoardFunction) → AgreesAtEach (file_of gs) fs ns → ns ≡ map (agreed_function (file_of gs)) fs
-  functions_are_only [] facts places n agrees = grind arith
-  functions_are_only (f ∷ fs) facts places [] agrees = absurd agrees
-  functions_are_only (f ∷ fs) facts places (n ∷ ns) agrees =
-      ap₂ (λ (x : BoardFunction) (xs : List BoardFunction). x ∷ xs) (function_is_only f facts.0 places.0 (file_of gs f.path) refl n agrees.0) (functions_are_only fs facts.1 places.1 ns agrees.1)
+  functions_are_only : (fs : List BoardFunction) → Each (Facts b) fs → Each HasDeclaredShape fs → (ns : List BoardFunction) → AgreesAtEach (file_of gs) fs ns → ns ≡ map (agreed_function (file_of gs)) fs
+  functions_are_only [] facts shapes n agrees = grind arith
+  functions_are_only (f ∷ fs) facts shapes [] agrees = absurd agrees
+  functions_are_only (f ∷ fs) facts shapes (n ∷ ns) agrees =
+      ap₂ (λ (x : BoardFunction) (xs : List BoardFunction). x ∷ xs) (function_is_only f facts.0 shapes.0 (file_of gs f.path) refl n agrees.0) (functions_are_only fs facts.1 shapes.1 ns agrees.1)
 
 pub state_agrees : StateAgrees
 state_agrees s handoff gs seated = grind (arith, functions_agree, facts)
@@ -61,5 +67,5 @@ state_agrees s handoff gs seated = grind (arith, functions_agree, facts)
 pub state_is_only : StateIsOnly
 state_is_only s handoff gs seated now agrees =
     let functions : now.functions ≡ (state_over s gs).functions =
-    functions_are_only (board_at s.functions) gs seated.guests s.functions (facts s.functions handoff.board) handoff.places now.functions agrees.functions in
+    functions_are_only (board_at s.functions) gs seated.guests s.functions (facts s.functions handoff.board) handoff.shapes now.functions agrees.functions in
     λ i. record { functions = functions i; latch = agrees.latch i }

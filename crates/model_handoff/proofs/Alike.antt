@@ -1,8 +1,7 @@
 -- A handoff with the files of seated guests in it is a handoff of the same board, and so is what guests get of one.
-use Rattle.std.proofs.Common.{◌≡◌, ◌+◌, ◌*◌, List, [], ◌∷◌, Some, None, Option, refl, sym, ap, ap₂, ◌∙◌, subst, arith}
+use Rattle.std.proofs.Common.{◌≡◌, ◌+◌, ◌*◌, List, [], Some, None, Option, refl, sym, ap, ap₂, ◌∙◌, subst, arith}
 use Rattle.std.specs.Prelude.{map, filter, find, option_map}
 use Rattle.std.specs.Option.{option_map_or}
-use Rattle.lists.specs.Elements.{Each}
 use Rattle.model_registers.specs.Registers.{File, config}
 use Rattle.model_registers.specs.Cell.{Cell}
 use Rattle.model_registers.specs.Declarations.{Region}
@@ -18,28 +17,24 @@ use Rattle.model_set_up.specs.PlacedRegions.{PlacedRegion}
 use Rattle.model_audit.specs.OpenRegions.{closed_regions}
 use Rattle.model_audit.specs.Witnesses.{IsInOrder}
 use Rattle.model_guests.specs.World.{World, HasLawfulGuests}
-use Rattle.model_guests.specs.Guests.{GuestsNow, guests_at_first}
+use Rattle.model_guests.specs.Guests.{GuestsNow, file_of, guests_at_first}
 use Rattle.model_guests.specs.AgreedBoard.{agreed_function, state_over}
 use Rattle.model_guests.specs.Seated.{AreSeated}
 use Rattle.model_guests.specs.WorldNow.{world_over}
-use Rattle.model_guests.proofs.AgreedFiles.{agreed_places, agreed_kept}
+use Rattle.model_guests.proofs.AgreedFiles.{agreed_kept}
+use Rattle.model_guests.proofs.FoundFiles.{seated_file}
 use Rattle.model_guests.proofs.SeatedFirst.{seated_at_first}
-use Rattle.model_handoff.specs.Handoffs.{IsHandoff, HasDeclaredPlaces, is_given, taken_over}
+use Rattle.model_handoff.specs.Handoffs.{IsHandoff, is_given, taken_over}
 use Rattle.model_handoff.specs.Kept.{IsLawfulOver}
 use Rattle.model_handoff.specs.Regions.{opens_region, CanBeGiven}
 use Rattle.model_handoff.specs.ViewLaws.{with_seated_reset}
 use Rattle.model_handoff.proofs.First.{first_is_reset}
-use Rattle.model_handoff.proofs.Functions.{path_stays, decl_stays}
+use Rattle.model_handoff.proofs.Functions.{facts, path_stays, decl_stays}
 use Rattle.model_handoff.proofs.Keeping.{find_path, keeps_board, keeps_routing, stays_in_order}
 use Rattle.model_handoff.proofs.Kept.{lawful_at_first}
 use Rattle.model_handoff.proofs.Regions.{state_stays}
+use Rattle.model_handoff.proofs.Shapes.{shapes_with}
 use Rattle.model_handoff.proofs.Views.{over_reset, reset_at_first}
-
--- ---- cells stand where they stood
-
-places_stay : (files : Path → Option File) (fs : List BoardFunction) → Each HasDeclaredPlaces fs → Each HasDeclaredPlaces (map (agreed_function files) fs)
-places_stay files [] h = tt
-places_stay files (f ∷ fs) h = grind (arith, places_stay files fs, agreed_places)
 
 -- ---- Command stays, as guests have copies of it
 
@@ -69,7 +64,9 @@ pub record IsAlike (s t : State) : Type 0 where
   pub opens : (q : Path) (r : Region) → opens_region t q r ≡ opens_region s q r
 
 pub alike_over : (s : State) → IsHandoff s → (gs : GuestsNow) → AreSeated (board_at s.functions) gs → IsAlike s (state_over s gs)
-alike_over s handoff gs seated = grind (arith, state_stays, places_stay, keeps_board, keeps_routing, stays_in_order, command_at)
+alike_over s handoff gs seated =
+    let shapes = shapes_with (board_at s.functions) (file_of gs) (λ p own e. seated_file (board_at s.functions) gs p own seated.guests e) s.functions (facts s.functions handoff.board) handoff.shapes in
+    grind (arith, shapes, state_stays, keeps_board, keeps_routing, stays_in_order, command_at)
 
 -- whatever the address latch holds
 with_latch_clear : (s t : State) → IsAlike s t → IsAlike s (record t { latch = 0 })

@@ -1,5 +1,5 @@
 -- Before any event each given function is at reset.
-use Rattle.std.proofs.Common.{◌≡◌, ℕ, zero, suc, Bool, true, false, ◌||◌, cond, ◌-◌, List, [], ◌∷◌, ◌++◌, Some, None, Option, refl, ap, ap₂, ◌∙◌, arith}
+use Rattle.std.proofs.Common.{◌≡◌, ℕ, zero, suc, Bool, true, false, ◌||◌, cond, List, [], ◌∷◌, ◌++◌, Some, None, Option, refl, ap, ap₂, ◌∙◌, arith}
 use Rattle.std.specs.Prelude.{map, flat_map, replicate, option_map, IsTrue}
 use Rattle.std.specs.List.{list_any}
 use Rattle.std.specs.Option.{option_map_or}
@@ -7,9 +7,9 @@ use Rattle.std.proofs.lemmas.List.Folds.{list_any-append}
 use Rattle.lists.specs.Elements.{Each}
 use Rattle.model_registers.specs.Registers.{File}
 use Rattle.model_registers.specs.Declarations.{Endpoint}
-use Rattle.model_registers.specs.CopiedFiles.{after_reset}
+use Rattle.model_registers.specs.CopiedFiles.{after_reset, shape_of}
 use Rattle.model_board.specs.Paths.{Path, path_eq}
-use Rattle.model_board.specs.Board.{Decl, Board}
+use Rattle.model_board.specs.Board.{Decl, endpoint, bridge, Board}
 use Rattle.model_board.specs.AtReset.{board_at}
 use Rattle.model_board.specs.Lawful.{IsLawfulDecl}
 use Rattle.model_board.specs.State.{BoardFunction, with_file}
@@ -22,7 +22,8 @@ use Rattle.model_guests.specs.AgreedBoard.{agreed_function}
 use Rattle.model_guests.proofs.AgreedChanges.{agreed_by}
 use Rattle.model_guests.proofs.AgreedFiles.{only_file}
 use Rattle.model_guests.proofs.Changes.{files_same}
-use Rattle.model_handoff.specs.Handoffs.{HasPlacesOf, HasDeclaredPlaces, is_given, file_at_reset, files_given, reset_files, HoldsReset}
+use Rattle.model_guests.proofs.DistinctPlaces.{HasDistinctPlaces}
+use Rattle.model_handoff.specs.Handoffs.{declared_cells, HasDeclaredShape, is_given, file_at_reset, files_given, reset_files, HoldsReset}
 use Rattle.model_handoff.specs.AgreementLaws.{FirstIsReset, FirstIsHandoff}
 use Rattle.model_handoff.proofs.Functions.{Facts, facts}
 use Rattle.model_handoff.proofs.Agreement.{distinct_left}
@@ -54,19 +55,21 @@ first_is_reset w s =
 -- ---- where they are at reset
 
 module _ (w : World) (b : Board) (same : b ≡ w.board) where
-  one_stays : (f : BoardFunction) (d : Decl) → f.decl ≡ d → declared b f.path ≡ endpoint_of (record { path = f.path; decl = d }) → IsLawfulDecl d → HasPlacesOf d f.file
+  one_stays : (f : BoardFunction) (d : Decl) → f.decl ≡ d → declared b f.path ≡ endpoint_of (record { path = f.path; decl = d }) → IsLawfulDecl d → shape_of f.file ≡ shape_of (declared_cells d)
       → (IsTrue (is_given w f.path) → HoldsReset d f.file) → agreed_function (reset_files w) f ≡ f
-  one_stays f d e found lawful places reset = grind (arith, none, same, only_file, distinct_left)
+  one_stays f (bridge d) e found lawful shape reset = grind (arith, none, same)
+  one_stays f (endpoint d) e found lawful shape reset =
+      let distinct : HasDistinctPlaces f.file = distinct_left d lawful f.file shape in grind (arith, distinct, none, same, only_file)
 
-  all_stay : (fs : List BoardFunction) → Each (Facts b) fs → Each HasDeclaredPlaces fs → Each (λ f. IsTrue (is_given w f.path) → HoldsReset f.decl f.file) fs → map (agreed_function (reset_files w)) fs ≡ fs
-  all_stay [] facts places reset = refl
-  all_stay (f ∷ fs) facts places reset =
-      ap₂ (λ (x : BoardFunction) (xs : List BoardFunction). x ∷ xs) (one_stays f f.decl refl facts.0.found facts.0.lawful places.0 reset.0) (all_stay fs facts.1 places.1 reset.1)
+  all_stay : (fs : List BoardFunction) → Each (Facts b) fs → Each HasDeclaredShape fs → Each (λ f. IsTrue (is_given w f.path) → HoldsReset f.decl f.file) fs → map (agreed_function (reset_files w)) fs ≡ fs
+  all_stay [] facts shapes reset = refl
+  all_stay (f ∷ fs) facts shapes reset =
+      ap₂ (λ (x : BoardFunction) (xs : List BoardFunction). x ∷ xs) (one_stays f f.decl refl facts.0.found facts.0.lawful shapes.0 reset.0) (all_stay fs facts.1 shapes.1 reset.1)
 
 pub first_is_handoff : FirstIsHandoff
 first_is_handoff w s handoff same reset =
     first_is_reset w s
-    ∙ ap (λ (fs : List BoardFunction). record s { functions = fs }) (all_stay w (board_at s.functions) same s.functions (facts s.functions handoff.board) handoff.places reset)
+    ∙ ap (λ (fs : List BoardFunction). record s { functions = fs }) (all_stay w (board_at s.functions) same s.functions (facts s.functions handoff.board) handoff.shapes reset)
 
 -- ---- where one is given
 

@@ -3,7 +3,7 @@ use Rattle.std.proofs.Common.{◌≡◌, true, List, Some, None, Option, refl, a
 use Rattle.lists.specs.Elements.{Each}
 use Rattle.lists.proofs.EachLemmas.{each_both, each_map, each_from_map}
 use Rattle.model_registers.specs.Registers.{File}
-use Rattle.model_registers.specs.CopiedFiles.{places_of}
+use Rattle.model_registers.specs.CopiedFiles.{shape_of}
 use Rattle.model_board.specs.Board.{Decl, endpoint, bridge, Row, Board, is_bridge}
 use Rattle.model_board.specs.AtReset.{board_at}
 use Rattle.model_board.specs.State.{BoardFunction, row_at}
@@ -35,7 +35,7 @@ no_bridge_declared f (endpoint d) e h = cc
 no_bridge_declared f (bridge d) e h = ap (λ (x : Decl). endpoint_of (record { path = f.path; decl = x })) e
 
 module _ (b : Board) (gs : GuestsNow) (all : Each (IsSeatedGuest b) gs) where
-  pub file_is : (f : BoardFunction) (file : File) → file_of gs f.path ≡ Some file → IsFileOf places_of b f.path file
+  pub file_is : (f : BoardFunction) (file : File) → file_of gs f.path ≡ Some file → IsFileOf shape_of b f.path file
   file_is f file e = seated_file b gs f.path file all e
 
   -- no guest has a bridge

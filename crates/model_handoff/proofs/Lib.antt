@@ -1,5 +1,6 @@
 pub mod Functions
 pub mod Agreement
+pub mod Shapes
 pub mod Keeping
 pub mod First
 pub mod Standing

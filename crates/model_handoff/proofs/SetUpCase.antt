@@ -8,6 +8,7 @@ use Rattle.lists.proofs.Members.{any_in, in_map, from_map, from_filter, from_fla
 use Rattle.model_registers.specs.Registers.{File}
 use Rattle.model_registers.specs.EndpointTable.{BaseAddress, endpoint_reset}
 use Rattle.model_registers.specs.Declarations.{Region, Endpoint}
+use Rattle.model_registers.specs.CopiedFiles.{shape_of}
 use Rattle.model_registers.specs.Decoding.{space_of, base, base_address, opens_space, command_word, is_open}
 use Rattle.model_registers.specs.Apertures.{Apertures}
 use Rattle.model_board.specs.Paths.{Path}
@@ -18,7 +19,7 @@ use Rattle.model_board.specs.Routing.{row_of, routing}
 use Rattle.model_board.specs.State.{BoardFunction}
 use Rattle.model_board.proofs.StateRows.{state_rows}
 use Rattle.model_set_up.specs.PlacedRegions.{PlacedRegion, placed}
-use Rattle.model_set_up.specs.SetUp.{command_of, first_of, set_up_file, set_up_state}
+use Rattle.model_set_up.specs.SetUp.{command_of, first_of, bridge_values, set_up_file, set_up_state}
 use Rattle.model_set_up.proofs.DeclaredRows.{rows_are_declared}
 use Rattle.model_set_up.proofs.Holders.{self_space}
 use Rattle.model_set_up.proofs.LawfulPlacement.{layout_is_lawful}
@@ -31,11 +32,12 @@ use Rattle.model_audit.proofs.Found.{numbers_of_board}
 use Rattle.model_audit.proofs.Witnesses.{problems_decide}
 use Rattle.model_audit.proofs.Placing.{regions_placed}
 use Rattle.model_audit.proofs.SetUpPasses.{set_up_passes}
-use Rattle.model_guests.proofs.TablePlaces.{Alike, alike_places, alike_tables}
+use Rattle.model_guests.proofs.TablePlaces.{Alike, alike_tables}
 use Rattle.lists.proofs.Members.{no_elements}
-use Rattle.model_handoff.specs.Handoffs.{HasPlacesOf, is_given}
+use Rattle.model_handoff.specs.Handoffs.{declared_cells, is_given}
 use Rattle.model_handoff.specs.Regions.{closed_given}
 use Rattle.model_handoff.specs.SetUpCase.{SetUpIsHandoff, SetUpIsInOrder, SetUpCanBeGiven, SetUpPlaces, SetUpAddresses}
+use Rattle.model_handoff.proofs.Shapes.{endpoint_shape, bridge_shape}
 use Rattle.model_handoff.proofs.Standing.{found}
 
 state_is : (b : Board) (a : Apertures) → IsBoard b → HasLawfulDecls b → IsStateOfBoard (set_up_state b a).functions
@@ -45,12 +47,12 @@ state_is b a board decls = grind (arith, state_rows)
 pub alike : (b : Board) (a : Apertures) (p : Path) (d : Endpoint) → IsLawfulDecl (endpoint d) → Alike (endpoint_reset d false) (set_up_file b a p (endpoint d))
 alike b a p d lawful = alike_tables d (is_multifunction b p) (command_of d) (first_of b a p) lawful.regions.each
 
-places_are : (b : Board) (a : Apertures) (p : Path) (d : Decl) → IsLawfulDecl d → HasPlacesOf d (set_up_file b a p d)
-places_are b a p (endpoint d) lawful = sym (alike_places (endpoint_reset d false) (set_up_file b a p (endpoint d)) (alike b a p d lawful))
-places_are b a p (bridge d) lawful = tt
+shape_is : (b : Board) (a : Apertures) (p : Path) (d : Decl) → shape_of (set_up_file b a p d) ≡ shape_of (declared_cells d)
+shape_is b a p (endpoint d) = endpoint_shape d (is_multifunction b p) (command_of d) (first_of b a p)
+shape_is b a p (bridge d) = bridge_shape d (is_multifunction b p) (bridge_values b a p)
 
 pub set_up_is_handoff : SetUpIsHandoff
-set_up_is_handoff b a board decls = grind (arith, state_is, each_of_map, each_map, places_are, state_rows)
+set_up_is_handoff b a board decls = grind (arith, state_is, each_of_map, each_map, shape_is, state_rows)
 
 pub set_up_is_in_order : SetUpIsInOrder
 set_up_is_in_order b a few can = (problems_decide (set_up_state b a).functions).0 (set_up_passes b a few can)

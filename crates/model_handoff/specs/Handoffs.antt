@@ -1,7 +1,8 @@
 -- A board as firmware hands it over to guests. PCI Firmware Specification 3.0, chapter 3.5 (device state at
 -- firmware/operating system handoff).
---     HasDeclaredPlaces f      an endpoint's cells stand where its declaration puts them, whatever they hold
---     IsHandoff s      a state of a lawful board with such cells
+--     declared_cells d      the cells that a declaration has at reset, where its device holds no other function
+--     HasDeclaredShape f      of a function's cells nothing but what they hold is other than it is declared
+--     IsHandoff s      a state of a lawful board of such functions
 --     is_given w p      a guest of the world is given the function at a path
 --     files_given b ps      the files at reset of the endpoints at these paths
 --     with_given_reset w s      the handoff with each given function at reset, but for what guests have copies of
@@ -13,8 +14,9 @@ use Rattle.lists.specs.Elements.{Each}
 use Rattle.model_registers.specs.Registers.{Place, File, cell_at}
 use Rattle.model_registers.specs.Declarations.{Endpoint}
 use Rattle.model_registers.specs.EndpointTable.{endpoint_reset}
+use Rattle.model_registers.specs.BridgeTable.{bridge_reset}
 use Rattle.model_registers.specs.OwnCopies.{is_own}
-use Rattle.model_registers.specs.CopiedFiles.{places_of}
+use Rattle.model_registers.specs.CopiedFiles.{shape_of}
 use Rattle.model_board.specs.Paths.{Path, path_eq}
 use Rattle.model_board.specs.Board.{Decl, endpoint, bridge, Board}
 use Rattle.model_board.specs.State.{BoardFunction, State}
@@ -22,16 +24,17 @@ use Rattle.model_audit.specs.Orderly.{IsStateOfBoard}
 use Rattle.model_guests.specs.World.{World, declared, given_paths}
 use Rattle.model_guests.specs.AgreedBoard.{with_files}
 
-abbrev pub HasPlacesOf : Decl → File → Type 0
-HasPlacesOf (endpoint d) file = places_of file ≡ places_of (endpoint_reset d false)
-HasPlacesOf (bridge d) file = ⊤
+abbrev pub declared_cells : Decl → File
+declared_cells (endpoint d) = endpoint_reset d false
+declared_cells (bridge d) = bridge_reset d false
 
-abbrev pub HasDeclaredPlaces : BoardFunction → Type 0
-HasDeclaredPlaces f = HasPlacesOf f.decl f.file
+-- each cell stands where it is declared, and the same bits of it can be written and cleared
+abbrev pub HasDeclaredShape : BoardFunction → Type 0
+HasDeclaredShape f = shape_of f.file ≡ shape_of (declared_cells f.decl)
 
 pub record IsHandoff (s : State) : Type 0 where
   pub board : IsStateOfBoard s.functions
-  pub places : Each HasDeclaredPlaces s.functions
+  pub shapes : Each HasDeclaredShape s.functions
 
 -- ---- before any event
 

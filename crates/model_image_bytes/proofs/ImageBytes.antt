@@ -1,7 +1,7 @@
 -- The bytes of images.
 use Rattle.std.proofs.Common.{◌≡◌, ℕ, zero, suc, true, false, ◌&&◌, eqb, List, [], ◌∷◌, Some, None, Option, refl, sym, ap, ap₂, ◌∙◌}
 use Rattle.std.specs.Prelude.{map, option_map, length, IsTrue}
-use Rattle.std.proofs.lemmas.Bool.{eqb-true}
+use Rattle.std.proofs.lemmas.Bool.{and_from, eqb-true}
 use Rattle.std.proofs.lemmas.Option.{same_Some}
 use Rattle.lists.proofs.Tests.{left_true, right_true}
 use Rattle.model_registers.specs.ConfigAddress.{latched}
@@ -56,6 +56,12 @@ function_parts s h =
       count = left_true count (fit_cells (endpoint_reset s.decl false) s.values) values;
       values = right_true count (fit_cells (endpoint_reset s.decl false) s.values) values;
     }
+
+pub parts_fit : (s : SavedFunction) → FunctionParts s → function_layout.fits s ≡ true
+parts_fit s p =
+    let count = fit_times (number 1).fits (length (endpoint_reset s.decl false)) s.values in
+    let fit = fit_cells (endpoint_reset s.decl false) s.values in
+    and_from (endpoint_layout.fits s.decl) (count && fit) p.decl (and_from count fit p.count p.values)
 
 pub slot_fits : (s : SavedFunction) → (optional function_layout).fits (Some s) ≡ true → function_layout.fits s ≡ true
 slot_fits s h = left_true (function_layout.fits s) true (left_true (function_layout.fits s && true) true h)

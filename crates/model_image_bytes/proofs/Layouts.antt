@@ -119,8 +119,7 @@ module _ {A : Type 0} (L : Layout A) (l : IsLayout L) where
   short = checked (λ xs. nat_le (length xs) 1) (counted 1 L)
 
   one_back : (o : Option A) → first_of (at_most_one o) ≡ o
-  one_back None = refl
-  one_back (Some x) = refl
+  one_back o = grind arith
 
   one_same : (xs : List A) → nat_le (length xs) 1 ≡ true → at_most_one (first_of xs) ≡ xs
   one_same [] h = refl

@@ -6,9 +6,11 @@ pub mod ImageBytes
 pub mod Savable
 pub mod LoadedBytes
 pub mod TakenBytes
+pub mod FrontBytes
 pub mod MachineBytes
 pub mod ReadMachines
-mod TakenMachines
+pub mod SeatedPaths
+pub mod TakenMachines
 mod FittingMachines
 mod SavableMachines
 mod SavedMachines

@@ -1,5 +1,5 @@
 -- Bytes that are loaded into a guest.
-use Rattle.std.proofs.Common.{◌≡◌, ◌⊎◌, inl, inr, ℕ, zero, suc, ◌%◌, ◌^◌, ◌<◌, Bool, true, false, cond, eqb, List, [], ◌∷◌, ◌++◌, length, Some, None, Option, Ok, Err, refl, sym, ap, ap₂, ◌∙◌, subst, append_assoc, append-nil, arith}
+use Rattle.std.proofs.Common.{◌≡◌, ◌⊎◌, inl, inr, ℕ, zero, suc, ◌%◌, ◌^◌, ◌<◌, Bool, true, false, cond, eqb, List, [], ◌∷◌, ◌++◌, length, Some, None, Option, Ok, Err, refl, sym, ap, ap₂, ◌∙◌, append_assoc, append-nil, arith}
 use Rattle.std.specs.Prelude.{flat_map, IsTrue}
 use Rattle.std.proofs.lemmas.Bool.{eqb-true, ltb-true}
 use Rattle.std.proofs.lemmas.Option.{same_Some}
@@ -11,17 +11,17 @@ use Rattle.model_registers.specs.EndpointTable.{endpoint_reset}
 use Rattle.model_registers.specs.Decoding.{Function}
 use Rattle.model_guests.specs.Slots.{Slots}
 use Rattle.model_guests.specs.Lone.{LoneGuest}
-use Rattle.model_images.specs.Images.{SavedFunction, Image, image_of_lone, can_hold, fit_cells, Fits, FitsSlot, FitSlots}
+use Rattle.model_images.specs.Images.{SavedFunction, Image, image_of_lone, fit_cells, Fits, FitsSlot, FitSlots}
 use Rattle.model_images.specs.FitLaws.{HoldsFitting}
 use Rattle.model_images.proofs.Fitting.{saved_slots}
 use Rattle.model_image_bytes.specs.Layouts.{Layout, Parsed, parsed, le_bytes, number, fit_times, optional}
 use Rattle.model_image_bytes.specs.ImageBytes.{endpoint_layout, function_layout, declaration_bytes, image_bytes}
-use Rattle.model_image_bytes.specs.ByteLaws.{IsLayout, HasBytes, IsSavable, HoldsSavable}
-use Rattle.model_image_bytes.specs.LoadedBytes.{Left, then_read, after_bytes, after_values, after_slot, after_slots, after_number, after_latch, after_image, fault_of, load_fault}
+use Rattle.model_image_bytes.specs.ByteLaws.{IsLayout, HasBytes, HoldsSavable}
+use Rattle.model_image_bytes.specs.LoadedBytes.{Left, then_read, after_bytes, after_values, after_slot, after_slots_front, at_end, after_slots, after_number, after_latch, header, after_image_front, after_image, fault_of, load_fault}
 use Rattle.model_image_bytes.specs.LoadedLaws.{ImagesDecided, OwnAccepted, IsOfOthers}
 use Rattle.model_image_bytes.proofs.Numbers.{number_again}
 use Rattle.model_image_bytes.proofs.ImageLayouts.{endpoint_is}
-use Rattle.model_image_bytes.proofs.ImageBytes.{bytes_are_read, read_are_bytes, HasParts, parts_of, FunctionParts, function_parts, slot_fits}
+use Rattle.model_image_bytes.proofs.ImageBytes.{read_are_bytes, HasParts, parts_of, FunctionParts, function_parts, slot_fits}
 use Rattle.model_image_bytes.proofs.Savable.{endpoint_fits, guests_have_bytes}
 
 -- ---- bytes that are compared
@@ -57,11 +57,7 @@ same_left xs ys e = cc
 pub follows : (k : ℕ) (xs bytes rest : List ℕ) → after_bytes k xs bytes ≡ Ok rest → bytes ≡ xs ++ rest
 follows k [] bytes rest h = same_left bytes rest h
 follows k (x ∷ xs) [] rest h = cc
-follows k (x ∷ xs) (b ∷ bytes) rest h = cases (eqb x b) refl h (follows k xs bytes rest)
-  where
-    cases : (t : Bool) → eqb x b ≡ t → cond t (after_bytes k xs bytes) (Err k) ≡ Ok rest → (after_bytes k xs bytes ≡ Ok rest → bytes ≡ xs ++ rest) → b ∷ bytes ≡ x ∷ (xs ++ rest)
-    cases false e i more = cc
-    cases true e i more = ap₂ (λ (y : ℕ) (ys : List ℕ). y ∷ ys) (sym (eqb-true x b e)) (more i)
+follows k (x ∷ xs) (b ∷ bytes) rest h = grind (arith, follows k xs bytes rest, eqb-true)
 
 pub own_bytes : (k : ℕ) (xs rest : List ℕ) → after_bytes k xs (xs ++ rest) ≡ Ok rest
 own_bytes k [] rest = refl
@@ -72,27 +68,19 @@ none_left [] ys y h = cc
 none_left (x ∷ xs) ys y h = cc
 
 -- of two values that have bytes, those of one don't go on as those of the other
-module _ {A : Type 0} (L : Layout A) (l : IsLayout L) (x y : A) (fits : IsTrue (L.fits x)) (fits_too : IsTrue (L.fits y)) (k : ℕ) (rest : List ℕ) where
-  abbrev Decided : Type 0
-  Decided = ((after_bytes k (L.bytes y) (L.bytes x ++ rest) ≡ Ok rest) × (x ≡ y)) ⊎ ((after_bytes k (L.bytes y) (L.bytes x ++ rest) ≡ Err k) × (x ≡ y → ⊥))
+prefix_decided : {A : Type 0} (L : Layout A) → IsLayout L → (x y : A) → IsTrue (L.fits x) → IsTrue (L.fits y) → (k : ℕ) (rest : List ℕ) → (x ≡ y) ⊎ (after_bytes k (L.bytes y) (L.bytes x ++ rest) ≡ Err k)
+prefix_decided {A} L l x y fits too k rest = of (compared k (L.bytes y) (L.bytes x ++ rest))
+  where
+    read : (a b : A) (r u : List ℕ) → IsTrue (L.fits a) → IsTrue (L.fits b) → L.bytes a ++ r ≡ L.bytes b ++ u → parsed a r ≡ parsed b u
+    read a b r u i j same = same_Some (parsed a r) (parsed b u) (sym (l.again a r i) ∙ ap L.parse same ∙ l.again b u j)
 
-  other_bytes : after_bytes k (L.bytes y) (L.bytes x ++ rest) ≡ Err k → x ≡ y → ⊥
-  other_bytes e same = let own = ap (λ (z : A). after_bytes k (L.bytes y) (L.bytes z ++ rest)) same ∙ own_bytes k (L.bytes y) rest in cc
-
-  prefix_decided : Decided
-  prefix_decided = of (compared k (L.bytes y) (L.bytes x ++ rest))
-    where
-      of : ((r : List ℕ) × Follows k (L.bytes y) (L.bytes x ++ rest) r) ⊎ ((after_bytes k (L.bytes y) (L.bytes x ++ rest) ≡ Err k) ⊎ FallsShort (L.bytes y) (L.bytes x ++ rest)) → Decided
-      of (inl m) =
-          let same : parsed x rest ≡ parsed y m.0 = same_Some (parsed x rest) (parsed y m.0) (sym (l.again x rest fits) ∙ ap L.parse m.1.are ∙ l.again y m.0 fits_too) in
-          let left : rest ≡ m.0 = ap (λ (p : Parsed A). p.rest) same in
-          inl (m.1.left ∙ ap (λ (r : List ℕ). Ok r) (sym left), ap (λ (p : Parsed A). p.value) same)
-      of (inr (inl e)) = inr (e, other_bytes e)
-      of (inr (inr m)) =
-          let bytes : L.bytes y ++ [] ≡ L.bytes x ++ (rest ++ m.next ∷ m.rest) = append-nil (L.bytes y) ∙ m.are ∙ append_assoc (L.bytes x) rest (m.next ∷ m.rest) in
-          let same : parsed y [] ≡ parsed x (rest ++ m.next ∷ m.rest) =
-          same_Some (parsed y []) (parsed x (rest ++ m.next ∷ m.rest)) (sym (l.again y [] fits_too) ∙ ap L.parse bytes ∙ l.again x (rest ++ m.next ∷ m.rest) fits) in
-          absurd (none_left rest m.rest m.next (ap (λ (p : Parsed A). p.rest) same))
+    of : ((r : List ℕ) × Follows k (L.bytes y) (L.bytes x ++ rest) r) ⊎ ((after_bytes k (L.bytes y) (L.bytes x ++ rest) ≡ Err k) ⊎ FallsShort (L.bytes y) (L.bytes x ++ rest))
+        → (x ≡ y) ⊎ (after_bytes k (L.bytes y) (L.bytes x ++ rest) ≡ Err k)
+    of (inl m) = inl (ap (λ (p : Parsed A). p.value) (read x y rest m.0 fits too m.1.are))
+    of (inr (inl e)) = inr e
+    of (inr (inr m)) =
+        absurd (none_left rest m.rest m.next (ap (λ (p : Parsed A). p.rest)
+        (read y x [] (rest ++ m.next ∷ m.rest) too fits (append-nil (L.bytes y) ∙ m.are ∙ append_assoc (L.bytes x) rest (m.next ∷ m.rest)))))
 
 -- ---- values
 
@@ -104,13 +92,11 @@ value_bytes (suc n) (v ∷ vs) h =
     let same : v % 256 ≡ v = omega arith in
     ap₂ (λ (x : ℕ) (xs : List ℕ). x ∷ xs) same (value_bytes n vs (right_true ((number 1).fits v) (fit_times (number 1).fits n vs) h))
 
-values_taken : (file : File) (vs rest : List ℕ) → fit_cells file vs ≡ true → after_values file (vs ++ rest) ≡ Ok rest
+pub values_taken : (file : File) (vs rest : List ℕ) → fit_cells file vs ≡ true → after_values file (vs ++ rest) ≡ Ok rest
 values_taken [] [] rest h = refl
 values_taken [] (v ∷ vs) rest h = cc
 values_taken (e ∷ es) [] rest h = cc
-values_taken (e ∷ es) (v ∷ vs) rest h =
-    ap (λ t. cond t (after_values es (vs ++ rest)) (Err 905)) (left_true (can_hold e v) (fit_cells es vs) h)
-    ∙ values_taken es vs rest (right_true (can_hold e v) (fit_cells es vs) h)
+values_taken (e ∷ es) (v ∷ vs) rest h = grind (arith, values_taken es vs rest)
 
 -- ---- a slot
 
@@ -122,61 +108,96 @@ function_bytes s rest parts =
     ap (λ (xs : List ℕ). (1 ∷ xs) ++ rest) (append-nil (function_layout.bytes s) ∙ ap (λ (vs : List ℕ). declaration_bytes s.decl ++ vs) (value_bytes (length (endpoint_reset s.decl false)) s.values parts.count))
     ∙ ap (λ (xs : List ℕ). 1 ∷ xs) (append_assoc (declaration_bytes s.decl) s.values rest)
 
-abbrev SlotDecided : Option SavedFunction → Option Function → List ℕ → Type 0
-SlotDecided s f rest = ((after_slot f (slot_bytes s ++ rest) ≡ Ok rest) × FitsSlot s f) ⊎ ((after_slot f (slot_bytes s ++ rest) ≡ Err 906) × (FitsSlot s f → ⊥))
-
-function_decided : (s : SavedFunction) (f : Function) (rest : List ℕ) → FunctionParts s → IsSavable f → SlotDecided (Some s) (Some f) rest
-function_decided s f rest parts savable =
-    of (prefix_decided endpoint_layout endpoint_is s.decl f.decl parts.decl (endpoint_fits f.decl savable.declared) 906 (s.values ++ rest))
+-- what doesn't fit is refused as another's
+slot_decided : (s : Option SavedFunction) (f : Option Function) (rest : List ℕ) → (optional function_layout).fits s ≡ true → HoldsSavable f → FitsSlot s f ⊎ (after_slot f (slot_bytes s ++ rest) ≡ Err 906)
+slot_decided None None rest h k = inl tt
+slot_decided None (Some f) rest h k = inr refl
+slot_decided (Some s) None rest h k = inr refl
+slot_decided (Some s) (Some f) rest h k = of (prefix_decided endpoint_layout endpoint_is s.decl f.decl parts.decl (endpoint_fits f.decl k.declared) 906 (s.values ++ rest))
   where
-    reads : after_slot (Some f) (slot_bytes (Some s) ++ rest) ≡ then_read (after_values (endpoint_reset f.decl false)) (after_bytes 906 (declaration_bytes f.decl) (declaration_bytes s.decl ++ (s.values ++ rest)))
-    reads = ap (after_slot (Some f)) (function_bytes s rest parts)
+    parts : FunctionParts s
+    parts = function_parts s (slot_fits s h)
 
-    of : ((after_bytes 906 (declaration_bytes f.decl) (declaration_bytes s.decl ++ (s.values ++ rest)) ≡ Ok (s.values ++ rest)) × (s.decl ≡ f.decl))
-        ⊎ ((after_bytes 906 (declaration_bytes f.decl) (declaration_bytes s.decl ++ (s.values ++ rest)) ≡ Err 906) × (s.decl ≡ f.decl → ⊥)) → SlotDecided (Some s) (Some f) rest
-    of (inl m) = inl (
-      reads ∙ ap (then_read (after_values (endpoint_reset f.decl false))) m.0
-          ∙ values_taken (endpoint_reset f.decl false) s.values rest (subst (λ d. fit_cells (endpoint_reset d false) s.values ≡ true) m.1 parts.values),
-      record { decl = m.1; values = parts.values },
-    )
-    of (inr m) = inr (reads ∙ ap (then_read (after_values (endpoint_reset f.decl false))) m.0, λ h. m.1 h.decl)
+    of : (s.decl ≡ f.decl) ⊎ (after_bytes 906 (declaration_bytes f.decl) (declaration_bytes s.decl ++ (s.values ++ rest)) ≡ Err 906) → FitsSlot (Some s) (Some f) ⊎ (after_slot (Some f) (slot_bytes (Some s) ++ rest) ≡ Err 906)
+    of (inl same) = inl (record { decl = same; values = parts.values })
+    of (inr e) = inr (ap (after_slot (Some f)) (function_bytes s rest parts) ∙ ap (then_read (after_values (endpoint_reset f.decl false))) e)
 
-slot_decided : (s : Option SavedFunction) (f : Option Function) (rest : List ℕ) → (optional function_layout).fits s ≡ true → HoldsSavable f → SlotDecided s f rest
-slot_decided None None rest h k = inl (refl, tt)
-slot_decided None (Some f) rest h k = inr (refl, λ h. h)
-slot_decided (Some s) None rest h k = inr (refl, λ h. h)
-slot_decided (Some s) (Some f) rest h k = function_decided s f rest (function_parts s (slot_fits s h)) k
+-- slots that fit are taken, whatever follows
+pub fitting_slot : (s : Option SavedFunction) (f : Option Function) (rest : List ℕ) → (optional function_layout).fits s ≡ true → FitsSlot s f → after_slot f (slot_bytes s ++ rest) ≡ Ok rest
+fitting_slot None None rest h k = refl
+fitting_slot None (Some f) rest h k = absurd k
+fitting_slot (Some s) None rest h k = absurd k
+fitting_slot (Some s) (Some f) rest h k =
+    ap (after_slot (Some f)) (function_bytes s rest (function_parts s (slot_fits s h)))
+    ∙ ap (λ d. then_read (after_values (endpoint_reset d false)) (after_bytes 906 (declaration_bytes d) (declaration_bytes s.decl ++ (s.values ++ rest)))) (sym k.decl)
+    ∙ ap (then_read (after_values (endpoint_reset s.decl false))) (own_bytes 906 (declaration_bytes s.decl) (s.values ++ rest))
+    ∙ values_taken (endpoint_reset s.decl false) s.values rest k.values
 
 -- ---- slots
 
 abbrev pub slots_bytes : List (Option SavedFunction) → List ℕ
 slots_bytes ss = flat_map slot_bytes ss
 
-abbrev SlotsDecided : List (Option SavedFunction) → Slots → Type 0
-SlotsDecided ss fs = ((after_slots fs (slots_bytes ss) ≡ Ok []) × FitSlots ss fs) ⊎ ((after_slots fs (slots_bytes ss) ≡ Err 906) × (FitSlots ss fs → ⊥))
-
-slots_decided : (n : ℕ) (ss : List (Option SavedFunction)) (fs : Slots) → fit_times (optional function_layout).fits n ss ≡ true → length fs ≡ n → Each HoldsSavable fs → SlotsDecided ss fs
-slots_decided n [] [] h count all = inl (refl, tt)
+slots_decided : (n : ℕ) (ss : List (Option SavedFunction)) (fs : Slots) → fit_times (optional function_layout).fits n ss ≡ true → length fs ≡ n → Each HoldsSavable fs
+    → FitSlots ss fs ⊎ (after_slots fs (slots_bytes ss) ≡ Err 906)
+slots_decided n [] [] h count all = inl tt
 slots_decided zero [] (f ∷ fs) h count all = absurd (omega arith)
 slots_decided (suc n) [] (f ∷ fs) h count all = cc
 slots_decided zero (s ∷ ss) fs h count all = cc
 slots_decided (suc n) (s ∷ ss) [] h count all = absurd (omega arith)
-slots_decided (suc n) (s ∷ ss) (f ∷ fs) h count all =
-    of (slot_decided s f (slots_bytes ss) (left_true ((optional function_layout).fits s) (fit_times (optional function_layout).fits n ss) h) all.0)
-    (slots_decided n ss fs (right_true ((optional function_layout).fits s) (fit_times (optional function_layout).fits n ss) h) (omega arith) all.1)
+slots_decided (suc n) (s ∷ ss) (f ∷ fs) h count all = of (slot_decided s f (slots_bytes ss) fits all.0) (slots_decided n ss fs others (omega arith) all.1)
   where
-    of : SlotDecided s f (slots_bytes ss) → SlotsDecided ss fs → SlotsDecided (s ∷ ss) (f ∷ fs)
-    of (inl m) (inl o) = inl (ap (then_read (after_slots fs)) m.0 ∙ o.0, (m.1, o.1))
-    of (inl m) (inr o) = inr (ap (then_read (after_slots fs)) m.0 ∙ o.0, λ h. o.1 h.1)
-    of (inr m) o = inr (ap (then_read (after_slots fs)) m.0, λ h. m.1 h.0)
+    fits : (optional function_layout).fits s ≡ true
+    fits = left_true ((optional function_layout).fits s) (fit_times (optional function_layout).fits n ss) h
+
+    others : fit_times (optional function_layout).fits n ss ≡ true
+    others = right_true ((optional function_layout).fits s) (fit_times (optional function_layout).fits n ss) h
+
+    of : FitsSlot s f ⊎ (after_slot f (slot_bytes s ++ slots_bytes ss) ≡ Err 906) → FitSlots ss fs ⊎ (after_slots fs (slots_bytes ss) ≡ Err 906) → FitSlots (s ∷ ss) (f ∷ fs) ⊎ (after_slots (f ∷ fs) (slots_bytes (s ∷ ss)) ≡ Err 906)
+    of (inl m) (inl o) = inl (m, o)
+    of (inl m) (inr o) = inr (ap (then_read (after_slots fs)) (fitting_slot s f (slots_bytes ss) fits m) ∙ o)
+    of (inr m) o = inr (ap (then_read (after_slots fs)) m)
+
+fitting_slots : (n : ℕ) (ss : List (Option SavedFunction)) (fs : Slots) (rest : List ℕ) → fit_times (optional function_layout).fits n ss ≡ true → FitSlots ss fs
+    → after_slots_front fs (slots_bytes ss ++ rest) ≡ Ok rest
+fitting_slots n [] [] rest h k = refl
+fitting_slots n [] (f ∷ fs) rest h k = absurd k
+fitting_slots n (s ∷ ss) [] rest h k = absurd k
+fitting_slots zero (s ∷ ss) (f ∷ fs) rest h k = cc
+fitting_slots (suc n) (s ∷ ss) (f ∷ fs) rest h k =
+    ap (after_slots_front (f ∷ fs)) (append_assoc (slot_bytes s) (slots_bytes ss) rest)
+    ∙ ap (then_read (after_slots_front fs)) (fitting_slot s f (slots_bytes ss ++ rest) (left_true ((optional function_layout).fits s) (fit_times (optional function_layout).fits n ss) h) k.0)
+    ∙ fitting_slots n ss fs rest (right_true ((optional function_layout).fits s) (fit_times (optional function_layout).fits n ss) h) k.1
 
 -- ---- an image
 
-latch_taken : (n : ℕ) (rest : List ℕ) → (number 4).fits n ≡ true → latched n ≡ n → after_latch (le_bytes 4 n ++ rest) ≡ Ok rest
+pub latch_taken : (n : ℕ) (rest : List ℕ) → (number 4).fits n ≡ true → latched n ≡ n → after_latch (le_bytes 4 n ++ rest) ≡ Ok rest
 latch_taken n rest fits same = ap after_number (number_again 4 n rest (ltb-true n (256 ^ 4) fits)) ∙ grind arith
 
-image_read : (g : LoneGuest) (i : Image) → HasParts i → after_image g (image_bytes i) ≡ after_slots g.slots (slots_bytes i.slots)
-image_read g i parts = ap (then_read (after_slots g.slots)) (latch_taken i.latch (slots_bytes i.slots) parts.latch_fits parts.latched)
+pub fitting_front : (g : LoneGuest) (i : Image) → HasBytes i → Fits i g → (rest : List ℕ) → after_image_front g (image_bytes i ++ rest) ≡ Ok rest
+fitting_front g i has fits rest =
+    let parts = parts_of i has in
+    ap (then_read (after_slots_front g.slots)) (latch_taken i.latch (slots_bytes i.slots ++ rest) parts.latch_fits parts.latched) ∙ fitting_slots 32 i.slots g.slots rest parts.slots fits.slots
+
+-- nothing follows
+pub slots_end : (fs : Slots) (bytes : List ℕ) → after_slots fs bytes ≡ then_read at_end (after_slots_front fs bytes)
+slots_end [] bytes = refl
+slots_end (f ∷ fs) bytes = of (after_slot f bytes) (slots_end fs)
+  where
+    of : (l : Left) → ((rest : List ℕ) → after_slots fs rest ≡ then_read at_end (after_slots_front fs rest)) → then_read (after_slots fs) l ≡ then_read at_end (then_read (after_slots_front fs) l)
+    of (Ok rest) more = more rest
+    of (Err k) more = refl
+
+pub image_ends : (g : LoneGuest) (bytes : List ℕ) → after_image g bytes ≡ then_read at_end (after_image_front g bytes)
+image_ends g bytes = of (then_read after_latch (after_bytes 905 header bytes))
+  where
+    of : (l : Left) → then_read (after_slots g.slots) l ≡ then_read at_end (then_read (after_slots_front g.slots) l)
+    of (Ok rest) = slots_end g.slots rest
+    of (Err k) = refl
+
+pub fitting_accepted : (g : LoneGuest) (i : Image) → HasBytes i → Fits i g → load_fault g (image_bytes i) ≡ None
+fitting_accepted g i has fits =
+    ap fault_of (image_ends g (image_bytes i) ∙ ap (λ (bs : List ℕ). then_read at_end (after_image_front g bs)) (sym (append-nil (image_bytes i))) ∙ ap (then_read at_end) (fitting_front g i has fits []))
 
 pub images_decided : ImagesDecided
 images_decided g savable bytes i h = of (slots_decided 32 i.slots g.slots parts.slots savable.count savable.functions)
@@ -187,24 +208,20 @@ images_decided g savable bytes i h = of (slots_decided 32 i.slots g.slots parts.
     parts : HasParts i
     parts = parts_of i spelled.1
 
-    reads : load_fault g bytes ≡ fault_of (after_slots g.slots (slots_bytes i.slots))
-    reads = ap (load_fault g) spelled.0 ∙ ap fault_of (image_read g i parts)
+    accepted : Fits i g → load_fault g bytes ≡ None
+    accepted k = ap (load_fault g) spelled.0 ∙ fitting_accepted g i spelled.1 k
 
-    of : SlotsDecided i.slots g.slots → ((load_fault g bytes ≡ None) × Fits i g) ⊎ IsOfOthers g bytes i
-    of (inl m) = inl (reads ∙ ap fault_of m.0, record { latch = parts.latched; slots = m.1 })
-    of (inr m) = inr (record { refused = reads ∙ ap fault_of m.0; not_fitting = λ k. m.1 k.slots })
+    of : FitSlots i.slots g.slots ⊎ (after_slots g.slots (slots_bytes i.slots) ≡ Err 906) → ((load_fault g bytes ≡ None) × Fits i g) ⊎ IsOfOthers g bytes i
+    of (inl m) = let fits : Fits i g = record { latch = parts.latched; slots = m } in inl (accepted fits, fits)
+    of (inr m) =
+        let refused : load_fault g bytes ≡ Some 906 =
+        ap (load_fault g) spelled.0 ∙ ap (λ l. fault_of (then_read (after_slots g.slots) l)) (latch_taken i.latch (slots_bytes i.slots) parts.latch_fits parts.latched) ∙ ap fault_of m in
+        inr (record { refused = refused; not_fitting = λ k. let none = accepted k in cc })
 
-savable_fits : (fs : Slots) → Each HoldsSavable fs → Each HoldsFitting fs
+pub savable_fits : (fs : Slots) → Each HoldsSavable fs → Each HoldsFitting fs
 savable_fits [] h = tt
-savable_fits (None ∷ fs) h = (tt, savable_fits fs h.1)
-savable_fits (Some f ∷ fs) h = (h.0.fits, savable_fits fs h.1)
+savable_fits (f ∷ fs) h = grind (arith, savable_fits fs)
 
 pub own_accepted : OwnAccepted
-own_accepted g savable = of (images_decided g savable (image_bytes (image_of_lone g)) (image_of_lone g) (bytes_are_read (image_of_lone g) (guests_have_bytes g savable)))
-  where
-    own : Fits (image_of_lone g) g
-    own = record { latch = savable.latch; slots = saved_slots g.slots g.slots (savable_fits g.slots savable.functions) refl }
-
-    of : ((load_fault g (image_bytes (image_of_lone g)) ≡ None) × Fits (image_of_lone g) g) ⊎ IsOfOthers g (image_bytes (image_of_lone g)) (image_of_lone g) → load_fault g (image_bytes (image_of_lone g)) ≡ None
-    of (inl m) = m.0
-    of (inr m) = absurd (m.not_fitting own)
+own_accepted g savable =
+    fitting_accepted g (image_of_lone g) (guests_have_bytes g savable) (record { latch = savable.latch; slots = saved_slots g.slots g.slots (savable_fits g.slots savable.functions) refl })

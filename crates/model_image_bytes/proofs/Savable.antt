@@ -13,7 +13,7 @@ use Rattle.model_registers.specs.Registers.{PlacedCell, File}
 use Rattle.model_registers.specs.AccessLaws.{HoldsBytes}
 use Rattle.model_registers.specs.ConfigAddress.{latched}
 use Rattle.model_registers.specs.CopiedFiles.{shape_of}
-use Rattle.model_registers.specs.Declarations.{Kind, io_kind, mem32, mem64, registers_of, greatest_size, Region, IsLawfulRegion, ConfigBlock, Endpoint}
+use Rattle.model_registers.specs.Declarations.{Kind, registers_of, greatest_size, Region, IsLawfulRegion, ConfigBlock, Endpoint}
 use Rattle.model_registers.specs.DeclarationRules.{IsConfigBlock, blocks_apart, IsLawfulEndpoint}
 use Rattle.model_registers.specs.EndpointTable.{endpoint_reset}
 use Rattle.model_registers.specs.Decoding.{Function}
@@ -36,21 +36,13 @@ counted_fit k L xs few h = and_from ((number k).fits (length xs)) (fit_times L.f
 -- ---- cells, regions and blocks
 
 cell_fits : (c : Cell) → IsCell c → cell_layout.fits c ≡ true
-cell_fits c h =
-    and_from ((number 1).fits c.value) ((number 1).fits c.writable && (number 1).fits c.clearable) (lt-ltb c.value 256 h.value_fits)
-    (and_from ((number 1).fits c.writable) ((number 1).fits c.clearable) (lt-ltb c.writable 256 h.writable_fits) (lt-ltb c.clearable 256 h.clearable_fits))
+cell_fits c h = let value = h.value_fits in let writable = h.writable_fits in let clearable = h.clearable_fits in grind (arith, lt-ltb, value, writable, clearable)
 
 kind_fits : (k : Kind) → kind_layout.fits k ≡ true
-kind_fits io_kind = refl
-kind_fits (mem32 true) = refl
-kind_fits (mem32 false) = refl
-kind_fits (mem64 true) = refl
-kind_fits (mem64 false) = refl
+kind_fits k = grind arith
 
 greatest_fits : (k : Kind) → greatest_size k < 256 ^ 8
-greatest_fits io_kind = omega arith
-greatest_fits (mem32 pref) = omega arith
-greatest_fits (mem64 pref) = omega arith
+greatest_fits k = grind arith
 
 record IsWritten (r : Region) : Type 0 where
   pub lawful : IsLawfulRegion r

@@ -1,33 +1,47 @@
 -- The image of a machine whose functions hold bytes has bytes.
-use Rattle.std.proofs.Common.{◌≡◌, ℕ, suc, ◌<◌, ◌^◌, Bool, true, false, ◌&&◌, cond, List, [], ◌∷◌, length, Some, None, Option, refl, sym, ap, ◌∙◌, subst, arith}
-use Rattle.std.specs.Prelude.{map, find}
+use Rattle.std.proofs.Common.{◌≡◌, ℕ, zero, suc, ◌+◌, ◌-◌, ◌*◌, ◌/◌, ◌<◌, ◌^◌, Bool, true, false, ◌&&◌, cond, List, [], ◌∷◌, ◌++◌, length, Some, None, Option, refl, sym, ap, subst, arith}
+use Rattle.std.specs.Prelude.{map, flat_map, option_map}
 use Rattle.std.specs.Option.{option_map_or}
 use Rattle.std.proofs.lemmas.Bool.{and_from, lt-ltb}
 use Rattle.std.proofs.lemmas.List.{length-map}
 use Rattle.lists.specs.Elements.{Each}
-use Rattle.lists.proofs.EachLemmas.{each_map}
-use Rattle.model_registers.specs.Declarations.{IoDecode, no_io, io16, io32, PrefDecode, no_pref, pref32, pref64, Endpoint, Bridge}
+use Rattle.lists.proofs.EachLemmas.{each_append, each_map, each_of_map}
+use Rattle.lists.proofs.Members.{each_in}
+use Rattle.model_registers.specs.Cell.{Cell, IsCell}
+use Rattle.model_registers.specs.Registers.{Place, config, block, after, PlacedCell, File, cell_at, field, cells_from}
+use Rattle.model_registers.specs.AccessLaws.{HoldsBytes}
+use Rattle.model_registers.specs.CopiedFiles.{agreed_file}
+use Rattle.model_registers.specs.OwnCopies.{is_own}
+use Rattle.model_registers.specs.Declarations.{registers_of, Region, ConfigBlock, IoDecode, PrefDecode, Endpoint, Bridge}
 use Rattle.model_registers.specs.DeclarationRules.{IsLawfulBridge}
-use Rattle.model_board.specs.Paths.{Part, Path, path_eq, IsPart, IsPath}
-use Rattle.model_board.specs.Board.{Decl, endpoint, bridge, Row, Board}
+use Rattle.model_registers.specs.EndpointTable.{base_register, type_bits, base_width, base_cells, region_cells, block_cells, header_cells, config_cells, endpoint_reset}
+use Rattle.model_registers.proofs.ByteAccesses.{number_fits}
+use Rattle.model_board.specs.Paths.{Part, Path, IsPart, IsPath}
+use Rattle.model_board.specs.Board.{Decl, endpoint, Row, Board}
 use Rattle.model_board.specs.Lawful.{IsLawfulDecl}
 use Rattle.model_board.specs.AtReset.{board_at}
 use Rattle.model_board.specs.State.{BoardFunction, State, row_at}
-use Rattle.model_board.proofs.PathOrder.{path_same}
+use Rattle.model_audit.specs.Orderly.{IsStateOfBoard}
 use Rattle.model_guests.specs.Slots.{Slots}
-use Rattle.model_guests.specs.World.{declared, endpoint_of}
+use Rattle.model_guests.specs.Text.{Text}
+use Rattle.model_guests.specs.World.{declared}
 use Rattle.model_guests.specs.Guests.{GuestNow, GuestsNow}
+use Rattle.model_guests.specs.AgreedBoard.{agreed_function}
 use Rattle.model_guests.specs.Seated.{AreSeats, IsSeatedGuest}
-use Rattle.model_images.specs.Images.{values_of}
-use Rattle.model_images.specs.MachineImages.{SavedRow, SavedGuest, saved_row, saved_handoff, saved_seats, saved_guest}
-use Rattle.model_images.specs.MachineLaws.{declared_cells, HasDeclaredShape}
-use Rattle.model_image_bytes.specs.Layouts.{number, both, through, fit_times, counted, fit_each, for_each, optional}
-use Rattle.model_image_bytes.specs.ImageBytes.{function_layout, latch_layout}
-use Rattle.model_image_bytes.specs.ByteLaws.{HoldsSavable}
-use Rattle.model_image_bytes.specs.MachineBytes.{path_layout, io_number, pref_number, third, bridge_layout, decl_layout, row_layout, board_layout, seat_layout, guest_layout, cells_layout, row_in, on_board, machine_layout}
-use Rattle.model_image_bytes.specs.MachineByteLaws.{CanBeDeclared, IsWritableFunction, IsWritableGuest, MachinesHaveBytes}
-use Rattle.model_image_bytes.specs.LoadedMachines.{name_layout}
-use Rattle.model_image_bytes.proofs.Savable.{times_fit, counted_fit, endpoint_fits, values_fit, as_long, function_fits, latch_fits}
+use Rattle.model_guests.specs.WorldNow.{WorldNow, names_of}
+use Rattle.model_handoff.specs.Handoffs.{declared_cells, HasDeclaredShape, IsHandoff, file_at_reset}
+use Rattle.model_handoff.specs.ViewLaws.{sits, seated_files, with_seated_reset}
+use Rattle.model_images.specs.Images.{values_of, image_of_lone}
+use Rattle.model_images.specs.MachineImages.{SavedGuest, values_in, saved_handoff, saved_guest}
+use Rattle.model_images.specs.MachineLaws.{IsSavableWorld}
+use Rattle.model_guests.proofs.DeclaredRows.{declared_row}
+use Rattle.model_images.proofs.Machines.{handoff_stays}
+use Rattle.model_image_bytes.specs.Layouts.{number, both, through, fit_times, counted, fit_each, optional}
+use Rattle.model_image_bytes.specs.ImageBytes.{image_layout}
+use Rattle.model_image_bytes.specs.ByteLaws.{IsDeclared, IsSavableGuest}
+use Rattle.model_image_bytes.specs.MachineBytes.{path_layout, io_number, pref_number, third, bridge_layout, decl_layout, row_layout, board_layout, name_layout, paths_layout, guest_layout, cells_layout, on_board}
+use Rattle.model_image_bytes.specs.MachineByteLaws.{HasMachineBytes, CanBeDeclared, IsWritableName, IsWritableMachine, MachinesHaveBytes}
+use Rattle.model_image_bytes.proofs.Savable.{times_fit, counted_fit, endpoint_fits, values_fit, as_long, guests_have_bytes}
 
 -- ---- the board
 
@@ -43,14 +57,10 @@ path_fits p h =
         (lt-ltb q.function 256 (let a = k.function_fits in omega arith))
 
 io_fits : (k : IoDecode) → third.fits (io_number k) ≡ true
-io_fits no_io = refl
-io_fits io16 = refl
-io_fits io32 = refl
+io_fits k = grind arith
 
 pref_fits : (k : PrefDecode) → third.fits (pref_number k) ≡ true
-pref_fits no_pref = refl
-pref_fits pref32 = refl
-pref_fits pref64 = refl
+pref_fits k = grind arith
 
 bridge_fits : (d : Bridge) → IsLawfulBridge d → bridge_layout.fits d ≡ true
 bridge_fits d h =
@@ -62,89 +72,149 @@ bridge_fits d h =
     rw (vendor, device, revision, io, pref)
 
 decl_fits : (d : Decl) → IsLawfulDecl d → CanBeDeclared d → decl_layout.fits d ≡ true
-decl_fits (endpoint d) lawful can = endpoint_fits d can
-decl_fits (bridge d) lawful can = bridge_fits d lawful
+decl_fits d lawful can = grind (arith, endpoint_fits, bridge_fits)
 
-rows_fit : (fs : List BoardFunction) → Each (λ (r : Row). IsPath r.path) (map row_at fs) → Each (λ (r : Row). IsLawfulDecl r.decl) (map row_at fs) → Each IsWritableFunction fs
-    → Each (λ (r : Row). row_layout.fits r ≡ true) (map row_in (map saved_row fs))
+rows_fit : (fs : List BoardFunction) → Each (λ (r : Row). IsPath r.path) (board_at fs) → Each (λ (r : Row). IsLawfulDecl r.decl) (board_at fs) → Each (λ (f : BoardFunction). CanBeDeclared f.decl) fs
+    → Each (λ (r : Row). row_layout.fits r ≡ true) (board_at fs)
 rows_fit [] paths lawful can = tt
 rows_fit (f ∷ fs) paths lawful can =
-    (and_from (path_layout.fits f.path) (decl_layout.fits f.decl) (path_fits f.path paths.0) (decl_fits f.decl lawful.0 can.0.declared), rows_fit fs paths.1 lawful.1 can.1)
+    (and_from (path_layout.fits f.path) (decl_layout.fits f.decl) (path_fits f.path paths.0) (decl_fits f.decl lawful.0 can.0), rows_fit fs paths.1 lawful.1 can.1)
 
-as_many_rows : (fs : List BoardFunction) → length (map row_in (map saved_row fs)) ≡ length fs
-as_many_rows [] = refl
-as_many_rows (f ∷ fs) = ap suc (as_many_rows fs)
-
-cells_fit : (fs : List BoardFunction) → Each HasDeclaredShape fs → Each IsWritableFunction fs
-    → fit_each cells_layout (map row_in (map saved_row fs)) (map (λ (r : SavedRow). r.values) (map saved_row fs)) ≡ true
+cells_fit : (fs : List BoardFunction) → Each HasDeclaredShape fs → Each (λ (f : BoardFunction). HoldsBytes f.file) fs → fit_each cells_layout (board_at fs) (map (λ (f : BoardFunction). values_of f.file) fs) ≡ true
 cells_fit [] shapes can = refl
 cells_fit (f ∷ fs) shapes can =
     let one : fit_times (number 1).fits (length (declared_cells f.decl)) (values_of f.file) ≡ true =
-    subst (λ n. fit_times (number 1).fits n (values_of f.file) ≡ true) (as_long f.file (declared_cells f.decl) shapes.0) (times_fit (number 1).fits (values_of f.file) (values_fit f.file can.0.bytes)) in
-    and_from (fit_times (number 1).fits (length (declared_cells f.decl)) (values_of f.file))
-    (fit_each cells_layout (map row_in (map saved_row fs)) (map (λ (r : SavedRow). r.values) (map saved_row fs))) one (cells_fit fs shapes.1 can.1)
+    subst (λ n. fit_times (number 1).fits n (values_of f.file) ≡ true) (as_long f.file (declared_cells f.decl) shapes.0) (times_fit (number 1).fits (values_of f.file) (values_fit f.file can.0)) in
+    and_from (fit_times (number 1).fits (length (declared_cells f.decl)) (values_of f.file)) (fit_each cells_layout (board_at fs) (map (λ (f : BoardFunction). values_of f.file) fs)) one
+    (cells_fit fs shapes.1 can.1)
+
+-- ---- what a handoff holds
+
+pub record IsWritableState (s : State) : Type 0 where
+  pub handoff : IsHandoff s
+  pub declared : Each (λ (f : BoardFunction). CanBeDeclared f.decl) s.functions
+  pub bytes : Each (λ (f : BoardFunction). HoldsBytes f.file) s.functions
+  pub many : length s.functions < 2 ^ 32
+  pub latch : s.latch < 2 ^ 32
+
+pub writable_now : (w : WorldNow) → IsSavableWorld w → IsWritableMachine w → IsWritableState w.handoff
+writable_now w h can = record { handoff = h.lawful.handoff; declared = can.compared.declared; bytes = can.bytes; many = can.many; latch = can.latch }
+
+pub state_fits : (s : State) → IsWritableState s → (gs : List SavedGuest) → (counted 2 guest_layout).fits gs ≡ true → HasMachineBytes (record { handoff = saved_handoff s; guests = gs })
+state_fits s h gs guests =
+    let b = board_at s.functions in
+    let many : length b < 256 ^ 4 = let a = length-map s.functions row_at in let c = h.many in omega arith in
+    let board = counted_fit 4 row_layout b many (rows_fit s.functions h.handoff.board.places.paths h.handoff.board.declarations h.declared) in
+    let cells = cells_fit s.functions h.handoff.shapes h.bytes in
+    let latch = lt-ltb s.latch (256 ^ 4) h.latch in
+    and_from (board_layout.fits b) ((on_board b).fits (gs, (values_in s, s.latch))) board
+    (and_from ((counted 2 guest_layout).fits gs) (fit_each cells_layout b (values_in s) && (number 4).fits s.latch) guests
+    (and_from (fit_each cells_layout b (values_in s)) ((number 4).fits s.latch) cells latch))
+
+pub declared_written : (fs : List BoardFunction) → Each (λ (f : BoardFunction). CanBeDeclared f.decl) fs → (p : Path) (d : Endpoint) → declared (board_at fs) p ≡ Some d → IsDeclared d
+declared_written fs can p d h =
+    each_in (λ (r : Row). CanBeDeclared r.decl) (record { path = p; decl = endpoint d }) (board_at fs) (each_of_map (λ (r : Row). CanBeDeclared r.decl) row_at fs can) (declared_row (board_at fs) p d h)
+
+-- ---- with functions at reset
+
+field_bytes : (n v rw w1c : ℕ) (p : Place) → HoldsBytes (field p n v rw w1c)
+field_bytes zero v rw w1c p = tt
+field_bytes (suc n) v rw w1c p = (omega arith, field_bytes n (v / 256) (rw / 256) (w1c / 256) (after p))
+
+cells_bytes : (cs : List Cell) (p : Place) → Each IsCell cs → HoldsBytes (cells_from p cs)
+cells_bytes [] p h = tt
+cells_bytes (c ∷ cs) p h = (h.0.value_fits, cells_bytes cs (after p) h.1)
+
+abbrev IsByte : PlacedCell → Type 0
+IsByte e = e.cell.value < 256
+
+blocks_bytes : (bs : List ConfigBlock) → Each (λ (b : ConfigBlock). Each IsCell b.cells) bs → HoldsBytes (flat_map block_cells bs)
+blocks_bytes [] h = tt
+blocks_bytes (b ∷ bs) h = each_append IsByte (block_cells b) (flat_map block_cells bs) (cells_bytes b.cells (config b.offset) h.0) (blocks_bytes bs h.1)
+
+regions_bytes : (rs : List Region) → Each (λ (r : Region). Each IsCell r.cells) rs → HoldsBytes (flat_map (region_cells (λ r. 0)) rs)
+regions_bytes [] h = tt
+regions_bytes (r ∷ rs) h =
+    let base = base_cells r.index r.kind r.size 0 in
+    each_append IsByte (base ++ cells_from (block r.index 0) r.cells) (flat_map (region_cells (λ r. 0)) rs)
+    (each_append IsByte base (cells_from (block r.index 0) r.cells)
+    (field_bytes (4 * registers_of r.kind) (0 + type_bits r.kind) (2 ^ base_width r.kind - r.size) 0 (base_register r.index)) (cells_bytes r.cells (block r.index 0) h.0))
+    (regions_bytes rs h.1)
+
+header_bytes : (d : Endpoint) → HoldsBytes (header_cells d false 0)
+header_bytes d = grind arith
+
+reset_bytes : (d : Endpoint) → IsDeclared d → HoldsBytes (endpoint_reset d false)
+reset_bytes d h =
+    each_append IsByte (config_cells d false 0) (flat_map (region_cells (λ r. 0)) d.regions)
+    (each_append IsByte (header_cells d false 0) (flat_map block_cells d.blocks) (header_bytes d) (blocks_bytes d.blocks h.cells.blocks)) (regions_bytes d.regions h.cells.regions)
+
+agreed_bytes : (left own : File) → HoldsBytes left → HoldsBytes own → HoldsBytes (agreed_file left own)
+agreed_bytes [] own h k = tt
+agreed_bytes (e ∷ es) own h k = (of (is_own e.place), agreed_bytes es own h.1 k)
+  where
+    of : (t : Bool) → IsByte (cond t e (record e { cell = cell_at own e.place }))
+    of true = h.0
+    of false = let one = number_fits own k e.place 1 in omega arith
+
+pub writable_under : (s : State) → IsWritableState s → (gs : GuestsNow) → IsWritableState (with_seated_reset s gs)
+writable_under s h gs = record {
+  handoff = handoff_stays s h.handoff gs;
+  declared = each_of_map (λ (f : BoardFunction). CanBeDeclared f.decl) (agreed_function (seated_files s gs)) s.functions
+      (each_map (λ (f : BoardFunction). CanBeDeclared f.decl) (λ (f : BoardFunction). CanBeDeclared (agreed_function (seated_files s gs) f).decl) s.functions (λ f k. subst CanBeDeclared (sym (decl_stays (seated_files s gs f.path) f)) k) h.declared);
+  bytes = each_of_map (λ (f : BoardFunction). HoldsBytes f.file) (agreed_function (seated_files s gs)) s.functions
+      (each_map (λ (f : BoardFunction). HoldsBytes f.file) (λ (f : BoardFunction). HoldsBytes (agreed_function (seated_files s gs) f).file) s.functions written h.bytes);
+  many = subst (λ n. n < 2 ^ 32) (sym (length-map s.functions (agreed_function (seated_files s gs)))) h.many;
+  latch = h.latch;
+}
+  where
+    decl_stays : (o : Option File) (f : BoardFunction) → (option_map_or (λ (own : File). record f { file = agreed_file f.file own }) o f).decl ≡ f.decl
+    decl_stays None f = refl
+    decl_stays (Some own) f = refl
+
+    written : (f : BoardFunction) → HoldsBytes f.file → HoldsBytes (agreed_function (seated_files s gs) f).file
+    written f k = of (sits gs f.path) (declared (board_at s.functions) f.path) refl
+      where
+        of : (t : Bool) (o : Option Endpoint) → declared (board_at s.functions) f.path ≡ o
+            → HoldsBytes (option_map_or (λ (own : File). record f { file = agreed_file f.file own }) (cond t (option_map file_at_reset o) None) f).file
+        of false o e = k
+        of true None e = k
+        of true (Some d) e = agreed_bytes f.file (endpoint_reset d false) k (reset_bytes d (declared_written s.functions h.declared f.path d e))
 
 -- ---- guests
 
--- what is declared on a board stands at a path
-declared_path : (rs : Board) → Each (λ (r : Row). IsPath r.path) rs → (p : Path) (d : Endpoint) → declared rs p ≡ Some d → IsPath p
-declared_path [] paths p d h = cc
-declared_path (r ∷ rs) paths p d h = of (path_eq r.path p) refl h (declared_path rs paths.1 p d)
-  where
-    of : (t : Bool) → path_eq r.path p ≡ t → option_map_or endpoint_of (cond t (Some r) (find (λ q. path_eq q.path p) rs)) None ≡ Some d → (declared rs p ≡ Some d → IsPath p) → IsPath p
-    of true e h more = subst IsPath (path_same r.path p e) paths.0
-    of false e h more = more h
+pub name_fits : (name : Text) → IsWritableName name → name_layout.fits name ≡ true
+name_fits name h = counted_fit 1 (number 1) name h.short (each_map (λ c. c < 256) (λ c. (number 1).fits c ≡ true) name (λ c k. lt-ltb c 256 k) h.are_bytes)
 
 module _ (b : Board) (paths : Each (λ (r : Row). IsPath r.path) b) where
-  seats_fit : (qs : List (Option Path)) (fs : Slots) → AreSeats b qs fs → Each HoldsSavable fs → Each (λ s. (optional seat_layout).fits s ≡ true) (saved_seats qs fs)
-  seats_fit [] fs are can = tt
-  seats_fit (q ∷ qs) [] are can = tt
-  seats_fit (None ∷ qs) (f ∷ fs) are can = (refl, seats_fit qs fs are.1 can.1)
-  seats_fit (Some p ∷ qs) (None ∷ fs) are can = (refl, seats_fit qs fs are.1 can.1)
-  seats_fit (Some p ∷ qs) (Some f ∷ fs) are can =
-      let path = path_fits p (declared_path b paths p f.decl are.0.decl) in
-      let seat = and_from (path_layout.fits p) (function_layout.fits (record { decl = f.decl; values = values_of f.file })) path (function_fits f can.0) in
-      (ap (λ t. (t && true) && true) seat, seats_fit qs fs are.1 can.1)
+  slots_fit : (qs : List (Option Path)) (os : Slots) → AreSeats b qs os → Each (λ q. (optional path_layout).fits q ≡ true) qs
+  slots_fit [] os are = tt
+  slots_fit (q ∷ qs) [] are = absurd are
+  slots_fit (None ∷ qs) (o ∷ os) are = (refl, slots_fit qs os are.1)
+  slots_fit (Some p ∷ qs) (None ∷ os) are = absurd are.0
+  slots_fit (Some p ∷ qs) (Some f ∷ os) are =
+      let path = each_in (λ (r : Row). IsPath r.path) (record { path = p; decl = endpoint f.decl }) b paths (declared_row b p f.decl are.0.decl) in
+      (ap (λ t. (t && true) && true) (path_fits p path), slots_fit qs os are.1)
 
-  as_many_seats : (qs : List (Option Path)) (fs : Slots) → AreSeats b qs fs → length (saved_seats qs fs) ≡ length qs
-  as_many_seats [] fs are = refl
-  as_many_seats (q ∷ qs) [] are = absurd are
-  as_many_seats (q ∷ qs) (f ∷ fs) are = ap suc (as_many_seats qs fs are.1)
+  guest_fits : (g : GuestNow) → IsSeatedGuest b g → IsWritableName g.name → IsSavableGuest g.lone → guest_layout.fits (saved_guest g) ≡ true
+  guest_fits g seated name can =
+      let slots : paths_layout.fits g.paths ≡ true =
+      subst (λ n. fit_times (optional path_layout).fits n g.paths ≡ true) seated.count (times_fit (optional path_layout).fits g.paths (slots_fit g.paths g.lone.slots seated.seats)) in
+      let image = guests_have_bytes g.lone can in
+      and_from (name_layout.fits g.name) (paths_layout.fits g.paths && image_layout.fits (image_of_lone g.lone)) (name_fits g.name name)
+      (and_from (paths_layout.fits g.paths) (image_layout.fits (image_of_lone g.lone)) slots image)
 
-  guest_fits : (g : GuestNow) → IsSeatedGuest b g → IsWritableGuest g → guest_layout.fits (saved_guest g) ≡ true
-  guest_fits g seated can =
-      let seats = saved_seats g.paths g.lone.slots in
-      let name = counted_fit 1 (number 1) g.name can.short (each_map (λ c. c < 256) (λ c. (number 1).fits c ≡ true) g.name (λ c k. lt-ltb c 256 k) can.name) in
-      let all : fit_times (optional seat_layout).fits 32 seats ≡ true =
-      subst (λ n. fit_times (optional seat_layout).fits n seats ≡ true) (as_many_seats g.paths g.lone.slots seated.seats ∙ seated.count)
-      (times_fit (optional seat_layout).fits seats (seats_fit g.paths g.lone.slots seated.seats can.lone.functions)) in
-      and_from (name_layout.fits g.name) (latch_layout.fits g.lone.latch && fit_times (optional seat_layout).fits 32 seats) name
-      (and_from (latch_layout.fits g.lone.latch) (fit_times (optional seat_layout).fits 32 seats) (latch_fits g.lone.latch can.lone.latch) all)
-
-  guests_fit : (gs : GuestsNow) → Each (IsSeatedGuest b) gs → Each IsWritableGuest gs → Each (λ (s : SavedGuest). guest_layout.fits s ≡ true) (map saved_guest gs)
-  guests_fit [] seated can = tt
-  guests_fit (g ∷ gs) seated can = (guest_fits g seated.0 can.0, guests_fit gs seated.1 can.1)
+  guests_fit : (gs : GuestsNow) → Each (IsSeatedGuest b) gs → Each IsWritableName (names_of gs) → Each (λ (g : GuestNow). IsSavableGuest g.lone) gs
+      → Each (λ (s : SavedGuest). guest_layout.fits s ≡ true) (map saved_guest gs)
+  guests_fit [] seated names can = tt
+  guests_fit (g ∷ gs) seated names can = (guest_fits g seated.0 names.0 can.0, guests_fit gs seated.1 names.1 can.1)
 
 -- ---- all of it
 
 pub machines_have_bytes : MachinesHaveBytes
 machines_have_bytes w h can =
-    let s = w.handoff in
-    let paths = h.lawful.handoff.board.places.paths in
     let guests = map saved_guest w.guests in
-    let few : length guests < 256 ^ 2 = let a = length-map w.guests saved_guest in let c = can.few in omega arith in
-    subst (λ (x : State). machine_layout.fits (record { handoff = saved_handoff x; guests = guests }) ≡ true) (sym h.shown)
-    (told s (counted_fit 2 guest_layout guests few (guests_fit (board_at s.functions) paths w.guests h.lawful.seated.guests can.guests)) paths)
-  where
-    told : (s : State) → (counted 2 guest_layout).fits (map saved_guest w.guests) ≡ true → Each (λ (r : Row). IsPath r.path) (map row_at w.handoff.functions)
-        → machine_layout.fits (record { handoff = saved_handoff w.handoff; guests = map saved_guest w.guests }) ≡ true
-    told s guests paths =
-        let rows = map row_in (map saved_row w.handoff.functions) in
-        let values = map (λ (r : SavedRow). r.values) (map saved_row w.handoff.functions) in
-        let many : length rows < 256 ^ 4 = let a = as_many_rows w.handoff.functions in let c = can.many in omega arith in
-        let board = counted_fit 4 row_layout rows many (rows_fit w.handoff.functions paths h.lawful.handoff.board.declarations can.functions) in
-        let cells = cells_fit w.handoff.functions h.shapes can.functions in
-        let latch = lt-ltb w.handoff.latch (256 ^ 4) can.latch in
-        and_from (board_layout.fits rows) ((on_board rows).fits (map saved_guest w.guests, (values, w.handoff.latch))) board
-        (and_from ((counted 2 guest_layout).fits (map saved_guest w.guests)) ((for_each cells_layout rows).fits values && (number 4).fits w.handoff.latch) guests
-        (and_from ((for_each cells_layout rows).fits values) ((number 4).fits w.handoff.latch) cells latch))
+    let few : length guests < 256 ^ 2 = let a = length-map w.guests saved_guest in let c = length-map w.guests (λ (g : GuestNow). g.name) in let d = can.machine.few in omega arith in
+    let all = guests_fit (board_at w.handoff.functions) h.lawful.handoff.board.places.paths w.guests h.lawful.seated.guests can.machine.compared.names can.guests in
+    subst (λ (x : State). HasMachineBytes (record { handoff = saved_handoff x; guests = guests })) (sym h.shown)
+    (state_fits w.handoff (writable_now w h can.machine) guests (counted_fit 2 guest_layout guests few all))

@@ -1,13 +1,13 @@
 -- What bytes are that a guest takes, slot by slot; and the world after it.
-use Rattle.std.proofs.Common.{◌≡◌, ℕ, zero, suc, ◌+◌, ◌*◌, ◌/◌, ◌%◌, ◌^◌, ◌<◌, ◌≤◌, Bool, true, false, cond, ◌&&◌, eqb, List, [], ◌∷◌, ◌++◌, length, Some, None, Option, Ok, Err, refl, sym, ap, ap₂, ◌∙◌, subst, arith, length-append}
+use Rattle.std.proofs.Common.{◌≡◌, ℕ, zero, suc, ◌+◌, ◌*◌, ◌/◌, ◌%◌, ◌^◌, ◌<◌, ◌≤◌, Bool, true, false, cond, ◌&&◌, eqb, List, [], ◌∷◌, ◌++◌, length, Some, None, Option, Ok, Err, refl, sym, ap, ap₂, ◌∙◌, subst, append_assoc, append-nil, arith, length-append}
 use Rattle.std.specs.Prelude.{take, drop, is_some}
 use Rattle.std.specs.Option.{option_map_or}
 use Rattle.std.proofs.Math.Nat.{pow-suc}
-use Rattle.std.proofs.Math.Seq.{drop-append_seam, drop-append-add}
+use Rattle.std.proofs.Math.Seq.{drop-append_seam, take-append_seam}
 use Rattle.std.proofs.lemmas.Bool.{and_from, eq-eqb, eqb-true, lt-ltb, ltb-true}
-use Rattle.std.proofs.lemmas.List.{take-append-drop}
 use Rattle.lists.specs.Elements.{Each}
-use Rattle.lists.proofs.EachLemmas.{each_parts}
+use Rattle.lists.proofs.EachLemmas.{each_map, each_parts}
+use Rattle.lists.proofs.Tests.{left_true, right_true}
 use Rattle.model_registers.specs.Registers.{File}
 use Rattle.model_registers.specs.ConfigAddress.{latched}
 use Rattle.model_registers.specs.EndpointTable.{endpoint_reset}
@@ -17,162 +17,181 @@ use Rattle.model_guests.specs.Lone.{LoneGuest}
 use Rattle.model_guests.specs.Guests.{lone_of}
 use Rattle.model_guests.specs.Text.{Text}
 use Rattle.model_guests.specs.WorldNow.{WorldNow}
-use Rattle.model_images.specs.Images.{SavedFunction, Image, image_of_guest, after_load, can_hold, fit_cells, FitsSlot, FitSlots}
+use Rattle.model_images.specs.Images.{SavedFunction, Image, image_of_guest, after_load, can_hold, fit_cells, Fits, FitsSlot, FitSlots}
 use Rattle.model_images.proofs.Loading.{keeps_what_was_saved}
-use Rattle.model_image_bytes.specs.Layouts.{Parsed, le_bytes, parse_number, number, fit_times, optional}
-use Rattle.model_image_bytes.specs.ImageBytes.{endpoint_layout, function_layout, declaration_bytes, image_bytes, image_of}
-use Rattle.model_image_bytes.specs.ByteLaws.{AreBytes, HasBytes, HoldsSavable, IsSavableGuest}
-use Rattle.model_image_bytes.specs.LoadedBytes.{Left, then_read, after_bytes, after_values, after_slot, after_slots, after_number, after_latch, header, after_image, fault_of, load_fault, after_load_bytes}
+use Rattle.model_image_bytes.specs.Layouts.{Parsed, parsed, le_bytes, parse_number, number, fit_times, optional}
+use Rattle.model_image_bytes.specs.ImageBytes.{function_layout, image_layout, declaration_bytes, image_bytes, image_of}
+use Rattle.model_image_bytes.specs.ByteLaws.{AreBytes, Spells, HasBytes, IsDeclared, HoldsSavable, IsSavableGuest}
+use Rattle.model_image_bytes.specs.LoadedBytes.{Left, then_read, after_bytes, after_values, after_slot, after_slots_front, at_end, after_slots, after_number, after_latch, header, after_image_front, fault_of, load_fault, after_load_bytes}
 use Rattle.model_image_bytes.specs.LoadedLaws.{AcceptedIsImage, LoadsImage, RefusedStays, KeepsSavedBytes}
-use Rattle.model_image_bytes.specs.TakenBytes.{le_number, values_begin, slot_size, taken_function, taken_slot, taken_slots, taken_image, SlotsAreTaken, ImageIsTaken, HoldsDeclared, IsDeclaredGuest, AcceptedIsTaken}
-use Rattle.model_image_bytes.proofs.Numbers.{number_again, number_spells}
-use Rattle.model_image_bytes.proofs.ImageBytes.{bytes_are_read, FunctionParts}
-use Rattle.model_image_bytes.proofs.Savable.{endpoint_fits, guests_have_bytes}
-use Rattle.model_image_bytes.proofs.LoadedBytes.{own_bytes, same_left, follows, function_bytes, slot_bytes, slots_bytes, own_accepted}
+use Rattle.model_image_bytes.specs.TakenBytes.{le_number, values_begin, slot_size, taken_slot, taken_slots, taken_image, SlotsAreTaken, IsTakenImage, ImageIsTaken, HoldsDeclared, IsDeclaredGuest, AcceptedIsTaken}
+use Rattle.model_image_bytes.specs.FrontBytes.{slots_size}
+use Rattle.model_image_bytes.proofs.Numbers.{number_again, number_is, number_spells}
+use Rattle.model_image_bytes.proofs.Layouts.{fit_count}
+use Rattle.model_image_bytes.proofs.ImageBytes.{bytes_are_read, parts_of, FunctionParts, function_parts, parts_fit, slot_fits}
+use Rattle.model_image_bytes.proofs.Savable.{times_fit, endpoint_fits, guests_have_bytes}
+use Rattle.model_image_bytes.proofs.LoadedBytes.{own_bytes, same_left, follows, function_bytes, slot_bytes, slots_bytes, values_taken, fitting_slot, slots_end, image_ends, own_accepted}
 
 -- ---- values
 
 record AreValues (file : File) (bytes rest : List ℕ) : Type 0 where
-  pub left : drop (length file) bytes ≡ rest
-  pub enough : length file ≤ length bytes
-  pub fit : fit_cells file (take (length file) bytes) ≡ true
+  values : List ℕ
+  are : bytes ≡ values ++ rest
+  count : length values ≡ length file
+  fit : fit_cells file values ≡ true
 
 values_there : (file : File) (bytes rest : List ℕ) → after_values file bytes ≡ Ok rest → AreValues file bytes rest
-values_there [] bytes rest h = record { left = same_left bytes rest h; enough = omega arith; fit = refl }
+values_there [] bytes rest h = record { values = []; are = same_left bytes rest h; count = refl; fit = refl }
 values_there (e ∷ es) [] rest h = cc
 values_there (e ∷ es) (b ∷ bytes) rest h = cases (can_hold e b) refl h (values_there es bytes rest)
   where
     cases : (t : Bool) → can_hold e b ≡ t → cond t (after_values es bytes) (Err 905) ≡ Ok rest → (after_values es bytes ≡ Ok rest → AreValues es bytes rest) → AreValues (e ∷ es) (b ∷ bytes) rest
     cases false i j later = cc
     cases true i j later =
-        let more = later j in
-        record {
-          left = more.left;
-          enough = let n = more.enough in omega arith;
-          fit = and_from (can_hold e b) (fit_cells es (take (length es) bytes)) i more.fit;
-        }
-
-bytes_fit : (n : ℕ) (bytes : List ℕ) → n ≤ length bytes → AreBytes bytes → fit_times (number 1).fits n (take n bytes) ≡ true
-bytes_fit zero bytes enough all = refl
-bytes_fit (suc n) [] enough all = absurd (omega arith)
-bytes_fit (suc n) (b ∷ bytes) enough all =
-    and_from ((number 1).fits b) (fit_times (number 1).fits n (take n bytes)) (lt-ltb b 256 all.0) (bytes_fit n bytes (omega arith) all.1)
+        let v = later j in
+        record { values = b ∷ v.values; are = ap (λ (xs : List ℕ). b ∷ xs) v.are; count = ap suc v.count; fit = and_from (can_hold e b) (fit_cells es v.values) i v.fit }
 
 -- ---- a slot
 
-read_before : (next : List ℕ → Left) (r : Left) (rest : List ℕ) → then_read next r ≡ Ok rest → (bytes : List ℕ) × (r ≡ Ok bytes) × (next bytes ≡ Ok rest)
+pub read_before : (next : List ℕ → Left) (r : Left) (rest : List ℕ) → then_read next r ≡ Ok rest → (bytes : List ℕ) × (r ≡ Ok bytes) × (next bytes ≡ Ok rest)
 read_before next (Ok bytes) rest h = (bytes, refl, h)
 read_before next (Err k) rest h = cc
 
--- the bytes of a function after its declaration
-record IsCut (f : Function) (bytes rest : List ℕ) : Type 0 where
-  pub later : List ℕ
-  pub are : bytes ≡ (1 ∷ declaration_bytes f.decl) ++ later
-  pub begin : drop (values_begin f.decl) bytes ≡ later
-  pub size : slot_size (Some f) ≤ length bytes
-  pub left : drop (slot_size (Some f)) bytes ≡ rest
-  pub values : AreValues (endpoint_reset f.decl false) later rest
+values_between : (tagged values rest : List ℕ) (m n : ℕ) → m ≡ length tagged → length values ≡ n → take n (drop m (tagged ++ (values ++ rest))) ≡ values
+values_between tagged values rest m n begin count =
+    ap₂ (λ (k : ℕ) (j : ℕ). take j (drop k (tagged ++ (values ++ rest)))) begin (sym count) ∙ ap (take (length values)) (drop-append_seam tagged (values ++ rest)) ∙ take-append_seam values rest
 
-cut : (f : Function) (bytes rest : List ℕ) → after_slot (Some f) bytes ≡ Ok rest → IsCut f bytes rest
-cut f bytes rest h =
-    let tagged : List ℕ = 1 ∷ declaration_bytes f.decl in
-    let count : ℕ = length (endpoint_reset f.decl false) in
-    let first = read_before (after_values (endpoint_reset f.decl false)) (after_bytes 906 tagged bytes) rest h in
-    let are : bytes ≡ tagged ++ first.0 = follows 906 tagged bytes first.0 first.1 in
-    let values = values_there (endpoint_reset f.decl false) first.0 rest first.2 in
-    let before : length tagged ≡ values_begin f.decl = omega arith in
-    let whole : length bytes ≡ length tagged + length first.0 = ap (λ (xs : List ℕ). length xs) are ∙ length-append tagged first.0 in
-    record {
-      later = first.0;
-      are = are;
-      begin = ap (λ k. drop k bytes) (sym before) ∙ ap (drop (length tagged)) are ∙ drop-append_seam tagged first.0;
-      size = let n = values.enough in omega arith;
-      left = ap (λ k. drop (k + count) bytes) (sym before) ∙ ap (drop (length tagged + count)) are ∙ drop-append-add tagged first.0 count ∙ values.left;
-      values = values;
-    }
-
-record IsTaken (f : Option Function) (bytes rest : List ℕ) : Type 0 where
-  pub left : drop (slot_size f) bytes ≡ rest
-  pub enough : slot_size f ≤ length bytes
+-- the bytes of a slot, whatever follows: what is taken of them, and that they are its bytes where it can be written
+pub record IsTaken (f : Option Function) (bytes rest : List ℕ) : Type 0 where
+  pub one : List ℕ
+  pub are : bytes ≡ one ++ rest
+  pub size : length one ≡ slot_size f
+  pub again : (more : List ℕ) → after_slot f (one ++ more) ≡ Ok more
+  pub same : (more : List ℕ) → taken_slot f (one ++ more) ≡ taken_slot f bytes
   pub fits : FitsSlot (taken_slot f bytes) f
+  pub spelled : AreBytes bytes → HoldsDeclared f → (one ≡ slot_bytes (taken_slot f bytes)) × ((optional function_layout).fits (taken_slot f bytes) ≡ true)
 
-taken : (f : Option Function) (bytes rest : List ℕ) → after_slot f bytes ≡ Ok rest → IsTaken f bytes rest
+pub behind : {f : Option Function} {bytes rest : List ℕ} (t : IsTaken f bytes rest) (more : List ℕ) → drop (slot_size f) (t.one ++ more) ≡ more
+behind t more = ap (λ n. drop n (t.one ++ more)) (sym t.size) ∙ drop-append_seam t.one more
+
+pub left_of : {f : Option Function} {bytes rest : List ℕ} → IsTaken f bytes rest → drop (slot_size f) bytes ≡ rest
+left_of {f} {bytes} {rest} t = ap (drop (slot_size f)) t.are ∙ behind t rest
+
+module _ (f : Function) (values : List ℕ) (count : length values ≡ length (endpoint_reset f.decl false)) (fit : fit_cells (endpoint_reset f.decl false) values ≡ true) where
+  abbrev tagged : List ℕ
+  tagged = 1 ∷ declaration_bytes f.decl
+
+  abbrev s : SavedFunction
+  s = record { decl = f.decl; values = values }
+
+  is : (rest : List ℕ) → taken_slot (Some f) ((tagged ++ values) ++ rest) ≡ Some s
+  is rest =
+      subst (λ (bs : List ℕ). taken_slot (Some f) bs ≡ Some s) (sym (append_assoc tagged values rest))
+      (ap (λ (vs : List ℕ). Some (record { decl = f.decl; values = vs })) (values_between tagged values rest (values_begin f.decl) (length (endpoint_reset f.decl false)) (omega arith) count))
+
+  takes : (rest : List ℕ) → after_slot (Some f) ((tagged ++ values) ++ rest) ≡ Ok rest
+  takes rest =
+      ap (after_slot (Some f)) (append_assoc tagged values rest) ∙ ap (then_read (after_values (endpoint_reset f.decl false))) (own_bytes 906 tagged (values ++ rest))
+      ∙ values_taken (endpoint_reset f.decl false) values rest fit
+
+  parts : AreBytes values → IsDeclared f.decl → FunctionParts s
+  parts all declared = record {
+    decl = endpoint_fits f.decl declared;
+    count = subst (λ n. fit_times (number 1).fits n values ≡ true) count
+        (times_fit (number 1).fits values (each_map (λ b. b < 256) (λ b. (number 1).fits b ≡ true) values (λ b k. lt-ltb b 256 k) all));
+    values = fit;
+  }
+
+  function_taken : (rest : List ℕ) → IsTaken (Some f) ((tagged ++ values) ++ rest) rest
+  function_taken rest = record {
+    one = tagged ++ values;
+    are = refl;
+    size = let a = length-append tagged values in omega (arith, a, count);
+    again = takes;
+    same = λ more. is more ∙ sym (is rest);
+    fits = subst (λ (o : Option SavedFunction). FitsSlot o (Some f)) (sym (is rest)) (record { decl = refl; values = fit });
+    spelled = λ all declared.
+        let p = parts (each_parts (λ b. b < 256) tagged values (each_parts (λ b. b < 256) (tagged ++ values) rest all).0).1 declared in
+        let its = function_bytes s [] p in (
+          sym (ap (λ (o : Option SavedFunction). slot_bytes o) (is rest) ∙ sym (append-nil (slot_bytes (Some s))) ∙ its ∙ ap (λ (vs : List ℕ). tagged ++ vs) (append-nil values)),
+          ap (λ (o : Option SavedFunction). (optional function_layout).fits o) (is rest) ∙ ap (λ t. (t && true) && true) (parts_fit s p),
+        );
+  }
+
+pub taken : (f : Option Function) (bytes rest : List ℕ) → after_slot f bytes ≡ Ok rest → IsTaken f bytes rest
 taken None bytes rest h =
-    let are : bytes ≡ 0 ∷ rest = follows 906 (0 ∷ []) bytes rest h in
-    record { left = ap (drop 1) are; enough = subst (λ (xs : List ℕ). 1 ≤ length xs) (sym are) (omega arith); fits = tt }
+    subst (λ (xs : List ℕ). IsTaken None xs rest) (sym (follows 906 (0 ∷ []) bytes rest h))
+    (record { one = 0 ∷ []; are = refl; size = refl; again = λ more. refl; same = λ more. refl; fits = tt; spelled = λ all declared. (refl, refl) })
 taken (Some f) bytes rest h =
-    let c = cut f bytes rest h in
-    let reset : File = endpoint_reset f.decl false in
-    record {
-      left = c.left;
-      enough = c.size;
-      fits = record { decl = refl; values = subst (λ (xs : List ℕ). fit_cells reset (take (length reset) xs) ≡ true) (sym c.begin) c.values.fit };
-    }
+    let tagged : List ℕ = 1 ∷ declaration_bytes f.decl in
+    let first = read_before (after_values (endpoint_reset f.decl false)) (after_bytes 906 tagged bytes) rest h in
+    let v = values_there (endpoint_reset f.decl false) first.0 rest first.2 in
+    let are = follows 906 tagged bytes first.0 first.1 ∙ ap (λ (xs : List ℕ). tagged ++ xs) v.are ∙ sym (append_assoc tagged v.values rest) in
+    subst (λ (xs : List ℕ). IsTaken (Some f) xs rest) (sym are) (function_taken f v.values v.count v.fit rest)
 
 pub slots_are_taken : SlotsAreTaken
 slots_are_taken f fs bytes rest h =
     let first = read_before (after_slots fs) (after_slot f bytes) rest h in
     let t = taken f bytes first.0 first.1 in
-    record {
-      slot = first.1 ∙ ap (λ (xs : List ℕ). Ok xs) (sym t.left);
-      enough = t.enough;
-      fits = t.fits;
-      others = ap (after_slots fs) t.left ∙ first.2;
-    }
+    let enough : slot_size f ≤ length bytes = subst (λ (xs : List ℕ). slot_size f ≤ length xs) (sym t.are) (let a = length-append t.one first.0 in let b = t.size in omega (arith, a, b)) in
+    record { slot = first.1 ∙ ap (λ (xs : List ℕ). Ok xs) (sym (left_of t)); enough = enough; fits = t.fits; others = ap (after_slots fs) (left_of t) ∙ first.2 }
 
--- ---- its bytes are those of what is taken
+-- what is taken where something fits that was saved
+slot_again : (s : Option SavedFunction) (f : Option Function) (rest : List ℕ) → (optional function_layout).fits s ≡ true → FitsSlot s f → taken_slot f (slot_bytes s ++ rest) ≡ s
+slot_again None None rest h k = refl
+slot_again None (Some f) rest h k = absurd k
+slot_again (Some s) None rest h k = absurd k
+slot_again (Some s) (Some f) rest h k =
+    let parts = function_parts s (slot_fits s h) in
+    let count = fit_count (number 1) (number_is 1) (length (endpoint_reset s.decl false)) s.values parts.count in
+    subst (λ d. taken_slot (Some (record f { decl = d })) (slot_bytes (Some s) ++ rest) ≡ Some s) k.decl
+    (subst (λ (bs : List ℕ). taken_slot (Some (record f { decl = s.decl })) bs ≡ Some s) (sym (function_bytes s rest parts ∙ sym (append_assoc (1 ∷ declaration_bytes s.decl) s.values rest)))
+    (is (record f { decl = s.decl }) s.values count k.values rest))
 
-record IsSpelled (f : Option Function) (bytes : List ℕ) : Type 0 where
-  pub are : bytes ≡ slot_bytes (taken_slot f bytes) ++ drop (slot_size f) bytes
-  pub has : (optional function_layout).fits (taken_slot f bytes) ≡ true
+slots_again : (n : ℕ) (ss : List (Option SavedFunction)) (fs : Slots) (rest : List ℕ) → fit_times (optional function_layout).fits n ss ≡ true → FitSlots ss fs
+    → taken_slots fs (slots_bytes ss ++ rest) ≡ ss
+slots_again n [] [] rest h k = refl
+slots_again n [] (f ∷ fs) rest h k = absurd k
+slots_again n (s ∷ ss) [] rest h k = absurd k
+slots_again zero (s ∷ ss) (f ∷ fs) rest h k = cc
+slots_again (suc n) (s ∷ ss) (f ∷ fs) rest h k =
+    let fits = left_true ((optional function_layout).fits s) (fit_times (optional function_layout).fits n ss) h in
+    let others = right_true ((optional function_layout).fits s) (fit_times (optional function_layout).fits n ss) h in
+    let more : List ℕ = slots_bytes ss ++ rest in
+    let t = taken f (slot_bytes s ++ more) more (fitting_slot s f more fits k.0) in
+    ap (taken_slots (f ∷ fs)) (append_assoc (slot_bytes s) (slots_bytes ss) rest)
+    ∙ ap₂ (λ (x : Option SavedFunction) (xs : List (Option SavedFunction)). x ∷ xs) (slot_again s f more fits k.0) (ap (taken_slots fs) (left_of t) ∙ slots_again n ss fs rest others k.1)
 
-module _ (f : Function) (bytes : List ℕ) where
-  abbrev n : ℕ
-  n = length (endpoint_reset f.decl false)
-
-  abbrev s : SavedFunction
-  s = taken_function f bytes
-
-  function_spelled : (rest : List ℕ) → AreBytes bytes → HoldsDeclared (Some f) → IsCut f bytes rest → IsSpelled (Some f) bytes
-  function_spelled rest all declared c =
-      let bytes_later : AreBytes c.later = (each_parts (λ b. b < 256) (1 ∷ declaration_bytes f.decl) c.later (subst AreBytes c.are all)).1 in
-      let values : s.values ≡ take n c.later = ap (take n) c.begin in
-      let count = subst (λ (vs : List ℕ). fit_times (number 1).fits n vs ≡ true) (sym values) (bytes_fit n c.later c.values.enough bytes_later) in
-      let fit = subst (λ (vs : List ℕ). fit_cells (endpoint_reset f.decl false) vs ≡ true) (sym values) c.values.fit in
-      let parts : FunctionParts s = record { decl = endpoint_fits f.decl declared; count = count; values = fit } in
-      let both : s.values ++ drop (slot_size (Some f)) bytes ≡ c.later =
-      ap₂ (λ (xs ys : List ℕ). xs ++ ys) values (c.left ∙ sym c.values.left) ∙ take-append-drop n c.later in
-      let fits = and_from (endpoint_layout.fits f.decl) (fit_times (number 1).fits n s.values && fit_cells (endpoint_reset f.decl false) s.values) parts.decl
-      (and_from (fit_times (number 1).fits n s.values) (fit_cells (endpoint_reset f.decl false) s.values) count fit) in
-      record {
-        are = c.are ∙ ap (λ (xs : List ℕ). 1 ∷ (declaration_bytes f.decl ++ xs)) (sym both) ∙ sym (function_bytes s (drop (slot_size (Some f)) bytes) parts);
-        has = ap (λ t. (t && true) && true) fits;
-      }
-
-spelled : (f : Option Function) (bytes rest : List ℕ) → AreBytes bytes → HoldsDeclared f → after_slot f bytes ≡ Ok rest → IsSpelled f bytes
-spelled None bytes rest all declared h =
-    let are : bytes ≡ 0 ∷ rest = follows 906 (0 ∷ []) bytes rest h in
-    record { are = are ∙ ap (λ (xs : List ℕ). 0 ∷ xs) (sym (ap (drop 1) are)); has = refl }
-spelled (Some f) bytes rest all declared h = function_spelled f bytes rest all declared (cut f bytes rest h)
-
-record AreSpelled (fs : Slots) (bytes : List ℕ) : Type 0 where
-  pub are : bytes ≡ slots_bytes (taken_slots fs bytes)
+-- the bytes of slots, whatever follows
+pub record AreTaken (fs : Slots) (bytes rest : List ℕ) : Type 0 where
+  pub run : List ℕ
+  pub are : bytes ≡ run ++ rest
+  pub size : length run ≡ slots_size fs
+  pub again : after_slots fs run ≡ Ok []
+  pub same : taken_slots fs run ≡ taken_slots fs bytes
   pub fit : FitSlots (taken_slots fs bytes) fs
-  pub has : fit_times (optional function_layout).fits (length fs) (taken_slots fs bytes) ≡ true
+  pub spelled : AreBytes bytes → Each HoldsDeclared fs → (run ≡ slots_bytes (taken_slots fs bytes)) × (fit_times (optional function_layout).fits (length fs) (taken_slots fs bytes) ≡ true)
 
-slots_spelled : (fs : Slots) (bytes rest : List ℕ) → AreBytes bytes → Each HoldsDeclared fs → after_slots fs bytes ≡ Ok rest → AreSpelled fs bytes
-slots_spelled [] [] rest all declared h = record { are = refl; fit = tt; has = refl }
-slots_spelled [] (b ∷ bytes) rest all declared h = cc
-slots_spelled (f ∷ fs) bytes rest all declared h =
-    let t = slots_are_taken f fs bytes rest h in
-    let next : List ℕ = drop (slot_size f) bytes in
-    let s = spelled f bytes next all declared.0 t.slot in
-    let later : AreBytes next = (each_parts (λ b. b < 256) (slot_bytes (taken_slot f bytes)) next (subst AreBytes s.are all)).1 in
-    let more = slots_spelled fs next rest later declared.1 t.others in
+slots_taken : (fs : Slots) (bytes rest : List ℕ) → after_slots_front fs bytes ≡ Ok rest → AreTaken fs bytes rest
+slots_taken [] bytes rest h = record { run = []; are = same_left bytes rest h; size = refl; again = refl; same = refl; fit = tt; spelled = λ all declared. (refl, refl) }
+slots_taken (f ∷ fs) bytes rest h =
+    let first = read_before (after_slots_front fs) (after_slot f bytes) rest h in
+    let t = taken f bytes first.0 first.1 in
+    let m = slots_taken fs first.0 rest first.2 in
+    let slot = taken_slot f bytes in
+    let next : taken_slots fs first.0 ≡ taken_slots fs (drop (slot_size f) bytes) = ap (taken_slots fs) (sym (left_of t)) in
     record {
-      are = s.are ∙ ap (λ (xs : List ℕ). slot_bytes (taken_slot f bytes) ++ xs) more.are;
-      fit = (t.fits, more.fit);
-      has = and_from ((optional function_layout).fits (taken_slot f bytes)) (fit_times (optional function_layout).fits (length fs) (taken_slots fs next)) s.has more.has;
+      run = t.one ++ m.run;
+      are = t.are ∙ ap (λ (xs : List ℕ). t.one ++ xs) m.are ∙ sym (append_assoc t.one m.run rest);
+      size = length-append t.one m.run ∙ ap₂ ◌+◌ t.size m.size;
+      again = ap (then_read (after_slots fs)) (t.again m.run) ∙ m.again;
+      same = ap₂ (λ (x : Option SavedFunction) (xs : List (Option SavedFunction)). x ∷ xs) (t.same m.run) (ap (taken_slots fs) (behind t m.run) ∙ m.same ∙ next);
+      fit = (t.fits, subst (λ (xs : List (Option SavedFunction)). FitSlots xs fs) next m.fit);
+      spelled = λ all declared.
+          let one = t.spelled all declared.0 in
+          let more = m.spelled (each_parts (λ b. b < 256) t.one first.0 (subst AreBytes t.are all)).1 declared.1 in
+          subst (λ (xs : List (Option SavedFunction)). (t.one ++ m.run ≡ slots_bytes (slot ∷ xs)) × (fit_times (optional function_layout).fits (suc (length fs)) (slot ∷ xs) ≡ true)) next
+          (ap₂ (λ (xs ys : List ℕ). xs ++ ys) one.0 more.0, and_from ((optional function_layout).fits slot) (fit_times (optional function_layout).fits (length fs) (taken_slots fs first.0)) one.1 more.1);
     }
 
 -- ---- an image
@@ -185,98 +204,100 @@ number_back (suc k) n rest h =
     let low : n % 256 + 256 * (n / 256) ≡ n = omega arith in
     ap (λ m. n % 256 + 256 * m) high ∙ low
 
-latch_there : (bytes rest : List ℕ) → after_latch bytes ≡ Ok rest → (n : ℕ) × (bytes ≡ le_bytes 4 n ++ rest) × ((number 4).fits n ≡ true) × (latched n ≡ n)
-latch_there bytes rest h = of (parse_number 4 bytes) refl h
-  where
-    of : (o : Option (Parsed ℕ)) → parse_number 4 bytes ≡ o → after_number o ≡ Ok rest → (n : ℕ) × (bytes ≡ le_bytes 4 n ++ rest) × ((number 4).fits n ≡ true) × (latched n ≡ n)
-    of None e i = cc
-    of (Some p) e i = cases (eqb (latched p.value) p.value) refl i
-      where
-        cases : (t : Bool) → eqb (latched p.value) p.value ≡ t → cond {A = Left} t (Ok p.rest) (Err 905) ≡ Ok rest → (n : ℕ) × (bytes ≡ le_bytes 4 n ++ rest) × ((number 4).fits n ≡ true) × (latched n ≡ n)
-        cases false j k = cc
-        cases true j k =
-            let s = number_spells 4 bytes p e in
-            let left : p.rest ≡ rest = cc in
-            (p.value, s.bytes ∙ ap (λ (r : List ℕ). le_bytes 4 p.value ++ r) left, s.fits, eqb-true (latched p.value) p.value j)
+number_left : (o : Option (Parsed ℕ)) (rest : List ℕ) → after_number o ≡ Ok rest → (n : ℕ) × (o ≡ Some (parsed n rest)) × (latched n ≡ n)
+number_left None rest h = cc
+number_left (Some p) rest h = (p.value, grind arith, grind (arith, eqb-true))
 
-abbrev latch_of : List ℕ → ℕ
-latch_of bytes = le_number (take 4 (drop 8 bytes))
+pub latch_there : (bytes rest : List ℕ) → after_latch bytes ≡ Ok rest → (n : ℕ) × (bytes ≡ le_bytes 4 n ++ rest) × ((number 4).fits n ≡ true) × (latched n ≡ n)
+latch_there bytes rest h =
+    let p = number_left (parse_number 4 bytes) rest h in
+    let s = number_spells 4 bytes (parsed p.0 rest) p.1 in (p.0, s.bytes, s.fits, p.2)
 
--- what stands before the slots
-record IsOpened (fs : Slots) (bytes : List ℕ) : Type 0 where
-  pub are : bytes ≡ header ++ (le_bytes 4 (latch_of bytes) ++ drop 12 bytes)
-  pub fits : (number 4).fits (latch_of bytes) ≡ true
-  pub latched : latched (latch_of bytes) ≡ latch_of bytes
-  pub slots : after_slots fs (drop 12 bytes) ≡ Ok []
+-- the parts of an image at the front
+pub record IsOpened (g : LoneGuest) (bytes rest : List ℕ) : Type 0 where
+  pub latch : ℕ
+  pub last : List ℕ
+  pub are : bytes ≡ header ++ (le_bytes 4 latch ++ last)
+  pub fits : (number 4).fits latch ≡ true
+  pub latched : latched latch ≡ latch
+  pub front : after_slots_front g.slots last ≡ Ok rest
+  pub slots : AreTaken g.slots last rest
+  pub is : taken_image g bytes ≡ record { latch = latch; slots = taken_slots g.slots last }
 
-none_after : (fs : Slots) (bytes rest : List ℕ) → after_slots fs bytes ≡ Ok rest → after_slots fs bytes ≡ Ok []
-none_after [] [] rest h = refl
-none_after [] (b ∷ bytes) rest h = cc
-none_after (f ∷ fs) bytes rest h =
-    let first = read_before (after_slots fs) (after_slot f bytes) rest h in
-    ap (then_read (after_slots fs)) first.1 ∙ none_after fs first.0 rest first.2
-
-opened_as : (fs : Slots) (bytes last : List ℕ) (n : ℕ) → bytes ≡ header ++ (le_bytes 4 n ++ last) → (number 4).fits n ≡ true → latched n ≡ n → after_slots fs last ≡ Ok [] → IsOpened fs bytes
-opened_as fs bytes last n are fits same slots =
-    let latch : n ≡ latch_of bytes = sym (ap latch_of are ∙ number_back 4 n last (ltb-true n (256 ^ 4) fits)) in
-    let later : last ≡ drop 12 bytes = sym (ap (drop 12) are) in
+pub opened : (g : LoneGuest) (bytes rest : List ℕ) → after_image_front g bytes ≡ Ok rest → IsOpened g bytes rest
+opened g bytes rest h =
+    let first = read_before (after_slots_front g.slots) (then_read after_latch (after_bytes 905 header bytes)) rest h in
+    let begin = read_before after_latch (after_bytes 905 header bytes) first.0 first.1 in
+    let l = latch_there begin.0 first.0 begin.2 in
+    let are : bytes ≡ header ++ (le_bytes 4 l.0 ++ first.0) = follows 905 header bytes begin.0 begin.1 ∙ ap (λ (xs : List ℕ). header ++ xs) l.1 in
     record {
-      are = are ∙ ap₂ (λ (m : ℕ) (xs : List ℕ). header ++ (le_bytes 4 m ++ xs)) latch later;
-      fits = subst (λ m. (number 4).fits m ≡ true) latch fits;
-      latched = subst (λ m. latched m ≡ m) latch same;
-      slots = ap (after_slots fs) (sym later) ∙ slots;
+      latch = l.0;
+      last = first.0;
+      are = are;
+      fits = l.2;
+      latched = l.3;
+      front = first.2;
+      slots = slots_taken g.slots first.0 rest first.2;
+      is = ap (taken_image g) are ∙ ap (λ n. record { latch = n; slots = taken_slots g.slots first.0 }) (number_back 4 l.0 first.0 (ltb-true l.0 (256 ^ 4) l.2));
     }
 
-opened : (g : LoneGuest) (bytes : List ℕ) → load_fault g bytes ≡ None → IsOpened g.slots bytes
-opened g bytes h =
-    let read = left_of (after_image g bytes) h in
-    let first = read_before (after_slots g.slots) (then_read after_latch (after_bytes 905 header bytes)) read.0 read.1 in
-    let begin = read_before after_latch (after_bytes 905 header bytes) first.0 first.1 in
-    let latch = latch_there begin.0 first.0 begin.2 in
-    let are : bytes ≡ header ++ (le_bytes 4 latch.0 ++ first.0) = follows 905 header bytes begin.0 begin.1 ∙ ap (λ (xs : List ℕ). header ++ xs) latch.1 in
-    opened_as g.slots bytes first.0 latch.0 are latch.2 latch.3 (none_after g.slots first.0 read.0 first.2)
-  where
-    left_of : (r : Left) → fault_of r ≡ None → (rest : List ℕ) × (r ≡ Ok rest)
-    left_of (Ok rest) e = (rest, refl)
-    left_of (Err k) e = cc
+none_at_end : (l : Left) → fault_of (then_read at_end l) ≡ None → l ≡ Ok []
+none_at_end (Ok []) e = refl
+none_at_end (Ok (b ∷ rest)) e = cc
+none_at_end (Err k) e = cc
+
+pub front_of : (g : LoneGuest) (bytes : List ℕ) → load_fault g bytes ≡ None → after_image_front g bytes ≡ Ok []
+front_of g bytes h = none_at_end (after_image_front g bytes) (sym (ap fault_of (image_ends g bytes)) ∙ h)
 
 pub image_is_taken : ImageIsTaken
 image_is_taken g bytes h =
-    let o = opened g bytes h in
-    let latch : ℕ = latch_of bytes in
-    let later : List ℕ = le_bytes 4 latch ++ drop 12 bytes in
-    let behind : drop 8 bytes ≡ later = ap (drop 8) o.are in
-    record {
-      enough = subst (λ (xs : List ℕ). 12 ≤ length xs) (sym o.are) (omega arith);
-      begins = ap (after_bytes 905 header) o.are ∙ own_bytes 905 header later ∙ ap (λ (xs : List ℕ). Ok xs) (sym behind);
-      read = ap (parse_number 4) behind ∙ number_again 4 latch (drop 12 bytes) (ltb-true latch (256 ^ 4) o.fits);
-      latch = o.latched;
-      slots = o.slots;
-    }
+    let o = opened g bytes [] (front_of g bytes h) in
+    let its : List ℕ = header ++ (le_bytes 4 o.latch ++ o.last) in
+    let latch : (taken_image g its).latch ≡ o.latch = number_back 4 o.latch o.last (ltb-true o.latch (256 ^ 4) o.fits) in
+    subst (IsTakenImage g) (sym o.are)
+    (record {
+      enough = omega arith;
+      begins = own_bytes 905 header (le_bytes 4 o.latch ++ o.last);
+      read = subst (λ n. parse_number 4 (le_bytes 4 o.latch ++ o.last) ≡ Some (parsed n o.last)) (sym latch) (number_again 4 o.latch o.last (ltb-true o.latch (256 ^ 4) o.fits));
+      latch = subst (λ n. latched n ≡ n) (sym latch) o.latched;
+      slots = slots_end g.slots o.last ∙ ap (then_read at_end) o.front;
+    })
 
-read_as : (bytes : List ℕ) (i : Image) → bytes ≡ image_bytes i → HasBytes i → image_of bytes ≡ Some i
-read_as bytes i are has = ap image_of are ∙ bytes_are_read i has
+-- it fits, and where it can be written, it stands at the front
+pub front_fits : (g : LoneGuest) (bytes rest : List ℕ) → after_image_front g bytes ≡ Ok rest → Fits (taken_image g bytes) g
+front_fits g bytes rest h = let o = opened g bytes rest h in subst (λ (i : Image). Fits i g) (sym o.is) (record { latch = o.latched; slots = o.slots.fit })
+
+pub front_spelled : (g : LoneGuest) → IsDeclaredGuest g → (bytes rest : List ℕ) → AreBytes bytes → after_image_front g bytes ≡ Ok rest → Spells image_layout bytes (parsed (taken_image g bytes) rest)
+front_spelled g declared bytes rest all h =
+    let o = opened g bytes rest h in
+    let later = (each_parts (λ b. b < 256) header (le_bytes 4 o.latch ++ o.last) (subst AreBytes o.are all)).1 in
+    let s = o.slots.spelled (each_parts (λ b. b < 256) (le_bytes 4 o.latch) o.last later).1 declared.functions in
+    let slots : List (Option SavedFunction) = taken_slots g.slots o.last in
+    subst (λ (i : Image). Spells image_layout bytes (parsed i rest)) (sym o.is)
+    (record {
+      fits = and_from ((number 4).fits o.latch && eqb (latched o.latch) o.latch) (fit_times (optional function_layout).fits 32 slots)
+          (and_from ((number 4).fits o.latch) (eqb (latched o.latch) o.latch) o.fits (eq-eqb (latched o.latch) o.latch o.latched))
+          (subst (λ n. fit_times (optional function_layout).fits n slots ≡ true) declared.count s.1);
+      bytes = o.are ∙ ap (λ (xs : List ℕ). header ++ (le_bytes 4 o.latch ++ xs)) (o.slots.are ∙ ap (λ (xs : List ℕ). xs ++ rest) s.0);
+    })
+
+pub taken_again : (g : LoneGuest) (i : Image) → HasBytes i → Fits i g → (rest : List ℕ) → taken_image g (image_bytes i ++ rest) ≡ i
+taken_again g i has fits rest =
+    let parts = parts_of i has in
+    ap₂ (λ (n : ℕ) (ss : List (Option SavedFunction)). record { latch = n; slots = ss }) (number_back 4 i.latch (slots_bytes i.slots ++ rest) (ltb-true i.latch (256 ^ 4) parts.latch_fits))
+    (slots_again 32 i.slots g.slots rest parts.slots fits.slots)
 
 pub accepted_is_taken : AcceptedIsTaken
 accepted_is_taken g declared bytes all h =
-    let o = opened g bytes h in
-    let last : List ℕ = drop 12 bytes in
-    let latch : ℕ = latch_of bytes in
-    let later : AreBytes (le_bytes 4 latch ++ last) = (each_parts (λ b. b < 256) header (le_bytes 4 latch ++ last) (subst AreBytes o.are all)).1 in
-    let slots = slots_spelled g.slots last [] (each_parts (λ b. b < 256) (le_bytes 4 latch) last later).1 declared.functions o.slots in
-    let i : Image = taken_image g bytes in
-    let has : HasBytes i = and_from ((number 4).fits latch && eqb (latched latch) latch) (fit_times (optional function_layout).fits 32 i.slots)
-    (and_from ((number 4).fits latch) (eqb (latched latch) latch) o.fits (eq-eqb (latched latch) latch o.latched))
-    (subst (λ n. fit_times (optional function_layout).fits n i.slots ≡ true) declared.count slots.has) in
-    let are : bytes ≡ image_bytes i = o.are ∙ ap (λ (xs : List ℕ). header ++ (le_bytes 4 latch ++ xs)) slots.are in
-    record { image = read_as bytes i are has; fits = record { latch = o.latched; slots = slots.fit } }
+    let front = front_of g bytes h in
+    let s = front_spelled g declared bytes [] all front in
+    record { image = ap image_of (s.bytes ∙ append-nil (image_bytes (taken_image g bytes))) ∙ bytes_are_read (taken_image g bytes) s.fits; fits = front_fits g bytes [] front }
 
 -- ---- a guest that can be saved
 
 savable_declared : (fs : Slots) → Each HoldsSavable fs → Each HoldsDeclared fs
 savable_declared [] h = tt
-savable_declared (None ∷ fs) h = (tt, savable_declared fs h.1)
-savable_declared (Some f ∷ fs) h = (h.0.declared, savable_declared fs h.1)
+savable_declared (f ∷ fs) h = grind (arith, savable_declared fs)
 
 pub savable_is_declared : (g : LoneGuest) → IsSavableGuest g → IsDeclaredGuest g
 savable_is_declared g h = record { count = h.count; functions = savable_declared g.slots h.functions }

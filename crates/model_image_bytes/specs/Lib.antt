@@ -4,6 +4,7 @@ pub mod ByteLaws
 pub mod LoadedBytes
 pub mod LoadedLaws
 pub mod TakenBytes
+pub mod FrontBytes
 pub mod MachineBytes
 pub mod MachineByteLaws
 pub mod LoadedMachines

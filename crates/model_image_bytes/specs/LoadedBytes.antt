@@ -3,7 +3,9 @@
 --     then_read next r      what `next` makes of the bytes that are left, if there was no refusal
 --     after_bytes k xs bytes      the bytes after these ones; where another byte stands, the refusal k
 --     after_values file bytes      the bytes after a value for each cell that the cell can hold
---     after_slot, after_slots, after_image      the bytes after those of a slot, of slots, and of an image of this guest
+--     after_slot, after_slots_front, after_image_front      the bytes after those of a slot, of slots, and of an image
+--                                                           of this guest, whatever follows
+--     after_slots, after_image      the same where nothing follows
 --     load_fault g bytes      905 where the bytes are no image, 906 where they declare other functions
 --     after_load_bytes      the world after it
 use Rattle.std.specs.Prelude.{List, [], ◌∷◌, ◌++◌, ℕ, ◌==◌, false, if◌then◌else◌, is_some, Option, Some, None, Result, Ok, Err}
@@ -44,6 +46,10 @@ after_slot None bytes = after_bytes 906 (0 ∷ []) bytes
 after_slot (Some f) bytes =
     then_read (after_values (endpoint_reset f.decl false)) (after_bytes 906 (1 ∷ declaration_bytes f.decl) bytes)
 
+abbrev pub after_slots_front : Slots → List ℕ → Left
+after_slots_front [] bytes = Ok bytes
+after_slots_front (f ∷ fs) bytes = then_read (after_slots_front fs) (after_slot f bytes)
+
 -- no byte is left
 abbrev pub at_end : List ℕ → Left
 at_end [] = Ok []
@@ -62,6 +68,9 @@ after_latch bytes = after_number (parse_number 4 bytes)
 
 abbrev pub header : List ℕ
 header = le_bytes 4 magic ++ le_bytes 4 version
+
+abbrev pub after_image_front : LoneGuest → List ℕ → Left
+after_image_front g bytes = then_read (after_slots_front g.slots) (then_read after_latch (after_bytes 905 header bytes))
 
 abbrev pub after_image : LoneGuest → List ℕ → Left
 after_image g bytes = then_read (after_slots g.slots) (then_read after_latch (after_bytes 905 header bytes))

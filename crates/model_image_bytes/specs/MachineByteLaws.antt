@@ -4,9 +4,10 @@
 --     MachineBytesAreBytes, MachineBytesAreRead, MachineReadAreBytes      the bytes of an image are read as it, and no
 --                            others are
 --     OneMachineImage      two images that have bytes don't have the same
---     IsWritableFunction, IsWritableGuest, IsWritableWorld      a function of the board that holds bytes, and whose
---                            declaration can be written; a guest of such functions; a world of no more than there are
---                            numbers for
+--     CanBeDeclared, IsWritableName, CanBeCompared      a declaration, and a guest's name, that can be written; a machine
+--                            of such
+--     IsWritableMachine, IsWritableWorld      a machine of such, whose functions hold bytes, and of no more functions and
+--                            guests than there are numbers for; a world of it, whose guests can be saved
 --     MachinesHaveBytes      the image of such a world has bytes
 use Rattle.std.specs.Prelude.{◌≡◌, ◌<◌, ◌^◌, ℕ, List, Some, IsTrue, ⊤, length}
 use Rattle.lists.specs.Elements.{Each}
@@ -14,7 +15,8 @@ use Rattle.model_registers.specs.AccessLaws.{HoldsBytes}
 use Rattle.model_board.specs.Board.{Decl, endpoint, bridge}
 use Rattle.model_board.specs.State.{BoardFunction}
 use Rattle.model_guests.specs.Guests.{GuestNow}
-use Rattle.model_guests.specs.WorldNow.{WorldNow}
+use Rattle.model_guests.specs.Text.{Text}
+use Rattle.model_guests.specs.WorldNow.{WorldNow, names_now}
 use Rattle.model_images.specs.MachineImages.{MachineImage, image_of_machine}
 use Rattle.model_images.specs.MachineLaws.{IsSavableWorld}
 use Rattle.model_image_bytes.specs.ByteLaws.{AreBytes, IsDeclared, IsSavableGuest}
@@ -45,21 +47,26 @@ abbrev pub CanBeDeclared : Decl → Type 0
 CanBeDeclared (endpoint d) = IsDeclared d
 CanBeDeclared (bridge d) = ⊤
 
-pub record IsWritableFunction (f : BoardFunction) : Type 0 where
-  pub declared : CanBeDeclared f.decl
-  pub bytes : HoldsBytes f.file
+pub record IsWritableName (name : Text) : Type 0 where
+  pub are_bytes : AreBytes name
+  pub short : length name < 256
 
-pub record IsWritableGuest (g : GuestNow) : Type 0 where
-  pub name : AreBytes g.name
-  pub short : length g.name < 256
-  pub lone : IsSavableGuest g.lone
+-- the declarations and the names that bytes of guests are compared with
+pub record CanBeCompared (w : WorldNow) : Type 0 where
+  pub declared : Each (λ (f : BoardFunction). CanBeDeclared f.decl) w.handoff.functions
+  pub names : Each IsWritableName (names_now w)
+
+-- whatever its guests hold
+pub record IsWritableMachine (w : WorldNow) : Type 0 where
+  pub compared : CanBeCompared w
+  pub bytes : Each (λ (f : BoardFunction). HoldsBytes f.file) w.handoff.functions
+  pub latch : w.handoff.latch < 2 ^ 32
+  pub many : length w.handoff.functions < 2 ^ 32
+  pub few : length (names_now w) < 2 ^ 16
 
 pub record IsWritableWorld (w : WorldNow) : Type 0 where
-  pub functions : Each IsWritableFunction w.handoff.functions
-  pub many : length w.handoff.functions < 2 ^ 32
-  pub latch : w.handoff.latch < 2 ^ 32
-  pub guests : Each IsWritableGuest w.guests
-  pub few : length w.guests < 2 ^ 16
+  pub machine : IsWritableMachine w
+  pub guests : Each (λ (g : GuestNow). IsSavableGuest g.lone) w.guests
 
 abbrev pub MachinesHaveBytes : Type 0
 MachinesHaveBytes = (w : WorldNow) → IsSavableWorld w → IsWritableWorld w → HasMachineBytes (image_of_machine w)

@@ -1,24 +1,25 @@
 -- The bytes of the image of a machine: a header, the board, its guests, and what the handoff holds. What stands where
--- on the board comes before who has it, so a walk over the bytes knows each function that it meets.
+-- on the board comes before who has it, so a walk over the bytes knows each function that it meets. The image of a guest
+-- stands in them just as it stands alone.
 --     machine_magic, machine_version      what the image of a machine begins with
 --     path_layout, bridge_layout, decl_layout, row_layout, board_layout      the functions of a board
---     seat_layout, guest_layout      a function in a slot, with its path; a guest
+--     name_layout, paths_layout, guest_layout      a guest's name; the path of the function in each slot; a guest
 --     cells_layout r      a byte for each cell of a function of the board
 --     machine_layout      the image of a machine
 --     machine_bytes i      its bytes
 --     machine_of bytes      the image whose bytes they are
-use Rattle.std.specs.Prelude.{List, [], ◌∷◌, ℕ, ◌==◌, if◌then◌else◌, nat_lt, length, map, Option}
+use Rattle.std.specs.Prelude.{List, ℕ, ◌==◌, if◌then◌else◌, nat_lt, length, Option}
 use Rattle.model_registers.specs.Declarations.{IoDecode, no_io, io16, io32, PrefDecode, no_pref, pref32, pref64}
 use Rattle.model_registers.specs.Declarations.{Endpoint, Bridge}
 use Rattle.model_board.specs.Paths.{Part, Path}
 use Rattle.model_board.specs.Board.{Decl, endpoint, bridge, Row, Board}
 use Rattle.model_guests.specs.Text.{Text}
-use Rattle.model_images.specs.Images.{SavedFunction}
-use Rattle.model_images.specs.MachineImages.{SavedRow, SavedSeat, SavedGuest, MachineImage}
-use Rattle.model_images.specs.MachineLaws.{declared_cells}
+use Rattle.model_handoff.specs.Handoffs.{declared_cells}
+use Rattle.model_images.specs.Images.{Image}
+use Rattle.model_images.specs.MachineImages.{SavedGuest, MachineImage}
 use Rattle.model_image_bytes.specs.Layouts.{Layout, number, checked, through, followed, both, exactly, repeated, counted}
 use Rattle.model_image_bytes.specs.Layouts.{for_each, optional, OneOf, one, other, either, whole}
-use Rattle.model_image_bytes.specs.ImageBytes.{endpoint_layout, function_layout, latch_layout}
+use Rattle.model_image_bytes.specs.ImageBytes.{endpoint_layout, image_layout}
 
 -- `PCIM`, and the first form of images of machines
 abbrev pub machine_magic : ℕ
@@ -93,32 +94,24 @@ board_layout = counted 4 row_layout
 
 -- ---- guests
 
-abbrev pub seat_layout : Layout SavedSeat
-seat_layout =
-    through (λ (x : Path × SavedFunction). record { path = x.0; function = x.1 }) (λ (s : SavedSeat). (s.path, s.function))
-    (both path_layout function_layout)
+abbrev pub name_layout : Layout Text
+name_layout = counted 1 (number 1)
+
+abbrev pub paths_layout : Layout (List (Option Path))
+paths_layout = repeated 32 (optional path_layout)
 
 abbrev pub GuestParts : Type 0
-GuestParts = Text × (ℕ × List (Option SavedSeat))
+GuestParts = Text × (List (Option Path) × Image)
 
 abbrev pub guest_layout : Layout SavedGuest
 guest_layout =
-    through (λ (x : GuestParts). record { name = x.0; latch = x.1.0; seats = x.1.1 })
-    (λ (s : SavedGuest). (s.name, (s.latch, s.seats)))
-    (both (counted 1 (number 1)) (both latch_layout (repeated 32 (optional seat_layout))))
+    through (λ (x : GuestParts). record { name = x.0; paths = x.1.0; image = x.1.1 })
+    (λ (s : SavedGuest). (s.name, (s.paths, s.image))) (both name_layout (both paths_layout image_layout))
 
 -- ---- the handoff, and all of it
 
 abbrev pub cells_layout : Row → Layout (List ℕ)
 cells_layout r = repeated (length (declared_cells r.decl)) (number 1)
-
-abbrev pub row_in : SavedRow → Row
-row_in r = record { path = r.path; decl = r.decl }
-
-abbrev pub rows_with : Board → List (List ℕ) → List SavedRow
-rows_with [] vs = []
-rows_with (r ∷ rs) [] = []
-rows_with (r ∷ rs) (v ∷ vs) = record { path = r.path; decl = r.decl; values = v } ∷ rows_with rs vs
 
 -- who has which function, what each holds, and the address latch
 abbrev pub OnBoard : Type 0
@@ -132,13 +125,12 @@ MachineParts = Unit {0} × (Unit {0} × (Board × OnBoard))
 
 abbrev pub machine_of_parts : MachineParts → MachineImage
 machine_of_parts x = record {
-  handoff = record { rows = rows_with x.1.1.0 x.1.1.1.1.0; latch = x.1.1.1.1.1 };
+  handoff = record { board = x.1.1.0; values = x.1.1.1.1.0; latch = x.1.1.1.1.1 };
   guests = x.1.1.1.0;
 }
 
 abbrev pub parts_of_machine : MachineImage → MachineParts
-parts_of_machine i =
-    (tt, (tt, (map row_in i.handoff.rows, (i.guests, (map (λ (r : SavedRow). r.values) i.handoff.rows, i.handoff.latch)))))
+parts_of_machine i = (tt, (tt, (i.handoff.board, (i.guests, (i.handoff.values, i.handoff.latch)))))
 
 abbrev pub machine_layout : Layout MachineImage
 machine_layout =

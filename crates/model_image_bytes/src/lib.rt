@@ -4,8 +4,9 @@
 
 ghost use Rattle.model_image_bytes.specs.ByteExamples.{ByteExamples};
 ghost use Rattle.model_image_bytes.specs.ByteLaws.{BytesAreBytes, BytesAreRead, GuestsHaveBytes, OneImage, ReadAreBytes, ReadIsOfAGuest};
+ghost use Rattle.model_image_bytes.specs.FrontBytes.{FrontIsTaken, SizeIsTold};
 ghost use Rattle.model_image_bytes.specs.LoadedLaws.{AcceptedIsImage, ImagesDecided, KeepsSavedBytes, LoadsImage, OwnAccepted, RefusedStays};
-ghost use Rattle.model_image_bytes.specs.LoadedMachineLaws.{AcceptedIsMachine, FittingIsAccepted, FittingIsLoaded, RefusedKeeps, TakesSavedMachine};
+ghost use Rattle.model_image_bytes.specs.LoadedMachineLaws.{AcceptedIsMachine, FittingIsAccepted, FittingIsLoaded, ReadFits, ReadStandsThere, RefusedKeeps, TakesSavedMachine};
 ghost use Rattle.model_image_bytes.specs.MachineByteExamples.{MachineByteExamples};
 ghost use Rattle.model_image_bytes.specs.MachineByteLaws.{MachineBytesAreBytes, MachineBytesAreRead, MachineReadAreBytes, MachinesHaveBytes, OneMachineImage};
 ghost use Rattle.model_image_bytes.specs.TakenBytes.{AcceptedIsTaken, ImageIsTaken, SlotsAreTaken};
@@ -44,6 +45,14 @@ pub fn taken_bytes_are_slots()
     ensures accepted { AcceptedIsTaken }
 {}
 
+/// Where a guest's image was read at the front of bytes, the guest takes just the bytes up to what
+/// is left, and they are the image that was read. The size of a guest's image is told by what its
+/// slots declare.
+pub fn front_bytes_are_taken()
+    ensures front { FrontIsTaken }
+    ensures size { SizeIsTold }
+{}
+
 /// Every list of numbers is either the bytes of one image of a machine, or read as none. What is
 /// read of the bytes of such an image is the image.
 pub fn machine_images_are_bytes()
@@ -59,10 +68,13 @@ pub fn machines_have_bytes()
 {}
 
 /// Bytes that a machine doesn't refuse are the image of a machine that fits it, and it is loaded.
-/// The bytes of each image that fits are taken, and refused bytes change nothing. So a machine that
+/// In them each guest stands by its name and its paths, and then by an image that it takes. The
+/// bytes of each image that fits are taken, and refused bytes change nothing. So a machine that
 /// takes what was saved of one like it is that other one.
 pub fn machine_bytes_are_taken()
+    ensures fits { ReadFits }
     ensures accepted { AcceptedIsMachine }
+    ensures there { ReadStandsThere }
     ensures fitting { FittingIsAccepted }
     ensures loaded { FittingIsLoaded }
     ensures saved { TakesSavedMachine }

@@ -1,26 +1,23 @@
 -- A machine whose slots are emptied: the same handoff is shown, and nobody has a function.
-use Rattle.std.proofs.Common.{◌≡◌, ℕ, zero, suc, ◌<◌, ◌≤◌, Bool, true, false, not, ◌||◌, cond, eqb, List, [], ◌∷◌, ◌++◌, length, Some, None, Option, refl, sym, ap, ap₂, ◌∙◌, subst, arith}
-use Rattle.std.specs.Prelude.{flat_map, is_some, nat_le}
+use Rattle.std.proofs.Common.{◌≡◌, ℕ, zero, suc, ◌<◌, ◌≤◌, Bool, true, false, ◌||◌, cond, List, [], ◌∷◌, ◌++◌, length, Some, None, Option, refl, sym, ap, ap₂, ◌∙◌, subst, arith}
+use Rattle.std.specs.Prelude.{flat_map, is_some}
 use Rattle.std.specs.List.{list_any}
-use Rattle.std.specs.Str.{bytes_eq}
-use Rattle.std.proofs.lemmas.Bool.{eqb-true}
 use Rattle.std.proofs.lemmas.Bool.Decides.{nat_tests}
 use Rattle.lists.specs.Elements.{Each}
-use Rattle.model_registers.specs.Decoding.{Function}
 use Rattle.model_board.specs.Paths.{Path, path_eq}
 use Rattle.model_board.specs.Board.{Board}
 use Rattle.model_board.specs.AtReset.{board_at}
 use Rattle.model_board.proofs.PathOrder.{path_same}
 use Rattle.model_guests.specs.Text.{Text}
-use Rattle.model_guests.specs.Guests.{GuestNow, GuestsNow, function_in, guest_named, path_in, with_guest, with_slot_emptied}
+use Rattle.model_guests.specs.Guests.{GuestsNow, function_in, guest_named, path_in, with_guest, with_slot_emptied}
 use Rattle.model_guests.specs.Seated.{IsSeat, IsSeatedGuest}
 use Rattle.model_guests.specs.WorldNow.{WorldNow, names_of, names_now}
 use Rattle.model_guests.proofs.FoundFiles.{in_rest}
 use Rattle.model_guests.proofs.GuestsByName.{found, path_at, path_of}
 use Rattle.model_guests.proofs.Names.{equal_texts, same_text}
 use Rattle.model_guests.proofs.OneGuest.{AreApart}
-use Rattle.model_guests.proofs.SeatedMoves.{Placed, placed, put_there, was_there, seat_in}
-use Rattle.model_guests.proofs.Seats.{no_path, some_path}
+use Rattle.model_guests.proofs.SeatedMoves.{Placed, placed, seat_in}
+use Rattle.model_guests.proofs.Seats.{some_path}
 use Rattle.model_handoff.specs.Actions.{takes}
 use Rattle.model_handoff.specs.Giving.{take_fault, taken, after_take}
 use Rattle.model_handoff.specs.Kept.{IsLawfulOver}
@@ -51,20 +48,12 @@ inside (p ∷ ps) zero q h = omega arith
 inside (p ∷ ps) (suc k) q h = let more : k < length ps = inside ps k q h in omega arith
 
 pub path_low : (b : Board) (gs : GuestsNow) → Each (IsSeatedGuest b) gs → (a : Text) (k : ℕ) (q : Path) → path_in gs a k ≡ Some q → k < 32
-path_low b gs all a k q h = of (guest_named gs a) refl h
-  where
-    of : (o : Option GuestNow) → guest_named gs a ≡ o → path_of o k ≡ Some q → k < 32
-    of None e h = cc
-    of (Some t) e h = subst (λ n. k < n) (found (IsSeatedGuest b) gs a t all e).has.count (inside t.paths k q h)
+path_low b gs all a k q h = grind (arith, found (IsSeatedGuest b) gs a, inside)
 
 -- who has a path is one of these guests
 pub named : (P : Text → Type 0) (gs : GuestsNow) → Each P (names_of gs) → (a : Text) (k : ℕ) (q : Path) → path_in gs a k ≡ Some q → P a
 named P [] all a k q h = cc
-named P (t ∷ ts) all a k q h = of (bytes_eq t.name a) refl h (named P ts all.1 a k q)
-  where
-    of : (v : Bool) → bytes_eq t.name a ≡ v → path_of (cond v (Some t) (guest_named ts a)) k ≡ Some q → (path_in ts a k ≡ Some q → P a) → P a
-    of true e h more = subst P (equal_texts t.name a e) all.0
-    of false e h more = more h
+named P (t ∷ ts) all a k q h = grind (arith, named P ts all.1 a k q, equal_texts t.name a)
 
 -- a path that no guest has sits nowhere
 none_in : (qs : List (Option Path)) (p : Path) → ((m : ℕ) → path_at qs m ≡ Some p → ⊥) → list_any (is_at p) qs ≡ false
@@ -123,40 +112,20 @@ module _ (w : WorldNow) (h : IsLawfulOver w) (name : Text) (n : ℕ) where
   lower_is e = let p = its_path e in ap (λ (v : WorldNow). v.guests) (taken_is w name n e p.0 p.1)
 
   within_now : (a : Text) (k : ℕ) (q : Path) → path_in now.guests a k ≡ Some q → path_in w.guests a k ≡ Some q
-  within_now a k q at = of (take_fault w name n) refl
-    where
-      of : (o : Option ℕ) → take_fault w name n ≡ o → path_in w.guests a k ≡ Some q
-      of (Some c) e = sym (ap (λ (v : WorldNow). path_in v.guests a k) (stays c e)) ∙ at
-      of None e = left_was b w.guests h.seated name n a k q (sym (ap (λ (gs : GuestsNow). path_in gs a k) (lower_is e)) ∙ at)
+  within_now a k q at = grind (arith, stays, lower_is, left_was b w.guests h.seated name n a k q)
 
   shown_now : shown_handoff now ≡ shown_handoff w
-  shown_now = of (take_fault w name n) refl
-    where
-      of : (o : Option ℕ) → take_fault w name n ≡ o → shown_handoff now ≡ shown_handoff w
-      of (Some c) e = ap shown_handoff (stays c e)
-      of None e = let p = its_path e in shown_after_taking w h name n e p.0 p.1
+  shown_now = grind (arith, stays, its_path, shown_after_taking w h name n)
 
   -- a slot of which nothing is taken has no path
   was_empty : (c : ℕ) → take_fault w name n ≡ Some c → (q : Path) → path_in w.guests name n ≡ Some q → ⊥
-  was_empty c fault q at = of (nat_le 32 n) refl (function_in w.guests name n) refl
-    where
-      of : (t : Bool) → nat_le 32 n ≡ t → (o : Option Function) → function_in w.guests name n ≡ o → ⊥
-      of true e o i = let low : n < 32 = path_low b w.guests h.seated.guests name n q at in grind (arith, nat_tests)
-      of false e None i = let none : path_in w.guests name n ≡ None = no_path b (path_in w.guests name n) (function_in w.guests name n) seat i in cc
-      of false e (Some f) i =
-          let none : take_fault w name n ≡ None = ap₂ (λ (t : Bool) (x : Option Function). cond t (Some 303) (cond (not (is_some x)) (Some 601) None)) e i in cc
+  was_empty c fault q at = let low : n < 32 = path_low b w.guests h.seated.guests name n q at in grind (arith, nat_tests, low, seat)
 
   is_empty : (q : Path) → path_in now.guests name n ≡ Some q → ⊥
-  is_empty q at = of (take_fault w name n) refl
-    where
-      gone : Placed w.guests name name n n None q → ⊥
-      gone (put_there c d e) = cc
-      gone (was_there c d) = d refl refl
-
-      of : (o : Option ℕ) → take_fault w name n ≡ o → ⊥
-      of (Some c) e = was_empty c e q (sym (ap (λ (v : WorldNow). path_in v.guests name n) (stays c e)) ∙ at)
-      of None e =
-          gone (placed (with_slot_emptied n) n None (λ t. refl) (λ t. refl) w.guests name name n q (sym (ap (λ (gs : GuestsNow). path_in gs name n) (lower_is e)) ∙ at))
+  is_empty q at =
+      let put : now.guests ≡ lower → Placed w.guests name name n n None q =
+      λ i. placed (with_slot_emptied n) n None (λ t. refl) (λ t. refl) w.guests name name n q (sym (ap (λ (gs : GuestsNow). path_in gs name n) i) ∙ at) in
+      grind (arith, stays, lower_is, was_empty, put)
 
   one_emptied : IsEmptied w now
   one_emptied = record { lawful = lawful_after_taking w h name n; shown = shown_now; names = names_after w (takes name n); within = within_now }
@@ -171,11 +140,7 @@ stays_empty : (n : ℕ) (w x : WorldNow) → IsEmptied w x → (a : Text) → Ha
 stays_empty n w x h a none k q at = none k q (h.within a k q at)
 
 next_up : (n k : ℕ) → n ≤ k → (k ≡ n → ⊥) → suc n ≤ k
-next_up n k h other = of (eqb k n) refl
-  where
-    of : (t : Bool) → eqb k n ≡ t → suc n ≤ k
-    of true e = absurd (other (eqb-true k n e))
-    of false e = grind (arith, nat_tests)
+next_up n k h other = grind arith
 
 pub record HaveTaken (n : ℕ) (w x : WorldNow) (names : List Text) : Type 0 where
   pub emptied : IsEmptied w x

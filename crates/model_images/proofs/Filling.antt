@@ -3,7 +3,6 @@ use Rattle.std.proofs.Common.{◌≡◌, ℕ, zero, suc, ◌+◌, ◌<◌, inr, 
 use Rattle.std.specs.Prelude.{flat_map, slice_set, is_some, option_map, nat_le, IsTrue, IsSome}
 use Rattle.std.specs.List.{list_any}
 use Rattle.std.specs.Option.{option_map_or}
-use Rattle.std.specs.Str.{bytes_eq}
 use Rattle.std.proofs.lemmas.Bool.Decides.{nat_tests}
 use Rattle.lists.specs.Elements.{Each}
 use Rattle.lists.proofs.EachLemmas.{each_map}
@@ -19,13 +18,13 @@ use Rattle.model_guests.specs.Text.{Text}
 use Rattle.model_guests.specs.World.{declared}
 use Rattle.model_guests.specs.Guests.{GuestNow, GuestsNow, function_in, guest_named, path_in, with_guest, with_slot_filled}
 use Rattle.model_guests.specs.AgreedBoard.{with_files, with_change_at}
-use Rattle.model_guests.specs.Seated.{AreSeated, IsSeat}
+use Rattle.model_guests.specs.Seated.{AreSeated}
 use Rattle.model_guests.specs.WorldNow.{WorldNow, names_of, names_now}
 use Rattle.model_guests.proofs.FoundFiles.{file_found}
 use Rattle.model_guests.proofs.GuestsByName.{function_named, named_with, one, path_at, path_of}
 use Rattle.model_guests.proofs.Names.{equal_texts}
 use Rattle.model_guests.proofs.OneGuest.{name_found}
-use Rattle.model_guests.proofs.SeatedMoves.{Placed, placed, put_there, was_there, seat_in}
+use Rattle.model_guests.proofs.SeatedMoves.{Placed, placed, seat_in}
 use Rattle.model_guests.proofs.Seats.{no_path}
 use Rattle.model_handoff.specs.Actions.{gives}
 use Rattle.model_handoff.specs.Handoffs.{IsHandoff, file_at_reset}
@@ -41,7 +40,7 @@ use Rattle.model_handoff.proofs.OneReset.{alike}
 use Rattle.model_handoff.proofs.Views.{sits_is}
 use Rattle.model_images.specs.Requests.{Request, after_requests}
 use Rattle.model_images.specs.FitLaws.{AreFittingRequests}
-use Rattle.model_images.specs.MachineImages.{SavedGuest, paths_of, IsShown}
+use Rattle.model_images.specs.MachineImages.{SavedGuest, IsShown}
 use Rattle.model_images.specs.MachineLaws.{gifts}
 use Rattle.model_images.proofs.Machines.{OpensAlike, alike_beneath}
 use Rattle.model_images.proofs.Emptying.{after_both, both_fit, none_sits, path_low}
@@ -50,26 +49,20 @@ use Rattle.model_images.proofs.Emptying.{after_both, both_fit, none_sits, path_l
 
 kept_set : (qs : List (Option Path)) (n k : ℕ) (x : Option Path) (q : Path) → path_at qs n ≡ None → path_at qs k ≡ Some q → path_at (slice_set qs n x) k ≡ Some q
 kept_set [] n k x q h at = cc
-kept_set (p ∷ ps) zero zero x q h at = cc
-kept_set (p ∷ ps) zero (suc k) x q h at = at
+kept_set (p ∷ ps) zero k x q h at = grind arith
 kept_set (p ∷ ps) (suc n) zero x q h at = at
 kept_set (p ∷ ps) (suc n) (suc k) x q h at = kept_set ps n k x q h at
 
 kept_with : (g : GuestNow → GuestNow) (n : ℕ) (x : Option Path) → ((t : GuestNow) → (g t).name ≡ t.name) → ((t : GuestNow) → (g t).paths ≡ slice_set t.paths n x) → (gs : GuestsNow) (name : Text)
     → path_in gs name n ≡ None → (a : Text) (k : ℕ) (q : Path) → path_in gs a k ≡ Some q → path_in (with_guest g name gs) a k ≡ Some q
-kept_with g n x keeps sets gs name empty a k q at =
-    ap (λ (o : Option GuestNow). path_of o k) (named_with g keeps name a gs) ∙ of (guest_named gs a) refl at
+kept_with g n x keeps sets gs name empty a k q at = ap (λ (o : Option GuestNow). path_of o k) (named_with g keeps name a gs) ∙ of (guest_named gs a) refl at
   where
     of : (o : Option GuestNow) → guest_named gs a ≡ o → path_of o k ≡ Some q → path_of (option_map (one g name) o) k ≡ Some q
     of None e h = cc
-    of (Some t) e h = by_name (bytes_eq name t.name) refl
-      where
-        by_name : (v : Bool) → bytes_eq name t.name ≡ v → path_at (cond v (g t) t).paths k ≡ Some q
-        by_name false i = h
-        by_name true i =
-            let same : name ≡ a = equal_texts name t.name i ∙ name_found gs a t e in
-            let none : path_at t.paths n ≡ None = sym (ap (λ (o : Option GuestNow). path_of o n) e) ∙ ap (λ (y : Text). path_in gs y n) (sym same) ∙ empty in
-            ap (λ (qs : List (Option Path)). path_at qs k) (sets t) ∙ kept_set t.paths n k x q none h
+    of (Some t) e h =
+        let none : name ≡ t.name → path_at t.paths n ≡ None =
+        λ is. sym (ap (λ (o : Option GuestNow). path_of o n) e) ∙ ap (λ (y : Text). path_in gs y n) (sym (is ∙ name_found gs a t e)) ∙ empty in
+        grind (arith, none, equal_texts name t.name, kept_set t.paths n k x q, sets t)
 
 -- ---- a function that has a seat is at reset beneath
 
@@ -140,20 +133,10 @@ module _ (base : State) (target : GuestsNow) (seated : AreSeated (board_at base.
 
     -- where the slot is empty, nobody else has the function, so nothing refuses it
     nobody_sits : path_in x.guests name n ≡ None → sits x.guests p ≡ false
-    nobody_sits empty = none_sits x.guests p h.lawful.seated.names_apart has_not
-      where
-        has_not : (a : Text) (m : ℕ) → path_in x.guests a m ≡ Some p → ⊥
-        has_not a m e =
-            let where_it_is = seated.paths_apart a name m n p (h.within a m p e) at in
-            let here : path_in x.guests name n ≡ Some p = subst (λ (y : Text). path_in x.guests y n ≡ Some p) where_it_is.0 (subst (λ (j : ℕ). path_in x.guests a j ≡ Some p) where_it_is.1 e) in
-            cc
+    nobody_sits empty = none_sits x.guests p h.lawful.seated.names_apart (λ a m e. let where_it_is = seated.paths_apart a name m n p (h.within a m p e) at in grind (arith, where_it_is))
 
     no_function : path_in x.guests name n ≡ None → function_in x.guests name n ≡ None
-    no_function empty = of (function_in x.guests name n) (subst (λ (q : Option Path). IsSeat (board_at x.handoff.functions) q (function_in x.guests name n)) empty (seat_in (board_at x.handoff.functions) x.guests h.lawful.seated.guests name n))
-      where
-        of : (o : Option Function) → IsSeat (board_at x.handoff.functions) None o → o ≡ None
-        of None k = refl
-        of (Some f) k = absurd k
+    no_function empty = let seat = seat_in (board_at x.handoff.functions) x.guests h.lawful.seated.guests name n in grind (arith, empty, seat)
 
     low : nat_le 32 n ≡ false
     low = let few : n < 32 = path_low (board_at base.functions) target seated.guests name n p at in grind (arith, nat_tests)
@@ -174,41 +157,19 @@ module _ (base : State) (target : GuestsNow) (seated : AreSeated (board_at base.
         (seat_in (board_at x.handoff.functions) x.guests h.lawful.seated.guests name n) (can_give x the_gift e).1.empty
 
     within_now : (a : Text) (k : ℕ) (q : Path) → path_in now.guests a k ≡ Some q → path_in target a k ≡ Some q
-    within_now a k q e = of (give_fault x the_gift) refl
-      where
-        put : Placed x.guests name a n k (Some p) q → path_in target a k ≡ Some q
-        put (put_there c i j) = ap₂ (path_in target) c i ∙ at ∙ j
-        put (was_there c i) = h.within a k q c
-
-        of : (o : Option ℕ) → give_fault x the_gift ≡ o → path_in target a k ≡ Some q
-        of (Some c) i = h.within a k q (sym (ap (λ (v : WorldNow). path_in v.guests a k) (refused c i)) ∙ e)
-        of None i =
-            put (placed (with_slot_filled n (Some p) d) n (Some p) (λ t. refl) (λ t. refl) x.guests name a k q (sym (ap (λ (v : WorldNow). path_in v.guests a k) (done i)) ∙ e))
+    within_now a k q e =
+        let put : now.guests ≡ with_guest (with_slot_filled n (Some p) d) name x.guests → Placed x.guests name a n k (Some p) q =
+        λ i. placed (with_slot_filled n (Some p) d) n (Some p) (λ t. refl) (λ t. refl) x.guests name a k q (sym (ap (λ gs. path_in gs a k) i) ∙ e) in
+        grind (arith, refused, done, put, h.within a k q, at)
 
     keeps_now : (a : Text) (k : ℕ) (q : Path) → path_in x.guests a k ≡ Some q → path_in now.guests a k ≡ Some q
-    keeps_now a k q e = of (give_fault x the_gift) refl
-      where
-        of : (o : Option ℕ) → give_fault x the_gift ≡ o → path_in now.guests a k ≡ Some q
-        of (Some c) i = ap (λ (v : WorldNow). path_in v.guests a k) (refused c i) ∙ e
-        of None i =
-            ap (λ (v : WorldNow). path_in v.guests a k) (done i)
-            ∙ kept_with (with_slot_filled n (Some p) d) n (Some p) (λ t. refl) (λ t. refl) x.guests name (was_empty i) a k q e
+    keeps_now a k q e = grind (arith, refused, done, was_empty, kept_with (with_slot_filled n (Some p) d) n (Some p) (λ t. refl) (λ t. refl) x.guests name)
 
     shown_now : IsShown now
-    shown_now = of (give_fault x the_gift) refl
-      where
-        of : (o : Option ℕ) → give_fault x the_gift ≡ o → IsShown now
-        of (Some c) i = subst IsShown (sym (refused c i)) h.shown
-        of None i = shown_after_gift x h.lawful the_gift there i ∙ ap (with_reset_at p) h.shown ∙ sym (ap (λ (v : WorldNow). v.handoff) (done i))
+    shown_now = grind (arith, refused, done, shown_after_gift x h.lawful the_gift there, h.shown)
 
     beneath_now : with_seated_reset now.handoff target ≡ with_seated_reset base target
-    beneath_now = of (give_fault x the_gift) refl
-      where
-        of : (o : Option ℕ) → give_fault x the_gift ≡ o → with_seated_reset now.handoff target ≡ with_seated_reset base target
-        of (Some c) i = ap (λ (v : WorldNow). with_seated_reset v.handoff target) (refused c i) ∙ h.beneath
-        of None i =
-            ap (λ (v : WorldNow). with_seated_reset v.handoff target) (done i)
-            ∙ reset_beneath x.handoff h.lawful.handoff target p d declares it_sits ∙ h.beneath
+    beneath_now = grind (arith, refused, done, reset_beneath x.handoff h.lawful.handoff target p d declares it_sits, h.beneath)
 
     pub one_filled : Fills x now
     one_filled = record {
@@ -223,11 +184,7 @@ module _ (base : State) (target : GuestsNow) (seated : AreSeated (board_at base.
     }
 
     pub is_there : path_in now.guests name n ≡ Some p
-    is_there = of (path_in x.guests name n) refl
-      where
-        of : (o : Option Path) → path_in x.guests name n ≡ o → path_in now.guests name n ≡ Some p
-        of None e = (given_function x h.lawful the_gift there (accepted e)).path
-        of (Some q) e = keeps_now name n p (e ∙ sym (h.within name n q e) ∙ at)
+    is_there = grind (arith, keeps_now name n p, h.within name n, at, accepted, given_function x h.lawful the_gift there)
 
   -- ---- all slots of a guest
 
@@ -282,16 +239,16 @@ module _ (base : State) (target : GuestsNow) (seated : AreSeated (board_at base.
   -- ---- all guests
 
   abbrev pub gifts_of : SavedGuest → List Request
-  gifts_of s = gifts s.name 0 (paths_of s)
+  gifts_of s = gifts s.name 0 s.paths
 
   abbrev pub all_gifts : List SavedGuest → List Request
   all_gifts ss = flat_map gifts_of ss
 
   abbrev pub IsWanted : SavedGuest → Type 0
-  IsWanted s = IsSome (guest_named target s.name) × ((k : ℕ) → path_in target s.name k ≡ path_at (paths_of s) k)
+  IsWanted s = IsSome (guest_named target s.name) × ((k : ℕ) → path_in target s.name k ≡ path_at s.paths k)
 
   abbrev pub HasAll : WorldNow → SavedGuest → Type 0
-  HasAll y s = (k : ℕ) (q : Path) → path_at (paths_of s) k ≡ Some q → path_in y.guests s.name k ≡ Some q
+  HasAll y s = (k : ℕ) (q : Path) → path_at s.paths k ≡ Some q → path_in y.guests s.name k ≡ Some q
 
   pub record FillGuests (x y : WorldNow) (ss : List SavedGuest) : Type 0 where
     pub fills : Fills x y
@@ -302,25 +259,18 @@ module _ (base : State) (target : GuestsNow) (seated : AreSeated (board_at base.
   there_too [] [] name same there = there
   there_too [] (u ∷ us) name same there = cc
   there_too (t ∷ ts) [] name same there = cc
-  there_too (t ∷ ts) (u ∷ us) name same there =
-      let first : t.name ≡ u.name = cc in
-      let rest : names_of ts ≡ names_of us = cc in
-      of (bytes_eq u.name name) (ap (λ (m : Text). bytes_eq m name) first) there (there_too ts us name rest)
-    where
-      of : (v : Bool) → bytes_eq t.name name ≡ v → IsSome (cond v (Some u) (guest_named us name)) → (IsSome (guest_named us name) → IsSome (guest_named ts name)) → IsSome (guest_named (t ∷ ts) name)
-      of true e h more = ap (λ v. is_some (cond v (Some t) (guest_named ts name))) e
-      of false e h more = ap (λ v. is_some (cond v (Some t) (guest_named ts name))) e ∙ more h
+  there_too (t ∷ ts) (u ∷ us) name same there = grind (arith, there_too ts us name)
 
   pub guests_filled : (ss : List SavedGuest) (x : WorldNow) → IsFilled x → Each IsWanted ss → FillGuests x (after_requests x (all_gifts ss)) ss
   guests_filled [] x h wanted = record { fills = record { filled = h; keeps = λ a k q at. at }; has = tt }
   guests_filled (s ∷ ss) x h wanted =
       let y : WorldNow = after_requests x (gifts_of s) in
       let z : WorldNow = after_requests y (all_gifts ss) in
-      let one = slots_filled s.name (paths_of s) 0 x h (there_too x.guests target s.name h.names wanted.0.0) (λ k. from_first s.name k target ∙ wanted.0.1 k) in
+      let one = slots_filled s.name s.paths 0 x h (there_too x.guests target s.name h.names wanted.0.0) (λ k. from_first s.name k target ∙ wanted.0.1 k) in
       let more = guests_filled ss y one.fills.filled wanted.1 in
       subst (λ (v : WorldNow). FillGuests x v (s ∷ ss)) (sym (after_both (gifts_of s) (all_gifts ss) x))
       (record { fills = fills_both x y z one.fills more.fills; has = (λ k q at. more.fills.keeps s.name k q (sym (from_first s.name k y.guests) ∙ one.has k q at), more.has) })
 
   pub all_gifts_fit : (ss : List SavedGuest) (x : WorldNow) → AreFittingRequests x (all_gifts ss)
   all_gifts_fit [] x = tt
-  all_gifts_fit (s ∷ ss) x = both_fit (gifts_of s) (all_gifts ss) x (gifts_fit s.name (paths_of s) 0 x) (all_gifts_fit ss (after_requests x (gifts_of s)))
+  all_gifts_fit (s ∷ ss) x = both_fit (gifts_of s) (all_gifts ss) x (gifts_fit s.name s.paths 0 x) (all_gifts_fit ss (after_requests x (gifts_of s)))

@@ -260,13 +260,11 @@ image_fits i g h = record { latch = h.latch; functions = image_slots i.slots g.s
 
 resets_fit : (os : List (Option Endpoint)) → Each HoldsFitting (map reset_function os)
 resets_fit [] = tt
-resets_fit (None ∷ os) = (tt, resets_fit os)
-resets_fit (Some d ∷ os) = (reset_fits d, resets_fit os)
+resets_fit (o ∷ os) = grind (arith, reset_fits, resets_fit os)
 
 slots_at_reset : (fs : Slots) → Each HoldsFitting (map function_at_reset fs)
 slots_at_reset [] = tt
-slots_at_reset (None ∷ fs) = (tt, slots_at_reset fs)
-slots_at_reset (Some f ∷ fs) = (reset_fits f.decl, slots_at_reset fs)
+slots_at_reset (f ∷ fs) = grind (arith, reset_fits, slots_at_reset fs)
 
 reset_guest_fits : (g : LoneGuest) → IsFitting (lone_of_image (image_of_lone (at_reset g)))
 reset_guest_fits g = subst IsFitting (sym (lone_reset_back g)) (record { latch = refl; functions = slots_at_reset g.slots })
@@ -294,10 +292,7 @@ pub saved_slots : (fs gs : Slots) → Each HoldsFitting fs → map (option_map (
 saved_slots [] [] all same = tt
 saved_slots [] (g ∷ gs) all same = cc
 saved_slots (f ∷ fs) [] all same = cc
-saved_slots (None ∷ fs) (None ∷ gs) all same = (tt, saved_slots fs gs all.1 (cc))
-saved_slots (None ∷ fs) (Some g ∷ gs) all same = cc
-saved_slots (Some f ∷ fs) (None ∷ gs) all same = cc
-saved_slots (Some f ∷ fs) (Some g ∷ gs) all same = (record { decl = cc; values = all.0.values }, saved_slots fs gs all.1 (cc))
+saved_slots (f ∷ fs) (g ∷ gs) all same = grind (arith, saved_slots fs gs)
 
 pub saved_fits : SavedFits
 saved_fits w v from to h there same =

@@ -8,7 +8,6 @@ pub mod Steps
 pub mod Fitting
 mod Counts
 pub mod Machines
-mod Shapes
 mod Emptying
 pub mod Filling
 pub mod MachineLoads

@@ -57,9 +57,7 @@ lone_back b t h = ap (λ (x : Slots). record { slots = x; latch = t.lone.latch }
 
 reset_back : (fs : Slots) → map (option_map restored) (map (option_map saved) (map function_at_reset fs)) ≡ map function_at_reset fs
 reset_back [] = refl
-reset_back (None ∷ fs) = ap (λ (x : Slots). None ∷ x) (reset_back fs)
-reset_back (Some f ∷ fs) =
-    ap₂ (λ (x : File) (y : Slots). Some (record { decl = f.decl; file = x }) ∷ y) (values_back (endpoint_reset f.decl false) (endpoint_reset f.decl false) refl) (reset_back fs)
+reset_back (f ∷ fs) = grind (arith, values_back, reset_back fs)
 
 pub lone_reset_back : (g : LoneGuest) → lone_of_image (image_of_lone (at_reset g)) ≡ at_reset g
 lone_reset_back g = ap (λ (x : Slots). record { slots = x; latch = 0 }) (reset_back g.slots)

@@ -1,12 +1,11 @@
 -- A machine that is loaded: its slots are emptied and filled, and each guest is loaded.
 use Rattle.std.proofs.Common.{◌≡◌, ℕ, suc, Bool, true, false, ◌||◌, cond, List, [], ◌∷◌, ◌++◌, length, Some, None, Option, refl, sym, ap, ap₂, ◌∙◌, subst, arith}
-use Rattle.std.specs.Prelude.{map, option_map, is_some, IsFalse, IsTrue}
+use Rattle.std.specs.Prelude.{map, option_map, is_some, IsFalse}
 use Rattle.std.specs.List.{list_any}
 use Rattle.std.specs.Option.{option_map_or}
 use Rattle.std.specs.Str.{bytes_eq}
 use Rattle.lists.specs.Elements.{Each, EachPair}
-use Rattle.lists.proofs.EachLemmas.{each_both, each_map}
-use Rattle.model_registers.specs.Decoding.{Function}
+use Rattle.lists.proofs.EachLemmas.{each_both, each_map, pairs_from_map}
 use Rattle.model_board.specs.Paths.{Path}
 use Rattle.model_board.specs.Board.{Board}
 use Rattle.model_board.specs.AtReset.{board_at}
@@ -17,7 +16,7 @@ use Rattle.model_guests.specs.World.{declared}
 use Rattle.model_guests.specs.Lone.{reset_guest}
 use Rattle.model_guests.specs.Guests.{GuestNow, GuestsNow, guest_named, lone_of, path_in, with_guest}
 use Rattle.model_guests.specs.AgreedBoard.{agreed_function}
-use Rattle.model_guests.specs.Seated.{AreSeated, AreSeats, IsSeat, IsSeatedGuest}
+use Rattle.model_guests.specs.Seated.{AreSeated, AreSeats, IsSeatedGuest}
 use Rattle.model_guests.specs.WorldNow.{WorldNow, names_of, names_now}
 use Rattle.model_guests.proofs.Changes.{files_same}
 use Rattle.model_guests.proofs.FoundFiles.{others_stay}
@@ -29,15 +28,15 @@ use Rattle.model_handoff.specs.Handoffs.{file_at_reset}
 use Rattle.model_handoff.specs.Kept.{IsLawfulOver}
 use Rattle.model_handoff.specs.Regions.{AreServed}
 use Rattle.model_handoff.specs.ViewLaws.{is_at, sits, seated_files, with_seated_reset}
-use Rattle.model_images.specs.Images.{SavedFunction, fits_declaration, restored, lone_of_image, loaded, Fits, FitsSlot, FitSlots}
+use Rattle.model_images.specs.Images.{SavedFunction, restored, lone_of_image, loaded, Fits, FitSlots}
 use Rattle.model_images.specs.Requests.{Request, after_request, after_requests}
 use Rattle.model_images.specs.FitLaws.{AreFitting, AreFittingRequests}
-use Rattle.model_images.specs.MachineImages.{SavedSeat, SavedGuest, paths_of, image_in, MachineImage, shown_handoff, IsShown, restored_guest, restored_guests, handoff_under, after_load_all, HoldsFittingValues, HoldsWhatFits, FitsMachine}
+use Rattle.model_images.specs.MachineImages.{SavedGuest, MachineImage, shown_handoff, IsShown, restored_guest, restored_guests, handoff_under, after_load_all, HoldsFittingValues, HoldsWhatFits, FitsMachine}
 use Rattle.model_images.specs.MachineLaws.{load_of, requests_for, IsReached, LoadsAllByRequests, LoadsAllOnMachine, LawfulAfterLoadAll, FittingAfterLoadAll, SavableAfterLoadAll}
 use Rattle.model_images.proofs.Counts.{lawful_along_requests, world_along}
 use Rattle.model_images.proofs.Loading.{others_after_load}
 use Rattle.model_images.proofs.Fitting.{fitting_along}
-use Rattle.model_images.proofs.Machines.{OpensAlike, opens_alike, served_alike, board_stays, shapes_stay, shown_after_load_all}
+use Rattle.model_images.proofs.Machines.{OpensAlike, opens_alike, served_alike, shown_after_load_all}
 use Rattle.model_images.proofs.Emptying.{after_both, both_fit, none_sits, HaveTaken, all_takings, all_emptied, all_takings_fit, nobody_has}
 use Rattle.model_images.proofs.Filling.{IsFilled, FillGuests, HasAll, IsWanted, all_gifts, all_gifts_fit, guests_filled}
 
@@ -64,19 +63,27 @@ abbrev AreMatched : List SavedGuest → GuestsNow → Type 0
 AreMatched [] [] = Unit {0}
 AreMatched [] (g ∷ gs) = ⊥
 AreMatched (s ∷ ss) [] = ⊥
-AreMatched (s ∷ ss) (g ∷ gs) = (g.name ≡ s.name) × (g.paths ≡ paths_of s) × AreMatched ss gs
-
-abbrev pub ApartSaved : List SavedGuest → Type 0
-ApartSaved ss = EachPair (λ (s t : SavedGuest). IsFalse (bytes_eq s.name t.name)) ss
+AreMatched (s ∷ ss) (g ∷ gs) = (g.name ≡ s.name) × (g.paths ≡ s.paths) × AreMatched ss gs
 
 abbrev names_in : List SavedGuest → List Text
 names_in ss = map (λ (s : SavedGuest). s.name) ss
+
+abbrev pub IsApart : SavedGuest → SavedGuest → Type 0
+IsApart s t = IsFalse (bytes_eq s.name t.name)
+
+abbrev pub ApartSaved : List SavedGuest → Type 0
+ApartSaved ss = EachPair IsApart ss
+
+-- what holds of guests of other names
+pub of_others : (P Q : SavedGuest → Type 0) (s : SavedGuest) (ss : List SavedGuest) → ((t : SavedGuest) → IsApart s t → P t → Q t) → Each (IsApart s) ss → Each P ss → Each Q ss
+of_others P Q s [] f apart h = tt
+of_others P Q s (t ∷ ss) f apart h = (f t apart.0 h.0, of_others P Q s ss f apart.1 h.1)
 
 paths_same : (qs rs : List (Option Path)) → length qs ≡ length rs → ((k : ℕ) → path_at qs k ≡ path_at rs k) → qs ≡ rs
 paths_same [] [] h same = refl
 paths_same [] (r ∷ rs) h same = cc
 paths_same (q ∷ qs) [] h same = cc
-paths_same (q ∷ qs) (r ∷ rs) h same = ap₂ (λ (x : Option Path) (xs : List (Option Path)). x ∷ xs) (same 0) (let rest : length qs ≡ length rs = omega arith in paths_same qs rs rest (λ k. same (suc k)))
+paths_same (q ∷ qs) (r ∷ rs) h same = let first = same 0 in grind (arith, first, paths_same qs rs (omega arith) (λ k. same (suc k)))
 
 -- of the guest at the front, and of others
 at_front : (g : GuestNow) (gs : GuestsNow) (name : Text) → g.name ≡ name → guest_named (g ∷ gs) name ≡ Some g
@@ -89,10 +96,10 @@ abbrev Has32 : GuestNow → Type 0
 Has32 g = length g.paths ≡ 32
 
 abbrev Has32Paths : SavedGuest → Type 0
-Has32Paths s = length (paths_of s) ≡ 32
+Has32Paths s = length s.paths ≡ 32
 
 abbrev HasJust : GuestsNow → SavedGuest → Type 0
-HasJust gs s = (k : ℕ) → path_in gs s.name k ≡ path_at (paths_of s) k
+HasJust gs s = (k : ℕ) → path_in gs s.name k ≡ path_at s.paths k
 
 matched : (ss : List SavedGuest) (gs : GuestsNow) → names_in ss ≡ names_of gs → ApartSaved ss → Each Has32 gs → Each Has32Paths ss → Each (HasJust gs) ss → AreMatched ss gs
 matched [] [] same apart many each has = tt
@@ -101,12 +108,10 @@ matched (s ∷ ss) [] same apart many each has = cc
 matched (s ∷ ss) (g ∷ gs) same apart many each has =
     let first : g.name ≡ s.name = cc in
     let rest : names_in ss ≡ names_of gs = cc in
-    let paths : g.paths ≡ paths_of s =
-    paths_same g.paths (paths_of s) (many.0 ∙ sym each.0) (λ k. sym (ap (λ (o : Option GuestNow). path_of o k) (at_front g gs s.name first)) ∙ has.0 k) in
-    let others : Each (HasJust gs) ss =
-    each_map (λ (t : SavedGuest). IsFalse (bytes_eq s.name t.name) × HasJust (g ∷ gs) t) (HasJust gs) ss
-    (λ t h k. sym (ap (λ (o : Option GuestNow). path_of o k) (past_front g gs t.name (ap (λ (n : Text). bytes_eq n t.name) first ∙ h.0))) ∙ h.1 k)
-    (each_both (λ (t : SavedGuest). IsFalse (bytes_eq s.name t.name)) (HasJust (g ∷ gs)) ss apart.0 has.1) in
+    let paths : g.paths ≡ s.paths =
+    paths_same g.paths s.paths (many.0 ∙ sym each.0) (λ k. sym (ap (λ (o : Option GuestNow). path_of o k) (at_front g gs s.name first)) ∙ has.0 k) in
+    let others = of_others (HasJust (g ∷ gs)) (HasJust gs) s ss
+    (λ t h has k. sym (ap (λ (o : Option GuestNow). path_of o k) (past_front g gs t.name (ap (λ (n : Text). bytes_eq n t.name) first ∙ h))) ∙ has k) apart.0 has.1 in
     (first, paths, matched ss gs rest apart.1 many.1 each.1 others)
 
 -- the same paths sit
@@ -118,33 +123,16 @@ matched_sit (s ∷ ss) (g ∷ gs) h p = ap₂ ◌||◌ (ap (list_any (is_at p)) 
 
 -- ---- what is loaded fits
 
-abbrev HoldsValues : Option SavedFunction → Type 0
-HoldsValues None = Unit {0}
-HoldsValues (Some s) = IsTrue (fits_declaration s)
-
-values_held : (xs : List (Option SavedSeat)) → Each HoldsFittingValues xs → Each HoldsValues (map (option_map (λ (x : SavedSeat). x.function)) xs)
-values_held [] h = tt
-values_held (None ∷ xs) h = (tt, values_held xs h.1)
-values_held (Some x ∷ xs) h = (h.0, values_held xs h.1)
-
-fit_slots : (b : Board) (qs : List (Option Path)) (fs : Slots) (ss : List (Option SavedFunction)) → AreSeats b qs fs → AreSeats b qs (map (option_map restored) ss) → Each HoldsValues ss → FitSlots ss fs
+fit_slots : (b : Board) (qs : List (Option Path)) (fs : Slots) (ss : List (Option SavedFunction)) → AreSeats b qs fs → AreSeats b qs (map (option_map restored) ss) → Each HoldsFittingValues ss → FitSlots ss fs
 fit_slots b [] [] [] h k fits = tt
 fit_slots b [] (f ∷ fs) ss h k fits = absurd h
 fit_slots b [] [] (s ∷ ss) h k fits = absurd k
 fit_slots b (q ∷ qs) [] ss h k fits = absurd h
 fit_slots b (q ∷ qs) (f ∷ fs) [] h k fits = absurd k
-fit_slots b (q ∷ qs) (f ∷ fs) (s ∷ ss) h k fits = (fit q f s h.0 k.0 fits.0, fit_slots b qs fs ss h.1 k.1 fits.1)
-  where
-    fit : (q : Option Path) (f : Option Function) (s : Option SavedFunction) → IsSeat b q f → IsSeat b q (option_map restored s) → HoldsValues s → FitsSlot s f
-    fit None None None h k v = tt
-    fit None (Some f) s h k v = absurd h
-    fit None None (Some s) h k v = absurd k
-    fit (Some p) None s h k v = absurd h
-    fit (Some p) (Some f) None h k v = absurd k
-    fit (Some p) (Some f) (Some s) h k v = let one = h.decl in let other = k.decl in record { decl = cc (one, other); values = v }
+fit_slots b (q ∷ qs) (f ∷ fs) (s ∷ ss) h k fits = grind (arith, fit_slots b qs fs ss)
 
 abbrev FitsOwn : GuestsNow → SavedGuest → Type 0
-FitsOwn gs s = Fits (image_in s) (lone_of gs s.name)
+FitsOwn gs s = Fits s.image (lone_of gs s.name)
 
 all_fit : (b : Board) (ss : List SavedGuest) (gs : GuestsNow) → AreMatched ss gs → ApartSaved ss → Each (IsSeatedGuest b) gs → Each (IsSeatedGuest b) (map restored_guest ss) → Each HoldsWhatFits ss → Each (FitsOwn gs) ss
 all_fit b [] gs h apart seated wanted held = tt
@@ -152,12 +140,11 @@ all_fit b (s ∷ ss) [] h apart seated wanted held = absurd h
 all_fit b (s ∷ ss) (g ∷ gs) h apart seated wanted held = (
   record {
     latch = held.0.latch;
-    slots = subst (λ (l : Slots). FitSlots (image_in s).slots l) (sym (ap (λ l. l.slots) (lone_found (g ∷ gs) s.name g (at_front g gs s.name h.0))))
-        (fit_slots b (paths_of s) g.lone.slots (image_in s).slots (subst (λ (qs : List (Option Path)). AreSeats b qs g.lone.slots) h.1 seated.0.seats) wanted.0.seats (values_held s.seats held.0.seats));
+    slots = subst (λ (l : Slots). FitSlots s.image.slots l) (sym (ap (λ l. l.slots) (lone_found (g ∷ gs) s.name g (at_front g gs s.name h.0))))
+        (fit_slots b s.paths g.lone.slots s.image.slots (subst (λ (qs : List (Option Path)). AreSeats b qs g.lone.slots) h.1 seated.0.seats) wanted.0.seats held.0.slots);
   },
-  each_map (λ (t : SavedGuest). IsFalse (bytes_eq s.name t.name) × FitsOwn gs t) (FitsOwn (g ∷ gs)) ss
-      (λ t k. subst (λ l. Fits (image_in t) l) (sym (others g gs t (ap (λ (n : Text). bytes_eq n t.name) h.0 ∙ k.0))) k.1)
-      (each_both (λ (t : SavedGuest). IsFalse (bytes_eq s.name t.name)) (FitsOwn gs) ss apart.0 (all_fit b ss gs h.2 apart.1 seated.1 wanted.1 held.1)),
+  of_others (FitsOwn gs) (FitsOwn (g ∷ gs)) s ss (λ t k fit. subst (λ l. Fits t.image l) (sym (others g gs t (ap (λ (n : Text). bytes_eq n t.name) h.0 ∙ k))) fit) apart.0
+      (all_fit b ss gs h.2 apart.1 seated.1 wanted.1 held.1),
 )
   where
     others : (g : GuestNow) (gs : GuestsNow) (t : SavedGuest) → bytes_eq g.name t.name ≡ false → lone_of (g ∷ gs) t.name ≡ lone_of gs t.name
@@ -165,19 +152,15 @@ all_fit b (s ∷ ss) (g ∷ gs) h apart seated wanted held = (
 
 loads_fit : (ss : List SavedGuest) (x : WorldNow) → ApartSaved ss → Each (FitsOwn x.guests) ss → AreFittingRequests x (map load_of ss)
 loads_fit [] x apart fits = tt
-loads_fit (s ∷ ss) x apart fits = (
-  fits.0,
-  loads_fit ss (after_request x (load_of s)) apart.1
-      (each_map (λ (t : SavedGuest). IsFalse (bytes_eq s.name t.name) × FitsOwn x.guests t) (FitsOwn (after_request x (load_of s)).guests) ss
-      (λ t k. subst (λ l. Fits (image_in t) l) (sym (others_after_load x s.name t.name (image_in s) k.0)) k.1)
-      (each_both (λ (t : SavedGuest). IsFalse (bytes_eq s.name t.name)) (FitsOwn x.guests) ss apart.0 fits.1)),
-)
+loads_fit (s ∷ ss) x apart fits =
+    let y : WorldNow = after_request x (load_of s) in
+    (fits.0, loads_fit ss y apart.1 (of_others (FitsOwn x.guests) (FitsOwn y.guests) s ss (λ t k fit. subst (λ l. Fits t.image l) (sym (others_after_load x s.name t.name s.image k)) fit) apart.0 fits.1))
 
 -- ---- all guests are loaded
 
 abbrev loads_over : List SavedGuest → GuestsNow → GuestsNow
 loads_over [] gs = gs
-loads_over (s ∷ ss) gs = loads_over ss (with_guest (loaded (image_in s)) s.name gs)
+loads_over (s ∷ ss) gs = loads_over ss (with_guest (loaded s.image) s.name gs)
 
 loads_are : (ss : List SavedGuest) (x : WorldNow) → after_requests x (map load_of ss) ≡ record { handoff = x.handoff; guests = loads_over ss x.guests }
 loads_are [] x = refl
@@ -187,16 +170,16 @@ loads_are (s ∷ ss) x = loads_are ss (after_request x (load_of s))
 past_loads : (ss : List SavedGuest) (g : GuestNow) (gs : GuestsNow) → Each (λ (s : SavedGuest). IsFalse (bytes_eq s.name g.name)) ss → loads_over ss (g ∷ gs) ≡ g ∷ loads_over ss gs
 past_loads [] g gs apart = refl
 past_loads (s ∷ ss) g gs apart =
-    ap (λ v. loads_over ss (cond v (loaded (image_in s) g) g ∷ with_guest (loaded (image_in s)) s.name gs)) apart.0
-    ∙ past_loads ss g (with_guest (loaded (image_in s)) s.name gs) apart.1
+    ap (λ v. loads_over ss (cond v (loaded s.image g) g ∷ with_guest (loaded s.image) s.name gs)) apart.0
+    ∙ past_loads ss g (with_guest (loaded s.image) s.name gs) apart.1
 
-other_way : (ss : List SavedGuest) (s : SavedGuest) (g : GuestNow) → g.name ≡ s.name → Each (λ (t : SavedGuest). IsFalse (bytes_eq s.name t.name)) ss → Each (λ (t : SavedGuest). IsFalse (bytes_eq t.name g.name)) ss
+other_way : (ss : List SavedGuest) (s : SavedGuest) (g : GuestNow) → g.name ≡ s.name → Each (IsApart s) ss → Each (λ (t : SavedGuest). IsFalse (bytes_eq t.name g.name)) ss
 other_way ss s g same apart =
-    each_map (λ (t : SavedGuest). IsFalse (bytes_eq s.name t.name)) (λ (t : SavedGuest). IsFalse (bytes_eq t.name g.name)) ss
+    each_map (IsApart s) (λ (t : SavedGuest). IsFalse (bytes_eq t.name g.name)) ss
     (λ t h. ap (bytes_eq t.name) same ∙ other_name s.name t.name h) apart
 
 -- no guest of the rest has the name
-names_rest : (ss : List SavedGuest) (gs : GuestsNow) (s : SavedGuest) → AreMatched ss gs → Each (λ (t : SavedGuest). IsFalse (bytes_eq s.name t.name)) ss → Each (λ (v : GuestNow). IsFalse (bytes_eq s.name v.name)) gs
+names_rest : (ss : List SavedGuest) (gs : GuestsNow) (s : SavedGuest) → AreMatched ss gs → Each (IsApart s) ss → Each (λ (v : GuestNow). IsFalse (bytes_eq s.name v.name)) gs
 names_rest [] [] s h apart = tt
 names_rest [] (g ∷ gs) s h apart = absurd h
 names_rest (t ∷ ss) [] s h apart = absurd h
@@ -208,22 +191,17 @@ all_loaded [] (g ∷ gs) h apart = absurd h
 all_loaded (s ∷ ss) [] h apart = absurd h
 all_loaded (s ∷ ss) (g ∷ gs) h apart =
     let here : bytes_eq s.name g.name ≡ true = ap (bytes_eq s.name) h.0 ∙ same_text s.name in
-    let is : loaded (image_in s) g ≡ restored_guest s = ap₂ (λ (n : Text) (qs : List (Option Path)). record { name = n; paths = qs; lone = lone_of_image (image_in s) }) h.0 h.1 in
-    ap₂ (λ (v : Bool) (ts : GuestsNow). loads_over ss (cond v (loaded (image_in s) g) g ∷ ts)) here (others_stay (loaded (image_in s)) s.name gs (names_rest ss gs s h.2 apart.0))
-    ∙ past_loads ss (loaded (image_in s) g) gs (other_way ss s (loaded (image_in s) g) h.0 apart.0)
+    let is : loaded s.image g ≡ restored_guest s = ap₂ (λ (n : Text) (qs : List (Option Path)). record { name = n; paths = qs; lone = lone_of_image s.image }) h.0 h.1 in
+    ap₂ (λ (v : Bool) (ts : GuestsNow). loads_over ss (cond v (loaded s.image g) g ∷ ts)) here (others_stay (loaded s.image) s.name gs (names_rest ss gs s h.2 apart.0))
+    ∙ past_loads ss (loaded s.image g) gs (other_way ss s (loaded s.image g) h.0 apart.0)
     ∙ ap₂ (λ (x : GuestNow) (xs : GuestsNow). x ∷ xs) is (all_loaded ss gs h.2 apart.1)
 
 -- ---- what the guests are to come to
 
 pub saved_apart : (ss : List SavedGuest) → AreApart (map restored_guest ss) → ApartSaved ss
-saved_apart [] h = tt
-saved_apart (s ∷ ss) h = (first ss h.0, saved_apart ss h.1)
-  where
-    first : (ts : List SavedGuest) → Each (λ (v : GuestNow). IsFalse (bytes_eq s.name v.name)) (map restored_guest ts) → Each (λ (t : SavedGuest). IsFalse (bytes_eq s.name t.name)) ts
-    first [] h = tt
-    first (t ∷ ts) h = (h.0, first ts h.1)
+saved_apart ss h = pairs_from_map (λ (g k : GuestNow). IsFalse (bytes_eq g.name k.name)) restored_guest ss h
 
-names_restored : (ss : List SavedGuest) → names_of (map restored_guest ss) ≡ names_in ss
+pub names_restored : (ss : List SavedGuest) → names_of (map restored_guest ss) ≡ names_in ss
 names_restored [] = refl
 names_restored (s ∷ ss) = ap (λ (ns : List Text). s.name ∷ ns) (names_restored ss)
 
@@ -234,9 +212,8 @@ pub each_found : (ss : List SavedGuest) → ApartSaved ss → Each (IsFound (map
 each_found [] apart = tt
 each_found (s ∷ ss) apart = (
   at_front (restored_guest s) (map restored_guest ss) s.name refl,
-  each_map (λ (t : SavedGuest). IsFalse (bytes_eq s.name t.name) × IsFound (map restored_guest ss) t) (IsFound (map restored_guest (s ∷ ss))) ss
-      (λ t h. past_front (restored_guest s) (map restored_guest ss) t.name h.0 ∙ h.1)
-      (each_both (λ (t : SavedGuest). IsFalse (bytes_eq s.name t.name)) (IsFound (map restored_guest ss)) ss apart.0 (each_found ss apart.1)),
+  of_others (IsFound (map restored_guest ss)) (IsFound (map restored_guest (s ∷ ss))) s ss (λ t apart found. past_front (restored_guest s) (map restored_guest ss) t.name apart ∙ found) apart.0
+      (each_found ss apart.1),
 )
 
 each_32 : (b : Board) (ss : List SavedGuest) → Each (IsSeatedGuest b) (map restored_guest ss) → Each Has32Paths ss
@@ -244,9 +221,7 @@ each_32 b [] h = tt
 each_32 b (s ∷ ss) h = (h.0.count, each_32 b ss h.1)
 
 either_way : (o x : Option Path) → ((q : Path) → o ≡ Some q → x ≡ Some q) → ((q : Path) → x ≡ Some q → o ≡ Some q) → o ≡ x
-either_way None None h k = refl
-either_way (Some q) x h k = sym (h q refl)
-either_way None (Some q) h k = k q refl
+either_way o x h k = grind (arith, h, k)
 
 -- ---- all of it
 
@@ -321,7 +296,7 @@ module _ (i : MachineImage) (w : WorldNow) (h : IsLawfulOver w) (fits : FitsMach
   has_just : Each (HasJust y.guests) i.guests
   has_just =
       each_map (λ (s : SavedGuest). IsWanted base target seated served s × HasAll base target seated served y s) (HasJust y.guests) i.guests
-      (λ s h k. either_way (path_in y.guests s.name k) (path_at (paths_of s) k) (λ q at. sym (h.0.1 k) ∙ filled.within s.name k q at) (h.1 k))
+      (λ s h k. either_way (path_in y.guests s.name k) (path_at s.paths k) (λ q at. sym (h.0.1 k) ∙ filled.within s.name k q at) (h.1 k))
       (each_both (IsWanted base target seated served) (HasAll base target seated served y) i.guests wanted given.has)
 
   matched_there : AreMatched i.guests y.guests
@@ -369,7 +344,6 @@ pub savable_after_load_all : SavableAfterLoadAll
 savable_after_load_all i w h fits = record {
   lawful = lawful_after_load_all i w h.lawful fits;
   shown = (shown_after_load_all i w fits).shown;
-  shapes = shapes_stay (shown_handoff w) (board_stays w.handoff h.lawful.handoff.board w.guests) (shapes_stay w.handoff h.lawful.handoff.board h.shapes w.guests) (restored_guests i);
 }
 
 pub loads_all_on_machine : LoadsAllOnMachine

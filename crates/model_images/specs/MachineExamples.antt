@@ -6,13 +6,13 @@
 use Rattle.std.specs.Prelude.{List, [], ◌∷◌, ◌≡◌, Some, None, Option, codes, length, map, take}
 use Rattle.model_registers.specs.Registers.{config, write, all_bytes}
 use Rattle.model_board.specs.Paths.{Path}
+use Rattle.model_board.specs.Board.{Row}
 use Rattle.model_board.specs.AtReset.{reset_state}
 use Rattle.model_guests.specs.World.{World}
 use Rattle.model_guests.specs.Examples.{demo_world, on_bus_0}
 use Rattle.model_guests.specs.AgreedBoard.{with_change_at}
 use Rattle.model_guests.specs.WorldNow.{WorldNow, world_over, after_lines}
-use Rattle.model_images.specs.MachineImages.{SavedGuest, SavedRow, MachineImage, image_of_machine, paths_of}
-use Rattle.model_images.specs.MachineImages.{saved_names}
+use Rattle.model_images.specs.MachineImages.{SavedGuest, MachineImage, image_of_machine, saved_names}
 use Rattle.model_images.specs.MachineImages.{saved_handoff, handoff_under, after_load_all}
 use Rattle.model_images.specs.MachineLaws.{requests_for}
 
@@ -35,13 +35,13 @@ abbrev pub its_machine : MachineImage
 its_machine = image_of_machine moved
 
 abbrev pub first_seats : MachineImage → List (List (Option Path))
-first_seats i = map (λ (s : SavedGuest). take 3 (paths_of s)) i.guests
+first_seats i = map (λ (s : SavedGuest). take 3 s.paths) i.guests
 
 pub record MachineExamples : Type 0 where
   pub names : saved_names its_machine ≡ codes "a" ∷ codes "b" ∷ []
   pub seats : first_seats its_machine
       ≡ (None ∷ None ∷ None ∷ []) ∷ (None ∷ None ∷ Some (on_bus_0 1) ∷ []) ∷ []
-  pub rows : map (λ (r : SavedRow). r.path) its_machine.handoff.rows ≡ on_bus_0 1 ∷ []
+  pub board : map (λ (r : Row). r.path) its_machine.handoff.board ≡ on_bus_0 1 ∷ []
   -- the same is saved of the handoff before and after
   pub alike : saved_handoff (handoff_under its_machine handed) ≡ its_machine.handoff
   -- as over a handoff in which firmware wrote the function's Interrupt Line, since it is at reset in either slot

@@ -1,8 +1,6 @@
 -- Laws of machines that are saved and loaded.
---     HasDeclaredShape f      of a function's cells nothing but what they hold is other than it is declared
---     IsSavableWorld w      a lawful world of such functions, over the handoff that its board shows
---     SavableAtFirst, ShapesAtReset, ShapesStay      so it is at first, over a handoff of such functions; they are such at
---                                       reset, and no request changes it
+--     IsSavableWorld w      a lawful world, over the handoff that its board shows
+--     SavableAtFirst      so it is at first
 --     AreAlike w v      equal boards and equal names: what was saved of w is the handoff of v, once its functions are at
 --                       reset that guests of either have
 --     ShownAlike      so it is where both show the same handoff
@@ -16,16 +14,10 @@
 --     requests_for i w      all of them, for an image that is loaded into a world
 --     after_load_all_on_machine, LoadsAllOnMachine      a machine after them
 --     LoadsAllByRequests      after these requests, whose images fit, the world is that after the load
-use Rattle.std.specs.Prelude.{◌≡◌, ℕ, zero, suc, false, List, [], ◌∷◌, ◌++◌, map, flat_map, Option, Some, None}
-use Rattle.lists.specs.Elements.{Each}
-use Rattle.model_registers.specs.Registers.{File}
-use Rattle.model_registers.specs.EndpointTable.{endpoint_reset}
-use Rattle.model_registers.specs.BridgeTable.{bridge_reset}
-use Rattle.model_registers.specs.CopiedFiles.{shape_of}
+use Rattle.std.specs.Prelude.{◌≡◌, ℕ, zero, suc, List, [], ◌∷◌, ◌++◌, map, flat_map, Option, Some, None}
 use Rattle.model_board.specs.Paths.{Path}
-use Rattle.model_board.specs.Board.{Decl, endpoint, bridge, Board}
-use Rattle.model_board.specs.AtReset.{board_at, reset_state}
-use Rattle.model_board.specs.State.{BoardFunction, State}
+use Rattle.model_board.specs.AtReset.{board_at}
+use Rattle.model_board.specs.State.{State}
 use Rattle.model_guests.specs.Text.{Text}
 use Rattle.model_guests.specs.World.{World, HasLawfulGuests}
 use Rattle.model_guests.specs.WorldNow.{WorldNow, world_over, names_now}
@@ -34,37 +26,20 @@ use Rattle.model_handoff.specs.Kept.{IsLawfulOver}
 use Rattle.model_handoff.specs.Regions.{CanBeGiven}
 use Rattle.model_handoff.specs.Changes.{MachineNow}
 use Rattle.model_handoff.specs.Actions.{gives, takes}
-use Rattle.model_images.specs.Requests.{Request, acts, loads, after_request, after_requests}
+use Rattle.model_images.specs.Requests.{Request, acts, loads, after_requests}
 use Rattle.model_images.specs.RequestLaws.{after_all_requests}
 use Rattle.model_images.specs.FitLaws.{AreFitting, AreFittingRequests}
 use Rattle.model_images.specs.MachineImages.{SavedGuest, MachineImage, saved_handoff, shown_handoff, IsShown}
-use Rattle.model_images.specs.MachineImages.{paths_of, image_in}
 use Rattle.model_images.specs.MachineImages.{image_of_machine, handoff_under, after_load_all, FitsMachine}
-
--- which bits of each cell can be written and cleared is told by the declaration
-abbrev pub declared_cells : Decl → File
-declared_cells (endpoint d) = endpoint_reset d false
-declared_cells (bridge d) = bridge_reset d false
-
-abbrev pub HasDeclaredShape : BoardFunction → Type 0
-HasDeclaredShape f = shape_of f.file ≡ shape_of (declared_cells f.decl)
 
 pub record IsSavableWorld (w : WorldNow) : Type 0 where
   pub lawful : IsLawfulOver w
   pub shown : IsShown w
-  pub shapes : Each HasDeclaredShape w.handoff.functions
 
 -- over the handoff that guests get of one
 abbrev pub SavableAtFirst : Type 0
 SavableAtFirst = (w : World) (s : State) → IsHandoff s → board_at s.functions ≡ w.board → HasLawfulGuests w
-    → CanBeGiven w s → Each HasDeclaredShape s.functions → IsSavableWorld (world_over w (taken_over w s))
-
-abbrev pub ShapesAtReset : Type 0
-ShapesAtReset = (b : Board) → Each HasDeclaredShape (reset_state b).functions
-
-abbrev pub ShapesStay : Type 0
-ShapesStay = (w : WorldNow) → IsLawfulOver w → Each HasDeclaredShape w.handoff.functions → (r : Request)
-    → Each HasDeclaredShape (after_request w r).handoff.functions
+    → CanBeGiven w s → IsSavableWorld (world_over w (taken_over w s))
 
 -- an equal board: with the same functions at reset it shows what was saved
 pub record AreAlike (w v : WorldNow) : Type 0 where
@@ -125,13 +100,13 @@ gifts name n [] = []
 gifts name n (q ∷ qs) = gift name n q ++ gifts name (suc n) qs
 
 abbrev pub load_of : SavedGuest → Request
-load_of s = loads s.name (image_in s)
+load_of s = loads s.name s.image
 
 -- all slots are emptied first, so no function that is given has a seat elsewhere
 abbrev pub requests_for : MachineImage → WorldNow → List Request
 requests_for i w =
     flat_map (λ (name : Text). takings name 32) (names_now w)
-    ++ (flat_map (λ (s : SavedGuest). gifts s.name 0 (paths_of s)) i.guests ++ map load_of i.guests)
+    ++ (flat_map (λ (s : SavedGuest). gifts s.name 0 s.paths) i.guests ++ map load_of i.guests)
 
 pub record IsReached (i : MachineImage) (w : WorldNow) : Type 0 where
   pub fitting : AreFittingRequests w (requests_for i w)

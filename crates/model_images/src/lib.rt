@@ -9,8 +9,8 @@ ghost use Rattle.model_images.specs.LoadLaws.{LawfulAfterLoad, LoadedHolds, Load
 ghost use Rattle.model_images.specs.LoadLaws.{PathsAfterLoad, RestartedHolds, SeatedAfterLoad, ShownAfterLoad};
 ghost use Rattle.model_images.specs.MachineExamples.{MachineExamples};
 ghost use Rattle.model_images.specs.MachineLaws.{FittingAfterLoadAll, LawfulAfterLoadAll, LoadAfterSave, LoadsAllByRequests, LoadsAllOnMachine};
-ghost use Rattle.model_images.specs.MachineLaws.{SavableAfterLoadAll, SavableAtFirst, SavedMachineFits, SavesWhatWasLoaded, ShapesAtReset};
-ghost use Rattle.model_images.specs.MachineLaws.{ShapesStay, ShownAfterLoadAll, ShownAlike};
+ghost use Rattle.model_images.specs.MachineLaws.{SavableAfterLoadAll, SavableAtFirst, SavedMachineFits, SavesWhatWasLoaded};
+ghost use Rattle.model_images.specs.MachineLaws.{ShownAfterLoadAll, ShownAlike};
 ghost use Rattle.model_images.specs.RequestLaws.{AnswersStayAlong, AnswersStayByCount, LawfulAlongRequests, RequestCountsGrow};
 ghost use Rattle.model_images.specs.Requests.{IsolatedByRequests};
 ghost use Rattle.model_images.specs.StepLaws.{LoadsBySteps};
@@ -74,12 +74,9 @@ pub fn loads_are_steps()
     ensures { LoadsBySteps }
 {}
 
-/// Over a handoff of functions whose cells are as declared, but for what they hold, the world at
-/// first can be saved. At reset they are such functions, and no request changes that.
+/// A world can be saved at first.
 pub fn machines_can_be_saved()
-    ensures first { SavableAtFirst }
-    ensures at_reset { ShapesAtReset }
-    ensures stay { ShapesStay }
+    ensures { SavableAtFirst }
 {}
 
 /// A machine that is loaded with the image of one like it is that other one, so each later call

@@ -4,31 +4,31 @@ use Rattle.std.specs.Prelude.{map, is_some}
 use Rattle.std.specs.Option.{option_map_or}
 use Rattle.lists.specs.Elements.{Each}
 use Rattle.model_registers.specs.Registers.{config, block, File, write, all_bytes}
-use Rattle.model_registers.specs.CopiedFiles.{places_of}
+use Rattle.model_registers.specs.CopiedFiles.{shape_of}
 use Rattle.model_board.specs.Paths.{Path, path_eq}
 use Rattle.model_board.specs.Claims.{Claim, first_claim}
 use Rattle.model_board.specs.Cycles.{reached}
 use Rattle.model_board.specs.Ports.{PortTarget, config_address, config_data, ordinary, port_target, after_claim_write, after_target_write}
 use Rattle.model_board.specs.State.{BoardFunction, State, with_file, row_at}
 use Rattle.model_registers.specs.Decoding.{io, memory}
-use Rattle.model_registers.proofs.Files.{places_written}
 use Rattle.model_guests.specs.Accesses.{Op, reads, writes}
 use Rattle.model_guests.specs.Grammar.{HostTarget, host_configuration, host_port, host_address}
 use Rattle.model_guests.specs.LineRuns.{after_lines}
+use Rattle.model_guests.proofs.Seats.{written_shape}
 use Rattle.model_lines.specs.FirmwareLines.{Meaning, nothing, asked, bad, meaning, after_meaning, after_line, board_protocol}
 use Rattle.model_lines.specs.HostAccesses.{HostAccess, effect, fault_of, after_access}
-use Rattle.model_handoff.specs.Handoffs.{HasDeclaredPlaces, IsHandoff}
+use Rattle.model_handoff.specs.Handoffs.{HasDeclaredShape, IsHandoff}
 use Rattle.model_lines.specs.FirmwareLeaves.{IsHandoffAlike, AccessLeaves, LinesLeave}
 
--- the same functions, with their cells at the same places
+-- the same functions, of which what cells hold alone may differ
 record Alike (fs gs : List BoardFunction) : Type 0 where
   rows : map row_at gs ≡ map row_at fs
-  places : Each HasDeclaredPlaces fs → Each HasDeclaredPlaces gs
+  shapes : Each HasDeclaredShape fs → Each HasDeclaredShape gs
 
 unchanged : (fs : List BoardFunction) → Alike fs fs
-unchanged fs = record { rows = refl; places = λ h. h }
+unchanged fs = record { rows = refl; shapes = λ h. h }
 
-module _ (g : File → File) (stays : (file : File) → places_of (g file) ≡ places_of file) (p : Path) where
+module _ (g : File → File) (stays : (file : File) → shape_of (g file) ≡ shape_of file) (p : Path) where
   abbrev one : BoardFunction → BoardFunction
   one f = cond (path_eq f.path p) (record f { file = g f.file }) f
 
@@ -36,20 +36,20 @@ module _ (g : File → File) (stays : (file : File) → places_of (g file) ≡ p
   all_rows [] = refl
   all_rows (f ∷ fs) = grind (arith, all_rows fs)
 
-  all_places : (fs : List BoardFunction) → Each HasDeclaredPlaces fs → Each HasDeclaredPlaces (with_file g p fs)
-  all_places [] h = tt
-  all_places (f ∷ fs) h = grind (arith, all_places fs)
+  all_shapes : (fs : List BoardFunction) → Each HasDeclaredShape fs → Each HasDeclaredShape (with_file g p fs)
+  all_shapes [] h = tt
+  all_shapes (f ∷ fs) h = grind (arith, all_shapes fs)
 
   with_file_alike : (fs : List BoardFunction) → Alike fs (with_file g p fs)
-  with_file_alike fs = record { rows = all_rows fs; places = all_places fs }
+  with_file_alike fs = record { rows = all_rows fs; shapes = all_shapes fs }
 
 config_alike : (fs : List BoardFunction) (off : ℕ) (ons : List Bool) (v : ℕ) (o : Option BoardFunction) → Alike fs (option_map_or (λ (f : BoardFunction). with_file (write ons v (config off)) f.path fs) o fs)
 config_alike fs off ons v None = unchanged fs
-config_alike fs off ons v (Some f) = with_file_alike (write ons v (config off)) (places_written ons v (config off)) f.path fs
+config_alike fs off ons v (Some f) = with_file_alike (write ons v (config off)) (written_shape ons v (config off)) f.path fs
 
 claim_alike : (fs : List BoardFunction) (w v : ℕ) (o : Option Claim) → Alike fs (after_claim_write fs w v o)
 claim_alike fs w v None = unchanged fs
-claim_alike fs w v (Some c) = with_file_alike (write (all_bytes w) v (block c.index c.offset)) (places_written (all_bytes w) v (block c.index c.offset)) c.path fs
+claim_alike fs w v (Some c) = with_file_alike (write (all_bytes w) v (block c.index c.offset)) (written_shape (all_bytes w) v (block c.index c.offset)) c.path fs
 
 target_alike : (s : State) (a w v : ℕ) (t : PortTarget) → Alike s.functions (after_target_write s a w v t).functions
 target_alike s a w v config_address = unchanged s.functions

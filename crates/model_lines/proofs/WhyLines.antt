@@ -9,7 +9,7 @@ use Rattle.model_guests.specs.Text.{Text, words}
 use Rattle.model_guests.specs.Grammar.{on_word, host, is_long}
 use Rattle.model_guests.specs.Lines as script
 use Rattle.model_lines.specs.FirmwareLines as firmware
-use Rattle.model_lines.specs.WhyLines.{WhyAsked, why_at, why_asked, why_asked_in, is_why_line, why_written, WhyLineExamples}
+use Rattle.model_lines.specs.WhyLines.{WhyAsked, why_at, why_asked, why_asked_in, why_written, WhyLineExamples}
 use Rattle.model_lines.specs.Sessions.{host_word, host_word_in, is_host_line}
 use Rattle.model_lines.specs.SessionLaws.{IsNoForm, WhyLinesAreNoForm}
 

@@ -1,10 +1,16 @@
-use Rattle.model_image_bytes.proofs.TakenMachines.{accepted_is_machine, refused_keeps}
-use Rattle.model_image_bytes.proofs.FittingMachines.{fitting_is_accepted}
-use Rattle.model_image_bytes.proofs.SavedMachines.{fitting_is_loaded, takes_saved_machine}
+use Rattle.model_image_bytes.proofs.TakenMachines.{read_fits, accepted_is_machine, read_stands_there, refused_keeps}
+use Rattle.model_image_bytes.proofs.FittingMachines.{fitting_is_accepted, fitting_is_loaded}
+use Rattle.model_image_bytes.proofs.SavedMachines.{takes_saved_machine}
 use Rattle.model_image_bytes.proofs.machine_bytes_are_taken.Goals as goal
+
+pub returns-clause-fits : goal.returns-clause-fits
+returns-clause-fits c = read_fits
 
 pub returns-clause-accepted : goal.returns-clause-accepted
 returns-clause-accepted c = accepted_is_machine
+
+pub returns-clause-there : goal.returns-clause-there
+returns-clause-there c = read_stands_there
 
 pub returns-clause-fitting : goal.returns-clause-fitting
 returns-clause-fitting c = fitting_is_accepted
