@@ -60,7 +60,7 @@ few_blocks d bs h same = let few = block_count d h in let as_many = ap (λ (l : 
 pub first_cells : {A : Type 0} (f : A → File) (x : A) (left rest : List A) → left ≡ x ∷ rest → length (flat_map f left) ≡ length (f x) + length (flat_map f rest)
 first_cells f x left rest first = ap (λ (l : List _). length (flat_map f l)) first ∙ length-append (f x) (flat_map f rest)
 
-field_count : (p : Place) (w v rw w1c : ℕ) → length (field p w v rw w1c) ≡ w
+pub field_count : (p : Place) (w v rw w1c : ℕ) → length (field p w v rw w1c) ≡ w
 field_count p zero v rw w1c = refl
 field_count p (suc w) v rw w1c = ap suc (field_count (after p) w (v / 256) (rw / 256) (w1c / 256))
 

@@ -1,3 +1,4 @@
+pub mod ListedCells
 pub mod Puts
 pub mod Masks
 pub mod DeclaredBytes

@@ -1,3 +1,4 @@
+pub mod Cells
 pub mod Faults
 pub mod Parts
 pub mod Puts

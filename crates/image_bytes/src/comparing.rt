@@ -16,7 +16,7 @@ use config_bytes::Cell;
 use headers::{ConfigBlock, EndpointDecl, EndpointValues, Region};
 
 /// The bytes after these own ones, which have to stand there.
-pub(crate) fn after<'a>(own: &[u8], bytes: &'a [u8]) -> Result<&'a [u8], ImageFault>
+pub fn after<'a>(own: &[u8], bytes: &'a [u8]) -> Result<&'a [u8], ImageFault>
     ensures left { IfOk result (λ rest. after_bytes 906 own.now bytes.now ≡ Ok rest.now) }
     ensures refused { IfErr result (λ why.
         after_bytes 906 own.now bytes.now ≡ Err (number_of why)) }

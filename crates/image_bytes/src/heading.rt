@@ -30,7 +30,8 @@ pub fn latch_bytes(latch: u32) -> [u8; 4]
 /// The bytes after the header, with which they have to begin.
 pub fn after_header(bytes: &[u8]) -> Result<&[u8], ImageFault>
     ensures left { IfOk result (λ rest. after_bytes 905 header bytes.now ≡ Ok rest.now) }
-    ensures refused { IfErr result (λ why. after_bytes 905 header bytes.now ≡ Err (number_of why)) }
+    ensures refused { IfErr result
+        (λ why. after_bytes 905 header bytes.now ≡ Err (number_of why)) }
 {
     match bytes.strip_prefix(&header()) {
         Some(rest) => Ok(rest),

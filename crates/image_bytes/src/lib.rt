@@ -2,6 +2,8 @@
 //! buffer, and bytes are compared with them. No call takes memory.
 #![tactic(auto)]
 
+mod bridge_rows;
+mod cells;
 mod comparing;
 mod fault;
 mod heading;
@@ -10,7 +12,9 @@ mod sizes;
 mod values;
 mod writing;
 
-pub use comparing::after_declaration;
+pub use bridge_rows::bridge_values_size;
+pub use cells::{CellPlace, DeclaredCell, bridge_cell, endpoint_cell, is_own};
+pub use comparing::{after, after_declaration};
 pub use fault::ImageFault;
 pub use heading::{after_header, after_latch, after_tag, at_end, header, latch_bytes};
 pub use sizes::{declaration_size, values_size};

@@ -32,7 +32,7 @@ fn three(number: u32) -> [u8; 3]
 }
 
 /// A number of 64 bits.
-fn eight(number: u64) -> [u8; 8]
+pub(crate) fn eight(number: u64) -> [u8; 8]
     ensures { result ≡ le_bytes 8 number }
 {
     let mut bytes = [0; 8];

@@ -9,7 +9,7 @@ ghost use Rattle.model_registers.specs.Registers.{config};
 ghost use Rattle.model_images.specs.Images.{can_hold};
 ghost use Rattle.model_image_bytes.specs.LoadedBytes.{after_values};
 ghost use Rattle.image_bytes.specs.Faults.{number_of};
-ghost use Rattle.image_bytes.specs.Rows.{row_cells};
+ghost use Rattle.image_bytes.specs.Rows.{IsShort, row_cells};
 
 use crate::fault::ImageFault;
 use bars::Kind;
@@ -120,7 +120,7 @@ fn after_blocks<'a>(blocks: &[ConfigBlock], bytes: &'a [u8]) -> Result<&'a [u8],
 }
 
 /// A register that no write changes.
-fn fixed(off: u16, width: u8, value: u32) -> Row
+pub(crate) fn fixed(off: u16, width: u8, value: u32) -> Row
     ensures { result
         ≡ record { off = off; width = width; value = value; writable = 0; clearable = 0 } }
 {
@@ -134,7 +134,7 @@ fn fixed(off: u16, width: u8, value: u32) -> Row
 }
 
 /// A register that is 0 at reset, of which a write sets these bits.
-fn settable(off: u16, width: u8, writable: u64) -> Row
+pub(crate) fn settable(off: u16, width: u8, writable: u64) -> Row
     ensures { result
         ≡ record { off = off; width = width; value = 0; writable = writable; clearable = 0 } }
 {
@@ -148,9 +148,10 @@ fn settable(off: u16, width: u8, writable: u64) -> Row
 }
 
 /// The registers of an endpoint's header, without its base address registers.
-fn header_rows(decl: &EndpointDecl) -> [Row; 14]
+pub(crate) fn header_rows(decl: &EndpointDecl) -> [Row; 14]
     ensures cells { flat_map row_cells result ≡ header_cells decl.now false 0 }
     ensures low { Each (λ row. row.off + row.width < 2 ^ 16) result }
+    ensures short { Each IsShort result }
 {
     let values = decl.values();
     let status = Row {
@@ -189,11 +190,12 @@ pub fn register_width(kind: Kind) -> u8
 }
 
 /// The base address register of a region.
-fn base_row(region: &Region) -> Row
+pub(crate) fn base_row(region: &Region) -> Row
     requires { IsLawfulRegion region.now }
     ensures cells { row_cells result
         ≡ base_cells region.now.index region.now.kind region.now.size 0 }
     ensures low { result.off + result.width < 2 ^ 16 }
+    ensures short { IsShort result }
 {
     let kind = region.bar.kind();
     Row {
