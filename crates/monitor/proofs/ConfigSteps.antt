@@ -28,7 +28,7 @@ use Rattle.monitor.specs.Counts.{changes_at}
 use Rattle.monitor.specs.Configs.{IsSeen, HoldsAt, IsHolding, WritesGuest, WritesOwn}
 use Rattle.monitor.proofs.Steps.{with_guest_at, kept_slot, GuestAt, SlotAt, with_same}
 use Rattle.monitor.proofs.Reached.{board_shows, changed_held, endpoint_held, reached_held, file_held, lawful}
-use Rattle.monitor.proofs.RegionSteps.{written_shape}
+use Rattle.model_guests.proofs.Seats.{written_shape}
 use Rattle.monitor.proofs.Calls.{Leaves, leaves}
 use Rattle.monitor.proofs.Exchanges.{holds_nth}
 

@@ -29,7 +29,7 @@ use Rattle.monitor.specs.Raises.{raised_beside_copies}
 use Rattle.monitor.specs.InSlots.{IsSlotFault}
 use Rattle.monitor.proofs.Steps.{with_guest_at, kept_slot, GuestAt, SlotAt, fault_lent, in_place, with_same}
 use Rattle.monitor.proofs.Reached.{changed_held}
-use Rattle.monitor.proofs.RegionSteps.{changed_shape}
+use Rattle.model_guests.proofs.Seats.{changed_shape}
 use Rattle.monitor.proofs.Calls.{Leaves, leaves}
 use Rattle.monitor.proofs.Checks.{low_slot, passes_slot, refused_first}
 

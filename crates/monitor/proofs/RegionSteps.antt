@@ -4,20 +4,19 @@ use Rattle.std.specs.Option.{option_map_or}
 use Rattle.std.specs.Prelude.{option_map}
 use Rattle.lists.proofs.Indices.{set_same}
 use Rattle.model_registers.specs.ByteEnables.{IsWidth}
-use Rattle.model_registers.specs.Cell.{Cell, written}
-use Rattle.model_registers.specs.Registers.{Place, block, after, File, changed, write, all_bytes, number}
+use Rattle.model_registers.specs.Registers.{Place, block, File, write, all_bytes, number}
 use Rattle.model_registers.specs.Decoding.{Space, io, memory, Function}
 use Rattle.model_board.specs.State.{State}
 use Rattle.model_board.specs.Claims.{Claim}
 use Rattle.model_board.specs.Ports.{claim_reply, after_claim_write}
 use Rattle.model_guests.specs.Accesses.{answered, Op, reads, writes}
-use Rattle.model_registers.specs.CopiedFiles.{shape_of}
 use Rattle.model_board.specs.Paths.{Path}
 use Rattle.model_guests.specs.Slots.{Slots, Landing, landing, landing_from, perform, effect}
 use Rattle.model_guests.specs.Lone.{at_target, reply_at, after_access_at, Destination}
 use Rattle.model_guests.specs.WorldNow.{WorldNow}
 use Rattle.model_guests.specs.ChangeLaws.{ChangesAlike, with_slot_changed}
 use Rattle.model_guests.proofs.AgreedFiles.{writes_alike}
+use Rattle.model_guests.proofs.Seats.{written_shape}
 use Rattle.model_guests.specs.Text.{Text}
 use Rattle.guest_functions.proofs.HeldCopies.{block_written_held}
 use Rattle.bridge_forward.specs.declared.bus.Located.{Located}
@@ -35,18 +34,7 @@ use Rattle.monitor.proofs.Steps.{with_guest_at, kept_slot, GuestAt, SlotAt, in_p
 use Rattle.monitor.proofs.Reached.{all_handed, block_shown, landed, claim_by_index, is_landing, lands_at}
 use Rattle.monitor.proofs.Calls.{Leaves, leaves}
 
--- ---- lists and shapes
-
-abbrev bare_cell : Cell → Cell
-bare_cell c = record c { value = 0 }
-
-pub changed_shape : (f : Cell → Cell) → ((c : Cell) → bare_cell (f c) ≡ bare_cell c) → (p : Place) (file : File) → shape_of (changed f p file) ≡ shape_of file
-changed_shape f keeps p [] = refl
-changed_shape f keeps p (e ∷ es) = grind (arith, changed_shape f keeps p es)
-
-pub written_shape : (ons : List Bool) (v : ℕ) (p : Place) (file : File) → shape_of (write ons v p file) ≡ shape_of file
-written_shape [] v p file = refl
-written_shape (on ∷ ons) v p file = grind (arith, written_shape ons (v / 256) (after p) (cond on (changed (written (v % 256)) p file) file), changed_shape)
+-- ---- where an access lands
 
 landing_in_space : (space : Space) (addr : ℕ) (slots : Slots) → landing slots (target_in space addr) ≡ landing_from 0 space addr slots
 landing_in_space io addr slots = refl

@@ -33,7 +33,7 @@ use Rattle.model_guests.proofs.GuestsByName.{path_at, path_of, function_of, func
 use Rattle.model_guests.proofs.KeptCopies.{file_of_seat}
 use Rattle.model_guests.proofs.DeclaredRows.{declared_row}
 use Rattle.model_guests.proofs.Along.{by_index}
-use Rattle.model_handoff.specs.Handoffs.{IsHandoff, HasDeclaredPlaces}
+use Rattle.model_handoff.specs.Handoffs.{IsHandoff, HasDeclaredShape}
 use Rattle.model_handoff.specs.ViewLaws.{with_seated_reset}
 use Rattle.model_handoff.proofs.Standing.{endpoint_at, found, StandsAt, stands}
 use Rattle.model_handoff.proofs.Views.{reset_shown}
@@ -77,7 +77,7 @@ module _ (s : State) (handoff : IsHandoff s) (gs : GuestsNow) (p : Path) (f : Fu
       ∙ ap (λ (o : Option File). Some (option_map_or (λ (own : File). record left { file = agreed_file left.file own }) o left)) file
 
   pub same_as_left : places_of f.file ≡ places_of left_file
-  same_as_left = places ∙ sym (each_in HasDeclaredPlaces left s.functions handoff.places there.among)
+  same_as_left = same_places f.file left_file (seat.shape ∙ sym (each_in HasDeclaredShape left s.functions handoff.shapes there.among))
 
   pub shown_there : (h : Held) → IsHeld s p f h → file_of gs p ≡ Some f.file → function_shown (state_over s gs).functions h ≡ Some f
   shown_there h held file = search (rules, board_there, distinct_places, lawful, places, same_as_left, view_is_file)

@@ -5,24 +5,26 @@
 --     IsEndpointAt      an endpoint stands at a path, and at an index
 --     has_index i gs      a slot of any guest has the function at an index
 --     is_closed_base, is_closed_slot      Command doesn't open the space of the region that begins at a register
+--     is_open_now f      an endpoint, and Command opens the spaces of all its regions
 --     ComesIn      the function at the path, at reset, as it is kept in a slot
 --     MakesGift      what a gift is told in a world that is kept, and what comes into the slot where it is not refused
-use Rattle.std.specs.Prelude.{ℕ, List, Bool, false, ◌≡◌, not, Option, None, Some, Result, Ok, Err, slice_get, ⊤}
+use Rattle.std.specs.Prelude.{ℕ, List, Bool, false, ◌≡◌, not, ◌&&◌, Option, None, Some, Result, Ok, Err, slice_get, ⊤}
 use Rattle.std.specs.List.{list_any}
 use Rattle.std.specs.Option.{option_map_or}
 use Rattle.bars.specs.declared.region.BasedRegion.{BasedRegion}
 use Rattle.model_registers.specs.Declarations.{Endpoint}
 use Rattle.model_registers.specs.EndpointTable.{BaseAddress}
-use Rattle.model_registers.specs.Decoding.{opens_space, space_of}
+use Rattle.model_registers.specs.Decoding.{command_word, opens_space, space_of}
 use Rattle.model_board.specs.Paths.{Path}
-use Rattle.model_board.specs.Board.{endpoint}
+use Rattle.model_board.specs.Board.{endpoint, is_bridge}
 use Rattle.model_board.specs.AtReset.{board_at}
 use Rattle.model_board.specs.Ports.{file_at}
-use Rattle.model_board.specs.State.{State}
+use Rattle.model_board.specs.State.{BoardFunction, State}
 use Rattle.model_guests.specs.Slots.{reset_function}
 use Rattle.model_guests.specs.World.{declared}
 use Rattle.model_guests.specs.WorldNow.{WorldNow}
 use Rattle.model_handoff.specs.Giving.{Gift, give_fault}
+use Rattle.bridge_forward.specs.BasesNow.{bases_of}
 use Rattle.monitor.specs.declared.guest.Held.{Held}
 use Rattle.monitor.specs.declared.guest.Guest.{Guest}
 use Rattle.monitor.specs.declared.withheld.Withheld.{Withheld}
@@ -62,6 +64,11 @@ is_closed_slot command o = option_map_or (λ (r : BasedRegion). not (opens_space
 abbrev pub ComesIn : WorldNow → Path → Result Held Withheld → Type 0
 ComesIn w p (Ok held) = IsSlot w.handoff (Some p) (reset_function (declared (board_at w.handoff.functions) p)) (Some held)
 ComesIn w p (Err why) = ⊤
+
+-- an endpoint without such a space
+abbrev pub is_open_now : BoardFunction → Bool
+is_open_now f =
+    not (is_bridge f.decl) && not (list_any (is_closed_base (command_word f.file)) (bases_of f.decl f.file))
 
 pub record MakesGift (w : WorldNow) (p : Path) (i n : ℕ) (r : Result Held Withheld) : Type 0 where
   pub fault : fault_told r ≡ give_fault w (gift_nth w p i n)

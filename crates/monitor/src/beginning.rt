@@ -51,7 +51,8 @@ fn decls_of(placed: &[Option<BasedRegion>; 6]) -> [Option<BarDecl>; 6]
 
 /// The endpoint at an index, with all own copies at reset, where the host has it.
 pub(crate) fn held_of(host: &Host, index: usize) -> Held
-    requires { HasLawfulRegions (map opened (map with_no_base (bases_nth host.now.state.functions index))) }
+    requires { HasLawfulRegions
+        (map opened (map with_no_base (bases_nth host.now.state.functions index))) }
     ensures { (p : PathValue) (f : Function) → IsStanding host.now.state index p f →
         IsHeld host.now.state p f result }
 {

@@ -72,7 +72,8 @@ impl<R: Route> Engine<R> {
             reply_of result
             ≡ device_answer (lone_of self.old.world.guests (name_nth self.old.world guest)) e }
         ensures after { let e = device_reads (device_byte slot place off) in
-            self.new ≡ after_on_machine self.old (calls (at_device (name_nth self.old.world guest) e)) }
+            self.new ≡ after_on_machine self.old
+            (calls (at_device (name_nth self.old.world guest) e)) }
         ensures same { self.new ≡ self.old }
         ensures shown { IsShown result }
     {
@@ -102,7 +103,8 @@ impl<R: Route> Engine<R> {
             reply_of result
             ≡ device_answer (lone_of self.old.world.guests (name_nth self.old.world guest)) e }
         ensures after { let e = device_writes (device_byte slot place off) value in
-            self.new ≡ after_on_machine self.old (calls (at_device (name_nth self.old.world guest) e)) }
+            self.new ≡ after_on_machine self.old
+            (calls (at_device (name_nth self.old.world guest) e)) }
         ensures shown { IsShown result }
         ensures refused { IsRefusal result → self.new ≡ self.old }
     {

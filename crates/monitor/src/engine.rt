@@ -214,7 +214,8 @@ impl<R: Route> Engine<R> {
         ensures reply { let lone = lone_nth self.old.world guest in
             reply_of result
             ≡ reply_at lone (op_of op) width (destination lone.latch width (port at)) }
-        ensures after { let target = destination (lone_nth self.old.world guest).latch width (port at) in
+        ensures after { let target = destination (lone_nth self.old.world guest).latch width
+            (port at) in
             self.new ≡ after_access_nth guest (op_of op) width target self.old }
         ensures shown { IsShown result }
         ensures served { ¬ IsRefusal result }
@@ -261,7 +262,8 @@ impl<R: Route> Engine<R> {
             reply_of result
             ≡ answer (lone_of self.old.world.guests (name_nth self.old.world guest)) e }
         ensures after { let e = guests.access (access_of access) in
-            self.new ≡ after_on_machine self.old (calls (asks (guest_event (name_nth self.old.world guest) e))) }
+            self.new ≡ after_on_machine self.old
+            (calls (asks (guest_event (name_nth self.old.world guest) e))) }
         ensures shown { IsShown result }
         ensures refused { IsRefusal result → self.new ≡ self.old }
     {
@@ -272,9 +274,11 @@ impl<R: Route> Engine<R> {
     /// Raises bits of one cell of a function of a guest by its index, or refuses and changes nothing.
     fn raise_nth(&mut self, guest: usize, slot: u64, place: Place, off: u64, mask: u8) -> Reply
         requires { guest < length self.old.world.guests }
-        ensures reply { let e = guests.raises (record { slot = slot; part = part_of place; offset = off; mask = mask }) in
+        ensures reply { let e = guests.raises
+            (record { slot = slot; part = part_of place; offset = off; mask = mask }) in
             reply_of result ≡ answer (lone_nth self.old.world guest) e }
-        ensures after { let e = guests.raises (record { slot = slot; part = part_of place; offset = off; mask = mask }) in
+        ensures after { let e = guests.raises
+            (record { slot = slot; part = part_of place; offset = off; mask = mask }) in
             self.new ≡ after_event_nth guest e self.old }
         ensures shown { IsShown result }
         ensures refused { IsRefusal result → self.new ≡ self.old }
@@ -297,11 +301,14 @@ impl<R: Route> Engine<R> {
     /// is taken.
     pub fn raise(&mut self, guest: usize, slot: u64, place: Place, off: u64, mask: u8) -> Reply
         requires { guest < length self.old.world.guests }
-        ensures reply { let e = guests.raises (record { slot = slot; part = part_of place; offset = off; mask = mask }) in
+        ensures reply { let e = guests.raises
+            (record { slot = slot; part = part_of place; offset = off; mask = mask }) in
             reply_of result
             ≡ answer (lone_of self.old.world.guests (name_nth self.old.world guest)) e }
-        ensures after { let e = guests.raises (record { slot = slot; part = part_of place; offset = off; mask = mask }) in
-            self.new ≡ after_on_machine self.old (calls (asks (guest_event (name_nth self.old.world guest) e))) }
+        ensures after { let e = guests.raises
+            (record { slot = slot; part = part_of place; offset = off; mask = mask }) in
+            self.new ≡ after_on_machine self.old
+            (calls (asks (guest_event (name_nth self.old.world guest) e))) }
         ensures shown { IsShown result }
         ensures refused { IsRefusal result → self.new ≡ self.old }
     {
@@ -318,7 +325,8 @@ impl<R: Route> Engine<R> {
         ensures reply { reply_of result
             ≡ move_reply self.old.world.guests (move_nth self.old.world from slot to target) }
         ensures after { self.new
-            ≡ after_on_machine self.old (calls (asks (host_move (move_nth self.old.world from slot to target)))) }
+            ≡ after_on_machine self.old
+            (calls (asks (host_move (move_nth self.old.world from slot to target)))) }
         ensures shown { IsShown result }
         ensures refused { IsRefusal result → self.new ≡ self.old }
     {

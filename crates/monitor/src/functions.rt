@@ -77,7 +77,8 @@ impl<R: Route> Engine<R> {
     pub fn slot_function(&self, guest: usize, slot: u64) -> Result<FunctionNow, u16>
         requires { guest < length self.now.world.guests }
         ensures { result_map_both function_named (λ n. n) result
-            ≡ slot_answer (board_state self.now.world) self.now.world.guests (name_nth self.now.world guest) slot }
+            ≡ slot_answer (board_state self.now.world) self.now.world.guests
+            (name_nth self.now.world guest) slot }
     {
         let _ = &self.names;
         let held = match function_in(&self.guests[guest].slots, slot) {

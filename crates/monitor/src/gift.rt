@@ -12,7 +12,7 @@ ghost use Rattle.bars.specs.Kinds.{named_space};
 ghost use Rattle.bridge_forward.specs.BasesNow.{bases_of};
 ghost use Rattle.monitor.specs.Keeping.{IsKept};
 ghost use Rattle.monitor.specs.InSlots.{is_at};
-ghost use Rattle.monitor.specs.Seatings.{IsEndpointAt, MakesGift, has_index, is_closed_base, is_closed_slot};
+ghost use Rattle.monitor.specs.Seatings.{IsEndpointAt, MakesGift, has_index, is_closed_base, is_closed_slot, is_open_now};
 
 use crate::beginning::held_of;
 use crate::guest::{Guest, Held};
@@ -53,7 +53,7 @@ fn has(guest: &Guest, index: usize) -> bool
 }
 
 /// Whether any guest has it.
-fn has_guest(guests: &[Guest], index: usize) -> bool
+pub(crate) fn has_guest(guests: &[Guest], index: usize) -> bool
     ensures { result ≡ has_index index guests.now }
 {
     guests.iter().any(|guest| has(guest, index))
@@ -93,6 +93,14 @@ fn has_closed(host: &Host, index: usize) -> bool
         Some(command) => any_closed(command, &placed),
         None => false,
     }
+}
+
+/// Whether an endpoint stands at an index, and Command closes the space of none of its regions.
+pub(crate) fn is_open(host: &Host, index: usize) -> bool
+    ensures { (f : BoardFunction) → slice_get host.now.state.functions index ≡ Some f
+        → result ≡ is_open_now f }
+{
+    host.endpoint_ref_nth(index).is_some() && !has_closed(host, index)
 }
 
 /// The function at a path as it would stand in a slot of a guest, or why it isn't given: the first check that

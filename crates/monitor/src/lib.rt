@@ -41,6 +41,7 @@ mod restarting;
 mod saving;
 mod seat;
 mod seating;
+mod standing;
 mod taking;
 mod withheld;
 

@@ -70,7 +70,8 @@ fn load_slot<'a>(
         → let loaded = slot_loaded slot bytes.now (lone_nth k.world guest) in
         IsKept (with_lone_nth guest loaded k.world) host.new k.names guests.new }
     ensures behind { (k : KeepsWorld host.old guests.old)
-        → result.now ≡ drop (slot_size (slot_at (lone_nth k.world guest).slots slot)) bytes.now }
+        → result.now ≡ drop
+        (slot_size (slot_at (lone_nth k.world guest).slots slot)) bytes.now }
     ensures counts { counts_of guests.new ≡ counts_of guests.old }
 {
     let Some((first, count)) = value_span(host, &guests[guest].slots, slot) else {

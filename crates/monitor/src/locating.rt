@@ -104,7 +104,8 @@ impl<R: Route> Engine<R> {
     pub fn locate(&self, guest: usize, at: At) -> Result<Option<Hit>, Refusal>
         requires { guest < length self.now.world.guests }
         ensures { result_map_both (option_map hit_named) number_of result
-            ≡ location (lone_of self.now.world.guests (name_nth self.now.world guest)) (target_of at) }
+            ≡ location (lone_of self.now.world.guests (name_nth self.now.world guest))
+            (target_of at) }
     {
         locate_in(self.guest(guest), at)
     }

@@ -47,7 +47,8 @@ fn is_own(place: Place, off: u64) -> bool
 pub(crate) fn raise_on_board(host: &mut Host, index: usize, place: Place, off: u64, mask: u8)
     requires { IsSome (endpoint_nth host.old.state.functions index) }
     ensures { let fs = host.old.state.functions in
-        host.new ≡ with_functions (with_file_nth (raised_beside_copies mask (place_of place off)) index fs) host.old }
+        host.new ≡ with_functions
+        (with_file_nth (raised_beside_copies mask (place_of place off)) index fs) host.old }
 {
     if is_own(place, off) {
         return;

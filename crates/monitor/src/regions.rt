@@ -118,7 +118,8 @@ impl<R: Route> Engine<R> {
     pub fn region(&self, guest: usize, slot: u64, bar: u64) -> Result<RegionNow, Refusal>
         requires { guest < length self.now.world.guests }
         ensures { result_map_both region_named number_of result
-            ≡ region_answer (lone_of self.now.world.guests (name_nth self.now.world guest)) slot bar }
+            ≡ region_answer (lone_of self.now.world.guests
+            (name_nth self.now.world guest)) slot bar }
     {
         region_in(self.guest(guest), slot, bar)
     }

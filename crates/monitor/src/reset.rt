@@ -24,9 +24,11 @@ impl<R: Route> Engine<R> {
     pub fn reset(&mut self, guest: usize, slot: u64) -> Reply
         requires { guest < length self.old.world.guests }
         ensures reply { reply_of result
-            ≡ device_answer (lone_of self.old.world.guests (name_nth self.old.world guest)) (resets slot) }
+            ≡ device_answer (lone_of self.old.world.guests (name_nth self.old.world guest))
+            (resets slot) }
         ensures after { self.new
-            ≡ after_on_machine self.old (calls (at_device (name_nth self.old.world guest) (resets slot))) }
+            ≡ after_on_machine self.old
+            (calls (at_device (name_nth self.old.world guest) (resets slot))) }
         ensures shown { IsShown result }
         ensures refused { IsRefusal result → self.new ≡ self.old }
     {

@@ -26,7 +26,8 @@ fn reset_slot(host: &mut Host, guests: &mut [Guest], guest: usize, slot: usize)
     requires has { HasSlot guests.old guest slot }
     requires low { slot ≤ 31 }
     ensures kept { (w : WorldNow) (names : List Text) → IsKept w host.old names guests.old
-        → IsKept (with_lone_nth guest (reset_in slot (lone_nth w guest)) w) host.new names guests.new }
+        → IsKept (with_lone_nth guest (reset_in slot (lone_nth w guest)) w) host.new names
+        guests.new }
     ensures still { (i n : ℕ) → HasSlot guests.old i n → HasSlot guests.new i n }
     ensures counts { counts_of guests.new ≡ counts_of guests.old }
 {
@@ -55,7 +56,8 @@ fn clear_latch(guests: &mut [Guest], guest: usize)
     requires { guest < length guests.old }
     ensures { (g : Guest) → slice_get guests.old guest ≡ Some g
         → guests.new
-        ≡ slice_set guests.old guest (record g { latch = 0; changed = after_change true g.changed }) }
+        ≡ slice_set guests.old guest
+        (record g { latch = 0; changed = after_change true g.changed }) }
 {
     let guest = &mut guests[guest];
     guest.latch = Latch::new();

@@ -25,7 +25,8 @@ fn reset_at(host: &mut Host, path: &Path)
 /// The same of each of these paths.
 fn reset_all(host: &mut Host, paths: &[Path])
     ensures { let files = files_given (board_below host.old) paths.now in
-        host.new ≡ with_functions (map (agreed_function files) host.old.state.functions) host.old }
+        host.new ≡ with_functions
+        (map (agreed_function files) host.old.state.functions) host.old }
 {
     for path in paths {
         reset_at(host, path);
