@@ -1,0 +1,4 @@
+pub mod Faults
+pub mod BoardBytes
+pub mod FoundPaths
+pub mod HeldLaws

@@ -1,0 +1,14 @@
+pub mod PutParts
+pub mod SavedBytes
+pub mod SavedGuests
+pub mod JudgedReads
+pub mod JudgedSlots
+pub mod JudgedSeats
+pub mod JudgedHandoffs
+pub mod JudgedGuests
+pub mod JudgedMachines
+pub mod AlikeGuests
+pub mod Along
+pub mod LoadedWalks
+pub mod LoadedRuns
+pub mod LoadedMachine

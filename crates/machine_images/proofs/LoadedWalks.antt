@@ -1,0 +1,242 @@
+-- Walks over the guests of a machine: one is emptied, filled or loaded after the other.
+use Rattle.std.proofs.Common.{◌≡◌, ◌<◌, ◌+◌, ℕ, zero, suc, List, [], ◌∷◌, ◌++◌, length, drop, Some, None, Option, refl, sym, ap, ap₂, ◌∙◌, subst, arith}
+use Rattle.std.specs.Prelude.{flat_map, map, option_map, slice_get, unwrap_or}
+use Rattle.std.proofs.lemmas.List.{length-map, length-append}
+use Rattle.std.proofs.lemmas.Option.{slice_get-map}
+use Rattle.lists.proofs.Indices.{at_below, map_at, same_at}
+use Rattle.model_board.specs.Paths.{Path}
+use Rattle.model_board.specs.Board.{Row, Board}
+use Rattle.model_board.specs.AtReset.{board_at}
+use Rattle.model_board.specs.State.{BoardFunction, row_at}
+use Rattle.model_guests.specs.Text.{Text}
+use Rattle.model_guests.specs.Lone.{LoneGuest, reset_guest}
+use Rattle.model_guests.specs.Guests.{GuestNow, lone_of}
+use Rattle.model_guests.specs.WorldNow.{WorldNow, names_now}
+use Rattle.model_handoff.specs.Actions.{takes}
+use Rattle.model_handoff.specs.Changes.{MachineNow, after_on_machine}
+use Rattle.model_handoff.proofs.Keeping.{keeps_board}
+use Rattle.model_images.specs.Images.{Fits}
+use Rattle.model_images.specs.Requests.{Request, loads}
+use Rattle.model_images.specs.RequestLaws.{after_request_on_machine, after_all_requests}
+use Rattle.model_images.specs.FitLaws.{AreFittingRequests}
+use Rattle.model_images.specs.MachineImages.{SavedGuest}
+use Rattle.model_images.specs.MachineLaws.{gift, gifts, load_of, takings}
+use Rattle.model_image_bytes.specs.LoadedBytes.{load_fault}
+use Rattle.model_image_bytes.specs.LoadedMachines.{guest_at}
+use Rattle.model_image_bytes.specs.LoadedLaws.{IsFittingImage}
+use Rattle.image_bytes.specs.Faults.{number_of}
+use Rattle.image_bytes.specs.declared.fault.ImageFault.{ImageFault}
+use Rattle.monitor.specs.ByIndex.{name_nth}
+use Rattle.monitor.specs.Loads.{IsLoaded}
+use Rattle.machine_images.specs.Judging.{functions_now, path_seated, paths_seated}
+use Rattle.machine_images.specs.Loading.{IsRunOf, AreRuns, GivesSeats, LoadsRuns}
+use Rattle.machine_images.proofs.AlikeGuests.{alike_faults, same_image}
+use Rattle.machine_images.proofs.Along.{board_along, board_of, both_along, names_along}
+
+-- ---- guests by their index
+
+name_is : (w : WorldNow) (i : ℕ) → name_nth w i ≡ unwrap_or (slice_get (names_now w) i) []
+name_is w i = of (slice_get w.guests i) ∙ ap (λ (o : Option Text). unwrap_or o []) (sym (slice_get-map (λ (g : GuestNow). g.name) w.guests i))
+  where
+    of : (o : Option GuestNow) → (unwrap_or o (record { name = []; paths = []; lone = reset_guest [] })).name ≡ unwrap_or (option_map (λ (g : GuestNow). g.name) o) []
+    of None = refl
+    of (Some g) = refl
+
+pub same_name : (v w : WorldNow) (i : ℕ) → names_now v ≡ names_now w → name_nth v i ≡ name_nth w i
+same_name v w i same = name_is v i ∙ ap (λ (ns : List Text). unwrap_or (slice_get ns i) []) same ∙ sym (name_is w i)
+
+pub many_names : (w : WorldNow) → length (names_now w) ≡ length w.guests
+many_names w = length-map w.guests (λ (g : GuestNow). g.name)
+
+pub same_many : (v w : WorldNow) → names_now v ≡ names_now w → length v.guests ≡ length w.guests
+same_many v w same = sym (many_names v) ∙ ap (λ (ns : List Text). length ns) same ∙ many_names w
+
+pub name_at : (w : WorldNow) (i : ℕ) → i < length w.guests → slice_get (names_now w) i ≡ Some (name_nth w i)
+name_at w i inside =
+    let one = at_below w.guests i inside in
+    map_at (λ (g : GuestNow). g.name) w.guests i one.0 one.1
+    ∙ ap (λ (o : Option GuestNow). Some (unwrap_or o (record { name = []; paths = []; lone = reset_guest [] })).name) (sym one.1)
+
+at_drop : {A : Type 0} (xs ys : List A) (i : ℕ) (x : A) → drop i xs ≡ x ∷ ys → (slice_get xs i ≡ Some x) × (drop (i + 1) xs ≡ ys)
+at_drop [] ys zero x h = cc
+at_drop [] ys (suc i) x h = cc
+at_drop (z ∷ zs) ys zero x h = (cc, cc)
+at_drop (z ∷ zs) ys (suc i) x h =
+    let more = at_drop zs ys i x h in
+    let next : suc i + 1 ≡ suc (i + 1) = omega arith in (more.0, ap (λ j. drop j (z ∷ zs)) next ∙ more.1)
+
+-- ---- slots are emptied
+
+pub one_taken : (m new : MachineNow) (name own : Text) (n k : ℕ) → own ≡ name → n ≡ suc k → new ≡ after_on_machine m (takes own k) → after_all_requests new (takings name k) ≡ after_all_requests m (takings name n)
+one_taken m new name own n k same is h =
+    ap (λ (x : MachineNow). after_all_requests x (takings name k)) (h ∙ ap (λ (t : Text). after_on_machine m (takes t k)) same) ∙ ap (λ (j : ℕ). after_all_requests m (takings name j)) (sym is)
+
+-- ---- slots are filled
+
+board_shown : (w : WorldNow) → board_at (functions_now w) ≡ board_of w
+board_shown w = keeps_board w.handoff w.guests
+
+path_on_board : (fs : List BoardFunction) (i : ℕ) → path_seated fs (Some i) ≡ option_map (λ (r : Row). r.path) (slice_get (board_at fs) i)
+path_on_board fs i = of (slice_get fs i) ∙ ap (option_map (λ (r : Row). r.path)) (sym (slice_get-map row_at fs i))
+  where
+    of : (o : Option BoardFunction) → option_map (λ (f : BoardFunction). f.path) o ≡ option_map (λ (r : Row). r.path) (option_map row_at o)
+    of None = refl
+    of (Some f) = refl
+
+pub same_path : (v w : WorldNow) → board_of v ≡ board_of w → (o : Option ℕ) → path_seated (functions_now v) o ≡ path_seated (functions_now w) o
+same_path v w same None = refl
+same_path v w same (Some i) =
+    path_on_board (functions_now v) i ∙ ap (λ (b : Board). option_map (λ (r : Row). r.path) (slice_get b i)) (board_shown v ∙ same ∙ sym (board_shown w))
+    ∙ sym (path_on_board (functions_now w) i)
+
+module _ (old m new : MachineNow) (guest slot : ℕ) (left rest : List (Option ℕ)) (seat : Option ℕ) (at : left ≡ seat ∷ rest) (names : names_now m.world ≡ names_now old.world) (board : board_of m.world ≡ board_of old.world)
+    (h : new ≡ after_all_requests m (gift (name_nth m.world guest) slot (path_seated (functions_now m.world) seat))) where
+  abbrev name : Text
+  name = name_nth old.world guest
+
+  abbrev paths : List (Option ℕ) → List (Option Path)
+  paths seats = paths_seated (functions_now old.world) seats
+
+  done : new ≡ after_all_requests m (gift name slot (path_seated (functions_now old.world) seat))
+  done = h ∙ ap₂ (λ (t : Text) (q : Option Path). after_all_requests m (gift t slot q)) (same_name m.world old.world guest names) (same_path m.world old.world board seat)
+
+  pub one_given : after_all_requests new (gifts name (slot + 1) (paths rest)) ≡ after_all_requests m (gifts name slot (paths left))
+  one_given =
+      let next : slot + 1 ≡ suc slot = omega arith in
+      ap (λ n. after_all_requests new (gifts name n (paths rest))) next ∙ ap (λ x. after_all_requests x (gifts name (suc slot) (paths rest))) done
+      ∙ sym (both_along (gift name slot (path_seated (functions_now old.world) seat)) (gifts name (suc slot) (paths rest)) m)
+      ∙ ap (λ seats. after_all_requests m (gifts name slot (paths seats))) (sym at)
+
+-- what is the same along these requests
+pub record AreSame (m new : MachineNow) : Type 0 where
+  pub names : names_now new.world ≡ names_now m.world
+  pub board : board_of new.world ≡ board_of m.world
+
+pub same_along : (rs : List Request) (m new : MachineNow) → new ≡ after_all_requests m rs → AreSame m new
+same_along rs m new h = record {
+  names = ap (λ (x : MachineNow). names_now x.world) h ∙ names_along rs m;
+  board = ap (λ (x : MachineNow). board_of x.world) h ∙ board_along rs m;
+}
+
+paths_both : (fs : List BoardFunction) (xs ys : List (Option ℕ)) → paths_seated fs (xs ++ ys) ≡ paths_seated fs xs ++ paths_seated fs ys
+paths_both fs [] ys = refl
+paths_both fs (x ∷ xs) ys = ap (λ (qs : List (Option Path)). path_seated fs x ∷ qs) (paths_both fs xs ys)
+
+pub same_paths : (v w : WorldNow) → board_of v ≡ board_of w → (xs : List (Option ℕ)) → paths_seated (functions_now v) xs ≡ paths_seated (functions_now w) xs
+same_paths v w same [] = refl
+same_paths v w same (x ∷ xs) = ap₂ (λ (q : Option Path) (qs : List (Option Path)). q ∷ qs) (same_path v w same x) (same_paths v w same xs)
+
+-- equal fronts and equal rests
+two_parts : {A : Type 0} (xs ys us vs : List A) → length xs ≡ length ys → xs ++ us ≡ ys ++ vs → (xs ≡ ys) × (us ≡ vs)
+two_parts [] [] us vs many h = (refl, h)
+two_parts [] (y ∷ ys) us vs many h = cc
+two_parts (x ∷ xs) [] us vs many h = cc
+two_parts (x ∷ xs) (y ∷ ys) us vs many h =
+    let count : length xs ≡ length ys = omega arith in
+    let rest : xs ++ us ≡ ys ++ vs = cc in
+    let more = two_parts xs ys us vs count rest in
+    let first : x ≡ y = cc in (ap₂ (λ z (zs : List _). z ∷ zs) first more.0, more.1)
+
+not_past : {A : Type 0} (xs : List A) (i : ℕ) → i < length xs → drop i xs ≡ [] → ⊥
+not_past [] i inside h = omega arith
+not_past (x ∷ xs) zero inside h = cc
+not_past (x ∷ xs) (suc i) inside h = not_past xs i (omega arith) h
+
+abbrev pub gifts_of : SavedGuest → List Request
+gifts_of g = gifts g.name 0 g.paths
+
+module _ (m new : MachineNow) (i : ℕ) (left own rest : List (Option ℕ)) (at : left ≡ own ++ rest) (many : length own ≡ 32) (inside : i < length m.world.guests)
+    (h : new ≡ after_all_requests m (gifts (name_nth m.world i) 0 (paths_seated (functions_now m.world) own))) where
+  pub record GivesOn (gs : List SavedGuest) : Type 0 where
+    pub others : List SavedGuest
+    pub later : GivesSeats new (i + 1) rest others
+    pub same : after_all_requests new (flat_map gifts_of others) ≡ after_all_requests m (flat_map gifts_of gs)
+
+  pub gives_on : (gs : List SavedGuest) → GivesSeats m i left gs → GivesOn gs
+  gives_on [] k = absurd (not_past (names_now m.world) i (subst (λ n. i < n) (sym (many_names m.world)) inside) (sym k.names))
+  gives_on (g ∷ gs) k =
+      let fs = functions_now m.world in
+      let d = at_drop (names_now m.world) (map (λ (x : SavedGuest). x.name) gs) i g.name (sym k.names) in
+      let name : name_nth m.world i ≡ g.name = same_at (names_now m.world) i (name_nth m.world i) g.name (name_at m.world i inside) d.0 in
+      let count : length g.paths ≡ length (paths_seated fs own) = k.count.0 ∙ sym many ∙ sym (length-map own (path_seated fs)) in
+      let two = two_parts g.paths (paths_seated fs own) (flat_map (λ (x : SavedGuest). x.paths) gs) (paths_seated fs rest) count
+      (k.paths ∙ ap (paths_seated fs) at ∙ paths_both fs own rest) in
+      let now : new ≡ after_all_requests m (gifts_of g) = h ∙ ap₂ (λ (t : Text) (qs : List (Option Path)). after_all_requests m (gifts t 0 qs)) name (sym two.0) in
+      let same = same_along (gifts_of g) m new now in
+      record {
+        others = gs;
+        later = record {
+          names = sym d.1 ∙ ap (drop (i + 1)) (sym same.names);
+          count = k.count.1;
+          paths = two.1 ∙ sym (same_paths new.world m.world same.board rest);
+        };
+        same = ap (λ (x : MachineNow). after_all_requests x (flat_map gifts_of gs)) now ∙ sym (both_along (gifts_of g) (flat_map gifts_of gs) m);
+      }
+
+pub none_given : (m : MachineNow) (i : ℕ) (left : List (Option ℕ)) (gs : List SavedGuest) → length left < 32 → GivesSeats m i left gs → m ≡ after_all_requests m (flat_map gifts_of gs)
+none_given m i left [] few h = refl
+none_given m i left (g ∷ gs) few h =
+    let count = h.count.0 in
+    let all = ap (λ (qs : List (Option Path)). length qs) h.paths ∙ length-map left (path_seated (functions_now m.world)) in
+    let both = length-append g.paths (flat_map (λ (x : SavedGuest). x.paths) gs) in
+    absurd (omega arith)
+
+-- ---- guests are loaded
+
+pub many_runs : (b : Board) (gs : List SavedGuest) (rs : List (List ℕ)) → AreRuns b gs rs → length rs ≡ length gs
+many_runs b [] [] are = refl
+many_runs b [] (r ∷ rs) are = absurd are
+many_runs b (g ∷ gs) [] are = absurd are
+many_runs b (g ∷ gs) (r ∷ rs) are = ap suc (many_runs b gs rs are.1)
+
+pub one_accepted : (b : Board) (g : SavedGuest) (run : List ℕ) → IsRunOf b g run → (now : LoneGuest) → Fits g.image now → load_fault now run ≡ None
+one_accepted b g run is now fits = alike_faults g.image now (guest_at b g.paths) fits is.fits run ∙ is.accepted
+
+pub one_loaded : (b : Board) (g : SavedGuest) (run : List ℕ) → IsRunOf b g run → (m new : MachineNow) (own : Text) → own ≡ g.name → Fits g.image (lone_of m.world.guests g.name)
+    → IsLoaded m own run new → new ≡ after_request_on_machine m (load_of g)
+one_loaded b g run is m new own same fits loaded =
+    let now : LoneGuest = lone_of m.world.guests g.name in
+    let image = same_image (guest_at b g.paths) now (run ++ is.rest) is.rest run refl (subst (λ i. Fits i (guest_at b g.paths)) is.image is.fits) (subst (λ i. Fits i now) is.image fits) loaded.image
+    (subst (λ (t : Text). IsFittingImage (lone_of m.world.guests t) run loaded.image) same loaded.is_image) in
+    loaded.machine ∙ ap₂ (λ (t : Text) i. after_request_on_machine m (loads t i)) same (sym (is.image ∙ image))
+
+module _ (m new : MachineNow) (i : ℕ) (run : List ℕ) (left rest : List (List ℕ)) (at : left ≡ run ∷ rest) (inside : i < length m.world.guests)
+    (loads_it : load_fault (lone_of m.world.guests (name_nth m.world i)) run ≡ None → IsLoaded m (name_nth m.world i) run new) where
+  pub record GoesOn (gs : List SavedGuest) : Type 0 where
+    pub others : List SavedGuest
+    pub later : LoadsRuns new (i + 1) rest others
+    pub same : after_all_requests new (map load_of others) ≡ after_all_requests m (map load_of gs)
+
+  goes_on_by : (gs : List SavedGuest) → map (λ (g : SavedGuest). g.name) gs ≡ drop i (names_now m.world) → AreRuns (board_of m.world) gs (run ∷ rest) → AreFittingRequests m.world (map load_of gs) → GoesOn gs
+  goes_on_by [] names runs fits = absurd runs
+  goes_on_by (g ∷ gs) names runs fits =
+      let d = at_drop (names_now m.world) (map (λ (h : SavedGuest). h.name) gs) i g.name (sym names) in
+      let own : name_nth m.world i ≡ g.name = same_at (names_now m.world) i (name_nth m.world i) g.name (name_at m.world i inside) d.0 in
+      let accepted = ap (λ (t : Text). load_fault (lone_of m.world.guests t) run) own ∙ one_accepted (board_of m.world) g run runs.0 (lone_of m.world.guests g.name) fits.0 in
+      let now = one_loaded (board_of m.world) g run runs.0 m new (name_nth m.world i) own fits.0 (loads_it accepted) in
+      let same = same_along (load_of g ∷ []) m new now in
+      record {
+        others = gs;
+        later = record {
+          names = sym d.1 ∙ ap (drop (i + 1)) (sym same.names);
+          are = subst (λ (b : Board). AreRuns b gs rest) (sym same.board) runs.1;
+          fits = subst (λ (x : MachineNow). AreFittingRequests x.world (map load_of gs)) (sym now) fits.1;
+        };
+        same = ap (λ (x : MachineNow). after_all_requests x (map load_of gs)) now;
+      }
+
+  pub goes_on : (gs : List SavedGuest) → LoadsRuns m i left gs → GoesOn gs
+  goes_on gs h = goes_on_by gs h.names (subst (AreRuns (board_of m.world) gs) at h.are) h.fits
+
+pub none_left : (m : MachineNow) (i : ℕ) (left : List (List ℕ)) (gs : List SavedGuest) → length left ≡ 0 → LoadsRuns m i left gs → m ≡ after_all_requests m (map load_of gs)
+none_left m i left [] none h = refl
+none_left m i [] (g ∷ gs) none h = absurd h.are
+none_left m i (r ∷ left) (g ∷ gs) none h = absurd (omega arith)
+
+pub no_fault : (o : Option ImageFault) (n : Option ℕ) → option_map number_of o ≡ n → n ≡ None → o ≡ None
+no_fault None n same none = refl
+no_fault (Some why) n same none = absurd (grind arith)
+
+-- as many names as guests, along requests
+pub still_there : {A : Type 0} (v w : WorldNow) (f : A → Text) (xs : List A) → map f xs ≡ names_now w → names_now v ≡ names_now w → length xs ≡ length v.guests
+still_there v w f xs are same = sym (length-map xs f) ∙ ap (λ (ns : List Text). length ns) (are ∙ sym same) ∙ many_names v

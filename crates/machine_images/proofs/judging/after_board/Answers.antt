@@ -1,0 +1,15 @@
+use Rattle.std.proofs.Common.{length, arith}
+use Rattle.std.specs.Prelude.{flat_map}
+use Rattle.model_board.specs.AtReset.{board_at}
+use Rattle.model_image_bytes.specs.Layouts.{le_bytes}
+use Rattle.model_image_bytes.specs.MachineBytes.{board_layout}
+use Rattle.board_images.specs.BoardBytes.{row_bytes}
+use Rattle.board_images.proofs.Steps.{ends}
+use Rattle.machine_images.proofs.JudgedHandoffs.{board_is}
+use Rattle.machine_images.proofs.judging.after_board.Goals as goal
+
+pub returns-in_err-bytes-clause-refused : goal.returns-in_err-bytes-clause-refused
+returns-in_err-bytes-clause-refused c =
+    let fs = c.args.host.now.state.functions in
+    let end = ends (board_layout.bytes (board_at fs)) (le_bytes 4 (length fs)) (flat_map row_bytes fs) c.args.bytes.now (board_is fs) in
+    grind (arith, end)

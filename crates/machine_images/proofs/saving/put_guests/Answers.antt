@@ -1,0 +1,13 @@
+use Rattle.std.proofs.Common.{length, arith}
+use Rattle.std.specs.Prelude.{flat_map}
+use Rattle.model_image_bytes.specs.Layouts.{le_bytes}
+use Rattle.machine_images.specs.SavedParts.{guest_bytes}
+use Rattle.machine_images.proofs.PutParts.{both_put}
+use Rattle.machine_images.proofs.SavedGuests.{many_guests}
+use Rattle.machine_images.proofs.saving.put_guests.Goals as goal
+
+pub returns : goal.returns
+returns c =
+    let gs = c.args.monitor.now.world.guests in
+    let many = many_guests c.names.result.now.items c.args.monitor.now.world c.names.ensures in
+    both_put (le_bytes 2 (length gs)) (flat_map guest_bytes gs) c.requires.room (record { bytes = grind arith; end = grind arith }) c.put_all.ensures

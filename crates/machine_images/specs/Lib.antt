@@ -1,0 +1,3 @@
+pub mod SavedParts
+pub mod Judging
+pub mod Loading

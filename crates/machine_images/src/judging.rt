@@ -1,0 +1,215 @@
+//! Whether bytes can be loaded into a machine. They are compared with what it has, from front to
+//! back, and the first that fails decides.
+ghost use Rattle.std.specs.Prelude.{◌≡◌, ◌≤◌, ◌+◌, ◌++◌, [], None, Some, Ok, Err, IfErr, IfOk, length, option_map, slice_get};
+ghost use Rattle.model_board.specs.AtReset.{board_at};
+ghost use Rattle.model_board.specs.State.{BoardFunction};
+ghost use Rattle.model_audit.specs.Orderly.{IsStateOfBoard};
+ghost use Rattle.model_guests.specs.WorldNow.{names_now};
+ghost use Rattle.model_image_bytes.specs.Layouts.{le_bytes};
+ghost use Rattle.model_image_bytes.specs.LoadedBytes.{after_bytes, at_end, then_read};
+ghost use Rattle.model_image_bytes.specs.LoadedMachines.{load_all_fault, machine_header, read_guest, read_guests};
+ghost use Rattle.model_image_bytes.specs.MachineBytes.{board_layout, name_layout};
+ghost use Rattle.image_bytes.specs.Faults as image;
+ghost use Rattle.board_images.specs.Faults.{number_of};
+ghost use Rattle.machine_images.specs.Judging.{AreGuestsRead, IsGuestRead, functions_now, has_seat, held_under, taken_by};
+
+use crate::heading::{four, header, two};
+use crate::seats::{Seats, after_image, is_taken, read_slots};
+use arrayvec::{ArrayString, ArrayVec};
+use board_images::{MachineFault, after_held, after_own, after_row};
+use host_bridge::Host;
+use image_bytes::ImageFault;
+use monitor::Monitor;
+
+/// The same fault of the image of a guest.
+pub(crate) fn of_image(fault: ImageFault) -> MachineFault
+    ensures { number_of result ≡ image.number_of fault }
+{
+    match fault {
+        ImageFault::NoImage => MachineFault::NoImage,
+        ImageFault::OtherFunctions => MachineFault::OtherFunctions,
+    }
+}
+
+/// The bytes after the header, with which they have to begin.
+pub(crate) fn after_header(bytes: &[u8]) -> Result<&[u8], MachineFault>
+    ensures left { IfOk result (λ rest.
+        after_bytes 905 machine_header bytes.now ≡ Ok rest.now) }
+    ensures refused { IfErr result (λ why.
+        after_bytes 905 machine_header bytes.now ≡ Err (number_of why)) }
+{
+    match bytes.strip_prefix(&header()) {
+        Some(rest) => Ok(rest),
+        None => Err(MachineFault::NoImage),
+    }
+}
+
+/// The bytes after the board: how many functions it has, and each of them.
+#[tactic(auto, using(board_images::proofs::Steps::ends, board_images::proofs::Steps::goes_on, crate::proofs::JudgedHandoffs::board_is, crate::proofs::JudgedHandoffs::bytes_next))]
+fn after_board<'a>(host: &Host, bytes: &'a [u8]) -> Result<&'a [u8], MachineFault>
+    ensures left { let own = board_layout.bytes (board_at host.now.state.functions) in
+        IfOk result (λ rest. after_bytes 907 own bytes.now ≡ Ok rest.now) }
+    ensures refused { let own = board_layout.bytes (board_at host.now.state.functions) in
+        IfErr result (λ why. after_bytes 907 own bytes.now ≡ Err (number_of why)) }
+{
+    let count = host.count();
+    let mut bytes = after_own(&four(count), bytes)?;
+    for index in 0..count {
+        bytes = after_row(host, index, bytes)?;
+    }
+    Ok(bytes)
+}
+
+/// The bytes after what is the same in all images of a machine: the board, and how many guests
+/// there are.
+#[tactic(auto, using(board_images::proofs::Steps::ends, board_images::proofs::Steps::goes_on))]
+pub(crate) fn after_known<'a>(
+    host: &Host,
+    guests: usize,
+    bytes: &'a [u8],
+) -> Result<&'a [u8], MachineFault>
+    ensures left { let own = board_layout.bytes (board_at host.now.state.functions)
+        ++ le_bytes 2 guests in
+        IfOk result (λ rest. after_bytes 907 own bytes.now ≡ Ok rest.now) }
+    ensures refused { let own = board_layout.bytes (board_at host.now.state.functions)
+        ++ le_bytes 2 guests in
+        IfErr result (λ why. after_bytes 907 own bytes.now ≡ Err (number_of why)) }
+{
+    let bytes = after_board(host, bytes)?;
+    after_own(&two(guests), bytes)
+}
+
+#[tactic(auto, using(board_images::proofs::FoundParts::are_bytes, board_images::proofs::Steps::goes_on, crate::proofs::JudgedHandoffs::name_is))]
+pub(crate) fn after_name<'a>(name: &[u8], bytes: &'a [u8]) -> Result<&'a [u8], MachineFault>
+    ensures left { let own = name_layout.bytes name.now in
+        IfOk result (λ rest. after_bytes 907 own bytes.now ≡ Ok rest.now) }
+    ensures refused { let own = name_layout.bytes name.now in
+        IfErr result (λ why. after_bytes 907 own bytes.now ≡ Err (number_of why)) }
+{
+    let bytes = after_own(&[(name.len() % 256) as u8], bytes)?;
+    after_own(name, bytes)
+}
+
+/// Adds the slots of a guest of this name, and gives the bytes behind its image.
+fn read_guest<'a>(
+    monitor: &Monitor,
+    name: &ArrayString<16>,
+    seats: &mut Seats,
+    bytes: &'a [u8],
+) -> Result<&'a [u8], MachineFault>
+    requires { length seats.old.items + 32 ≤ 1024 }
+    ensures read { let w = monitor.now.world in IfOk result (λ rest.
+        IsGuestRead w name.now.bytes seats.old.items bytes.now seats.new.items rest.now) }
+    ensures refused { let taken = taken_by (functions_now monitor.now.world) seats.old.items in
+        IfErr result (λ why. read_guest monitor.now.world.handoff taken name.now.bytes bytes.now
+        ≡ Err (number_of why)) }
+{
+    let before = seats.len();
+    let bytes = after_name(name.as_str().as_bytes(), bytes)?;
+    let bytes = read_slots(monitor, seats, bytes)?;
+    match after_image(monitor.host(), &seats.as_slice()[before..], bytes) {
+        Ok(rest) => Ok(rest),
+        Err(fault) => Err(of_image(fault)),
+    }
+}
+
+/// Adds the slots of all guests, and gives the bytes behind the last.
+#[tactic(auto, using(crate::proofs::JudgedGuests::guest_on))]
+fn read_guests<'a>(
+    monitor: &Monitor,
+    seats: &mut Seats,
+    bytes: &'a [u8],
+) -> Result<&'a [u8], MachineFault>
+    requires { length seats.old.items ≡ 0 }
+    ensures read { let w = monitor.now.world in
+        IfOk result (λ rest. AreGuestsRead w bytes.now seats.new.items rest.now) }
+    ensures refused { let w = monitor.now.world in
+        IfErr result (λ why. read_guests w.handoff [] (names_now w) bytes.now
+        ≡ Err (number_of why)) }
+{
+    let mut left = monitor.names().as_slice();
+    let mut bytes = bytes;
+    while let Some((name, rest)) = left.split_first() {
+        bytes = read_guest(monitor, name, seats, bytes)?;
+        left = rest;
+    }
+    Ok(bytes)
+}
+
+/// Whether a guest has the function at an index, or is to get it.
+#[tactic(auto, using(crate::proofs::JudgedSeats::seats_are))]
+fn is_seated(monitor: &Monitor, seats: &[Option<usize>], index: usize) -> bool
+    requires { IsStateOfBoard (functions_now monitor.now.world) }
+    ensures { (f : BoardFunction) → slice_get (functions_now monitor.now.world) index ≡ Some f
+        → result ≡ has_seat monitor.now.world seats.now f }
+{
+    monitor.has_guest(index) || is_taken(seats, index)
+}
+
+/// The bytes after what the handoff holds once guests have what they have, and what these slots
+/// have.
+fn after_held_all<'a>(
+    monitor: &Monitor,
+    seats: &[Option<usize>],
+    bytes: &'a [u8],
+) -> Result<&'a [u8], MachineFault>
+    ensures left { let own = held_under monitor.now.world seats.now in
+        IfOk result (λ rest. after_bytes 907 own bytes.now ≡ Ok rest.now) }
+    ensures refused { let own = held_under monitor.now.world seats.now in
+        IfErr result (λ why. after_bytes 907 own bytes.now ≡ Err (number_of why)) }
+{
+    let mut bytes = bytes;
+    for index in 0..monitor.count() {
+        let host = monitor.host();
+        let is_seated = is_seated(monitor, seats, index);
+        bytes = after_held(host, index, is_seated, bytes)?;
+    }
+    Ok(bytes)
+}
+
+/// Refuses bytes that are not what the handoff holds then, with its address latch clear, and nothing
+/// else.
+#[tactic(auto, using(board_images::proofs::Steps::ends, board_images::proofs::Steps::goes_on))]
+fn after_handoff(
+    monitor: &Monitor,
+    seats: &[Option<usize>],
+    bytes: &[u8],
+) -> Result<(), MachineFault>
+    ensures taken { let own = held_under monitor.now.world seats.now ++ le_bytes 4 0 in
+        IfOk result (λ _. then_read at_end (after_bytes 907 own bytes.now) ≡ Ok []) }
+    ensures refused { let own = held_under monitor.now.world seats.now ++ le_bytes 4 0 in
+        IfErr result (λ why.
+        then_read at_end (after_bytes 907 own bytes.now) ≡ Err (number_of why)) }
+{
+    let bytes = after_held_all(monitor, seats, bytes)?;
+    let bytes = after_own(&four(0), bytes)?;
+    if bytes.is_empty() {
+        Ok(())
+    } else {
+        Err(MachineFault::NoImage)
+    }
+}
+
+/// Refuses bytes that are no image of a machine like this one.
+#[tactic(auto, using(crate::proofs::JudgedHandoffs::known_is, crate::proofs::JudgedMachines::guests_refused))]
+fn judge(monitor: &Monitor, bytes: &[u8]) -> Result<(), MachineFault>
+    ensures taken { IfOk result (λ _. load_all_fault monitor.now.world bytes.now ≡ None) }
+    ensures refused { IfErr result (λ why.
+        load_all_fault monitor.now.world bytes.now ≡ Some (number_of why)) }
+{
+    let bytes = after_header(bytes)?;
+    let bytes = after_known(monitor.host(), monitor.names().len(), bytes)?;
+    let mut seats = ArrayVec::new();
+    let bytes = read_guests(monitor, &mut seats, bytes)?;
+    after_handoff(monitor, seats.as_slice(), bytes)?;
+    Ok(())
+}
+
+/// Why bytes can't be loaded into a machine, if they can't: they are no image of a machine (905),
+/// seat what can't be given there (906), or are the image of another board or of other guests (907).
+/// The first byte that fails decides.
+pub fn machine_fault(monitor: &Monitor, bytes: &[u8]) -> Option<MachineFault>
+    ensures { option_map number_of result ≡ load_all_fault monitor.now.world bytes.now }
+{
+    judge(monitor, bytes).err()
+}
