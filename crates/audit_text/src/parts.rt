@@ -11,7 +11,7 @@ ghost use Rattle.model_audit.specs.AuditText.{region_text, space_text, number_te
 use bars::Space;
 use board_audit::RegionNow;
 use paths::{Bdf, Path};
-use report::push_path;
+use report::{push_byte, push_path};
 use std::alloc::AllocError;
 
 /// Appends the path of a region, its register, and where it stands.
@@ -46,7 +46,7 @@ pub fn push_space(text: &mut String, space: Space) -> Result<(), AllocError>
 pub fn push_bus(text: &mut String, bus: u8) -> Result<(), AllocError>
     ensures { OnOk result (Adds text.old text.new (hex_digits 2 bus)) }
 {
-    write!(text, "{bus:02x}")
+    push_byte(text, bus)
 }
 
 /// Appends a bus, device and function number.
@@ -59,7 +59,10 @@ pub fn push_number(text: &mut String, at: Bdf) -> Result<(), AllocError>
         function,
         ..
     } = at;
-    write!(text, "{bus:02x}:{device:02x}.{function}")
+    push_byte(text, bus)?;
+    text.push(':')?;
+    push_byte(text, device)?;
+    write!(text, ".{function}")
 }
 
 /// Appends a path, or `nothing`.

@@ -91,7 +91,8 @@ pub(crate) fn is_mem(mem: Bounds) -> bool
 
 fn is_lawful_pref(mem: Bounds, pref: Option<Bounds>) -> bool
     ensures { result
-        ≡ (not (is_mem_aperture (aperture mem)) || has_lawful_pref (aperture mem) (option_map aperture pref)) }
+        ≡ (not (is_mem_aperture (aperture mem)) || has_lawful_pref (aperture mem)
+        (option_map aperture pref)) }
 {
     !is_lawful_mem(mem) || Apertures::new(IO, aperture(mem), pref_aperture(pref)).is_ok()
 }

@@ -1,7 +1,7 @@
 //! The bytes at the beginning of a region or of a device's own registers.
 ghost use Rattle.std.specs.Prelude.{◌≡◌, ◌+◌, ◌<◌, IfOk, length, nat_abs, nat_le, option_map, take};
 ghost use Rattle.std.specs.List.{list_all};
-ghost use Rattle.board_file.specs.Blocks.{pattern, is_pattern, pattern_bytes, are_apart as share_no_bit, cells, is_block, block_cells, Gives};
+ghost use Rattle.board_file.specs.Blocks.{pattern, is_pattern, pattern_bytes, byte_at, are_apart as share_no_bit, cells, is_block, block_cells, Gives};
 ghost use Rattle.board_file.specs.EntryRules.{are_apart};
 
 use crate::entries::{ConfigEntry, PatternTexts};
@@ -46,6 +46,19 @@ pub fn pattern_bytes(
     }
 }
 
+/// The byte of a pattern that is repeated. Most patterns are one byte, and a division takes as long as many
+/// other steps.
+fn byte_at(bytes: &[u8], index: usize) -> u8
+    requires { 0 < length bytes.now }
+    ensures { result ≡ byte_at bytes.now index }
+{
+    if bytes.len() == 1 {
+        bytes[0]
+    } else {
+        bytes[index % bytes.len()]
+    }
+}
+
 /// The cells of patterns that are repeated, where no bit is in both masks.
 fn cells(
     alloc: Global,
@@ -61,10 +74,9 @@ fn cells(
         Gives (share_no_bit len rw.now w1c.now) found (λ v. v.items
         ≡ cells len reset.now rw.now w1c.now)) }
 {
-    let mut cells = Vec::new(alloc);
+    let mut cells = Vec::with_capacity(alloc, len)?;
     for i in 0..len {
-        let value = reset[i % reset.len()];
-        match Cell::new(value, rw[i % rw.len()], w1c[i % w1c.len()]) {
+        match Cell::new(byte_at(reset, i), byte_at(rw, i), byte_at(w1c, i)) {
             Ok(cell) => cells.push(cell)?,
             Err(_) => return Ok(None),
         }

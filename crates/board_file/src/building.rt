@@ -72,7 +72,7 @@ fn regions(alloc: Global, bars: &[BarEntry<'_>]) -> Result<Option<Vec<Region>>, 
     ensures { IfOk result (λ found.
         Gives (list_all bar_holds bars.now) found (λ v. v.items ≡ map said.region bars.now)) }
 {
-    let mut regions = Vec::new(alloc);
+    let mut regions = Vec::with_capacity(alloc, bars.len())?;
     'bars: for bar in bars {
         match region(alloc, bar)? {
             Some(region) => regions.push(region)?,

@@ -47,7 +47,13 @@ pub struct BarEntry<'a> {
 impl<'a> Model for BarEntry<'a> {
     ghost Value = { said.Bar };
 
-    ghost view = { λ b. record { index = b.index; kind = kind_of b.kind; size = b.size; block = b.block; patterns = b.patterns } };
+    ghost view = { λ b. record {
+      index = b.index;
+      kind = kind_of b.kind;
+      size = b.size;
+      block = b.block;
+      patterns = b.patterns;
+    } };
 }
 
 /// A table of `config`.

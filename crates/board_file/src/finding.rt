@@ -50,7 +50,8 @@ fn push_file(
     fault: BoardFault,
     file: &FileEntries<'_>,
 ) -> Result<(), AllocError>
-    ensures { OnOk result (Adds (broken Entry.File (file_rules fault file.now)) problems.old.items problems.new.items) }
+    ensures { OnOk result (Adds (broken Entry.File (file_rules fault file.now)) problems.old.items
+        problems.new.items) }
 {
     match fault {
         BoardFault::TooMany => push_broken(
@@ -71,7 +72,8 @@ fn push_host(
     fault: BoardFault,
     file: &FileEntries<'_>,
 ) -> Result<(), AllocError>
-    ensures { OnOk result (Adds (broken Entry.Host (host_rules fault file.now)) problems.old.items problems.new.items) }
+    ensures { OnOk result (Adds (broken Entry.Host (host_rules fault file.now)) problems.old.items
+        problems.new.items) }
 {
     match fault {
         BoardFault::Aperture => push_broken(

@@ -26,7 +26,8 @@ fn push_bar(
     index: usize,
     bar: &BarEntry<'_>,
 ) -> Result<(), AllocError>
-    ensures { OnOk result (Adds (of_bar fault endpoint (index, bar.now)) problems.old.items problems.new.items) }
+    ensures { OnOk result
+        (Adds (of_bar fault endpoint (index, bar.now)) problems.old.items problems.new.items) }
 {
     let entry = Entry::Bar(endpoint, index);
     match fault {
@@ -96,7 +97,8 @@ fn push_numbers(
     entry: Entry,
     endpoint: &EndpointEntry<'_>,
 ) -> Result<(), AllocError>
-    ensures { OnOk result (Adds (broken entry (endpoint_numbers endpoint.now)) problems.old.items problems.new.items) }
+    ensures { OnOk result (Adds (broken entry (endpoint_numbers endpoint.now)) problems.old.items
+        problems.new.items) }
 {
     push_broken(
         problems,
@@ -160,7 +162,8 @@ fn push_endpoint(
     endpoint: &EndpointEntry<'_>,
 ) -> Result<(), AllocError>
     requires { functions.now ≡ standings file.now }
-    ensures { OnOk result (Adds (broken (Entry.Endpoint index) (endpoint_rules fault file.now index endpoint.now))
+    ensures { OnOk result
+        (Adds (broken (Entry.Endpoint index) (endpoint_rules fault file.now index endpoint.now))
         problems.old.items problems.new.items) }
 {
     let entry = Entry::Endpoint(index);
@@ -206,7 +209,8 @@ fn push_configs(
     endpoint: usize,
     configs: &[ConfigEntry<'_>],
 ) -> Result<(), AllocError>
-    ensures { OnOk result (Adds (flat_map (of_config fault endpoint configs.now) (enumerate_from 0 configs.now))
+    ensures { OnOk result
+        (Adds (flat_map (of_config fault endpoint configs.now) (enumerate_from 0 configs.now))
         problems.old.items problems.new.items) }
 {
     'configs: for (index, config) in configs.iter().enumerate() {
@@ -224,7 +228,8 @@ pub(crate) fn push_endpoints(
     fault: BoardFault,
 ) -> Result<(), AllocError>
     requires { functions.now ≡ standings file.now }
-    ensures { OnOk result (Adds (flat_map (of_endpoint fault file.now) (enumerate_from 0 file.now.endpoints))
+    ensures { OnOk result
+        (Adds (flat_map (of_endpoint fault file.now) (enumerate_from 0 file.now.endpoints))
         problems.old.items problems.new.items) }
 {
     'endpoints: for (index, endpoint) in file.endpoints.iter().enumerate() {
@@ -245,7 +250,8 @@ fn push_bridge(
     bridge: &BridgeEntry<'_>,
 ) -> Result<(), AllocError>
     requires { functions.now ≡ standings file.now }
-    ensures { OnOk result (Adds (of_bridge fault file.now (index, bridge.now)) problems.old.items problems.new.items) }
+    ensures { OnOk result (Adds (of_bridge fault file.now (index, bridge.now)) problems.old.items
+        problems.new.items) }
 {
     let entry = Entry::Bridge(index);
     match fault {
@@ -280,7 +286,8 @@ pub(crate) fn push_bridges(
     fault: BoardFault,
 ) -> Result<(), AllocError>
     requires { functions.now ≡ standings file.now }
-    ensures { OnOk result (Adds (flat_map (of_bridge fault file.now) (enumerate_from 0 file.now.bridges))
+    ensures { OnOk result
+        (Adds (flat_map (of_bridge fault file.now) (enumerate_from 0 file.now.bridges))
         problems.old.items problems.new.items) }
 {
     'bridges: for (index, bridge) in file.bridges.iter().enumerate() {

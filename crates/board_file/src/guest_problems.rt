@@ -24,7 +24,8 @@ fn push_guest(
     index: usize,
     guest: &GuestEntry<'_>,
 ) -> Result<(), AllocError>
-    ensures { OnOk result (Adds (broken (Entry.Guest index) (guest_rules fault file.now index guest.now))
+    ensures { OnOk result
+        (Adds (broken (Entry.Guest index) (guest_rules fault file.now index guest.now))
         problems.old.items problems.new.items) }
 {
     let entry = Entry::Guest(index);
@@ -82,7 +83,8 @@ fn push_slots(
     own: &[PathText<'_>],
 ) -> Result<(), AllocError>
     requires { functions.now ≡ standings file.now }
-    ensures { OnOk result (Adds (flat_map (of_slot fault file.now guest own.now) (enumerate_from 0 own.now))
+    ensures { OnOk result
+        (Adds (flat_map (of_slot fault file.now guest own.now) (enumerate_from 0 own.now))
         problems.old.items problems.new.items) }
 {
     'slots: for (index, slot) in own.iter().enumerate() {
@@ -99,7 +101,8 @@ pub(crate) fn push_guests(
     fault: BoardFault,
 ) -> Result<(), AllocError>
     requires { functions.now ≡ standings file.now }
-    ensures { OnOk result (Adds (flat_map (of_guest fault file.now) (enumerate_from 0 file.now.guests))
+    ensures { OnOk result
+        (Adds (flat_map (of_guest fault file.now) (enumerate_from 0 file.now.guests))
         problems.old.items problems.new.items) }
 {
     'guests: for (index, guest) in file.guests.iter().enumerate() {

@@ -138,7 +138,8 @@ impl<'a> PathSets<'a> {
 
     /// Whether each slot is the path of an endpoint.
     fn all_name_endpoints(&self, guests: &[GuestEntry<'_>]) -> bool
-        ensures { result ≡ list_all (λ g. list_all (names_endpoint self.now) g.slots) guests.now }
+        ensures { result
+            ≡ list_all (λ g. list_all (names_endpoint self.now) g.slots) guests.now }
     {
         guests.iter().all(|guest| self.name_endpoints(guest))
     }

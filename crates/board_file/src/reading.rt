@@ -76,7 +76,7 @@ fn entries_of<'a, E: FromTable<'a>>(alloc: Global, items: &'a Array) -> Result<V
     ensures { IfOk result (λ v.
         v.items ≡ map E.said (filter_map as_table (list_of (array_view items.now)))) }
 {
-    let mut entries = Vec::new(alloc);
+    let mut entries = Vec::with_capacity(alloc, items.len())?;
     'items: for item in items {
         if let Some(table) = item.as_table() {
             entries.push(E::from_table(alloc, table)?)?;

@@ -40,7 +40,8 @@ fn table_in_endpoint<'v>(
     index: usize,
 ) -> Option<&'v Table>
     ensures { option_map (λ t. table_view t.now) result
-        ≡ option_and_then (table_in key.now index) (table_in (codes "endpoint") endpoint (table_view table.now)) }
+        ≡ option_and_then (table_in key.now index)
+        (table_in (codes "endpoint") endpoint (table_view table.now)) }
 {
     match table_in(table, "endpoint", endpoint) {
         Some(inner) => table_in(inner, key, index),

@@ -105,7 +105,8 @@ impl<'a> Places<'a> {
 
     /// The place of the scalar at the end of the way, where it is known.
     pub fn place(&self, way: &[Step<'_>]) -> Option<Place>
-        ensures { IfSome result (IsPlace self.now.text.now (table_view self.now.document.now) way.now) }
+        ensures { IfSome result
+            (IsPlace self.now.text.now (table_view self.now.document.now) way.now) }
     {
         if way.is_empty() {
             return None;

@@ -30,7 +30,7 @@ pub(crate) fn first_lines(
     requires { IsTrue (are_in_order 0 (length text.now) places.now) }
     ensures { IfOk result (λ v. v.items ≡ map (first_line text.now) places.now) }
 {
-    let mut lines = Vec::new(alloc);
+    let mut lines = Vec::with_capacity(alloc, places.len())?;
     let mut line = 1;
     let mut from = 0;
     'places: for place in places {

@@ -42,7 +42,7 @@ pub(crate) fn with_marks(
     requires { IsTrue (are_in_order 0 (length text.now) places.now) }
     ensures { IfOk result (λ v. v.items ≡ with_marks text.now 0 places.now) }
 {
-    let mut bytes = Vec::new(alloc);
+    let mut bytes = Vec::with_capacity(alloc, text.len())?;
     let mut from = 0;
     'places: for place in places {
         bytes.extend_from_slice(&text[from..place.start])?;

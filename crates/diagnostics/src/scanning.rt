@@ -23,7 +23,8 @@ enum Mode {
 #[derive(Clone, Copy)]
 struct Quotes {
     byte: u8,
-    are_three: bool,
+    /// How many stand before it, and behind it: 1 or 3.
+    count: usize,
 }
 
 /// Where the scan of a document stands.
@@ -32,15 +33,9 @@ struct Scanner {
     mode: Mode,
     /// The brackets that are open.
     brackets: Vec<u8>,
-    /// The quotes of the text that has begun.
-    quotes: Option<Quotes>,
-    is_escaped: bool,
-    is_comment: bool,
-    /// So many bytes belong to quotes that were seen.
-    skip: u8,
-    /// The scalar that has begun.
-    scalar: Option<Extent>,
-    /// Those that have ended.
+    /// Where the text, comment or scalar ends that was seen last.
+    next: usize,
+    /// The scalars that were seen.
     scalars: Vec<Extent>,
 }
 
@@ -58,16 +53,66 @@ fn byte_after(text: &[u8], at: usize, places: usize) -> u8
     }
 }
 
+/// Whether three of this byte stand there.
+fn are_three(text: &[u8], at: usize, byte: u8) -> bool {
+    byte_after(text, at, 0) == byte
+        && byte_after(text, at, 1) == byte
+        && byte_after(text, at, 2) == byte
+}
+
+/// Whether the quotes that end a text stand there. Of more than three the last three do.
+fn is_closed(text: &[u8], at: usize, quotes: Quotes) -> bool
+    requires { at < length text.now }
+{
+    text[at] == quotes.byte
+        && (quotes.count == 1
+            || are_three(text, at, quotes.byte) && byte_after(text, at, 3) != quotes.byte)
+}
+
+/// The end of a text with its quotes, from what stands behind the first of them on.
+fn text_end(text: &[u8], from: usize, quotes: Quotes) -> usize {
+    let mut is_escaped = false;
+    'bytes: for at in from..text.len() {
+        if is_escaped {
+            is_escaped = false;
+        } else if text[at] == b'\\' && quotes.byte == b'"' {
+            is_escaped = true;
+        } else if is_closed(text, at, quotes) {
+            return at.saturating_add(quotes.count);
+        }
+    }
+    text.len()
+}
+
+/// The end of a comment.
+fn comment_end(text: &[u8], from: usize) -> usize {
+    'bytes: for at in from..text.len() {
+        if text[at] == b'\n' {
+            return at;
+        }
+    }
+    text.len()
+}
+
+/// The end of a scalar without quotes. Blanks may stand in it, and none at its end.
+fn bare_end(text: &[u8], from: usize) -> usize {
+    let mut end = from;
+    'bytes: for at in from..text.len() {
+        match text[at] {
+            b',' | b']' | b'}' | b'#' | b'\n' => return end,
+            b' ' | b'\t' | b'\r' => {}
+            _ => end = at + 1,
+        }
+    }
+    end
+}
+
 impl Scanner {
     fn new(alloc: Global) -> Scanner {
         Scanner {
             mode: Mode::Key,
             brackets: Vec::new(alloc),
-            quotes: None,
-            is_escaped: false,
-            is_comment: false,
-            skip: 0,
-            scalar: None,
+            next: 0,
             scalars: Vec::new(alloc),
         }
     }
@@ -80,67 +125,34 @@ impl Scanner {
         }
     }
 
-    /// Ends the scalar that has begun, if there is one.
-    fn end_scalar(&mut self) -> Result<(), AllocError> {
-        if let Some(scalar) = self.scalar {
-            self.scalar = None;
-            self.scalars.push(scalar)?;
-        }
-        Ok(())
-    }
-
-    /// A byte of a text.
-    fn in_text(&mut self, text: &[u8], at: usize, quotes: Quotes)
-        requires { at < length text.now }
-    {
-        let byte = text[at];
-        if self.is_escaped {
-            self.is_escaped = false;
-        } else if byte == b'\\' && quotes.byte == b'"' {
-            self.is_escaped = true;
-        } else if byte == quotes.byte {
-            if !quotes.are_three {
-                self.quotes = None;
-            } else if byte_after(text, at, 1) == byte
-                && byte_after(text, at, 2) == byte
-                && byte_after(text, at, 3) != byte
-            {
-                self.quotes = None;
-                self.skip = 2;
-            }
-        }
-    }
-
     /// A byte of a key or a header.
     fn in_key(&mut self, text: &[u8], at: usize)
         requires { at < length text.now }
     {
         match text[at] {
-            byte @ (b'"' | b'\'') => {
-                let are_three = false;
-                self.quotes = Some(Quotes { byte, are_three });
-            }
+            byte @ (b'"' | b'\'') => self.next = text_end(text, at + 1, Quotes { byte, count: 1 }),
             b'=' => self.mode = Mode::Value,
             b']' if byte_after(text, at, 1) != b']' => self.mode = Mode::After,
             _ => {}
         }
     }
 
-    /// The first byte of a scalar.
-    fn begin_scalar(&mut self, text: &[u8], at: usize)
+    /// A scalar, from its first byte on.
+    fn take_scalar(&mut self, text: &[u8], at: usize) -> Result<(), AllocError>
         requires { at < length text.now }
     {
         let byte = text[at];
-        self.scalar = Some(Extent {
-            start: at,
-            end: at + 1,
-        });
+        let end = if byte != b'"' && byte != b'\'' {
+            bare_end(text, at)
+        } else if are_three(text, at, byte) {
+            text_end(text, at + 3, Quotes { byte, count: 3 })
+        } else {
+            text_end(text, at + 1, Quotes { byte, count: 1 })
+        };
         self.mode = Mode::After;
-        if byte == b'"' || byte == b'\'' {
-            let are_three = byte_after(text, at, 1) == byte && byte_after(text, at, 2) == byte;
-            self.quotes = Some(Quotes { byte, are_three });
-            self.skip = if are_three { 2 } else { 0 };
-        }
+        self.next = end;
+        self.scalars.push(Extent { start: at, end })?;
+        Ok(())
     }
 
     /// The first byte of a value.
@@ -150,39 +162,23 @@ impl Scanner {
         match text[at] {
             b'[' => self.brackets.push(b'[')?,
             b'{' => {
-                self.brackets.push(b'{')?;
                 self.mode = Mode::Key;
+                self.brackets.push(b'{')?;
             }
-            _ => self.begin_scalar(text, at),
+            _ => self.take_scalar(text, at)?,
         }
         Ok(())
-    }
-
-    /// The scalar that has begun goes on to this byte, if there is one.
-    fn extend_scalar(&mut self, at: usize)
-        requires { at < 2 ^ 63 }
-    {
-        if let Some(scalar) = self.scalar {
-            self.scalar = Some(Extent {
-                start: scalar.start,
-                end: at + 1,
-            });
-        }
     }
 
     /// The end of a line.
-    fn end_line(&mut self) -> Result<(), AllocError> {
-        self.is_comment = false;
-        self.end_scalar()?;
+    fn end_line(&mut self) {
         if self.brackets.is_empty() {
             self.mode = Mode::Key;
         }
-        Ok(())
     }
 
     /// A comma, or the bracket that ends an array or an inline table.
-    fn end_item(&mut self, byte: u8) -> Result<(), AllocError> {
-        self.end_scalar()?;
+    fn end_item(&mut self, byte: u8) {
         self.mode = if byte != b',' {
             let _ = self.brackets.pop();
             Mode::After
@@ -191,49 +187,23 @@ impl Scanner {
         } else {
             Mode::Value
         };
-        Ok(())
     }
 
-    /// A byte outside texts and comments that is no blank.
-    fn in_open(&mut self, text: &[u8], at: usize) -> Result<(), AllocError>
-        requires { at < length text.now }
-    {
-        let byte = text[at];
-        if byte == b'#' {
-            self.is_comment = true;
-            return self.end_scalar();
-        }
-        if byte == b',' || byte == b'}' || byte == b']' && self.mode != Mode::Key {
-            return self.end_item(byte);
-        }
-        match self.mode {
-            Mode::Key => self.in_key(text, at),
-            Mode::Value => return self.in_value(text, at),
-            Mode::After => self.extend_scalar(at),
-        }
-        Ok(())
-    }
-
-    /// The next byte.
+    /// A byte that begins something.
     fn take_byte(&mut self, text: &[u8], at: usize) -> Result<(), AllocError>
         requires { at < length text.now }
     {
-        if self.skip > 0 {
-            self.skip -= 1;
-            self.extend_scalar(at);
-            return Ok(());
+        match (text[at], self.mode) {
+            (b' ' | b'\t' | b'\r', _) => {}
+            (b'\n', _) => self.end_line(),
+            (b'#', _) => self.next = comment_end(text, at),
+            (byte @ (b',' | b'}'), _) => self.end_item(byte),
+            (_, Mode::Key) => self.in_key(text, at),
+            (b']', _) => self.end_item(b']'),
+            (_, Mode::Value) => return self.in_value(text, at),
+            (_, Mode::After) => {}
         }
-        if let Some(quotes) = self.quotes {
-            self.in_text(text, at, quotes);
-            self.extend_scalar(at);
-            return Ok(());
-        }
-        match text[at] {
-            b'\n' => self.end_line(),
-            b' ' | b'\t' | b'\r' => Ok(()),
-            _ if self.is_comment => Ok(()),
-            _ => self.in_open(text, at),
-        }
+        Ok(())
     }
 }
 
@@ -241,8 +211,9 @@ impl Scanner {
 pub(crate) fn scalars(alloc: Global, text: &[u8]) -> Result<Vec<Extent>, AllocError> {
     let mut scanner = Scanner::new(alloc);
     'bytes: for at in 0..text.len() {
-        scanner.take_byte(text, at)?;
+        if at >= scanner.next {
+            scanner.take_byte(text, at)?;
+        }
     }
-    scanner.end_scalar()?;
     Ok(scanner.scalars)
 }

@@ -1,4 +1,3 @@
-pub mod HexTexts
 pub mod Loops
 pub mod PathTexts
 pub mod RowTexts

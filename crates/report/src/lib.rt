@@ -7,5 +7,5 @@ mod texts;
 mod whole;
 
 pub use lines::pin_text;
-pub use texts::{kind_text, push_path};
+pub use texts::{kind_text, push_byte, push_path, push_word};
 pub use whole::{bridges, endpoints, report_text};

@@ -1,13 +1,14 @@
 //! The lines of one function and of one guest.
-ghost use Rattle.std.specs.Prelude.{◌≡◌, ◌++◌, ◌≤◌, OnOk, map};
+ghost use Rattle.std.specs.Prelude.{◌≡◌, ◌++◌, ◌≤◌, OnOk, codes, map};
 ghost use Rattle.lists.specs.Texts.{Adds};
+ghost use Rattle.model_guests.specs.Replies.{hex_digits};
 ghost use Rattle.model_guests.specs.Text.{text_of_lines};
 ghost use Rattle.model_handoff.specs.Report.{pin_text, slot_lines};
 ghost use Rattle.bars.specs.Slots.{placed, bases_from};
 ghost use Rattle.window_packing.specs.Plans.{writes_of};
 ghost use Rattle.report.specs.Found.{ended, base_line, known_pin_lines, named_window_lines, base_lines, window_lines, range_text, pin_line, row_head, endpoint_text, windows_text, found_text, slot_line};
 
-use crate::texts::{kind_text, push_identity, push_numbers_and_path, push_path};
+use crate::texts::{kind_text, push_byte, push_identity, push_numbers_and_path, push_path};
 use accesses::GuestDecl;
 use bars::BasedRegion;
 use bus_scan::{Found, FunctionRow};
@@ -115,6 +116,17 @@ fn push_windows(text: &mut String, writes: &Writes) -> Result<(), AllocError>
     }
 }
 
+/// Appends Secondary and Subordinate Bus Number.
+fn push_behind(text: &mut String, secondary: u8, subordinate: u8) -> Result<(), AllocError>
+    ensures { OnOk result (Adds text.old text.new
+        (codes " " ++ hex_digits 2 secondary ++ codes " " ++ hex_digits 2 subordinate)) }
+{
+    text.push(' ')?;
+    push_byte(text, secondary)?;
+    text.push(' ')?;
+    push_byte(text, subordinate)
+}
+
 /// Appends Primary, Secondary and Subordinate Bus Number.
 fn push_buses(
     text: &mut String,
@@ -124,10 +136,9 @@ fn push_buses(
 ) -> Result<(), AllocError>
     ensures { OnOk result (Adds text.old text.new (range_text primary secondary subordinate)) }
 {
-    write!(
-        text,
-        " buses {primary:02x} {secondary:02x} {subordinate:02x}"
-    )
+    text.push_str(" buses ")?;
+    push_byte(text, primary)?;
+    push_behind(text, secondary, subordinate)
 }
 
 /// Appends a function's numbers, its path, its kind and its identity.

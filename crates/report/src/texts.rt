@@ -1,8 +1,10 @@
 //! Texts of numbers, paths and kinds.
-ghost use Rattle.std.specs.Prelude.{◌≡◌, OnOk};
+ghost use Rattle.std.specs.Prelude.{◌≡◌, ◌<◌, OnOk, false};
+ghost use Rattle.std.specs.Fmt.{digit_glyph};
 ghost use Rattle.lists.specs.Texts.{Adds};
 ghost use Rattle.model_handoff.specs.Report.{kind_text, identity_text};
 ghost use Rattle.model_guests.specs.PathTexts.{path_text};
+ghost use Rattle.model_guests.specs.Replies.{hex_digits};
 ghost use Rattle.bars.specs.Kinds.{kind_of};
 ghost use Rattle.report.specs.Found.{part_address, numbers_and_path};
 
@@ -39,11 +41,42 @@ pub fn push_path(text: &mut String, path: &Path) -> Result<(), AllocError>
     Ok(())
 }
 
+/// A hexadecimal digit.
+fn digit(value: u8) -> char
+    requires { value < 16 }
+    ensures glyph { result ≡ digit_glyph false value }
+    ensures ascii { result < 128 }
+{
+    char::from(if value < 10 {
+        b'0' + value
+    } else {
+        b'a' - 10 + value
+    })
+}
+
+/// Appends the two digits of a byte.
+pub fn push_byte(text: &mut String, byte: u8) -> Result<(), AllocError>
+    ensures { OnOk result (Adds text.old text.new (hex_digits 2 byte)) }
+{
+    text.push(digit(byte / 16))?;
+    text.push(digit(byte % 16))
+}
+
+/// Appends the four digits of two bytes.
+pub fn push_word(text: &mut String, word: u16) -> Result<(), AllocError>
+    ensures { OnOk result (Adds text.old text.new (hex_digits 4 word)) }
+{
+    push_byte(text, (word / 256) as u8)?;
+    push_byte(text, (word % 256) as u8)
+}
+
 /// Appends Vendor ID and Device ID.
 pub(crate) fn push_identity(text: &mut String, vendor: u16, device: u16) -> Result<(), AllocError>
     ensures { OnOk result (Adds text.old text.new (identity_text vendor device)) }
 {
-    write!(text, "{vendor:04x}:{device:04x}")
+    push_word(text, vendor)?;
+    text.push(':')?;
+    push_word(text, device)
 }
 
 /// Appends a function's bus, device and function numbers.
@@ -52,7 +85,10 @@ fn push_address(text: &mut String, bus: u8, part: Part) -> Result<(), AllocError
 {
     let device = part.device();
     let function = part.function();
-    write!(text, "{bus:02x}:{device:02x}.{function}")
+    push_byte(text, bus)?;
+    text.push(':')?;
+    push_byte(text, device)?;
+    write!(text, ".{function}")
 }
 
 /// Appends a function's numbers and its path.

@@ -3,20 +3,13 @@ ghost use Rattle.std.specs.Prelude.{codes, option_map, OnOk};
 ghost use Rattle.std.specs.Option.{option_map_or};
 ghost use Rattle.lists.specs.Texts.{Adds};
 ghost use Rattle.bridge_forward.specs.RoutingRows.{window_of};
-ghost use Rattle.model_guests.specs.Replies.{hex_digits};
 ghost use Rattle.model_why.specs.WhyText.{command_text, name_text, range_text, window_text, windows_text};
 ghost use Rattle.board_why.specs.Told.{name_told, window_told, windows_told};
 
 use board_why::{NamedWindow, WindowName};
 use bridge_forward::Window;
+use report::push_word;
 use std::alloc::AllocError;
-
-/// Appends two bytes.
-fn push_word(text: &mut String, word: u16) -> Result<(), AllocError>
-    ensures { OnOk result (Adds text.old text.new (hex_digits 4 word)) }
-{
-    write!(text, "{word:04x}")
-}
 
 /// Appends what a Command register holds.
 pub fn push_command(text: &mut String, command: u16) -> Result<(), AllocError>

@@ -1,20 +1,13 @@
-use Rattle.std.proofs.Common.{◌<◌, arith}
-use Rattle.report.proofs.HexTexts.{hex_pair}
+use Rattle.std.proofs.Common.{◌++◌, ap, ◌∙◌, append_assoc, codes, string_bytes}
+use Rattle.std.proofs.lemmas.Result.{IfOk-equal}
+use Rattle.model_guests.specs.Replies.{hex_digits}
 use Rattle.report.proofs.lines.push_buses.Goals as goal
 
 pub returns : goal.returns
 returns c =
-    let primary : c.args.primary < 256 = omega (arith, c.ranges.primary.fits) in
-    let secondary : c.args.secondary < 256 = omega (arith, c.ranges.secondary.fits) in
-    let subordinate : c.args.subordinate < 256 = omega (arith, c.ranges.subordinate.fits) in
-    rw (
-      c.in_radix.ensures,
-      c.laid_out.ensures,
-      c.in_radix-2.ensures,
-      c.laid_out-2.ensures,
-      c.in_radix-3.ensures,
-      c.laid_out-3.ensures,
-      hex_pair c.args.primary primary,
-      hex_pair c.args.secondary secondary,
-      hex_pair c.args.subordinate subordinate,
-    ) at c.write.ensures.bytes
+    let old = string_bytes c.args.text.now in
+    let first = hex_digits 2 c.args.primary in
+    let behind = codes " " ++ hex_digits 2 c.args.secondary ++ codes " " ++ hex_digits 2 c.args.subordinate in
+    let so_far = c.in_ok-push_byte.ensures ∙ ap (λ t. t ++ first) c.in_ok-push_str.ensures.bytes ∙ append_assoc old (codes " buses ") first in
+    IfOk-equal c.push_behind.result _ _ _ c.push_behind.ensures
+    (ap (λ t. t ++ behind) so_far ∙ append_assoc old (codes " buses " ++ first) behind)
