@@ -10,6 +10,9 @@ const ROW = 20, TICKS = 36;
 const NAMES = { io: 'I/O', mem: 'Memory', pref: 'Prefetchable memory' };
 const keys_in_words = can_ask => `arrow keys go from one to the next, ${can_ask ? 'Enter asks who answers there and why, +' : 'Enter or +'} zooms into it, Escape shows all`;
 
+// A function by its number, or by its path where a cycle for its number doesn't find it.
+const told_as = one => (one.lost ? one.path : one.place);
+
 // Everything that is placed in one aperture, by address, with the depth of the bus it stands on.
 function spans_in(space, functions, apertures) {
   return functions.flatMap(one => one.windows.filter(window => aperture_of(window.space, window.first, apertures) === space)
@@ -34,10 +37,10 @@ function at_address(address, spans, board) {
   const those = spans.filter(span => span.first <= address && address <= span.last);
   const region = those.find(span => span.region);
   if (region) {
-    return `${region.of.place} ${region.name} + ${hex(address - region.first)}${whose(region.of.path, board)}`;
+    return `${told_as(region.of)} ${region.name} + ${hex(address - region.first)}${whose(region.of.path, board)}`;
   }
   const window = those.sort((a, b) => b.depth - a.depth)[0];
-  return window ? `nothing, in the ${window.name} of ${window.of.place}` : 'nothing';
+  return window ? `nothing, in the ${window.name} of ${told_as(window.of)}` : 'nothing';
 }
 
 // The problems or lacks that name a region or, where they name no register, a window of its bridge at their address.
@@ -53,7 +56,7 @@ const findings_in_words = ({ problems, lacks, asked }, spans) => {
     ...told(asked.causes, causes_naming).map(one => `; why: ${one.text}`)].join('');
 };
 
-const span_in_words = (span, board, findings) => `${span.of.place} ${span.name} ${hex(span.first)} to ${hex(span.last)}, `
+const span_in_words = (span, board, findings) => `${told_as(span.of)} ${span.name} ${hex(span.first)} to ${hex(span.last)}, `
   + size_in_words(span.last - span.first + 1n) + (span.region ? whose(span.of.path, board) : '') + findings_in_words(findings, [span]);
 
 const NOTHING_FOUND = { problems: [], lacks: [], asked: { space: null, address: null, causes: [] } };
@@ -75,7 +78,7 @@ export class Addresses {
   // `light` is given the path of the function that is pointed at, or null; `question` is what one asks.
   constructor(into, light, question) {
     Object.assign(this, { into, light, question, ranges: new Map(), at: new Map(), width: 0, board: null });
-    new ResizeObserver(() => { if (this.width !== this.into.clientWidth) this.redraw(); }).observe(into);
+    new ResizeObserver(() => { if (this.width !== this.into.clientWidth) { this.width = 0; this.redraw(); } }).observe(into);
   }
 
   forget() { this.ranges.clear(); this.at.clear(); }
@@ -90,7 +93,8 @@ export class Addresses {
   // A bar that has the keys keeps them, and a question whose bar is gone stands below the others.
   redraw() {
     if (this.board === null) return;
-    this.width = this.into.clientWidth;
+    // asked once for each width, as the browser lays the page out to answer
+    if (this.width === 0) this.width = this.into.clientWidth;
     const keys_at = document.activeElement?.matches('.bars') ? document.activeElement.closest('[data-space]').dataset.space : null;
     const drawn = Object.keys(NAMES).map(space => ({ space, figure: this.figure(space) })), figures = drawn.map(one => one.figure).filter(one => one !== null);
     const without = drawn.filter(one => one.figure === null).flatMap(one => this.question.below(one.space));
@@ -179,9 +183,9 @@ export class Addresses {
     for (const span of seen.slice().sort((a, b) => a.depth - b.depth || !b.region - !a.region)) {
       const [from, to] = sides_of(span), y = span.depth * ROW + 2, mark = mark_of(owners.get(span.of.path), marks);
       const wrong = naming(span, problems).length > 0 ? ' wrong' : naming(span, lacks).length > 0 ? ' lacks' : '';
-      if (span.region) bar.append(region_box(from, to - from, y, ROW - 1, mark, [`${span.of.place} ${span.name}`, span.of.place], wrong, this.board.marks.size > 0));
+      if (span.region) bar.append(region_box(from, to - from, y, ROW - 1, mark, [`${told_as(span.of)} ${span.name}`, told_as(span.of)], wrong, this.board.marks.size > 0));
       else bar.append(svg('rect', { x: from, width: Math.max(to - from, 2), y, height: ROW * (deepest - span.depth), class: `window${wrong}` }),
-        ...name_in([`${span.name} of ${span.of.place}`, `of ${span.of.place}`], from, to - from, y + ROW / 2 + 4, 'of'));
+        ...name_in([`${span.name} of ${told_as(span.of)}`, `of ${told_as(span.of)}`], from, to - from, y + ROW / 2 + 4, 'of'));
     }
     bar.append(...told.map(one => {
       const [from, to] = sides_of(one);

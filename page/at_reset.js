@@ -66,7 +66,7 @@ export class AtReset {
     this.ask();
     const lost = new Map(this.problems.filter(one => one.number !== null).map(one => [one.of[0].path, one]));
     const buses = new Map([['', 0]]);
-    this.functions = this.declared.map(one => this.function_now(one, lost.get(one.path), buses));
+    this.functions = this.declared.map((one, nth) => this.function_now(one, lost.get(one.path), buses, this.functions[nth]));
     if (latch !== 0n && !this.given) this.tell(`host iw 0xcf8 4 ${hex(latch)}`);
     for (const one of [...this.problems, ...this.lacks]) one.space ??= this.space_of(one);
     const [old, now] = [before, this.problems].map(those => new Set(those.map(one => one.text)));
@@ -89,12 +89,16 @@ export class AtReset {
     return region?.kind === 'io' ? 'io' : 'mem';
   }
 
-  // A function that no cycle finds has the registers that were read last, since nothing wrote them since.
-  function_now(one, lost, buses) {
-    const bus = buses.get(parent_of(one.path)), place = lost?.number ?? `${two(bus)}:${one.place.slice(3)}`;
+  // A function that no cycle finds has the registers that were read last, since nothing wrote them since, and stays as it was `before`.
+  function_now(one, lost, buses, before) {
+    const bus = buses.get(parent_of(one.path)), place = lost?.number ?? `${two(bus)}:${one.place.slice(3)}`, name = bus === 0 && one.depth > 0 ? '–' : two(bus);
+    if (lost && before?.lost === lost.text && before.bus === name) {
+      if (one.kind === 'bridge') buses.set(one.path, before.values.get(BUSES) >> 8 & 0xff);
+      return before;
+    }
     const values = lost ? this.read.get(one.path) ?? new Map(dwords_of(one).map(offset => [offset, 0])) : this.values_at(place, one);
     this.read.set(one.path, values);
-    const now = { ...one, place, bus: bus === 0 && one.depth > 0 ? '–' : two(bus), lost: lost?.text ?? null, values };
+    const now = { ...one, place, bus: name, lost: lost?.text ?? null, values };
     const all_regions = regions_now(one, values), all_windows = one.kind === 'bridge' ? windows_now(this.decodes.get(one.path), values) : [];
     if (one.kind === 'bridge') {
       now.buses = [0, 8, 16].map(shift => values.get(BUSES) >> shift & 0xff).map(number => (number === 0 ? '–' : two(number)));
@@ -103,6 +107,12 @@ export class AtReset {
     }
     return { ...now, all_regions, all_windows, regions: all_regions.filter(region => region.open), windows: all_windows.filter(window => window.open),
       decodes: this.decodes.get(one.path) };
+  }
+
+  // At which number a function is looked for, and the bus number of the bridge above it by which that is so.
+  way_to(path) {
+    const at = name => this.functions.find(one => one.path === name), above = at(parent_of(path)), bus = above.values.get(BUSES) >> 8 & 0xff;
+    return `${path} is looked for at ${at(path).place}: the bridge above it, ${above.path}, has Secondary ${two(bus)}${bus === 0 ? ', so its bus has no number' : ''}`;
   }
 
   values_at(place, one) { return new Map(dwords_of(one).map(offset => [offset, Number(this.driven.number(`host cr ${place} ${hex(offset)} 4`))])); }

@@ -20,9 +20,9 @@ export function problem_of(text) {
   return found ? { ...one, of: [{ path: found[1], register: null }], number: found[2] } : one;
 }
 
-// Of problems, lacks or causes, the texts that name each function.
+// Of problems, lacks or causes, the texts that name each function: each text once, also where it names two regions of one function.
 export function texts_by_path(findings) {
   const texts = new Map();
-  for (const { text, of } of findings) for (const { path } of of) texts.set(path, [...(texts.get(path) ?? []), text]);
+  for (const { text, of } of findings) for (const path of new Set(of.map(one => one.path))) texts.set(path, [...(texts.get(path) ?? []), text]);
   return texts;
 }

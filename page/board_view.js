@@ -4,7 +4,7 @@ import { hex, parent_of, size_in_words } from './report.js';
 import { badge, colour, make, mark_of, owner_in_words, sign } from './marks.js';
 
 export const LARGE = 64;
-const MANY = 12, TOLD = 8;
+const MANY = 12, TOLD = 8, UNNUMBERED = '–';
 
 // What a function holds, part by part, but for regions that are told to be closed by what it lacks.
 export function places_of(one, lacks = []) {
@@ -25,6 +25,20 @@ function sign_of(name, seen, meaning, texts) {
   const one = make('b', name);
   one.append(...sign(texts.length === 1 ? seen : `${seen} ${texts.length}`, ` ${meaning}: ${texts.length} `));
   return one;
+}
+
+// The path, which no other function has and a line may end in behind each bridge, and the identity.
+function small_of({ path, identity }) {
+  const small = make('small', ''), shown = make('span', 'path');
+  shown.append(...path.split(/(?<=\/)/).flatMap(step => [step, document.createElement('wbr')]));
+  small.append(shown, ' ', identity);
+  return small;
+}
+
+// Two buses may have one number, but for all that have none.
+function bus_in_table({ bus, path }) {
+  const above = parent_of(path);
+  return bus === UNNUMBERED || above === '' ? `bus ${bus}` : `bus ${bus} behind ${above}`;
 }
 
 function line_of(name, seen, meaning, text) {
@@ -82,7 +96,9 @@ export class Board {
       more.dataset.more = parent;
       on.append(more);
     }
-    bus.append(make('div', 'rail', `bus ${name}`), on);
+    const rail = make('div', 'rail', `bus ${name}`);
+    if (name === UNNUMBERED) rail.title = `This bus has no number: Secondary of ${parent}, the bridge before it, is 00`;
+    bus.append(rail, on);
     return bus;
   }
 
@@ -103,9 +119,12 @@ export class Board {
   // What is told of a function, and of those behind a bridge whose bus is folded.
   told_at(one, texts) {
     const own = texts.get(one.path) ?? [];
-    if (one.kind !== 'bridge' || this.is_open(one.path)) return own;
-    return [...new Set([...own, ...[...texts].filter(([path]) => path.startsWith(`${one.path}/`)).flatMap(([, those]) => those)])];
+    if (one.kind !== 'bridge' || this.is_open(one.path) || texts.size === 0) return own;
+    return [...new Set([...own, ...this.all_below(one.path).flatMap(path => texts.get(path) ?? [])])];
   }
+
+  // The paths of all functions behind a bridge.
+  all_below(path) { return (this.below.get(path) ?? []).flatMap(one => [one.path, ...this.all_below(one.path)]); }
 
   chip_of(one) {
     const owner = this.owners.get(one.path), mark = mark_of(owner, this.marks), chip = make('div', 'chip');
@@ -120,7 +139,7 @@ export class Board {
     else { colour(chip, mark); chip.append(badge(mark)); }
     chip.append(`${one.place.slice(3)} ${one.words}`, ...(troubles.length > 0 ? [sign_of('bang', '!', 'wrong', troubles)] : []),
       ...(lacks.length > 0 ? [sign_of('lack', '○', 'left to do', lacks)] : []), ...(causes.length > 0 ? [sign_of('cause', '?', 'why', causes)] : []),
-      make('small', '', one.identity));
+      small_of(one));
     chip.classList.toggle('troubled', troubles.length > 0);
     chip.classList.toggle('lost', Boolean(one.lost));
     if (this.chosen !== null) this.let_choose(chip, one);
@@ -143,9 +162,12 @@ export class Board {
     const names = ['Number', 'Guest', 'Path', 'Class and identity', 'Regions and windows', 'Interrupt'], head = make('tr', '');
     head.append(...names.map(name => make('th', '', name)));
     const buses = new Map();
-    for (const one of this.functions) buses.set(one.bus, [...(buses.get(one.bus) ?? []), one]);
-    const groups = [...buses].flatMap(([bus, all]) => {
-      const key = `bus ${bus}`, open = this.is_open(key), row = make('tr', 'group'), cell = make('td', '');
+    for (const one of this.functions) {
+      const key = bus_in_table(one);
+      buses.set(key, [...(buses.get(key) ?? []), one]);
+    }
+    const groups = [...buses].flatMap(([key, all]) => {
+      const open = this.is_open(key), row = make('tr', 'group'), cell = make('td', '');
       const fold = button_of(`${open ? '−' : '+'} ${key}: ${all.length}`, `${open ? 'Fold' : 'Unfold'} ${key} of the table`,
         () => this.turn(this.turned, key, `[data-fold="${key}"]`));
       fold.dataset.fold = key;

@@ -10,6 +10,7 @@ import time
 import tomllib
 import types
 
+import browse_newcomer
 import browse_ready
 import browse_why
 from tried import CUT, FIELD, PAINTED, holds, said_last, text_of, type_line, until, write_field
@@ -37,8 +38,11 @@ SOLUTIONS = {
               'host cw 00:01.0 0x10 4 0x2000', 'host cw 00:02.0 0x20 4 0xc000c000', 'host cw 00:02.0 0x1c 2 0x1010', 'host cw 00:02.0 4 2 3',
               'host cw 01:00.0 4 2 3', 'host cw 01:01.0 4 2 2', 'host cw 00:01.0 4 2 1'],
     'neighbour': ['host guests', 'web cw 0 0x10 4 0x80000000', 'web cw 0 4 2 2', 'web mw 0x80000010 4 0x600d600d', 'store mr 0x80000010 4', 'store cw 0 0x24 4 0x80000000', 'store cw 0 4 2 2', 'store mw 0x80000010 4 0x0bad0bad'],
-    'move': ['host move web 0 store 2', 'store cr 2 0x10 4', 'store cw 2 0x10 4 0x90000000', 'store cw 2 4 2 2'],
+    'move': ['host move web 0 store 2', 'store cr 2 0x10 4', 'store cr 2 4 2', 'store cw 2 0x10 4 0x90000000', 'store cw 2 4 2 2', 'store mr 0x90000010 4',
+             'host mr 0xc0000010 4'],
 }
+# What has the reply that a condition wants, before what stands above it holds: each line's reply counts for nothing.
+EARLY = {'neighbour': ['host guests', 'store cr 5 0 4'], 'move': ['store cr 0 0x10 4', 'store cr 0 4 2', 'host mr 0xc0000000 4']}
 # What mends nothing: closing what is wrong.
 CLOSED = {'wrong/limit_short': ['host cw 01:00.0 4 2 0'], 'wrong/base_moved': ['host cw 02:00.0 4 2 0']}
 
@@ -73,6 +77,21 @@ def lessons_are_done(browser, page):
     browser.run(FORGET)
 
 
+MET = "[...document.querySelectorAll('#goals li')].map(one => one.className)"
+
+
+def a_reply_counts_in_its_place(browser, page):
+    for name, wanted in [('neighbour', ['met', '', '', '', '']), ('move', [''] * 7)]:
+        browser.open(f'{page}#lesson={name}')
+        for line in EARLY[name]:
+            type_line(browser, line)
+        holds(f'in {name} a reply before what stands above it counts for nothing', browser.run(MET) == wanted, browser.run(MET))
+    for line in ['host move web 0 store 2', 'store cr 2 0x10 4']:
+        type_line(browser, line)
+    holds('and after it counts', browser.run(MET) == ['met', 'met', 'met', '', '', '', ''], browser.run(MET))
+    browser.run(FORGET)
+
+
 def a_lesson_leads_on(browser, page):
     browser.open(f'{page}#board=main')
     browser.run(FORGET)
@@ -84,7 +103,7 @@ def a_lesson_leads_on(browser, page):
     holds('a button leads to the box for lines', browser.run("document.activeElement.id") == 'line')
     for line in SOLUTIONS['read'][:2]:
         type_line(browser, line)
-    met = browser.run("[...document.querySelectorAll('#goals li')].map(one => one.className)")
+    met = browser.run(MET)
     holds('what is met is marked', met == ['met', 'met', '', ''], met)
     browser.open(page)
     holds('a lesson that was begun comes back', text_of(browser, 'task_title') == 'Lesson 1: Read a board' and browser.run(STATE) == '2 of 4 conditions met', browser.run(STATE))
@@ -184,6 +203,9 @@ def lines_are_explained(browser, page):
     browser.insert('ven')
     browser.press('Tab')
     holds('Tab takes what was begun', browser.run("document.getElementById('line').value") == 'host cr 01:00.0 0x0 2 ', browser.run("document.getElementById('line').value"))
+    fill(browser, 'host cr 01:00.0 ven')
+    holds('a name that is offered is not wrong', browser.run("document.getElementById('line').getAttribute('aria-invalid')") == 'false')
+    fill(browser, 'host cr 01:00.0 0x0 2')
     browser.press('Escape')
     browser.press('Enter')
     holds('the line is run', said_last(browser, 'reply') == 'host: 0x1234', text_of(browser, 'transcript'))
@@ -255,6 +277,21 @@ def registers_have_words(browser, page):
     holds('the bytes are read without a trace', said_last(browser, 'reply') == 'host: 0x00011234', said_last(browser, 'reply'))
 
 
+def functions_can_be_told_apart(browser, page):
+    browser.open(f'{page}#lesson=wrong&part=5')
+    chips = browser.run("[...document.querySelectorAll('#tree .chip')].map(one => one.textContent)")
+    holds('no two functions of the tree have one label', len(chips) == len(set(chips)) and any(one.endswith('3.0/0.0 1234:0008') for one in chips), chips)
+    groups = browser.run("[...document.querySelectorAll('#functions .fold')].map(one => one.textContent)")
+    wanted = ['− bus 00: 3', '− bus 01 behind 2.0: 3', '− bus 02 behind 2.0/2.0: 1', '− bus 01 behind 3.0: 1']
+    holds('two buses of one number are two in the table', groups == wanted, groups)
+    browser.open(f'{page}#lesson=wrong&part=8')
+    counts_of = "[...document.querySelectorAll('#tree .bang .mark')].map(one => one.textContent)"
+    holds('a problem of two regions of one function counts once there', browser.run(counts_of) == ['!'], browser.run(counts_of))
+    told = browser.run("[...document.querySelectorAll('#functions tr[data-path=\"2.0/0.0\"] .wrong')].length")
+    holds('and is told once', told == 1, told)
+    browser.run(FORGET)
+
+
 # The views whose looks are tried, and the lines that are typed in them.
 VIEWS = [*((task['name'], parts_of(task)[0][1], SOLUTIONS[parts_of(task)[0][0]][:-1]) for task in TASKS), ('lines', 'board=server', ['web cw 0 0x10 4 0xg', 'web cr 0 0 4']),
          ('left', 'lesson=wrong&part=1', [browse_ready.MENDED, *browse_ready.lines_of('prefetched')]),
@@ -291,11 +328,11 @@ def everything_has_a_name(browser, page):
         holds(f'all controls of {link} have names', browser.run(UNNAMED) == [], browser.run(UNNAMED))
 
 
-ALL = [lessons_are_done, a_lesson_leads_on, a_teacher_hands_out, lines_are_explained, reasons_are_the_prompts, registers_have_words, everything_has_a_name]
+ALL = [lessons_are_done, a_reply_counts_in_its_place, a_lesson_leads_on, a_teacher_hands_out, lines_are_explained, reasons_are_the_prompts, registers_have_words, functions_can_be_told_apart, everything_has_a_name]
 
 
 def in_browser(browser, page, folder, shot=''):
-    for check in [*ALL, *browse_ready.ALL, *browse_why.ALL]:
+    for check in [*ALL, *browse_newcomer.ALL, *browse_ready.ALL, *browse_why.ALL]:
         check(browser, page)
     browse_why.questions_look_well(browser, page, folder, shot)
     looks_fit(browser, page, folder, shot)

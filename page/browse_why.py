@@ -4,6 +4,7 @@ from browse_ready import SET_UP
 from tried import CUT, PAINTED, holds, said_last, text_of, type_line
 
 LINES = "[...document.querySelectorAll('.question li')].map(one => one.textContent)"
+ABOUT = "document.querySelector('.question .about:not([hidden])')?.textContent ?? null"
 ASKED = "document.querySelector('.question code')?.textContent ?? null"
 IN = "document.querySelector('.question')?.closest('.row, #asked, [data-space]')?.matches('%s') ?? false"
 SIGNS = "[...document.querySelectorAll('#tree .cause')].map(one => `${one.closest('.chip').dataset.path} ${one.querySelector('.mark').textContent}`)"
@@ -29,6 +30,7 @@ def a_reply_is_asked(browser, page):
     holds('its reply tells why', browser.run(LINES) == wanted, browser.run(LINES))
     holds('by a line of firmware', browser.run(ASKED) == 'host why mem 0xc0000000', browser.run(ASKED))
     holds('beside what was read', browser.run(IN % '.row'))
+    holds('it is about what was read, and nothing besides', browser.run(ABOUT) is None, browser.run(ABOUT))
     holds('the reply is heard', text_of(browser, 'heard') == '; '.join(wanted), text_of(browser, 'heard'))
     holds('the button says that it is told', browser.run(f"{LAST}.getAttribute('aria-expanded')") == 'true')
     holds('functions that are named have signs', browser.run(SIGNS) == ['2.0 ?', '2.0/0.0 ?'], browser.run(SIGNS))
@@ -87,6 +89,9 @@ def a_lost_function_is_asked(browser, page):
     browser.press('Enter')
     holds('it tells what its number reaches', browser.run(LINES) == ['01:00.0 reaches 2.0/0.0', '2.0 takes bus 01'], browser.run(LINES))
     holds('below the tree', browser.run(IN % '#asked'))
+    about = '3.0/0.0 is looked for at %s: the bridge above it, 3.0, has Secondary %s'
+    holds('with the bridge that gives it that number', browser.run(ABOUT) == about % ('01:00.0', '01'), browser.run(ABOUT))
+    holds('which is heard', text_of(browser, 'heard').startswith(about % ('01:00.0', '01')), text_of(browser, 'heard'))
     holds('what is on the way is marked', browser.run(SIGNS) == ['2.0 ?'], browser.run(SIGNS))
     holds('the function is selected, and has the keys', browser.run(f"document.getElementById('chosen').value === '3.0/0.0' && {chip} === document.activeElement"))
     browser.press('Enter')
@@ -94,8 +99,17 @@ def a_lost_function_is_asked(browser, page):
     browser.run(f'{chip}.click()')
     type_line(browser, 'host cw 00:03.0 0x18 4 0x00030300')
     holds('the question stays as it was asked', browser.run(ASKED) == 'host why cfg 01:00.0', browser.run(ASKED))
+    holds('but what it is about follows', browser.run(ABOUT) == about % ('03:00.0', '03'), browser.run(ABOUT))
     browser.run("document.querySelector('#tree [data-path=\"1.0\"]').click()")
     holds('a function that is found is only selected', browser.run("document.getElementById('chosen').value") == '1.0' and browser.run(ASKED) == 'host why cfg 01:00.0')
+
+
+def two_functions_at_one_number_are_asked(browser, page):
+    browser.open(f'{page}#board=server&as=firmware')
+    for path in ['2.0/0.0', '4.0/0.0']:
+        browser.run(f"document.querySelector('#tree [data-path=\"{path}\"]').click()")
+        wanted = f'{path} is looked for at 00:00.0: the bridge above it, {path[:3]}, has Secondary 00, so its bus has no number'
+        holds(f'a click on {path} asks about it', browser.run(ABOUT) == wanted and browser.run(ASKED) == 'host why cfg 00:00.0', browser.run(ABOUT))
 
 
 def an_address_is_asked(browser, page):
@@ -205,7 +219,7 @@ def a_bar_of_a_guest_is_asked(browser, page):
     place = int((browser.run(ASKED) or '0').split()[-1], 16)
     holds("a click on a guest's bar asks at its address", 0x80000000 < place < 0x80001000, browser.run(ASKED))
     holds('and tells who answers', browser.run(LINES) == [f'memory {place:#x}: slot 0 bar1 offset {place - 0x80000000:#x} answers'], browser.run(LINES))
-    holds("below the guests' bars", browser.run("document.querySelector('#asked_there > .question') !== null"))
+    holds("below the guest's bar", browser.run("document.querySelectorAll('#maps svg')[0].nextSibling.querySelector('.question') !== null"))
     browser.run(own % '(b.left + b.right) / 2')
     place = int((browser.run(ASKED) or '0').split()[-1], 16)
     holds("where another guest's region stands nobody answers", 0x90000000 < place < 0x90100000 and browser.run(LINES) == [f'memory {place:#x}: nobody answers'],
@@ -216,6 +230,7 @@ def a_bar_of_a_guest_is_asked(browser, page):
     type_line(browser, 'a cw 0 4 2 0')
     wanted = ['memory 0x80000000: nobody answers', CLOSED[1]]
     holds('what was asked at a region stays when it closes', browser.run(LINES) == wanted, browser.run(LINES))
+    holds('below all bars, where its own is gone', browser.run("document.querySelector('#asked_there .question') !== null"))
     type_line(browser, 'a cw 0 4 2 2')
     browser.run("document.querySelector('.question .fold').focus()")
     browser.press('Escape')
@@ -273,5 +288,5 @@ def questions_look_well(browser, page, folder, shot):
             browser.picture(folder / f'{shot}{look}_why_{where}.png')
 
 
-ALL = [a_reply_is_asked, numbers_and_ports_are_asked, a_lost_function_is_asked, an_address_is_asked, a_gone_bar_keeps_its_question, a_guest_is_asked,
+ALL = [a_reply_is_asked, numbers_and_ports_are_asked, a_lost_function_is_asked, two_functions_at_one_number_are_asked, an_address_is_asked, a_gone_bar_keeps_its_question, a_guest_is_asked,
        slots_and_ports_of_a_guest_are_asked, a_bar_of_a_guest_is_asked, guests_of_a_given_board_are_asked]

@@ -6,6 +6,8 @@ const TOO_SMALL = 902;
 const LONGEST_REPLY = 48;
 const LONGEST_LINE = 256;
 const ROOM = 1 << 16;
+// Made once: of a large board hundreds of registers are read after each line.
+const TO_BYTES = new TextEncoder(), TO_TEXT = new TextDecoder();
 const SPACE_NUMBERS = { cfg: 0, io: 1, mem: 2 };
 
 export class Engine {
@@ -106,13 +108,13 @@ class Held {
 
   // The number that a line reads.
   number(line) {
-    const reply = new TextDecoder().decode(this.answer(new TextEncoder().encode(line)));
+    const reply = TO_TEXT.decode(this.answer(TO_BYTES.encode(line)));
     return BigInt(reply.slice(reply.indexOf(':') + 2).trimEnd());
   }
 
   // The place of a guest's name among all names.
   guest(name) {
-    const { engine, handle, text, written } = this, bytes = new TextEncoder().encode(name);
+    const { engine, handle, text, written } = this, bytes = TO_BYTES.encode(name);
     engine.bytes(text, bytes.length).set(bytes);
     engine.exports.pciguest_raw_guest(handle, text, BigInt(bytes.length), written);
     return engine.word(written);
@@ -134,7 +136,7 @@ class Held {
     const { engine, handle } = this, at = [BigInt(this.guest(guest)), SPACE_NUMBERS[space], slot, place];
     const { number, text } = engine.told((...rooms) => engine.exports.pciguest_raw_why(handle, ...at, ...rooms));
     if (number !== 0) throw new Error(`why is refused: ${number}`);
-    return new TextDecoder().decode(text).trimEnd();
+    return TO_TEXT.decode(text).trimEnd();
   }
 
   close() {
@@ -162,11 +164,11 @@ class Driven extends Held {
 
   // The reply to a question, which may have thousands of lines.
   long_reply(question) {
-    const { engine, handle, text: line, room } = this, said = new TextEncoder().encode(question);
+    const { engine, handle, text: line, room } = this, said = TO_BYTES.encode(question);
     engine.bytes(line, said.length).set(said);
     const { text } = engine.told((...rooms) => this.run_line(handle, line, BigInt(said.length), ...rooms), room);
     this.room = Math.max(room, 2 * text.length);
-    return new TextDecoder().decode(text).trimEnd();
+    return TO_TEXT.decode(text).trimEnd();
   }
 
   readiness() { return this.long_reply('host ready'); }

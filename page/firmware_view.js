@@ -63,7 +63,7 @@ export class Firmware {
     const { functions } = this.now, one = functions.find(each => each.path === this.board.chosen);
     if (one === undefined) { this.registers.clear(); return; }
     const bytes = one.lost === null ? keeping_latch(this.driven, () => bytes_of(this.driven, 'host', one.place)) : null;
-    const lost = one.lost === null ? '' : `No cycle finds it, so nothing can be written: ${one.lost}`;
+    const lost = one.lost === null ? '' : `No cycle finds it, so nothing can be written, and what stands here was read last: ${one.lost}`;
     this.registers.draw(functions, bytes === null ? one : seen_in(one, bytes, one.decodes),
       { bytes, note: lost, whose: 'host', write: each => this.give(hex_line('host', one.place, each)) });
   }

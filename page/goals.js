@@ -2,7 +2,7 @@
 //   ready            nothing is wrong in the registers as they stand, and nothing is lacking
 //   audit: TEXT      a line of the audit of the registers as they stand; `audit: ok` where nothing is wrong
 //   LINE -> REPLY    a read is answered so now
-//   -> REPLY         a line of the reader's was answered so since the task began
+//   -> REPLY         a line of the reader's was answered so since the task began, while the conditions above held that are no replies
 
 import { asked_of, keeping_latch } from './asked.js';
 import { why_bad } from './reasons.js';
@@ -53,17 +53,26 @@ function lines_of_audit(held) {
 export class Goals {
   constructor(text, guests, as) { Object.assign(this, { rows: read_goal(text, guests, as).rows, as, told: new Set(), lacks: [] }); }
 
-  // A reply to a line of the reader's.
-  hear(reply) { this.told.add(reply); }
+  // A reply to a line of the reader's. It counts where the conditions above hold, but for those that are replies too.
+  hear(reply, held, lacks) {
+    for (const [nth, one] of this.rows.entries()) {
+      if (one.kind !== 'told' || one.reply !== reply || this.told.has(one)) continue;
+      const above = this.rows.slice(0, nth).filter(({ kind }) => kind !== 'told');
+      if (this.judge(above, held, lacks).every(({ met }) => met)) this.told.add(one);
+    }
+  }
 
   // Which conditions hold now. `held` answers lines, and `lacks` tells what is wrong and what is lacking.
   look(held, lacks) {
-    const needs = kind => this.rows.some(one => one.kind === kind);
-    const audit = needs('audit') ? lines_of_audit(held) : [];
-    this.lacks = needs('ready') ? lacks() : [];
-    const is_met = { ready: () => this.lacks.length === 0, audit: one => audit.includes(one.text), told: one => this.told.has(one.reply),
+    this.lacks = this.rows.some(one => one.kind === 'ready') ? lacks() : [];
+    return this.judge(this.rows, held, () => this.lacks);
+  }
+
+  judge(rows, held, lacks) {
+    const audit = rows.some(one => one.kind === 'audit') ? lines_of_audit(held) : [];
+    const is_met = { ready: () => lacks().length === 0, audit: one => audit.includes(one.text), told: one => this.told.has(one),
       read: one => asked_of(held, one.line) === one.reply };
-    const look = () => this.rows.map(one => ({ words: one.words, met: is_met[one.kind]?.(one) ?? false }));
+    const look = () => rows.map(one => ({ words: one.words, met: is_met[one.kind]?.(one) ?? false }));
     return this.as === 'firmware' ? keeping_latch(held, look) : look();
   }
 }

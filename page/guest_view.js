@@ -118,12 +118,20 @@ function shut_of(all, owners, marks) {
 
 // `light` is given the path of a function, or null; `question` is what one asks, whose box stands in `below`.
 export class GuestMaps {
-  constructor(into, light, question, below) { Object.assign(this, { into, light, question, below, seen: '' }); }
+  // `below` takes what was asked in a bar that is gone.
+  constructor(into, light, question, below) { Object.assign(this, { into, light, question, below, seen: '', places: new Map() }); }
+
+  // Where the reply stands to what is asked in a guest's bar: below that bar.
+  place_of(guest, space) {
+    const key = `${guest} ${space}`;
+    if (!this.places.has(key)) this.places.set(key, make('div', ''));
+    return this.places.get(key);
+  }
 
   // A region that one asks about takes the keys back, by its name, if it is still open.
   ask(guest, space, address, name) {
     const back = () => [...this.into.querySelectorAll('.joined')].find(one => one.dataset.one === name) ?? null;
-    this.question.ask(question_of(guest, space, hex(address)), this.below, back);
+    this.question.ask(question_of(guest, space, hex(address)), this.place_of(guest, space), back);
   }
 
   figure(space, all, marks, told) {
@@ -135,7 +143,7 @@ export class GuestMaps {
       const line = make('div', 'whose');
       line.append(badge(marks.get(guest)), `guest ${guest} above, the board below`);
       const ask = (address, name) => this.ask(guest, space, address, name);
-      figure.append(line, picture(all.filter(one => one.owner.guest === guest), all, scales, marks, width, { tell, ask }));
+      figure.append(line, picture(all.filter(one => one.owner.guest === guest), all, scales, marks, width, { tell, ask }), this.place_of(guest, space));
     }
     return figure;
   }
@@ -145,7 +153,11 @@ export class GuestMaps {
     const now = all.map(in_words).join('\n') + this.into.clientWidth + [...owners.keys()];
     if (now === this.seen && all.length > 0) return;
     this.seen = now;
-    if (all.length === 0) { this.into.replaceChildren(hint(owners)); return; }
+    this.into.replaceChildren(...(all.length === 0 ? [hint(owners)] : this.figures_of(all, owners, marks)));
+    this.below.replaceChildren(...[...this.places.values()].filter(one => one.firstChild !== null && !this.into.contains(one)));
+  }
+
+  figures_of(all, owners, marks) {
     const told = make('div', 'told');
     told.setAttribute('role', 'status');
     const figures = Object.keys(SPACES).map(space => all.filter(one => one.space === space).length > 0
@@ -153,6 +165,6 @@ export class GuestMaps {
     const scroll = make('div', 'scroll few');
     scroll.tabIndex = 0;
     scroll.append(table_of(all, marks));
-    this.into.replaceChildren(...figures, ...shut_of(all, owners, marks), told, scroll);
+    return [...figures, ...shut_of(all, owners, marks), told, scroll];
   }
 }

@@ -61,7 +61,7 @@ export class Lessons {
     this.view.close(told);
   }
 
-  hear(reply) { if (!this.opening) this.goals?.hear(reply); }
+  hear(reply) { if (!this.opening) this.goals?.hear(reply, this.page.held(), () => this.page.lacks()); }
 
   // After lines that ran: what is done of the goal.
   look() {

@@ -124,9 +124,10 @@ function draw_firmware() {
   if (given()) draw_guests(firmware.driven, firmware.now.functions);
 }
 
-// Why no cycle finds a function, by the number at which it is looked for.
+// Why no cycle finds a function, by the number at which it is looked for, which is told with the bridge that gives it.
 function ask_of_lost({ path, place }) {
-  question.turn(question_at('cfg', place), part.asked, () => document.querySelector(`#tree [data-path="${path}"]`));
+  const asked = { ...question_at('cfg', place), path, about: () => firmware.now.way_to(path) };
+  question.turn(asked, part.asked, () => document.querySelector(`#tree [data-path="${path}"]`));
 }
 
 // Marks functions where they are drawn; of one behind a folded bus, the bridge before it.

@@ -15,10 +15,11 @@ export class Question {
     Object.assign(this, { heard, driven, held, path_in, changed, ...UNASKED });
     const head = make('div', 'line'), line = make('code', ''), list = make('ul', '');
     head.append(line, this.button_to_close());
+    this.about = make('p', 'about');
     this.box = make('div', 'question');
     for (const [name, value] of [['role', 'group'], ['aria-label', 'Why'], ['aria-live', 'off']]) this.box.setAttribute(name, value);
     this.box.addEventListener('keydown', event => { if (event.key === 'Escape') this.close(); });
-    this.box.append(head, list);
+    this.box.append(head, this.about, list);
     this.findings = new Findings({ total: line, list, few: LINES_SHOWN }, light, choose);
   }
 
@@ -42,22 +43,30 @@ export class Question {
     this.box.scrollIntoView({ block: 'nearest' });
   }
 
-  // What asked this question last closes it.
+  // What asked this question last closes it. Two functions may be looked for at one number.
   turn(asked, place, back) {
-    if (this.asked?.line === asked.line && this.place === place) this.close();
+    if (this.asked?.line === asked.line && this.asked.path === asked.path && this.place === place) this.close();
     else this.ask(asked, place, back);
   }
 
   // The reply as registers are now; says whether it is another one.
   look() {
     if (this.asked === null) return false;
+    this.tell_about();
     const { line, call } = this.asked, reply = call === null ? this.driven().long_reply(line) : this.held().why(call);
     if (reply === this.reply) return false;
     const read = call === null ? read_why(reply) : read_why_of_guest(reply, slot => this.path_in(call.guest, slot));
     Object.assign(this, { reply, lines: read ?? [{ text: reply, of: [], places: [], number: null, is_cause: false }] });
     this.findings.draw(this.lines, this.asked.line);
-    this.heard.textContent = this.lines.map(one => one.text).join('; ');
+    this.heard.textContent = [...(this.about.hidden ? [] : [this.about.textContent]), ...this.lines.map(one => one.text)].join('; ');
     return true;
+  }
+
+  // What the question is about, as registers are now, where its line doesn't say it.
+  tell_about() {
+    const told = this.asked.about?.() ?? '';
+    if (this.about.textContent !== told) this.about.textContent = told;
+    this.about.hidden = told === '';
   }
 
   // Functions have moved, so the same reply may name others.

@@ -19,11 +19,13 @@ export class ScriptBox {
   look() {
     const board = this.board(), text = this.line.value;
     const bad = board === null ? null : why_bad(text, board.guests, board.as);
-    this.why.textContent = bad?.why ?? '';
-    this.why.classList.toggle('wrong', bad !== null && !bad.begun);
-    this.line.setAttribute('aria-invalid', bad !== null && !bad.begun);
     const ends = this.line.selectionStart === text.length;
     const { from, offers } = board === null || !ends || text === '' ? { from: 0, offers: [] } : completions(text, board);
+    // a word that begins what is offered in its place is a name, and none that is wrong
+    const wrong = bad !== null && !bad.begun && !(offers.length > 0 && bad.word?.at === from);
+    this.why.textContent = bad?.why ?? '';
+    this.why.classList.toggle('wrong', wrong);
+    this.line.setAttribute('aria-invalid', wrong);
     Object.assign(this, { from, at: -1 });
     this.show(offers.slice(0, OFFERS_SHOWN));
   }
