@@ -15,7 +15,7 @@ INSTALL := PREFIX='$(PREFIX)' DESTDIR='$(DESTDIR)' LIBDIR='$(LIBDIR)' tools/inst
 BOARD := boards/main.toml
 
 .PHONY: demo list lspci has-lspci has-qemu has-firmware has-kit has-peers gate test edits build library install \
-  uninstall dist deb deb-test bench bench-peers hostile fuzz qemu firmware kit corpus peers page browse outside try quick clean
+  uninstall dist deb deb-test bench bench-peers hostile fuzz qemu firmware kit corpus peers page browse outside try try-page quick clean
 
 # Proves and builds the program, and runs a script over the demo board.
 demo: build
@@ -37,17 +37,19 @@ pciguest:
 	@$(MAKE) --no-print-directory build
 
 # The gate: what the documents say of files and what runs tests and proofs, which takes a moment; every proof from nothing,
-# the must-fail edits, the tests and the programs; then the proved program as its user runs it, the commands that the
-# documents print, and each growth of memory refused in turn on the main board. At the end stands how long each took.
-GATE := tests/documents.sh tests/kit.sh tests/tools.sh tests/prove.sh 'rm -rf .prove; rt ci' tests/program.sh \
-  tests/commands.sh 'python3 tests/hostile/growths.py crates/pciguest/out/pciguest --quick --arrays crates/test_landings/out/test_landings'
+# the tests and the programs, and beside them the edits; then the proved program as its user runs it, the commands that the
+# documents print, and each growth of memory refused in turn on the main board. Parts between brackets run side by side. At
+# the end stands how long each took.
+FIRST := [ tests/documents.sh tests/kit.sh tests/tools.sh tests/prove.sh ]
+PROGRAM := tests/program.sh tests/commands.sh \
+  'python3 tests/hostile/growths.py crates/pciguest/out/pciguest --quick --arrays crates/test_landings/out/test_landings'
 gate:
-	@tests/parts.py $(GATE)
+	@tests/parts.py $(FIRST) tests/proofs.py [ $(PROGRAM) ]
 
-# The gate, and then the library for C as its user links it, over what the gate left, and what is installed and packed.
+# The gate with the library for C, which is built beside the proofs, as its user links it, and what is installed and packed.
 test:
-	@tests/parts.py $(GATE) 'tools/library --after-gate; cp -f crates/pciguest/out/pciguest pciguest' \
-	  tests/library.sh tests/install.sh 'tests/schema.py ./pciguest'
+	@tests/parts.py $(FIRST) 'tests/proofs.py --library; cp -f crates/pciguest/out/pciguest pciguest' \
+	  [ $(PROGRAM) tests/library.sh tests/install.sh 'tests/schema.py ./pciguest' ]
 
 # All that stands outside the gate, whole. A part whose packages are missing here is skipped, and they are named.
 outside: pciguest library/libpciguest.a
@@ -79,7 +81,7 @@ uninstall:
 	@$(INSTALL) --remove
 
 # A tarball for those without the kit, with the transcripts: pciguest-VERSION-x86_64-linux.tar.gz. It takes Python 3.11.
-# It has the page too.
+# It has the page too, which `page/offline TARBALL` opens without a network.
 dist: build library corpus
 	@$(MAKE) --no-print-directory page
 	@tools/dist
@@ -197,13 +199,24 @@ page: pciguest
 	@echo 'pciguest.html: open it in a browser'
 
 # The module takes some minutes, and is made once for each library that is proved.
-page/out/pciguest.wasm: crates/pciguest_c/out/libpciguest_c.a page/module page/heap.c Makefile
+page/out/pciguest.wasm: crates/pciguest_c/out/libpciguest_c.a page/module page/wasm page/heap.c Makefile
 	@mkdir -p page/out
 	@page/module pciguest_c $@ $(EXPORTS)
 
-# The page as a reader uses it, in headless Chromium; screenshots are left in page/out.
+# The page over a module for which nothing was proved, in some minutes, for who works on the page: page/out/unproved.html,
+# which says so at its top. `make page` makes the one to hand out.
+try-page:
+	@echo 'This run proves nothing: it only compiles the library for the page. `make page` proves it first.'
+	@mkdir -p page/out
+	@page/unproved page/out/unproved.wasm $(EXPORTS)
+	@page/assemble page/out/unproved.wasm page/out/unproved.html 'Nothing here is proved: this page was built by make try-page.'
+	@echo 'page/out/unproved.html: open it in a browser'
+
+# The page as it was built, and as it stands in each tarball that `make dist` left here, opened where no network is. Then the
+# page as a reader uses it, in headless Chromium, and in Firefox where it is; screenshots are left in page/out.
 browse: page
 	@page/contrast
+	@page/offline pciguest.html $(wildcard pciguest-*-x86_64-linux.tar.gz)
 	@page/browse pciguest.html page/out
 
 # The program compiled once, with checks, and asked what the tests ask: a minute, and nothing is proved.

@@ -1,18 +1,21 @@
 #!/usr/bin/env python3
 """Tries edits: wrong bodies, each of which the check of its crate must refuse.
 
-    tests/edits.py --after-gate [--jobs N] [CRATE..]
     tests/edits.py [--jobs N] [--gate] [--alone] [CRATE..]
+    tests/edits.py --beside ROOM
 
-With --after-gate they are those of the gate, CRATE/must-fail/*.edit, tried over the libraries that the gate has just proved.
-Else they are those beside the gate, tests/edits/CRATE/*.edit, and with --gate both; what the crates stand on is proved
-first, where no earlier run has kept that, and what is kept of a crate is used where all of it is checked.
+They are those beside the gate, tests/edits/CRATE/*.edit, and with --gate those of the gate too, CRATE/must-fail/*.edit;
+what the crates stand on is proved first, where no earlier run has kept that, and what is kept of a crate is used where all
+of it is checked. With --beside they are those of the gate alone, tried while something proves a copy of the crates in ROOM:
+each line of standard input names a crate that is proved there, whose edits are tried from then on, a few at once, by what
+the proofs leave of the processors and of memory. Where standard input ends, all have to be proved.
 
 Edits of several functions are put into one copy of the crate, and a check of these functions alone, with those that they
 call, names each that it refuses: an edit is refused where that names the edit's own function, for a goal or an answer of
 that function. Two edits share a copy only where neither's function is called by the other's, by way of whatever functions
 of the crate. What gets no verdict so is tried alone in a check of the whole crate, by the words and the judgement of
 `rt must-fail`; with --alone all are. Each verdict is told once it is there; the last line is 'N passed, M failed'."""
+import contextlib
 import importlib.machinery
 import importlib.util
 import os
@@ -23,12 +26,15 @@ import shutil
 import subprocess
 import sys
 import tempfile
+import threading
 import time
 from concurrent.futures import ThreadPoolExecutor
 
 TOP = pathlib.Path(__file__).resolve().parent.parent
 # the memory that a check takes at most, of most crates
 FOR_CHECK = 3_000_000_000
+# how many checks run beside proofs, and the memory that has to be free then for one more
+BESIDE, FREE_BESIDE = 2, 2 * FOR_CHECK
 # what a proof file says where the edit took away a name: that says little of the contract
 NAMES = re.compile(r"has no field|is not in scope|has no `|was not admitted|which was rejected")
 HEAD = re.compile(r'^( *)(?:pub(?:\([a-z]+\))? )?(?:const )?(?:unsafe )?(?:extern "C" )?fn (\w+)')
@@ -88,8 +94,8 @@ def functions_of(crate, types, file, text):
 class Source:
     """The functions of a crate's source, and which of them lead to which."""
 
-    def __init__(self, crate):
-        self.crate, self.folder = crate, TOP / "crates" / crate
+    def __init__(self, crate, folder):
+        self.crate, self.folder = crate, pathlib.Path(folder)
         self.texts = {f"src/{it.name}": self.text(f"src/{it.name}") for it in sorted((self.folder / "src").glob("*.rt"))}
         self.types = {name: module_of(file) for file, text in self.texts.items() for name in TYPE.findall(text)}
         self.functions = {file: list(functions_of(crate, self.types, file, text)) for file, text in self.texts.items()}
@@ -200,7 +206,7 @@ class Tries:
 
     def __init__(self, rt, crate, folders):
         self.rt, self.crate, self.checks = rt, crate, 0
-        self.source = Source(crate.name)
+        self.source = Source(crate.name, crate.folder)
         self.edits = [Edit(it, self.source) for folder in folders for it in sorted(folder.glob("*.edit"))]
 
     def over_kept(self, work):
@@ -243,6 +249,12 @@ class Tries:
         say(told)
 
 
+def try_left(tries, pool):
+    """Tries alone what no batch has decided."""
+    left = [(it, edit) for it in tries for edit in it.edits if edit.verdict is None]
+    list(pool.map(lambda it: it[0].try_alone(it[1]), left))
+
+
 def try_all(tries, alone, lanes):
     """Tries the edits of all crates, in batches and then alone, side by side; those of large crates first."""
     tries = sorted(tries, key=lambda it: -sum(map(len, it.source.texts.values())))
@@ -250,8 +262,40 @@ def try_all(tries, alone, lanes):
         if not alone:
             batches = [(it, batch) for it in tries for batch in batches_of(it.edits)]
             list(pool.map(lambda it: it[0].try_batch(it[1]), batches))
-        left = [(it, edit) for it in tries for edit in it.edits if edit.verdict is None]
-        list(pool.map(lambda it: it[0].try_alone(it[1]), left))
+        try_left(tries, pool)
+
+
+def give_way():
+    """Has this thread and its checks take what others leave of the processors."""
+    os.nice(19)
+    with contextlib.suppress(OSError):
+        os.sched_setscheduler(0, os.SCHED_IDLE, os.sched_param(0))
+
+
+def try_beside(tries, names):
+    """Tries the edits of each crate once its name comes, a few checks at once and where memory is free. Once no more names
+    come, nothing else is at work: then the rest is tried, and what no batch has decided."""
+    waiting, begun, is_over = {it.crate.name: it for it in tries}, [], threading.Event()
+
+    def work(it, batch):
+        while free_memory() < FREE_BESIDE and not is_over.wait(1):
+            pass
+        it.try_batch(batch)
+
+    with ThreadPoolExecutor(BESIDE, initializer=give_way) as pool:
+        for name in names:
+            it = waiting.pop(name.strip(), None)
+            begun += [(pool.submit(work, it, batch), it, batch) for batch in batches_of(it.edits)] if it else []
+        is_over.set()
+        with ThreadPoolExecutor(lanes_for(0)) as others:
+            left = [(it, batch) for run, it, batch in begun if run.cancel()]
+            list(others.map(lambda it: it[0].try_batch(it[1]), left))
+    with ThreadPoolExecutor(lanes_for(0)) as pool:
+        try_left([it for it in tries if it.crate.name not in waiting], pool)
+    for run in [it[0] for it in begun if not it[0].cancelled()]:
+        run.result()
+    for name in waiting:
+        print(f"{name} was not proved, so its edits were not tried", flush=True)
 
 
 def spent():
@@ -260,57 +304,72 @@ def spent():
     return used.ru_utime + used.ru_stime
 
 
+def free_memory():
+    return next(int(it.split()[1]) * 1024 for it in open("/proc/meminfo") if it.startswith("MemAvailable:"))
+
+
 def lanes_for(given):
-    free = next(int(it.split()[1]) * 1024 for it in open("/proc/meminfo") if it.startswith("MemAvailable:"))
-    return given or max(1, min(len(os.sched_getaffinity(0)), free // FOR_CHECK))
+    return given or max(1, min(len(os.sched_getaffinity(0)), free_memory() // FOR_CHECK))
+
+
+def folders_of(forms):
+    """The folders of edits of each crate, by its name."""
+    folders = {}
+    for folder in sorted(it for form in forms for it in TOP.glob(form)):
+        folders.setdefault(folder.parent.name if folder.name == "must-fail" else folder.name, []).append(folder)
+    return folders
 
 
 def options(words):
     """The flags, the number of checks side by side, and the folders of edits of each crate that is named."""
-    flags = [it for it in words if it in ("--after-gate", "--gate", "--alone")]
+    flags = [it for it in words if it in ("--gate", "--alone")]
     names, jobs = [it for it in words if it not in flags], 0
     if names[:1] == ["--jobs"] and names[1:] and names[1].isdigit():
         jobs, names = int(names[1]), names[2:]
-    is_gate = "--after-gate" in flags
-    forms = ["tests/edits/*"] * (not is_gate) + ["crates/*/must-fail"] * (is_gate or "--gate" in flags)
-    folders = {}
-    for folder in sorted(it for form in forms for it in TOP.glob(form)):
-        folders.setdefault(folder.parent.name if folder.name == "must-fail" else folder.name, []).append(folder)
+    forms = ["tests/edits/*"] + ["crates/*/must-fail"] * ("--gate" in flags)
+    folders = folders_of(forms)
     for name in names:
         if name not in folders:
             sys.exit(f"no edits of {name} in {' or '.join(forms)}")
     return flags, lanes_for(jobs), {name: found for name, found in folders.items() if not names or name in names}
 
 
-def left_by_gate(crates):
-    """Whether the gate left all libraries below these crates, and no later check has made one of them anew."""
-    made = [pathlib.Path(it.folder, "out/rlib") for crate in crates for it in crate.below()]
-    return all((it / f"{it.parent.parent.name}.rlib").is_dir() and not (it / "stamp").exists() for it in made)
-
-
-def main(words):
-    flags, lanes, folders = options(words)
-    os.chdir(TOP)
+def tries_below(top, folders):
+    """The edits in these folders, tried over what is proved of the crates below a folder."""
+    os.chdir(top)
     rt = kit()
     os.environ.pop(rt.rtlib.ALLOW_C, None)
     rt.rtlib.guarded()
-    crates = [it for it in rt.rtlib.crates_below(str(TOP)) if it.name in folders]
-    is_left = "--after-gate" in flags and left_by_gate(crates)
-    if not is_left and subprocess.run([TOP / "tools/prove", *folders]).returncode:
+    crates = {it.name: it for it in rt.rtlib.crates_below(os.getcwd())}
+    lost = [it for it in folders if it not in crates]
+    if lost:
+        sys.exit(f"there are edits of {' '.join(lost)}, and no such crate")
+    return [Tries(rt, it, folders[it.name]) for it in crates.values() if it.name in folders]
+
+
+def main(words):
+    room = words[1] if words[:1] == ["--beside"] and len(words) == 2 else None
+    flags, lanes, folders = ([], 0, folders_of(["crates/*/must-fail"])) if room else options(words)
+    if not room and subprocess.run([TOP / "tools/prove", *folders]).returncode:
         print("0 passed, 1 failed")
         return 1
-    held = rt.rtlib.lock([below for it in crates for below in [*it.below(), it]])
     began, before = time.monotonic(), spent()
-    tries = [Tries(rt, it, folders[it.name]) for it in crates]
-    try_all(tries, "--alone" in flags, lanes)
+    tries = tries_below(room or TOP, folders)
+    if room:
+        try_beside(tries, sys.stdin)
+    else:
+        held = tries[0].rt.rtlib.lock([below for it in tries for below in [*it.crate.below(), it.crate]])
+        try_all(tries, "--alone" in flags, lanes)
+        for it in held:
+            os.close(it)
     for it in tries:
         print(f"{it.crate.name}: {len(it.edits)} edits, {it.checks} checks", flush=True)
-    for it in held:
-        os.close(it)
     edits = [edit for it in tries for edit in it.edits]
     print(f"{len(edits)} edits in {sum(it.checks for it in tries)} checks: {(time.monotonic() - began) / 60:.1f} minutes, "
-          f"{(spent() - before) / 60:.1f} of the processors, {lanes} side by side")
-    failed = [it for it in edits if not it.verdict]
+          f"{(spent() - before) / 60:.1f} of the processors")
+    failed = [f"{it.crate.name}/{edit.name}" for it in tries for edit in it.edits if not edit.verdict]
+    if failed:
+        print(f"FAILED: {' '.join(failed)}")
     print(f"{len(edits) - len(failed)} passed, {len(failed)} failed")
     return 1 if failed else 0
 

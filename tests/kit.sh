@@ -1,6 +1,6 @@
 #!/usr/bin/env bash
-# The tests of the kit that tests firmware and hypervisors of others, as far as they need Python 3.11 alone: no program, no
-# library and no package. The last line is 'N passed, M failed'.
+# The tests of the kit that tests firmware and hypervisors of others, as far as they need Python 3.11 alone, and cc where it is
+# there: no program, no library and no package. The last line is 'N passed, M failed'.
 set -u
 cd "$(dirname "$0")/kit"
 python3 -c 'import tomllib' 2> /dev/null ||

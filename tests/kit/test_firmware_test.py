@@ -4,6 +4,8 @@ import contextlib
 import io
 import os
 import re
+import shutil
+import subprocess
 import sys
 import tempfile
 import time
@@ -54,6 +56,18 @@ for line in sys.stdin:
 """
 PLACE = "ask('host cw 00:01.0 0x10 4 0xc0000000'); ask('host cw 00:01.0 0x14 4 0x1000');"
 OPEN = "ask('host cw 00:01.0 4 2 3')"
+QUESTIONS_IN_C = """
+#include "pciguest_ops.h"
+int main(void)
+{
+    if (pg_question("host ready", stderr) != 2 || pg_question("host why mem 0xc0000000", stderr) != 1)
+        return 1;
+    pg_config_write(PG_BDF(0, 1, 0), 0x10, 4, 0xc0000000);
+    pg_config_write(PG_BDF(0, 1, 0), 0x14, 4, 0x1000);
+    pg_config_write(PG_BDF(0, 1, 0), 4, 2, 3);
+    return pg_question("host ready", NULL) != 0 || pg_question("host why cfg 00:01.0", NULL) != 1;
+}
+"""
 
 
 class FirmwareTest(unittest.TestCase):
@@ -161,6 +175,14 @@ class FirmwareTest(unittest.TestCase):
     def test_questions_of_the_firmware(self):
         for question in ("host ready", "host why mem 0xc0000000"):
             self.assertEqual(self.run_firmware(f"ask('{question}');" + PLACE + OPEN)[0], 0)
+
+    @unittest.skipUnless(shutil.which("cc"), "no C compiler")
+    def test_questions_in_c(self):
+        source, program = Path(self.folder.name) / "asks.c", str(Path(self.folder.name) / "asks")
+        source.write_text(QUESTIONS_IN_C)
+        header = Path(__file__).resolve().parents[2] / "library"
+        subprocess.run(["cc", "-std=c99", "-Wall", "-Werror", f"-I{header}", "-o", program, source], check=True)
+        self.assertEqual(self.run_command([program])[0], 0)
 
     def test_replies_of_several_lines_by_a_program(self):
         program = Path(self.folder.name) / "program"
