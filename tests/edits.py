@@ -16,8 +16,6 @@ that function. Two edits share a copy only where neither's function is called by
 of the crate. What gets no verdict so is tried alone in a check of the whole crate, by the words and the judgement of
 `rt must-fail`; with --alone all are. Each verdict is told once it is there; the last line is 'N passed, M failed'."""
 import contextlib
-import importlib.machinery
-import importlib.util
 import os
 import pathlib
 import re
@@ -31,6 +29,10 @@ import time
 from concurrent.futures import ThreadPoolExecutor
 
 TOP = pathlib.Path(__file__).resolve().parent.parent
+sys.dont_write_bytecode = True
+sys.path.insert(0, f"{TOP}/tools")
+import kit
+
 # the memory that a check takes at most, of most crates
 FOR_CHECK = 3_000_000_000
 # how many checks run beside proofs, and the memory that has to be free then for one more
@@ -40,15 +42,6 @@ NAMES = re.compile(r"has no field|is not in scope|has no `|was not admitted|whic
 HEAD = re.compile(r'^( *)(?:pub(?:\([a-z]+\))? )?(?:const )?(?:unsafe )?(?:extern "C" )?fn (\w+)')
 TYPE = re.compile(r"^(?:pub(?:\([a-z]+\))? )?(?:struct|enum|union) (\w+)", re.M)
 IMPL = re.compile(r"^impl(?:<([^{]*?)>)? (?:(\w+)(?:<([^{]*?)>)? for )?(\w+)")
-sys.dont_write_bytecode = True
-
-
-def kit():
-    """`rt` as a module, by which the gate tries its edits."""
-    loader = importlib.machinery.SourceFileLoader("rt", os.path.realpath(shutil.which("rt")))
-    made = importlib.util.module_from_spec(importlib.util.spec_from_loader("rt", loader))
-    loader.exec_module(made)
-    return made
 
 
 # ---- the functions of a crate
@@ -337,7 +330,8 @@ def options(words):
 def tries_below(top, folders):
     """The edits in these folders, tried over what is proved of the crates below a folder."""
     os.chdir(top)
-    rt = kit()
+    rt = kit.load()
+    kit.find_once(rt.rtlib.Crate)
     os.environ.pop(rt.rtlib.ALLOW_C, None)
     rt.rtlib.guarded()
     crates = {it.name: it for it in rt.rtlib.crates_below(os.getcwd())}

@@ -7,7 +7,7 @@ top=$PWD
 room=$(mktemp -d)
 trap 'rm -rf "$room"' EXIT
 mkdir -p "$room/tools" "$room/bin" "$room/crates"
-cp tools/prove tools/progress.py tools/rt_once "$room/tools/"
+cp tools/prove tools/progress.py tools/kit.py tools/rt_once "$room/tools/"
 cd "$room" || exit 1
 passed=0
 failed=0
