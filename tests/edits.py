@@ -10,12 +10,16 @@ of it is checked. With --beside they are those of the gate alone, tried while so
 each line of standard input names a crate that is proved there, whose edits are tried from then on, a few at once, by what
 the proofs leave of the processors and of memory. Where standard input ends, all have to be proved.
 
-Edits of several functions are put into one copy of the crate, and a check of these functions alone, with those that they
-call, names each that it refuses: an edit is refused where that names the edit's own function, for a goal or an answer of
-that function. Two edits share a copy only where neither's function is called by the other's, by way of whatever functions
-of the crate. What gets no verdict so is tried alone in a check of the whole crate, by the words and the judgement of
-`rt must-fail`; with --alone all are. Each verdict is told once it is there; the last line is 'N passed, M failed'."""
+An edit of one function is put into a copy of that function, of another name, with its contract and its proofs; so one check
+of a crate tries many, also of one function, and of functions that call each other. It checks these copies alone, with what
+they call, and one copy more of each function as it stands. An edit is refused where the check names its copy, for a goal or
+an answer of that function itself, and proves the copy as it stands. Other edits, as of a struct, are put into the function
+where it stands, each in a check of its own of the functions that it changes. What gets no verdict so is tried alone in a
+check of the whole crate, by the words and the judgement of `rt must-fail`; with --alone all are. Each verdict is told once
+it is there; the last line is 'N passed, M failed'."""
 import contextlib
+import copy
+import itertools
 import os
 import pathlib
 import re
@@ -37,6 +41,8 @@ import kit
 FOR_CHECK = 3_000_000_000
 # how many checks run beside proofs, and the memory that has to be free then for one more
 BESIDE, FREE_BESIDE = 2, 2 * FOR_CHECK
+# how many edits are tried in one check at most
+IN_ONE = 8
 # what a proof file says where the edit took away a name: that says little of the contract
 NAMES = re.compile(r"has no field|is not in scope|has no `|was not admitted|which was rejected")
 HEAD = re.compile(r'^( *)(?:pub(?:\([a-z]+\))? )?(?:const )?(?:unsafe )?(?:extern "C" )?fn (\w+)')
@@ -47,11 +53,26 @@ IMPL = re.compile(r"^impl(?:<([^{]*?)>)? (?:(\w+)(?:<([^{]*?)>)? for )?(\w+)")
 # ---- the functions of a crate
 
 class Function:
-    """A function of the source: its name, as a check tells it, its lines, and the names in them."""
+    """A function of the source: its name, as a check tells it, its lines, and its text with what stands above it for it."""
 
-    def __init__(self, path, name, is_of_trait, first, lines):
-        self.path, self.name, self.is_of_trait, self.first, self.last = path, name, is_of_trait, first, first + len(lines)
-        self.words = set(re.findall(r"\w+", "\n".join(lines[1:])))
+    def __init__(self, path, is_of_trait, first, lines):
+        self.path, self.is_of_trait, self.first = path, is_of_trait, first
+        indent = re.match(" *", lines[first])[0]
+        ends = (it for it in range(first, len(lines)) if lines[it] in (f"{indent}}}", "}"))
+        self.last = next(ends, first) + 1
+        top = first
+        while re.match(r" *///", lines[top - 1]) or lines[top - 1].strip() and lines[top - 1][-1] not in "{};":
+            top -= 1
+        self.text = "\n".join(lines[top:self.last])
+
+    def copied(self, number, pairs=()):
+        """A copy of it under another name, with edits; none, where the text of one doesn't stand there once."""
+        text, name = self.text, self.path.split("::")[-1]
+        for _, old, new in pairs:
+            if text.count(old) != 1:
+                return None
+            text = text.replace(old, new)
+        return re.sub(rf"^(.*\bfn {name})\b", rf"\1_copy_{number}", text.replace("#[unsafe(no_mangle)]\n", ""), count=1, flags=re.M)
 
 
 def module_of(file):
@@ -79,47 +100,44 @@ def functions_of(crate, types, file, text):
         elif line == "}":
             owner, is_of_trait = [], False
         if head:
-            ends = (it for it in range(place, len(lines)) if lines[it] == f"{head[1]}}}" or lines[it] == "}")
             path = owner if head[1] and owner else module_of(file)
-            yield Function("::".join([crate, *path, head[2]]), head[2], is_of_trait, place, lines[place:next(ends, place) + 1])
+            yield Function("::".join([crate, *path, head[2]]), is_of_trait, place, lines)
 
 
 class Source:
-    """The functions of a crate's source, and which of them lead to which."""
+    """The functions of a crate's source."""
 
     def __init__(self, crate, folder):
         self.crate, self.folder = crate, pathlib.Path(folder)
         self.texts = {f"src/{it.name}": self.text(f"src/{it.name}") for it in sorted((self.folder / "src").glob("*.rt"))}
         self.types = {name: module_of(file) for file, text in self.texts.items() for name in TYPE.findall(text)}
         self.functions = {file: list(functions_of(crate, self.types, file, text)) for file, text in self.texts.items()}
-        self.all = [it for found in self.functions.values() for it in found]
-        named = {it.name for it in self.all}
-        self.calls = {}
-        for it in self.all:
-            self.calls.setdefault(it.name, set()).update(it.words & named)
+        self.paths = [it.path for found in self.functions.values() for it in found]
 
     def text(self, path):
         return (self.folder / path).read_text(encoding="utf-8")
 
     def at(self, file, text):
-        """The function in which a text stands; none, where it stands in none that one can tell by its name and its calls."""
+        """The function in which a text stands, if that can be copied: not one of a trait, nor one that calls itself."""
         if text not in self.texts.get(file, ""):
             return None
         line = self.texts[file][:self.texts[file].index(text)].count("\n")
         found = [it for it in self.functions[file] if it.first <= line < it.last]
-        has_own_name = len(found) == 1 and [it.path for it in self.all].count(found[0].path) == 1
-        # (a call of a trait's function, as by an operator or a `?`, need not name it)
-        return found[0] if has_own_name and not found[0].is_of_trait else None
+        has_own_name = len(found) == 1 and self.paths.count(found[0].path) == 1
+        return found[0] if has_own_name and not found[0].is_of_trait and not self.proofs_of(found[0], "+").is_dir() else None
 
-    def below(self, name):
-        """The names of the functions that a function leads to, by names alone."""
-        found, left = set(), [name]
-        while left:
-            for it in self.calls.get(left.pop(), ()):
-                if it not in found:
-                    found.add(it)
-                    left.append(it)
-        return found
+    def proofs_of(self, function, mark=""):
+        """The folder of a function's proofs, which has a mark before the name of one that calls itself."""
+        *path, name = function.path.split("::")[1:]
+        return self.folder.joinpath("proofs", *path, mark + name)
+
+    def proofs_for(self, function, number):
+        """The proofs of a function as those of its copy: their texts by their paths."""
+        folder, (*path, name) = self.proofs_of(function), function.path.split("::")
+        own = re.compile(r"(\bRattle\." + r"\.".join(map(re.escape, [path[0], "proofs", *path[1:], name])) + r")(?=[.\s])")
+        to = folder.with_name(f"{name}_copy_{number}").relative_to(self.folder)
+        return {str(to / it.relative_to(folder)): own.sub(rf"\1_copy_{number}", it.read_text(encoding="utf-8"))
+                for it in folder.rglob("*.antt")}
 
 
 # ---- edits
@@ -136,17 +154,9 @@ class Edit:
                 old = rest
             elif line.startswith("new:"):
                 self.pairs.append((path, old, re.sub(r"\A ", "", line[len("new:"):])))
-        self.functions = [source.at(path, old) for path, old, _ in self.pairs]
-        self.below = {name for it in self.functions if it for name in source.below(it.name)}
+        places = {(path, source.at(path, old)) for path, old, _ in self.pairs}
+        self.path, self.function = places.pop() if len(places) == 1 else ("", None)
         self.verdict = None
-
-    def can_share(self):
-        return bool(self.functions) and None not in self.functions
-
-    def meets(self, other):
-        """Whether one copy can't hold both: they edit one function, or one's leads to the other's."""
-        mine, theirs = ({it.name for it in edit.functions} for edit in (self, other))
-        return bool(mine & (theirs | other.below) or theirs & self.below)
 
     def put(self, texts):
         """Puts it into the texts of a crate; false, where a text doesn't stand there once."""
@@ -168,15 +178,10 @@ class Edit:
 
 
 def batches_of(edits):
-    """The edits in batches, none of which holds two that meet; what can't share one is alone."""
-    batches = []
-    for edit in filter(Edit.can_share, edits):
-        batch = next((it for it in batches if not any(edit.meets(other) for other in it)), None)
-        if batch is None:
-            batches.append([edit])
-        else:
-            batch.append(edit)
-    return batches + [[it] for it in edits if not it.can_share()]
+    """The edits in batches, each for one check: those of functions that can be copied, and each other one alone."""
+    shared = sorted((it for it in edits if it.function), key=lambda it: it.function.path)
+    number = -(-len(shared) // IN_ONE)
+    return [shared[at * len(shared) // number:(at + 1) * len(shared) // number] for at in range(number)] + [[it] for it in edits if not it.function]
 
 
 def own_refusal(path, said):
@@ -209,26 +214,60 @@ class Tries:
                 shutil.copytree(f"{self.crate.folder}/out/incremental", f"{room}/kept", copy_function=os.link)
             return work(f"{room}/kept")
 
+    def with_copies(self, batch):
+        """The texts of a copy of the crate, and by the path of each function that its check has to look at the edit of which it is
+        a copy; of one that stands as it is none."""
+        texts, looked_at, number = {}, {}, 0
+        for function, edits in itertools.groupby(batch, lambda it: it.function):
+            file, copies = next(it.path for it in batch if it.function is function), []
+            for edit in [None, *edits]:
+                made = function.copied(number, edit.pairs if edit else ())
+                if made is None:
+                    continue
+                texts.update(self.source.proofs_for(function, number))
+                looked_at[f"{function.path}_copy_{number}"] = edit
+                copies.append(made)
+                number += 1
+            texts[file] = texts.get(file, self.source.texts[file]).replace(function.text, "\n\n".join([function.text, *copies]))
+        return texts, looked_at
+
+    def in_place(self, edit):
+        """The same where the edit is put into the crate's text."""
+        texts = {}
+        return (texts, dict.fromkeys(edit.changes(texts), edit)) if edit.put(texts) else ({}, {})
+
     def try_batch(self, batch):
-        """One check of the functions that several edits change. Those edits that it doesn't decide are left."""
-        texts = dict(self.source.texts)
-        if not all(it.put(texts) for it in batch):
+        """One check of the functions of a batch. Those edits that it doesn't decide are left."""
+        texts, looked_at = self.with_copies(batch) if batch[0].function else self.in_place(batch[0])
+        if not looked_at:
             return
-        texts = {path: text for path, text in texts.items() if text != self.source.texts.get(path)}
-        changed = {edit: edit.changes(texts) for edit in batch}
-        names = dict.fromkeys(path.partition("::")[2] for paths in changed.values() for path in paths)
-        only = [word for name in names for word in ("--only", name)]
         self.checks += 1
-        ran = self.rt.checked(self.crate, texts, ["--jobs", "1", *only], None)
+        with tempfile.TemporaryDirectory(prefix="edits-") as room:
+            there = copy.copy(self.crate)
+            there.folder = room
+            for part in self.rt.rtlib.PARTS:
+                if (self.source.folder / part).is_dir():
+                    shutil.copytree(self.source.folder / part, f"{room}/{part}")
+            for path, text in texts.items():
+                os.makedirs(os.path.dirname(f"{room}/{path}"), exist_ok=True)
+                pathlib.Path(room, path).write_text(text, encoding="utf-8")
+            only = [word for path in looked_at for word in ("--only", path.partition("::")[2])]
+            ran = self.rt.checked(there, {}, ["--jobs", "1", *only], None)
         said = ran.stdout.rstrip("\n").split("\n")
         is_read = not any(self.rt.unread(it, texts) for it in said)
         if ran.returncode != 1 or not said[-1].startswith("only=") or not is_read:
             return
-        for edit in batch:
-            path, why = next(((it, why) for it in changed[edit] for why in [own_refusal(it, said)] if why), ("", None))
+        # (of a function whose copy is not proved as it stands nothing is known)
+        lost = {self.original(path) for path, edit in looked_at.items() if not edit and f"fn {path}: proved" not in said}
+        for path, edit in looked_at.items():
+            why = edit and not edit.verdict and self.original(path) not in lost and own_refusal(path, said)
             if why:
                 edit.verdict = True
                 say(f"must-fail {self.crate.name}/{edit.name}: refused, as it must be: {path}: {why[:160]}")
+
+    @staticmethod
+    def original(path):
+        return re.sub(r"_copy_\d+$", "", path)
 
     def try_alone(self, edit):
         """One check of the whole crate, and another one from nothing where what is kept of it may have decided."""
@@ -259,10 +298,11 @@ def try_all(tries, alone, lanes):
 
 
 def give_way():
-    """Has this thread and its checks take what others leave of the processors."""
+    """Has this thread and its checks take what others leave of the processors, also those of other sessions of the terminal."""
     os.nice(19)
     with contextlib.suppress(OSError):
         os.sched_setscheduler(0, os.SCHED_IDLE, os.sched_param(0))
+        pathlib.Path("/proc/self/autogroup").write_text("19")
 
 
 def try_beside(tries, names):
