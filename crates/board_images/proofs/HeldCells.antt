@@ -1,11 +1,11 @@
 -- What the handoff holds, cell by cell.
 use Rattle.std.proofs.Common.{◌≡◌, ◌%◌, ◌<◌, ℕ, zero, suc, Bool, true, false, not, cond, List, [], ◌∷◌, Option, Some, None, length, refl, sym, ap, ◌∙◌, subst, arith}
-use Rattle.std.specs.Prelude.{flat_map, option_map, slice_get, if◌then◌else◌, IsTrue}
+use Rattle.std.specs.Prelude.{flat_map, option_map, slice_get, IsTrue}
 use Rattle.std.specs.Option.{option_map_or}
 use Rattle.std.specs.List.{list_all}
 use Rattle.std.proofs.lemmas.Option.{same_Some, slice_get-map}
 use Rattle.std.proofs.lemmas.List.{length-map}
-use Rattle.lists.specs.Elements.{Each, EachPair, all_pairs}
+use Rattle.lists.specs.Elements.{Each, all_pairs}
 use Rattle.lists.proofs.EachLemmas.{each_test, pairs_map, pairs_test}
 use Rattle.lists.proofs.Indices.{at_below, each_at}
 use Rattle.model_registers.specs.Registers.{Place, config, block, place_eq, PlacedCell, File, cell_at}
@@ -45,11 +45,7 @@ single_at (v ∷ vs) zero = refl
 single_at (v ∷ vs) (suc n) = single_at vs n
 
 byte_at : (file : File) (n : ℕ) → slice_get (file_bytes file) n ≡ option_map byte_of (slice_get file n)
-byte_at file n = single_at (values_of file) n ∙ ap (option_map (λ v. v % 256)) (slice_get-map (λ (e : PlacedCell). e.cell.value) file n) ∙ twice (slice_get file n)
-  where
-    twice : (o : Option PlacedCell) → option_map (λ v. v % 256) (option_map (λ (e : PlacedCell). e.cell.value) o) ≡ option_map byte_of o
-    twice None = refl
-    twice (Some e) = refl
+byte_at file n = grind (arith, single_at, slice_get-map)
 
 one_each : (vs : List ℕ) → length (flat_map (le_bytes 1) vs) ≡ length vs
 one_each [] = refl
@@ -68,8 +64,7 @@ places_are : (file ds : File) → shape_of file ≡ shape_of ds → places_of fi
 places_are file ds h = sym (shaped_places file) ∙ ap places_of h ∙ shaped_places ds
 
 place_of : (o : Option PlacedCell) (p : Place) (v : ℕ) → option_map entry_of o ≡ Some (p, v) → option_map (λ (e : PlacedCell). e.place) o ≡ Some p
-place_of None p v h = absurd (grind arith)
-place_of (Some e) p v h = grind arith
+place_of o p v h = grind arith
 
 module _ (file ds : File) (places : places_of file ≡ places_of ds) (distinct : HasDistinctPlaces ds) (n : ℕ) (p : Place) (v : ℕ) (told : told_at ds n ≡ Some (p, v)) where
   place_there : option_map (λ (e : PlacedCell). e.place) (slice_get file n) ≡ Some p
@@ -78,28 +73,10 @@ module _ (file ds : File) (places : places_of file ≡ places_of ds) (distinct :
       ∙ slice_get-map (λ (e : PlacedCell). e.place) ds n ∙ place_of (slice_get ds n) p v told
 
   byte_there : slice_get (file_bytes file) n ≡ Some ((cell_at file p).value % 256)
-  byte_there = byte_at file n ∙ of (slice_get file n) refl place_there
-    where
-      own : HasDistinctPlaces file
-      own = subst (λ (ps : List Place). EachPair Apart ps) (sym places) distinct
-
-      of : (o : Option PlacedCell) → slice_get file n ≡ o → option_map (λ (e : PlacedCell). e.place) o ≡ Some p → option_map byte_of o ≡ Some ((cell_at file p).value % 256)
-      of None there h = absurd (grind arith)
-      of (Some e) there h =
-          let at : e.place ≡ p = grind arith in
-          let found = each_at (λ (x : PlacedCell). cell_at file x.place ≡ x.cell) file n e (found_entries file own) there in
-          ap (λ c. Some (c.value % 256)) (sym found) ∙ ap (λ (q : Place). Some ((cell_at file q).value % 256)) at
+  byte_there = grind (arith, byte_at, place_there, each_at, found_entries)
 
   value_there : (cell_at ds p).value ≡ v
-  value_there = of (slice_get ds n) refl told
-    where
-      of : (o : Option PlacedCell) → slice_get ds n ≡ o → option_map entry_of o ≡ Some (p, v) → (cell_at ds p).value ≡ v
-      of None there h = absurd (grind arith)
-      of (Some d) there h =
-          let at : d.place ≡ p = grind arith in
-          let value : d.cell.value ≡ v = grind arith in
-          let found = each_at (λ (x : PlacedCell). cell_at ds x.place ≡ x.cell) ds n d (found_entries ds distinct) there in
-          ap (λ (q : Place). (cell_at ds q).value) (sym at) ∙ ap (λ c. c.value) found ∙ value
+  value_there = grind (arith, each_at, found_entries)
 
 -- ---- endpoints
 
@@ -134,8 +111,7 @@ is_config (config a) = true
 is_config (block m a) = false
 
 flip : (b : Bool) → not b ≡ true → b ≡ false
-flip false h = refl
-flip true h = absurd (grind arith)
+flip b h = grind arith
 
 module _ (d : Bridge) where
   abbrev places : IoDecode → PrefDecode → List Place
@@ -170,15 +146,10 @@ unfolding held_cells
 held_parts seated f = refl
 
 as_many : (seated : Bool) (d : Decl) (file : File) → length (cond seated (after_leaf_reset d file) file) ≡ length file
-as_many false d file = refl
-as_many true (endpoint d) file = length-map file (λ (e : PlacedCell). if is_own e.place then e else record e { cell = cell_at (endpoint_reset d false) e.place })
-as_many true (bridge d) file = refl
+as_many seated d file = grind (arith, length-map)
 
 many_held : (seated : Bool) (f : BoardFunction) → HasDeclaredShape f → length (held_cells seated f) ≡ length (declared_cells f.decl)
-many_held seated f shape =
-    let shaped : PlacedCell → PlacedCell = λ (e : PlacedCell). record e { cell = record e.cell { value = 0 } } in
-    ap (λ (xs : List ℕ). length xs) (held_parts seated f) ∙ many_bytes (held_file seated f) ∙ as_many seated f.decl f.file
-    ∙ sym (length-map f.file shaped) ∙ ap (λ (g : File). length g) shape ∙ length-map (declared_cells f.decl) shaped
+many_held seated f shape = grind (arith, held_parts, many_bytes, as_many, length-map)
 
 module _ (fs : List BoardFunction) (i : ℕ) (shapes : Each HasDeclaredShape fs) (seated : Bool) where
   abbrev held : List ℕ
@@ -187,15 +158,7 @@ module _ (fs : List BoardFunction) (i : ℕ) (shapes : Each HasDeclaredShape fs)
   -- what is told of an endpoint there
   module _ (e : Function) (there : endpoint_nth fs i ≡ Some e) where
     pub endpoint_count : length held ≡ length (endpoint_reset e.decl false)
-    endpoint_count = of (slice_get fs i) refl there
-      where
-        by : (f : BoardFunction) (d : Decl) (file : File) → as_endpoint (record { path = f.path; decl = d; file = file }) ≡ Some e → length (declared_cells d) ≡ length (endpoint_reset e.decl false)
-        by f (endpoint d) file h = grind arith
-        by f (bridge d) file h = absurd (grind arith)
-
-        of : (o : Option BoardFunction) → slice_get fs i ≡ o → option_map_or as_endpoint o None ≡ Some e → length (option_map_or (held_cells seated) o []) ≡ length (endpoint_reset e.decl false)
-        of None at h = absurd (grind arith)
-        of (Some f) at h = many_held seated f (each_at HasDeclaredShape fs i f shapes at) ∙ by f f.decl f.file h
+    endpoint_count = grind (arith, many_held, each_at)
 
     pub endpoint_held : IsLawfulEndpoint e.decl → (n : ℕ) (p : Place) (v : ℕ) → told_at (endpoint_reset e.decl false) n ≡ Some (p, v)
         → slice_get held n ≡ Some (held_value seated e.file p v)
@@ -218,22 +181,13 @@ module _ (fs : List BoardFunction) (i : ℕ) (shapes : Each HasDeclaredShape fs)
   -- and of a bridge
   module _ (d : Bridge) (there : declared_bridge_nth fs i ≡ Some d) where
     pub bridge_count : length held ≡ length (bridge_reset d false)
-    bridge_count = of (slice_get fs i) refl there
-      where
-        by : (x : Decl) → declared_bridge x ≡ Some d → length (declared_cells x) ≡ length (bridge_reset d false)
-        by (endpoint x) h = absurd (grind arith)
-        by (bridge x) h = let same : x ≡ d = same_Some x d h in ap (λ (b : Bridge). length (bridge_reset b false)) same
-
-        of : (o : Option BoardFunction) → slice_get fs i ≡ o → option_map_or (λ (f : BoardFunction). declared_bridge f.decl) o None ≡ Some d → length (option_map_or (held_cells seated) o []) ≡ length (bridge_reset d false)
-        of None at h = absurd (grind arith)
-        of (Some f) at h = many_held seated f (each_at HasDeclaredShape fs i f shapes at) ∙ by f.decl h
+    bridge_count = grind (arith, same_Some, many_held, each_at)
 
     pub bridge_held : (n : ℕ) (p : Place) (v : ℕ) → told_at (bridge_reset d false) n ≡ Some (p, v) → slice_get held n ≡ Some ((cell_at (file_nth fs i) p).value % 256)
     bridge_held n p v told = of (slice_get fs i) refl there
       where
         whole : (s : Bool) (file : File) → cond s file file ≡ file
-        whole true file = refl
-        whole false file = refl
+        whole s file = grind arith
 
         by : (f : BoardFunction) (x : Decl) (file : File) → declared_bridge x ≡ Some d → shape_of file ≡ shape_of (declared_cells x)
             → slice_get (held_cells seated (record { path = f.path; decl = x; file = file })) n ≡ Some ((cell_at file p).value % 256)

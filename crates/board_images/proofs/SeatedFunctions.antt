@@ -1,12 +1,10 @@
 -- Each function of a board is the one that is declared at its path, so it is at reset where a guest sits there.
-use Rattle.std.proofs.Common.{◌≡◌, ℕ, suc, Bool, true, false, List, [], ◌∷◌, Option, Some, None, refl, ap, ap₂, ◌∙◌, cond}
-use Rattle.std.specs.Prelude.{map, option_map, slice_get, IsTrue}
+use Rattle.std.proofs.Common.{◌≡◌, ℕ, suc, List, [], ◌∷◌, Option, Some, None, refl, ap, ap₂, arith}
+use Rattle.std.specs.Prelude.{map, slice_get, IsTrue}
 use Rattle.std.specs.Option.{option_map_or}
 use Rattle.lists.proofs.Indices.{find_at, map_at, pair_at}
-use Rattle.model_registers.specs.Declarations.{Endpoint}
-use Rattle.model_registers.specs.Registers.{File}
 use Rattle.model_board.specs.AtReset.{board_at}
-use Rattle.model_board.specs.Board.{Decl, endpoint, bridge, Row, IsBoard}
+use Rattle.model_board.specs.Board.{Row, IsBoard}
 use Rattle.model_board.specs.Paths.{path_before, path_eq}
 use Rattle.model_board.specs.State.{BoardFunction, State, row_at}
 use Rattle.model_board.proofs.PathEnds.{path_self}
@@ -14,9 +12,7 @@ use Rattle.model_board.proofs.PlacesLaw.{before_apart}
 use Rattle.model_guests.specs.AgreedBoard.{agreed_function}
 use Rattle.model_guests.specs.Guests.{GuestsNow}
 use Rattle.model_guests.specs.World.{declared, endpoint_of}
-use Rattle.model_handoff.specs.Handoffs.{file_at_reset}
-use Rattle.model_handoff.specs.ViewLaws.{seated_files, sits}
-use Rattle.board_images.specs.BoardBytes.{held_file}
+use Rattle.model_handoff.specs.ViewLaws.{seated_files}
 use Rattle.board_images.specs.HeldLaws.{held_function, HeldAsSeated}
 
 same_all : (f g : BoardFunction → BoardFunction) (xs : List BoardFunction) → ((i : ℕ) (x : BoardFunction) → slice_get xs i ≡ Some x → f x ≡ g x) → map f xs ≡ map g xs
@@ -31,18 +27,7 @@ declared_here fs i f board there =
     (λ j r low at. before_apart r.path f.path (pair_at (λ (x y : Row). IsTrue (path_before x.path y.path)) (board_at fs) j i r (row_at f) board.in_order low at (map_at row_at fs i f there))))
 
 held_here : (s : State) (gs : GuestsNow) (f : BoardFunction) → declared (board_at s.functions) f.path ≡ endpoint_of (row_at f) → agreed_function (seated_files s gs) f ≡ held_function gs f
-held_here s gs f here = by (sits gs f.path)
-  where
-    with_file : Option File → BoardFunction
-    with_file files = agreed_function (λ p. files) f
-
-    at_reset : (d : Decl) → agreed_function (λ p. option_map file_at_reset (endpoint_of (record { path = f.path; decl = d }))) (record f { decl = d }) ≡ record f { decl = d; file = held_file true (record f { decl = d }) }
-    at_reset (endpoint d) = refl
-    at_reset (bridge d) = refl
-
-    by : (t : Bool) → agreed_function (λ p. cond t (option_map file_at_reset (declared (board_at s.functions) f.path)) None) f ≡ record f { file = held_file t f }
-    by false = refl
-    by true = ap (λ (o : Option Endpoint). agreed_function (λ p. option_map file_at_reset o) f) here ∙ at_reset f.decl
+held_here s gs f here = grind arith
 
 pub held_as_seated : HeldAsSeated
 held_as_seated s gs board = ap (λ (fs : List BoardFunction). record s { functions = fs }) (same_all (agreed_function (seated_files s gs)) (held_function gs) s.functions (λ i f there. held_here s gs f (declared_here s.functions i f board there)))

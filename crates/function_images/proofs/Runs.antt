@@ -7,15 +7,13 @@ use Rattle.model_registers.specs.Declarations.{Endpoint, registers_of, Region}
 use Rattle.model_registers.specs.EndpointTable.{base_register}
 use Rattle.model_registers.specs.OwnCopies.{OwnCopies}
 use Rattle.headers.specs.declared.place.Place as headers
-use Rattle.headers.specs.declared.place.Place.TheVariants.{Cfg, Bar}
 use Rattle.headers.specs.Places.{place_of}
 use Rattle.image_bytes.specs.Puts.{put}
 use Rattle.image_bytes.proofs.Puts.{next, put_none}
 use Rattle.function_images.specs.Shown.{block_values, bytes_from, header_values, region_values, shown_byte, shown_values}
 
 after_place : (place : headers.Place) (off : ℕ) → after (place_of place off) ≡ place_of place (off + 1)
-after_place Cfg off = refl
-after_place (Bar n) off = refl
+after_place place off = grind arith
 
 module _ (e : Function) (own : OwnCopies) where
   pub run_length : (p : Place) (n : ℕ) → length (bytes_from e own p n) ≡ n
@@ -29,8 +27,7 @@ module _ (e : Function) (own : OwnCopies) where
 
   run_next : (p : Place) (n : ℕ) → 0 < n → bytes_from e own p n ≡ shown_byte e own p ∷ bytes_from e own (after p) (n - 1)
   unfolding bytes_from
-  run_next p zero some = absurd (omega arith)
-  run_next p (suc n) some = let less : n ≡ suc n - 1 = omega arith in ap (λ k. shown_byte e own p ∷ bytes_from e own (after p) k) less
+  run_next p n some = grind arith
 
   -- one byte more is put
   pub record GoesOn (at : ℕ) (place : headers.Place) (off left n : ℕ) (out new : List ℕ) : Type 0 where

@@ -1,16 +1,16 @@
 -- The values of a function as its guest has it, part by part.
-use Rattle.std.proofs.Common.{◌≡◌, ◌+◌, ◌*◌, ◌-◌, ◌/◌, ◌^◌, ℕ, zero, suc, Bool, true, false, List, [], ◌∷◌, ◌++◌, length, refl, sym, ap, ap₂, ◌∙◌, subst, append_assoc, arith, length-append}
-use Rattle.std.specs.Prelude.{flat_map, map, option_map, Option, Some, None}
+use Rattle.std.proofs.Common.{◌≡◌, ◌+◌, ◌/◌, ℕ, zero, suc, false, List, [], ◌∷◌, ◌++◌, length, refl, sym, ap, ap₂, ◌∙◌, subst, append_assoc, arith, length-append}
+use Rattle.std.specs.Prelude.{flat_map, map, option_map, Option}
 use Rattle.std.proofs.lemmas.List.{append-nil, length-map}
 use Rattle.std.proofs.lemmas.List.Concat.{flat_map-append}
 use Rattle.lists.specs.Elements.{EachPair}
 use Rattle.lists.proofs.Members.{each_in, flat_map_flat, flat_map_map, flat_map_same}
 use Rattle.model_registers.specs.Cell.{Cell}
-use Rattle.model_registers.specs.Registers.{Place, config, block, after, PlacedCell, File, cell_at, field, cells_from}
-use Rattle.model_registers.specs.Declarations.{registers_of, Region, ConfigBlock, Endpoint}
+use Rattle.model_registers.specs.Registers.{Place, config, after, PlacedCell, File, cell_at, field, cells_from}
+use Rattle.model_registers.specs.Declarations.{Region, ConfigBlock, Endpoint}
 use Rattle.model_registers.specs.DeclarationRules.{IsLawfulEndpoint}
-use Rattle.model_registers.specs.EndpointTable.{base_register, base_width, block_cells, endpoint_reset, header_cells, region_cells, type_bits}
-use Rattle.model_registers.specs.OwnCopies.{is_own, OwnCopies, own_file}
+use Rattle.model_registers.specs.EndpointTable.{block_cells, endpoint_reset, header_cells, region_cells}
+use Rattle.model_registers.specs.OwnCopies.{OwnCopies, own_file}
 use Rattle.model_registers.specs.CopiedFiles.{copied, with_copies}
 use Rattle.model_registers.specs.Decoding.{Function}
 use Rattle.model_guests.proofs.DistinctPlaces.{Apart, HasDistinctPlaces, distinct_places}
@@ -48,9 +48,7 @@ module _ (e : Function) (own : OwnCopies) where
   in_header d = refl
 
   in_region : (r : Region) → shown_in (region_cells (λ x. 0) r) ≡ region_values e own r
-  in_region r =
-      flat_map-append (λ (x : PlacedCell). shown_at x.place) (field (base_register r.index) (4 * registers_of r.kind) (0 + type_bits r.kind) (2 ^ base_width r.kind - r.size) 0) (cells_from (block r.index 0) r.cells)
-      ∙ ap₂ ◌++◌ (in_field (base_register r.index) (4 * registers_of r.kind) (0 + type_bits r.kind) (2 ^ base_width r.kind - r.size) 0) (in_run (block r.index 0) r.cells)
+  in_region r = grind (arith, flat_map-append, in_field, in_run)
 
   in_parts : (d : Endpoint) → shown_in (endpoint_reset d false) ≡ shown_values e own d
   in_parts d =
@@ -68,11 +66,7 @@ module _ (e : Function) (own : OwnCopies) where
 
   one_value : (x : PlacedCell) → cell_at e.file x.place ≡ x.cell → le_bytes 1 (copied (own_file own) x).cell.value ≡ shown_at x.place
   unfolding shown_byte
-  one_value x there = by (is_own x.place) refl
-    where
-      by : (t : Bool) → is_own x.place ≡ t → le_bytes 1 (copied (own_file own) x).cell.value ≡ shown_at x.place
-      by true is = grind arith
-      by false is = grind arith
+  one_value x there = grind arith
 
   distinct : IsLawfulEndpoint e.decl → HasDeclaredPlaces e → HasDistinctPlaces e.file
   distinct lawful places = subst (λ (ps : List Place). EachPair Apart ps) (sym places) (distinct_places e.decl lawful false 0 (λ r. 0))
@@ -113,15 +107,13 @@ module _ (e : Function) (own : OwnCopies) where
   one_shown (x ∷ xs) = ap suc (one_shown xs)
 
   pub length_is : HasDeclaredPlaces e → length (declaration_bytes e.decl) + length (shown_values e own e.decl) ≡ length (function_bytes (seen e own))
-  length_is places =
-      ap (λ n. length (declaration_bytes e.decl) + n) (sym (ap (λ (xs : List ℕ). length xs) (in_parts e.decl)) ∙ one_shown (endpoint_reset e.decl false)) ∙ size_is places
+  length_is places = grind (arith, in_parts, one_shown, size_is)
 
 -- ---- a guest
 
 slot_is : (o : Option Function) → (optional function_layout).bytes (option_map saved o) ≡ slot_bytes o
 unfolding function_bytes
-slot_is None = refl
-slot_is (Some f) = ap (λ (xs : List ℕ). 1 ∷ xs) (append-nil (function_layout.bytes (saved f)))
+slot_is o = grind (arith, append-nil)
 
 pub guest_bytes : (g : LoneGuest) → image_bytes (image_of_lone g) ≡ header ++ (le_bytes 4 g.latch ++ flat_map slot_bytes g.slots)
 guest_bytes g = ap (λ (xs : List ℕ). header ++ (le_bytes 4 g.latch ++ xs)) (slots_are g.slots)

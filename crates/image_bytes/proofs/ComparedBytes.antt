@@ -1,10 +1,10 @@
 -- Bytes that are compared in two steps.
-use Rattle.std.proofs.Common.{◌≡◌, ◌<◌, ℕ, ◌⊎◌, inl, inr, Bool, true, false, cond, eqb, List, [], ◌∷◌, ◌++◌, length, take, drop, Ok, Err, refl, sym, ap, ap₂, ◌∙◌, subst, arith}
+use Rattle.std.proofs.Common.{◌≡◌, ◌<◌, ℕ, ◌⊎◌, inl, inr, true, false, List, [], ◌∷◌, ◌++◌, length, take, drop, Ok, Err, refl, sym, ap, ap₂, ◌∙◌, subst, arith}
 use Rattle.std.specs.Prelude.{flat_map}
 use Rattle.std.specs.Str.{bytes_eq}
 use Rattle.std.proofs.lemmas.List.{append-nil, take-append-drop, take_all, take_at}
 use Rattle.std.proofs.lemmas.Slice.Eq.{bytes_eq-Decides}
-use Rattle.model_image_bytes.specs.LoadedBytes.{Left, then_read, after_bytes}
+use Rattle.model_image_bytes.specs.LoadedBytes.{then_read, after_bytes}
 use Rattle.lists.specs.Elements.{Each}
 use Rattle.model_registers.specs.Declarations.{Region, ConfigBlock, Endpoint}
 use Rattle.model_registers.specs.DeclarationRules.{IsConfigBlock, IsLawfulEndpoint}
@@ -15,12 +15,7 @@ use Rattle.model_image_bytes.proofs.LoadedBytes.{compared, own_bytes, Follows, F
 after_both : (k : ℕ) (xs ys bytes : List ℕ) → after_bytes k (xs ++ ys) bytes ≡ then_read (after_bytes k ys) (after_bytes k xs bytes)
 after_both k [] ys bytes = refl
 after_both k (x ∷ xs) ys [] = refl
-after_both k (x ∷ xs) ys (b ∷ bytes) = cases (eqb x b) (after_both k xs ys bytes)
-  where
-    cases : (t : Bool) → after_bytes k (xs ++ ys) bytes ≡ then_read (after_bytes k ys) (after_bytes k xs bytes)
-        → cond {A = Left} t (after_bytes k (xs ++ ys) bytes) (Err k) ≡ then_read (after_bytes k ys) (cond {A = Left} t (after_bytes k xs bytes) (Err k))
-    cases true more = more
-    cases false more = refl
+after_both k (x ∷ xs) ys (b ∷ bytes) = grind (arith, after_both k xs ys bytes)
 
 same : (xs ys : List ℕ) → bytes_eq xs ys ≡ true → xs ≡ ys
 same xs ys h = (bytes_eq-Decides xs ys).0 h
@@ -60,11 +55,7 @@ differs k own bytes none h = of (compared k own bytes)
 
 -- where every difference is one fault
 pub no_beginning : (own bytes : List ℕ) → bytes_eq (take (length own) bytes) own ≡ false → after_bytes 905 own bytes ≡ Err 905
-no_beginning own bytes none = of (bytes_eq bytes (take (length bytes) own)) refl
-  where
-    of : (t : Bool) → bytes_eq bytes (take (length bytes) own) ≡ t → after_bytes 905 own bytes ≡ Err 905
-    of true e = falls_short 905 own bytes none e
-    of false e = differs 905 own bytes none e
+no_beginning own bytes none = grind (arith, falls_short, differs)
 
 -- ---- one after the other
 
@@ -77,13 +68,11 @@ ends k n xs ys bytes h = after_both k xs ys bytes ∙ ap (then_read (after_bytes
 -- the first of a list
 pub goes_on_of : {A : Type 0} (f : A → List ℕ) (x : A) (left others : List A) (k : ℕ) (own bytes rest : List ℕ) → left ≡ x ∷ others → own ≡ f x → after_bytes k own bytes ≡ Ok rest
     → after_bytes k (flat_map f others) rest ≡ after_bytes k (flat_map f left) bytes
-goes_on_of f x left others k own bytes rest first are h =
-    sym (ap (λ (xs : List _). after_bytes k (flat_map f xs) bytes) first ∙ goes_on k (f x) (flat_map f others) bytes rest (ap (λ (l : List ℕ). after_bytes k l bytes) (sym are) ∙ h))
+goes_on_of f x left others k own bytes rest first are h = grind (arith, goes_on)
 
 pub ends_of : {A : Type 0} (f : A → List ℕ) (x : A) (left others : List A) (k n : ℕ) (own bytes : List ℕ) → left ≡ x ∷ others → own ≡ f x → after_bytes k own bytes ≡ Err n
     → after_bytes k (flat_map f left) bytes ≡ Err n
-ends_of f x left others k n own bytes first are h =
-    ap (λ (xs : List _). after_bytes k (flat_map f xs) bytes) first ∙ ends k n (f x) (flat_map f others) bytes (ap (λ (l : List ℕ). after_bytes k l bytes) (sym are) ∙ h)
+ends_of f x left others k n own bytes first are h = grind (arith, ends)
 
 -- what holds of the first and of the others holds of all
 pub each_of : {A : Type 0} (P : A → Type 0) (x : A) (left others all : List A) → left ≡ x ∷ others → P x → (Each P left → Each P all) → Each P others → Each P all

@@ -1,9 +1,8 @@
 -- The bytes of a declaration, put together from those of its parts.
-use Rattle.std.proofs.Common.{◌≡◌, ℕ, List, [], ◌∷◌, ◌++◌, length, refl, ap, ap₂}
+use Rattle.std.proofs.Common.{◌≡◌, ℕ, List, [], ◌∷◌, ◌++◌, refl, ap, ap₂, arith}
 use Rattle.std.specs.Prelude.{flat_map}
 use Rattle.model_registers.specs.Cell.{Cell}
 use Rattle.model_registers.specs.Declarations.{Region, ConfigBlock}
-use Rattle.model_image_bytes.specs.Layouts.{le_bytes}
 use Rattle.model_image_bytes.specs.ImageBytes.{cell_layout, region_layout, block_layout}
 use Rattle.image_bytes.specs.Parts.{cell_bytes, endpoint_head, region_head, block_head, region_bytes, block_bytes, DeclaredBytes}
 
@@ -26,6 +25,4 @@ all_are f g same (x ∷ xs) = ap₂ (λ (y ys : List ℕ). y ++ ys) (same x) (al
 
 pub declared_is : DeclaredBytes
 unfolding endpoint_head
-declared_is d =
-    ap₂ (λ (xs ys : List ℕ). endpoint_head d ++ (xs ++ (le_bytes 1 (length d.blocks) ++ ys)))
-    (all_are region_bytes region_layout.bytes region_is d.regions) (all_are block_bytes block_layout.bytes block_is d.blocks)
+declared_is d = grind (arith, all_are, region_is, block_is)

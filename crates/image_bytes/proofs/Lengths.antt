@@ -1,10 +1,10 @@
 -- How long the parts of a declaration are.
-use Rattle.std.proofs.Common.{◌≡◌, ◌+◌, ◌*◌, ◌≤◌, ℕ, zero, suc, false, List, [], ◌∷◌, ◌++◌, ◌/◌, ◌^◌, ◌-◌, length, refl, ap, ◌∙◌, arith, length-append}
+use Rattle.std.proofs.Common.{◌≡◌, ◌+◌, ◌*◌, ◌≤◌, ℕ, zero, suc, false, List, [], ◌∷◌, ◌++◌, ◌/◌, length, refl, ap, ◌∙◌, arith, length-append}
 use Rattle.std.specs.Prelude.{flat_map}
 use Rattle.model_registers.specs.Cell.{Cell}
 use Rattle.model_registers.specs.Declarations.{Kind, io_kind, mem32, mem64, registers_of, Region, ConfigBlock, Endpoint}
-use Rattle.model_registers.specs.EndpointTable.{base_cells, base_register, base_width, block_cells, endpoint_reset, header_cells, region_cells, type_bits}
-use Rattle.model_registers.specs.Registers.{Place, after, block, File, field, cells_from}
+use Rattle.model_registers.specs.EndpointTable.{block_cells, endpoint_reset, header_cells, region_cells}
+use Rattle.model_registers.specs.Registers.{Place, after, File, field}
 use Rattle.model_registers.specs.DeclarationRules.{IsLawfulEndpoint}
 use Rattle.model_image_bytes.proofs.Savable.{region_count, block_count}
 use Rattle.image_bytes.proofs.TakenValues.{many_cells}
@@ -70,13 +70,7 @@ few_registers (mem32 pref) = omega arith
 few_registers (mem64 pref) = omega arith
 
 pub region_cell_count : (r : Region) → length (region_cells (λ x. 0) r) ≡ 4 * registers_of r.kind + length r.cells
-region_cell_count r =
-    let base = base_cells r.index r.kind r.size 0 in
-    let cells = cells_from (block r.index 0) r.cells in
-    let both = length-append base cells in
-    let a = field_count (base_register r.index) (4 * registers_of r.kind) (0 + type_bits r.kind) (2 ^ base_width r.kind - r.size) 0 in
-    let b = many_cells (block r.index 0) r.cells in
-    omega arith
+region_cell_count r = grind (arith, field_count, many_cells)
 
 pub cells_count : (d : Endpoint) (rs : List Region) (bs : List ConfigBlock) → rs ≡ d.regions → bs ≡ d.blocks
     → 23 + length (flat_map block_cells bs) + length (flat_map (region_cells (λ r. 0)) rs) ≡ length (endpoint_reset d false)

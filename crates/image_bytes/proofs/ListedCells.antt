@@ -1,6 +1,5 @@
 -- The cell at an index of a file that is made of parts.
 use Rattle.std.proofs.Common.{◌≡◌, ℕ, zero, suc, ◌+◌, ◌/◌, ◌%◌, ◌<◌, ◌≤◌, List, [], ◌∷◌, ◌++◌, Some, None, length, get_or, refl, sym, ap, ap₂, ◌∙◌, arith, length-append}
-use Rattle.std.specs.Prelude.{flat_map}
 use Rattle.model_registers.specs.Cell.{Cell}
 use Rattle.model_registers.specs.Registers.{Place, config, after, File, field, cells_from}
 use Rattle.model_image_bytes.specs.Layouts.{le_bytes}
@@ -8,10 +7,7 @@ use Rattle.image_bytes.specs.Cells.{told_at}
 
 -- in the first part
 pub told_first : (xs ys : File) (n : ℕ) (t : Place × ℕ) → told_at xs n ≡ Some t → told_at (xs ++ ys) n ≡ Some t
-told_first [] ys n t h = absurd (none h)
-  where
-    none : told_at [] n ≡ Some t → ⊥
-    none e = grind arith
+told_first [] ys n t h = grind arith
 told_first (x ∷ xs) ys zero t h = h
 told_first (x ∷ xs) ys (suc n) t h = told_first xs ys n t h
 
@@ -29,29 +25,16 @@ told_past (x ∷ xs) (suc n) left h = told_past xs n left (omega arith)
 -- ---- one part
 
 pub told_field : (a w v rw w1c n k : ℕ) → n < w → w ≤ k → told_at (field (config a) w v rw w1c) n ≡ Some (config (a + n), get_or (le_bytes k v) n 0)
-told_field a zero v rw w1c n k h g = absurd (omega arith)
-told_field a (suc w) v rw w1c n zero h g = absurd (omega arith)
 told_field a (suc w) v rw w1c zero (suc k) h g = let same : a ≡ a + 0 = omega arith in ap (λ x. Some (config x, v % 256)) same
-told_field a (suc w) v rw w1c (suc n) (suc k) h g =
-    let same : a + 1 + n ≡ a + suc n = omega arith in
-    told_field (a + 1) w (v / 256) (rw / 256) (w1c / 256) n k (omega arith) (omega arith) ∙ ap (λ x. Some (config x, get_or (le_bytes k (v / 256)) n 0)) same
+told_field a (suc w) v rw w1c (suc n) (suc k) h g = grind (arith, told_field (a + 1) w (v / 256) (rw / 256) (w1c / 256) n k)
+told_field a w v rw w1c n k h g = absurd (omega arith)
 
 -- cells one after the other, of configuration space or of a region
 pub told_cells : (at : ℕ → Place) → ((a : ℕ) → after (at a) ≡ at (a + 1)) → (a : ℕ) (cs : List Cell) (n : ℕ) (d : Cell) → n < length cs
     → told_at (cells_from (at a) cs) n ≡ Some (at (a + n), (get_or cs n d).value)
 told_cells at next a [] n d h = absurd (omega arith)
 told_cells at next a (c ∷ cs) zero d h = let same : a ≡ a + 0 = omega arith in ap (λ x. Some (at x, c.value)) same
-told_cells at next a (c ∷ cs) (suc n) d h =
-    let same : a + 1 + n ≡ a + suc n = omega arith in
-    ap (λ p. told_at (cells_from p cs) n) (next a) ∙ told_cells at next (a + 1) cs n d (omega arith) ∙ ap (λ x. Some (at x, (get_or cs n d).value)) same
-
--- ---- the first of a list of parts
-
-pub told_first_of : {A : Type 0} (f : A → File) (x : A) (left rest : List A) (n : ℕ) (t : Place × ℕ) → left ≡ x ∷ rest → told_at (f x) n ≡ Some t → told_at (flat_map f left) n ≡ Some t
-told_first_of f x left rest n t first h = ap (λ (xs : List _). told_at (flat_map f xs) n) first ∙ told_first (f x) (flat_map f rest) n t h
-
-pub told_behind_of : {A : Type 0} (f : A → File) (x : A) (left rest : List A) (n k : ℕ) → left ≡ x ∷ rest → n ≡ length (f x) + k → told_at (flat_map f left) n ≡ told_at (flat_map f rest) k
-told_behind_of f x left rest n k first h = ap (λ (xs : List _). told_at (flat_map f xs) n) first ∙ told_behind (f x) (flat_map f rest) n k h
+told_cells at next a (c ∷ cs) (suc n) d h = grind (arith, told_cells at next (a + 1) cs n d)
 
 -- ---- three parts, as they were walked
 

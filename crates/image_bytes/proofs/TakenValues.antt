@@ -1,5 +1,5 @@
 -- Values that are taken one after the other.
-use Rattle.std.proofs.Common.{◌≡◌, ℕ, zero, suc, ◌+◌, ◌-◌, ◌*◌, ◌/◌, ◌%◌, ◌^◌, ◌<◌, ◌≤◌, Bool, true, false, cond, List, [], ◌∷◌, ◌++◌, length, drop, Ok, Err, refl, sym, ap, ap₂, ◌∙◌, arith}
+use Rattle.std.proofs.Common.{◌≡◌, ℕ, suc, ◌+◌, ◌-◌, ◌*◌, ◌/◌, ◌%◌, ◌^◌, ◌<◌, ◌≤◌, true, false, List, [], ◌∷◌, ◌++◌, length, drop, Ok, Err, refl, sym, ap, ap₂, ◌∙◌, arith}
 use Rattle.std.specs.Prelude.{flat_map}
 use Rattle.std.proofs.lemmas.Bool.Decides.{nat_tests}
 use Rattle.lists.specs.Elements.{Each}
@@ -10,17 +10,12 @@ use Rattle.model_registers.specs.EndpointTable.{type_bits, base_width, base_cell
 use Rattle.model_registers.specs.EndpointTable as table
 use Rattle.model_registers.specs.DeviceBytes.{is_device_byte}
 use Rattle.model_images.specs.Images.{can_hold}
-use Rattle.model_image_bytes.specs.LoadedBytes.{Left, then_read, after_values}
+use Rattle.model_image_bytes.specs.LoadedBytes.{then_read, after_values}
 
 values_both : (xs ys : File) (bytes : List ℕ) → after_values (xs ++ ys) bytes ≡ then_read (after_values ys) (after_values xs bytes)
 values_both [] ys bytes = refl
 values_both (x ∷ xs) ys [] = refl
-values_both (x ∷ xs) ys (b ∷ bytes) = cases (can_hold x b) (values_both xs ys bytes)
-  where
-    cases : (t : Bool) → after_values (xs ++ ys) bytes ≡ then_read (after_values ys) (after_values xs bytes)
-        → cond {A = Left} t (after_values (xs ++ ys) bytes) (Err 905) ≡ then_read (after_values ys) (cond {A = Left} t (after_values xs bytes) (Err 905))
-    cases true more = more
-    cases false more = refl
+values_both (x ∷ xs) ys (b ∷ bytes) = grind (arith, values_both xs ys bytes)
 
 pub values_go_on : (xs ys : File) (bytes rest : List ℕ) → after_values xs bytes ≡ Ok rest → after_values (xs ++ ys) bytes ≡ after_values ys rest
 values_go_on xs ys bytes rest h = values_both xs ys bytes ∙ ap (then_read (after_values ys)) h
@@ -31,13 +26,11 @@ values_end n xs ys bytes h = values_both xs ys bytes ∙ ap (then_read (after_va
 -- the first of a list
 pub values_go_on_of : {A : Type 0} (f : A → File) (x : A) (left others : List A) (own : File) (bytes rest : List ℕ) → left ≡ x ∷ others → own ≡ f x → after_values own bytes ≡ Ok rest
     → after_values (flat_map f others) rest ≡ after_values (flat_map f left) bytes
-values_go_on_of f x left others own bytes rest first are h =
-    sym (ap (λ (xs : List _). after_values (flat_map f xs) bytes) first ∙ values_go_on (f x) (flat_map f others) bytes rest (ap (λ (l : File). after_values l bytes) (sym are) ∙ h))
+values_go_on_of f x left others own bytes rest first are h = grind (arith, values_go_on)
 
 pub values_end_of : {A : Type 0} (f : A → File) (x : A) (left others : List A) (n : ℕ) (own : File) (bytes : List ℕ) → left ≡ x ∷ others → own ≡ f x → after_values own bytes ≡ Err n
     → after_values (flat_map f left) bytes ≡ Err n
-values_end_of f x left others n own bytes first are h =
-    ap (λ (xs : List _). after_values (flat_map f xs) bytes) first ∙ values_end n (f x) (flat_map f others) bytes (ap (λ (l : File). after_values l bytes) (sym are) ∙ h)
+values_end_of f x left others n own bytes first are h = grind (arith, values_end)
 
 -- ---- one register
 
@@ -45,23 +38,17 @@ abbrev first_cell : ℕ → ℕ → ℕ → ℕ → PlacedCell
 first_cell a v w c = record { place = config a; cell = record { value = v % 256; writable = w % 256; clearable = c % 256 } }
 
 field_next : (a n v w c : ℕ) → 0 < n → field (config a) n v w c ≡ first_cell a v w c ∷ field (config (a + 1)) (n - 1) (v / 256) (w / 256) (c / 256)
-field_next a zero v w c h = absurd (omega arith)
-field_next a (suc n) v w c h = let less : n ≡ suc n - 1 = omega arith in ap (λ k. first_cell a v w c ∷ field (config (a + 1)) k (v / 256) (w / 256) (c / 256)) less
+field_next a n v w c h = grind arith
 
 pub byte_taken : (a n v w c b : ℕ) (bytes rest : List ℕ) → 0 < n → bytes ≡ b ∷ rest → can_hold (first_cell a v w c) b ≡ true
     → after_values (field (config (a + 1)) (n - 1) (v / 256) (w / 256) (c / 256)) rest ≡ after_values (field (config a) n v w c) bytes
-byte_taken a n v w c b bytes rest some first holds =
-    let more = field (config (a + 1)) (n - 1) (v / 256) (w / 256) (c / 256) in
-    sym (ap (λ (file : File). after_values file bytes) (field_next a n v w c some) ∙ ap (after_values (first_cell a v w c ∷ more)) first ∙ ap (λ t. cond {A = Left} t (after_values more rest) (Err 905)) holds)
+byte_taken a n v w c b bytes rest some first holds = grind (arith, field_next)
 
 pub byte_refused : (a n v w c b : ℕ) (bytes rest : List ℕ) → 0 < n → bytes ≡ b ∷ rest → can_hold (first_cell a v w c) b ≡ false → after_values (field (config a) n v w c) bytes ≡ Err 905
-byte_refused a n v w c b bytes rest some first holds =
-    let more = field (config (a + 1)) (n - 1) (v / 256) (w / 256) (c / 256) in
-    ap (λ (file : File). after_values file bytes) (field_next a n v w c some) ∙ ap (after_values (first_cell a v w c ∷ more)) first ∙ ap (λ t. cond {A = Left} t (after_values more rest) (Err 905)) holds
+byte_refused a n v w c b bytes rest some first holds = grind (arith, field_next)
 
 pub byte_missing : (a n v w c : ℕ) (bytes : List ℕ) → 0 < n → bytes ≡ [] → after_values (field (config a) n v w c) bytes ≡ Err 905
-byte_missing a n v w c bytes some none =
-    ap (λ (file : File). after_values file bytes) (field_next a n v w c some) ∙ ap (after_values (first_cell a v w c ∷ field (config (a + 1)) (n - 1) (v / 256) (w / 256) (c / 256))) none
+byte_missing a n v w c bytes some none = grind (arith, field_next)
 
 pub all_taken : (a n v w c : ℕ) (bytes : List ℕ) → n ≡ 0 → after_values (field (config a) n v w c) bytes ≡ Ok bytes
 all_taken a n v w c bytes none = ap (λ k. after_values (field (config a) k v w c) bytes) none
@@ -77,14 +64,12 @@ any_holds e b h = grind arith
 any_taken : (file : File) (bytes : List ℕ) → AreDevice file → length file ≤ length bytes → after_values file bytes ≡ Ok (drop (length file) bytes)
 any_taken [] bytes all room = refl
 any_taken (e ∷ es) [] all room = absurd (omega arith)
-any_taken (e ∷ es) (b ∷ bytes) all room =
-    ap (λ t. cond {A = Left} t (after_values es bytes) (Err 905)) (any_holds e b all.0) ∙ any_taken es bytes all.1 (omega arith)
+any_taken (e ∷ es) (b ∷ bytes) all room = grind (arith, any_holds, any_taken es bytes all.1)
 
 any_missing : (file : File) (bytes : List ℕ) → AreDevice file → length bytes < length file → after_values file bytes ≡ Err 905
 any_missing [] bytes all room = absurd (omega arith)
 any_missing (e ∷ es) [] all room = refl
-any_missing (e ∷ es) (b ∷ bytes) all room =
-    ap (λ t. cond {A = Left} t (after_values es bytes) (Err 905)) (any_holds e b all.0) ∙ any_missing es bytes all.1 (omega arith)
+any_missing (e ∷ es) (b ∷ bytes) all room = grind (arith, any_holds, any_missing es bytes all.1)
 
 own_cells : (a : ℕ) (cs : List Cell) → 0x40 ≤ a → AreDevice (cells_from (config a) cs)
 own_cells a [] h = tt
@@ -99,17 +84,13 @@ many_cells p [] = refl
 many_cells p (c ∷ cs) = ap suc (many_cells (after p) cs)
 
 pub block_taken : (a : ℕ) (cs : List Cell) (bytes rest : List ℕ) → 0x40 ≤ a → length cs ≤ length bytes → rest ≡ drop (length cs) bytes → after_values (cells_from (config a) cs) bytes ≡ Ok rest
-block_taken a cs bytes rest low room left =
-    let many = many_cells (config a) cs in
-    any_taken (cells_from (config a) cs) bytes (own_cells a cs low) (omega arith) ∙ ap (λ n. Ok (drop n bytes)) many ∙ ap (λ (xs : List ℕ). Ok xs) (sym left)
+block_taken a cs bytes rest low room left = grind (arith, many_cells, any_taken, own_cells)
 
 pub block_missing : (a : ℕ) (cs : List Cell) (bytes : List ℕ) → 0x40 ≤ a → length bytes < length cs → after_values (cells_from (config a) cs) bytes ≡ Err 905
 block_missing a cs bytes low room = let many = many_cells (config a) cs in any_missing (cells_from (config a) cs) bytes (own_cells a cs low) (omega arith)
 
 pub region_taken : (n : ℕ) (cs : List Cell) (bytes rest : List ℕ) → length cs ≤ length bytes → rest ≡ drop (length cs) bytes → after_values (cells_from (block n 0) cs) bytes ≡ Ok rest
-region_taken n cs bytes rest room left =
-    let many = many_cells (block n 0) cs in
-    any_taken (cells_from (block n 0) cs) bytes (region_cells n 0 cs) (omega arith) ∙ ap (λ k. Ok (drop k bytes)) many ∙ ap (λ (xs : List ℕ). Ok xs) (sym left)
+region_taken n cs bytes rest room left = grind (arith, many_cells, any_taken, region_cells)
 
 pub region_missing : (n : ℕ) (cs : List Cell) (bytes : List ℕ) → length bytes < length cs → after_values (cells_from (block n 0) cs) bytes ≡ Err 905
 region_missing n cs bytes room = let many = many_cells (block n 0) cs in any_missing (cells_from (block n 0) cs) bytes (region_cells n 0 cs) (omega arith)
@@ -133,10 +114,7 @@ base_ends r n bytes h = values_end n (base_cells r.index r.kind r.size 0) (cells
 
 pub base_is : (n size : ℕ) (kind : Kind) (off width value writable : ℕ) → off ≡ 0x10 + 4 * n → width ≡ 4 * registers_of kind → value ≡ type_bits kind → writable ≡ 2 ^ base_width kind - size
     → field (config off) width value writable 0 ≡ base_cells n kind size 0
-base_is n size kind off width value writable a b c d =
-    let sum : value ≡ 0 + type_bits kind = omega arith in
-    ap (λ x. field (config x) width value writable 0) a ∙ ap (λ x. field (config (0x10 + 4 * n)) x value writable 0) b
-    ∙ ap₂ (λ x y. field (config (0x10 + 4 * n)) (4 * registers_of kind) x y 0) sum d
+base_is n size kind off width value writable a b c d = grind arith
 
 -- ---- an endpoint
 

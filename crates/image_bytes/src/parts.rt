@@ -1,7 +1,6 @@
 //! The parts of a declaration as bytes, least byte first.
 ghost use Rattle.std.specs.Prelude.{◌≡◌, ◌≤◌, ◌<◌, length};
 ghost use Rattle.model_registers.specs.Cell.{IsCell};
-ghost use Rattle.model_registers.specs.DeclarationRules.{IsLawfulEndpoint};
 ghost use Rattle.bars.specs.Kinds.{kind_of};
 ghost use Rattle.model_image_bytes.specs.Layouts.{le_bytes};
 ghost use Rattle.model_image_bytes.specs.ImageBytes.{kind_number};

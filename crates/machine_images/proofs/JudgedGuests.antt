@@ -55,8 +55,7 @@ module _ (w : WorldNow) where
   }
     where
       of : (r : Read (List (Option Path))) → behind [] r ≡ r
-      of (Ok p) = refl
-      of (Err k) = refl
+      of r = grind arith
 
   abbrev next_slots : ℕ → List Path → Parsed (Option Path) → Read (List (Option Path))
   next_slots n taken q = read_slots w.handoff n (with_path q.value taken) q.rest

@@ -1,24 +1,21 @@
 -- What a handoff holds under guests, function after function.
-use Rattle.std.proofs.Common.{◌≡◌, ◌<◌, ◌+◌, ◌%◌, drop, ℕ, Bool, true, false, ◌||◌, List, [], ◌∷◌, ◌++◌, length, Some, Option, refl, sym, ap, ap₂, ◌∙◌, subst, arith}
+use Rattle.std.proofs.Common.{◌≡◌, ◌<◌, ◌+◌, ◌%◌, drop, ℕ, Bool, false, ◌||◌, List, [], ◌∷◌, ◌++◌, length, Some, Option, refl, sym, ap, ap₂, ◌∙◌, subst, arith}
 use Rattle.std.specs.Prelude.{flat_map, map, slice_get}
 use Rattle.std.specs.Option.{option_map_or}
-use Rattle.std.specs.List.{list_any}
 use Rattle.std.proofs.lemmas.List.{length-map}
 use Rattle.arrayvec.specs.ArrayString.{ArrayString}
 use Rattle.arrayvec.specs.ArrayVec.{ArrayVec, array_vec_len}
 use Rattle.lists.proofs.Indices.{at_below}
 use Rattle.lists.proofs.Members.{flat_map_map, flat_map_same}
-use Rattle.model_registers.specs.EndpointTable.{endpoint_reset}
 use Rattle.model_registers.specs.Registers.{File}
 use Rattle.model_board.specs.Paths.{Path}
-use Rattle.model_board.specs.Board.{Decl, endpoint, bridge, IsBoard, Row, Board}
+use Rattle.model_board.specs.Board.{Decl, IsBoard, Row, Board}
 use Rattle.model_board.specs.AtReset.{board_at}
 use Rattle.model_board.specs.State.{BoardFunction, State, row_at}
 use Rattle.model_guests.specs.Guests.{GuestsNow}
-use Rattle.model_guests.specs.Text.{Text}
 use Rattle.model_guests.specs.WorldNow.{WorldNow, board_state, names_now}
 use Rattle.model_guests.proofs.Changes.{agreed_twice}
-use Rattle.model_handoff.specs.ViewLaws.{is_at, sits, with_seated_reset}
+use Rattle.model_handoff.specs.ViewLaws.{with_seated_reset}
 use Rattle.model_handoff.proofs.Keeping.{keeps_board}
 use Rattle.model_handoff.proofs.Regions.{state_stays}
 use Rattle.model_handoff.proofs.Views.{reset_shown}
@@ -57,11 +54,7 @@ cells_each (f ∷ fs) = ap (λ (xs : List ℕ). (cells_layout (row_at f)).bytes 
 -- a function that is put to reset for guests of two lists
 both_reset : (a b : Bool) (p : Path) (d : Decl) (file : File) → let f : BoardFunction = record { path = p; decl = d; file = file } in own.held_cells false (record f { file = held_file b (record f { file = held_file a f }) }) ≡ own.held_cells (a || b) f
 unfolding own.held_cells
-both_reset false b p d file = refl
-both_reset true false p d file = refl
-both_reset true true p (bridge d) file = refl
-both_reset true true p (endpoint d) file =
-    ap (λ (x : File). own.held_cells false (record { path = p; decl = endpoint d; file = x })) (sym (agreed_twice file (endpoint_reset d false) (endpoint_reset d false)))
+both_reset a b p d file = grind (arith, agreed_twice)
 
 rows_kept : (gs : GuestsNow) (fs : List BoardFunction) → board_at fs ≡ board_at (map (held_function gs) fs)
 rows_kept gs [] = refl
@@ -81,9 +74,7 @@ module _ (w : WorldNow) (savable : IsSavableWorld w) (gs : List SavedGuest) (sea
       ∙ ap (λ (s : State). s.functions) (held_as_seated (record (board_state w) { functions = map (held_function w.guests) fs }) back (subst IsBoard (rows_kept w.guests fs) board))
 
   one : (f : BoardFunction) → own.held_cells false (held_function back (held_function w.guests f)) ≡ own.held_cells (has_seat w seats f) f
-  one f =
-      both_reset (sits w.guests f.path) (sits back f.path) f.path f.decl f.file
-      ∙ ap (λ t. own.held_cells (sits w.guests f.path || t) f) (restored_sit gs f.path ∙ ap (list_any (is_at f.path)) paths)
+  one f = grind (arith, both_reset, restored_sit)
 
   cells_held : flat_map (own.held_cells false) (under_guests w gs).functions ≡ held_under w seats
   cells_held =
@@ -108,19 +99,13 @@ held_of w seats f = own.held_cells (has_seat w seats f) f
 pub held_next : (w : WorldNow) (seats : List (Option ℕ)) (s : State) → s ≡ board_state w → (i : ℕ) (t : Bool) → i < length (functions_now w)
     → ((f : BoardFunction) → slice_get (functions_now w) i ≡ Some f → t ≡ has_seat w seats f)
     → flat_map (held_of w seats) (drop i (functions_now w)) ≡ bytes_nth (own.held_cells t) s.functions i ++ flat_map (held_of w seats) (drop (i + 1) (functions_now w))
-held_next w seats s same i t low told =
-    let there = at_below (functions_now w) i low in
-    let nth = ap (λ (x : State). bytes_nth (own.held_cells t) x.functions i) same ∙ ap (λ (o : Option BoardFunction). option_map_or (own.held_cells t) o []) there.1
-    ∙ ap (λ u. own.held_cells u there.0) (told there.0 there.1) ∙ sym (ap (λ (o : Option BoardFunction). option_map_or (held_of w seats) o []) there.1) in
-    bytes_next (held_of w seats) (functions_now w) i low ∙ ap (λ (xs : List ℕ). xs ++ flat_map (held_of w seats) (drop (i + 1) (functions_now w))) (sym nth)
+held_next w seats s same i t low told = grind (arith, at_below, bytes_next)
 
 -- ---- what is the same in all images of a machine
 
 pub known_is : (w : WorldNow) (s : State) (names : ArrayVec ArrayString) (n : ℕ) → s ≡ board_state w → texts names ≡ names_now w → n ≡ array_vec_len names
     → known_bytes w ≡ board_layout.bytes (board_at s.functions) ++ le_bytes 2 n
-known_is w s names n same are count =
-    ap₂ (λ (b : Board) (m : ℕ). board_layout.bytes b ++ le_bytes 2 m) (sym (ap (λ (x : State). board_at x.functions) same ∙ keeps_board w.handoff w.guests))
-    (sym (count ∙ sym (length-map names.items (λ n. n.bytes)) ∙ ap (λ (ts : List Text). length ts) are))
+known_is w s names n same are count = grind (arith, keeps_board, length-map)
 
 pub name_is : (name : List ℕ) → AreBytes name → name_layout.bytes name ≡ (length name % 256 ∷ []) ++ name
 name_is name all = ap (λ (xs : List ℕ). length name % 256 ∷ xs) (singles name all)

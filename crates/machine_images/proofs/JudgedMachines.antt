@@ -1,5 +1,5 @@
 -- What a machine reads of bytes, from front to back.
-use Rattle.std.proofs.Common.{◌≡◌, ◌++◌, ℕ, List, [], Option, Some, None, Ok, Err, refl, ap, ◌∙◌}
+use Rattle.std.proofs.Common.{◌≡◌, ◌++◌, ℕ, List, [], Option, Some, None, Ok, Err, ap, ◌∙◌, arith}
 use Rattle.std.specs.Result.{result_err}
 use Rattle.model_guests.specs.WorldNow.{WorldNow, names_now}
 use Rattle.model_images.specs.MachineImages.{SavedGuest, MachineImage, saved_handoff}
@@ -40,8 +40,7 @@ module _ (w : WorldNow) (bytes : List ℕ) where
             ∙ ap (λ (xs : List ℕ). by_held (then_read at_end (after_bytes 907 xs three))) (held_is w savable is.guests seats is.paths clear)
           where
             same : (l : Left) → by_held (and_then at_end l) ≡ by_held (then_read at_end l)
-            same (Ok rest) = refl
-            same (Err k) = refl
+            same l = grind arith
 
         pub all_taken : then_read at_end (after_bytes 907 (held_under w seats ++ le_bytes 4 0) three) ≡ Ok [] → load_all_fault w bytes ≡ None
         all_taken h = held_decides ∙ ap by_held h

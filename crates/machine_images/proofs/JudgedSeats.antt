@@ -1,6 +1,6 @@
 -- Functions by their index on a board, and by their path.
 use Rattle.std.proofs.Common.{◌≡◌, ◌<◌, ◌⊎◌, ℕ, Bool, false, cond, eqb, not, ◌&&◌, ◌||◌, List, [], ◌∷◌, Some, None, Option, Result, Ok, Err, length, refl, sym, ap, ap₂, ◌∙◌, subst, arith}
-use Rattle.std.specs.Prelude.{find, map, option_map, option_and_then, slice_get, IsTrue}
+use Rattle.std.specs.Prelude.{find, map, option_map, option_and_then, slice_get}
 use Rattle.std.specs.List.{list_any}
 use Rattle.std.specs.Option.{option_map_or}
 use Rattle.std.proofs.lemmas.Bool.Decides.{nat_tests}
@@ -9,12 +9,11 @@ use Rattle.lists.proofs.FirstFound.{found_passes}
 use Rattle.lists.proofs.Indices.{at_below, each_at, pair_at, same_at}
 use Rattle.model_registers.specs.Decoding.{Function}
 use Rattle.model_registers.specs.Declarations.{Endpoint}
-use Rattle.model_registers.specs.EndpointTable.{endpoint_reset}
 use Rattle.model_registers.specs.Registers.{File}
-use Rattle.model_board.specs.Paths.{Path, path_eq, path_before}
-use Rattle.model_board.specs.Board.{Board, Decl, endpoint, bridge, Row}
+use Rattle.model_board.specs.Paths.{Path, path_eq}
+use Rattle.model_board.specs.Board.{Decl}
 use Rattle.model_board.specs.AtReset.{board_at}
-use Rattle.model_board.specs.State.{BoardFunction, State, row_at}
+use Rattle.model_board.specs.State.{BoardFunction, State}
 use Rattle.model_board.proofs.PathEnds.{path_self, path_eq-sym}
 use Rattle.model_board.proofs.PathOrder.{path_same}
 use Rattle.model_board.proofs.PlacesLaw.{before_apart}
@@ -55,33 +54,22 @@ is_there fs i p within told =
     record { function = there.0; at = there.1; path = path_same there.0.path p (found_passes (λ f. path_eq f.path p) fs there.0 (sym told ∙ there.1)) }
 
 decl_of : (p : Path) (d : Decl) (file : File) → option_map (λ (e : Function). e.decl) (as_endpoint (record { path = p; decl = d; file = file })) ≡ endpoint_of (record { path = p; decl = d })
-decl_of p (endpoint d) file = refl
-decl_of p (bridge d) file = refl
+decl_of p d file = grind arith
 
 module _ (fs : List BoardFunction) (state : IsStateOfBoard fs) where
   same_index : (i j : ℕ) (f g : BoardFunction) → slice_get fs i ≡ Some f → slice_get fs j ≡ Some g → path_eq g.path f.path ≡ eqb j i
-  same_index i j f g at by =
-      let ordered = pairs_from_map (λ (r s : Row). IsTrue (path_before r.path s.path)) row_at fs state.places.in_order in
-      grind (arith, nat_tests, same_at, slice_get, path_self, sides, path_eq-sym, before_apart, pair_at)
+  same_index i j f g at by = grind (arith, pairs_from_map, nat_tests, same_at, path_self, sides, path_eq-sym, before_apart, pair_at)
 
   module _ (i : ℕ) (f : BoardFunction) (at : slice_get fs i ≡ Some f) where
     seat_is : (o : Option ℕ) → is_at f.path (path_seated fs o) ≡ is_index i o
-    seat_is None = refl
-    seat_is (Some j) = of (slice_get fs j) refl
-      where
-        of : (x : Option BoardFunction) → slice_get fs j ≡ x → is_at f.path (option_map (λ (g : BoardFunction). g.path) x) ≡ eqb j i
-        of (Some g) e = same_index i j f g at e
-        of None e = grind (arith, nat_tests)
+    seat_is o = grind (arith, same_index, nat_tests)
 
     pub seats_are : (seats : List (Option ℕ)) → list_any (is_at f.path) (paths_seated fs seats) ≡ list_any (is_index i) seats
     seats_are [] = refl
     seats_are (o ∷ seats) = ap₂ ◌||◌ (seat_is o) (seats_are seats)
 
     pub free_is : (s : State) (seats : List (Option ℕ)) → is_open_there s f.path (declared (board_at s.functions) f.path) && not (list_any (is_index i) seats) ≡ can_have s (taken_by fs seats) (Some f.path)
-    free_is s seats =
-        let had = is_taken (paths_seated fs seats) [] f.path in
-        let seated = seats_are seats in
-        grind (arith, had, seated)
+    free_is s seats = grind (arith, is_taken, seats_are)
 
   -- ---- slots
 
@@ -99,8 +87,7 @@ module _ (fs : List BoardFunction) (state : IsStateOfBoard fs) where
     by x = after_slot (reset_function x) bytes
 
     pub filled_after : (e : Function) → option_and_then (endpoint_nth fs) o ≡ Some e → after_filled e.decl bytes ≡ after_slot (slot_seated fs o) bytes
-    filled_after e h =
-        filled_is (record { decl = e.decl; file = endpoint_reset e.decl false }) bytes ∙ sym (ap by (seat_declared o ∙ ap (option_map (λ (f : Function). f.decl)) h))
+    filled_after e h = grind (arith, filled_is, seat_declared)
 
     pub empty_after : option_and_then (endpoint_nth fs) o ≡ None → after_bytes 906 (0 ∷ []) bytes ≡ after_slot (slot_seated fs o) bytes
     empty_after h = sym (ap by (seat_declared o ∙ ap (option_map (λ (f : Function). f.decl)) h))
@@ -110,13 +97,11 @@ module _ (fs : List BoardFunction) (state : IsStateOfBoard fs) where
 module _ (fs : List BoardFunction) where
   pub slots_go_on : (o : Option ℕ) (left others : List (Option ℕ)) (bytes rest : List ℕ) → left ≡ o ∷ others → after_slot (slot_seated fs o) bytes ≡ Ok rest
       → after_slots_front (map (slot_seated fs) others) rest ≡ after_slots_front (map (slot_seated fs) left) bytes
-  slots_go_on o left others bytes rest first h =
-      sym (ap (λ (xs : List (Option ℕ)). after_slots_front (map (slot_seated fs) xs) bytes) first ∙ ap (then_read (after_slots_front (map (slot_seated fs) others))) h)
+  slots_go_on o left others bytes rest first h = grind arith
 
   pub slots_end : (o : Option ℕ) (left others : List (Option ℕ)) (bytes : List ℕ) (n : ℕ) → left ≡ o ∷ others → after_slot (slot_seated fs o) bytes ≡ Err n
       → after_slots_front (map (slot_seated fs) left) bytes ≡ Err n
-  slots_end o left others bytes n first h =
-      ap (λ (xs : List (Option ℕ)). after_slots_front (map (slot_seated fs) xs) bytes) first ∙ ap (then_read (after_slots_front (map (slot_seated fs) others))) h
+  slots_end o left others bytes n first h = grind arith
 
   slots_are : (seats : List (Option ℕ)) → (guest_seated fs seats).slots ≡ map (slot_seated fs) seats
   slots_are [] = refl
@@ -149,12 +134,7 @@ module _ (w : WorldNow) (s : State) (handoff : IsHandoff s) (same : s ≡ board_
   found_now o e = subst (λ (x : State). IsFoundPath x.functions bytes o rest) same (subst (λ (x : Option ℕ). IsFoundPath s.functions bytes x rest) e is)
 
   pub none_found : found ≡ None → path_slot ≡ Err 906
-  none_found e =
-      let none = found_now None e in
-      let absent = ap (λ (b : Board). declared b none.path) (sym (keeps_board w.handoff w.guests)) ∙ declared_there now none.path
-      ∙ ap (λ (o : Option BoardFunction). option_map (λ (e : Function). e.decl) (option_map_or as_endpoint o None)) (sym none.function) in
-      path_read w.handoff (taken_by now seats) bytes none.path rest none.read
-      ∙ ap (λ (o : Option Endpoint). cond {A = Read (Option Path)} (is_open_there w.handoff none.path o && not (list_any (λ q. path_eq q none.path) (taken_by now seats))) (Ok (parsed (Some none.path) rest)) (Err 906)) absent
+  none_found e = grind (arith, found_now, keeps_board, declared_there, path_read)
 
   pub index_found : (i : ℕ) → found ≡ Some i → i < length s.functions → (t : Bool)
       → ((f : BoardFunction) → slice_get now i ≡ Some f → t ≡ can_have w.handoff (taken_by now seats) (Some f.path))

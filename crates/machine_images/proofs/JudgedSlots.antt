@@ -12,11 +12,7 @@ abbrev parse : List ℕ → Option (Parsed (Option Path))
 parse bytes = (optional path_layout).parse bytes
 
 filled : (bytes : List ℕ) → parse (1 ∷ bytes) ≡ option_map (seen (λ (p : Path). Some p)) (path_layout.parse bytes)
-filled bytes = of (path_layout.parse bytes) refl
-  where
-    of : (o : Option (Parsed Path)) → path_layout.parse bytes ≡ o → parse (1 ∷ bytes) ≡ option_map (seen (λ (p : Path). Some p)) o
-    of None e = grind (arith, e)
-    of (Some p) e = grind (arith, e)
+filled bytes = grind arith
 
 -- a byte that is neither 0 nor 1
 none_begins : (b : ℕ) (bytes : List ℕ) → (b ≡ 0 → ⊥) → (b ≡ 1 → ⊥) → (o : Option (Parsed (Option Path))) → parse (b ∷ bytes) ≡ o → o ≡ None
@@ -24,8 +20,7 @@ none_begins b bytes not_0 not_1 None e = refl
 none_begins b bytes not_0 not_1 (Some q) e = absurd (of q.value (slot_path_is.spells (b ∷ bytes) q e).bytes)
   where
     of : (o : Option Path) → b ∷ bytes ≡ (optional path_layout).bytes o ++ q.rest → ⊥
-    of None h = not_0 (cc h)
-    of (Some p) h = not_1 (cc h)
+    of o h = grind arith
 
 module _ (s : State) (taken : List Path) where
   abbrev read_by : Option (Parsed (Option Path)) → Read (Option Path)

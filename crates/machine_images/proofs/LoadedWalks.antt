@@ -1,13 +1,13 @@
 -- Walks over the guests of a machine: one is emptied, filled or loaded after the other.
 use Rattle.std.proofs.Common.{◌≡◌, ◌<◌, ◌+◌, ℕ, zero, suc, List, [], ◌∷◌, ◌++◌, length, drop, Some, None, Option, refl, sym, ap, ap₂, ◌∙◌, subst, arith}
 use Rattle.std.specs.Prelude.{flat_map, map, option_map, slice_get, unwrap_or}
-use Rattle.std.proofs.lemmas.List.{length-map, length-append}
+use Rattle.std.proofs.lemmas.List.{length-map, length-append, map-append}
 use Rattle.std.proofs.lemmas.Option.{slice_get-map}
 use Rattle.lists.proofs.Indices.{at_below, map_at, same_at}
 use Rattle.model_board.specs.Paths.{Path}
 use Rattle.model_board.specs.Board.{Row, Board}
 use Rattle.model_board.specs.AtReset.{board_at}
-use Rattle.model_board.specs.State.{BoardFunction, row_at}
+use Rattle.model_board.specs.State.{BoardFunction}
 use Rattle.model_guests.specs.Text.{Text}
 use Rattle.model_guests.specs.Lone.{LoneGuest, reset_guest}
 use Rattle.model_guests.specs.Guests.{GuestNow, lone_of}
@@ -36,11 +36,7 @@ use Rattle.machine_images.proofs.Along.{board_along, board_of, both_along, names
 -- ---- guests by their index
 
 name_is : (w : WorldNow) (i : ℕ) → name_nth w i ≡ unwrap_or (slice_get (names_now w) i) []
-name_is w i = of (slice_get w.guests i) ∙ ap (λ (o : Option Text). unwrap_or o []) (sym (slice_get-map (λ (g : GuestNow). g.name) w.guests i))
-  where
-    of : (o : Option GuestNow) → (unwrap_or o (record { name = []; paths = []; lone = reset_guest [] })).name ≡ unwrap_or (option_map (λ (g : GuestNow). g.name) o) []
-    of None = refl
-    of (Some g) = refl
+name_is w i = grind (arith, slice_get-map)
 
 pub same_name : (v w : WorldNow) (i : ℕ) → names_now v ≡ names_now w → name_nth v i ≡ name_nth w i
 same_name v w i same = name_is v i ∙ ap (λ (ns : List Text). unwrap_or (slice_get ns i) []) same ∙ sym (name_is w i)
@@ -61,9 +57,7 @@ at_drop : {A : Type 0} (xs ys : List A) (i : ℕ) (x : A) → drop i xs ≡ x �
 at_drop [] ys zero x h = cc
 at_drop [] ys (suc i) x h = cc
 at_drop (z ∷ zs) ys zero x h = (cc, cc)
-at_drop (z ∷ zs) ys (suc i) x h =
-    let more = at_drop zs ys i x h in
-    let next : suc i + 1 ≡ suc (i + 1) = omega arith in (more.0, ap (λ j. drop j (z ∷ zs)) next ∙ more.1)
+at_drop (z ∷ zs) ys (suc i) x h = grind (arith, at_drop zs ys i x h)
 
 -- ---- slots are emptied
 
@@ -77,11 +71,7 @@ board_shown : (w : WorldNow) → board_at (functions_now w) ≡ board_of w
 board_shown w = keeps_board w.handoff w.guests
 
 path_on_board : (fs : List BoardFunction) (i : ℕ) → path_seated fs (Some i) ≡ option_map (λ (r : Row). r.path) (slice_get (board_at fs) i)
-path_on_board fs i = of (slice_get fs i) ∙ ap (option_map (λ (r : Row). r.path)) (sym (slice_get-map row_at fs i))
-  where
-    of : (o : Option BoardFunction) → option_map (λ (f : BoardFunction). f.path) o ≡ option_map (λ (r : Row). r.path) (option_map row_at o)
-    of None = refl
-    of (Some f) = refl
+path_on_board fs i = grind (arith, slice_get-map)
 
 pub same_path : (v w : WorldNow) → board_of v ≡ board_of w → (o : Option ℕ) → path_seated (functions_now v) o ≡ path_seated (functions_now w) o
 same_path v w same None = refl
@@ -101,11 +91,7 @@ module _ (old m new : MachineNow) (guest slot : ℕ) (left rest : List (Option �
   done = h ∙ ap₂ (λ (t : Text) (q : Option Path). after_all_requests m (gift t slot q)) (same_name m.world old.world guest names) (same_path m.world old.world board seat)
 
   pub one_given : after_all_requests new (gifts name (slot + 1) (paths rest)) ≡ after_all_requests m (gifts name slot (paths left))
-  one_given =
-      let next : slot + 1 ≡ suc slot = omega arith in
-      ap (λ n. after_all_requests new (gifts name n (paths rest))) next ∙ ap (λ x. after_all_requests x (gifts name (suc slot) (paths rest))) done
-      ∙ sym (both_along (gift name slot (path_seated (functions_now old.world) seat)) (gifts name (suc slot) (paths rest)) m)
-      ∙ ap (λ seats. after_all_requests m (gifts name slot (paths seats))) (sym at)
+  one_given = grind (arith, done, both_along)
 
 -- what is the same along these requests
 pub record AreSame (m new : MachineNow) : Type 0 where
@@ -113,14 +99,7 @@ pub record AreSame (m new : MachineNow) : Type 0 where
   pub board : board_of new.world ≡ board_of m.world
 
 pub same_along : (rs : List Request) (m new : MachineNow) → new ≡ after_all_requests m rs → AreSame m new
-same_along rs m new h = record {
-  names = ap (λ (x : MachineNow). names_now x.world) h ∙ names_along rs m;
-  board = ap (λ (x : MachineNow). board_of x.world) h ∙ board_along rs m;
-}
-
-paths_both : (fs : List BoardFunction) (xs ys : List (Option ℕ)) → paths_seated fs (xs ++ ys) ≡ paths_seated fs xs ++ paths_seated fs ys
-paths_both fs [] ys = refl
-paths_both fs (x ∷ xs) ys = ap (λ (qs : List (Option Path)). path_seated fs x ∷ qs) (paths_both fs xs ys)
+same_along rs m new h = grind (arith, names_along, board_along)
 
 pub same_paths : (v w : WorldNow) → board_of v ≡ board_of w → (xs : List (Option ℕ)) → paths_seated (functions_now v) xs ≡ paths_seated (functions_now w) xs
 same_paths v w same [] = refl
@@ -129,18 +108,12 @@ same_paths v w same (x ∷ xs) = ap₂ (λ (q : Option Path) (qs : List (Option 
 -- equal fronts and equal rests
 two_parts : {A : Type 0} (xs ys us vs : List A) → length xs ≡ length ys → xs ++ us ≡ ys ++ vs → (xs ≡ ys) × (us ≡ vs)
 two_parts [] [] us vs many h = (refl, h)
-two_parts [] (y ∷ ys) us vs many h = cc
-two_parts (x ∷ xs) [] us vs many h = cc
-two_parts (x ∷ xs) (y ∷ ys) us vs many h =
-    let count : length xs ≡ length ys = omega arith in
-    let rest : xs ++ us ≡ ys ++ vs = cc in
-    let more = two_parts xs ys us vs count rest in
-    let first : x ≡ y = cc in (ap₂ (λ z (zs : List _). z ∷ zs) first more.0, more.1)
+two_parts (x ∷ xs) (y ∷ ys) us vs many h = grind (arith, two_parts xs ys us vs)
+two_parts xs ys us vs many h = cc
 
 not_past : {A : Type 0} (xs : List A) (i : ℕ) → i < length xs → drop i xs ≡ [] → ⊥
-not_past [] i inside h = omega arith
-not_past (x ∷ xs) zero inside h = cc
 not_past (x ∷ xs) (suc i) inside h = not_past xs i (omega arith) h
+not_past xs i inside h = grind arith
 
 abbrev pub gifts_of : SavedGuest → List Request
 gifts_of g = gifts g.name 0 g.paths
@@ -160,7 +133,7 @@ module _ (m new : MachineNow) (i : ℕ) (left own rest : List (Option ℕ)) (at 
       let name : name_nth m.world i ≡ g.name = same_at (names_now m.world) i (name_nth m.world i) g.name (name_at m.world i inside) d.0 in
       let count : length g.paths ≡ length (paths_seated fs own) = k.count.0 ∙ sym many ∙ sym (length-map own (path_seated fs)) in
       let two = two_parts g.paths (paths_seated fs own) (flat_map (λ (x : SavedGuest). x.paths) gs) (paths_seated fs rest) count
-      (k.paths ∙ ap (paths_seated fs) at ∙ paths_both fs own rest) in
+      (k.paths ∙ ap (paths_seated fs) at ∙ map-append (path_seated fs) own rest) in
       let now : new ≡ after_all_requests m (gifts_of g) = h ∙ ap₂ (λ (t : Text) (qs : List (Option Path)). after_all_requests m (gifts t 0 qs)) name (sym two.0) in
       let same = same_along (gifts_of g) m new now in
       record {
@@ -185,9 +158,8 @@ none_given m i left (g ∷ gs) few h =
 
 pub many_runs : (b : Board) (gs : List SavedGuest) (rs : List (List ℕ)) → AreRuns b gs rs → length rs ≡ length gs
 many_runs b [] [] are = refl
-many_runs b [] (r ∷ rs) are = absurd are
-many_runs b (g ∷ gs) [] are = absurd are
 many_runs b (g ∷ gs) (r ∷ rs) are = ap suc (many_runs b gs rs are.1)
+many_runs b gs rs are = absurd are
 
 pub one_accepted : (b : Board) (g : SavedGuest) (run : List ℕ) → IsRunOf b g run → (now : LoneGuest) → Fits g.image now → load_fault now run ≡ None
 one_accepted b g run is now fits = alike_faults g.image now (guest_at b g.paths) fits is.fits run ∙ is.accepted
@@ -230,12 +202,10 @@ module _ (m new : MachineNow) (i : ℕ) (run : List ℕ) (left rest : List (List
 
 pub none_left : (m : MachineNow) (i : ℕ) (left : List (List ℕ)) (gs : List SavedGuest) → length left ≡ 0 → LoadsRuns m i left gs → m ≡ after_all_requests m (map load_of gs)
 none_left m i left [] none h = refl
-none_left m i [] (g ∷ gs) none h = absurd h.are
-none_left m i (r ∷ left) (g ∷ gs) none h = absurd (omega arith)
+none_left m i left gs none h = grind arith
 
 pub no_fault : (o : Option ImageFault) (n : Option ℕ) → option_map number_of o ≡ n → n ≡ None → o ≡ None
-no_fault None n same none = refl
-no_fault (Some why) n same none = absurd (grind arith)
+no_fault o n same none = grind arith
 
 -- as many names as guests, along requests
 pub still_there : {A : Type 0} (v w : WorldNow) (f : A → Text) (xs : List A) → map f xs ≡ names_now w → names_now v ≡ names_now w → length xs ≡ length v.guests

@@ -37,12 +37,7 @@ module _ {whole rest : List ℕ} {at n : ℕ} {before now : List ℕ} (left : Is
       }
 
 pub done : {whole rest : List ℕ} {at n : ℕ} {before now : List ℕ} → IsLeft whole rest at n before now → rest ≡ [] → IsPut whole at before n now
-done {whole} {rest} {at} {n} {before} {now} left none =
-    let nothing = ap (λ (xs : List ℕ). length xs) none in
-    let end = left.end in record {
-      bytes = sym (put_none n now) ∙ ap (λ (xs : List ℕ). put n xs now) (sym none) ∙ left.bytes;
-      end = omega arith;
-    }
+done {whole} {rest} {at} {n} {before} {now} left none = grind (arith, put_none)
 
 pub capped_on : (a b : ℕ) → capped (capped a + b) ≡ capped (a + b)
 capped_on a b = grind arith

@@ -1,23 +1,18 @@
 -- The bytes of a machine's image are its parts.
-use Rattle.std.proofs.Common.{◌≡◌, ◌+◌, ℕ, Bool, true, false, cond, List, [], ◌∷◌, ◌++◌, length, None, Option, refl, sym, ap, ap₂, ◌∙◌, arith, length-append}
-use Rattle.std.specs.Prelude.{map, flat_map, option_map}
-use Rattle.std.specs.Option.{option_map_or}
+use Rattle.std.proofs.Common.{◌≡◌, ◌+◌, ℕ, List, [], ◌∷◌, ◌++◌, length, refl, sym, ap, ap₂, arith, length-append}
+use Rattle.std.specs.Prelude.{map, flat_map}
 use Rattle.std.proofs.lemmas.List.{length-map}
 use Rattle.lists.proofs.Members.{flat_map_map}
 use Rattle.lists.specs.Elements.{Each}
-use Rattle.model_registers.specs.Registers.{File}
-use Rattle.model_registers.specs.CopiedFiles.{agreed_file}
-use Rattle.model_registers.specs.Declarations.{Endpoint}
-use Rattle.model_board.specs.Board.{Decl, endpoint, bridge, Board}
+use Rattle.model_board.specs.Board.{Board}
 use Rattle.model_board.specs.AtReset.{board_at}
 use Rattle.model_board.specs.State.{BoardFunction, State, row_at}
 use Rattle.model_guests.specs.Guests.{GuestsNow}
 use Rattle.model_guests.specs.World.{declared, endpoint_of}
 use Rattle.model_guests.specs.WorldNow.{WorldNow, board_state}
 use Rattle.model_guests.specs.AgreedBoard.{agreed_function}
-use Rattle.model_handoff.specs.Handoffs.{file_at_reset}
 use Rattle.model_handoff.specs.Kept.{IsLawfulOver}
-use Rattle.model_handoff.specs.ViewLaws.{sits, seated_files, with_seated_reset}
+use Rattle.model_handoff.specs.ViewLaws.{seated_files, with_seated_reset}
 use Rattle.model_handoff.proofs.Functions.{Facts, facts}
 use Rattle.model_handoff.proofs.Keeping.{rows_stay}
 use Rattle.model_handoff.proofs.Regions.{state_stays}
@@ -27,7 +22,7 @@ use Rattle.model_images.specs.MachineImages.{image_of_machine, saved_guest, save
 use Rattle.model_image_bytes.specs.LoadedMachines.{machine_header}
 use Rattle.model_image_bytes.specs.Layouts.{bytes_each, le_bytes}
 use Rattle.model_image_bytes.specs.MachineBytes.{cells_layout, guest_layout, machine_bytes, row_layout}
-use Rattle.board_images.specs.BoardBytes.{held_cells, held_file, row_bytes}
+use Rattle.board_images.specs.BoardBytes.{held_cells, row_bytes}
 use Rattle.machine_images.specs.SavedParts.{board_bytes, guest_bytes, guests_bytes, held_now, name_bytes, own_bytes, saved_bytes, seat_bytes}
 
 -- ---- what stands where
@@ -49,13 +44,7 @@ now s gs f = agreed_function (seated_files s gs) f
 held_is : (s : State) (gs : GuestsNow) (f : BoardFunction) → declared (board_at s.functions) f.path ≡ endpoint_of (row_at f)
     → (cells_layout (row_at f)).bytes (values_of (now s gs f).file) ≡ held_now gs f
 unfolding held_cells
-held_is s gs f there = ap (λ (file : File). (cells_layout (row_at f)).bytes (values_of file)) (by (sits gs f.path) f.decl there)
-  where
-    by : (t : Bool) (d : Decl) → declared (board_at s.functions) f.path ≡ endpoint_of (record { path = f.path; decl = d })
-        → (option_map_or (λ (own : File). record f { file = agreed_file f.file own }) (cond t (option_map file_at_reset (declared (board_at s.functions) f.path)) None) f).file ≡ held_file t (record f { decl = d })
-    by false d e = refl
-    by true (endpoint d) e = ap (λ (o : Option Endpoint). (option_map_or (λ (own : File). record f { file = agreed_file f.file own }) (option_map file_at_reset o) f).file) e
-    by true (bridge d) e = ap (λ (o : Option Endpoint). (option_map_or (λ (own : File). record f { file = agreed_file f.file own }) (option_map file_at_reset o) f).file) e
+held_is s gs f there = grind arith
 
 all_held : (s : State) (gs : GuestsNow) (fs : List BoardFunction) → Each (Facts (board_at s.functions)) fs
     → bytes_each cells_layout (map row_at fs) (map (λ (f : BoardFunction). values_of f.file) (map (now s gs) fs)) ≡ flat_map (held_now gs) fs
@@ -88,11 +77,7 @@ module _ (w : WorldNow) (lawful : IsLawfulOver w) (clear : w.handoff.latch ≡ 0
       ap₂ (λ (xs ys : List ℕ). machine_header ++ (xs ++ ys)) many (ap₂ (λ (xs ys : List ℕ). xs ++ (ys ++ le_bytes 4 0)) guests held)
 
   pub saved_is : machine_bytes (image_of_machine w) ≡ saved_bytes s.functions w.guests
-  saved_is =
-      ap (λ (x : State). machine_bytes (record { handoff = saved_handoff x; guests = map saved_guest w.guests })) shown
-      ∙ layout_is (with_seated_reset s w.guests) w.guests
-      ∙ ap₂ (λ (b : Board) (n : ℕ). laid_out b w.guests (values_in (with_seated_reset s w.guests)) n) (rows_stay (seated_files s w.guests) s.functions) clear
-      ∙ parts_are
+  saved_is = grind (arith, shown, layout_is, rows_stay, parts_are)
 
   pub saved_count : length (machine_bytes (image_of_machine w)) ≡ 18 + length (flat_map row_bytes s.functions) + length (flat_map guest_bytes w.guests) + length (flat_map (held_now w.guests) s.functions)
   saved_count =

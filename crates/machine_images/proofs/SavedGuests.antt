@@ -6,7 +6,7 @@
 --     many_seats, seat_there      its slots
 --     guest_count, many_guests      how many bytes it has, and how many guests there are
 --     held_count      how many bytes the handoff has of a function of the board
-use Rattle.std.proofs.Common.{◌≡◌, ◌+◌, ◌*◌, ◌-◌, ◌%◌, ◌<◌, ◌≤◌, ℕ, suc, Bool, List, [], ◌∷◌, ◌++◌, length, get_or, take, drop, Fits, w8, Some, None, Option, refl, sym, ap, ap₂, ◌∙◌, arith, length-append, length-drop}
+use Rattle.std.proofs.Common.{◌≡◌, ◌+◌, ◌*◌, ◌-◌, ◌%◌, ◌<◌, ◌≤◌, ℕ, suc, Bool, List, [], ◌∷◌, ◌++◌, length, get_or, Fits, w8, Some, None, Option, refl, sym, ap, ap₂, ◌∙◌, arith, length-append, length-drop}
 use Rattle.std.specs.Prelude.{flat_map, map, slice_get, unwrap_or}
 use Rattle.std.specs.Option.{option_map_or}
 use Rattle.std.proofs.lemmas.List.{append-nil, drop-drop, drop_all, length-map, take_rest}
@@ -67,15 +67,7 @@ name_count t = let all = each_one t in omega arith
 -- ---- in the rest of a buffer
 
 put_there : (at : ℕ) (xs out new : List ℕ) → new ≡ put 0 xs (mid_of at (length out - at) out) → at + length xs ≤ length out → put_mid at (length out - at) out new ≡ put at xs out
-put_there at xs out new is room =
-    let rest : drop (0 + length xs) (mid_of at (length out - at) out) ≡ drop (at + length xs) out =
-    ap (drop (0 + length xs)) (take_rest out at) ∙ ap (λ n. drop n (drop at out)) zero_plus ∙ drop-drop (length xs) at out in
-    let past : drop (length out - at) (drop at out) ≡ [] = drop-drop (length out - at) at out ∙ drop_all (at + (length out - at)) out (omega arith) in
-    ap₂ (λ (ys zs : List ℕ). take at out ++ (ys ++ zs)) is past ∙ ap (λ (ys : List ℕ). take at out ++ ys) (append-nil (put 0 xs (mid_of at (length out - at) out)))
-    ∙ ap (λ (ys : List ℕ). take at out ++ (xs ++ ys)) rest
-  where
-    zero_plus : 0 + length xs ≡ length xs
-    zero_plus = omega arith
+put_there at xs out new is room = grind (arith, take_rest, drop-drop, drop_all, append-nil)
 
 -- ---- guests
 
@@ -100,10 +92,7 @@ module _ (w : WorldNow) (lawful : IsLawfulOver w) (i : ℕ) (there : i < length 
 
     pub own_put : (k : ℕ) (new : List ℕ) → new ≡ put 0 (image_bytes (image_of_guest (name_nth w i) w)) rest → k ≡ length (image_bytes (image_of_guest (name_nth w i) w))
         → IsPut (own_bytes (guest_nth w i)) at out (at + k) (put_mid at (length out - at) out new)
-    own_put k new is many = record {
-      bytes = put_there at (own_bytes (guest_nth w i)) out new (is ∙ ap (λ (xs : List ℕ). put 0 xs rest) own_is) room;
-      end = ap (λ n. at + n) (many ∙ ap (λ (xs : List ℕ). length xs) own_is);
-    }
+    own_put k new is many = grind (arith, put_there, own_is)
 
   abbrev qs : List (Option Path)
   qs = (guest_nth w i).paths

@@ -4,6 +4,7 @@
 --     LoadsRuns m guest runs gs      what guests are loaded from, this one first
 --     GivesSeats m guest seats gs      what guests are given, this one first
 --     IsRunRead, FindsRuns      a guest, and guests, whose slots were read and whose runs were found
+--     IsPlanned w bytes seats runs      the slots and the runs of all guests of a machine that bytes hold and that fits
 use Rattle.std.specs.Prelude.{List, [], ◌∷◌, ◌++◌, ◌≡◌, ℕ, flat_map, map, drop, Option, None, Ok, ⊤, length}
 use Rattle.lists.specs.Elements.{Each}
 use Rattle.model_board.specs.Board.{Board}
@@ -66,3 +67,10 @@ pub record FindsRuns (w : WorldNow) (gs : List SavedGuest) (before after : List 
   pub more : List (List ℕ)
   pub are : runs ≡ found ++ more
   pub hold : AreRuns (board_at w.handoff.functions) gs more
+
+pub record IsPlanned (w : WorldNow) (bytes : List ℕ) (seats : List (Option ℕ)) (runs : List (List ℕ)) : Type 0 where
+  pub image : MachineImage
+  pub read : read_machine w bytes ≡ Ok image
+  pub fits : FitsMachine image w
+  pub count : Each (λ (g : SavedGuest). length g.paths ≡ 32) image.guests
+  pub found : FindsRuns w image.guests [] seats [] runs

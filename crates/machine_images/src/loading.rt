@@ -1,7 +1,8 @@
 //! Images of whole machines that are loaded. The bytes are read before anything changes: which function each slot gets,
 //! and which bytes hold the image of each guest. Then all slots are emptied and filled again, and each guest is loaded.
-ghost use Rattle.std.specs.Prelude.{◌≡◌, ◌≤◌, ◌<◌, ◌+◌, ◌*◌, List, ℕ, None, Ok, Err, IfErr, IfOk, IsSome, flat_map, length, map, option_map, take};
+ghost use Rattle.std.specs.Prelude.{◌≡◌, ◌≤◌, ◌<◌, ◌+◌, ◌*◌, List, [], ℕ, None, Ok, Err, IfErr, IfOk, IsSome, flat_map, length, map, option_map, take};
 ghost use Rattle.model_guests.specs.WorldNow.{names_now};
+ghost use Rattle.model_handoff.specs.Kept.{IsLawfulOver};
 ghost use Rattle.model_images.specs.MachineImages.{SavedGuest};
 ghost use Rattle.model_images.specs.MachineLaws.{gift, gifts, load_of, takings};
 ghost use Rattle.model_images.specs.RequestLaws.{after_all_requests};
@@ -10,7 +11,7 @@ ghost use Rattle.model_image_bytes.specs.LoadedMachines.{load_all_fault, read_gu
 ghost use Rattle.board_images.specs.Faults.{number_of};
 ghost use Rattle.monitor.specs.ByIndex.{name_nth};
 ghost use Rattle.machine_images.specs.Judging.{functions_now, path_seated, paths_seated, taken_by};
-ghost use Rattle.machine_images.specs.Loading.{FindsRuns, GivesSeats, IsRunRead, LoadsAll, LoadsRuns};
+ghost use Rattle.machine_images.specs.Loading.{FindsRuns, GivesSeats, IsPlanned, IsRunRead, LoadsAll, LoadsRuns};
 
 use crate::judging::{after_header, after_known, after_name, machine_fault, of_image};
 use crate::seats::{Seats, after_image, read_slots};
@@ -165,10 +166,15 @@ fn load_all(monitor: &mut Monitor, guest: usize, runs: &[&[u8]])
     load_all(monitor, guest + 1, others);
 }
 
-/// Loads bytes that the machine doesn't refuse.
-fn load_accepted(monitor: &mut Monitor, bytes: &[u8])
-    requires { load_all_fault monitor.old.world bytes.now ≡ None }
-    ensures { LoadsAll monitor.old bytes.now monitor.new }
+/// Adds the slots of all guests and the bytes that hold their images, of bytes that the machine doesn't refuse.
+fn plan<'a>(monitor: &Monitor, seats: &mut Seats, runs: &mut Runs<'a>, bytes: &'a [u8])
+    requires accepted { load_all_fault monitor.now.world bytes.now ≡ None }
+    requires no_seats { seats.old.items ≡ [] }
+    requires no_runs { runs.old.items ≡ [] }
+    ensures planned { let found = map (λ r. r.now) runs.new.items in
+        IsPlanned monitor.now.world bytes.now seats.new.items found }
+    ensures lawful { IsLawfulOver monitor.now.world }
+    ensures few { length monitor.now.world.guests ≤ 32 }
 {
     let Ok(begin) = after_header(bytes) else {
         unreachable!()
@@ -176,15 +182,17 @@ fn load_accepted(monitor: &mut Monitor, bytes: &[u8])
     let Ok(front) = after_known(monitor.host(), monitor.names().len(), begin) else {
         unreachable!()
     };
+    find_runs(monitor, monitor.names().as_slice(), seats, runs, front);
+}
+
+/// Loads bytes that the machine doesn't refuse.
+fn load_accepted(monitor: &mut Monitor, bytes: &[u8])
+    requires { load_all_fault monitor.old.world bytes.now ≡ None }
+    ensures { LoadsAll monitor.old bytes.now monitor.new }
+{
     let mut seats = ArrayVec::new();
     let mut runs = ArrayVec::new();
-    find_runs(
-        monitor,
-        monitor.names().as_slice(),
-        &mut seats,
-        &mut runs,
-        front,
-    );
+    plan(monitor, &mut seats, &mut runs, bytes);
     take_all(monitor);
     give_all(monitor, 0, seats.as_slice());
     load_all(monitor, 0, runs.as_slice());

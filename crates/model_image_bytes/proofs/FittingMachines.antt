@@ -1,5 +1,5 @@
 -- The bytes of an image that fits a machine are read as it.
-use Rattle.std.proofs.Common.{◌≡◌, ℕ, zero, suc, Bool, true, false, not, ◌&&◌, ◌||◌, cond, List, [], ◌∷◌, ◌++◌, length, Some, None, Option, Ok, Err, refl, sym, ap, ap₂, ◌∙◌, subst, append_assoc, append-nil, arith}
+use Rattle.std.proofs.Common.{◌≡◌, ℕ, zero, suc, Bool, true, false, not, ◌&&◌, ◌||◌, List, [], ◌∷◌, ◌++◌, length, Some, None, Option, Ok, refl, sym, ap, ap₂, ◌∙◌, subst, append_assoc, append-nil, arith}
 use Rattle.std.specs.Prelude.{map, flat_map, option_map}
 use Rattle.std.specs.Result.{result_err}
 use Rattle.std.specs.Str.{bytes_eq}
@@ -33,7 +33,7 @@ use Rattle.model_image_bytes.specs.LoadedBytes.{after_bytes, at_end}
 use Rattle.model_image_bytes.specs.TakenBytes.{taken_image}
 use Rattle.model_image_bytes.specs.MachineBytes.{path_layout, board_layout, name_layout, paths_layout, guest_layout, cells_layout, on_board, machine_bytes}
 use Rattle.model_image_bytes.specs.MachineByteLaws.{HasMachineBytes}
-use Rattle.model_image_bytes.specs.LoadedMachines.{Read, and_then, or_refused, preceded, is_open_there, can_have, if_free, read_slot, with_path, with_paths, read_slots, guest_at, read_image, read_guest, read_guests, machine_header, known_bytes, held_bytes, read_held, read_machine, after_read}
+use Rattle.model_image_bytes.specs.LoadedMachines.{and_then, preceded, is_open_there, can_have, read_slot, with_path, with_paths, read_slots, guest_at, read_image, read_guest, read_guests, machine_header, known_bytes, held_bytes, read_held, read_machine, after_read}
 use Rattle.model_image_bytes.specs.LoadedMachineLaws.{FittingIsAccepted, FittingIsLoaded}
 use Rattle.model_image_bytes.proofs.MachineBytes.{slot_path_is, told, told_bytes}
 use Rattle.model_image_bytes.proofs.LoadedBytes.{own_bytes, fitting_front}
@@ -49,20 +49,18 @@ Free s taken (g ∷ gs) = AllFree s taken g.paths × Free s (with_paths g.paths 
 
 module _ (s : State) where
   slot_again : (taken : List Path) (q : Option Path) → can_have s taken q ≡ true → (optional path_layout).fits q ≡ true → (rest : List ℕ) → read_slot s taken ((optional path_layout).bytes q ++ rest) ≡ Ok (parsed q rest)
-  slot_again taken q free fits rest =
-      ap (λ (o : Option (Parsed (Option Path))). and_then (if_free s taken) (or_refused 905 o)) (slot_path_is.again q rest fits) ∙ ap (λ t. cond {A = Read (Option Path)} t (Ok (parsed q rest)) (Err 906)) free
+  slot_again taken q free fits rest = grind (arith, slot_path_is)
 
   slots_again : (n : ℕ) (qs : List (Option Path)) (taken : List Path) → AllFree s taken qs → fit_times (optional path_layout).fits n qs ≡ true → (rest : List ℕ)
       → read_slots s n taken (flat_map (optional path_layout).bytes qs ++ rest) ≡ Ok (parsed qs rest)
   slots_again zero [] taken free fits rest = refl
-  slots_again zero (q ∷ qs) taken free fits rest = cc
-  slots_again (suc n) [] taken free fits rest = cc
   slots_again (suc n) (q ∷ qs) taken free fits rest =
       let more = flat_map (optional path_layout).bytes qs in
       ap (read_slots s (suc n) taken) (append_assoc ((optional path_layout).bytes q) more rest)
       ∙ ap (and_then (λ (x : Parsed (Option Path)). preceded x.value (read_slots s n (with_path x.value taken) x.rest)))
       (slot_again taken q free.0 (left_true ((optional path_layout).fits q) (fit_times (optional path_layout).fits n qs) fits) (more ++ rest))
       ∙ ap (preceded q) (slots_again n qs (with_path q taken) free.1 (right_true ((optional path_layout).fits q) (fit_times (optional path_layout).fits n qs) fits) rest)
+  slots_again n qs taken free fits rest = cc
 
   abbrev b : Board
   b = board_at s.functions
@@ -87,8 +85,6 @@ module _ (s : State) where
   guests_again : (n : ℕ) (gs : List SavedGuest) (taken : List Path) → Free s taken gs → Each FitsThere gs → fit_times guest_layout.fits n gs ≡ true → (rest : List ℕ)
       → read_guests s taken (map (λ (g : SavedGuest). g.name) gs) (flat_map guest_layout.bytes gs ++ rest) ≡ Ok (parsed gs rest)
   guests_again zero [] taken free there fits rest = refl
-  guests_again zero (g ∷ gs) taken free there fits rest = cc
-  guests_again (suc n) [] taken free there fits rest = cc
   guests_again (suc n) (g ∷ gs) taken free there fits rest =
       let more = flat_map guest_layout.bytes gs in
       let names = map (λ (h : SavedGuest). h.name) gs in
@@ -96,6 +92,7 @@ module _ (s : State) where
       ∙ ap (and_then (λ (h : Parsed SavedGuest). preceded h.value (read_guests s (with_paths h.value.paths taken) names h.rest)))
       (guest_again g taken free.0 there.0 (left_true (guest_layout.fits g) (fit_times guest_layout.fits n gs) fits) (more ++ rest))
       ∙ ap (preceded g) (guests_again n gs (with_paths g.paths taken) free.1 there.1 (right_true (guest_layout.fits g) (fit_times guest_layout.fits n gs) fits) rest)
+  guests_again n gs taken free there fits rest = cc
 
   -- ---- paths that stand in one slot alone
 
@@ -170,14 +167,12 @@ module _ (s : State) where
 
 fit_there : (b : Board) (qs : List (Option Path)) (ss : List (Option SavedFunction)) → AreSeats b qs (map (option_map restored) ss) → Each HoldsFittingValues ss → FitSlots ss (guest_at b qs).slots
 fit_there b [] [] are hold = tt
-fit_there b [] (x ∷ xs) are hold = absurd are
-fit_there b (q ∷ qs) [] are hold = absurd are
 fit_there b (q ∷ qs) (x ∷ xs) are hold = grind (arith, fit_there b qs xs)
+fit_there b qs ss are hold = absurd are
 
 all_fit_there : (s : State) (gs : List SavedGuest) → Each (IsSeatedGuest (board_at s.functions)) (map restored_guest gs) → Each HoldsWhatFits gs → Each (FitsThere s) gs
 all_fit_there s [] seated hold = tt
-all_fit_there s (g ∷ gs) seated hold =
-    (record { latch = hold.0.latch; slots = fit_there (board_at s.functions) g.paths g.image.slots seated.0.seats hold.0.slots }, all_fit_there s gs seated.1 hold.1)
+all_fit_there s (g ∷ gs) seated hold = grind (arith, fit_there, all_fit_there s gs seated.1 hold.1)
 
 as_long : (gs : List SavedGuest) → length gs ≡ length (map (λ (g : SavedGuest). g.name) gs)
 as_long [] = refl

@@ -1,5 +1,5 @@
 -- The bytes of images.
-use Rattle.std.proofs.Common.{◌≡◌, ℕ, zero, suc, true, false, ◌&&◌, eqb, List, [], ◌∷◌, Some, None, Option, refl, sym, ap, ap₂, ◌∙◌}
+use Rattle.std.proofs.Common.{◌≡◌, ℕ, zero, suc, true, false, ◌&&◌, List, [], ◌∷◌, Some, None, Option, refl, sym, ap, ap₂, ◌∙◌, arith}
 use Rattle.std.specs.Prelude.{map, option_map, length, IsTrue}
 use Rattle.std.proofs.lemmas.Bool.{and_from, eqb-true}
 use Rattle.std.proofs.lemmas.Option.{same_Some}
@@ -9,7 +9,7 @@ use Rattle.model_registers.specs.EndpointTable.{endpoint_reset}
 use Rattle.model_images.specs.Images.{SavedFunction, Image, saved, restored, lone_of_image, fit_cells, FitSlots}
 use Rattle.model_images.proofs.Fitting.{values_with}
 use Rattle.model_image_bytes.specs.Layouts.{number, fit_times, optional}
-use Rattle.model_image_bytes.specs.ImageBytes.{endpoint_layout, values_layout, function_layout, latch_layout, image_layout, image_of}
+use Rattle.model_image_bytes.specs.ImageBytes.{endpoint_layout, function_layout, image_layout, image_of}
 use Rattle.model_image_bytes.specs.ByteLaws.{HasBytes, BytesAreBytes, BytesAreRead, ReadAreBytes, OneImage, ReadIsOfAGuest}
 use Rattle.model_image_bytes.proofs.Layouts.{whole_again, whole_spells}
 use Rattle.model_image_bytes.proofs.ImageLayouts.{image_is}
@@ -34,13 +34,7 @@ pub record HasParts (i : Image) : Type 0 where
   pub slots : fit_times (optional function_layout).fits 32 i.slots ≡ true
 
 pub parts_of : (i : Image) → HasBytes i → HasParts i
-parts_of i h =
-    let latch = left_true (latch_layout.fits i.latch) (fit_times (optional function_layout).fits 32 i.slots) h in
-    record {
-      latch_fits = left_true ((number 4).fits i.latch) (eqb (latched i.latch) i.latch) latch;
-      latched = eqb-true (latched i.latch) i.latch (right_true ((number 4).fits i.latch) (eqb (latched i.latch) i.latch) latch);
-      slots = right_true (latch_layout.fits i.latch) (fit_times (optional function_layout).fits 32 i.slots) h;
-    }
+parts_of i h = grind (arith, left_true, eqb-true, right_true)
 
 pub record FunctionParts (s : SavedFunction) : Type 0 where
   pub decl : IsTrue (endpoint_layout.fits s.decl)
@@ -48,20 +42,10 @@ pub record FunctionParts (s : SavedFunction) : Type 0 where
   pub values : fit_cells (endpoint_reset s.decl false) s.values ≡ true
 
 pub function_parts : (s : SavedFunction) → function_layout.fits s ≡ true → FunctionParts s
-function_parts s h =
-    let values = right_true (endpoint_layout.fits s.decl) ((values_layout s.decl).fits s.values) h in
-    let count = fit_times (number 1).fits (length (endpoint_reset s.decl false)) s.values in
-    record {
-      decl = left_true (endpoint_layout.fits s.decl) ((values_layout s.decl).fits s.values) h;
-      count = left_true count (fit_cells (endpoint_reset s.decl false) s.values) values;
-      values = right_true count (fit_cells (endpoint_reset s.decl false) s.values) values;
-    }
+function_parts s h = grind (arith, right_true, left_true)
 
 pub parts_fit : (s : SavedFunction) → FunctionParts s → function_layout.fits s ≡ true
-parts_fit s p =
-    let count = fit_times (number 1).fits (length (endpoint_reset s.decl false)) s.values in
-    let fit = fit_cells (endpoint_reset s.decl false) s.values in
-    and_from (endpoint_layout.fits s.decl) (count && fit) p.decl (and_from count fit p.count p.values)
+parts_fit s p = grind (arith, and_from)
 
 pub slot_fits : (s : SavedFunction) → (optional function_layout).fits (Some s) ≡ true → function_layout.fits s ≡ true
 slot_fits s h = left_true (function_layout.fits s) true (left_true (function_layout.fits s && true) true h)

@@ -1,11 +1,11 @@
 -- Each layout reads what it writes, and nothing else.
-use Rattle.std.proofs.Common.{◌≡◌, ◌<◌, ℕ, zero, suc, Bool, true, false, cond, eqb, List, [], ◌∷◌, ◌++◌, length, Some, None, Option, refl, sym, ap, ap₂, ◌∙◌, subst, append_assoc, append-nil, arith}
+use Rattle.std.proofs.Common.{◌≡◌, ◌<◌, ℕ, zero, suc, Bool, true, List, [], ◌∷◌, ◌++◌, length, Some, Option, refl, sym, ap, ◌∙◌, subst, append_assoc, append-nil, arith}
 use Rattle.std.specs.Prelude.{flat_map, nat_le, option_map, option_and_then, IsTrue}
 use Rattle.std.proofs.lemmas.Bool.{and_from, eqb-true}
 use Rattle.std.proofs.lemmas.Option.{same_Some}
 use Rattle.lists.proofs.EachLemmas.{each_append}
 use Rattle.lists.proofs.Tests.{left_true, right_true}
-use Rattle.model_image_bytes.specs.Layouts.{Layout, Parsed, parsed, number, if_passed, checked, seen, through, paired, parse_next, followed, both, exactly, fit_times, before, parse_times, repeated, counted, fit_each, bytes_each, parse_each, for_each, first_of, at_most_one, optional, fits_either, bytes_either, parse_either, OneOf, one, other, either, if_no_rest, whole}
+use Rattle.model_image_bytes.specs.Layouts.{Layout, Parsed, parsed, number, checked, through, paired, parse_next, followed, both, exactly, fit_times, before, parse_times, repeated, counted, fit_each, bytes_each, parse_each, for_each, first_of, at_most_one, optional, fits_either, bytes_either, parse_either, OneOf, either, if_no_rest, whole}
 use Rattle.model_image_bytes.specs.ByteLaws.{AreBytes, Spells, IsLayout}
 use Rattle.model_image_bytes.proofs.Options.{from_next, from_map}
 use Rattle.model_image_bytes.proofs.Numbers.{number_is}
@@ -14,33 +14,11 @@ use Rattle.model_image_bytes.proofs.Numbers.{number_is}
 
 module _ {A : Type 0} (L : Layout A) (l : IsLayout L) where
   pub checked_is : (test : A → Bool) → IsLayout (checked test L)
-  checked_is test = record {
-    are_bytes = l.are_bytes;
-    again = λ x rest h.
-        ap (option_and_then (if_passed test)) (l.again x rest (left_true (L.fits x) (test x) h))
-        ∙ ap (λ t. cond t (Some (parsed x rest)) None) (right_true (L.fits x) (test x) h);
-    spells = λ bs p h. let q = from_next (if_passed test) (L.parse bs) p h in of bs p q.0 q.1 (test q.0.value) refl q.2;
-  }
-    where
-      of : (bs : List ℕ) (p q : Parsed A) → L.parse bs ≡ Some q → (t : Bool) → test q.value ≡ t → cond t (Some q) None ≡ Some p → Spells (checked test L) bs p
-      of bs p q e false i h = cc
-      of bs p q e true i h =
-          let s = l.spells bs q e in
-          subst (Spells (checked test L) bs) (same_Some q p h) (record { fits = and_from (L.fits q.value) (test q.value) s.fits i; bytes = s.bytes })
+  checked_is test = grind (arith, left_true, right_true, from_next, same_Some, and_from)
 
   module _ {B : Type 0} (to : A → B) (from : B → A) where
     pub through_is : ((y : B) → to (from y) ≡ y) → ((x : A) → IsTrue (L.fits x) → from (to x) ≡ x) → IsLayout (through to from L)
-    through_is back same = record {
-      are_bytes = λ y. l.are_bytes (from y);
-      again = λ y rest h. ap (option_map (seen to)) (l.again (from y) rest h) ∙ ap (λ (x : B). Some (parsed x rest)) (back y);
-      spells = λ bs p h. let q = from_map (seen to) (L.parse bs) p h in subst (Spells (through to from L) bs) q.2 (of bs q.0 (l.spells bs q.0 q.1));
-    }
-      where
-        of : (bs : List ℕ) (q : Parsed A) → Spells L bs q → Spells (through to from L) bs (seen to q)
-        of bs q s = let is = sym (same q.value s.fits) in record {
-          fits = subst (λ (x : A). IsTrue (L.fits x)) is s.fits;
-          bytes = s.bytes ∙ ap (λ (x : A). L.bytes x ++ q.rest) is;
-        }
+    through_is back same = grind (arith, from_map)
 
 -- ---- one value after another
 
@@ -68,9 +46,7 @@ pub both_is : {A B : Type 0} (L : Layout A) (M : Layout B) → IsLayout L → Is
 both_is L M l m = followed_is L (λ x. M) l (λ x. m)
 
 pub exactly_is : (k n : ℕ) → IsLayout (exactly k n)
-exactly_is k n =
-    through_is (checked (λ m. eqb m n) (number k)) (checked_is (number k) (number_is k) (λ m. eqb m n)) (λ m. tt) (λ u. n) (λ u. refl)
-    (λ m h. sym (eqb-true m n (right_true ((number k).fits m) (eqb m n) h)))
+exactly_is k n = grind (arith, through_is, checked_is, number_is, eqb-true, right_true)
 
 -- ---- many values
 
@@ -81,12 +57,11 @@ module _ {A : Type 0} (L : Layout A) (l : IsLayout L) where
 
   times_again : (n : ℕ) (xs : List A) (rest : List ℕ) → fit_times L.fits n xs ≡ true → parse_times L.parse n (flat_map L.bytes xs ++ rest) ≡ Some (parsed xs rest)
   times_again zero [] rest h = refl
-  times_again zero (x ∷ xs) rest h = cc
-  times_again (suc n) [] rest h = cc
   times_again (suc n) (x ∷ xs) rest h =
       ap (parse_times L.parse (suc n)) (append_assoc (L.bytes x) (flat_map L.bytes xs) rest)
       ∙ ap (option_and_then (λ (p : Parsed A). option_map (before p.value) (parse_times L.parse n p.rest))) (l.again x (flat_map L.bytes xs ++ rest) (left_true (L.fits x) (fit_times L.fits n xs) h))
       ∙ ap (option_map (before x)) (times_again n xs rest (right_true (L.fits x) (fit_times L.fits n xs) h))
+  times_again n xs rest h = cc
 
   pub times_more : (n : ℕ) (bs : List ℕ) (q : Parsed A) (r : Parsed (List A)) → Spells L bs q → Spells (repeated n L) q.rest r → Spells (repeated (suc n) L) bs (before q.value r)
   times_more n bs q r s t = record {
@@ -106,9 +81,8 @@ module _ {A : Type 0} (L : Layout A) (l : IsLayout L) where
 
   pub fit_count : (n : ℕ) (xs : List A) → fit_times L.fits n xs ≡ true → length xs ≡ n
   fit_count zero [] h = refl
-  fit_count zero (x ∷ xs) h = cc
-  fit_count (suc n) [] h = cc
   fit_count (suc n) (x ∷ xs) h = ap suc (fit_count n xs (right_true (L.fits x) (fit_times L.fits n xs) h))
+  fit_count n xs h = cc
 
   pub counted_is : (k : ℕ) → IsLayout (counted k L)
   counted_is k =
@@ -141,12 +115,11 @@ module _ {A B : Type 0} (L : A → Layout B) (l : (x : A) → IsLayout (L x)) wh
 
   each_again : (xs : List A) (ys : List B) (rest : List ℕ) → fit_each L xs ys ≡ true → parse_each L xs (bytes_each L xs ys ++ rest) ≡ Some (parsed ys rest)
   each_again [] [] rest h = refl
-  each_again [] (y ∷ ys) rest h = cc
-  each_again (x ∷ xs) [] rest h = cc
   each_again (x ∷ xs) (y ∷ ys) rest h =
       ap (parse_each L (x ∷ xs)) (append_assoc ((L x).bytes y) (bytes_each L xs ys) rest)
       ∙ ap (option_and_then (λ (p : Parsed B). option_map (before p.value) (parse_each L xs p.rest))) ((l x).again y (bytes_each L xs ys ++ rest) (left_true ((L x).fits y) (fit_each L xs ys) h))
       ∙ ap (option_map (before y)) (each_again xs ys rest (right_true ((L x).fits y) (fit_each L xs ys) h))
+  each_again xs ys rest h = cc
 
   each_more : (x : A) (xs : List A) (bs : List ℕ) (q : Parsed B) (r : Parsed (List B)) → Spells (L x) bs q → Spells (for_each L xs) q.rest r → Spells (for_each L (x ∷ xs)) bs (before q.value r)
   each_more x xs bs q r s t = record {
@@ -168,28 +141,13 @@ module _ {A B : Type 0} (L : A → Layout B) (l : (x : A) → IsLayout (L x)) wh
 
 module _ {A B : Type 0} (L : Layout A) (M : Layout B) (l : IsLayout L) (m : IsLayout M) where
   either_bytes : (x : OneOf A B) → AreBytes (bytes_either L M x)
-  either_bytes (one x) = (omega arith, l.are_bytes x)
-  either_bytes (other y) = (omega arith, m.are_bytes y)
+  either_bytes x = grind arith
 
   either_again : (x : OneOf A B) (rest : List ℕ) → fits_either L M x ≡ true → parse_either L M (bytes_either L M x ++ rest) ≡ Some (parsed x rest)
-  either_again (one x) rest h = ap (option_map (seen one)) (l.again x rest h)
-  either_again (other y) rest h = ap (option_map (seen other)) (m.again y rest h)
+  either_again x rest h = grind arith
 
   either_spells : (bs : List ℕ) (p : Parsed (OneOf A B)) → parse_either L M bs ≡ Some p → Spells (either L M) bs p
-  either_spells [] p h = cc
-  either_spells (b ∷ bs) p h = of (eqb b 0) refl (eqb b 1) refl h
-    where
-      left : b ≡ 0 → (q : Parsed A) → L.parse bs ≡ Some q → Spells (either L M) (b ∷ bs) (seen one q)
-      left e q i = let s = l.spells bs q i in record { fits = s.fits; bytes = ap₂ (λ (c : ℕ) (cs : List ℕ). c ∷ cs) e s.bytes }
-
-      right : b ≡ 1 → (q : Parsed B) → M.parse bs ≡ Some q → Spells (either L M) (b ∷ bs) (seen other q)
-      right e q i = let s = m.spells bs q i in record { fits = s.fits; bytes = ap₂ (λ (c : ℕ) (cs : List ℕ). c ∷ cs) e s.bytes }
-
-      of : (t : Bool) → eqb b 0 ≡ t → (u : Bool) → eqb b 1 ≡ u → cond t (option_map (seen one) (L.parse bs)) (cond u (option_map (seen other) (M.parse bs)) None) ≡ Some p
-          → Spells (either L M) (b ∷ bs) p
-      of true e u i h = let q = from_map (seen one) (L.parse bs) p h in subst (Spells (either L M) (b ∷ bs)) q.2 (left (eqb-true b 0 e) q.0 q.1)
-      of false e true i h = let q = from_map (seen other) (M.parse bs) p h in subst (Spells (either L M) (b ∷ bs)) q.2 (right (eqb-true b 1 i) q.0 q.1)
-      of false e false i h = cc
+  either_spells bs p h = grind (arith, from_map, eqb-true)
 
   pub either_is : IsLayout (either L M)
   either_is = record { are_bytes = either_bytes; again = either_again; spells = either_spells }

@@ -1,5 +1,5 @@
 -- Bytes that are loaded into a guest.
-use Rattle.std.proofs.Common.{◌≡◌, ◌⊎◌, inl, inr, ℕ, zero, suc, ◌%◌, ◌^◌, ◌<◌, Bool, true, false, cond, eqb, List, [], ◌∷◌, ◌++◌, length, Some, None, Option, Ok, Err, refl, sym, ap, ap₂, ◌∙◌, append_assoc, append-nil, arith}
+use Rattle.std.proofs.Common.{◌≡◌, ◌⊎◌, inl, inr, ℕ, zero, suc, ◌^◌, true, false, List, [], ◌∷◌, ◌++◌, length, Some, None, Option, Ok, Err, refl, sym, ap, ◌∙◌, append_assoc, append-nil, arith}
 use Rattle.std.specs.Prelude.{flat_map, IsTrue}
 use Rattle.std.proofs.lemmas.Bool.{eqb-true, ltb-true}
 use Rattle.std.proofs.lemmas.Option.{same_Some}
@@ -17,7 +17,7 @@ use Rattle.model_images.proofs.Fitting.{saved_slots}
 use Rattle.model_image_bytes.specs.Layouts.{Layout, Parsed, parsed, le_bytes, number, fit_times, optional}
 use Rattle.model_image_bytes.specs.ImageBytes.{endpoint_layout, function_layout, declaration_bytes, image_bytes}
 use Rattle.model_image_bytes.specs.ByteLaws.{IsLayout, HasBytes, HoldsSavable}
-use Rattle.model_image_bytes.specs.LoadedBytes.{Left, then_read, after_bytes, after_values, after_slot, after_slots_front, at_end, after_slots, after_number, after_latch, header, after_image_front, after_image, fault_of, load_fault}
+use Rattle.model_image_bytes.specs.LoadedBytes.{Left, then_read, after_bytes, after_values, after_slot, after_slots_front, at_end, after_slots, after_number, after_latch, after_image_front, after_image, fault_of, load_fault}
 use Rattle.model_image_bytes.specs.LoadedLaws.{ImagesDecided, OwnAccepted, IsOfOthers}
 use Rattle.model_image_bytes.proofs.Numbers.{number_again}
 use Rattle.model_image_bytes.proofs.ImageLayouts.{endpoint_is}
@@ -39,16 +39,7 @@ pub record FallsShort (xs bytes : List ℕ) : Type 0 where
 pub compared : (k : ℕ) (xs bytes : List ℕ) → ((rest : List ℕ) × Follows k xs bytes rest) ⊎ ((after_bytes k xs bytes ≡ Err k) ⊎ FallsShort xs bytes)
 compared k [] bytes = inl (bytes, record { left = refl; are = refl })
 compared k (x ∷ xs) [] = inr (inr (record { next = x; rest = xs; are = refl }))
-compared k (x ∷ xs) (b ∷ bytes) = cases (eqb x b) refl (compared k xs bytes)
-  where
-    cases : (t : Bool) → eqb x b ≡ t → ((rest : List ℕ) × Follows k xs bytes rest) ⊎ ((after_bytes k xs bytes ≡ Err k) ⊎ FallsShort xs bytes)
-        → ((rest : List ℕ) × Follows k (x ∷ xs) (b ∷ bytes) rest) ⊎ ((after_bytes k (x ∷ xs) (b ∷ bytes) ≡ Err k) ⊎ FallsShort (x ∷ xs) (b ∷ bytes))
-    cases false e more = inr (inl (ap (λ t. cond t (after_bytes k xs bytes) (Err k)) e))
-    cases true e (inl m) =
-        let same = eqb-true x b e in
-        inl (m.0, record { left = ap (λ t. cond t (after_bytes k xs bytes) (Err k)) e ∙ m.1.left; are = ap₂ (λ (y : ℕ) (ys : List ℕ). y ∷ ys) (sym same) m.1.are })
-    cases true e (inr (inl m)) = inr (inl (ap (λ t. cond t (after_bytes k xs bytes) (Err k)) e ∙ m))
-    cases true e (inr (inr m)) = inr (inr (record { next = m.next; rest = m.rest; are = ap₂ (λ (y : ℕ) (ys : List ℕ). y ∷ ys) (eqb-true x b e) m.are }))
+compared k (x ∷ xs) (b ∷ bytes) = grind (arith, eqb-true, compared k xs bytes)
 
 pub same_left : (xs ys : List ℕ) → ◌≡◌ {A = Left} (Ok xs) (Ok ys) → xs ≡ ys
 same_left xs ys e = cc
@@ -87,16 +78,12 @@ prefix_decided {A} L l x y fits too k rest = of (compared k (L.bytes y) (L.bytes
 pub value_bytes : (n : ℕ) (vs : List ℕ) → fit_times (number 1).fits n vs ≡ true → flat_map (number 1).bytes vs ≡ vs
 value_bytes n [] h = refl
 value_bytes zero (v ∷ vs) h = cc
-value_bytes (suc n) (v ∷ vs) h =
-    let low : v < 256 = ltb-true v 256 (left_true ((number 1).fits v) (fit_times (number 1).fits n vs) h) in
-    let same : v % 256 ≡ v = omega arith in
-    ap₂ (λ (x : ℕ) (xs : List ℕ). x ∷ xs) same (value_bytes n vs (right_true ((number 1).fits v) (fit_times (number 1).fits n vs) h))
+value_bytes (suc n) (v ∷ vs) h = grind (arith, ltb-true, left_true, right_true, value_bytes n vs (right_true ((number 1).fits v) (fit_times (number 1).fits n vs) h))
 
 pub values_taken : (file : File) (vs rest : List ℕ) → fit_cells file vs ≡ true → after_values file (vs ++ rest) ≡ Ok rest
 values_taken [] [] rest h = refl
-values_taken [] (v ∷ vs) rest h = cc
-values_taken (e ∷ es) [] rest h = cc
 values_taken (e ∷ es) (v ∷ vs) rest h = grind (arith, values_taken es vs rest)
+values_taken file vs rest h = cc
 
 -- ---- a slot
 
@@ -125,13 +112,12 @@ slot_decided (Some s) (Some f) rest h k = of (prefix_decided endpoint_layout end
 -- slots that fit are taken, whatever follows
 pub fitting_slot : (s : Option SavedFunction) (f : Option Function) (rest : List ℕ) → (optional function_layout).fits s ≡ true → FitsSlot s f → after_slot f (slot_bytes s ++ rest) ≡ Ok rest
 fitting_slot None None rest h k = refl
-fitting_slot None (Some f) rest h k = absurd k
-fitting_slot (Some s) None rest h k = absurd k
 fitting_slot (Some s) (Some f) rest h k =
     ap (after_slot (Some f)) (function_bytes s rest (function_parts s (slot_fits s h)))
     ∙ ap (λ d. then_read (after_values (endpoint_reset d false)) (after_bytes 906 (declaration_bytes d) (declaration_bytes s.decl ++ (s.values ++ rest)))) (sym k.decl)
     ∙ ap (then_read (after_values (endpoint_reset s.decl false))) (own_bytes 906 (declaration_bytes s.decl) (s.values ++ rest))
     ∙ values_taken (endpoint_reset s.decl false) s.values rest k.values
+fitting_slot s f rest h k = absurd k
 
 -- ---- slots
 
@@ -141,33 +127,17 @@ slots_bytes ss = flat_map slot_bytes ss
 slots_decided : (n : ℕ) (ss : List (Option SavedFunction)) (fs : Slots) → fit_times (optional function_layout).fits n ss ≡ true → length fs ≡ n → Each HoldsSavable fs
     → FitSlots ss fs ⊎ (after_slots fs (slots_bytes ss) ≡ Err 906)
 slots_decided n [] [] h count all = inl tt
-slots_decided zero [] (f ∷ fs) h count all = absurd (omega arith)
-slots_decided (suc n) [] (f ∷ fs) h count all = cc
-slots_decided zero (s ∷ ss) fs h count all = cc
-slots_decided (suc n) (s ∷ ss) [] h count all = absurd (omega arith)
-slots_decided (suc n) (s ∷ ss) (f ∷ fs) h count all = of (slot_decided s f (slots_bytes ss) fits all.0) (slots_decided n ss fs others (omega arith) all.1)
-  where
-    fits : (optional function_layout).fits s ≡ true
-    fits = left_true ((optional function_layout).fits s) (fit_times (optional function_layout).fits n ss) h
-
-    others : fit_times (optional function_layout).fits n ss ≡ true
-    others = right_true ((optional function_layout).fits s) (fit_times (optional function_layout).fits n ss) h
-
-    of : FitsSlot s f ⊎ (after_slot f (slot_bytes s ++ slots_bytes ss) ≡ Err 906) → FitSlots ss fs ⊎ (after_slots fs (slots_bytes ss) ≡ Err 906) → FitSlots (s ∷ ss) (f ∷ fs) ⊎ (after_slots (f ∷ fs) (slots_bytes (s ∷ ss)) ≡ Err 906)
-    of (inl m) (inl o) = inl (m, o)
-    of (inl m) (inr o) = inr (ap (then_read (after_slots fs)) (fitting_slot s f (slots_bytes ss) fits m) ∙ o)
-    of (inr m) o = inr (ap (then_read (after_slots fs)) m)
+slots_decided (suc n) (s ∷ ss) (f ∷ fs) h count all = grind (arith, slot_decided, left_true, right_true, fitting_slot, slots_decided n ss fs)
+slots_decided n ss fs h count all = grind arith
 
 fitting_slots : (n : ℕ) (ss : List (Option SavedFunction)) (fs : Slots) (rest : List ℕ) → fit_times (optional function_layout).fits n ss ≡ true → FitSlots ss fs
     → after_slots_front fs (slots_bytes ss ++ rest) ≡ Ok rest
 fitting_slots n [] [] rest h k = refl
-fitting_slots n [] (f ∷ fs) rest h k = absurd k
-fitting_slots n (s ∷ ss) [] rest h k = absurd k
-fitting_slots zero (s ∷ ss) (f ∷ fs) rest h k = cc
 fitting_slots (suc n) (s ∷ ss) (f ∷ fs) rest h k =
     ap (after_slots_front (f ∷ fs)) (append_assoc (slot_bytes s) (slots_bytes ss) rest)
     ∙ ap (then_read (after_slots_front fs)) (fitting_slot s f (slots_bytes ss ++ rest) (left_true ((optional function_layout).fits s) (fit_times (optional function_layout).fits n ss) h) k.0)
     ∙ fitting_slots n ss fs rest (right_true ((optional function_layout).fits s) (fit_times (optional function_layout).fits n ss) h) k.1
+fitting_slots n ss fs rest h k = grind arith
 
 -- ---- an image
 
@@ -182,18 +152,10 @@ fitting_front g i has fits rest =
 -- nothing follows
 pub slots_end : (fs : Slots) (bytes : List ℕ) → after_slots fs bytes ≡ then_read at_end (after_slots_front fs bytes)
 slots_end [] bytes = refl
-slots_end (f ∷ fs) bytes = of (after_slot f bytes) (slots_end fs)
-  where
-    of : (l : Left) → ((rest : List ℕ) → after_slots fs rest ≡ then_read at_end (after_slots_front fs rest)) → then_read (after_slots fs) l ≡ then_read at_end (then_read (after_slots_front fs) l)
-    of (Ok rest) more = more rest
-    of (Err k) more = refl
+slots_end (f ∷ fs) bytes = grind (arith, slots_end fs)
 
 pub image_ends : (g : LoneGuest) (bytes : List ℕ) → after_image g bytes ≡ then_read at_end (after_image_front g bytes)
-image_ends g bytes = of (then_read after_latch (after_bytes 905 header bytes))
-  where
-    of : (l : Left) → then_read (after_slots g.slots) l ≡ then_read at_end (then_read (after_slots_front g.slots) l)
-    of (Ok rest) = slots_end g.slots rest
-    of (Err k) = refl
+image_ends g bytes = grind (arith, slots_end)
 
 pub fitting_accepted : (g : LoneGuest) (i : Image) → HasBytes i → Fits i g → load_fault g (image_bytes i) ≡ None
 fitting_accepted g i has fits =

@@ -1,5 +1,5 @@
 -- Numbers of so many bytes are read as they are written, and no other bytes are.
-use Rattle.std.proofs.Common.{◌≡◌, ℕ, zero, suc, ◌+◌, ◌*◌, ◌/◌, ◌%◌, ◌^◌, ◌<◌, Bool, true, false, cond, List, [], ◌∷◌, ◌++◌, Some, None, refl, sym, ap, ap₂, ◌∙◌, subst, arith}
+use Rattle.std.proofs.Common.{◌≡◌, ℕ, zero, suc, ◌/◌, ◌^◌, ◌<◌, Bool, true, false, cond, List, [], ◌∷◌, ◌++◌, Some, None, refl, sym, ap, subst, arith}
 use Rattle.std.specs.Prelude.{nat_lt, option_map}
 use Rattle.std.proofs.Math.Nat.{pow-suc}
 use Rattle.std.proofs.lemmas.Bool.{lt-ltb, ltb-true}
@@ -14,24 +14,11 @@ number_bytes (suc k) n = (omega arith, number_bytes k (n / 256))
 
 pub number_again : (k n : ℕ) (rest : List ℕ) → n < 256 ^ k → parse_number k (le_bytes k n ++ rest) ≡ Some (parsed n rest)
 number_again zero n rest h = let none : n ≡ 0 = omega arith in ap (λ m. Some (parsed m rest)) (sym none)
-number_again (suc k) n rest h =
-    let less : n / 256 < 256 ^ k = let p = pow-suc 256 k in omega arith in
-    let low : n % 256 < 256 = omega arith in
-    let back : n % 256 + 256 * (n / 256) ≡ n = omega arith in
-    ap (λ t. cond t (option_map (raised_number (n % 256)) (parse_number k (le_bytes k (n / 256) ++ rest))) None) (lt-ltb (n % 256) 256 low)
-    ∙ ap (option_map (raised_number (n % 256))) (number_again k (n / 256) rest less) ∙ ap (λ m. Some (parsed m rest)) back
+number_again (suc k) n rest h = grind (arith, pow-suc, lt-ltb, number_again k (n / 256) rest)
 
 -- one byte more
 spells_more : (k b : ℕ) (bs : List ℕ) (q : Parsed ℕ) → b < 256 → Spells (number k) bs q → Spells (number (suc k)) (b ∷ bs) (raised_number b q)
-spells_more k b bs q low s =
-    let rest : q.value < 256 ^ k = ltb-true q.value (256 ^ k) s.fits in
-    let fits : b + 256 * q.value < 256 ^ suc k = let p = pow-suc 256 k in omega arith in
-    let byte : (b + 256 * q.value) % 256 ≡ b = omega arith in
-    let more : (b + 256 * q.value) / 256 ≡ q.value = omega arith in
-    record {
-      fits = lt-ltb (b + 256 * q.value) (256 ^ suc k) fits;
-      bytes = ap₂ (λ (x : ℕ) (xs : List ℕ). x ∷ xs) (sym byte) (s.bytes ∙ ap (λ n. le_bytes k n ++ q.rest) (sym more));
-    }
+spells_more k b bs q low s = grind (arith, ltb-true, pow-suc, lt-ltb)
 
 pub number_spells : (k : ℕ) (bs : List ℕ) (p : Parsed ℕ) → parse_number k bs ≡ Some p → Spells (number k) bs p
 number_spells zero bs p h = subst (Spells (number 0) bs) (same_Some (parsed 0 bs) p h) (record { fits = refl; bytes = refl })

@@ -1,5 +1,5 @@
 -- What a machine reads of bytes stands there: each part is spelled by them.
-use Rattle.std.proofs.Common.{◌≡◌, ◌<◌, ℕ, zero, suc, Bool, true, false, cond, List, [], ◌∷◌, length, Some, None, Option, Result, Ok, Err, refl, ap₂, ◌∙◌, subst}
+use Rattle.std.proofs.Common.{◌≡◌, ◌<◌, ℕ, zero, suc, true, List, [], ◌∷◌, length, Some, None, Option, Result, Ok, refl, ap₂, ◌∙◌, subst, arith}
 use Rattle.std.specs.Prelude.{map, option_and_then}
 use Rattle.std.proofs.lemmas.List.{length-map}
 use Rattle.lists.specs.Elements.{Each}
@@ -19,7 +19,7 @@ use Rattle.model_image_bytes.specs.ByteLaws.{AreBytes, Spells, IsDeclared}
 use Rattle.model_image_bytes.specs.LoadedBytes.{after_bytes, after_image_front}
 use Rattle.model_image_bytes.specs.TakenBytes.{taken_image, HoldsDeclared}
 use Rattle.model_image_bytes.specs.MachineBytes.{path_layout, name_layout, paths_layout, guest_layout}
-use Rattle.model_image_bytes.specs.LoadedMachines.{Read, and_then, or_refused, preceded, can_have, if_free, read_slot, with_path, with_paths, read_slots, guest_at, read_image, read_guest, read_guests}
+use Rattle.model_image_bytes.specs.LoadedMachines.{Read, and_then, or_refused, preceded, can_have, read_slot, with_path, with_paths, read_slots, guest_at, read_image, read_guest, read_guests}
 use Rattle.model_image_bytes.proofs.Layouts.{followed_spells, times_more, fit_count, both_is}
 use Rattle.model_image_bytes.proofs.ImageLayouts.{image_is}
 use Rattle.model_image_bytes.proofs.MachineBytes.{name_is, slot_path_is, paths_are, guest_is}
@@ -29,12 +29,10 @@ use Rattle.model_image_bytes.proofs.TakenBytes.{front_fits, front_spelled}
 -- ---- what a reading is made from
 
 pub from_then : {A B : Type 0} (next : A → Result B ℕ) (r : Result A ℕ) (y : B) → and_then next r ≡ Ok y → (x : A) × (r ≡ Ok x) × (next x ≡ Ok y)
-from_then next (Err k) y h = cc
-from_then next (Ok x) y h = (x, refl, h)
+from_then next r y h = grind arith
 
 from_some : {A : Type 0} (o : Option A) (x : A) → or_refused 905 o ≡ Ok x → o ≡ Some x
-from_some None x h = cc
-from_some (Some y) x h = cc
+from_some o x h = grind arith
 
 pub same_ok : {A : Type 0} (x y : A) → ◌≡◌ {A = Result A ℕ} (Ok x) (Ok y) → x ≡ y
 same_ok x y h = cc
@@ -50,18 +48,10 @@ AllFree s taken [] = Unit {0}
 AllFree s taken (q ∷ qs) = (can_have s taken q ≡ true) × AllFree s (with_path q taken) qs
 
 slot_read : (s : State) (taken : List Path) (bytes : List ℕ) (p : Parsed (Option Path)) → read_slot s taken bytes ≡ Ok p → Spells (optional path_layout) bytes p × (can_have s taken p.value ≡ true)
-slot_read s taken bytes p h =
-    let q = from_then (if_free s taken) (or_refused 905 ((optional path_layout).parse bytes)) p h in
-    of q.0 (slot_path_is.spells bytes q.0 (from_some ((optional path_layout).parse bytes) q.0 q.1)) (can_have s taken q.0.value) refl q.2
-  where
-    of : (q : Parsed (Option Path)) → Spells (optional path_layout) bytes q → (t : Bool) → can_have s taken q.value ≡ t → cond {A = Read (Option Path)} t (Ok q) (Err 906) ≡ Ok p
-        → Spells (optional path_layout) bytes p × (can_have s taken p.value ≡ true)
-    of q spells false e i = cc
-    of q spells true e i = subst (λ (x : Parsed (Option Path)). Spells (optional path_layout) bytes x × (can_have s taken x.value ≡ true)) (same_ok q p i) (spells, e)
+slot_read s taken bytes p h = grind (arith, from_then, slot_path_is, from_some, same_ok)
 
 slots_read : (s : State) (n : ℕ) (taken : List Path) (bytes : List ℕ) (p : Parsed (List (Option Path))) → read_slots s n taken bytes ≡ Ok p → Spells (repeated n (optional path_layout)) bytes p × AllFree s taken p.value
-slots_read s zero taken bytes p h =
-    subst (λ (x : Parsed (List (Option Path))). Spells (repeated 0 (optional path_layout)) bytes x × AllFree s taken x.value) (same_ok (parsed [] bytes) p h) (record { fits = refl; bytes = refl }, tt)
+slots_read s zero taken bytes p h = grind (arith, same_ok)
 slots_read s (suc n) taken bytes p h =
     let q = from_then (λ (q : Parsed _). preceded q.value (read_slots s n (with_path q.value taken) q.rest)) (read_slot s taken bytes) p h in
     let m = preceded_by q.0.value (read_slots s n (with_path q.0.value taken) q.0.rest) p q.2 in
@@ -114,8 +104,7 @@ guest_good s taken name bytes p r =
 
 pub guests_good : (s : State) (names : List Text) (taken : List Path) (bytes : List ℕ) (p : Parsed (List SavedGuest)) → read_guests s taken names bytes ≡ Ok p
     → (map (λ (g : SavedGuest). g.name) p.value ≡ names) × AreGoodGuests s taken p.value
-guests_good s [] taken bytes p h =
-    subst (λ (x : Parsed (List SavedGuest)). (map (λ (g : SavedGuest). g.name) x.value ≡ []) × AreGoodGuests s taken x.value) (same_ok (parsed [] bytes) p h) (refl, tt)
+guests_good s [] taken bytes p h = grind (arith, same_ok)
 guests_good s (name ∷ names) taken bytes p h =
     let q = from_then (λ (g : Parsed _). preceded g.value (read_guests s (with_paths g.value.paths taken) names g.rest)) (read_guest s taken name bytes) p h in
     let m = preceded_by q.0.value (read_guests s (with_paths q.0.value.paths taken) names q.0.rest) p q.2 in
@@ -130,11 +119,7 @@ module _ (s : State) (declares : (p : Path) (d : Endpoint) → declared (board_a
   slots_declared : (qs : List (Option Path)) → Each HoldsDeclared (guest_at (board_at s.functions) qs).slots
   slots_declared [] = tt
   slots_declared (None ∷ qs) = (tt, slots_declared qs)
-  slots_declared (Some p ∷ qs) = (of (declared (board_at s.functions) p) refl, slots_declared qs)
-    where
-      of : (o : Option Endpoint) → declared (board_at s.functions) p ≡ o → HoldsDeclared (reset_function o)
-      of None e = tt
-      of (Some d) e = declares p d e
+  slots_declared (Some p ∷ qs) = grind (arith, slots_declared qs)
 
   guest_spelled : (taken : List Path) (name : Text) → name_layout.fits name ≡ true → (bytes : List ℕ) → AreBytes bytes → (p : Parsed SavedGuest) → IsReadFrom s taken name bytes p → Spells guest_layout bytes p
   guest_spelled taken name written bytes all p r =

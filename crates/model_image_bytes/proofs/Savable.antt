@@ -1,5 +1,5 @@
 -- The image of a guest of lawful functions, which hold what they can, has bytes.
-use Rattle.std.proofs.Common.{◌≡◌, ℕ, ◌+◌, ◌-◌, ◌^◌, ◌<◌, ◌≤◌, Bool, true, false, ◌&&◌, eqb, List, [], ◌∷◌, length, map, Some, None, refl, sym, ap, ◌∙◌, subst, arith}
+use Rattle.std.proofs.Common.{◌≡◌, ℕ, ◌+◌, ◌-◌, ◌^◌, ◌<◌, ◌≤◌, Bool, true, false, ◌&&◌, eqb, List, [], ◌∷◌, length, map, Some, None, refl, ap, ◌∙◌, subst, arith}
 use Rattle.std.specs.Prelude.{option_map, bit_and, IsTrue}
 use Rattle.std.specs.List.{list_any, AllByRecursion, IsDistinct}
 use Rattle.std.proofs.lemmas.Bool.{and_from, lt-ltb, eq-eqb, ne_eqb, eqb-true}
@@ -9,7 +9,7 @@ use Rattle.std.proofs.lemmas.Map.Steps.{length-le_from_distinct_below}
 use Rattle.lists.specs.Elements.{Each, EachPair}
 use Rattle.lists.proofs.EachLemmas.{each_map}
 use Rattle.model_registers.specs.Cell.{Cell, IsCell}
-use Rattle.model_registers.specs.Registers.{PlacedCell, File}
+use Rattle.model_registers.specs.Registers.{File}
 use Rattle.model_registers.specs.AccessLaws.{HoldsBytes}
 use Rattle.model_registers.specs.ConfigAddress.{latched}
 use Rattle.model_registers.specs.CopiedFiles.{shape_of}
@@ -70,23 +70,14 @@ block_fits b h k =
 
 few_regions : (rs : List Region) (n : ℕ) → n ≤ 6 → Each IsLawfulRegion rs → EachPair (λ r s. r.index + registers_of r.kind ≤ s.index) rs → Each (λ r. n ≤ r.index) rs → length rs + n ≤ 6
 few_regions [] n low all order above = omega arith
-few_regions (r ∷ rs) n low all order above =
-    let some = registers_positive r.kind in
-    let last = all.0.registers in
-    let first = above.0 in
-    let next : r.index + 1 ≤ 6 = omega arith in
-    let rest = few_regions rs (r.index + 1) next all.1 order.1 (each_map (λ s. r.index + registers_of r.kind ≤ s.index) (λ s. r.index + 1 ≤ s.index) rs (λ s h. omega (arith, h, some)) order.0) in
-    omega arith
+few_regions (r ∷ rs) n low all order above = grind (arith, registers_positive, each_map, few_regions rs (r.index + 1))
 
 abbrev places : List ConfigBlock → List ℕ
 places bs = map (λ (b : ConfigBlock). b.offset - 0x40) bs
 
 other_places : (b : ConfigBlock) (cs : List ConfigBlock) → IsConfigBlock b → Each IsConfigBlock cs → Each (λ c. IsTrue (blocks_apart b c)) cs → AllByRecursion (λ n. eqb (b.offset - 0x40) n ≡ false) (places cs)
 other_places b [] h all apart = tt
-other_places b (c ∷ cs) h all apart = (differs, other_places b cs h all.1 apart.1)
-  where
-    differs : eqb (b.offset - 0x40) (c.offset - 0x40) ≡ false
-    differs = grind (arith, ne_eqb)
+other_places b (c ∷ cs) h all apart = grind (arith, ne_eqb, other_places b cs h all.1 apart.1)
 
 distinct_places : (bs : List ConfigBlock) → Each IsConfigBlock bs → EachPair (λ b c. IsTrue (blocks_apart b c)) bs → IsDistinct eqb (places bs)
 unfolding IsDistinct
@@ -136,18 +127,7 @@ endpoint_fits d h =
     blocks_fit (x ∷ xs) a b = (block_fits x a.0 b.0, blocks_fit xs a.1 b.1)
 
     numbers : (counted 1 region_layout).fits d.regions ≡ true → (counted 1 block_layout).fits d.blocks ≡ true → endpoint_layout.fits d ≡ true
-    numbers r b =
-        let vendor = let a = h.lawful.vendor in lt-ltb d.vendor 65536 (omega arith) in
-        let device = lt-ltb d.device 65536 h.lawful.fits.device in
-        let revision = lt-ltb d.revision 256 h.lawful.fits.revision in
-        let class = lt-ltb d.class 16777216 h.lawful.class in
-        let subvendor = lt-ltb d.subvendor 65536 h.lawful.fits.subvendor in
-        let subsystem = lt-ltb d.subsystem 65536 h.lawful.fits.subsystem in
-        let pin = let a = h.lawful.pin in lt-ltb d.pin 256 (omega arith) in
-        let min_gnt = lt-ltb d.min_gnt 256 h.lawful.fits.min_gnt in
-        let max_lat = lt-ltb d.max_lat 256 h.lawful.fits.max_lat in
-        let status = let a = masked d.status 0xf900 h.lawful.status in lt-ltb d.status 65536 (omega arith) in
-        rw (vendor, device, revision, class, subvendor, subsystem, pin, min_gnt, max_lat, status, r, b)
+    numbers r b = grind (arith, lt-ltb, masked)
 
 -- ---- guests
 
@@ -156,10 +136,7 @@ values_fit [] h = tt
 values_fit (e ∷ es) h = (lt-ltb e.cell.value 256 h.0, values_fit es h.1)
 
 pub as_long : (f g : File) → shape_of f ≡ shape_of g → length (values_of f) ≡ length g
-as_long f g same = length-map f (λ (e : PlacedCell). e.cell.value) ∙ sym (length-map f bare) ∙ ap (λ (x : File). length x) same ∙ length-map g bare
-  where
-    bare : PlacedCell → PlacedCell
-    bare e = record e { cell = record e.cell { value = 0 } }
+as_long f g same = grind (arith, length-map)
 
 pub function_fits : (f : Function) → IsSavable f → function_layout.fits (saved f) ≡ true
 function_fits f h =
@@ -174,9 +151,7 @@ slots_fit (None ∷ fs) h = (refl, slots_fit fs h.1)
 slots_fit (Some f ∷ fs) h = (ap (λ t. (t && true) && true) (function_fits f h.0), slots_fit fs h.1)
 
 pub latch_fits : (n : ℕ) → latched n ≡ n → latch_layout.fits n ≡ true
-latch_fits n h =
-    let a = masked n 0x80fffffc h in
-    and_from ((number 4).fits n) (eqb (latched n) n) (lt-ltb n (256 ^ 4) (omega arith)) (eq-eqb (latched n) n h)
+latch_fits n h = grind (arith, masked, and_from, lt-ltb, eq-eqb)
 
 pub guests_have_bytes : GuestsHaveBytes
 guests_have_bytes g h =

@@ -1,6 +1,6 @@
 -- The image of a machine whose functions hold bytes has bytes.
-use Rattle.std.proofs.Common.{◌≡◌, ℕ, zero, suc, ◌+◌, ◌-◌, ◌*◌, ◌/◌, ◌<◌, ◌^◌, Bool, true, false, ◌&&◌, cond, List, [], ◌∷◌, ◌++◌, length, Some, None, Option, refl, sym, ap, subst, arith}
-use Rattle.std.specs.Prelude.{map, flat_map, option_map}
+use Rattle.std.proofs.Common.{◌≡◌, ℕ, zero, suc, ◌/◌, ◌<◌, ◌^◌, Bool, true, false, ◌&&◌, cond, List, [], ◌∷◌, length, Some, None, Option, refl, sym, ap, subst, arith}
+use Rattle.std.specs.Prelude.{map, flat_map}
 use Rattle.std.specs.Option.{option_map_or}
 use Rattle.std.proofs.lemmas.Bool.{and_from, lt-ltb}
 use Rattle.std.proofs.lemmas.List.{length-map}
@@ -8,20 +8,19 @@ use Rattle.lists.specs.Elements.{Each}
 use Rattle.lists.proofs.EachLemmas.{each_append, each_map, each_of_map}
 use Rattle.lists.proofs.Members.{each_in}
 use Rattle.model_registers.specs.Cell.{Cell, IsCell}
-use Rattle.model_registers.specs.Registers.{Place, config, block, after, PlacedCell, File, cell_at, field, cells_from}
+use Rattle.model_registers.specs.Registers.{Place, config, after, PlacedCell, File, cell_at, field, cells_from}
 use Rattle.model_registers.specs.AccessLaws.{HoldsBytes}
 use Rattle.model_registers.specs.CopiedFiles.{agreed_file}
 use Rattle.model_registers.specs.OwnCopies.{is_own}
-use Rattle.model_registers.specs.Declarations.{registers_of, Region, ConfigBlock, IoDecode, PrefDecode, Endpoint, Bridge}
+use Rattle.model_registers.specs.Declarations.{Region, ConfigBlock, IoDecode, PrefDecode, Endpoint, Bridge}
 use Rattle.model_registers.specs.DeclarationRules.{IsLawfulBridge}
-use Rattle.model_registers.specs.EndpointTable.{base_register, type_bits, base_width, base_cells, region_cells, block_cells, header_cells, config_cells, endpoint_reset}
+use Rattle.model_registers.specs.EndpointTable.{region_cells, block_cells, header_cells, endpoint_reset}
 use Rattle.model_registers.proofs.ByteAccesses.{number_fits}
 use Rattle.model_board.specs.Paths.{Part, Path, IsPart, IsPath}
 use Rattle.model_board.specs.Board.{Decl, endpoint, Row, Board}
 use Rattle.model_board.specs.Lawful.{IsLawfulDecl}
 use Rattle.model_board.specs.AtReset.{board_at}
 use Rattle.model_board.specs.State.{BoardFunction, State, row_at}
-use Rattle.model_audit.specs.Orderly.{IsStateOfBoard}
 use Rattle.model_guests.specs.Slots.{Slots}
 use Rattle.model_guests.specs.Text.{Text}
 use Rattle.model_guests.specs.World.{declared}
@@ -29,8 +28,8 @@ use Rattle.model_guests.specs.Guests.{GuestNow, GuestsNow}
 use Rattle.model_guests.specs.AgreedBoard.{agreed_function}
 use Rattle.model_guests.specs.Seated.{AreSeats, IsSeatedGuest}
 use Rattle.model_guests.specs.WorldNow.{WorldNow, names_of}
-use Rattle.model_handoff.specs.Handoffs.{declared_cells, HasDeclaredShape, IsHandoff, file_at_reset}
-use Rattle.model_handoff.specs.ViewLaws.{sits, seated_files, with_seated_reset}
+use Rattle.model_handoff.specs.Handoffs.{declared_cells, HasDeclaredShape, IsHandoff}
+use Rattle.model_handoff.specs.ViewLaws.{seated_files, with_seated_reset}
 use Rattle.model_images.specs.Images.{values_of, image_of_lone}
 use Rattle.model_images.specs.MachineImages.{SavedGuest, values_in, saved_handoff, saved_guest}
 use Rattle.model_images.specs.MachineLaws.{IsSavableWorld}
@@ -52,9 +51,7 @@ path_fits p h =
     (each_map IsPart (λ (q : Part). ((number 1).fits q.device && (number 1).fits q.function) ≡ true) p part_fits h.parts)
   where
     part_fits : (q : Part) → IsPart q → ((number 1).fits q.device && (number 1).fits q.function) ≡ true
-    part_fits q k =
-        and_from ((number 1).fits q.device) ((number 1).fits q.function) (lt-ltb q.device 256 (let a = k.device_fits in omega arith))
-        (lt-ltb q.function 256 (let a = k.function_fits in omega arith))
+    part_fits q k = grind (arith, and_from, lt-ltb)
 
 io_fits : (k : IoDecode) → third.fits (io_number k) ≡ true
 io_fits k = grind arith
@@ -63,13 +60,7 @@ pref_fits : (k : PrefDecode) → third.fits (pref_number k) ≡ true
 pref_fits k = grind arith
 
 bridge_fits : (d : Bridge) → IsLawfulBridge d → bridge_layout.fits d ≡ true
-bridge_fits d h =
-    let vendor = lt-ltb d.vendor 65536 (let a = h.vendor in omega arith) in
-    let device = lt-ltb d.device 65536 h.device in
-    let revision = lt-ltb d.revision 256 h.revision in
-    let io = io_fits d.io in
-    let pref = pref_fits d.pref in
-    rw (vendor, device, revision, io, pref)
+bridge_fits d h = grind (arith, lt-ltb, io_fits, pref_fits)
 
 decl_fits : (d : Decl) → IsLawfulDecl d → CanBeDeclared d → decl_layout.fits d ≡ true
 decl_fits d lawful can = grind (arith, endpoint_fits, bridge_fits)
@@ -77,8 +68,7 @@ decl_fits d lawful can = grind (arith, endpoint_fits, bridge_fits)
 rows_fit : (fs : List BoardFunction) → Each (λ (r : Row). IsPath r.path) (board_at fs) → Each (λ (r : Row). IsLawfulDecl r.decl) (board_at fs) → Each (λ (f : BoardFunction). CanBeDeclared f.decl) fs
     → Each (λ (r : Row). row_layout.fits r ≡ true) (board_at fs)
 rows_fit [] paths lawful can = tt
-rows_fit (f ∷ fs) paths lawful can =
-    (and_from (path_layout.fits f.path) (decl_layout.fits f.decl) (path_fits f.path paths.0) (decl_fits f.decl lawful.0 can.0), rows_fit fs paths.1 lawful.1 can.1)
+rows_fit (f ∷ fs) paths lawful can = grind (arith, and_from, path_fits, decl_fits, rows_fit fs paths.1 lawful.1 can.1)
 
 cells_fit : (fs : List BoardFunction) → Each HasDeclaredShape fs → Each (λ (f : BoardFunction). HoldsBytes f.file) fs → fit_each cells_layout (board_at fs) (map (λ (f : BoardFunction). values_of f.file) fs) ≡ true
 cells_fit [] shapes can = refl
@@ -134,20 +124,13 @@ blocks_bytes (b ∷ bs) h = each_append IsByte (block_cells b) (flat_map block_c
 
 regions_bytes : (rs : List Region) → Each (λ (r : Region). Each IsCell r.cells) rs → HoldsBytes (flat_map (region_cells (λ r. 0)) rs)
 regions_bytes [] h = tt
-regions_bytes (r ∷ rs) h =
-    let base = base_cells r.index r.kind r.size 0 in
-    each_append IsByte (base ++ cells_from (block r.index 0) r.cells) (flat_map (region_cells (λ r. 0)) rs)
-    (each_append IsByte base (cells_from (block r.index 0) r.cells)
-    (field_bytes (4 * registers_of r.kind) (0 + type_bits r.kind) (2 ^ base_width r.kind - r.size) 0 (base_register r.index)) (cells_bytes r.cells (block r.index 0) h.0))
-    (regions_bytes rs h.1)
+regions_bytes (r ∷ rs) h = grind (arith, each_append, field_bytes, cells_bytes, regions_bytes rs h.1)
 
 header_bytes : (d : Endpoint) → HoldsBytes (header_cells d false 0)
 header_bytes d = grind arith
 
 reset_bytes : (d : Endpoint) → IsDeclared d → HoldsBytes (endpoint_reset d false)
-reset_bytes d h =
-    each_append IsByte (config_cells d false 0) (flat_map (region_cells (λ r. 0)) d.regions)
-    (each_append IsByte (header_cells d false 0) (flat_map block_cells d.blocks) (header_bytes d) (blocks_bytes d.blocks h.cells.blocks)) (regions_bytes d.regions h.cells.regions)
+reset_bytes d h = grind (arith, each_append, header_bytes, blocks_bytes, regions_bytes)
 
 agreed_bytes : (left own : File) → HoldsBytes left → HoldsBytes own → HoldsBytes (agreed_file left own)
 agreed_bytes [] own h k = tt
@@ -169,17 +152,10 @@ writable_under s h gs = record {
 }
   where
     decl_stays : (o : Option File) (f : BoardFunction) → (option_map_or (λ (own : File). record f { file = agreed_file f.file own }) o f).decl ≡ f.decl
-    decl_stays None f = refl
-    decl_stays (Some own) f = refl
+    decl_stays o f = grind arith
 
     written : (f : BoardFunction) → HoldsBytes f.file → HoldsBytes (agreed_function (seated_files s gs) f).file
-    written f k = of (sits gs f.path) (declared (board_at s.functions) f.path) refl
-      where
-        of : (t : Bool) (o : Option Endpoint) → declared (board_at s.functions) f.path ≡ o
-            → HoldsBytes (option_map_or (λ (own : File). record f { file = agreed_file f.file own }) (cond t (option_map file_at_reset o) None) f).file
-        of false o e = k
-        of true None e = k
-        of true (Some d) e = agreed_bytes f.file (endpoint_reset d false) k (reset_bytes d (declared_written s.functions h.declared f.path d e))
+    written f k = grind (arith, agreed_bytes, reset_bytes, declared_written)
 
 -- ---- guests
 
@@ -189,12 +165,11 @@ name_fits name h = counted_fit 1 (number 1) name h.short (each_map (λ c. c < 25
 module _ (b : Board) (paths : Each (λ (r : Row). IsPath r.path) b) where
   slots_fit : (qs : List (Option Path)) (os : Slots) → AreSeats b qs os → Each (λ q. (optional path_layout).fits q ≡ true) qs
   slots_fit [] os are = tt
-  slots_fit (q ∷ qs) [] are = absurd are
   slots_fit (None ∷ qs) (o ∷ os) are = (refl, slots_fit qs os are.1)
-  slots_fit (Some p ∷ qs) (None ∷ os) are = absurd are.0
   slots_fit (Some p ∷ qs) (Some f ∷ os) are =
       let path = each_in (λ (r : Row). IsPath r.path) (record { path = p; decl = endpoint f.decl }) b paths (declared_row b p f.decl are.0.decl) in
       (ap (λ t. (t && true) && true) (path_fits p path), slots_fit qs os are.1)
+  slots_fit qs os are = grind arith
 
   guest_fits : (g : GuestNow) → IsSeatedGuest b g → IsWritableName g.name → IsSavableGuest g.lone → guest_layout.fits (saved_guest g) ≡ true
   guest_fits g seated name can =

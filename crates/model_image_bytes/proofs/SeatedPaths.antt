@@ -39,8 +39,7 @@ either_true a b h = grind arith
 -- ---- who has a path already
 
 stays_taken : (q : Option Path) (taken : List Path) (p : Path) → is_in taken p ≡ true → is_in (with_path q taken) p ≡ true
-stays_taken None taken p h = h
-stays_taken (Some q) taken p h = either_true (path_eq q p) (is_in taken p) h
+stays_taken q taken p h = grind (arith, either_true)
 
 all_stay : (qs : List (Option Path)) (taken : List Path) (p : Path) → is_in taken p ≡ true → is_in (with_paths qs taken) p ≡ true
 all_stay [] taken p h = h
@@ -90,10 +89,9 @@ module _ (s : State) where
       subst (λ (x : Endpoint). Each (λ (r : Region). IsTrue (opens_region s p r)) x.regions) same (each_opens p c.decl.regions c.opened)
 
   slot_opens : (qs : List (Option Path)) (taken : List Path) → AllFree s taken qs → (k : ℕ) (p : Path) → path_at qs k ≡ Some p → HasOpenRegions s p
-  slot_opens [] taken free k p h = cc
-  slot_opens (None ∷ qs) taken free zero p h = cc
   slot_opens (Some q ∷ qs) taken free zero p h = let same : q ≡ p = cc in subst (HasOpenRegions s) same (opens_there taken q (can_sit taken q free.0))
   slot_opens (q ∷ qs) taken free (suc k) p h = slot_opens qs (with_path q taken) free.1 k p h
+  slot_opens qs taken free k p h = cc
 
   seat_there : (taken : List Path) (q : Option Path) (x : Option SavedFunction) → can_have s taken q ≡ true → FitsSlot x (reset_function (option_and_then (declared (board_at s.functions)) q))
       → IsSeat (board_at s.functions) q (option_map restored x)
@@ -108,9 +106,8 @@ module _ (s : State) where
   seats_there : (qs : List (Option Path)) (taken : List Path) → AllFree s taken qs → (ss : List (Option SavedFunction)) → FitSlots ss (guest_at (board_at s.functions) qs).slots
       → AreSeats (board_at s.functions) qs (map (option_map restored) ss)
   seats_there [] taken free [] fit = tt
-  seats_there [] taken free (x ∷ xs) fit = absurd fit
-  seats_there (q ∷ qs) taken free [] fit = absurd fit
   seats_there (q ∷ qs) taken free (x ∷ xs) fit = (seat_there taken q x free.0 fit.0, seats_there qs (with_path q taken) free.1 xs fit.1)
+  seats_there qs taken free ss fit = absurd fit
 
   slots_hold : (ss : List (Option SavedFunction)) (fs : Slots) → FitSlots ss fs → Each HoldsFittingValues ss
   slots_hold [] fs fit = tt
@@ -127,10 +124,7 @@ module _ (s : State) where
 
   not_in_later : (gs : List SavedGuest) (taken : List Path) → AreGoodGuests s taken gs → (p : Path) → is_in taken p ≡ true → (a : Text) (n : ℕ) → path_in (back gs) a n ≡ Some p → ⊥
   not_in_later [] taken good p there a n h = cc
-  not_in_later (g ∷ gs) taken good p there a n h =
-      let here = not_later g.paths taken good.0.free p there n in
-      let later = not_in_later gs (with_paths g.paths taken) good.1 p (all_stay g.paths taken p there) a n in
-      grind (arith, here, later)
+  not_in_later (g ∷ gs) taken good p there a n h = grind (arith, not_later, all_stay, not_in_later gs (with_paths g.paths taken) good.1 p (all_stay g.paths taken p there) a n)
 
   guests_once : (gs : List SavedGuest) (taken : List Path) → AreGoodGuests s taken gs → (a c : Text) (n m : ℕ) (p : Path) → path_in (back gs) a n ≡ Some p → path_in (back gs) c m ≡ Some p → (a ≡ c) × (n ≡ m)
   guests_once [] taken good a c n m p h i = cc
@@ -152,13 +146,11 @@ module _ (s : State) where
 
   guests_seated : (gs : List SavedGuest) (taken : List Path) → AreGoodGuests s taken gs → Each (IsSeatedGuest (board_at s.functions)) (back gs)
   guests_seated [] taken good = tt
-  guests_seated (g ∷ gs) taken good =
-      (record { count = good.0.count; seats = seats_there g.paths taken good.0.free g.image.slots good.0.fits.slots }, guests_seated gs (with_paths g.paths taken) good.1)
+  guests_seated (g ∷ gs) taken good = grind (arith, seats_there, guests_seated gs (with_paths g.paths taken) good.1)
 
   pub guests_hold : (gs : List SavedGuest) (taken : List Path) → AreGoodGuests s taken gs → Each HoldsWhatFits gs
   guests_hold [] taken good = tt
-  guests_hold (g ∷ gs) taken good =
-      (record { latch = good.0.fits.latch; slots = slots_hold g.image.slots (guest_at (board_at s.functions) g.paths).slots good.0.fits.slots }, guests_hold gs (with_paths g.paths taken) good.1)
+  guests_hold (g ∷ gs) taken good = grind (arith, slots_hold, guests_hold gs (with_paths g.paths taken) good.1)
 
   apart_too : (gs hs : GuestsNow) → names_of gs ≡ names_of hs → AreApart gs → AreApart hs
   apart_too gs hs same apart =

@@ -1,5 +1,5 @@
 -- What bytes are that a guest takes, slot by slot; and the world after it.
-use Rattle.std.proofs.Common.{◌≡◌, ℕ, zero, suc, ◌+◌, ◌*◌, ◌/◌, ◌%◌, ◌^◌, ◌<◌, ◌≤◌, Bool, true, false, cond, ◌&&◌, eqb, List, [], ◌∷◌, ◌++◌, length, Some, None, Option, Ok, Err, refl, sym, ap, ap₂, ◌∙◌, subst, append_assoc, append-nil, arith, length-append}
+use Rattle.std.proofs.Common.{◌≡◌, ℕ, zero, suc, ◌+◌, ◌/◌, ◌^◌, ◌<◌, ◌≤◌, Bool, true, false, cond, ◌&&◌, eqb, List, [], ◌∷◌, ◌++◌, length, Some, None, Option, Ok, Err, refl, sym, ap, ap₂, ◌∙◌, subst, append_assoc, append-nil, arith, length-append}
 use Rattle.std.specs.Prelude.{take, drop, is_some}
 use Rattle.std.specs.Option.{option_map_or}
 use Rattle.std.proofs.Math.Nat.{pow-suc}
@@ -54,12 +54,10 @@ values_there (e ∷ es) (b ∷ bytes) rest h = cases (can_hold e b) refl h (valu
 -- ---- a slot
 
 pub read_before : (next : List ℕ → Left) (r : Left) (rest : List ℕ) → then_read next r ≡ Ok rest → (bytes : List ℕ) × (r ≡ Ok bytes) × (next bytes ≡ Ok rest)
-read_before next (Ok bytes) rest h = (bytes, refl, h)
-read_before next (Err k) rest h = cc
+read_before next r rest h = grind arith
 
 values_between : (tagged values rest : List ℕ) (m n : ℕ) → m ≡ length tagged → length values ≡ n → take n (drop m (tagged ++ (values ++ rest))) ≡ values
-values_between tagged values rest m n begin count =
-    ap₂ (λ (k : ℕ) (j : ℕ). take j (drop k (tagged ++ (values ++ rest)))) begin (sym count) ∙ ap (take (length values)) (drop-append_seam tagged (values ++ rest)) ∙ take-append_seam values rest
+values_between tagged values rest m n begin count = grind (arith, drop-append_seam, take-append_seam)
 
 -- the bytes of a slot, whatever follows: what is taken of them, and that they are its bytes where it can be written
 pub record IsTaken (f : Option Function) (bytes rest : List ℕ) : Type 0 where
@@ -139,21 +137,17 @@ slots_are_taken f fs bytes rest h =
 -- what is taken where something fits that was saved
 slot_again : (s : Option SavedFunction) (f : Option Function) (rest : List ℕ) → (optional function_layout).fits s ≡ true → FitsSlot s f → taken_slot f (slot_bytes s ++ rest) ≡ s
 slot_again None None rest h k = refl
-slot_again None (Some f) rest h k = absurd k
-slot_again (Some s) None rest h k = absurd k
 slot_again (Some s) (Some f) rest h k =
     let parts = function_parts s (slot_fits s h) in
     let count = fit_count (number 1) (number_is 1) (length (endpoint_reset s.decl false)) s.values parts.count in
     subst (λ d. taken_slot (Some (record f { decl = d })) (slot_bytes (Some s) ++ rest) ≡ Some s) k.decl
     (subst (λ (bs : List ℕ). taken_slot (Some (record f { decl = s.decl })) bs ≡ Some s) (sym (function_bytes s rest parts ∙ sym (append_assoc (1 ∷ declaration_bytes s.decl) s.values rest)))
     (is (record f { decl = s.decl }) s.values count k.values rest))
+slot_again s f rest h k = absurd k
 
 slots_again : (n : ℕ) (ss : List (Option SavedFunction)) (fs : Slots) (rest : List ℕ) → fit_times (optional function_layout).fits n ss ≡ true → FitSlots ss fs
     → taken_slots fs (slots_bytes ss ++ rest) ≡ ss
 slots_again n [] [] rest h k = refl
-slots_again n [] (f ∷ fs) rest h k = absurd k
-slots_again n (s ∷ ss) [] rest h k = absurd k
-slots_again zero (s ∷ ss) (f ∷ fs) rest h k = cc
 slots_again (suc n) (s ∷ ss) (f ∷ fs) rest h k =
     let fits = left_true ((optional function_layout).fits s) (fit_times (optional function_layout).fits n ss) h in
     let others = right_true ((optional function_layout).fits s) (fit_times (optional function_layout).fits n ss) h in
@@ -161,6 +155,7 @@ slots_again (suc n) (s ∷ ss) (f ∷ fs) rest h k =
     let t = taken f (slot_bytes s ++ more) more (fitting_slot s f more fits k.0) in
     ap (taken_slots (f ∷ fs)) (append_assoc (slot_bytes s) (slots_bytes ss) rest)
     ∙ ap₂ (λ (x : Option SavedFunction) (xs : List (Option SavedFunction)). x ∷ xs) (slot_again s f more fits k.0) (ap (taken_slots fs) (left_of t) ∙ slots_again n ss fs rest others k.1)
+slots_again n ss fs rest h k = grind arith
 
 -- the bytes of slots, whatever follows
 pub record AreTaken (fs : Slots) (bytes rest : List ℕ) : Type 0 where
@@ -198,20 +193,13 @@ slots_taken (f ∷ fs) bytes rest h =
 
 number_back : (k n : ℕ) (rest : List ℕ) → n < 256 ^ k → le_number (take k (le_bytes k n ++ rest)) ≡ n
 number_back zero n rest h = omega arith
-number_back (suc k) n rest h =
-    let less : n / 256 < 256 ^ k = let p = pow-suc 256 k in omega arith in
-    let high = number_back k (n / 256) rest less in
-    let low : n % 256 + 256 * (n / 256) ≡ n = omega arith in
-    ap (λ m. n % 256 + 256 * m) high ∙ low
+number_back (suc k) n rest h = grind (arith, pow-suc, number_back k (n / 256) rest)
 
 number_left : (o : Option (Parsed ℕ)) (rest : List ℕ) → after_number o ≡ Ok rest → (n : ℕ) × (o ≡ Some (parsed n rest)) × (latched n ≡ n)
-number_left None rest h = cc
-number_left (Some p) rest h = (p.value, grind arith, grind (arith, eqb-true))
+number_left o rest h = grind (arith, eqb-true)
 
 pub latch_there : (bytes rest : List ℕ) → after_latch bytes ≡ Ok rest → (n : ℕ) × (bytes ≡ le_bytes 4 n ++ rest) × ((number 4).fits n ≡ true) × (latched n ≡ n)
-latch_there bytes rest h =
-    let p = number_left (parse_number 4 bytes) rest h in
-    let s = number_spells 4 bytes (parsed p.0 rest) p.1 in (p.0, s.bytes, s.fits, p.2)
+latch_there bytes rest h = grind (arith, number_left, number_spells)
 
 -- the parts of an image at the front
 pub record IsOpened (g : LoneGuest) (bytes rest : List ℕ) : Type 0 where
@@ -242,9 +230,7 @@ opened g bytes rest h =
     }
 
 none_at_end : (l : Left) → fault_of (then_read at_end l) ≡ None → l ≡ Ok []
-none_at_end (Ok []) e = refl
-none_at_end (Ok (b ∷ rest)) e = cc
-none_at_end (Err k) e = cc
+none_at_end l e = grind arith
 
 pub front_of : (g : LoneGuest) (bytes : List ℕ) → load_fault g bytes ≡ None → after_image_front g bytes ≡ Ok []
 front_of g bytes h = none_at_end (after_image_front g bytes) (sym (ap fault_of (image_ends g bytes)) ∙ h)
@@ -308,14 +294,10 @@ accepted_is_image g savable bytes all h = (taken_image g bytes, accepted_is_take
 -- ---- in a world
 
 taken_now : (w : WorldNow) (name : Text) (bytes : List ℕ) (i : Image) → load_fault (lone_of w.guests name) bytes ≡ None → image_of bytes ≡ Some i → after_load_bytes name bytes w ≡ after_load name i w
-taken_now w name bytes i none is =
-    ap (λ (o : Option ℕ). cond (is_some o) w (option_map_or (λ (x : Image). after_load name x w) (image_of bytes) w)) none
-    ∙ ap (λ (o : Option Image). option_map_or (λ (x : Image). after_load name x w) o w) is
+taken_now w name bytes i none is = grind arith
 
 pub loads_image : LoadsImage
-loads_image w name savable bytes all none =
-    let i = accepted_is_image (lone_of w.guests name) savable bytes all none in
-    record { image = i.0; is_image = i.1; world = taken_now w name bytes i.0 none i.1.image }
+loads_image w name savable bytes all none = grind (arith, accepted_is_image, taken_now)
 
 pub refused_stays : RefusedStays
 refused_stays w name bytes k some = ap (λ (o : Option ℕ). cond (is_some o) w (option_map_or (λ (x : Image). after_load name x w) (image_of bytes) w)) some

@@ -1,5 +1,5 @@
 -- Bytes that a machine doesn't refuse: they are an image that fits it, and each guest stands there as it takes it.
-use Rattle.std.proofs.Common.{◌≡◌, ◌<◌, ◌^◌, ◌&&◌, ℕ, zero, suc, true, List, [], ◌∷◌, ◌++◌, length, Some, None, Result, Ok, Err, refl, sym, ap, ap₂, ◌∙◌, subst, append-nil, arith}
+use Rattle.std.proofs.Common.{◌≡◌, ◌<◌, ◌^◌, ◌&&◌, ℕ, zero, suc, true, List, [], ◌∷◌, ◌++◌, length, None, Result, Ok, refl, sym, ap, ap₂, ◌∙◌, subst, append-nil, arith}
 use Rattle.std.specs.Prelude.{map, flat_map}
 use Rattle.std.specs.Result.{result_err}
 use Rattle.std.proofs.lemmas.Bool.{and_from, lt-ltb}
@@ -155,8 +155,7 @@ written w h can bytes all i e =
     })
 
 from_none : (r : Result MachineImage ℕ) → result_err r ≡ None → (i : MachineImage) × (r ≡ Ok i)
-from_none (Ok i) h = (i, refl)
-from_none (Err k) h = cc
+from_none r h = grind arith
 
 pub accepted_is_machine : AcceptedIsMachine
 accepted_is_machine w h can bytes all none =
@@ -165,8 +164,4 @@ accepted_is_machine w h can bytes all none =
     (i.0, record { read = i.1; image = ap machine_of m.are ∙ machine_bytes_are_read i.0 m.has; fits = read_fits w h.lawful bytes i.0 i.1; world = ap (after_read w) i.1 })
 
 pub refused_keeps : RefusedKeeps
-refused_keeps w bytes k h = of (read_machine w bytes) h
-  where
-    of : (r : Result MachineImage ℕ) → result_err r ≡ Some k → after_read w r ≡ w
-    of (Ok i) e = cc
-    of (Err j) e = refl
+refused_keeps w bytes k h = grind arith

@@ -1,5 +1,5 @@
 -- The board beside the functions of a guest that is loaded.
-use Rattle.std.proofs.Common.{◌≡◌, ℕ, zero, suc, List, [], ◌∷◌, Some, None, Option, refl, sym, ap, ◌∙◌, arith}
+use Rattle.std.proofs.Common.{◌≡◌, ℕ, zero, suc, List, [], ◌∷◌, Some, Option, sym, ap, ◌∙◌, arith}
 use Rattle.std.specs.Prelude.{map, option_map, slice_get, IsSome}
 use Rattle.std.specs.Option.{option_map_or}
 use Rattle.model_registers.specs.Registers.{File}
@@ -28,8 +28,7 @@ abbrev put_in : Option File → File → File
 put_in o file = option_map_or (agreed_file file) o file
 
 shown_none : (o : Option File) → [] ≡ put_in o []
-shown_none None = refl
-shown_none (Some file) = refl
+shown_none o = grind arith
 
 shown_at : (fs : List BoardFunction) (files : Path → Option File) (p : Path) → file_at (map (agreed_function files) fs) p ≡ put_in (files p) (file_at fs p)
 shown_at [] files p = shown_none (files p)

@@ -1,5 +1,5 @@
 -- Along requests the world stays lawful, and a guest's count tells whether its answers may be others.
-use Rattle.std.proofs.Common.{◌≡◌, ◌+◌, ◌^◌, ◌%◌, ℕ, Bool, false, cond, List, [], ◌∷◌, Some, None, refl, sym, ap, ◌∙◌, subst, arith}
+use Rattle.std.proofs.Common.{◌≡◌, ◌+◌, ◌^◌, ◌%◌, ℕ, Bool, false, cond, List, [], ◌∷◌, Some, None, refl, sym, ap, subst, arith}
 use Rattle.std.specs.Prelude.{map, option_map, IsSome}
 use Rattle.model_guests.specs.Text.{Text}
 use Rattle.model_guests.specs.Slots.{Slots}
@@ -46,26 +46,19 @@ stay_by_request w h name there (restarts n) none = same_guest w h name there (af
 
 pub answers_stay_along : AnswersStayAlong
 answers_stay_along w h name there [] fits none slot n = refl
-answers_stay_along w h name there (r ∷ rs) fits none slot n =
-    let parts = none_first (changes_by name w r) (changes_along name (after_request w r) rs) none in
-    answers_stay_along (after_request w r) (lawful_after_request w h r fits.0) name (there_now w name there r) rs fits.1 parts.1 slot n
-    ∙ stay_by_request w h name there r parts.0 slot n
+answers_stay_along w h name there (r ∷ rs) fits none slot n = grind (arith, none_first, lawful_after_request, there_now, stay_by_request, answers_stay_along (after_request w r) (lawful_after_request w h r fits.0) name (there_now w name there r) rs fits.1)
 
 -- ---- counts
 
 names_stay : (w : WorldNow) (r : Request) → names_now (after_request w r) ≡ names_now w
-names_stay w (acts a) = names_after w a
-names_stay w (loads n i) = names_after_load w n i
-names_stay w (restarts n) = names_after_load w n (image_of_lone (at_reset (lone_of w.guests n)))
+names_stay w r = grind (arith, names_after, names_after_load)
 
 counted_after : (m : MachineNow) (i : ℕ) (name : Text) (n : ℕ) → IsCounted m i name n → (r : Request) → IsCounted (after_request_on_machine m r) i name (after_change (changes_by name m.world r) n)
 counted_after m i name n is r = counted_by m (after_request m.world r) (names_stay m.world r) (λ t. changes_by t m.world r) i name n is
 
 pub request_counts_grow : RequestCountsGrow
 request_counts_grow m i name n is [] = subst (IsCounted m i name) (let whole : n ≡ (n + 0) % 2 ^ 64 = let fits = is.fits in omega arith in whole) is
-request_counts_grow m i name n is (r ∷ rs) =
-    subst (IsCounted (after_all_requests m (r ∷ rs)) i name) (grown (changes_by name m.world r) n (changes_along name (after_request m.world r) rs) is.fits)
-    (request_counts_grow (after_request_on_machine m r) i name (after_change (changes_by name m.world r) n) (counted_after m i name n is r) rs)
+request_counts_grow m i name n is (r ∷ rs) = grind (arith, grown, counted_after, request_counts_grow (after_request_on_machine m r) i name (after_change (changes_by name m.world r) n) (counted_after m i name n is r) rs)
 
 pub world_along : (rs : List Request) (m : MachineNow) → (after_all_requests m rs).world ≡ after_requests m.world rs
 world_along [] m = refl

@@ -43,9 +43,8 @@ both_fit (r ∷ rs) ss w h k = (h.0, both_fit rs ss (after_request w r) h.1 k)
 -- ---- who has a path
 
 inside : (qs : List (Option Path)) (k : ℕ) (q : Path) → path_at qs k ≡ Some q → k < length qs
-inside [] k q h = cc
-inside (p ∷ ps) zero q h = omega arith
 inside (p ∷ ps) (suc k) q h = let more : k < length ps = inside ps k q h in omega arith
+inside qs k q h = grind arith
 
 pub path_low : (b : Board) (gs : GuestsNow) → Each (IsSeatedGuest b) gs → (a : Text) (k : ℕ) (q : Path) → path_in gs a k ≡ Some q → k < 32
 path_low b gs all a k q h = grind (arith, found (IsSeatedGuest b) gs a, inside)
@@ -80,12 +79,7 @@ pub record IsEmptied (w x : WorldNow) : Type 0 where
   pub within : (a : Text) (k : ℕ) (q : Path) → path_in x.guests a k ≡ Some q → path_in w.guests a k ≡ Some q
 
 twice_emptied : (w x y : WorldNow) → IsEmptied w x → IsEmptied x y → IsEmptied w y
-twice_emptied w x y h k = record {
-  lawful = k.lawful;
-  shown = k.shown ∙ h.shown;
-  names = k.names ∙ h.names;
-  within = λ a n q at. h.within a n q (k.within a n q at);
-}
+twice_emptied w x y h k = grind arith
 
 module _ (w : WorldNow) (h : IsLawfulOver w) (name : Text) (n : ℕ) where
   abbrev b : Board
@@ -104,9 +98,7 @@ module _ (w : WorldNow) (h : IsLawfulOver w) (name : Text) (n : ℕ) where
   stays k e = ap (λ (o : Option ℕ). cond (is_some o) w (taken name n w)) e
 
   its_path : take_fault w name n ≡ None → (p : Path) × (path_in w.guests name n ≡ Some p)
-  its_path e =
-      let can = can_take w name n e in
-      some_path b (path_in w.guests name n) can.f (subst (IsSeat b (path_in w.guests name n)) can.there seat)
+  its_path e = grind (arith, can_take, some_path, seat)
 
   lower_is : take_fault w name n ≡ None → now.guests ≡ lower
   lower_is e = let p = its_path e in ap (λ (v : WorldNow). v.guests) (taken_is w name n e p.0 p.1)
@@ -147,10 +139,7 @@ pub record HaveTaken (n : ℕ) (w x : WorldNow) (names : List Text) : Type 0 whe
   pub none : Each (HasNoneBelow n x) names
 
 slots_emptied : (n : ℕ) (w : WorldNow) → IsLawfulOver w → (name : Text) → HaveTaken n w (after_requests w (takings name n)) (name ∷ [])
-slots_emptied zero w h name = record {
-  emptied = record { lawful = h; shown = refl; names = refl; within = λ a k q at. at };
-  none = (λ k q at. omega arith, tt);
-}
+slots_emptied zero w h name = grind arith
 slots_emptied (suc n) w h name =
     let x : WorldNow = after_take w name n in
     let y : WorldNow = after_requests x (takings name n) in
@@ -187,8 +176,7 @@ takings_fit (suc n) w name = (tt, takings_fit n (after_take w name n) name)
 
 pub all_takings_fit : (names : List Text) (w : WorldNow) → AreFittingRequests w (all_takings names)
 all_takings_fit [] w = tt
-all_takings_fit (name ∷ names) w =
-    both_fit (takings name 32) (all_takings names) w (takings_fit 32 w name) (all_takings_fit names (after_requests w (takings name 32)))
+all_takings_fit (name ∷ names) w = grind (arith, both_fit, takings_fit, all_takings_fit names (after_requests w (takings name 32)))
 
 -- nobody has a path any more
 pub nobody_has : (w x : WorldNow) → HaveTaken 32 w x (names_now w) → (a : Text) (k : ℕ) (q : Path) → path_in x.guests a k ≡ Some q → ⊥

@@ -48,10 +48,9 @@ use Rattle.model_images.proofs.Emptying.{after_both, both_fit, none_sits, path_l
 -- ---- a path that is put into an empty slot
 
 kept_set : (qs : List (Option Path)) (n k : ℕ) (x : Option Path) (q : Path) → path_at qs n ≡ None → path_at qs k ≡ Some q → path_at (slice_set qs n x) k ≡ Some q
-kept_set [] n k x q h at = cc
-kept_set (p ∷ ps) zero k x q h at = grind arith
 kept_set (p ∷ ps) (suc n) zero x q h at = at
 kept_set (p ∷ ps) (suc n) (suc k) x q h at = kept_set ps n k x q h at
+kept_set qs n k x q h at = grind arith
 
 kept_with : (g : GuestNow → GuestNow) (n : ℕ) (x : Option Path) → ((t : GuestNow) → (g t).name ≡ t.name) → ((t : GuestNow) → (g t).paths ≡ slice_set t.paths n x) → (gs : GuestsNow) (name : Text)
     → path_in gs name n ≡ None → (a : Text) (k : ℕ) (q : Path) → path_in gs a k ≡ Some q → path_in (with_guest g name gs) a k ≡ Some q
@@ -212,8 +211,7 @@ module _ (base : State) (target : GuestsNow) (seated : AreSeated (board_at base.
       where
         has_rest : ((k : ℕ) (q : Path) → path_at qs k ≡ Some q → path_in (after_requests x (gifts name (suc n) qs)).guests name (suc n + k) ≡ Some q)
             → (k : ℕ) (q : Path) → path_at (None ∷ qs) k ≡ Some q → path_in (after_requests x (gifts name (suc n) qs)).guests name (n + k) ≡ Some q
-        has_rest more zero q at = cc
-        has_rest more (suc k) q at = sym (later name n k (after_requests x (gifts name (suc n) qs)).guests) ∙ more k q at
+        has_rest more k q at = grind arith
     slots_filled (Some p ∷ qs) n x h there paths =
         let first : n + 0 ≡ n = omega arith in
         let at : path_in target name n ≡ Some p = sym (ap (path_in target name) first) ∙ paths 0 in
@@ -228,8 +226,7 @@ module _ (base : State) (target : GuestsNow) (seated : AreSeated (board_at base.
       where
         has_both : (z : WorldNow) → path_in z.guests name (n + 0) ≡ Some p → ((k : ℕ) (q : Path) → path_at qs k ≡ Some q → path_in z.guests name (suc n + k) ≡ Some q)
             → (k : ℕ) (q : Path) → path_at (Some p ∷ qs) k ≡ Some q → path_in z.guests name (n + k) ≡ Some q
-        has_both z first more zero q at = first ∙ at
-        has_both z first more (suc k) q at = sym (later name n k z.guests) ∙ more k q at
+        has_both z first more k q at = grind arith
 
     gifts_fit : (qs : List (Option Path)) (n : ℕ) (x : WorldNow) → AreFittingRequests x (gifts name n qs)
     gifts_fit [] n x = tt
@@ -257,9 +254,8 @@ module _ (base : State) (target : GuestsNow) (seated : AreSeated (board_at base.
   -- a guest that is among the ones to come is there
   there_too : (gs hs : GuestsNow) (name : Text) → names_of gs ≡ names_of hs → IsSome (guest_named hs name) → IsSome (guest_named gs name)
   there_too [] [] name same there = there
-  there_too [] (u ∷ us) name same there = cc
-  there_too (t ∷ ts) [] name same there = cc
   there_too (t ∷ ts) (u ∷ us) name same there = grind (arith, there_too ts us name)
+  there_too gs hs name same there = cc
 
   pub guests_filled : (ss : List SavedGuest) (x : WorldNow) → IsFilled x → Each IsWanted ss → FillGuests x (after_requests x (all_gifts ss)) ss
   guests_filled [] x h wanted = record { fills = record { filled = h; keeps = λ a k q at. at }; has = tt }

@@ -16,14 +16,13 @@ use Rattle.model_registers.specs.CopiedFiles.{shape_of}
 use Rattle.model_registers.specs.Decoding.{Function}
 use Rattle.model_registers.specs.ConfigAddress.{latched}
 use Rattle.model_board.specs.Paths.{Path}
-use Rattle.model_board.specs.AtReset.{board_at}
 use Rattle.model_registers.proofs.RegisterFiles.{place_same, self}
 use Rattle.model_guests.specs.Accesses.{Event, access, raises, Op, reads, writes, Raise}
 use Rattle.model_guests.specs.Slots.{Slots, slot_at, with_file, reset_function, Landing, landing, effect, raise_landing, event_fault}
 use Rattle.model_guests.specs.Text.{Text}
 use Rattle.model_guests.specs.Lone.{LoneGuest, Destination, own_latch, no_function, at_target, destination, after_access_at, after_event, changed_by, filled, emptied}
-use Rattle.model_guests.specs.World.{Guest, World, declared}
-use Rattle.model_guests.specs.Guests.{GuestNow, GuestsNow, guest_at_first, guest_after, guest_named, lone_of, with_guest, path_in, function_in, Move, move_fault, with_slot_emptied, with_slot_filled, handed_over}
+use Rattle.model_guests.specs.World.{Guest, World}
+use Rattle.model_guests.specs.Guests.{GuestNow, GuestsNow, guest_at_first, guest_after, guest_named, lone_of, path_in, function_in, Move, move_fault, handed_over}
 use Rattle.model_guests.specs.Lines.{nothing, guest_event, host_read, host_move, bad}
 use Rattle.model_guests.specs.DeviceEvents.{DeviceEvent, resets, device_reads, device_writes, byte_landing, DeviceByte, device_fault, after_device_event, device_changed, device_after}
 use Rattle.model_guests.specs.Calls.{asks, at_device, Call, after_call}
@@ -31,8 +30,8 @@ use Rattle.model_guests.specs.WorldNow.{WorldNow}
 use Rattle.model_guests.proofs.Seats.{changed_shape, guests_stay}
 use Rattle.model_guests.proofs.GuestsByName.{found}
 use Rattle.model_guests.proofs.OneGuest.{lone_found}
-use Rattle.model_handoff.specs.Actions.{Action, calls, gives, takes, after_action}
-use Rattle.model_handoff.specs.Giving.{Gift, give_fault, take_fault, given, taken}
+use Rattle.model_handoff.specs.Actions.{Action, after_action}
+use Rattle.model_handoff.specs.Giving.{Gift, given, taken}
 use Rattle.model_images.specs.Images.{SavedFunction, Image, values_of, saved, image_of_lone, with_values, restored, lone_of_image, loaded, function_at_reset, at_reset, fixed_bits, can_hold, fit_cells, Fits, FitSlots}
 use Rattle.model_images.specs.Requests.{acts, loads, restarts, after_request}
 use Rattle.model_images.specs.FitLaws.{IsFittingFunction, HoldsFitting, IsFitting, AreFitting, FittingAtFirst, FittingAfter, FittingAlong, SavedFits}
@@ -50,36 +49,14 @@ bare e = record e { cell = record e.cell { value = 0 } }
 
 entry_fits : (f : Cell → Cell) (p : Place) → KeepsFixed f p → (r e : PlacedCell) → bare e ≡ bare r → can_hold r e.cell.value ≡ true
     → can_hold r (cond (place_eq e.place p) (record e { cell = f e.cell }) e).cell.value ≡ true
-entry_fits f p keeps r e same h = cases (place_eq e.place p) refl
-  where
-    place : r.place ≡ e.place
-    place = ap (λ (x : PlacedCell). x.place) (sym same)
-
-    masks : (v : ℕ) → fixed_bits r.cell v ≡ fixed_bits e.cell v
-    masks v = ap (λ (x : PlacedCell). fixed_bits x.cell v) (sym same)
-
-    cases : (t : Bool) → place_eq e.place p ≡ t → can_hold r (cond t (record e { cell = f e.cell }) e).cell.value ≡ true
-    cases false at = h
-    cases true at = by (is_device_byte p) (keeps e.cell) (ap is_device_byte (place ∙ place_same e.place p at))
-      where
-        by : (d : Bool) → (d || eqb (fixed_bits e.cell (f e.cell).value) (fixed_bits e.cell e.cell.value)) ≡ true → is_device_byte r.place ≡ d → can_hold r (f e.cell).value ≡ true
-        by true k i = ap (λ t. t || eqb (fixed_bits r.cell (f e.cell).value) (fixed_bits r.cell r.cell.value)) i
-        by false k i =
-            let stays : fixed_bits r.cell (f e.cell).value ≡ fixed_bits r.cell e.cell.value = masks (f e.cell).value ∙ eqb-true (fixed_bits e.cell (f e.cell).value) (fixed_bits e.cell e.cell.value) k ∙ sym (masks e.cell.value) in
-            ap (λ n. is_device_byte r.place || eqb n (fixed_bits r.cell r.cell.value)) stays ∙ h
+entry_fits f p keeps r e same h = grind (arith, place_same, eqb-true)
 
 -- ---- files
 
 changed_fits : (f : Cell → Cell) (p : Place) → KeepsFixed f p → (rs es : File) → shape_of es ≡ shape_of rs → fit_cells rs (values_of es) ≡ true → fit_cells rs (values_of (changed f p es)) ≡ true
 changed_fits f p keeps [] [] same h = refl
-changed_fits f p keeps [] (e ∷ es) same h = cc
-changed_fits f p keeps (r ∷ rs) [] same h = cc
-changed_fits f p keeps (r ∷ rs) (e ∷ es) same h =
-    let head : bare e ≡ bare r = cc in
-    let tail : shape_of es ≡ shape_of rs = cc in
-    and_from (can_hold r (cond (place_eq e.place p) (record e { cell = f e.cell }) e).cell.value) (fit_cells rs (values_of (changed f p es)))
-    (entry_fits f p keeps r e head (left_true (can_hold r e.cell.value) (fit_cells rs (values_of es)) h))
-    (changed_fits f p keeps rs es tail (right_true (can_hold r e.cell.value) (fit_cells rs (values_of es)) h))
+changed_fits f p keeps (r ∷ rs) (e ∷ es) same h = grind (arith, and_from, entry_fits, left_true, right_true, changed_fits f p keeps rs es)
+changed_fits f p keeps rs es same h = cc
 
 abbrev Keeps : (File → File) → Type 0
 Keeps change = (f : Function) → IsFittingFunction f → IsFittingFunction (record f { file = change f.file })
@@ -91,11 +68,7 @@ change_keeps f bare p keeps g h = record {
 }
 
 fixed_kept : (f : Cell → Cell) (p : Place) → ((c : Cell) → fixed_bits c (f c).value ≡ fixed_bits c c.value) → KeepsFixed f p
-fixed_kept f p stays c = cases (is_device_byte p)
-  where
-    cases : (d : Bool) → (d || eqb (fixed_bits c (f c).value) (fixed_bits c c.value)) ≡ true
-    cases true = refl
-    cases false = ap (λ n. eqb n (fixed_bits c c.value)) (stays c) ∙ self (fixed_bits c c.value)
+fixed_kept f p stays c = grind (arith, self)
 
 write_keeps : (ons : List Bool) (v : ℕ) (p : Place) → Keeps (write ons v p)
 write_keeps [] v p f h = h
@@ -115,20 +88,15 @@ set_keeps v p device =
 
 self_fits : (rs : File) → fit_cells rs (values_of rs) ≡ true
 self_fits [] = refl
-self_fits (r ∷ rs) = and_from (can_hold r r.cell.value) (fit_cells rs (values_of rs)) (or_self (is_device_byte r.place)) (self_fits rs)
-  where
-    or_self : (d : Bool) → (d || eqb (fixed_bits r.cell r.cell.value) (fixed_bits r.cell r.cell.value)) ≡ true
-    or_self true = refl
-    or_self false = self (fixed_bits r.cell r.cell.value)
+self_fits (r ∷ rs) = grind (arith, and_from, self, self_fits rs)
 
 pub reset_fits : (d : Endpoint) → IsFittingFunction (record { decl = d; file = endpoint_reset d false })
 reset_fits d = record { shape = refl; values = self_fits (endpoint_reset d false) }
 
 pub values_with : (vs : List ℕ) (rs : File) → fit_cells rs vs ≡ true → values_of (with_values vs rs) ≡ vs
 values_with [] [] h = refl
-values_with (v ∷ vs) [] h = cc
-values_with [] (r ∷ rs) h = cc
 values_with (v ∷ vs) (r ∷ rs) h = ap (λ (x : List ℕ). v ∷ x) (values_with vs rs (right_true (can_hold r v) (fit_cells rs vs) h))
+values_with vs rs h = cc
 
 restored_fits : (s : SavedFunction) → fit_cells (endpoint_reset s.decl false) s.values ≡ true → IsFittingFunction (restored s)
 restored_fits s h = record {
@@ -173,8 +141,7 @@ event_changes g (access a) h = access_fits g a.op a.width (destination g.latch a
 event_changes g (raises r) h = record { latch = h.latch; functions = raised_fits r g.slots (raise_landing (slot_at g.slots r.slot) r) h.functions }
 
 either_fits : (t : Bool) (g k : LoneGuest) → IsFitting g → IsFitting k → IsFitting (cond t g k)
-either_fits true g k h i = h
-either_fits false g k h i = i
+either_fits t g k h i = grind arith
 
 event_fits : (g : LoneGuest) (e : Event) → IsFitting g → IsFitting (after_event g e)
 event_fits g e h = either_fits (is_some (event_fault g.slots e)) g (changed_by g e) h (event_changes g e h)
@@ -194,8 +161,7 @@ set_fits d v fs None device h = h
 set_fits d v fs (Some p) device h = with_file_fits (set_value v p) (set_keeps v p (device p refl)) d.slot fs h
 
 reset_in_fits : (n : ℕ) (g : LoneGuest) (o : Option Function) → IsFitting g → IsFitting (option_map_or (λ (f : Function). filled n f.decl g) o g)
-reset_in_fits n g None h = h
-reset_in_fits n g (Some f) h = filled_fits n f.decl g h
+reset_in_fits n g o h = grind (arith, filled_fits)
 
 device_changes : (g : LoneGuest) (e : DeviceEvent) → IsFitting g → IsFitting (device_changed g e)
 device_changes g (resets n) h = reset_in_fits n g (slot_at g.slots n) h
@@ -214,14 +180,10 @@ abbrev OfLone : GuestNow → Type 0
 OfLone t = IsFitting t.lone
 
 handed_fits : (m : Move) (p : Option Path) (o : Option Function) (gs : GuestsNow) → AreFitting gs → AreFitting (handed_over m p o gs)
-handed_fits m p None gs h = h
-handed_fits m p (Some f) gs h =
-    guests_stay OfLone (with_slot_filled m.target p f.decl) (λ t k. filled_fits m.target f.decl t.lone k) m.to (with_guest (with_slot_emptied m.slot) m.from gs)
-    (guests_stay OfLone (with_slot_emptied m.slot) (λ t k. emptied_fits m.slot t.lone k) m.from gs h)
+handed_fits m p o gs h = grind (arith, guests_stay, filled_fits, emptied_fits)
 
 either_are : (t : Bool) (gs hs : GuestsNow) → AreFitting gs → AreFitting hs → AreFitting (cond t gs hs)
-either_are true gs hs h k = h
-either_are false gs hs h k = k
+either_are t gs hs h k = grind arith
 
 call_fits : (w : WorldNow) (c : Call) → AreFitting w.guests → AreFitting (after_call w c).guests
 call_fits w (asks nothing) h = h
@@ -234,26 +196,19 @@ call_fits w (asks (bad who k)) h = h
 call_fits w (at_device n e) h = guests_stay OfLone (device_after e) (λ t k. device_fits t.lone e k) n w.guests h
 
 given_fits : (w : WorldNow) (g : Gift) (t : Bool) (o : Option Endpoint) → AreFitting w.guests → AreFitting (cond t w (given g o w)).guests
-given_fits w g true o h = h
-given_fits w g false None h = h
-given_fits w g false (Some d) h = guests_stay OfLone (with_slot_filled g.slot (Some g.path) d) (λ t k. filled_fits g.slot d t.lone k) g.to w.guests h
+given_fits w g t o h = grind (arith, guests_stay, filled_fits)
 
 taken_fits : (w : WorldNow) (name : Text) (n : ℕ) (t : Bool) → AreFitting w.guests → AreFitting (cond t w (taken name n w)).guests
-taken_fits w name n true h = h
-taken_fits w name n false h = guests_stay OfLone (with_slot_emptied n) (λ t k. emptied_fits n t.lone k) name w.guests h
+taken_fits w name n t h = grind (arith, guests_stay, emptied_fits)
 
 action_fits : (w : WorldNow) (a : Action) → AreFitting w.guests → AreFitting (after_action w a).guests
-action_fits w (calls c) h = call_fits w c h
-action_fits w (gives g) h = given_fits w g (is_some (give_fault w g)) (declared (board_at w.handoff.functions) g.path) h
-action_fits w (takes n k) h = taken_fits w n k (is_some (take_fault w n k)) h
+action_fits w a h = grind (arith, call_fits, given_fits, taken_fits)
 
 image_slots : (ss : List (Option SavedFunction)) (fs : Slots) → FitSlots ss fs → Each HoldsFitting (map (option_map restored) ss)
 image_slots [] fs h = tt
-image_slots (s ∷ ss) [] h = absurd h
 image_slots (None ∷ ss) (None ∷ fs) h = (tt, image_slots ss fs h.1)
-image_slots (None ∷ ss) (Some f ∷ fs) h = absurd h.0
-image_slots (Some s ∷ ss) (None ∷ fs) h = absurd h.0
 image_slots (Some s ∷ ss) (Some f ∷ fs) h = (restored_fits s h.0.values, image_slots ss fs h.1)
+image_slots ss fs h = grind arith
 
 image_fits : (i : Image) (g : LoneGuest) → Fits i g → IsFitting (lone_of_image i)
 image_fits i g h = record { latch = h.latch; functions = image_slots i.slots g.slots h.slots }
@@ -290,9 +245,8 @@ fitting_at_first w = first_fit w w.guests
 
 pub saved_slots : (fs gs : Slots) → Each HoldsFitting fs → map (option_map (λ (f : Function). f.decl)) fs ≡ map (option_map (λ (f : Function). f.decl)) gs → FitSlots (map (option_map saved) fs) gs
 saved_slots [] [] all same = tt
-saved_slots [] (g ∷ gs) all same = cc
-saved_slots (f ∷ fs) [] all same = cc
 saved_slots (f ∷ fs) (g ∷ gs) all same = grind (arith, saved_slots fs gs)
+saved_slots fs gs all same = cc
 
 pub saved_fits : SavedFits
 saved_fits w v from to h there same =

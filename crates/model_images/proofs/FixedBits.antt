@@ -1,7 +1,7 @@
 -- Bits that no access changes in a cell, after a write and after a raise.
 use Rattle.std.proofs.Common.{◌≡◌, inl, inr, ℕ, ◌+◌, ◌-◌, sym, ap, ◌∙◌, arith}
 use Rattle.std.specs.Prelude.{bit_and, bit_or}
-use Rattle.std.specs.Int.Bits.{and_self, and_zero_l, and_zero_r}
+use Rattle.std.specs.Int.Bits.{and_self, and_zero_r}
 use Rattle.std.proofs.lemmas.Bool.{cases_lt}
 use Rattle.std.proofs.lemmas.Nat.{and_assoc, and_comm, and_or_apart, and-not}
 use Rattle.model_registers.specs.Cell.{Cell, except, written, raised}
@@ -20,8 +20,7 @@ none_outside m = elim (cases_lt m 256) [
 
 -- two masks that share no bit with the rest of the others
 pub none_in : (p q r s : ℕ) → bit_and q s ≡ 0 → bit_and (bit_and p q) (bit_and r s) ≡ 0
-none_in p q r s none =
-    and_assoc (bit_and r s) p q ∙ ap (bit_and p) (ap (bit_and q) (and_comm r s) ∙ sym (and_assoc r q s) ∙ ap (λ n. bit_and n r) none ∙ and_zero_l r) ∙ and_zero_r p
+none_in p q r s none = grind (arith, and_assoc, and_comm)
 
 abbrev fixed : Cell → ℕ
 fixed c = bit_and (except c.writable) (except c.clearable)
@@ -45,6 +44,4 @@ written_fixed b c =
     ∙ ap (λ n. bit_and n (fixed c)) (fixed_is c c.value) ∙ and_assoc (fixed c) c.value (fixed c) ∙ ap (bit_and c.value) (and_self (fixed c)) ∙ sym (fixed_is c c.value)
 
 pub raised_fixed : (m : ℕ) (c : Cell) → fixed_bits c (raised m c).value ≡ fixed_bits c c.value
-raised_fixed m c =
-    let none = none_in m c.clearable (except c.writable) (except c.clearable) (none_outside c.clearable) in
-    fixed_is c (raised m c).value ∙ and_or_apart (fixed c) c.value (bit_and m c.clearable) none ∙ sym (fixed_is c c.value)
+raised_fixed m c = grind (arith, none_in, none_outside, fixed_is, and_or_apart)

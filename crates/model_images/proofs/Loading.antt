@@ -32,9 +32,8 @@ use Rattle.model_images.specs.LoadLaws.{KeepsWhatWasSaved, LoadedHolds, Restarte
 
 pub values_back : (f g : File) → shape_of f ≡ shape_of g → with_values (values_of f) g ≡ f
 values_back [] [] h = refl
-values_back [] (e ∷ es) h = cc
-values_back (e ∷ es) [] h = cc
 values_back (e ∷ es) (d ∷ ds) h = grind (arith, values_back es ds)
+values_back f g h = cc
 
 pub shape_with : (vs : List ℕ) (file : File) → shape_of (with_values vs file) ≡ shape_of file
 shape_with vs [] = refl
@@ -45,12 +44,10 @@ shape_with (v ∷ vs) (e ∷ es) = grind (arith, shape_with vs es)
 
 slots_back : (b : Board) (qs : List (Option Path)) (fs : Slots) → AreSeats b qs fs → map (option_map restored) (map (option_map saved) fs) ≡ fs
 slots_back b [] [] h = refl
-slots_back b [] (f ∷ fs) h = absurd h
-slots_back b (q ∷ qs) [] h = absurd h
 slots_back b (q ∷ qs) (None ∷ fs) h = ap (λ (x : Slots). None ∷ x) (slots_back b qs fs h.1)
-slots_back b (None ∷ qs) (Some f ∷ fs) h = absurd h.0
 slots_back b (Some p ∷ qs) (Some f ∷ fs) h =
     ap₂ (λ (x : File) (y : Slots). Some (record { decl = f.decl; file = x }) ∷ y) (values_back f.file (endpoint_reset f.decl false) h.0.shape) (slots_back b qs fs h.1)
+slots_back b qs fs h = grind arith
 
 pub lone_back : (b : Board) (t : GuestNow) → IsSeatedGuest b t → lone_of_image (image_of_lone t.lone) ≡ t.lone
 lone_back b t h = ap (λ (x : Slots). record { slots = x; latch = t.lone.latch }) (slots_back b t.paths t.lone.slots h.seats)
@@ -71,13 +68,11 @@ fitting_seats b (q ∷ qs) (s ∷ ss) (f ∷ fs) k h = (seat q s f k.0 h.0, fitt
   where
     seat : (q : Option Path) (s : Option SavedFunction) (f : Option Function) → FitsSlot s f → IsSeat b q f → IsSeat b q (option_map restored s)
     seat q None None k h = h
-    seat q None (Some f) k h = absurd k
-    seat q (Some s) None k h = absurd k
-    seat None (Some s) (Some f) k h = absurd h
     seat (Some p) (Some s) (Some f) k h = record {
       decl = h.decl ∙ ap (λ x. Some x) (sym k.decl);
       shape = shape_with s.values (endpoint_reset s.decl false);
     }
+    seat q s f k h = grind arith
 
 -- ---- one guest of a world
 
@@ -146,14 +141,7 @@ handoff_after_load w name i = refl
 -- ---- what fits
 
 pub seated_after_load : SeatedAfterLoad
-seated_after_load b w h name i fits = record {
-  names_apart = names_stay (loaded i) (λ t. refl) name w.guests h.names_apart;
-  guests = each_with (IsSeatedGuest b) (loaded i) name w.guests h.names_apart
-      (λ t at k. record { count = k.count; seats = fitting_seats b t.paths i.slots t.lone.slots (subst (λ (g : LoneGuest). FitSlots i.slots g.slots) (lone_found w.guests name t at) fits.slots) k.seats })
-      h.guests;
-  paths_apart = λ a c n m p x y.
-      h.paths_apart a c n m p (sym (paths_after_load w name i a n) ∙ x) (sym (paths_after_load w name i c m) ∙ y);
-}
+seated_after_load b w h name i fits = grind (arith, names_stay, each_with, fitting_seats, lone_found, paths_after_load)
 
 pub lawful_after_load : LawfulAfterLoad
 lawful_after_load w h name i fits = record {

@@ -2,7 +2,6 @@
 use Rattle.std.proofs.Common.{◌≡◌, ℕ, suc, Bool, true, false, ◌||◌, cond, List, [], ◌∷◌, ◌++◌, length, Some, None, Option, refl, sym, ap, ap₂, ◌∙◌, subst, arith}
 use Rattle.std.specs.Prelude.{map, option_map, is_some, IsFalse}
 use Rattle.std.specs.List.{list_any}
-use Rattle.std.specs.Option.{option_map_or}
 use Rattle.std.specs.Str.{bytes_eq}
 use Rattle.lists.specs.Elements.{Each, EachPair}
 use Rattle.lists.proofs.EachLemmas.{each_both, each_map, pairs_from_map}
@@ -13,7 +12,6 @@ use Rattle.model_board.specs.State.{BoardFunction, State}
 use Rattle.model_guests.specs.Slots.{Slots}
 use Rattle.model_guests.specs.Text.{Text}
 use Rattle.model_guests.specs.World.{declared}
-use Rattle.model_guests.specs.Lone.{reset_guest}
 use Rattle.model_guests.specs.Guests.{GuestNow, GuestsNow, guest_named, lone_of, path_in, with_guest}
 use Rattle.model_guests.specs.AgreedBoard.{agreed_function}
 use Rattle.model_guests.specs.Seated.{AreSeated, AreSeats, IsSeatedGuest}
@@ -47,9 +45,7 @@ no_files [] = refl
 no_files (f ∷ fs) = ap (λ (xs : List BoardFunction). f ∷ xs) (no_files fs)
 
 sits_alike : (s : State) (gs hs : GuestsNow) → ((p : Path) → sits gs p ≡ sits hs p) → with_seated_reset s gs ≡ with_seated_reset s hs
-sits_alike s gs hs same =
-    ap (λ (fs : List BoardFunction). record s { functions = fs })
-    (files_same (seated_files s hs) (seated_files s gs) (λ p. ap (λ v. cond v (option_map file_at_reset (declared (board_at s.functions) p)) None) (same p)) s.functions)
+sits_alike s gs hs same = grind (arith, files_same)
 
 nobody_seated : (s : State) (gs : GuestsNow) → ((p : Path) → sits gs p ≡ false) → with_seated_reset s gs ≡ s
 nobody_seated s gs none =
@@ -81,9 +77,8 @@ of_others P Q s (t ∷ ss) f apart h = (f t apart.0 h.0, of_others P Q s ss f ap
 
 paths_same : (qs rs : List (Option Path)) → length qs ≡ length rs → ((k : ℕ) → path_at qs k ≡ path_at rs k) → qs ≡ rs
 paths_same [] [] h same = refl
-paths_same [] (r ∷ rs) h same = cc
-paths_same (q ∷ qs) [] h same = cc
 paths_same (q ∷ qs) (r ∷ rs) h same = let first = same 0 in grind (arith, first, paths_same qs rs (omega arith) (λ k. same (suc k)))
+paths_same qs rs h same = cc
 
 -- of the guest at the front, and of others
 at_front : (g : GuestNow) (gs : GuestsNow) (name : Text) → g.name ≡ name → guest_named (g ∷ gs) name ≡ Some g
@@ -103,33 +98,21 @@ HasJust gs s = (k : ℕ) → path_in gs s.name k ≡ path_at s.paths k
 
 matched : (ss : List SavedGuest) (gs : GuestsNow) → names_in ss ≡ names_of gs → ApartSaved ss → Each Has32 gs → Each Has32Paths ss → Each (HasJust gs) ss → AreMatched ss gs
 matched [] [] same apart many each has = tt
-matched [] (g ∷ gs) same apart many each has = cc
-matched (s ∷ ss) [] same apart many each has = cc
-matched (s ∷ ss) (g ∷ gs) same apart many each has =
-    let first : g.name ≡ s.name = cc in
-    let rest : names_in ss ≡ names_of gs = cc in
-    let paths : g.paths ≡ s.paths =
-    paths_same g.paths s.paths (many.0 ∙ sym each.0) (λ k. sym (ap (λ (o : Option GuestNow). path_of o k) (at_front g gs s.name first)) ∙ has.0 k) in
-    let others = of_others (HasJust (g ∷ gs)) (HasJust gs) s ss
-    (λ t h has k. sym (ap (λ (o : Option GuestNow). path_of o k) (past_front g gs t.name (ap (λ (n : Text). bytes_eq n t.name) first ∙ h))) ∙ has k) apart.0 has.1 in
-    (first, paths, matched ss gs rest apart.1 many.1 each.1 others)
+matched (s ∷ ss) (g ∷ gs) same apart many each has = grind (arith, paths_same, at_front, of_others, past_front, matched ss gs)
+matched ss gs same apart many each has = cc
 
 -- the same paths sit
 matched_sit : (ss : List SavedGuest) (gs : GuestsNow) → AreMatched ss gs → (p : Path) → sits gs p ≡ sits (map restored_guest ss) p
 matched_sit [] [] h p = refl
-matched_sit [] (g ∷ gs) h p = absurd h
-matched_sit (s ∷ ss) [] h p = absurd h
 matched_sit (s ∷ ss) (g ∷ gs) h p = ap₂ ◌||◌ (ap (list_any (is_at p)) h.1) (matched_sit ss gs h.2 p)
+matched_sit ss gs h p = absurd h
 
 -- ---- what is loaded fits
 
 fit_slots : (b : Board) (qs : List (Option Path)) (fs : Slots) (ss : List (Option SavedFunction)) → AreSeats b qs fs → AreSeats b qs (map (option_map restored) ss) → Each HoldsFittingValues ss → FitSlots ss fs
 fit_slots b [] [] [] h k fits = tt
-fit_slots b [] (f ∷ fs) ss h k fits = absurd h
-fit_slots b [] [] (s ∷ ss) h k fits = absurd k
-fit_slots b (q ∷ qs) [] ss h k fits = absurd h
-fit_slots b (q ∷ qs) (f ∷ fs) [] h k fits = absurd k
 fit_slots b (q ∷ qs) (f ∷ fs) (s ∷ ss) h k fits = grind (arith, fit_slots b qs fs ss)
+fit_slots b qs fs ss h k fits = grind arith
 
 abbrev FitsOwn : GuestsNow → SavedGuest → Type 0
 FitsOwn gs s = Fits s.image (lone_of gs s.name)
@@ -137,24 +120,11 @@ FitsOwn gs s = Fits s.image (lone_of gs s.name)
 all_fit : (b : Board) (ss : List SavedGuest) (gs : GuestsNow) → AreMatched ss gs → ApartSaved ss → Each (IsSeatedGuest b) gs → Each (IsSeatedGuest b) (map restored_guest ss) → Each HoldsWhatFits ss → Each (FitsOwn gs) ss
 all_fit b [] gs h apart seated wanted held = tt
 all_fit b (s ∷ ss) [] h apart seated wanted held = absurd h
-all_fit b (s ∷ ss) (g ∷ gs) h apart seated wanted held = (
-  record {
-    latch = held.0.latch;
-    slots = subst (λ (l : Slots). FitSlots s.image.slots l) (sym (ap (λ l. l.slots) (lone_found (g ∷ gs) s.name g (at_front g gs s.name h.0))))
-        (fit_slots b s.paths g.lone.slots s.image.slots (subst (λ (qs : List (Option Path)). AreSeats b qs g.lone.slots) h.1 seated.0.seats) wanted.0.seats held.0.slots);
-  },
-  of_others (FitsOwn gs) (FitsOwn (g ∷ gs)) s ss (λ t k fit. subst (λ l. Fits t.image l) (sym (others g gs t (ap (λ (n : Text). bytes_eq n t.name) h.0 ∙ k))) fit) apart.0
-      (all_fit b ss gs h.2 apart.1 seated.1 wanted.1 held.1),
-)
-  where
-    others : (g : GuestNow) (gs : GuestsNow) (t : SavedGuest) → bytes_eq g.name t.name ≡ false → lone_of (g ∷ gs) t.name ≡ lone_of gs t.name
-    others g gs t other = ap (λ (o : Option GuestNow). option_map_or (λ (x : GuestNow). x.lone) o (reset_guest [])) (past_front g gs t.name other)
+all_fit b (s ∷ ss) (g ∷ gs) h apart seated wanted held = grind (arith, lone_found, at_front, fit_slots, of_others, past_front, all_fit b ss gs h.2 apart.1 seated.1 wanted.1 held.1)
 
 loads_fit : (ss : List SavedGuest) (x : WorldNow) → ApartSaved ss → Each (FitsOwn x.guests) ss → AreFittingRequests x (map load_of ss)
 loads_fit [] x apart fits = tt
-loads_fit (s ∷ ss) x apart fits =
-    let y : WorldNow = after_request x (load_of s) in
-    (fits.0, loads_fit ss y apart.1 (of_others (FitsOwn x.guests) (FitsOwn y.guests) s ss (λ t k fit. subst (λ l. Fits t.image l) (sym (others_after_load x s.name t.name s.image k)) fit) apart.0 fits.1))
+loads_fit (s ∷ ss) x apart fits = grind (arith, of_others, others_after_load, loads_fit ss)
 
 -- ---- all guests are loaded
 
@@ -169,32 +139,26 @@ loads_are (s ∷ ss) x = loads_are ss (after_request x (load_of s))
 -- a guest of another name stays
 past_loads : (ss : List SavedGuest) (g : GuestNow) (gs : GuestsNow) → Each (λ (s : SavedGuest). IsFalse (bytes_eq s.name g.name)) ss → loads_over ss (g ∷ gs) ≡ g ∷ loads_over ss gs
 past_loads [] g gs apart = refl
-past_loads (s ∷ ss) g gs apart =
-    ap (λ v. loads_over ss (cond v (loaded s.image g) g ∷ with_guest (loaded s.image) s.name gs)) apart.0
-    ∙ past_loads ss g (with_guest (loaded s.image) s.name gs) apart.1
+past_loads (s ∷ ss) g gs apart = grind (arith, past_loads ss g (with_guest (loaded s.image) s.name gs) apart.1)
 
 other_way : (ss : List SavedGuest) (s : SavedGuest) (g : GuestNow) → g.name ≡ s.name → Each (IsApart s) ss → Each (λ (t : SavedGuest). IsFalse (bytes_eq t.name g.name)) ss
-other_way ss s g same apart =
-    each_map (IsApart s) (λ (t : SavedGuest). IsFalse (bytes_eq t.name g.name)) ss
-    (λ t h. ap (bytes_eq t.name) same ∙ other_name s.name t.name h) apart
+other_way ss s g same apart = grind (arith, each_map, other_name)
 
 -- no guest of the rest has the name
 names_rest : (ss : List SavedGuest) (gs : GuestsNow) (s : SavedGuest) → AreMatched ss gs → Each (IsApart s) ss → Each (λ (v : GuestNow). IsFalse (bytes_eq s.name v.name)) gs
 names_rest [] [] s h apart = tt
-names_rest [] (g ∷ gs) s h apart = absurd h
-names_rest (t ∷ ss) [] s h apart = absurd h
 names_rest (t ∷ ss) (g ∷ gs) s h apart = (ap (bytes_eq s.name) h.0 ∙ apart.0, names_rest ss gs s h.2 apart.1)
+names_rest ss gs s h apart = absurd h
 
 all_loaded : (ss : List SavedGuest) (gs : GuestsNow) → AreMatched ss gs → ApartSaved ss → loads_over ss gs ≡ map restored_guest ss
 all_loaded [] [] h apart = refl
-all_loaded [] (g ∷ gs) h apart = absurd h
-all_loaded (s ∷ ss) [] h apart = absurd h
 all_loaded (s ∷ ss) (g ∷ gs) h apart =
     let here : bytes_eq s.name g.name ≡ true = ap (bytes_eq s.name) h.0 ∙ same_text s.name in
     let is : loaded s.image g ≡ restored_guest s = ap₂ (λ (n : Text) (qs : List (Option Path)). record { name = n; paths = qs; lone = lone_of_image s.image }) h.0 h.1 in
     ap₂ (λ (v : Bool) (ts : GuestsNow). loads_over ss (cond v (loaded s.image g) g ∷ ts)) here (others_stay (loaded s.image) s.name gs (names_rest ss gs s h.2 apart.0))
     ∙ past_loads ss (loaded s.image g) gs (other_way ss s (loaded s.image g) h.0 apart.0)
     ∙ ap₂ (λ (x : GuestNow) (xs : GuestsNow). x ∷ xs) is (all_loaded ss gs h.2 apart.1)
+all_loaded ss gs h apart = absurd h
 
 -- ---- what the guests are to come to
 
@@ -341,10 +305,7 @@ fitting_after_load_all i w h holds fits =
     subst (λ (v : WorldNow). AreFitting v.guests) reached.world (fitting_along w holds (requests_for i w) reached.fitting)
 
 pub savable_after_load_all : SavableAfterLoadAll
-savable_after_load_all i w h fits = record {
-  lawful = lawful_after_load_all i w h.lawful fits;
-  shown = (shown_after_load_all i w fits).shown;
-}
+savable_after_load_all i w h fits = grind (arith, lawful_after_load_all, shown_after_load_all)
 
 pub loads_all_on_machine : LoadsAllOnMachine
 loads_all_on_machine i m h fits = world_along (requests_for i m.world) m ∙ (is_reached i m.world h fits).world

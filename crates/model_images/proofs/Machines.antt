@@ -1,21 +1,19 @@
 -- Machines that are saved and loaded: what the definitions come to.
-use Rattle.std.proofs.Common.{◌≡◌, ℕ, Bool, true, false, cond, List, [], ◌∷◌, Some, None, Option, refl, sym, ap, ap₂, ◌∙◌, subst, arith}
+use Rattle.std.proofs.Common.{◌≡◌, ℕ, false, List, [], ◌∷◌, Some, None, Option, refl, sym, ap, ap₂, ◌∙◌, subst, arith}
 use Rattle.std.specs.Prelude.{map, option_map, IsTrue}
 use Rattle.lists.specs.Elements.{Each}
 use Rattle.lists.proofs.EachLemmas.{each_map}
 use Rattle.model_registers.specs.Registers.{File}
-use Rattle.model_registers.specs.Declarations.{Region, Endpoint}
+use Rattle.model_registers.specs.Declarations.{Region}
 use Rattle.model_registers.specs.CopiedFiles.{shape_of}
-use Rattle.model_registers.specs.Decoding.{opens_space, space_of}
 use Rattle.model_registers.specs.EndpointTable.{endpoint_reset}
 use Rattle.model_board.specs.Paths.{Path}
-use Rattle.model_board.specs.Board.{Decl, endpoint, bridge, Row, Board, IsBoard}
+use Rattle.model_board.specs.Board.{Row, Board, IsBoard}
 use Rattle.model_board.specs.Lawful.{HasLawfulDecls}
 use Rattle.model_board.specs.AtReset.{board_at}
 use Rattle.model_board.specs.State.{BoardFunction, State, row_at}
 use Rattle.model_guests.specs.Slots.{Slots}
 use Rattle.model_guests.specs.Text.{Text}
-use Rattle.model_guests.specs.World.{declared}
 use Rattle.model_guests.specs.Guests.{GuestsNow}
 use Rattle.model_guests.specs.AgreedBoard.{agreed_function, with_files}
 use Rattle.model_guests.specs.Lone.{LoneGuest}
@@ -24,17 +22,17 @@ use Rattle.model_guests.specs.WorldNow.{WorldNow, names_of}
 use Rattle.model_guests.proofs.AgreedChanges.{agreed_by}
 use Rattle.model_guests.proofs.Changes.{agreed_twice}
 use Rattle.model_guests.proofs.SlotPlaces.{IsFileOf}
-use Rattle.model_handoff.specs.Handoffs.{declared_cells, HasDeclaredShape, IsHandoff, file_at_reset}
+use Rattle.model_handoff.specs.Handoffs.{declared_cells, HasDeclaredShape, IsHandoff}
 use Rattle.model_handoff.specs.Kept.{IsLawfulOver}
 use Rattle.model_handoff.specs.Regions.{AreServed, opens_region}
-use Rattle.model_handoff.specs.ViewLaws.{sits, seated_files, with_seated_reset}
+use Rattle.model_handoff.specs.ViewLaws.{seated_files, with_seated_reset}
 use Rattle.model_handoff.proofs.Alike.{command_at, taken_lawful, taken_shown}
 use Rattle.model_handoff.proofs.Functions.{facts, path_stays}
 use Rattle.model_handoff.proofs.Keeping.{rows_stay}
 use Rattle.model_handoff.proofs.Shapes.{shapes_with}
 use Rattle.model_images.specs.Images.{SavedFunction, values_of, saved, with_values, restored}
 use Rattle.model_images.specs.FitLaws.{HoldsFitting, AreFitting}
-use Rattle.model_images.specs.MachineImages.{SavedHandoff, SavedGuest, MachineImage, saved_handoff, shown_handoff, IsShown, saved_guest, restored_guest, restored_guests, image_of_machine, handoff_under, after_load_all, HoldsFittingValues, HoldsWhatFits}
+use Rattle.model_images.specs.MachineImages.{SavedGuest, MachineImage, saved_handoff, shown_handoff, IsShown, saved_guest, restored_guest, restored_guests, image_of_machine, handoff_under, after_load_all, HoldsFittingValues, HoldsWhatFits}
 use Rattle.model_images.specs.MachineLaws.{IsSavableWorld, SavableAtFirst, AreAlike, ShownAlike, LoadAfterSave, SavesWhatWasLoaded, SavedMachineFits, ShownAfterLoadAll}
 use Rattle.model_images.proofs.Fitting.{values_with}
 use Rattle.model_images.proofs.Loading.{values_back, lone_back}
@@ -47,10 +45,7 @@ pub record OpensAlike (s t : State) : Type 0 where
   pub opens : (p : Path) (r : Region) → opens_region s p r ≡ opens_region t p r
 
 pub opens_alike : (files : Path → Option File) (s : State) → OpensAlike (with_files files s) s
-opens_alike files s = record {
-  board = rows_stay files s.functions;
-  opens = λ p r. ap (λ n. opens_space n (space_of r.kind)) (command_at files s.functions p);
-}
+opens_alike files s = grind (arith, rows_stay, command_at)
 
 -- two states that are the same with files in them
 pub alike_beneath : (one other : Path → Option File) (s t : State) → with_files one s ≡ with_files other t → OpensAlike s t
@@ -63,12 +58,10 @@ alike_beneath one other s t same =
     }
 
 each_open : (s t : State) → OpensAlike s t → (p : Path) (rs : List Region) → Each (λ (r : Region). IsTrue (opens_region s p r)) rs → Each (λ (r : Region). IsTrue (opens_region t p r)) rs
-each_open s t alike p rs h =
-    each_map (λ (r : Region). IsTrue (opens_region s p r)) (λ (r : Region). IsTrue (opens_region t p r)) rs (λ r k. sym (alike.opens p r) ∙ k) h
+each_open s t alike p rs h = grind (arith, each_map)
 
 pub served_alike : (s t : State) → OpensAlike s t → (gs : GuestsNow) → AreServed s gs → AreServed t gs
-served_alike s t alike gs served name n p at d declares =
-    each_open s t alike p d.regions (served name n p at d (ap (λ (b : Board). declared b p) alike.board ∙ declares))
+served_alike s t alike gs served name n p at d declares = grind (arith, each_open)
 
 -- ---- the same files, put in twice
 
@@ -83,9 +76,7 @@ functions_twice files (f ∷ fs) =
     (functions_twice files fs)
 
 pub reset_twice : (s : State) (gs : GuestsNow) → with_seated_reset (with_seated_reset s gs) gs ≡ with_seated_reset s gs
-reset_twice s gs =
-    ap (λ (b : Board). with_files (λ p. cond (sits gs p) (option_map file_at_reset (declared b p)) None) (with_seated_reset s gs)) (rows_stay (seated_files s gs) s.functions)
-    ∙ ap (λ (fs : List BoardFunction). record s { functions = fs }) (functions_twice (seated_files s gs) s.functions)
+reset_twice s gs = grind (arith, rows_stay, functions_twice)
 
 -- ---- guests that are saved, and restored
 
@@ -98,9 +89,7 @@ slots_saved (Some s ∷ ss) h =
 
 guests_saved : (ss : List SavedGuest) → Each HoldsWhatFits ss → map saved_guest (map restored_guest ss) ≡ ss
 guests_saved [] h = refl
-guests_saved (s ∷ ss) h =
-    ap₂ (λ (xs : List (Option SavedFunction)) (ts : List SavedGuest). record { name = s.name; paths = s.paths; image = record { latch = s.image.latch; slots = xs } } ∷ ts)
-    (slots_saved s.image.slots h.0.slots) (guests_saved ss h.1)
+guests_saved (s ∷ ss) h = grind (arith, slots_saved, guests_saved ss h.1)
 
 guests_back : (b : Board) (gs : GuestsNow) → Each (IsSeatedGuest b) gs → map restored_guest (map saved_guest gs) ≡ gs
 guests_back b [] h = refl
@@ -109,12 +98,7 @@ guests_back b (g ∷ gs) h = ap₂ (λ (x : LoneGuest) (xs : GuestsNow). record 
 -- ---- states whose cells are as declared, but for what they hold
 
 reset_told : (s : State) (gs : GuestsNow) (p : Path) (own : File) → seated_files s gs p ≡ Some own → IsFileOf shape_of (board_at s.functions) p own
-reset_told s gs p own e = of (sits gs p) (declared (board_at s.functions) p) refl e
-  where
-    of : (t : Bool) (o : Option Endpoint) → declared (board_at s.functions) p ≡ o → cond t (option_map file_at_reset o) None ≡ Some own → IsFileOf shape_of (board_at s.functions) p own
-    of false o d e = cc
-    of true None d e = cc
-    of true (Some x) d e = let same : endpoint_reset x false ≡ own = cc in record { decl = x; declares = d; same = ap shape_of (sym same) }
+reset_told s gs p own e = grind arith
 
 pub handoff_stays : (s : State) → IsHandoff s → (gs : GuestsNow) → IsHandoff (with_seated_reset s gs)
 handoff_stays s h gs =
@@ -126,8 +110,6 @@ handoff_stays s h gs =
 
 functions_as_saved : (fs gs : List BoardFunction) → Each HasDeclaredShape fs → Each HasDeclaredShape gs → board_at fs ≡ board_at gs → map (λ f. values_of f.file) fs ≡ map (λ f. values_of f.file) gs → fs ≡ gs
 functions_as_saved [] [] h k rows values = refl
-functions_as_saved [] (g ∷ gs) h k rows values = cc
-functions_as_saved (f ∷ fs) [] h k rows values = cc
 functions_as_saved (f ∷ fs) (g ∷ gs) h k rows values =
     let row : row_at f ≡ row_at g = cc in
     let its : values_of f.file ≡ values_of g.file = cc in
@@ -135,12 +117,11 @@ functions_as_saved (f ∷ fs) (g ∷ gs) h k rows values =
     sym (values_back f.file (declared_cells f.decl) h.0) ∙ ap₂ (λ (vs : List ℕ) (r : Row). with_values vs (declared_cells r.decl)) its row ∙ values_back g.file (declared_cells g.decl) k.0 in
     ap₂ (λ (x : BoardFunction) (xs : List BoardFunction). x ∷ xs) (ap₂ (λ (r : Row) (x : File). record { path = r.path; decl = r.decl; file = x }) row file)
     (functions_as_saved fs gs h.1 k.1 (cc) (cc))
+functions_as_saved fs gs h k rows values = cc
 
 -- what is saved of such a state is all of it
 as_saved : (s t : State) → Each HasDeclaredShape s.functions → Each HasDeclaredShape t.functions → saved_handoff s ≡ saved_handoff t → s ≡ t
-as_saved s t h k same =
-    ap₂ (λ (fs : List BoardFunction) (n : ℕ). record { functions = fs; latch = n })
-    (functions_as_saved s.functions t.functions h k (ap (λ (x : SavedHandoff). x.board) same) (ap (λ (x : SavedHandoff). x.values) same)) (ap (λ (x : SavedHandoff). x.latch) same)
+as_saved s t h k same = grind (arith, functions_as_saved)
 
 -- ---- laws
 
@@ -151,20 +132,13 @@ saved_guests_back : (w : WorldNow) → IsLawfulOver w → restored_guests (image
 saved_guests_back w h = guests_back (board_at w.handoff.functions) w.guests h.seated.guests
 
 handoff_alike : (w v : WorldNow) → IsSavableWorld w → IsSavableWorld v → AreAlike w v → handoff_under (image_of_machine w) v ≡ w.handoff
-handoff_alike w v h k like =
-    let gs = restored_guests (image_of_machine w) in
-    let under = handoff_stays (shown_handoff v) (handoff_stays v.handoff k.lawful.handoff v.guests) gs in
-    as_saved (handoff_under (image_of_machine w) v) w.handoff under.shapes h.lawful.handoff.shapes (like.handoff ∙ ap saved_handoff h.shown)
+handoff_alike w v h k like = grind (arith, handoff_stays, as_saved)
 
 pub shown_alike : ShownAlike
-shown_alike w v h same names = record {
-  handoff = ap saved_handoff (ap₂ with_seated_reset same (saved_guests_back w h) ∙ reset_twice w.handoff w.guests);
-  names = names;
-}
+shown_alike w v h same names = grind (arith, saved_guests_back, reset_twice)
 
 pub load_after_save : LoadAfterSave
-load_after_save w v h k like =
-    ap₂ (λ (s : State) (gs : GuestsNow). record { handoff = s; guests = gs }) (handoff_alike w v h k like) (saved_guests_back w h.lawful)
+load_after_save w v h k like = grind (arith, handoff_alike, saved_guests_back)
 
 shown_twice : (i : MachineImage) (w : WorldNow) → IsShown (after_load_all i w)
 shown_twice i w = reset_twice (shown_handoff w) (restored_guests i)
@@ -173,9 +147,7 @@ pub shown_after_load_all : ShownAfterLoadAll
 shown_after_load_all i w fits = record { is_handoff = fits.handoff; shown = shown_twice i w }
 
 pub saves_what_was_loaded : SavesWhatWasLoaded
-saves_what_was_loaded i w fits =
-    ap₂ (λ (s : SavedHandoff) (ss : List SavedGuest). record { handoff = s; guests = ss }) (ap saved_handoff (shown_twice i w) ∙ fits.handoff)
-    (guests_saved i.guests fits.held)
+saves_what_was_loaded i w fits = grind (arith, shown_twice, guests_saved)
 
 -- ---- what was saved fits
 

@@ -1,5 +1,5 @@
 -- What a guest is told by requests, and holds after them, is that of its own.
-use Rattle.std.proofs.Common.{◌≡◌, Bool, true, false, cond, List, [], ◌∷◌, ◌++◌, refl, sym, ap, ◌∙◌, append_assoc, append-nil, arith}
+use Rattle.std.proofs.Common.{◌≡◌, Bool, cond, List, [], ◌∷◌, ◌++◌, refl, sym, ap, ◌∙◌, append-nil, arith}
 use Rattle.std.specs.Prelude.{map, IsSome}
 use Rattle.std.specs.Str.{bytes_eq}
 use Rattle.model_guests.specs.Accesses.{Reply}
@@ -7,7 +7,7 @@ use Rattle.model_guests.specs.Text.{Text}
 use Rattle.model_guests.specs.Lone.{LoneGuest}
 use Rattle.model_guests.specs.Guests.{guest_named, lone_of}
 use Rattle.model_guests.specs.WorldNow.{WorldNow}
-use Rattle.model_guests.specs.Calls.{CallInput, alone_told, all_alone_told, after_own_call, after_own_calls}
+use Rattle.model_guests.specs.Calls.{CallInput, all_alone_told, after_own_call, after_own_calls}
 use Rattle.model_guests.proofs.Names.{equal_texts}
 use Rattle.model_guests.proofs.OneGuest.{lone_by, still}
 use Rattle.model_handoff.specs.Actions.{Action, after_action, told_by, inputs_of_action}
@@ -20,9 +20,7 @@ use Rattle.model_images.proofs.Loading.{holds_as_saved, lone_reset_back}
 -- ---- a guest that is there stays there
 
 pub there_now : (w : WorldNow) (name : Text) → IsSome (guest_named w.guests name) → (r : Request) → IsSome (guest_named (after_request w r).guests name)
-there_now w name there (acts a) = there_after w name there a
-there_now w name there (loads n i) = still (loaded i) (λ t. refl) n name w.guests there
-there_now w name there (restarts n) = still (loaded (image_of_lone (at_reset (lone_of w.guests n)))) (λ t. refl) n name w.guests there
+there_now w name there r = grind (arith, there_after, still)
 
 -- ---- what is a guest's own of actions
 
@@ -32,9 +30,7 @@ acted_holds (i ∷ is) g more = acted_holds is (after_own_call g i) more
 
 acted_tells : (is : List CallInput) (g : LoneGuest) (more : List OwnInput) → all_told_alone g (map acted is ++ more) ≡ all_alone_told g is ++ all_told_alone (after_own_calls g is) more
 acted_tells [] g more = refl
-acted_tells (i ∷ is) g more =
-    ap (λ (rs : List Reply). alone_told g i ++ rs) (acted_tells is (after_own_call g i) more)
-    ∙ sym (append_assoc (alone_told g i) (all_alone_told (after_own_call g i) is) (all_told_alone (after_own_calls (after_own_call g i) is) more))
+acted_tells (i ∷ is) g more = grind (arith, acted_tells is (after_own_call g i) more)
 
 -- ---- one request
 
@@ -65,8 +61,7 @@ restarted_now : (w : WorldNow) (n name : Text) → IsSome (guest_named w.guests 
 restarted_now w n name there = loaded_now w n name (image_of_lone (at_reset (lone_of w.guests n))) there ∙ by (bytes_eq n name) refl
   where
     by : (t : Bool) → bytes_eq n name ≡ t → cond t (lone_of_image (image_of_lone (at_reset (lone_of w.guests n)))) (lone_of w.guests name) ≡ cond t (at_reset (lone_of w.guests name)) (lone_of w.guests name)
-    by false e = refl
-    by true e = lone_reset_back (lone_of w.guests n) ∙ ap (λ (x : Text). at_reset (lone_of w.guests x)) (equal_texts n name e)
+    by t e = grind (arith, lone_reset_back, equal_texts)
 
 restart_decides : (w : WorldNow) (name : Text) → IsSome (guest_named w.guests name) → (n : Text) (more : List OwnInput) → Decides w name (restarts n) more
 restart_decides w name there n more = record {
@@ -78,12 +73,10 @@ restart_decides w name there n more = record {
     now = restarted_now w n name there
 
     by : (t : Bool) → after_all_own (lone_of w.guests name) (cond t (restarted ∷ []) [] ++ more) ≡ after_all_own (cond t (at_reset (lone_of w.guests name)) (lone_of w.guests name)) more
-    by true = refl
-    by false = refl
+    by t = grind arith
 
     told : (t : Bool) → all_told_alone (lone_of w.guests name) (cond t (restarted ∷ []) [] ++ more) ≡ all_told_alone (cond t (at_reset (lone_of w.guests name)) (lone_of w.guests name)) more
-    told true = refl
-    told false = refl
+    told t = grind arith
 
 decides : (w : WorldNow) (name : Text) → IsSome (guest_named w.guests name) → (r : Request) (more : List OwnInput) → Decides w name r more
 decides w name there (acts a) more = action_decides w name there a more
@@ -94,8 +87,7 @@ decides w name there (restarts n) more = restart_decides w name there n more
 
 all_hold : (rs : List Request) (w : WorldNow) (name : Text) → IsSome (guest_named w.guests name) → lone_of (after_requests w rs).guests name ≡ after_all_own (lone_of w.guests name) (request_inputs name w rs)
 all_hold [] w name there = refl
-all_hold (r ∷ rs) w name there =
-    all_hold rs (after_request w r) name (there_now w name there r) ∙ sym (decides w name there r (request_inputs name (after_request w r) rs)).holds
+all_hold (r ∷ rs) w name there = grind (arith, there_now, decides, all_hold rs (after_request w r) name (there_now w name there r))
 
 all_tell : (rs : List Request) (w : WorldNow) (name : Text) → IsSome (guest_named w.guests name) → all_told_of name w rs ≡ all_told_alone (lone_of w.guests name) (request_inputs name w rs)
 all_tell [] w name there = refl

@@ -1,11 +1,11 @@
 -- Runs of bytes over a file: each run changes its own segment, and leaves what stands elsewhere.
-use Rattle.std.proofs.Common.{◌≡◌, ℕ, zero, suc, ◌<◌, ◌≤◌, Bool, true, ◌&&◌, cond, List, [], ◌∷◌, ◌++◌, length, refl, sym, ap, ap₂, ◌∙◌, subst, arith}
+use Rattle.std.proofs.Common.{◌≡◌, ℕ, zero, suc, ◌<◌, ◌≤◌, true, List, [], ◌∷◌, ◌++◌, length, refl, sym, ap, ◌∙◌, subst, arith}
 use Rattle.std.specs.Prelude.{take, drop, flat_map}
 use Rattle.lists.specs.Elements.{Each, EachPair}
 use Rattle.lists.proofs.EachLemmas.{each_parts}
 use Rattle.lists.proofs.Tests.{left_true, right_true}
 use Rattle.model_registers.specs.Cell.{Cell}
-use Rattle.model_registers.specs.Registers.{Place, place_eq, after, PlacedCell, File, changed}
+use Rattle.model_registers.specs.Registers.{Place, after, PlacedCell, File, changed}
 use Rattle.model_registers.specs.DeviceBytes.{with_value}
 use Rattle.model_registers.specs.CopiedFiles.{places_of}
 use Rattle.model_registers.proofs.RegisterFiles.{place_turned, self}
@@ -33,9 +33,7 @@ entry_stays : (g : ℕ → Cell → Cell) (vs : List ℕ) (p : Place) (n : ℕ) 
     → changing g vs p (e ∷ es) ≡ e ∷ changing g vs p es
 entry_stays g [] p n e es more apart = refl
 entry_stays g (v ∷ vs) p zero e es more apart = absurd (omega (arith, more))
-entry_stays g (v ∷ vs) p (suc n) e es more apart =
-    ap (λ (t : Bool). changing g vs (after p) (cond t (record e { cell = g v e.cell }) e ∷ changed (g v) p es)) apart.0
-    ∙ entry_stays g vs (after p) n e (changed (g v) p es) (omega arith) apart.1
+entry_stays g (v ∷ vs) p (suc n) e es more apart = grind (arith, entry_stays g vs (after p) n e (changed (g v) p es))
 
 prefix_stays : (g : ℕ → Cell → Cell) (vs : List ℕ) (p : Place) (n : ℕ) (es file : File) → length vs ≤ n → FileApart es (from p n) → changing g vs p (es ++ file) ≡ es ++ changing g vs p file
 prefix_stays g vs p n [] file more apart = refl
@@ -45,18 +43,10 @@ prefix_stays g vs p n (e ∷ es) file more apart = entry_stays g vs p n e (es ++
 
 change_none : (f : Cell → Cell) (p : Place) (es : File) → ApartFrom (places_of es) p → changed f p es ≡ es
 change_none f p [] apart = refl
-change_none f p (e ∷ es) apart =
-    ap₂ (λ (t : Bool) (x : File). cond t (record e { cell = f e.cell }) e ∷ x) (place_turned e.place p ∙ apart.0) (change_none f p es apart.1)
+change_none f p (e ∷ es) apart = grind (arith, place_turned, change_none f p es apart.1)
 
 change_first : (f : Cell → Cell) (p : Place) (e : PlacedCell) (es : File) → e.place ≡ p → ApartFrom (places_of es) e.place → changed f p (e ∷ es) ≡ record e { cell = f e.cell } ∷ es
-change_first f p e es at apart =
-    ap₂ (λ (t : Bool) (x : File). cond t (record e { cell = f e.cell }) e ∷ x) (same e.place p at) (change_none f p es (subst (ApartFrom (places_of es)) at apart))
-  where
-    same_place : (q : Place) → place_eq q q ≡ true
-    same_place q = grind (arith, self)
-
-    same : (q p : Place) → q ≡ p → place_eq q p ≡ true
-    same q p h = subst (λ r. place_eq q r ≡ true) h (same_place q)
+change_first f p e es at apart = grind (arith, change_none, self)
 
 places_append : (es file : File) → places_of (es ++ file) ≡ places_of es ++ places_of file
 places_append [] file = refl
@@ -65,8 +55,6 @@ places_append (e ∷ es) file = ap (λ (ps : List Place). e.place ∷ ps) (place
 segment_changes : (way : Way) (vs : List ℕ) (p : Place) (es file : File) → places_of es ≡ from p (length vs) → Each (Settles way) es → EachPair Apart (places_of (es ++ file)) → fit_cells es vs ≡ true → AreBytes vs
     → changing (becomes way) vs p (es ++ file) ≡ with_values vs es ++ file
 segment_changes way [] p [] file at settles apart fits low = refl
-segment_changes way (v ∷ vs) p [] file at settles apart fits low = cc
-segment_changes way [] p (e ∷ es) file at settles apart fits low = cc
 segment_changes way (v ∷ vs) p (e ∷ es) file at settles apart fits low =
     let here : e.place ≡ p = cc in
     let more : places_of es ≡ from (after p) (length vs) = cc in
@@ -78,14 +66,12 @@ segment_changes way (v ∷ vs) p (e ∷ es) file at settles apart fits low =
     ∙ ap (λ (c : Cell). changing (becomes way) vs (after p) (record e { cell = c } ∷ (es ++ file))) (settles.0 v low.0 holds)
     ∙ entry_stays (becomes way) vs (after p) (length vs) (record e { cell = with_value v e.cell }) (es ++ file) (omega arith) alone
     ∙ ap (λ (x : File). record e { cell = with_value v e.cell } ∷ x) (segment_changes way vs (after p) es file more settles.1 apart.1 rest low.1)
+segment_changes way vs p es file at settles apart fits low = cc
 
 segment_keeps : (vs : List ℕ) (es : File) → Each (Settles keeps) es → fit_cells es vs ≡ true → AreBytes vs → es ≡ with_values vs es
 segment_keeps [] [] settles fits low = refl
-segment_keeps (v ∷ vs) [] settles fits low = cc
-segment_keeps [] (e ∷ es) settles fits low = cc
-segment_keeps (v ∷ vs) (e ∷ es) settles fits low =
-    ap₂ (λ (c : Cell) (x : File). record e { cell = c } ∷ x) (settles.0 v low.0 (left_true (can_hold e v) (fit_cells es vs) fits))
-    (segment_keeps vs es settles.1 (right_true (can_hold e v) (fit_cells es vs) fits) low.1)
+segment_keeps (v ∷ vs) (e ∷ es) settles fits low = grind (arith, left_true, right_true, segment_keeps vs es settles.1 (right_true (can_hold e v) (fit_cells es vs) fits) low.1)
+segment_keeps vs es settles fits low = cc
 
 -- ---- by each way
 
@@ -125,9 +111,8 @@ segment_steps [] vs file = file
 segment_steps (s ∷ ss) vs file = segment_steps ss (drop s.count vs) (way_run s.way (take s.count vs) s.first file)
 
 take_length : (n : ℕ) (vs : List ℕ) → length (take n vs) ≤ n
-take_length zero vs = omega arith
-take_length (suc n) [] = omega arith
 take_length (suc n) (v ∷ vs) = omega (arith, take_length n vs)
+take_length n vs = omega arith
 
 -- before the segments
 steps_stay : (ss : List Segment) (vs : List ℕ) (es file : File) → Each IsSegment ss → FileApart es (places_of (cells_of ss)) → segment_steps ss vs (es ++ file) ≡ es ++ segment_steps ss vs file
@@ -154,21 +139,8 @@ record IsSplit (es file : File) (n : ℕ) (vs : List ℕ) : Type 0 where
 
 split : (p : Place) (n : ℕ) (es file : File) (vs : List ℕ) → places_of es ≡ from p n → fit_cells (es ++ file) vs ≡ true → AreBytes vs → IsSplit es file n vs
 split p zero [] file vs at fits low = record { count = refl; fits = refl; fits_rest = fits; low = tt; low_rest = low; values = refl }
-split p (suc n) [] file vs at fits low = cc
-split p zero (e ∷ es) file vs at fits low = cc
-split p (suc n) (e ∷ es) file [] at fits low = cc
-split p (suc n) (e ∷ es) file (v ∷ vs) at fits low =
-    let more : places_of es ≡ from (after p) n = cc in
-    let holds : can_hold e v ≡ true = left_true (can_hold e v) (fit_cells (es ++ file) vs) fits in
-    let rest = split (after p) n es file vs more (right_true (can_hold e v) (fit_cells (es ++ file) vs) fits) low.1 in
-    record {
-      count = ap (λ k. suc k) rest.count;
-      fits = ap₂ (λ (a b : Bool). a && b) holds rest.fits;
-      fits_rest = rest.fits_rest;
-      low = (low.0, rest.low);
-      low_rest = rest.low_rest;
-      values = ap (λ (x : File). record e { cell = with_value v e.cell } ∷ x) rest.values;
-    }
+split p (suc n) (e ∷ es) file (v ∷ vs) at fits low = grind (arith, left_true, right_true, split (after p) n es file vs)
+split p n es file vs at fits low = cc
 
 -- values change no place
 places_with : (vs : List ℕ) (es : File) → places_of (with_values vs es) ≡ places_of es

@@ -1,5 +1,5 @@
 -- Cells that come to a value that they can hold: as they stand, as it is written, or as it is put.
-use Rattle.std.proofs.Common.{◌≡◌, ℕ, zero, suc, ◌+◌, ◌-◌, ◌/◌, ◌%◌, ◌<◌, ◌≤◌, Bool, true, false, ◌||◌, eqb, List, [], ◌∷◌, sym, ap, ap₂, ◌∙◌, arith}
+use Rattle.std.proofs.Common.{◌≡◌, ℕ, zero, suc, ◌+◌, ◌-◌, ◌/◌, ◌%◌, ◌<◌, ◌≤◌, true, false, List, [], ◌∷◌, sym, ap, ap₂, ◌∙◌, arith}
 use Rattle.std.specs.Prelude.{bit_and, bit_or}
 use Rattle.std.specs.Int.Bits.{or_zero_r, and_zero_r, and_zero_l, and_le_l}
 use Rattle.std.proofs.Math.Nat.{mod-eq_of_lt}
@@ -57,36 +57,15 @@ written_value x w v low mask same =
 
 -- away from a device's bytes the fixed bits are those that stand
 fixed_same : (e : PlacedCell) (v : ℕ) → is_device_byte e.place ≡ false → can_hold e v ≡ true → fixed_bits e.cell v ≡ fixed_bits e.cell e.cell.value
-fixed_same e v none holds =
-    let same : Bool = eqb (fixed_bits e.cell v) (fixed_bits e.cell e.cell.value) in
-    eqb-true (fixed_bits e.cell v) (fixed_bits e.cell e.cell.value) (sym (ap (λ t. t || same) none) ∙ holds)
+fixed_same e v none holds = grind (arith, eqb-true)
 
 pub kept_field : (a n x : ℕ) → AreNoDeviceBytes (config a) n → Each (Settles keeps) (field (config a) n x 0 0)
 kept_field a zero x none = tt
-kept_field a (suc n) x none = (here, kept_field (a + 1) n (x / 256) none.1)
-  where
-    cell : Cell
-    cell = record { value = x % 256; writable = 0; clearable = 0 }
-
-    twice : (v : ℕ) → v < 256 → fixed_bits cell v ≡ v
-    twice v low = ap (λ t. bit_and t 255) (in_byte v low) ∙ in_byte v low
-
-    here : Settles keeps (record { place = config a; cell = cell })
-    here v low holds =
-        let is : fixed_bits cell v ≡ fixed_bits cell (x % 256) = fixed_same (record { place = config a; cell = cell }) v none.0 holds in
-        ap (λ t. with_value t cell) (sym (twice (x % 256) (omega arith)) ∙ sym is ∙ twice v low)
+kept_field a (suc n) x none = grind (arith, in_byte, fixed_same, kept_field (a + 1) n (x / 256) none.1)
 
 pub written_field : (a n x w : ℕ) → AreNoDeviceBytes (config a) n → Each (Settles writes) (field (config a) n x w 0)
 written_field a zero x w none = tt
-written_field a (suc n) x w none = (here, written_field (a + 1) n (x / 256) (w / 256) none.1)
-  where
-    cell : Cell
-    cell = record { value = x % 256; writable = w % 256; clearable = 0 }
-
-    here : Settles writes (record { place = config a; cell = cell })
-    here v low holds =
-        let is : fixed_bits cell v ≡ fixed_bits cell (x % 256) = fixed_same (record { place = config a; cell = cell }) v none.0 holds in
-        ap (λ t. written t cell) (mod-eq_of_lt low) ∙ ap (λ t. with_value t cell) (written_value (x % 256) (w % 256) v low (omega arith) is)
+written_field a (suc n) x w none = grind (arith, fixed_same, mod-eq_of_lt, written_value, written_field (a + 1) n (x / 256) (w / 256) none.1)
 
 pub put_cells : (file : File) → Each (Settles puts) file
 put_cells [] = tt
@@ -96,7 +75,4 @@ put_cells (e ∷ es) = (λ v low holds. ap (λ t. with_value t e.cell) (mod-eq_o
 
 pub no_device_bytes : (a n : ℕ) → 8 ≤ a → a + n ≤ 0x40 → AreNoDeviceBytes (config a) n
 no_device_bytes a zero low high = tt
-no_device_bytes a (suc n) low high = (here a low (omega arith), no_device_bytes (a + 1) n (omega arith) (omega arith))
-  where
-    here : (b : ℕ) → 8 ≤ b → b < 0x40 → is_device_byte (config b) ≡ false
-    here b low high = grind (arith, nat_tests)
+no_device_bytes a (suc n) low high = grind (arith, nat_tests, no_device_bytes (a + 1) n)

@@ -1,5 +1,5 @@
 -- The steps by which a function is loaded, as segments of its file.
-use Rattle.std.proofs.Common.{◌≡◌, ℕ, zero, suc, ◌+◌, ◌*◌, ◌≤◌, List, [], ◌∷◌, ◌++◌, length, refl, sym, ap, ◌∙◌, subst, arith}
+use Rattle.std.proofs.Common.{◌≡◌, ℕ, zero, suc, ◌≤◌, List, [], ◌∷◌, ◌++◌, length, refl, sym, ap, ◌∙◌, subst, arith}
 use Rattle.std.specs.Prelude.{take, drop, flat_map, true, false}
 use Rattle.std.proofs.lemmas.List.{append_assoc, drop-drop}
 use Rattle.lists.specs.Elements.{Each, EachPair}
@@ -67,27 +67,17 @@ segments d = header_segments d (block_segments d.blocks (region_segments d.regio
 
 regions_are : (rs : List Region) → cells_of (region_segments rs) ≡ flat_map (region_cells (λ r. 0)) rs
 regions_are [] = refl
-regions_are (r ∷ rs) =
-    let base : File = base_cells r.index r.kind r.size 0 in
-    let bytes : File = cells_from (block r.index 0) r.cells in
-    ap (λ (x : File). base ++ (bytes ++ x)) (regions_are rs) ∙ sym (append_assoc base bytes (flat_map (region_cells (λ r. 0)) rs))
+regions_are (r ∷ rs) = grind (arith, append_assoc, regions_are rs)
 
 blocks_are : (bs : List ConfigBlock) (more : List Segment) → cells_of (block_segments bs more) ≡ flat_map block_cells bs ++ cells_of more
 blocks_are [] more = refl
-blocks_are (b ∷ bs) more =
-    ap (λ (x : File). block_cells b ++ x) (blocks_are bs more) ∙ sym (append_assoc (block_cells b) (flat_map block_cells bs) (cells_of more))
+blocks_are (b ∷ bs) more = grind (arith, append_assoc, blocks_are bs more)
 
 header_is : (d : Endpoint) (more : List Segment) → cells_of (header_segments d more) ≡ header_cells d false 0 ++ cells_of more
 header_is d more = refl
 
 cells_are : (d : Endpoint) → cells_of (segments d) ≡ endpoint_reset d false
-cells_are d =
-    let header : File = header_cells d false 0 in
-    let blocks : File = flat_map block_cells d.blocks in
-    let regions : File = flat_map (region_cells (λ r. 0)) d.regions in
-    header_is d (block_segments d.blocks (region_segments d.regions))
-    ∙ ap (λ (x : File). header ++ x) (blocks_are d.blocks (region_segments d.regions) ∙ ap (λ (x : File). blocks ++ x) (regions_are d.regions))
-    ∙ sym (append_assoc header blocks regions)
+cells_are d = grind (arith, header_is, blocks_are, regions_are, append_assoc)
 
 -- ---- each is a segment
 
@@ -109,10 +99,7 @@ block_is : (b : ConfigBlock) → IsSegment (block_segment b)
 block_is b = record { places = cells_places (config b.offset) b.cells; settles = put_cells (block_cells b) }
 
 base_is : (r : Region) → IsLawfulRegion r → IsSegment (base_segment r)
-base_is r lawful = record {
-  places = field_places (base_register r.index) (base_size r) _ _ 0;
-  settles = written_field (0x10 + 4 * r.index) (base_size r) _ _ (no_device_bytes (0x10 + 4 * r.index) (base_size r) (omega arith) (omega (arith, lawful.registers)));
-}
+base_is r lawful = grind (arith, field_places, written_field, no_device_bytes)
 
 bytes_is : (r : Region) → IsSegment (bytes_segment r)
 bytes_is r = record { places = cells_places (block r.index 0) r.cells; settles = put_cells (cells_from (block r.index 0) r.cells) }
@@ -150,16 +137,12 @@ header_settles d more are = first_settle d (class_segments d (last_segments d mo
 
 region_steps_are : (rs : List Region) (vs : List ℕ) (file : File) → segment_steps (region_segments rs) vs file ≡ regions_steps rs vs file
 region_steps_are [] vs file = refl
-region_steps_are (r ∷ rs) vs file =
-    region_steps_are rs (drop (length r.cells) (drop (base_size r) vs)) (region_steps r vs file)
-    ∙ ap (λ (x : List ℕ). regions_steps rs x (region_steps r vs file)) (drop-drop (length r.cells) (base_size r) vs)
+region_steps_are (r ∷ rs) vs file = grind (arith, drop-drop, region_steps_are rs (drop (length r.cells) (drop (base_size r) vs)) (region_steps r vs file))
 
 block_steps_are : (bs : List ConfigBlock) (rs : List Region) (vs : List ℕ) (file : File)
     → segment_steps (block_segments bs (region_segments rs)) vs file ≡ regions_steps rs (drop (blocks_size bs) vs) (blocks_steps bs vs file)
 block_steps_are [] rs vs file = region_steps_are rs vs file
-block_steps_are (b ∷ bs) rs vs file =
-    block_steps_are bs rs (drop (length b.cells) vs) (put_run (take (length b.cells) vs) (config b.offset) file)
-    ∙ ap (λ (x : List ℕ). regions_steps rs x (blocks_steps bs (drop (length b.cells) vs) (put_run (take (length b.cells) vs) (config b.offset) file))) (drop-drop (blocks_size bs) (length b.cells) vs)
+block_steps_are (b ∷ bs) rs vs file = grind (arith, drop-drop, block_steps_are bs rs (drop (length b.cells) vs) (put_run (take (length b.cells) vs) (config b.offset) file))
 
 abbrev first_of : List ℕ → ℕ
 first_of [] = 0
@@ -192,9 +175,8 @@ steps_are d vs file long =
 
 fits_length : (file : File) (vs : List ℕ) → fit_cells file vs ≡ true → length vs ≡ length file
 fits_length [] [] h = refl
-fits_length [] (v ∷ vs) h = cc
-fits_length (e ∷ es) [] h = cc
 fits_length (e ∷ es) (v ∷ vs) h = ap (λ n. suc n) (fits_length es vs (right_true (can_hold e v) (fit_cells es vs) h))
+fits_length file vs h = cc
 
 pub loads_by_steps : LoadsBySteps
 loads_by_steps s lawful low fits =

@@ -1,4 +1,4 @@
-use Rattle.std.proofs.Common.{◌≡◌, ◌*◌, ◌<◌, ◌≤◌, ◌∷◌, ◌∙◌, ℕ, List, Some, length, take, drop, refl, sym, ap, arith}
+use Rattle.std.proofs.Common.{◌≡◌, ◌*◌, ◌≤◌, ◌∷◌, ◌∙◌, ℕ, List, Some, length, take, drop, sym, ap, arith}
 use Rattle.std.proofs.lemmas.List.{take_rest}
 use Rattle.model_image_bytes.specs.Layouts.{parsed}
 use Rattle.board_images.specs.FoundPaths.{parts_in}
@@ -6,10 +6,7 @@ use Rattle.board_images.proofs.FoundParts.{are_bytes, path_missing, path_read}
 use Rattle.board_images.proofs.finding.after_path.Goals as goal
 
 pub returns-then-rest-size-clause-refused : goal.returns-then-rest-size-clause-refused
-returns-then-rest-size-clause-refused c =
-    let first : c.args.bytes.now ≡ c.in-Some.count.now ∷ c.in-Some.rest.now = grind arith in
-    let short : length c.in-Some.rest.now < 2 * c.in-Some.count.now = grind arith in
-    (refl, path_missing c.args.bytes.now c.in-Some.rest.now c.in-Some.count.now first (are_bytes c.args.bytes.now c.type_inv.bytes) short)
+returns-then-rest-size-clause-refused c = grind (arith, path_missing, are_bytes)
 
 pub returns-clause-found : goal.returns-clause-found
 returns-clause-found c =

@@ -1,13 +1,10 @@
 use Rattle.std.proofs.Common.{arith}
 use Rattle.board_images.proofs.FoundParts.{parts_at, within}
-use Rattle.board_images.proofs.finding.part_at.Goals.{else-device-lt16-via-then-device-lt16+else-function-lt8, else-device-lt16-via-else-device-lt16}
+use Rattle.board_images.proofs.finding.part_at.Goals.{else-device-lt16-via-else-device-lt16}
 use Rattle.board_images.proofs.finding.part_at.Goals as goal
 
 pub returns-then-function-lt8-clause-part : goal.returns-then-function-lt8-clause-part
 returns-then-function-lt8-clause-part c = let there = parts_at c.args.pairs.now c.args.index c.requires in grind arith
 
 pub returns-else-device-lt16-clause-none : goal.returns-else-device-lt16-clause-none
-returns-else-device-lt16-clause-none c = λ path. let part = within c.args.pairs.now c.args.index c.requires path in let device = part.device_fits in let function = part.function_fits in elim c.else-device-lt16.branch [
-  | else-device-lt16-via-then-device-lt16+else-function-lt8 w ↦ let other = w.if-function-lt8.false in grind arith
-  | else-device-lt16-via-else-device-lt16 w ↦ let other = w.if-device-lt16.false in grind arith
-]
+returns-else-device-lt16-clause-none c = grind (arith, within, else-device-lt16-via-else-device-lt16)

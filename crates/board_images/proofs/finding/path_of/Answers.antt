@@ -1,17 +1,14 @@
-use Rattle.std.proofs.Common.{◌≤◌, ◌∙◌, [], ◌∷◌, ◌++◌, length, ap, arith, length-append}
+use Rattle.std.proofs.Common.{◌∙◌, [], ◌∷◌, ◌++◌, length, ap, arith, length-append}
 use Rattle.std.proofs.lemmas.List.{take_all}
 use Rattle.model_board.specs.Paths.{Path}
 use Rattle.board_images.specs.FoundPaths.{parts_in}
 use Rattle.board_images.proofs.FoundParts.{parts_count}
 use Rattle.board_images.proofs.Indexed.{take_next}
-use Rattle.board_images.proofs.finding.path_of.Goals.{then-count-eq0-via-then-count-eq0, then-count-eq0-via-else-count-eq0+then-count-gt16}
+use Rattle.board_images.proofs.finding.path_of.Goals.{then-count-eq0-via-then-count-eq0}
 use Rattle.board_images.proofs.finding.path_of.Goals as goal
 
 pub returns-then-count-eq0-clause-none : goal.returns-then-count-eq0-clause-none
-returns-then-count-eq0-clause-none c = λ path. let many = parts_count c.args.pairs.now in let some = path.some in let few = path.few in elim c.then-count-eq0.branch [
-  | then-count-eq0-via-then-count-eq0 w ↦ let none = w.if-count-eq0.true in grind arith
-  | then-count-eq0-via-else-count-eq0+then-count-gt16 w ↦ let far = w.if-count-gt16.true in grind arith
-]
+returns-then-count-eq0-clause-none c = grind (arith, parts_count, then-count-eq0-via-then-count-eq0)
 
 pub loop-index-preserved : goal.loop-index-preserved
 loop-index-preserved c =
@@ -22,7 +19,4 @@ loop-index-preserved c =
     }
 
 pub returns-clause-path : goal.returns-clause-path
-returns-clause-path c =
-    let many = parts_count c.args.pairs.now in
-    let all : length (parts_in c.args.pairs.now) ≤ c.loop-index.index = grind arith in
-    c.loop-index.invariant.path ∙ take_all c.loop-index.index (parts_in c.args.pairs.now) all
+returns-clause-path c = grind (arith, parts_count, take_all)

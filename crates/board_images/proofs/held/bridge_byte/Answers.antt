@@ -1,8 +1,6 @@
-use Rattle.std.proofs.Common.{◌≡◌, ◌%◌, false, true, Some, sym, ap, ◌∙◌, arith}
+use Rattle.std.proofs.Common.{◌≡◌, false, true, sym, ap, ◌∙◌, arith}
 use Rattle.std.specs.Prelude.{option_map}
-use Rattle.model_registers.specs.Registers.{cell_at}
 use Rattle.model_registers.specs.BridgeTable.{bridge_reset}
-use Rattle.host_bridge.specs.ByIndex.{file_nth}
 use Rattle.image_bytes.specs.Cells.{cell_place, told}
 use Rattle.board_images.proofs.HeldCells.{bridge_held, config_place, is_config, not_past}
 use Rattle.board_images.proofs.held.bridge_byte.Goals as goal
@@ -17,7 +15,4 @@ pub unreachable-requires-in-None : goal.unreachable-requires-in-None
 unreachable-requires-in-None c = not_past (bridge_reset c.args.decl.now false) c.args.nth c.requires.within (sym c.bridge_cell.ensures ∙ ap (option_map told) c.in-None.is)
 
 pub returns : goal.returns
-returns c = λ seated.
-    bridge_held c.args.host.now.state.functions c.args.index c.requires.shapes seated c.args.decl.now c.requires.there c.args.nth (cell_place c.in-Some.cell.place) c.in-Some.cell.value
-    (sym c.bridge_cell.ensures ∙ ap (option_map told) c.in-Some.is)
-    ∙ ap (λ p. Some ((cell_at (file_nth c.args.host.now.state.functions c.args.index) (cell_place p)).value % 256)) c.in-Config.is ∙ ap (λ x. Some x) (sym c.config_byte.ensures)
+returns c = grind (arith, bridge_held)

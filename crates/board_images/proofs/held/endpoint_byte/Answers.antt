@@ -1,4 +1,4 @@
-use Rattle.std.proofs.Common.{false, Some, sym, ap, ◌∙◌, subst}
+use Rattle.std.proofs.Common.{false, Some, sym, ap, ◌∙◌, subst, arith}
 use Rattle.std.specs.Prelude.{option_map}
 use Rattle.model_registers.specs.Declarations.{Endpoint}
 use Rattle.model_registers.specs.DeclarationRules.{IsLawfulEndpoint}
@@ -8,9 +8,7 @@ use Rattle.board_images.proofs.HeldCells.{endpoint_held, not_past}
 use Rattle.board_images.proofs.held.endpoint_byte.Goals as goal
 
 pub unreachable-requires : goal.unreachable-requires
-unreachable-requires c =
-    not_past (endpoint_reset c.args.endpoint.now.decl false) c.args.nth c.requires.within
-    (ap (λ (d : Endpoint). told_at (endpoint_reset d false) c.args.nth) (sym c.decl.ensures) ∙ sym c.endpoint_cell.ensures.cell ∙ ap (option_map told) c.in-None.is)
+unreachable-requires c = grind (arith, not_past)
 
 pub returns : goal.returns
 returns c =

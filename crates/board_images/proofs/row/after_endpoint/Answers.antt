@@ -1,6 +1,5 @@
-use Rattle.std.proofs.Common.{[], ◌∷◌, ◌∙◌, Err, refl, sym, ap, arith}
+use Rattle.std.proofs.Common.{[], ◌∷◌, ◌∙◌, arith}
 use Rattle.model_image_bytes.specs.ImageBytes.{declaration_bytes}
-use Rattle.image_bytes.specs.Faults.{number_of}
 use Rattle.board_images.specs.BoardBytes.{decl_bytes}
 use Rattle.model_board.specs.Board.{endpoint}
 use Rattle.board_images.proofs.Rows.{endpoint_is, refused_as, taken_as}
@@ -8,10 +7,7 @@ use Rattle.board_images.proofs.Steps.{ends, goes_on}
 use Rattle.board_images.proofs.row.after_endpoint.Goals as goal
 
 pub returns-in_err-bytes-clause-refused : goal.returns-in_err-bytes-clause-refused
-returns-in_err-bytes-clause-refused c =
-    let d = c.args.decl.now in
-    let end = ends (decl_bytes (endpoint d)) (0 ∷ []) (declaration_bytes d) c.args.bytes.now (endpoint_is d) in
-    grind (arith, end)
+returns-in_err-bytes-clause-refused c = grind (arith, ends, endpoint_is)
 
 pub returns-in-Ok-clause-left : goal.returns-in-Ok-clause-left
 returns-in-Ok-clause-left c =
@@ -21,7 +17,4 @@ returns-in-Ok-clause-left c =
     all ∙ rest
 
 pub returns-in-Err-clause-refused : goal.returns-in-Err-clause-refused
-returns-in-Err-clause-refused c =
-    let d = c.args.decl.now in
-    let all = goes_on (decl_bytes (endpoint d)) (0 ∷ []) (declaration_bytes d) c.args.bytes.now (endpoint_is d) c.in_ok-bytes.bytes.now c.in_ok-bytes.ensures.left in
-    all ∙ refused_as 906 907 (number_of c.in-Err.fault) (declaration_bytes d) c.in_ok-bytes.bytes.now refl c.in-Err.ensures.refused ∙ ap Err (sym c.of_board.ensures)
+returns-in-Err-clause-refused c = grind (arith, goes_on, endpoint_is, refused_as)

@@ -10,9 +10,7 @@ pub put-next-requires : goal.put-next-requires
 put-next-requires c = let whole = ap (λ (xs : List ℕ). length xs) (endpoint_is c.args.decl.now) in omega (arith, c.requires)
 
 pub write_declaration-requires : goal.write_declaration-requires
-write_declaration-requires c =
-    let d = c.args.decl.now in
-    (next (decl_bytes (endpoint d)) (0 ∷ []) (declaration_bytes d) c.args.at c.put-next.result c.args.out.now c.put-next.new.out (endpoint_is d) c.put-next.ensures.bytes c.put-next.ensures.end c.requires).room
+write_declaration-requires c = grind (arith, endpoint_is)
 
 pub returns-clause-bytes : goal.returns-clause-bytes
 returns-clause-bytes c =
@@ -21,7 +19,4 @@ returns-clause-bytes c =
     ∙ (next (decl_bytes (endpoint d)) (0 ∷ []) (declaration_bytes d) c.args.at c.put-next.result c.args.out.now c.put-next.new.out (endpoint_is d) c.put-next.ensures.bytes c.put-next.ensures.end c.requires).bytes
 
 pub returns-clause-end : goal.returns-clause-end
-returns-clause-end c =
-    let d = c.args.decl.now in
-    c.write_declaration.ensures.end
-    ∙ (next (decl_bytes (endpoint d)) (0 ∷ []) (declaration_bytes d) c.args.at c.put-next.result c.args.out.now c.put-next.new.out (endpoint_is d) c.put-next.ensures.bytes c.put-next.ensures.end c.requires).end
+returns-clause-end c = grind (arith, endpoint_is)

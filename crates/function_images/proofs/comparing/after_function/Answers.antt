@@ -9,9 +9,7 @@ use Rattle.function_images.proofs.Compared.{declaration_ends, tag_ends, values_d
 use Rattle.function_images.proofs.comparing.after_function.Goals as goal
 
 pub returns-in_err-bytes-clause-refused : goal.returns-in_err-bytes-clause-refused
-returns-in_err-bytes-clause-refused c =
-    let e = tag_ends c.args.endpoint.now.decl c.args.bytes.now (number_of c.in_err-bytes.field-0.0) c.in_err-bytes.ensures.refused in
-    grind arith
+returns-in_err-bytes-clause-refused c = grind (arith, tag_ends)
 
 pub returns-in_err-bytes-2-clause-refused : goal.returns-in_err-bytes-2-clause-refused
 returns-in_err-bytes-2-clause-refused c =

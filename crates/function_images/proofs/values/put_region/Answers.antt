@@ -10,28 +10,13 @@ use Rattle.function_images.proofs.Runs.{region_length, run_length}
 use Rattle.function_images.proofs.values.put_region.Goals as goal
 
 pub put_run-next-requires-clause-room : goal.put_run-next-requires-clause-room
-put_run-next-requires-clause-room c =
-    let r = c.args.region.now in
-    let kind : kind_of c.kind-kind.result ≡ r.kind = grind arith in
-    let width : c.from-width.result ≡ 4 * registers_of r.kind = grind arith in
-    let whole = region_length c.args.endpoint.now c.args.own.now r in
-    omega (arith, c.requires.room)
+put_run-next-requires-clause-room c = grind (arith, region_length)
 
 pub put_run-requires-clause-room : goal.put_run-requires-clause-room
-put_run-requires-clause-room c =
-    let r = c.args.region.now in
-    let kind : kind_of c.kind-kind.result ≡ r.kind = grind arith in
-    let width : c.from-width.result ≡ 4 * registers_of r.kind = grind arith in
-    let whole = region_length c.args.endpoint.now c.args.own.now r in
-    grind arith
+put_run-requires-clause-room c = grind (arith, region_length)
 
 pub returns-clause-end : goal.returns-clause-end
-returns-clause-end c =
-    let r = c.args.region.now in
-    let kind : kind_of c.kind-kind.result ≡ r.kind = grind arith in
-    let width : c.from-width.result ≡ 4 * registers_of r.kind = grind arith in
-    let whole = region_length c.args.endpoint.now c.args.own.now r in
-    grind arith
+returns-clause-end c = grind (arith, region_length)
 
 pub returns-clause-bytes : goal.returns-clause-bytes
 returns-clause-bytes c =

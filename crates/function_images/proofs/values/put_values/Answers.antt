@@ -1,6 +1,5 @@
-use Rattle.std.proofs.Common.{◌≡◌, ◌+◌, ◌++◌, ◌∙◌, List, ℕ, length, ap, arith}
+use Rattle.std.proofs.Common.{◌≡◌, ◌+◌, ◌++◌, ◌∙◌, List, ℕ, length, arith}
 use Rattle.std.specs.Prelude.{flat_map}
-use Rattle.model_registers.specs.Declarations.{ConfigBlock, Region}
 use Rattle.image_bytes.specs.Puts.{put}
 use Rattle.image_bytes.proofs.Puts.{next}
 use Rattle.function_images.specs.Shown.{block_values, header_values, region_values}
@@ -11,32 +10,13 @@ pub put_header-next-requires : goal.put_header-next-requires
 put_header-next-requires c = let whole = values_length c.args.endpoint.now c.args.own.now c.args.endpoint.now.decl in omega (arith, c.requires)
 
 pub put_blocks-next-requires-clause-room : goal.put_blocks-next-requires-clause-room
-put_blocks-next-requires-clause-room c =
-    let e = c.args.endpoint.now in
-    let whole = values_length e c.args.own.now e.decl in
-    let same : c.deref.result.now ≡ e.decl.blocks = grind arith in
-    let many = ap (λ (bs : List ConfigBlock). length (flat_map (block_values e c.args.own.now) bs)) same in
-    grind arith
+put_blocks-next-requires-clause-room c = grind (arith, values_length)
 
 pub put_regions-requires-clause-room : goal.put_regions-requires-clause-room
-put_regions-requires-clause-room c =
-    let e = c.args.endpoint.now in
-    let whole = values_length e c.args.own.now e.decl in
-    let same : c.deref.result.now ≡ e.decl.blocks = grind arith in
-    let many = ap (λ (bs : List ConfigBlock). length (flat_map (block_values e c.args.own.now) bs)) same in
-    let same_regions : c.deref-2.result.now ≡ e.decl.regions = grind arith in
-    let many_regions = ap (λ (rs : List Region). length (flat_map (region_values e c.args.own.now) rs)) same_regions in
-    grind arith
+put_regions-requires-clause-room c = grind (arith, values_length)
 
 pub returns-clause-end : goal.returns-clause-end
-returns-clause-end c =
-    let e = c.args.endpoint.now in
-    let whole = values_length e c.args.own.now e.decl in
-    let same : c.deref.result.now ≡ e.decl.blocks = grind arith in
-    let many = ap (λ (bs : List ConfigBlock). length (flat_map (block_values e c.args.own.now) bs)) same in
-    let same_regions : c.deref-2.result.now ≡ e.decl.regions = grind arith in
-    let many_regions = ap (λ (rs : List Region). length (flat_map (region_values e c.args.own.now) rs)) same_regions in
-    grind arith
+returns-clause-end c = grind (arith, values_length)
 
 pub returns-clause-bytes : goal.returns-clause-bytes
 returns-clause-bytes c =

@@ -15,18 +15,10 @@ write_declaration-next-requires c =
     omega (arith, c.requires.room)
 
 pub put_values-requires : goal.put_values-requires
-put_values-requires c =
-    let e = c.args.endpoint.now in
-    let same = ap (λ (d : Endpoint). length (declaration_bytes d)) c.decl.ensures in
-    let whole = length_is e c.args.own.now c.requires.places in
-    grind arith
+put_values-requires c = grind (arith, length_is)
 
 pub returns-clause-end : goal.returns-clause-end
-returns-clause-end c =
-    let e = c.args.endpoint.now in
-    let same = ap (λ (d : Endpoint). length (declaration_bytes d)) c.decl.ensures in
-    let whole = length_is e c.args.own.now c.requires.places in
-    grind arith
+returns-clause-end c = grind (arith, length_is)
 
 pub returns-clause-bytes : goal.returns-clause-bytes
 returns-clause-bytes c =
