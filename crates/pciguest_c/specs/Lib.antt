@@ -10,7 +10,7 @@ pub mod FunctionsTold
 pub mod ProblemsTold
 pub mod DrivenTold
 pub mod Handles
+pub mod TextsTold
 pub mod Answered
 pub mod Handovers
-pub mod TextsTold
 pub mod ImagesTold

@@ -1,9 +1,9 @@
 //! What C is told of all that is wrong in the registers of a board.
-ghost use Rattle.std.specs.Prelude.{◌≡◌, ◌≢◌, ◌<◌, ◌⊎◌, IfNone, IfSome, length};
+ghost use Rattle.std.specs.Prelude.{◌≡◌, ◌≢◌, IfSome, length};
 ghost use Rattle.model_audit.specs.AuditText.{audit};
 ghost use Rattle.model_audit.specs.Problems.{problems};
 ghost use Rattle.pciguest_c.specs.Handles.{session_of, board_of};
-ghost use Rattle.pciguest_c.specs.TextsTold.{at_front};
+ghost use Rattle.pciguest_c.specs.TextsTold.{TellsText};
 
 use crate::handle::Handle;
 use crate::numbers::MEMORY;
@@ -22,20 +22,12 @@ pub extern "C" fn pciguest_raw_board_audit(
     needed: &mut usize,
     count: &mut usize,
 ) -> u32
-    ensures none { IfNone (board_of handle.old) (result ≡ 901) }
-    ensures text { IfSome (board_of handle.old) (λ b.
-        result ≡ 0 → let text = audit b.state.functions in
-        (out.new ≡ at_front text out.old) × (needed.new ≡ length text)) }
+    ensures text { TellsText (board_of handle.old) (λ b. audit b.state.functions)
+        result out.old out.new needed.old needed.new }
     ensures count { IfSome (board_of handle.old) (λ b. result ≡ 0 →
         count.new ≡ length (problems b.state.functions)) }
-    ensures room { IfSome (board_of handle.old) (λ b.
-        result ≡ 902 → let text = audit b.state.functions in
-        (length out.old < length text) × (needed.new ≡ length text)) }
-    ensures numbers { IfSome (board_of handle.old) (λ _.
-        (result ≡ 0) ⊎ (result ≡ 299) ⊎ (result ≡ 902)) }
     ensures kept { session_of handle.new ≡ session_of handle.old }
-    ensures refused { result ≢ 0 → (out.new ≡ out.old) × (count.new ≡ count.old) }
-    ensures untold { result ≢ 0 → result ≢ 902 → needed.new ≡ needed.old }
+    ensures uncounted { result ≢ 0 → count.new ≡ count.old }
 {
     let answer = handle.ask_board(alloc, |board| match board.audit(alloc) {
         Ok(audit) => Ok(audit),

@@ -1,8 +1,9 @@
 //! Which guests a machine has: how many, and the name of each.
-ghost use Rattle.std.specs.Prelude.{◌≡◌, ◌≢◌, ◌<◌, ◌≤◌, ◌⊎◌, IfErr, IfNone, IfOk, IfSome, length};
+ghost use Rattle.std.specs.Prelude.{◌≡◌, ◌≢◌, ◌<◌, ◌≤◌, IfErr, IfNone, IfOk, IfSome, length};
 ghost use Rattle.monitor.specs.ByIndex.{name_nth};
 ghost use Rattle.pciguest_c.specs.Handles.{session_of, machine_of};
-ghost use Rattle.pciguest_c.specs.TextsTold.{at_front};
+ghost use Rattle.pciguest_c.specs.Answered.{TellsOf};
+ghost use Rattle.pciguest_c.specs.TextsTold.{IsTold};
 
 use crate::asking::guest_count;
 use crate::handle::Handle;
@@ -27,14 +28,11 @@ fn name_of(machine: &Monitor, guest: usize) -> Result<ArrayString<16>, u32>
 
 /// Tells how long a name is, and puts it at the front of a buffer, if that has room for it.
 fn put_name(answer: Result<ArrayString<16>, u32>, out: &mut [u8], needed: &mut usize) -> u32
+    ensures name { IfOk answer (λ n. IsTold n.bytes out.old out.new result) }
     ensures needed { IfOk answer (λ n. needed.new ≡ length n.bytes) }
-    ensures text { IfOk answer (λ n. result ≡ 0 → out.new ≡ at_front n.bytes out.old) }
-    ensures room { IfOk answer (λ n. result ≡ 902 → length out.old < length n.bytes) }
-    ensures numbers { IfOk answer (λ _. (result ≡ 0) ⊎ (result ≡ 902)) }
     ensures enough { IfOk answer (λ _. 16 ≤ length out.old → result ≡ 0) }
     ensures refused { IfErr answer (λ n. (result ≡ n) × (needed.new ≡ needed.old)) }
     ensures unwritten { IfErr answer (λ _. out.new ≡ out.old) }
-    ensures unfit { IfOk answer (λ _. result ≢ 0 → out.new ≡ out.old) }
 {
     match answer {
         Ok(name) => {
@@ -78,21 +76,10 @@ pub extern "C" fn pciguest_raw_guest_name(
     out: &mut [u8],
     needed: &mut usize,
 ) -> u32
-    ensures none { IfNone (machine_of handle.old) (result ≡ 901) }
-    ensures guest { IfSome (machine_of handle.old) (λ m.
-        length m.world.guests ≤ guest → (result ≡ 902) × (needed.new ≡ needed.old)) }
-    ensures needed { IfSome (machine_of handle.old) (λ m. guest < length m.world.guests →
-        needed.new ≡ length (name_nth m.world guest)) }
-    ensures text { IfSome (machine_of handle.old) (λ m. guest < length m.world.guests →
-        result ≡ 0 → out.new ≡ at_front (name_nth m.world guest) out.old) }
-    ensures room { IfSome (machine_of handle.old) (λ m. guest < length m.world.guests →
-        result ≡ 902 → length out.old < length (name_nth m.world guest)) }
-    ensures numbers { IfSome (machine_of handle.old) (λ _.
-        (result ≡ 0) ⊎ (result ≡ 902)) }
+    ensures name { TellsOf (machine_of handle.old) guest name_nth result
+        out.old out.new needed.old needed.new }
     ensures enough { IfSome (machine_of handle.old) (λ m. guest < length m.world.guests →
         16 ≤ length out.old → result ≡ 0) }
-    ensures unwritten { result ≢ 0 → out.new ≡ out.old }
-    ensures untold { result ≡ 901 → needed.new ≡ needed.old }
     ensures kept { session_of handle.new ≡ session_of handle.old }
 {
     let answer = handle.ask_machine(alloc, |machine| name_of(machine, guest));

@@ -29,6 +29,7 @@ fn own_words(number: u32) -> &'static [u8]
         904 => b"not at reset",
         905 => b"image",
         906 => b"other functions",
+        907 => b"other board",
         _ => handover_words(number).as_bytes(),
     }
 }

@@ -1,9 +1,9 @@
 //! What C is told of all that is wrong and all that is lacking in the registers of a board.
-ghost use Rattle.std.specs.Prelude.{◌≡◌, ◌≢◌, ◌<◌, ◌⊎◌, IfNone, IfSome, length};
+ghost use Rattle.std.specs.Prelude.{◌≡◌, ◌≢◌, IfSome};
 ghost use Rattle.model_ready.specs.Lacks.{lack_count};
 ghost use Rattle.model_ready.specs.ReadyText.{ready_report};
 ghost use Rattle.pciguest_c.specs.Handles.{session_of, board_of};
-ghost use Rattle.pciguest_c.specs.TextsTold.{at_front};
+ghost use Rattle.pciguest_c.specs.TextsTold.{TellsText};
 
 use crate::handle::Handle;
 use crate::numbers::MEMORY;
@@ -22,20 +22,13 @@ pub extern "C" fn pciguest_raw_board_ready(
     needed: &mut usize,
     count: &mut usize,
 ) -> u32
-    ensures none { IfNone (board_of handle.old) (result ≡ 901) }
-    ensures text { IfSome (board_of handle.old) (λ b.
-        result ≡ 0 → let text = ready_report b.world.apertures b.state.functions in
-        (out.new ≡ at_front text out.old) × (needed.new ≡ length text)) }
+    ensures text { TellsText (board_of handle.old)
+        (λ b. ready_report b.world.apertures b.state.functions)
+        result out.old out.new needed.old needed.new }
     ensures count { IfSome (board_of handle.old) (λ b. result ≡ 0 →
         count.new ≡ lack_count b.world.apertures b.state.functions) }
-    ensures room { IfSome (board_of handle.old) (λ b.
-        result ≡ 902 → let text = ready_report b.world.apertures b.state.functions in
-        (length out.old < length text) × (needed.new ≡ length text)) }
-    ensures numbers { IfSome (board_of handle.old) (λ _.
-        (result ≡ 0) ⊎ (result ≡ 299) ⊎ (result ≡ 902)) }
     ensures kept { session_of handle.new ≡ session_of handle.old }
-    ensures refused { result ≢ 0 → (out.new ≡ out.old) × (count.new ≡ count.old) }
-    ensures untold { result ≢ 0 → result ≢ 902 → needed.new ≡ needed.old }
+    ensures uncounted { result ≢ 0 → count.new ≡ count.old }
 {
     let answer = handle.ask_board(alloc, |board| match board.ready(alloc) {
         Ok(told) => Ok(told),

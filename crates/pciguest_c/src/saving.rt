@@ -1,10 +1,10 @@
 //! Images of guests: how many bytes the image of a guest has, and its bytes.
-ghost use Rattle.std.specs.Prelude.{◌≡◌, ◌≢◌, ◌<◌, ◌≤◌, ◌⊎◌, IfNone, IfSome, length};
+ghost use Rattle.std.specs.Prelude.{◌≡◌, ◌≢◌, ◌<◌, length};
 ghost use Rattle.session.specs.Stages.{machine_in};
 ghost use Rattle.pciguest_c.specs.Handles.{session_of, machine_of};
-ghost use Rattle.pciguest_c.specs.Answered.{AnswersOf};
+ghost use Rattle.pciguest_c.specs.Answered.{AnswersOf, TellsOf};
 ghost use Rattle.pciguest_c.specs.ImagesTold.{image_asked};
-ghost use Rattle.pciguest_c.specs.TextsTold.{at_front};
+ghost use Rattle.pciguest_c.specs.TextsTold.{IsTold};
 
 use crate::asking::check_guest;
 use crate::handle::Handle;
@@ -16,13 +16,8 @@ use std::alloc::Global;
 /// Puts the image of a guest at the front of a buffer, if that has room for it, and tells how long it is.
 fn save(machine: &Monitor, guest: usize, out: &mut [u8], needed: &mut usize) -> u32
     requires { guest < length machine.now.world.guests }
-    ensures image { result ≡ 0 →
-        out.new ≡ at_front (image_asked machine.now.world guest) out.old }
-    ensures room { result ≡ 902 →
-        length out.old < length (image_asked machine.now.world guest) }
+    ensures image { IsTold (image_asked machine.now.world guest) out.old out.new result }
     ensures needed { needed.new ≡ length (image_asked machine.now.world guest) }
-    ensures numbers { (result ≡ 0) ⊎ (result ≡ 902) }
-    ensures unwritten { result ≢ 0 → out.new ≡ out.old }
 {
     let size = machine.image_size(guest);
     *needed = size;
@@ -35,18 +30,8 @@ fn save(machine: &Monitor, guest: usize, out: &mut [u8], needed: &mut usize) -> 
 
 /// The same of a session, or 901 where no guests have its board, and 902 where there is no such guest.
 fn save_in(session: &mut Session, guest: usize, out: &mut [u8], needed: &mut usize) -> u32
-    ensures none { IfNone (machine_in session.old) (result ≡ 901) }
-    ensures guest { IfSome (machine_in session.old) (λ m.
-        length m.world.guests ≤ guest → (result ≡ 902) × (needed.new ≡ needed.old)) }
-    ensures image { IfSome (machine_in session.old) (λ m. guest < length m.world.guests →
-        result ≡ 0 → out.new ≡ at_front (image_asked m.world guest) out.old) }
-    ensures room { IfSome (machine_in session.old) (λ m. guest < length m.world.guests →
-        result ≡ 902 → length out.old < length (image_asked m.world guest)) }
-    ensures needed { IfSome (machine_in session.old) (λ m. guest < length m.world.guests →
-        needed.new ≡ length (image_asked m.world guest)) }
-    ensures numbers { IfSome (machine_in session.old) (λ _. (result ≡ 0) ⊎ (result ≡ 902)) }
-    ensures unwritten { result ≢ 0 → out.new ≡ out.old }
-    ensures untold { result ≡ 901 → needed.new ≡ needed.old }
+    ensures image { TellsOf (machine_in session.old) guest image_asked result
+        out.old out.new needed.old needed.new }
     ensures kept { session.new ≡ session.old }
 {
     let Some(machine) = session.monitor() else {
@@ -88,18 +73,8 @@ pub extern "C" fn pciguest_raw_save(
     out: &mut [u8],
     needed: &mut usize,
 ) -> u32
-    ensures none { IfNone (machine_of handle.old) (result ≡ 901) }
-    ensures guest { IfSome (machine_of handle.old) (λ m.
-        length m.world.guests ≤ guest → (result ≡ 902) × (needed.new ≡ needed.old)) }
-    ensures image { IfSome (machine_of handle.old) (λ m. guest < length m.world.guests →
-        result ≡ 0 → out.new ≡ at_front (image_asked m.world guest) out.old) }
-    ensures room { IfSome (machine_of handle.old) (λ m. guest < length m.world.guests →
-        result ≡ 902 → length out.old < length (image_asked m.world guest)) }
-    ensures needed { IfSome (machine_of handle.old) (λ m. guest < length m.world.guests →
-        needed.new ≡ length (image_asked m.world guest)) }
-    ensures numbers { IfSome (machine_of handle.old) (λ _. (result ≡ 0) ⊎ (result ≡ 902)) }
-    ensures unwritten { result ≢ 0 → out.new ≡ out.old }
-    ensures untold { result ≡ 901 → needed.new ≡ needed.old }
+    ensures image { TellsOf (machine_of handle.old) guest image_asked result
+        out.old out.new needed.old needed.new }
     ensures kept { session_of handle.new ≡ session_of handle.old }
 {
     let Some(mut session) = handle.take(alloc) else {

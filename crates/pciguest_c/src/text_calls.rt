@@ -6,7 +6,7 @@ ghost use Rattle.model_guests.specs.World.{World};
 ghost use Rattle.model_handoff.specs.Report.{report};
 ghost use Rattle.session.specs.Files.{Refuses, Breaks, IsSetUp};
 ghost use Rattle.pciguest_c.specs.Checks.{IsCheckOf};
-ghost use Rattle.pciguest_c.specs.TextsTold.{at_front};
+ghost use Rattle.pciguest_c.specs.TextsTold.{IsTold, at_front};
 ghost use Rattle.pciguest_c.specs.NumberWords.{words_of_number};
 
 use crate::number_words::words_of;
@@ -45,12 +45,10 @@ pub fn tell_counted(
     needed: &mut usize,
     count: &mut usize,
 ) -> u32
-    ensures text { result ≡ 0 → out.new ≡ at_front text.now out.old }
-    ensures count { result ≡ 0 → count.new ≡ counted }
-    ensures room { result ≡ 902 → length out.old < length text.now }
+    ensures text { IsTold text.now out.old out.new result }
     ensures needed { needed.new ≡ length text.now }
-    ensures numbers { (result ≡ 0) ⊎ (result ≡ 902) }
-    ensures refused { result ≢ 0 → (out.new ≡ out.old) × (count.new ≡ count.old) }
+    ensures count { result ≡ 0 → count.new ≡ counted }
+    ensures uncounted { result ≢ 0 → count.new ≡ count.old }
 {
     if !tell(text, out, needed) {
         return ARGUMENT;
@@ -125,11 +123,8 @@ pub extern "C" fn pciguest_raw_check(
 /// less room than that. A number that stands for nothing has no words.
 #[unsafe(no_mangle)]
 pub extern "C" fn pciguest_raw_words(number: u32, out: &mut [u8], needed: &mut usize) -> u32
+    ensures words { IsTold (words_of_number number) out.old out.new result }
     ensures needed { needed.new ≡ length (words_of_number number) }
-    ensures text { result ≡ 0 → out.new ≡ at_front (words_of_number number) out.old }
-    ensures room { result ≡ 902 → length out.old < length (words_of_number number) }
-    ensures unwritten { result ≡ 902 → out.new ≡ out.old }
-    ensures numbers { (result ≡ 0) ⊎ (result ≡ 902) }
     ensures enough { 20 ≤ length out.old → result ≡ 0 }
 {
     if tell(words_of(number), out, needed) {

@@ -1,8 +1,6 @@
-use Rattle.std.proofs.Common.{◌∙◌}
 use Rattle.pciguest_c.specs.ImagesTold.{image_asked}
-use Rattle.pciguest_c.proofs.Images.{put_at_front}
+use Rattle.pciguest_c.proofs.Images.{told_at_front}
 use Rattle.pciguest_c.proofs.saving.save.Goals as goal
 
 pub returns-clause-image : goal.returns-clause-image
-returns-clause-image c = λ _.
-    c.save.ensures ∙ put_at_front (image_asked c.args.machine.now.world c.args.guest) c.args.out.now
+returns-clause-image c = told_at_front (image_asked c.args.machine.now.world c.args.guest) c.args.out.now _ c.save.ensures
