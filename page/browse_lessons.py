@@ -12,6 +12,7 @@ import types
 
 import browse_newcomer
 import browse_ready
+import browse_state
 import browse_why
 from tried import CUT, FIELD, PAINTED, holds, said_last, text_of, type_line, until, write_field
 
@@ -332,8 +333,9 @@ ALL = [lessons_are_done, a_reply_counts_in_its_place, a_lesson_leads_on, a_teach
 
 
 def in_browser(browser, page, folder, shot=''):
-    for check in [*ALL, *browse_newcomer.ALL, *browse_ready.ALL, *browse_why.ALL]:
+    for check in [*ALL, *browse_newcomer.ALL, *browse_ready.ALL, *browse_state.ALL, *browse_why.ALL]:
         check(browser, page)
+    browse_state.the_state_looks_well(browser, page, folder, shot)
     browse_why.questions_look_well(browser, page, folder, shot)
     looks_fit(browser, page, folder, shot)
 

@@ -1,8 +1,9 @@
 // Compares what the module answers with what the proved program wrote: reports, checks, refusals, replies, audits, whether boards are
 // ready, and why something finds what it finds. Where a guest's region stands is compared with what the guest finds as it sizes it, and why
-// its access finds what it finds with what it reads.
+// its access finds what it finds with what it reads. Images of machines are compared with those of the library for C.
 
 import { Engine, run } from './engine.js';
+import { images_hold } from './compare_images.js';
 import { read_readiness } from './readiness.js';
 import { words_in } from './reasons.js';
 import { question_of, read_why, read_why_of_guest, SPACE_READ } from './why.js';
@@ -12,9 +13,9 @@ const NO_PROBLEM = new TextEncoder().encode('audit: ok\n');
 // what the program ends with where a board isn't ready, after the text
 const NOT_READY = 208;
 
-const same = (a, b) => a.length === b.length && a.every((one, nth) => one === b[nth]);
+export const same = (a, b) => a.length === b.length && a.every((one, nth) => one === b[nth]);
 
-function joined(parts) {
+export function joined(parts) {
   const all = new Uint8Array(parts.reduce((length, part) => length + part.length, 0));
   parts.reduce((at, part) => (all.set(part, at), at + part.length), 0);
   return all;
@@ -98,7 +99,9 @@ function guest_is_told(machine, line, output) {
 const AFTER = { audit: made => [made.audit() ?? NO_PROBLEM], ready: made => [readiness_of(made)], run: () => [], firmware: () => [] };
 
 // A case has what is asked, a board and its script, the number that refuses it or 0, and the output.
-function holds(engine, { work, board, script, number, output }) {
+function holds(engine, one) {
+  const { work, board, script, number, output } = one;
+  if (work === 'image') return images_hold(engine, one);
   if (work === 'list' || work === 'check') {
     const written = work === 'list' ? engine.report(board) : engine.check(board);
     return written.number === number && same(written.text, output);

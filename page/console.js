@@ -6,15 +6,19 @@ import { why_refused } from './reasons.js';
 import { question_after } from './why.js';
 
 const PAUSE = 650;
-const LONGEST = 500;
 const NOTED = 4;
+export const HANDS_OVER = /^\s*host\s+guests\s*$/;
+
+// The lines that were prepared, the reader's, and all by which firmware handed its board over.
+const nothing_run = () => ({ prepared: [], said: [], handed: '' });
 
 export class Console {
   // `parts` are its elements, and `box` the one in which lines are typed; `machine` gives what answers lines, or null; `whose` tells
   // whose lines they are; `moved` is told of each move that was done, `heard` of each reply, `begins` of each line before it runs, with
   // whether problems are noted, and `ran` of each line; `question` is what one asks of a reply.
   constructor(parts, box, { machine, whose, moved, heard, begins, ran, question }) {
-    Object.assign(this, { parts, box, machine, whose, moved, heard, begins, ran, question, marks: new Map(), before: [], back: 0, playing: 0, said: [], scrolls: false });
+    Object.assign(this, { parts, box, machine, whose, moved, heard, begins, ran, question, marks: new Map(), before: [], back: 0, playing: 0, scrolls: false });
+    Object.assign(this, nothing_run());
     parts.entry.addEventListener('submit', event => { event.preventDefault(); this.enter(); });
     parts.line.addEventListener('keydown', event => this.recall(event));
   }
@@ -23,7 +27,7 @@ export class Console {
   clear(marks, first) {
     this.playing += 1;
     this.marks = marks;
-    this.said = [];
+    Object.assign(this, nothing_run());
     this.parts.line.placeholder = first;
     this.box.clear();
     this.parts.transcript.replaceChildren();
@@ -43,13 +47,15 @@ export class Console {
     queueMicrotask(() => { this.scrolls = false; this.parts.transcript.scrollTop = this.parts.transcript.scrollHeight; });
   }
 
-  // The lines that were run, as a script.
+  // The lines that the reader ran, as a script, and with those that were prepared.
   script() { return this.said.join('\n'); }
+
+  all_lines() { return [...this.prepared, ...this.said].join('\n'); }
 
   run(line) {
     const machine = this.machine();
     if (machine === null) { this.put('refused', 'The board is refused, so there is nothing to run.'); return; }
-    this.said = [...this.said, line].slice(-LONGEST);
+    this.said = [...this.said, line];
     if (line.trimStart().startsWith('#')) { this.put('remark', line.trimStart().slice(1).trim()); return; }
     this.begins(line, true);
     const row = this.put('row', '');
@@ -71,7 +77,7 @@ export class Console {
     one.classList.toggle('refused', reply.includes(': refused '));
     const { as, guests } = this.whose(), why = why_refused(line, reply, guests, as);
     if (why !== null) this.put('why', why);
-    this.follow_move(line, reply);
+    this.follow_line(line, reply);
     this.heard(reply);
   }
 
@@ -88,9 +94,12 @@ export class Console {
   // Guests' board answers no question of firmware's.
   ask_no_more() { for (const one of this.parts.transcript.querySelectorAll('button.reply.host')) one.disabled = true; }
 
-  follow_move(line, reply) {
+  // Notes what a line did that others ask for: a move, and that firmware handed its board over.
+  follow_line(line, reply) {
+    if (reply !== 'host: ok') return;
+    if (HANDS_OVER.test(line)) this.handed = this.all_lines();
     const words = line.trim().split(/\s+/);
-    if (words[0] === 'host' && words[1] === 'move' && reply === 'host: ok') {
+    if (words[0] === 'host' && words[1] === 'move') {
       this.moved({ guest: words[2], slot: Number(words[3]) }, { guest: words[4], slot: Number(words[5]) });
     }
   }
@@ -103,8 +112,9 @@ export class Console {
     before.append(...(shows ? [make('summary', '', told), make('pre', '', lines.join('\n'))] : [told]));
     this.parts.transcript.append(before);
     for (const line of lines) {
+      this.prepared.push(line);
       this.begins(line, false);
-      this.follow_move(line, this.reply_of(line, machine));
+      this.follow_line(line, this.reply_of(line, machine));
     }
   }
 

@@ -5,6 +5,9 @@ const NONE_THERE = 901;
 const TOO_SMALL = 902;
 const LONGEST_REPLY = 48;
 const LONGEST_LINE = 256;
+const LONGEST_NAME = 16;
+// how long what is told of a function is, and where it says who has it
+const FUNCTION_ROW = 416, SEAT = 392;
 const ROOM = 1 << 16;
 // Made once: of a large board hundreds of registers are read after each line.
 const TO_BYTES = new TextEncoder(), TO_TEXT = new TextDecoder();
@@ -118,6 +121,40 @@ class Held {
     engine.bytes(text, bytes.length).set(bytes);
     engine.exports.pciguest_raw_guest(handle, text, BigInt(bytes.length), written);
     return engine.word(written);
+  }
+
+  // The names of all guests, in the order of the file; none where no guest has the board yet.
+  guests() {
+    const { engine, handle, written } = this, { exports } = engine;
+    if (exports.pciguest_raw_guest_count(handle, written) !== 0) return [];
+    return Array.from({ length: engine.word(written) }, (_, nth) => TO_TEXT.decode(engine.told((...rooms) => exports.pciguest_raw_guest_name(handle, BigInt(nth), ...rooms), LONGEST_NAME).text));
+  }
+
+  // Who has each function of the board, in path order: { guest, slot }, or null.
+  seats() {
+    const { engine, handle } = this, { exports } = engine, names = this.guests(), found = [];
+    return engine.with_rooms([FUNCTION_ROW], row => {
+      while (exports.pciguest_raw_function(handle, BigInt(found.length), row) === 0) {
+        const told = new DataView(exports.memory.buffer, Number(row), FUNCTION_ROW), [guest, slot] = [0, 8].map(at => Number(told.getBigUint64(SEAT + at, true)));
+        found.push(told.getUint32(SEAT + 16, true) === 0 ? null : { guest: names[guest], slot });
+      }
+      return found;
+    });
+  }
+
+  // The image of the machine; null where no guest has the board yet.
+  save() {
+    const { engine, handle } = this, { number, text } = engine.told((...rooms) => engine.exports.pciguest_raw_save_all(handle, ...rooms));
+    return number === 0 ? text : null;
+  }
+
+  // Loads the bytes of an image: 0, or the number of why they are refused, and then nothing has changed.
+  load(image) {
+    const { engine, handle } = this;
+    return engine.with_rooms([image.length], room => {
+      engine.bytes(room, image.length).set(image);
+      return engine.exports.pciguest_raw_load_all(handle, room, BigInt(image.length));
+    });
   }
 
   // Where the region that begins at a base address register of a guest's function stands now: { first, size, space, open },

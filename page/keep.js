@@ -1,34 +1,39 @@
 // The board and the script outlive the page: in the browser, and in a link.
 
+import { packed, unpacked } from './packing.js';
+import { State } from './state.js';
+
 const KEY = 'pciguest';
-const coded = bytes => btoa(Array.from(bytes, one => String.fromCharCode(one)).join('')).replaceAll('+', '-').replaceAll('/', '_').replaceAll('=', '');
-const decoded = text => Uint8Array.from(atob(text.replaceAll('-', '+').replaceAll('_', '/')), one => one.charCodeAt(0));
+const state_in = async text => (typeof text === 'string' ? State.read(text) : null);
 
-async function through(bytes, stream) {
-  return new Uint8Array(await new Response(new Blob([bytes]).stream().pipeThrough(stream)).arrayBuffer());
+// What was kept: a board file, what stood before the reader's lines, those lines, whom they are of, and the task that was begun, if there is one.
+async function read_kept(text) {
+  const { board, script, as, task, lines, state } = JSON.parse(text);
+  if (typeof board !== 'string' || typeof script !== 'string') return null;
+  const from = { lines: typeof lines === 'string' ? lines : '', state: await state_in(state) };
+  return { board, script, as: as === 'firmware' ? as : 'guests', from, task: await task_of(task) };
 }
 
-// What was kept: a board file, the lines that were run, whom they are of, and the task that was begun, if there is one.
-function read_kept(text) {
-  const { board, script, as, task } = JSON.parse(text);
-  return typeof board === 'string' && typeof script === 'string' ? { board, script, as: as === 'firmware' ? as : 'guests', task } : null;
-}
+const task_of = async task => task && { ...task, state: await state_in(task.state) };
+
+// Mail and chat programs cut links that are longer.
+const LONGEST_LINK = 32 << 10;
+export const kilobytes = length => `${Math.max(1, Math.round(length / 1024))} KB`;
+export const is_too_long = fragment => fragment.length > LONGEST_LINK;
+export const TOO_LONG = `mail and chat programs cut those above ${kilobytes(LONGEST_LINK)}`;
 
 // The fragment of a link that holds something, under a name.
-export async function fragment_of(held, name = 'kept') {
-  const bytes = new TextEncoder().encode(JSON.stringify(held));
-  return `${name}=${coded(await through(bytes, new CompressionStream('deflate-raw')))}`;
-}
+export async function fragment_of(held, name = 'kept') { return `${name}=${await packed(new TextEncoder().encode(JSON.stringify(held)))}`; }
 
-const text_in = async text => new TextDecoder().decode(await through(decoded(text), new DecompressionStream('deflate-raw')));
+const text_in = async text => new TextDecoder().decode(await unpacked(text));
 
 // What such a link holds, or null where it is none: what was kept, or a task.
 export async function kept_in(text) {
-  try { return read_kept(await text_in(text)); } catch { return null; }
+  try { return await read_kept(await text_in(text)); } catch { return null; }
 }
 
 export async function task_in(text) {
-  try { return JSON.parse(await text_in(text)); } catch { return null; }
+  try { return await task_of(JSON.parse(await text_in(text))); } catch { return null; }
 }
 
 // A browser that keeps nothing, as some do for files, is no fault.
@@ -36,6 +41,6 @@ export function keep(held) {
   try { localStorage.setItem(KEY, JSON.stringify(held)); } catch { /* the page works without */ }
 }
 
-export function kept() {
-  try { return read_kept(localStorage.getItem(KEY)); } catch { return null; }
+export async function kept() {
+  try { return await read_kept(localStorage.getItem(KEY)); } catch { return null; }
 }

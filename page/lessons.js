@@ -4,15 +4,16 @@ import { Goals } from './goals.js';
 import { Progress } from './progress.js';
 import { LessonView } from './lesson_view.js';
 
-// A task of a link or of what was kept, or null: { title, text, board, as, lines, goal }, all of them texts.
+// A task of a link or of what was kept, or null: { title, text, board, as, lines, goal }, all of them texts, and a state or null.
 export function read_task(found) {
   const names = ['title', 'text', 'board', 'as', 'lines', 'goal'];
   if (typeof found !== 'object' || found === null || names.some(name => typeof found[name] !== 'string')) return null;
-  return { ...Object.fromEntries(names.map(name => [name, found[name]])), as: found.as === 'firmware' ? found.as : 'guests', hint: '' };
+  const { as, state } = found;
+  return { ...Object.fromEntries(names.map(name => [name, found[name]])), as: as === 'firmware' ? as : 'guests', state: state ?? null, hint: '' };
 }
 
 export class Lessons {
-  // `tasks` are those of the page. `page` has `open`, which shows a board as somebody and runs lines that stand before; `held`, which
+  // `tasks` are those of the page. `page` has `open`, which shows a board as somebody from a beginning on; `held`, which
   // gives what answers lines; `guests`, their names; and `lacks`, the problems and the lacks of the board's registers.
   constructor(parts, tasks, page) {
     Object.assign(this, { tasks, page, progress: new Progress(), task: null, part: 0, goals: null, key: '', opening: false });
@@ -46,7 +47,7 @@ export class Lessons {
   begin(task, part = 0) {
     const of = task.parts?.[part] ?? task;
     this.opening = true;
-    this.page.open(task.board, task.as, of.lines, task.parts === undefined);
+    this.page.open(task.board, task.as, { lines: of.lines, state: task.state ?? null }, task.parts === undefined);
     this.opening = false;
     Object.assign(this, { task, part, key: task.name ? this.key_of(task, part) : '', goals: new Goals(task.goal, this.page.guests(), task.as) });
     this.view.draw_task(this);
@@ -71,9 +72,6 @@ export class Lessons {
     if (done && this.key !== '' && !this.progress.has(this.key)) this.progress.add(this.key);
     this.view.draw_goal(this, rows, done);
   }
-
-  // The lines that stand before the task that one is at.
-  lines() { return this.task === null ? '' : (this.task.parts?.[this.part] ?? this.task).lines.trimEnd(); }
 
   // What is kept with the board and the script: the name of a lesson and its part, or a task of a link.
   kept() {

@@ -9,12 +9,14 @@ import { Board, LARGE } from './board_view.js';
 import { Addresses } from './address_view.js';
 import { GuestMaps } from './guest_view.js';
 import { all_open } from './guest_map.js';
-import { Console } from './console.js';
+import { Console, HANDS_OVER } from './console.js';
 import { ScriptBox } from './script_box.js';
 import { Registers } from './registers.js';
 import { GuestRegisters } from './guest_registers.js';
 import { Firmware } from './firmware_view.js';
-import { fragment_of, keep, kept, kept_in, task_in } from './keep.js';
+import { keep, kept, kept_in, task_in } from './keep.js';
+import { Keeper } from './keeper.js';
+import { FRESH, NO_BOARD, State, UNREADABLE, why_not_loaded } from './state.js';
 import { Lessons } from './lessons.js';
 import { TaskForm } from './task_form.js';
 import { places_on } from './places.js';
@@ -25,7 +27,7 @@ import { texts_by_path } from './audit.js';
 const part = Object.fromEntries([...document.querySelectorAll('[id]')].map(one => [one.id, one]));
 const still = matchMedia('(prefers-reduced-motion: reduce)').matches;
 const wanted = () => new URLSearchParams(location.hash.slice(1));
-let engine = null, machine = null, functions = [], owners = new Map(), marks = new Map(), apertures = {}, as = 'guests';
+let engine = null, machine = null, functions = [], owners = new Map(), marks = new Map(), apertures = {}, as = 'guests', beginning = FRESH;
 
 // Whether firmware has given its board to the guests of the file: its lines are a script's from there on.
 const given = () => as === 'firmware' && Boolean(firmware.now?.given);
@@ -49,12 +51,11 @@ const script_console = new Console(part, box,
   { machine: answers, whose: () => ({ as: speaking(), guests: guests() }), moved, heard: reply => lessons.hear(reply), begins, ran, question });
 const lacks = () => (firmware.now === null ? ['firmware alone is told'] : [...firmware.now.problems, ...firmware.now.lacks].map(one => one.text));
 const lessons = new Lessons(part, TASKS, { open: open_task, held: answers, guests, left: set_up, lacks });
-const held = () => ({ board: part.board.value, script: script_console.script(), as, task: lessons.kept() });
-const all_lines = () => [lessons.lines(), script_console.script()].filter(one => one !== '').join('\n');
-new TaskForm(part, () => ({ ...held(), script: all_lines(), guests: guests() }));
+const shown = () => ({ board: part.board.value, as });
+const keeper = new Keeper(part, { held, as_it_is, is_refused: () => answers() === null, open: open_beginning });
+new TaskForm(part, { shown: () => ({ ...shown(), guests: guests() }), with_lines, as_it_is });
 // The width up to which guests' registers begin folded.
 const NARROW = 640;
-const HANDS_OVER = /^\s*host\s+guests\s*$/;
 let following = false, unseen = false;
 
 // What one may type about: the functions with their numbers as they are now, and where regions stand.
@@ -68,6 +69,24 @@ function known() {
 function moved(from, to) {
   const path = path_in(from.guest, from.slot);
   if (path !== undefined) { owners.set(path, to); question.doubt(); draw(); }
+}
+
+// What is kept of the board and of what the reader does. A task has a beginning of its own.
+function held() {
+  const task = lessons.kept();
+  return { ...shown(), ...(task ? { task } : beginning), script: script_console.script() };
+}
+
+// The board with all lines that lead here, where no state stands between them.
+function with_lines() {
+  return beginning.state === null ? { ...shown(), lines: script_console.all_lines(), state: null } : as_it_is();
+}
+
+// The board with the state of its guests, and the lines by which firmware gave it to them. Where no guest has it, all lines lead here.
+async function as_it_is() {
+  const image = answers()?.save() ?? null;
+  if (image === null) return { ...shown(), lines: script_console.all_lines(), state: null };
+  return { ...shown(), lines: script_console.handed, state: await State.of(image) };
 }
 
 // A board is looked at before a line gives it to its guests, as it doesn't tell from there on what it lacks. What runs before a task
@@ -199,7 +218,7 @@ function take(text, file) {
   machine = engine.open(file).made;
   functions = read.functions.map(one => ({ ...one, words: class_of(machine, one.place) }));
   owners = new Map(read.slots.map(({ guest, slot, path }) => [path, { guest, slot }]));
-  marks = marks_of(read.slots);
+  marks = marks_of(machine.guests());
   apertures = apertures_in(part.board.value);
   part.report.textContent = text;
   const bridges = functions.filter(one => one.kind === 'bridge').length;
@@ -210,6 +229,8 @@ function take(text, file) {
 // Sets the board up anew, and draws it. A task ends there, but for its own beginning.
 function set_up() {
   lessons.leave();
+  beginning = FRESH;
+  keeper.tell('');
   if (machine !== null) machine.close();
   machine = null;
   firmware.close();
@@ -252,14 +273,50 @@ function show_text(text, whom = as) {
   set_up();
 }
 
-// The board of a task, with the lines that stand before it; some tasks don't show them.
-function open_task(text, whom, lines, shows) {
+// Shows a board from a beginning on; some tasks don't show its lines.
+function open_beginning(text, whom, from, shows) {
   show_text(text, whom);
-  script_console.prepare(lines, shows);
+  begin_from(from, shows);
+}
+
+function begin_from(from, shows = true) {
+  beginning = from;
+  script_console.prepare(from.lines, shows);
   if (as === 'firmware') firmware.look();
-  part.line.placeholder = functions.length > 0 ? `host cr ${functions[0].place} 0 4` : '';
+  if (from.state !== null) load(from.state);
   registers.forget();
   follow();
+}
+
+// Loads a state into the machine, which tells then who has which function; or tells why not, and then nothing has changed.
+function load(state) {
+  const number = state.image === null ? UNREADABLE : answers()?.load(state.image) ?? NO_BOARD;
+  if (number !== 0) {
+    beginning = { ...beginning, state: null };
+    keeper.tell(why_not_loaded(number), true);
+    script_console.put('refused', why_not_loaded(number));
+    return;
+  }
+  owners = new Map(answers().seats().flatMap((owner, nth) => (owner === null ? [] : [[functions[nth].path, owner]])));
+  question.doubt();
+  if (as === 'firmware') firmware.look();
+  else guest_registers.open(functions, owners);
+  draw();
+  part.line.placeholder = first_line();
+  script_console.put('before', 'The state of its guests came with the board');
+}
+
+function open_task(text, whom, from, shows) {
+  open_beginning(text, whom, from, shows);
+  part.line.placeholder = functions.length > 0 ? `host cr ${functions[0].place} 0 4` : '';
+}
+
+// From the beginning on: that of the task, or else that of the board.
+function start_again() {
+  if (lessons.task !== null) { lessons.begin(lessons.task, lessons.part); return; }
+  const from = beginning;
+  set_up();
+  begin_from(from);
 }
 
 function tell_story(title) {
@@ -269,24 +326,16 @@ function tell_story(title) {
   if (story.shows) part[story.shows].scrollIntoView({ block: 'center' });
 }
 
-// Puts the board and the script that was run into the address, and into the clipboard where that is allowed.
-async function hand_out() {
-  const fragment = await fragment_of(held());
-  history.replaceState(null, '', `#${fragment}`);
-  await navigator.clipboard?.writeText(location.href).catch(() => {});
-  part.link.textContent = 'Link copied';
-  setTimeout(() => { part.link.textContent = 'Copy a link'; }, 2000);
-}
-
 // What the address asks for, else what the browser kept, else the first board.
 async function begin() {
-  const asked = wanted(), before = asked.has('kept') ? await kept_in(asked.get('kept')) : asked.size > 0 ? null : kept();
+  const asked = wanted(), before = asked.has('kept') ? await kept_in(asked.get('kept')) : asked.size > 0 ? null : await kept();
   if (asked.has('story')) { tell_story(asked.get('story')); return; }
   if (asked.has('lesson') && lessons.begin_by_name(asked.get('lesson'), Number(asked.get('part')) - 1)) return;
   if (asked.has('task') && lessons.take_up(await task_in(asked.get('task')))) return;
   if (before?.task && lessons.take_up(before.task)) { script_console.play(before.script, true); return; }
-  show_text(before?.board ?? BOARDS[asked.get('board') ?? Object.keys(BOARDS)[0]] ?? '', before?.as ?? asked.get('as'));
-  if (before) script_console.play(before.script, true);
+  if (before) { open_beginning(before.board, before.as, before.from); script_console.play(before.script, true); return; }
+  show_text(BOARDS[asked.get('board') ?? Object.keys(BOARDS)[0]] ?? '', asked.get('as'));
+  if (asked.has('kept') || asked.has('task')) keeper.tell('The link is cut, or was changed on its way: nothing of it can be shown. This is another board.', true);
 }
 
 function wire() {
@@ -295,10 +344,8 @@ function wire() {
   part.boards.addEventListener('change', () => show_text(BOARDS[part.boards.value]));
   part.board.addEventListener('input', set_up);
   part.board.addEventListener('scroll', () => { part.numbers.scrollTop = part.board.scrollTop; });
-  part.restart.addEventListener('click', () => (lessons.task === null ? set_up() : lessons.begin(lessons.task, lessons.part)));
+  part.restart.addEventListener('click', start_again);
   part.as.addEventListener('change', event => { be(event.target.value); set_up(); });
-  part.link.addEventListener('click', hand_out);
-  part.open.addEventListener('change', async () => show_text(await part.open.files[0].text()));
   for (const button of part.jump.querySelectorAll('button')) {
     button.addEventListener('click', () => {
       if (button.dataset.to === 'chosen') part.written.open = true;

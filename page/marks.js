@@ -5,14 +5,8 @@ const LETTERS = 'ABCDEFGHIJKLMNOPQRSTUVWXYZabcdef';
 const PATTERNS = 7;
 
 // The mark of each guest. Eight colours are easy to tell apart; the others lie between them. Letters tell all 32 apart.
-export function marks_of(slots) {
-  const marks = new Map();
-  for (const { guest } of slots) {
-    if (marks.has(guest)) continue;
-    const nth = marks.size;
-    marks.set(guest, { hue: nth < HUES.length ? HUES[nth] : (nth * 137.5) % 360, letter: LETTERS[nth], pattern: nth % PATTERNS });
-  }
-  return marks;
+export function marks_of(guests) {
+  return new Map(guests.map((guest, nth) => [guest, { hue: nth < HUES.length ? HUES[nth] : (nth * 137.5) % 360, letter: LETTERS[nth], pattern: nth % PATTERNS }]));
 }
 
 export const mark_of = (owner, marks) => owner === undefined ? undefined : marks.get(owner.guest);

@@ -2,19 +2,20 @@
 
 import { make } from './marks.js';
 import { read_goal } from './goals.js';
-import { fragment_of } from './keep.js';
+import { fragment_of, is_too_long, kilobytes, TOO_LONG } from './keep.js';
 
 export class TaskForm {
-  // `parts` are its elements; `state` gives the board, the lines that were run, whose they are, and the guests' names.
-  constructor(parts, state) {
-    Object.assign(this, { parts, state });
+  // `parts` are its elements. `page` has `shown`, the board, whose lines one writes and the guests' names; and two beginnings: `with_lines`,
+  // all lines that were run, and `as_it_is`, the state that they left.
+  constructor(parts, page) {
+    Object.assign(this, { parts, page });
     parts.task_form.addEventListener('submit', event => { event.preventDefault(); this.hand_out(); });
     parts.own_goal.addEventListener('input', () => this.look());
   }
 
   // Tells what is wrong with the goal; whether it is fine.
   look() {
-    const { as, guests } = this.state(), { wrong } = read_goal(this.parts.own_goal.value, guests, as);
+    const { as, guests } = this.page.shown(), { wrong } = read_goal(this.parts.own_goal.value, guests, as);
     this.parts.goal_wrong.replaceChildren(...wrong.map(one => make('li', '', one)));
     this.parts.own_goal.setAttribute('aria-invalid', wrong.length > 0);
     return wrong.length === 0;
@@ -22,9 +23,14 @@ export class TaskForm {
 
   async hand_out() {
     if (!this.look()) { this.parts.own_goal.focus(); return; }
-    const { board, script, as } = this.state(), [title, text, goal] = ['own_title', 'own_text', 'own_goal'].map(name => this.parts[name].value);
-    history.replaceState(null, '', `#${await fragment_of({ title: title || 'A task', text, board, as, lines: script, goal }, 'task')}`);
+    const [title, text, goal] = ['own_title', 'own_text', 'own_goal'].map(name => this.parts[name].value), { page } = this;
+    const begins = await (this.parts.own_state.checked ? page.as_it_is() : page.with_lines());
+    const is_lacking = this.parts.own_state.checked && begins.state === null;
+    const fragment = await fragment_of({ title: title || 'A task', text, ...begins, goal }, 'task');
+    history.replaceState(null, '', `#${fragment}`);
     await navigator.clipboard?.writeText(location.href).catch(() => {});
-    this.parts.handed.textContent = 'The link is in the address of this page, and copied where the browser allows it.';
+    this.parts.handed.textContent = ['The link is in the address of this page, and copied where the browser allows it.',
+      ...(is_lacking ? ['No guest has the board yet, so there is no state: the task begins with the lines.'] : []),
+      ...(is_too_long(fragment) ? [`It has ${kilobytes(fragment.length)}, and ${TOO_LONG}.`] : [])].join(' ');
   }
 }
