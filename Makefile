@@ -105,6 +105,8 @@ bench: build
 	@echo; tools/library
 	@$(CC) -O2 -Ilibrary -o crates/pciguest_c/out/calls bench/calls.c library/libpciguest.a
 	@bench/calls crates/pciguest_c/out/calls boards/main.toml
+	@echo; $(CC) -O2 -Ilibrary -o crates/pciguest_c/out/images bench/images.c library/libpciguest.a
+	@bench/images crates/pciguest_c/out/images crates/bench_accesses/out/boards
 
 # What a read of configuration space takes by lines of firmware, and by QEMU's qtest protocol. It takes Debian's
 # qemu-system-x86.
@@ -120,7 +122,7 @@ hostile: pciguest library/libpciguest.a
 # Random boards and scripts, answered by the program, by the lone guests and by a second hand in Python:
 # about a million lines. Then board files with mistakes, and what a check says of them; random register
 # states, what an audit says of them, whether they are ready, and why things find what they find; and ten thousand guests
-# that the library saves and loads elsewhere. make fuzz SEED=.. begins with another board.
+# and a thousand machines that the library saves and loads elsewhere. make fuzz SEED=.. begins with another board.
 SEED := 1
 fuzz: pciguest library/libpciguest.so.0
 	@$(PROVE) test_lone_answers
@@ -130,6 +132,7 @@ fuzz: pciguest library/libpciguest.so.0
 	@python3 tests/fuzz/ready.py ./pciguest --states 2000 --seed $(SEED)
 	@python3 tests/fuzz/why.py ./pciguest --states 2000 --seed $(SEED)
 	@python3 tests/fuzz/images.py --guests 10000 --lines 40 --changed 4 --seed $(SEED)
+	@python3 tests/fuzz/machines.py --machines 1000 --lines 40 --changed 4 --seed $(SEED)
 
 # Functions of two guests in two machines of QEMU at once, under Linux; a machine that goes on over another board; and
 # strangers at the sockets. It takes QEMU 7.2 and Debian's packages, which it names where they are missing, and some minutes
@@ -188,13 +191,13 @@ library/libpciguest.a library/libpciguest.so.0:
 	@$(MAKE) --no-print-directory library
 
 # A page that runs the proved code in a browser: pciguest.html. Node or Chromium compares what the page answers with the
-# program; where neither is there, that is said, and not compared.
-EXPORTS := $(addprefix pciguest_raw_,new free guest region why report check run_line \
-  board_new board_free board_run_line board_audit)
+# program and the library for C; where neither is there, that is said, and not compared.
+EXPORTS := $(addprefix pciguest_raw_,new free guest guest_count guest_name function region why report check run_line \
+  save_all load_all board_new board_free board_run_line board_audit)
 page: pciguest
-	@$(PROVE) pciguest_c
+	@$(MAKE) --no-print-directory library
 	@$(MAKE) --no-print-directory page/out/pciguest.wasm
-	@page/compare page/out/pciguest.wasm ./pciguest
+	@page/compare page/out/pciguest.wasm ./pciguest library/libpciguest.so.0
 	@page/assemble page/out/pciguest.wasm pciguest.html
 	@echo 'pciguest.html: open it in a browser'
 

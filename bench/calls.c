@@ -2,69 +2,11 @@
  *
  *     calls BOARD [COUNT]      a board file whose first guest has memory behind its second base address register; with a
  *                              count, one round of so many calls of each kind, for those who count instructions
- *
- * A full guest has 32 functions with 4096 cells each in a region.
  */
+#include "cost.h"
 #include "pciguest.h"
 
-#include <stdio.h>
 #include <stdlib.h>
-#include <time.h>
-
-static double now(void)
-{
-    struct timespec time;
-    clock_gettime(CLOCK_MONOTONIC, &time);
-    return time.tv_sec * 1e9 + time.tv_nsec;
-}
-
-/* Times a call that may use `i`, the count of those before it. */
-#define COST(what, usual, call)                                 \
-    do {                                                        \
-        uint32_t count = few ? few : (usual);                   \
-        double least = 1e18;                                    \
-        for (int round = 0; round < (few ? 1 : 9); round++) {   \
-            double time = now();                                \
-            for (uint32_t i = 0; i < count; i++)                \
-                faults += (call);                               \
-            time = (now() - time) / count;                      \
-            least = time < least ? time : least;                \
-        }                                                       \
-        printf("%-44s %10.1f\n", what, least);                  \
-    } while (0)
-
-/* A board whose one guest has 32 functions, each with a region that begins with 4096 cells. */
-static size_t write_full_board(char *text, size_t room)
-{
-    size_t at = (size_t)snprintf(text, room, "[host]\nio = [0x1000, 0xffff]\nmem = [0xc0000000, 0xdfffffff]\n");
-
-    for (int i = 0; i < 32; i++)
-        at += (size_t)snprintf(text + at, room - at, "[[endpoint]]\nat = \"%d.%d\"\nvendor = 0x1234\ndevice = %d\nclass = 0\n"
-                               "bar = [ { index = 0, kind = \"mem32\", size = 4096, block = 4096, rw = \"ff\" } ]\n", i / 2, i % 2, i);
-    at += (size_t)snprintf(text + at, room - at, "[[guest]]\nname = \"a\"\nslots = [");
-    for (int i = 0; i < 32; i++)
-        at += (size_t)snprintf(text + at, room - at, "\"%d.%d\"%s", i / 2, i % 2, i < 31 ? ", " : "]\n");
-    return at;
-}
-
-/* The guest of that board, saved and loaded. A thousand of these calls would be counted for minutes, so they are timed
- * alone. */
-static uint32_t images(void)
-{
-    const uint32_t few = 0;
-    static uint8_t image[1 << 20];
-    static char text[16384];
-    struct pciguest full = {0};
-    size_t size = 0, length = write_full_board(text, sizeof text);
-    uint32_t faults = pciguest_new(&full, text, length);
-
-    COST("tell how long a full guest's image is", 300, pciguest_image_size(&full, 0, &size));
-    COST("save a full guest", 30, pciguest_save(&full, 0, image, sizeof image, &size));
-    COST("load a full guest", 30, pciguest_load(&full, 0, image, size));
-    COST("reset a full guest", 30, pciguest_reset_guest(&full, 0));
-    pciguest_free(&full);
-    return faults;
-}
 
 int main(int argc, char **argv)
 {
@@ -133,7 +75,5 @@ int main(int argc, char **argv)
     COST("set up a board, and free the machine", 300, pciguest_set_up(&at_reset, &other) + (pciguest_free(&other), 0));
     pciguest_board_free(&at_reset);
     pciguest_free(&machine);
-    if (!few)
-        faults += images();
     return faults != 0;
 }

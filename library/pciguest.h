@@ -154,7 +154,8 @@ enum { PCIGUEST_REPLY = 48, PCIGUEST_WORDS = 20, PCIGUEST_GUEST_NAME = 16 };
 
 /* What a call answers, each with its words; docs/FORMATS.md says what each means. 101 to 112: the board file is refused.
  * 201 to 205: the board can't be set up. 206, 207: a board or a function can't be given to guests. 301 to 303: an access or
- * a path is refused. 601, 602: a slot is empty that must not be, or is taken. 905, 906: bytes are no image for a guest. */
+ * a path is refused. 601, 602: a slot is empty that must not be, or is taken. 905 to 907: bytes are no image for a guest or
+ * for a machine. */
 enum pciguest_status {
     PCIGUEST_OK = 0,
     PCIGUEST_NOT_TOML = 101,          /* not TOML */
@@ -189,6 +190,7 @@ enum pciguest_status {
     PCIGUEST_NOT_AT_RESET = 904,      /* not at reset */
     PCIGUEST_BAD_IMAGE = 905,         /* image */
     PCIGUEST_OTHER_FUNCTIONS = 906,   /* other functions */
+    PCIGUEST_OTHER_BOARD = 907,       /* other board */
 };
 
 /* Numbers that no call answers: 401 to 403 stand in replies to lines, and the others in the program's last line. */
@@ -233,6 +235,9 @@ uint32_t pciguest_raw_reset_guest(struct pciguest *machine, size_t guest);
 uint32_t pciguest_raw_image_size(struct pciguest *machine, size_t guest, size_t *size);
 uint32_t pciguest_raw_save(struct pciguest *machine, size_t guest, uint8_t *image, size_t room, size_t *needed);
 uint32_t pciguest_raw_load(struct pciguest *machine, size_t guest, const uint8_t *image, size_t length);
+uint32_t pciguest_raw_image_size_all(struct pciguest *machine, size_t *size);
+uint32_t pciguest_raw_save_all(struct pciguest *machine, uint8_t *image, size_t room, size_t *needed);
+uint32_t pciguest_raw_load_all(struct pciguest *machine, const uint8_t *image, size_t length);
 uint32_t pciguest_raw_give(struct pciguest *machine, const uint8_t *path, size_t length, size_t guest, uint64_t slot);
 uint32_t pciguest_raw_take(struct pciguest *machine, size_t guest, uint64_t slot);
 uint32_t pciguest_raw_device_read(struct pciguest *machine, size_t guest, uint64_t slot, uint32_t part, uint64_t offset,
@@ -497,6 +502,40 @@ PCIGUEST_CALL uint32_t pciguest_load(struct pciguest *machine, size_t guest, con
     return pciguest_raw_load(machine, guest, image ? (const uint8_t *)image : (const uint8_t *)"", length);
 }
 
+/* How many bytes the image of the whole machine has now, which pciguest_save_all writes. It stays as long as guests have the
+ * same functions in the same slots. It takes no memory and changes nothing. */
+PCIGUEST_CALL uint32_t pciguest_image_size_all(struct pciguest *machine, size_t *size)
+{
+    if (!machine || !size)
+        return PCIGUEST_ARGUMENT;
+    return pciguest_raw_image_size_all(machine, size);
+}
+
+/* Saves the whole machine: writes its image, and tells its length. The image is who has which function of the board in
+ * which slot, what each guest holds, and the board as the host reads it, but for what guests made of functions in slots.
+ * docs/FORMATS.md has the bytes. What stands behind them in the room stays. It takes no memory, and the machine stays as it
+ * is. 902: there is less room than the image needs, and nothing was written. */
+PCIGUEST_CALL uint32_t pciguest_save_all(struct pciguest *machine, void *image, size_t room, size_t *needed)
+{
+    uint8_t none;
+    if (!machine || (!image && room) || !needed)
+        return PCIGUEST_ARGUMENT;
+    return pciguest_raw_save_all(machine, image ? (uint8_t *)image : &none, room, needed);
+}
+
+/* Loads an image into the whole machine: each slot then has the function that it had in the machine that was saved, and each
+ * guest holds what that guest held. The board is an equal one that is set up alike, and the guests have the same names in the
+ * same order; where their functions sit now, and what they hold, doesn't matter. The count of pciguest_changed grows for each
+ * guest. It takes no memory. 907: the board, its guests or how it is set up are others. 906: a slot is to get what no guest
+ * can be given there, or a function is declared otherwise. 905: the bytes are no image of a machine. Of the three, what the
+ * first byte that fails tells. No line of a script says it. */
+PCIGUEST_CALL uint32_t pciguest_load_all(struct pciguest *machine, const void *image, size_t length)
+{
+    if (!machine || (!image && length))
+        return PCIGUEST_ARGUMENT;
+    return pciguest_raw_load_all(machine, image ? (const uint8_t *)image : (const uint8_t *)"", length);
+}
+
 /* Gives a function of the board that no guest has to a guest, into an empty slot: there and on the board it is then at
  * reset, on the board but for what guests have copies of. Its path is a text, as board files and pciguest_function have
  * it. 303: the slot is above 31, or no endpoint stands at the path. 602: a guest has the function, or the slot is taken.
@@ -576,9 +615,9 @@ PCIGUEST_CALL uint32_t pciguest_region(struct pciguest *machine, size_t guest, u
 
 /* A count of the guest, which grows by one with each access of the guest, move, reset, gift or taking that touches one
  * of its slots so that an answer of pciguest_region for it may be another one, and with each pciguest_reset_guest and
- * pciguest_load of it: while the count stays, each of these answers stays, for all slots and registers. Nothing else makes
- * it grow. It is 0 in a machine that was made just now, and goes on from 0 after 2^64 - 1. It takes no memory and changes
- * nothing. 902: there is no such guest. */
+ * pciguest_load of it, and by one or more with pciguest_load_all: while the count stays, each of these answers stays, for
+ * all slots and registers. Nothing else makes it grow. It is 0 in a machine that was made just now, and goes on from 0
+ * after 2^64 - 1. It takes no memory and changes nothing. 902: there is no such guest. */
 PCIGUEST_CALL uint32_t pciguest_changed(struct pciguest *machine, size_t guest, uint64_t *count)
 {
     if (!machine || !count)

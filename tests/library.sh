@@ -103,6 +103,11 @@ for kind in "${kinds[@]}"; do
     holds "$kind: images of guests, seed $seed" "./images.$kind" "$board" 2000 "$seed"
   done
 
+  holds "$kind: the machines are built" build "machines.$kind" "$top/tests/library/machines.c" "${words[@]}"
+  for seed in 1 2 3; do
+    holds "$kind: images of machines, seed $seed" "./machines.$kind" "$top/boards/server.toml" 2000 "$seed"
+  done
+
   holds "$kind: the boards are built" build "boards.$kind" "$top/tests/library/boards.c" "${wraps[@]}" "${words[@]}"
   for seed in 1 2 3; do
     holds "$kind: boards of firmware, by calls and by lines, seed $seed" "./boards.$kind" "$board" 20000 "$seed"
@@ -123,7 +128,7 @@ for kind in "${kinds[@]}"; do
   done
   holds "$kind: the migration is built" build "migrating.$kind" "$top/tests/library/migrating.c" "${words[@]}"
   for script in main/{guest,two_guests,raise,host,ports,move} server/server demo/demo; do
-    holds "$kind: guests of ${script%/*}.toml go on elsewhere, by ${script#*/}.script" "./migrating.$kind" \
+    holds "$kind: guests and machines of ${script%/*}.toml go on elsewhere, by ${script#*/}.script" "./migrating.$kind" \
       "$top/boards/${script%/*}.toml" "elsewhere.${script%/*}.toml" "$top/boards/${script#*/}.script"
   done
 
@@ -178,6 +183,8 @@ else
     PCIGUEST_LIBRARY_DIR="$top/library" python3 -m unittest discover -s tests
   holds 'Python: random guests, saved and loaded as by a second hand' env PYTHONDONTWRITEBYTECODE=1 \
     PCIGUEST_LIBRARY_DIR="$top/library" python3 "$top/tests/fuzz/images.py" --guests 200
+  holds 'Python: random machines, saved and loaded as by a second hand' env PYTHONDONTWRITEBYTECODE=1 \
+    PCIGUEST_LIBRARY_DIR="$top/library" python3 "$top/tests/fuzz/machines.py" --machines 20
   env PYTHONPATH="$top/library/python" PYTHONDONTWRITEBYTECODE=1 PCIGUEST_LIBRARY_DIR="$top/library" \
     python3 "$top/examples/python/device.py" "$top/examples/device.toml" > device.python.out 2>&1
   holds 'Python: the example prints what the one in C does' cmp device.python.out "$top/tests/library/device.stdout"
@@ -205,7 +212,7 @@ holds 'the lines of LIBRARY.md' test "$(./printed < "$board")" = '0 a5a5a5a5'
 holds 'the lines of LIBRARY.md over an empty file' test "$(./printed < /dev/null)" = '102 0'
 
 # ---- its program that saves a guest, restores it, and lets it go on over another board
-blocks c 'int main' 1 > migrate.c
+blocks c 'pciguest_reset_guest' 1 > migrate.c
 holds 'the program of LIBRARY.md that migrates a guest is built' build migrate migrate.c
 migrated=$(printf '0xffffffff\n0x12345678')
 holds 'the program of LIBRARY.md that migrates a guest' \
@@ -215,6 +222,12 @@ if [ -e "$top/library/libpciguest.so.0" ] && command -v python3 > /dev/null; the
   holds 'the same in Python' test "$(env PYTHONPATH="$top/library/python" PYTHONDONTWRITEBYTECODE=1 \
     PCIGUEST_LIBRARY_DIR="$top/library" python3 migrate.py "$board" "$top/tests/rows/other_places.toml")" = "$migrated"
 fi
+
+# ---- its program that saves a whole machine
+blocks c 'pciguest_save_all' 1 > whole.c
+holds 'the program of LIBRARY.md that saves a machine is built' build whole whole.c
+holds 'it has twenty lines' test "$(wc -l < whole.c)" -le 20
+holds 'the program of LIBRARY.md that saves a machine' test "$(./whole < "$board")" = 0x0b
 
 # ---- the rows of functions that it prints
 {

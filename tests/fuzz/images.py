@@ -61,9 +61,13 @@ class Pair:
         self.machine = Machine(self.text)
         self.guests = [(guest, self.machine.guest(name.decode())) for name, guest in self.world.guests.items()]
 
+    def both(self, line):
+        """What the second hand and the library answer."""
+        return self.world.answer(line), self.machine.run_line(line)
+
     def answers(self, line):
-        """What both answer, None for reads of the host, which tell of the board."""
-        wanted, came = self.world.answer(line), self.machine.run_line(line)
+        """The same, None for reads of the host, which tell of the board."""
+        wanted, came = self.both(line)
         return (None, None) if wanted is not None and wanted.host_read else (wanted, came)
 
 

@@ -1,6 +1,6 @@
-"""Images of guests that were changed at random, by 100,000 on each board: tests/library/loads.c loads them, under the
-sanitizers of the compiler where it has them. Each is refused by 905 or 906, and nothing changes, or the guest is then saved as
-these bytes; and nothing beyond them is read or written.
+"""Images of guests that were changed at random, by 100,000 on each board, and 10,000 of whole machines: tests/library/loads.c
+loads them, under the sanitizers of the compiler where it has them. Each is refused by 905 or 906, or that of a machine by 907,
+and nothing changes, or the guest or the machine is then saved as these bytes; and nothing beyond them is read or written.
 
     images.py [COUNT]      COUNT in place of 100000
 
@@ -14,6 +14,7 @@ from pathlib import Path
 
 from harness import BOARDS, TOP
 
+TOLD = re.compile(r"(guests|machines): ([0-9]+) loaded, refused by 905: ([0-9]+), by 906: ([0-9]+), by 907: ([0-9]+)\n")
 SANITIZERS = ["-fsanitize=address,undefined", "-fno-sanitize-recover=all"]
 # a board with two guests, each of a function with all kinds of cells
 BLOCKS = """[host]
@@ -56,13 +57,15 @@ def main(count):
             print("the compiler has no sanitizers: without them")
         blocks = Path(folder, "blocks.toml")
         blocks.write_text(BLOCKS)
-        print("| Board | Loaded | 905 | 906 |\n|---|---|---|---|")
+        print("| Board | Images of | Loaded | 905 | 906 | 907 |\n|---|---|---|---|---|---|")
         for board in (BOARDS / "main.toml", BOARDS / "kinds.toml", BOARDS / "server.toml", blocks):
             run = subprocess.run([program, board, count, "1"], capture_output=True, text=True, timeout=600)
-            told = re.findall(r"[0-9]+", run.stdout)
-            holds = run.returncode == 0 and len(told) == 3 and sum(map(int, told)) == int(count)
+            told = TOLD.findall(run.stdout)
+            holds = run.returncode == 0 and [(of, sum(map(int, counts))) for of, *counts in told] == [
+                ("guests", int(count)), ("machines", int(count) // 10)]
             passed, failed = passed + holds, failed + (not holds)
-            print(f"| `{board.name}` | {' | '.join(told)} |" if holds else f"FAILED: {board.name}: {run.stderr}", flush=True)
+            rows = "\n".join(f"| `{board.name}` | {' | '.join(row)} |" for row in told)
+            print(rows if holds else f"FAILED: {board.name}: {run.stderr}", flush=True)
     print(f"images: {passed} passed, {failed} failed")
     return failed == 0
 

@@ -1,10 +1,12 @@
 /* Images that were changed at random are loaded into two guests, between random events of theirs. Each is refused by 905 or
  * 906, and nothing changes, or it is loaded, and the guest is then saved as these bytes; the other guest stays as it is.
- * Images are saved to and loaded from the very end of memory that may be touched, so that one byte too far ends the program.
+ * Images of the whole machine are so too, and refused by 907 besides. Images are saved to and loaded from the very end of
+ * memory that may be touched, so that one byte too far ends the program.
  *
  *     loads BOARD COUNT SEED
  *
- * BOARD has two guests. The last line tells how many were loaded and refused. */
+ * BOARD has two guests. The machine is loaded once for ten guests. The last two lines tell how many guests and machines were
+ * loaded, and how many images were refused. */
 #define _DEFAULT_SOURCE
 #include "pciguest.h"
 
@@ -76,6 +78,18 @@ static uint8_t *save(struct pciguest *machine, size_t guest, const struct room *
     return room->end - size;
 }
 
+/* The same of the machine. */
+static uint8_t *save_all(struct pciguest *machine, const struct room *room)
+{
+    size_t size = 0, needed = 0;
+
+    IS(pciguest_image_size_all(machine, &size), 0);
+    IS(size <= room->size, 1);
+    IS(pciguest_save_all(machine, room->end - size, size, &needed), 0);
+    IS(needed, size);
+    return room->end - size;
+}
+
 /* ---- what is changed */
 
 /* Changes bytes of an image that ends where its room ends, and gives its new beginning. */
@@ -138,9 +152,16 @@ static void event(struct pciguest *machine)
     }
 }
 
+/* How many images were loaded, and refused by 905, 906 and 907. */
 struct counts {
-    uint64_t loaded, images, others;
+    uint64_t of[4];
 };
+
+static void add(struct counts *counts, uint32_t number, uint32_t last)
+{
+    IS(number == 0 || (number >= PCIGUEST_BAD_IMAGE && number <= last), 1);
+    counts->of[number ? (number - PCIGUEST_BAD_IMAGE + 1) % 4 : 0]++;
+}
 
 /* A load of a guest, by one of these rooms each for what it held, for the image, and for what the other guest holds. */
 static void load(struct pciguest *machine, const struct room rooms[3], struct counts *counts)
@@ -161,14 +182,36 @@ static void load(struct pciguest *machine, const struct room rooms[3], struct co
     if (number == 0) {
         IS(length, size);
         memcpy(held, image, length < size ? length : size);
-    } else {
-        IS(number == PCIGUEST_BAD_IMAGE || number == PCIGUEST_OTHER_FUNCTIONS, 1);
     }
     IS(memcmp(save(machine, guest, &rooms[1]), held, size), 0);
     IS(memcmp(save(machine, other, &rooms[1]), beside, size_of(machine, other)), 0);
-    counts->loaded += number == 0;
-    counts->images += number == PCIGUEST_BAD_IMAGE;
-    counts->others += number == PCIGUEST_OTHER_FUNCTIONS;
+    add(counts, number, PCIGUEST_OTHER_FUNCTIONS);
+}
+
+/* The same of the machine, whose functions may have come to other slots since it was saved. */
+static void load_all(struct pciguest *machine, const struct room rooms[3], struct counts *counts)
+{
+    uint8_t *image = save_all(machine, &rooms[1]), *held, *after;
+    uint32_t number;
+
+    for (uint64_t left = below(4); left > 0; left--)
+        event(machine);
+    held = save_all(machine, &rooms[0]);
+    if (below(10))
+        image = change(image, &rooms[1]);
+    number = pciguest_load_all(machine, image, (size_t)(rooms[1].end - image));
+    after = save_all(machine, &rooms[2]);
+    if (number == 0)
+        held = image;
+    IS(rooms[2].end - after, (number == 0 ? rooms[1].end : rooms[0].end) - held);
+    IS(memcmp(after, held, (size_t)(rooms[2].end - after)), 0);
+    add(counts, number, PCIGUEST_OTHER_BOARD);
+}
+
+static void tell(const char *what, const struct counts *counts)
+{
+    printf("%s: %" PRIu64 " loaded, refused by 905: %" PRIu64 ", by 906: %" PRIu64 ", by 907: %" PRIu64 "\n", what, counts->of[0],
+           counts->of[1], counts->of[2], counts->of[3]);
 }
 
 int main(int argc, char **argv)
@@ -177,8 +220,8 @@ int main(int argc, char **argv)
     struct pciguest machine = PCIGUEST_INIT;
     FILE *file = argc == 4 ? fopen(argv[1], "rb") : NULL;
     struct room rooms[3];
-    struct counts counts = {0};
-    size_t length, most;
+    struct counts guests = {0}, machines = {0};
+    size_t length, most = 0;
 
     if (!file)
         return 2;
@@ -186,15 +229,18 @@ int main(int argc, char **argv)
     fclose(file);
     state = strtoull(argv[3], NULL, 10) * 0x9e3779b97f4a7c15u + 1;
     IS(pciguest_new(&machine, board, length), 0);
-    most = size_of(&machine, 0) + size_of(&machine, 1) + MORE;
+    IS(pciguest_image_size_all(&machine, &most), 0);
+    most += MORE;
     for (size_t i = 0; i < 3; i++)
         rooms[i] = room_of(most);
     for (uint64_t left = strtoull(argv[2], NULL, 10); left > 0 && !wrong; left--) {
         event(&machine);
-        load(&machine, rooms, &counts);
+        load(&machine, rooms, &guests);
     }
+    for (uint64_t left = strtoull(argv[2], NULL, 10) / 10; left > 0 && !wrong; left--)
+        load_all(&machine, rooms, &machines);
     pciguest_free(&machine);
-    printf("%" PRIu64 " images loaded, %" PRIu64 " refused as no image, %" PRIu64 " as of other functions\n", counts.loaded,
-           counts.images, counts.others);
+    tell("guests", &guests);
+    tell("machines", &machines);
     return wrong != 0;
 }

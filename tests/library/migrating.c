@@ -1,5 +1,6 @@
 /* A script over a board, cut at each of its lines: its guests are saved there and loaded over another board, where the rest of
- * the script has to be answered as on the first, byte for byte, but for what the host reads of the board.
+ * the script has to be answered as on the first, byte for byte, but for what the host reads of the board. The whole machine is
+ * saved too, and loaded into one over an equal board, which answers the host's lines alike as well.
  *
  *     migrating BOARD OTHER SCRIPT
  *
@@ -69,7 +70,7 @@ static void arrange(struct pciguest *machine, char *const *lines, size_t count)
 }
 
 /* Saves each guest of one machine, and loads it into the guest of the other. */
-static void migrate(struct pciguest *from, struct pciguest *to)
+static void migrate_guests(struct pciguest *from, struct pciguest *to)
 {
     size_t guests = 0, size = 0, needed = 0, again = 0;
 
@@ -93,28 +94,66 @@ static void migrate(struct pciguest *from, struct pciguest *to)
     }
 }
 
+/* Saves one machine, and loads it into the other, whose guests sit elsewhere. */
+static void migrate_all(struct pciguest *from, struct pciguest *to)
+{
+    size_t size = 0, needed = 0, again = 0;
+    uint8_t *image, *loaded;
+
+    IS(pciguest_image_size_all(from, &size), 0);
+    image = calloc(1, size);
+    loaded = calloc(1, size);
+    if (!image || !loaded)
+        exit(2);
+    arrange(to, NULL, 0);
+    (void)pciguest_take(to, 0, 1);
+    (void)pciguest_move(to, 0, 0, 0, 31);
+    IS(pciguest_save_all(from, image, size, &needed), 0);
+    IS(needed, size);
+    IS(pciguest_load_all(to, image, size), 0);
+    IS(pciguest_save_all(to, loaded, size, &again), 0);
+    IS(again, size);
+    IS(memcmp(image, loaded, size), 0);
+    free(image);
+    free(loaded);
+}
+
+/* Runs a line on a machine, which replies so. */
+static void replies(struct pciguest *machine, const char *line, const char *wanted, size_t length)
+{
+    char reply[PCIGUEST_REPLY];
+
+    IS(run(machine, line, reply), length);
+    IS(memcmp(reply, wanted, sizeof reply), 0);
+    if (wrong)
+        fprintf(stderr, "%s\n  before: %.*s  here: %.*s", line, PCIGUEST_REPLY, wanted, PCIGUEST_REPLY, reply);
+}
+
 static void cut_at(size_t cut, char *const *lines, size_t count, const struct text *board, const struct text *other)
 {
-    struct pciguest here = PCIGUEST_INIT, there = PCIGUEST_INIT;
-    char reply[PCIGUEST_REPLY], wanted[PCIGUEST_REPLY];
+    struct pciguest here = PCIGUEST_INIT, there = PCIGUEST_INIT, equal = PCIGUEST_INIT;
+    char reply[PCIGUEST_REPLY];
 
     IS(pciguest_new(&here, board->bytes, board->length), 0);
     IS(pciguest_new(&there, other->bytes, other->length), 0);
+    IS(pciguest_new(&equal, board->bytes, board->length), 0);
     for (size_t i = 0; i < cut; i++)
         run(&here, lines[i], reply);
     arrange(&there, lines, cut);
-    migrate(&here, &there);
+    migrate_guests(&here, &there);
+    migrate_all(&here, &equal);
     for (size_t i = cut; i < count && !wrong; i++) {
-        if (strncmp(lines[i], "host ", 5) == 0 && !is_move(lines[i]))
-            continue;
-        IS(run(&there, lines[i], reply), run(&here, lines[i], wanted));
-        IS(memcmp(reply, wanted, sizeof reply), 0);
-        if (wrong)
-            fprintf(stderr, "cut at line %zu: %s\n  here: %.*s  there: %.*s", cut, lines[i], (int)sizeof wanted, wanted,
-                    (int)sizeof reply, reply);
+        size_t length = run(&here, lines[i], reply);
+
+        replies(&equal, lines[i], reply, length);
+        if (strncmp(lines[i], "host ", 5) != 0 || is_move(lines[i]))
+            replies(&there, lines[i], reply, length);
     }
+    if (wrong)
+        fprintf(stderr, "cut at line %zu\n", cut);
     pciguest_free(&here);
     pciguest_free(&there);
+    pciguest_free(&equal);
 }
 
 int main(int argc, char **argv)

@@ -32,6 +32,9 @@ static void without_a_machine(void)
     IS(pciguest_image_size(&none, 0, &count), 901);
     IS(pciguest_save(&none, 0, reply, sizeof reply, &count), 901);
     IS(pciguest_load(&none, 0, reply, sizeof reply), 901);
+    IS(pciguest_image_size_all(&none, &count), 901);
+    IS(pciguest_save_all(&none, reply, sizeof reply, &count), 901);
+    IS(pciguest_load_all(&none, reply, sizeof reply), 901);
     IS(pciguest_give(&none, "1.0", 3, 0, 0), 901);
     IS(pciguest_take(&none, 0, 0), 901);
     IS(pciguest_device_read(&none, 0, 0, 1, 0, &value), 901);
@@ -90,6 +93,14 @@ static void null_pointers(struct pciguest *machine)
     IS(pciguest_load(NULL, 0, reply, sizeof reply), 902);
     IS(pciguest_load(machine, 0, NULL, 1), 902);
     IS(pciguest_load(machine, 0, NULL, 0), 905);
+    IS(pciguest_image_size_all(NULL, &count), 902);
+    IS(pciguest_image_size_all(machine, NULL), 902);
+    IS(pciguest_save_all(NULL, reply, sizeof reply, &count), 902);
+    IS(pciguest_save_all(machine, NULL, 1, &count), 902);
+    IS(pciguest_save_all(machine, reply, sizeof reply, NULL), 902);
+    IS(pciguest_load_all(NULL, reply, sizeof reply), 902);
+    IS(pciguest_load_all(machine, NULL, 1), 902);
+    IS(pciguest_load_all(machine, NULL, 0), 905);
     IS(pciguest_give(NULL, "1.0", 3, 0, 0), 902);
     IS(pciguest_give(machine, NULL, 1, 0, 0), 902);
     IS(pciguest_give(machine, NULL, 0, 0, 0), 303);
@@ -152,6 +163,7 @@ static void bad_arguments(struct pciguest *machine, const uint8_t *board, size_t
     IS(pciguest_save(machine, 2, reply, sizeof reply, &count), 902);
     IS(pciguest_load(machine, 2, reply, sizeof reply), 902);
     IS(pciguest_load(machine, 0, reply, sizeof reply), 905);
+    IS(pciguest_load_all(machine, reply, sizeof reply), 905);
     IS(pciguest_give(machine, "1.0", 3, 2, 5), 902);
     IS(pciguest_give(machine, "1.0", 3, 0, 32), 303);
     IS(pciguest_give(machine, "1.0", 3, 0, 5), 602);
@@ -272,6 +284,43 @@ static void images(struct pciguest *machine)
     IS(needed, size);
     IS(pciguest_read(machine, 0, PCIGUEST_CONFIG, 1, 0x3c, 1, &value), 0);
     IS(value, 0);
+}
+
+/* So is the whole machine. */
+static void whole_images(struct pciguest *machine)
+{
+    static uint8_t image[8192];
+    uint32_t value = 7;
+    size_t size = 0, needed = 0;
+    long before = blocks;
+
+    IS(pciguest_write(machine, 0, PCIGUEST_CONFIG, 1, 0x3c, 1, 0x5a), 0);
+    calls_left = 1;
+    IS(pciguest_image_size_all(machine, &size), 0);
+    IS(pciguest_save_all(machine, NULL, 0, &needed), 902);
+    IS(needed, size);
+    needed = 0;
+    IS(pciguest_save_all(machine, image, size - 1, &needed), 902);
+    IS(needed, size);
+    IS(image[0], 0);
+    memset(image, 0x5a, sizeof image);
+    IS(pciguest_save_all(machine, image, sizeof image, &needed), 0);
+    IS(needed, size);
+    IS(memcmp(image, "PCIM\1\0\0\0", 8), 0);
+    IS(image[size], 0x5a);
+    IS(pciguest_move(machine, 0, 1, 1, 5), 0);
+    IS(pciguest_load_all(machine, image, size + 1), 905);
+    image[8]++; /* how many functions the board has */
+    IS(pciguest_load_all(machine, image, size), 907);
+    image[8]--;
+    IS(pciguest_read(machine, 0, PCIGUEST_CONFIG, 1, 0, 4, &value), 0);
+    IS(value, UINT32_MAX);
+    IS(pciguest_load_all(machine, image, size), 0);
+    IS(pciguest_read(machine, 0, PCIGUEST_CONFIG, 1, 0x3c, 1, &value), 0);
+    IS(value, 0x5a);
+    IS(pciguest_reset_guest(machine, 0), 0);
+    calls_left = -1;
+    IS((uint64_t)blocks, (uint64_t)before);
 }
 
 /* A function that is taken from its guest comes to another, at reset in its slot and on the board, and takes no memory. A
@@ -434,7 +483,7 @@ static void words(uint32_t number, const char *wanted)
 
 static void all_words(void)
 {
-    static const uint32_t without[] = {0, 1, 100, 113, 200, 210, 300, 304, 400, 404, 603, 900, 907, 0xffffffff, 0x10065};
+    static const uint32_t without[] = {0, 1, 100, 113, 200, 210, 300, 304, 400, 404, 603, 900, 908, 0xffffffff, 0x10065};
     uint32_t number, known = 0;
     char text[PCIGUEST_WORDS] = {0};
     size_t needed = 0;
@@ -459,13 +508,14 @@ static void all_words(void)
     words(904, "not at reset");
     words(905, "image");
     words(906, "other functions");
+    words(907, "other board");
     for (size_t i = 0; i < sizeof without / sizeof *without; i++)
         words(without[i], "");
     for (number = 0; number < 1 << 17; number++) {
         IS(pciguest_words(number, text, sizeof text, &needed), 0);
         known += needed != 0;
     }
-    IS(known, 42);
+    IS(known, 43);
 }
 
 /* Each allocation fails in turn: the answer is out of memory, the handle stays empty, and nothing is lost. */
@@ -532,6 +582,7 @@ int main(int argc, char **argv)
     guests(&machine);
     resets(&machine);
     images(&machine);
+    whole_images(&machine);
     gifts(&machine);
     devices(&machine);
     line_feeds(&machine);

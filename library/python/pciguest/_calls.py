@@ -60,6 +60,7 @@ IN_USE = 903  # in use
 NOT_AT_RESET = 904  # not at reset
 BAD_IMAGE = 905  # image
 OTHER_FUNCTIONS = 906  # other functions
+OTHER_BOARD = 907  # other board
 
 NOT_READY = 208  # not ready
 REFUSED_LINE = 209  # refused line
@@ -314,6 +315,21 @@ DECLARED: Dict[str, Tuple[Any, Tuple[Any, ...]]] = {
     # filled, or a function is declared otherwise. 905: the bytes are no image, as with a value that its register can't
     # hold. Of both, what the first byte that fails tells. 902: there is no such guest. No line of a script says it.
     "load": (c_uint32, (POINTER(Handle), c_size_t, c_char_p, c_size_t)),
+    # How many bytes the image of the whole machine has now, which pciguest_save_all writes. It stays as long as guests
+    # have the same functions in the same slots. It takes no memory and changes nothing.
+    "image_size_all": (c_uint32, (POINTER(Handle), POINTER(c_size_t))),
+    # Saves the whole machine: writes its image, and tells its length. The image is who has which function of the board
+    # in which slot, what each guest holds, and the board as the host reads it, but for what guests made of functions in
+    # slots. docs/FORMATS.md has the bytes. What stands behind them in the room stays. It takes no memory, and the
+    # machine stays as it is. 902: there is less room than the image needs, and nothing was written.
+    "save_all": (c_uint32, (POINTER(Handle), c_void_p, c_size_t, POINTER(c_size_t))),
+    # Loads an image into the whole machine: each slot then has the function that it had in the machine that was saved,
+    # and each guest holds what that guest held. The board is an equal one that is set up alike, and the guests have the
+    # same names in the same order; where their functions sit now, and what they hold, doesn't matter. The count of
+    # pciguest_changed grows for each guest. It takes no memory. 907: the board, its guests or how it is set up are
+    # others. 906: a slot is to get what no guest can be given there, or a function is declared otherwise. 905: the
+    # bytes are no image of a machine. Of the three, what the first byte that fails tells. No line of a script says it.
+    "load_all": (c_uint32, (POINTER(Handle), c_char_p, c_size_t)),
     # Gives a function of the board that no guest has to a guest, into an empty slot: there and on the board it is then
     # at reset, on the board but for what guests have copies of. Its path is a text, as board files and
     # pciguest_function have it. 303: the slot is above 31, or no endpoint stands at the path. 602: a guest has the
@@ -350,9 +366,10 @@ DECLARED: Dict[str, Tuple[Any, Tuple[Any, ...]]] = {
     "region": (c_uint32, (POINTER(Handle), c_size_t, c_uint64, c_uint32, POINTER(RegionTold))),
     # A count of the guest, which grows by one with each access of the guest, move, reset, gift or taking that touches
     # one of its slots so that an answer of pciguest_region for it may be another one, and with each
-    # pciguest_reset_guest and pciguest_load of it: while the count stays, each of these answers stays, for all slots
-    # and registers. Nothing else makes it grow. It is 0 in a machine that was made just now, and goes on from 0 after
-    # 2^64 - 1. It takes no memory and changes nothing. 902: there is no such guest.
+    # pciguest_reset_guest and pciguest_load of it, and by one or more with pciguest_load_all: while the count stays,
+    # each of these answers stays, for all slots and registers. Nothing else makes it grow. It is 0 in a machine that
+    # was made just now, and goes on from 0 after 2^64 - 1. It takes no memory and changes nothing. 902: there is no
+    # such guest.
     "changed": (c_uint32, (POINTER(Handle), c_size_t, POINTER(c_uint64))),
     # What an access of the guest at a place hits, as pciguest_read and pciguest_write take the place: a byte of a
     # function in one of its slots, or nothing. It takes no memory and changes nothing. Every access there begins at

@@ -1,9 +1,11 @@
-"""What a guest alone holds, as bytes that outlive its machine."""
+"""What a guest alone holds, and what a whole machine is, as bytes that outlive the machine."""
 
 from __future__ import annotations
 
 from ctypes import byref, c_size_t, create_string_buffer
 from typing import TYPE_CHECKING, Union
+
+from ._held import Held
 
 if TYPE_CHECKING:
     from ._machine import Machine
@@ -92,3 +94,65 @@ class Saved:
         True
         """
         self.machine._call("reset_guest", self.index)
+
+
+class SavedMachine(Held):
+    """A machine that is saved and loaded as a whole."""
+
+    def image_size_all(self) -> int:
+        """How many bytes the image of the whole machine has, which `save_all` gives. It stays as long as guests have the
+        same functions in the same slots. It changes nothing.
+
+        >>> with Machine(BOARD) as machine:
+        ...     size = machine.image_size_all()
+        ...     machine.guest("a").config[0][4:2] = 2
+        ...     machine.image_size_all() == size
+        True
+        """
+        size = c_size_t(0)
+        self._call("image_size_all", byref(size))
+        return size.value
+
+    def save_all(self) -> bytes:
+        """Saves the whole machine: its image, which is who has which function of the board in which slot, what each guest
+        holds, and the board as the host reads it, but for what guests made of functions in slots. docs/FORMATS.md, section
+        8, has the bytes. What a `Device` keeps beside its registers is the program's to save. The machine stays as it is.
+
+        >>> with Machine(BOARD) as machine:
+        ...     machine.save_all()[:8]  # the format, and its version
+        b'PCIM\\x01\\x00\\x00\\x00'
+        """
+        with self._lock:
+            room, needed = self.image_size_all(), c_size_t(0)
+            image = create_string_buffer(room)
+            self._call("save_all", image, room, byref(needed))
+        return image.raw[: needed.value]
+
+    def load_all(self, image: Union[bytes, bytearray]) -> None:
+        """Loads an image into the whole machine: each slot then has the function that it had in the machine that was saved,
+        and each guest holds what that guest held. The board is an equal one, set up alike, and its guests have the same
+        names in the same order; where their functions sit now, and what they hold, doesn't matter. The machine of the image
+        isn't needed any more. A `Device` isn't told of it; its registers are as they were saved.
+
+        905: the bytes are no image of a machine. 906: a slot is to get what no guest can be given there, or a function is
+        declared otherwise. 907: the board, its guests or how it is set up are others. Of the three, what the first byte
+        that fails tells.
+
+        >>> with Machine(BOARD) as machine:
+        ...     a = machine.guest("a")
+        ...     machine.move(a, 0, a, 5)
+        ...     a.config[5][4:2] = 2
+        ...     image = machine.save_all()
+        >>> with Machine(BOARD) as other:  # all guests go on there
+        ...     other.load_all(image)
+        ...     other.guest("a").config[5][4:2]
+        2
+        >>> with Machine(BOARD.replace('"a"', '"z"')) as other:
+        ...     try:
+        ...         other.load_all(image)
+        ...     except Refusal as refusal:
+        ...         print(refusal)
+        907 other board
+        """
+        told = bytes(image)
+        self._call("load_all", told, len(told))

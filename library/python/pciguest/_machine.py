@@ -11,7 +11,7 @@ from ._calls import CONFIG, GUEST_NAME, IO, MEMORY, RAISE_CONFIG, FunctionTold, 
 from ._devices import Device, Touch
 from ._functions import Function, function_of
 from ._held import Held, as_bytes
-from ._images import Saved
+from ._images import Saved, SavedMachine
 from ._library import CALLS, number, told
 from ._lines import Access, access_of
 from ._refusal import Refusal, answered
@@ -20,7 +20,7 @@ from ._spaces import Functions, ReadableSpace, Space
 from ._texts import NAME, explained
 
 
-class Machine(Held):
+class Machine(SavedMachine):
     """A board that is set up, with its guests.
 
     `Machine.load("board.toml")` sets up the board of a board file, and gives its functions to the guests of the file;

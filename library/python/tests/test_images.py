@@ -1,11 +1,11 @@
-"""Guests that are saved, loaded and put to reset. Each script of the folder `boards` goes on over another board, wherever it
-is cut."""
+"""Guests that are saved, loaded and put to reset, and whole machines. Each script of the folder `boards` goes on over another
+board, or in another machine over an equal one, wherever it is cut."""
 
 import re
 import unittest
 
 from boards import BOARDS, MAIN, TOP
-from pciguest import Machine, Refusal
+from pciguest import Board, Machine, Refusal
 
 SCRIPTS = {
     "demo": ["demo"],
@@ -81,20 +81,27 @@ class Images(Case):
     def test_a_machine_that_is_closed_saves_nothing(self):
         image = self.a.save()
         self.machine.close()
-        for call in (self.a.image_size, self.a.save, self.a.reset_guest):
+        for call in (self.a.image_size, self.a.save, self.a.reset_guest, self.machine.image_size_all, self.machine.save_all):
             self.refused(901, call)
-        self.refused(901, self.a.load, image)
+        for call in (self.a.load, self.machine.load_all):
+            self.refused(901, call, image)
+
+
+def cuts():
+    """Each script, cut at each of its lines: its name, the board, the lines before and those behind."""
+    for board, scripts in SCRIPTS.items():
+        text = (BOARDS / f"{board}.toml").read_text()
+        for script in scripts:
+            lines = (BOARDS / f"{script}.script").read_text().splitlines()
+            for cut in range(len(lines) + 1):
+                yield script, text, lines[:cut], lines[cut:]
 
 
 class Loads(Case):
     def test_guests_go_on_over_another_board(self):
-        for board, scripts in SCRIPTS.items():
-            text = (BOARDS / f"{board}.toml").read_text()
-            for script in scripts:
-                lines = (BOARDS / f"{script}.script").read_text().splitlines()
-                for cut in range(len(lines) + 1):
-                    with self.subTest(script=script, cut=cut):
-                        self.goes_on(text, lines[:cut], lines[cut:])
+        for script, board, first, rest in cuts():
+            with self.subTest(script=script, cut=len(first)):
+                self.goes_on(board, first, rest)
 
     def goes_on(self, board, first, rest):
         with Machine(board) as here, arranged(board, first) as there:
@@ -128,6 +135,66 @@ class Loads(Case):
         self.assertEqual(self.a.save(), held)
         self.machine.move(self.a, 0, self.a, 5)
         self.refused(906, self.a.load, image)
+
+
+class Machines(Case):
+    def test_machines_go_on_over_an_equal_board(self):
+        for script, board, first, rest in cuts():
+            with self.subTest(script=script, cut=len(first)), Machine(board) as here, Machine(board) as there:
+                for line in first:
+                    here.run_line(line)
+                guest = there.guest(there.guests()[0])
+                there.move(guest, 0, guest, 31)
+                image = here.save_all()
+                self.assertEqual(here.image_size_all(), len(image))
+                there.load_all(bytearray(image))
+                self.assertEqual(there.save_all(), image)
+                self.assertEqual([there.run_line(line) for line in rest], [here.run_line(line) for line in rest])
+
+    def test_functions_come_back_to_their_slots(self):
+        self.machine.move(self.a, 1, self.b, 9)
+        self.b.config[9][4:2] = 2
+        image, counts = self.machine.save_all(), (self.a.changed(), self.b.changed())
+        self.machine.take(self.b, 9)
+        self.machine.move(self.b, 0, self.a, 1)
+        self.assertLess(self.machine.image_size_all(), len(image))
+        self.machine.load_all(image)
+        self.assertEqual(self.machine.save_all(), image)
+        self.assertEqual([self.b.function(slot).path for slot in (9, 0)], ["2.0/1.0", "2.0/0.0"])
+        self.refused(601, self.a.function, 1)
+        self.assertEqual(self.b.config[9][4:2], 2)
+        self.assertTrue(self.a.changed() > counts[0] and self.b.changed() > counts[1])
+
+    def test_bytes_that_are_no_image_for_a_machine_are_refused(self):
+        image, own = self.machine.save_all(), self.a.save()
+        self.machine.move(self.a, 0, self.b, 7)
+        held = self.machine.save_all()
+        for text in (b"", b"PCIM", image[:-1], image + b"\0", own):
+            self.refused(905, self.machine.load_all, text)
+        self.refused(905, self.a.load, image)
+        at = image.index(b"\1a\1\1\1\0") + 4  # the name, and the path of the function in slot 0
+        self.refused(906, self.machine.load_all, image[:at] + b"\x09" + image[at + 1 :])
+        self.assertEqual(self.machine.save_all(), held)
+
+    def test_an_image_of_another_board_is_refused(self):
+        image = self.machine.save_all()
+        others = [MAIN.replace(*pair) for pair in (('"b"', '"c"'), ("0x0003", "0x0005"), ("mem = [0xc", "mem = [0xb"))]
+        machines = [Machine(text) for text in others] + [self.driven()]
+        for machine in machines:
+            with machine:
+                held = machine.save_all()
+                self.refused(907, machine.load_all, image)
+                self.assertEqual(machine.save_all(), held)
+
+    def driven(self):
+        """The same guests over the same board, which this firmware sets up."""
+        board = Board(MAIN)
+        for bus, device, offset, value in [(0, 1, 0x10, 0x1000), (0, 1, 0x14, 0xD0000000), (0, 2, 0x18, 0x00010100),
+                                           (0, 2, 0x1C, 0x3030), (0, 2, 0x20, 0xD110D110), (0, 2, 0x24, 0xD2F0D200),
+                                           (1, 0, 0x10, 0xD1100000), (1, 0, 0x14, 0x3010), (1, 1, 0x10, 0xD2000000),
+                                           (0, 1, 4, 3), (0, 2, 4, 3), (1, 0, 4, 3), (1, 1, 4, 2)]:
+            board.config[bus, device, 0][offset:4] = value
+        return board.into_guests()
 
 
 if __name__ == "__main__":

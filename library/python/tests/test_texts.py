@@ -44,9 +44,9 @@ class Texts(unittest.TestCase):
         self.assertTrue(text.startswith("endpoints 769 bridges 255\n") and text.endswith("\n"))
 
     def test_words(self):
-        self.assertEqual(sum(words(each) != "" for each in range(1000)), 42)
+        self.assertEqual(sum(words(each) != "" for each in range(1000)), 43)
         self.assertEqual(words(205), "prefetchable pool")
-        self.assertEqual((words(905), words(906)), ("image", "other functions"))
+        self.assertEqual([words(each) for each in (905, 906, 907)], ["image", "other functions", "other board"])
         self.assertEqual(words(0xFFFFFFFF), "")
         for each in (*range(1000), 0xFFFFFFFF):
             self.assertEqual(strerror(each), words(each))

@@ -86,10 +86,12 @@ pub enum Error {
     Argument(Refusal),
     /// 904: a write was done on a board since reset.
     NotAtReset(Refusal),
-    /// 905: bytes are no image of a guest.
+    /// 905: bytes are no image of a guest, or of a machine.
     Image(Refusal),
-    /// 906: an image is of other functions than the guest has.
+    /// 906: an image is of other functions than the guest has, or gives a slot what no guest can be given there.
     OtherFunctions(Refusal),
+    /// 907: an image is of another board, of other guests, or of a board that is set up otherwise.
+    OtherBoard(Refusal),
     /// Any other number. The library has none today that a call of this crate meets.
     Other(Refusal),
 }
@@ -109,6 +111,7 @@ impl Error {
             904 => Error::NotAtReset(refusal),
             905 => Error::Image(refusal),
             906 => Error::OtherFunctions(refusal),
+            907 => Error::OtherBoard(refusal),
             _ => Error::Other(refusal),
         }
     }
@@ -127,6 +130,7 @@ impl Error {
             | Error::NotAtReset(refusal)
             | Error::Image(refusal)
             | Error::OtherFunctions(refusal)
+            | Error::OtherBoard(refusal)
             | Error::Other(refusal) => refusal,
         }
     }

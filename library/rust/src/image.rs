@@ -1,4 +1,4 @@
-//! What a guest alone holds, as bytes that outlive its machine.
+//! What a guest alone holds, and what a whole machine is, as bytes that outlive the machine.
 
 use crate::error::{answered, Error};
 use crate::machine::Machine;
@@ -90,6 +90,87 @@ impl Machine {
         answered(unsafe {
             raw::pciguest_load(&mut self.handle, guest.index(), image.as_ptr(), image.len())
         })
+    }
+
+    /// How many bytes the image of the whole machine has, which [`Machine::save_all`] gives. It stays as long as guests have the
+    /// same functions in the same slots. It changes nothing.
+    ///
+    /// ```
+    /// # const BOARD: &str = include_str!("board.toml");
+    /// let mut machine = pciguest::Machine::new(BOARD)?;
+    /// let size = machine.image_size_all()?;
+    /// machine.run_line("a cw 0 4 2 2")?;
+    /// assert_eq!(machine.image_size_all()?, size);
+    /// # Ok::<(), pciguest::Error>(())
+    /// ```
+    pub fn image_size_all(&mut self) -> Result<usize, Error> {
+        let mut size = 0;
+        // SAFETY: `size` is a place of its own.
+        answered(unsafe { raw::pciguest_image_size_all(&mut self.handle, &mut size) })?;
+        Ok(size)
+    }
+
+    /// Saves the whole machine: its image, which is who has which function of the board in which slot, what each guest holds,
+    /// and the board as the host reads it, but for what guests made of functions in slots. `docs/FORMATS.md`, section 8, has
+    /// the bytes. What a [`DeviceModel`](crate::DeviceModel) keeps beside its registers is the program's to save. The machine
+    /// stays as it is.
+    ///
+    /// ```
+    /// # const BOARD: &str = include_str!("board.toml");
+    /// let mut machine = pciguest::Machine::new(BOARD)?;
+    /// let image = machine.save_all()?;
+    /// assert_eq!(image.len(), machine.image_size_all()?);
+    /// assert_eq!(&image[..8], b"PCIM\x01\0\0\0"); // the format, and its version
+    /// # Ok::<(), pciguest::Error>(())
+    /// ```
+    pub fn save_all(&mut self) -> Result<Vec<u8>, Error> {
+        let mut image = vec![0; self.image_size_all()?];
+        let mut needed = 0;
+        // SAFETY: `image` has as many bytes as is said, and nothing overlaps.
+        answered(unsafe {
+            raw::pciguest_save_all(
+                &mut self.handle,
+                image.as_mut_ptr(),
+                image.len(),
+                &mut needed,
+            )
+        })?;
+        image.truncate(needed);
+        Ok(image)
+    }
+
+    /// Loads an image into the whole machine: each slot then has the function that it had in the machine that was saved, and
+    /// each guest holds what that guest held. The board is an equal one, set up alike, and its guests have the same names in
+    /// the same order; where their functions sit now, and what they hold, doesn't matter. The machine of the image isn't
+    /// needed any more. A [`DeviceModel`](crate::DeviceModel) isn't told of it; its registers are as they were saved.
+    ///
+    /// # Errors
+    ///
+    /// 905: the bytes are no image of a machine. 906: a slot is to get what no guest can be given there, or a function is
+    /// declared otherwise. 907: the board, its guests or how it is set up are others. Of the three, what the first byte
+    /// that fails tells.
+    ///
+    /// ```
+    /// # const BOARD: &str = include_str!("board.toml");
+    /// let mut machine = pciguest::Machine::new(BOARD)?;
+    /// let a = machine.guest("a")?;
+    /// machine.move_function(a, 0, a, 5)?;
+    /// machine.run_line("a cw 5 4 2 2")?;
+    /// let image = machine.save_all()?;
+    ///
+    /// let mut other = pciguest::Machine::new(BOARD)?; // all guests go on there
+    /// other.load_all(&image)?;
+    /// assert_eq!(other.run_line("a cr 5 4 2")?.as_deref(), Some("a: 0x0002"));
+    /// assert_eq!(other.load_all(&image[1..]).unwrap_err().to_string(), "905 image");
+    /// let renamed = BOARD.replace("\"a\"", "\"z\"");
+    /// let refused = pciguest::Machine::new(renamed)?.load_all(&image);
+    /// assert_eq!(refused.unwrap_err().to_string(), "907 other board");
+    /// # Ok::<(), pciguest::Error>(())
+    /// ```
+    pub fn load_all(&mut self, image: impl AsRef<[u8]>) -> Result<(), Error> {
+        let image = image.as_ref();
+        // SAFETY: `image` has as many bytes as is said, and nothing overlaps.
+        answered(unsafe { raw::pciguest_load_all(&mut self.handle, image.as_ptr(), image.len()) })
     }
 
     /// Resets every function of a guest, each where it is, and the guest's own CONFIG_ADDRESS: nothing is carried over. 902:

@@ -87,6 +87,8 @@ pub const NOT_AT_RESET: u32 = 904;
 pub const BAD_IMAGE: u32 = 905;
 /// other functions
 pub const OTHER_FUNCTIONS: u32 = 906;
+/// other board
+pub const OTHER_BOARD: u32 = 907;
 
 /// not ready
 pub const NOT_READY: u32 = 208;
@@ -464,6 +466,27 @@ extern "C" {
         image: *const u8,
         length: usize,
     ) -> u32;
+    /// How many bytes the image of the whole machine has now, which pciguest_save_all writes. It stays as long as
+    /// guests have the same functions in the same slots. It takes no memory and changes nothing.
+    pub fn pciguest_image_size_all(machine: *mut Handle, size: *mut usize) -> u32;
+    /// Saves the whole machine: writes its image, and tells its length. The image is who has which function of the
+    /// board in which slot, what each guest holds, and the board as the host reads it, but for what guests made of
+    /// functions in slots. docs/FORMATS.md has the bytes. What stands behind them in the room stays. It takes no
+    /// memory, and the machine stays as it is. 902: there is less room than the image needs, and nothing was written.
+    pub fn pciguest_save_all(
+        machine: *mut Handle,
+        image: *mut u8,
+        room: usize,
+        needed: *mut usize,
+    ) -> u32;
+    /// Loads an image into the whole machine: each slot then has the function that it had in the machine that was
+    /// saved, and each guest holds what that guest held. The board is an equal one that is set up alike, and the guests
+    /// have the same names in the same order; where their functions sit now, and what they hold, doesn't matter. The
+    /// count of pciguest_changed grows for each guest. It takes no memory. 907: the board, its guests or how it is set
+    /// up are others. 906: a slot is to get what no guest can be given there, or a function is declared otherwise. 905:
+    /// the bytes are no image of a machine. Of the three, what the first byte that fails tells. No line of a script
+    /// says it.
+    pub fn pciguest_load_all(machine: *mut Handle, image: *const u8, length: usize) -> u32;
     /// Gives a function of the board that no guest has to a guest, into an empty slot: there and on the board it is
     /// then at reset, on the board but for what guests have copies of. Its path is a text, as board files and
     /// pciguest_function have it. 303: the slot is above 31, or no endpoint stands at the path. 602: a guest has the
@@ -540,9 +563,10 @@ extern "C" {
     ) -> u32;
     /// A count of the guest, which grows by one with each access of the guest, move, reset, gift or taking that touches
     /// one of its slots so that an answer of pciguest_region for it may be another one, and with each
-    /// pciguest_reset_guest and pciguest_load of it: while the count stays, each of these answers stays, for all slots
-    /// and registers. Nothing else makes it grow. It is 0 in a machine that was made just now, and goes on from 0 after
-    /// 2^64 - 1. It takes no memory and changes nothing. 902: there is no such guest.
+    /// pciguest_reset_guest and pciguest_load of it, and by one or more with pciguest_load_all: while the count stays,
+    /// each of these answers stays, for all slots and registers. Nothing else makes it grow. It is 0 in a machine that
+    /// was made just now, and goes on from 0 after 2^64 - 1. It takes no memory and changes nothing. 902: there is no
+    /// such guest.
     pub fn pciguest_changed(machine: *mut Handle, guest: usize, count: *mut u64) -> u32;
     /// What an access of the guest at a place hits, as pciguest_read and pciguest_write take the place: a byte of a
     /// function in one of its slots, or nothing. It takes no memory and changes nothing. Every access there begins at

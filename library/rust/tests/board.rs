@@ -164,6 +164,10 @@ fn guests_over_a_board_of_ones_own() -> Result<(), Error> {
         assert_eq!(machine.run_line(line)?, other.run_line(line)?);
     }
     assert_eq!(machine.host_read(config(1, 1, 0x10), 4)?, 0xd200_000c);
+    // the same guests over the same board, but not set up alike
+    let (held, image) = (machine.save_all()?, other.save_all()?);
+    assert!(matches!(machine.load_all(image), Err(Error::OtherBoard(_))));
+    assert_eq!(machine.save_all()?, held);
     Ok(())
 }
 

@@ -1,5 +1,5 @@
-//! Guests that are saved, loaded and put to reset. Each script of the folder `boards` goes on over another board, wherever
-//! it is cut.
+//! Guests that are saved, loaded and put to reset, and whole machines. Each script of the folder `boards` goes on over another
+//! board, or in another machine over an equal one, wherever it is cut.
 
 use pciguest::{Error, Guest, Machine};
 
@@ -215,5 +215,95 @@ fn bytes_that_are_no_image_for_a_guest_are_refused() -> Result<(), Error> {
     machine.move_function(a, 0, a, 5)?;
     assert_eq!(number(machine.load_image(a, &image)), 906);
     assert_eq!(number(machine.load_image(Guest::of_index(2), &image)), 902);
+    Ok(())
+}
+
+// ---- whole machines
+
+/// The replies to all lines, the host's among them.
+fn all_replies(machine: &mut Machine, lines: &[&str]) -> Result<Vec<Option<String>>, Error> {
+    lines.iter().map(|line| machine.run_line(line)).collect()
+}
+
+#[test]
+fn machines_go_on_over_an_equal_board() -> Result<(), Error> {
+    for (board, script) in SCRIPTS {
+        let lines: Vec<_> = script.lines().collect();
+        for cut in 0..=lines.len() {
+            let (first, rest) = lines.split_at(cut);
+            let (mut here, mut there) = (Machine::new(board)?, Machine::new(board)?);
+            all_replies(&mut here, first)?;
+            let guest = Guest::of_index(0);
+            there.move_function(guest, 0, guest, 31)?;
+            let image = here.save_all()?;
+            assert_eq!(here.image_size_all()?, image.len());
+            there.load_all(&image)?;
+            assert_eq!(there.save_all()?, image, "line {cut}");
+            let wanted = all_replies(&mut here, rest)?;
+            assert_eq!(
+                all_replies(&mut there, rest)?,
+                wanted,
+                "from line {cut} of\n{script}"
+            );
+        }
+    }
+    Ok(())
+}
+
+#[test]
+fn functions_come_back_to_their_slots() -> Result<(), Error> {
+    let mut machine = Machine::new(BOARD)?;
+    let (a, b) = (machine.guest("a")?, machine.guest("b")?);
+    machine.move_function(a, 1, b, 9)?;
+    machine.run_line("b cw 9 4 2 2")?;
+    let (image, counts) = (
+        machine.save_all()?,
+        [machine.changed(a)?, machine.changed(b)?],
+    );
+    machine.take(b, 9)?;
+    machine.move_function(b, 0, a, 1)?;
+    assert!(machine.image_size_all()? < image.len());
+    machine.load_all(&image)?;
+    assert_eq!(machine.save_all()?, image);
+    assert_eq!(machine.slot_function(b, 9)?.path, "2.0/1.0");
+    assert_eq!(machine.slot_function(b, 0)?.path, "2.0/0.0");
+    assert_eq!(number(machine.slot_function(a, 1)), 601);
+    assert_eq!(replies(&mut machine, &["b cr 9 4 2"])?, ["b: 0x0002"]);
+    assert!(machine.changed(a)? > counts[0] && machine.changed(b)? > counts[1]);
+    Ok(())
+}
+
+#[test]
+fn bytes_that_are_no_image_for_a_machine_are_refused() -> Result<(), Error> {
+    let mut machine = Machine::new(BOARD)?;
+    let (a, b) = (machine.guest("a")?, machine.guest("b")?);
+    let (image, own) = (machine.save_all()?, machine.save(a)?);
+    machine.move_function(a, 0, b, 7)?;
+    let held = machine.save_all()?;
+    let longer = [&image[..], &[0]].concat();
+    for bytes in [&[][..], b"PCIM", &image[..image.len() - 1], &longer, &own] {
+        assert!(matches!(machine.load_all(bytes), Err(Error::Image(_))));
+    }
+    assert_eq!(number(machine.load_image(a, &image)), 905);
+    let seat = b"\x01a\x01\x01\x01\x00"; // the name, and the path of the function in slot 0
+    let at = image.windows(seat.len()).position(|it| it == seat);
+    let mut elsewhere = image.clone();
+    elsewhere[at.expect("the first guest") + 4] = 9;
+    assert!(matches!(
+        machine.load_all(elsewhere),
+        Err(Error::OtherFunctions(_))
+    ));
+    assert_eq!(machine.save_all()?, held);
+    let others = [
+        BOARD.replace("\"b\"", "\"c\""),
+        BOARD.replace("0x0003", "0x0005"),
+        BOARD.replace("mem = [0xc", "mem = [0xb"),
+    ];
+    for board in others {
+        let mut other = Machine::new(board)?;
+        let held = other.save_all()?;
+        assert!(matches!(other.load_all(&image), Err(Error::OtherBoard(_))));
+        assert_eq!(other.save_all()?, held);
+    }
     Ok(())
 }

@@ -1,0 +1,326 @@
+/* Random events of guests over two machines of one board, moves, takings and gifts among them. The image of either is loaded
+ * into the other, which is then as the one that was saved: who has which function, what each guest holds, and what the host
+ * reads. An image that was changed is refused, and nothing changes, or saved again as it is. At last images meet other
+ * boards, other guests, and the board of the file as firmware set it up.
+ *
+ *     machines BOARD COUNT SEED
+ *
+ * BOARD is boards/server.toml, and the last line tells how many images that were changed were loaded and refused. */
+#include "pciguest.h"
+
+#include <inttypes.h>
+#include <stdio.h>
+#include <stdlib.h>
+#include <string.h>
+
+enum { GUESTS = 3, SLOTS = 4, ROOM = 1 << 15 };
+
+struct image {
+    uint8_t bytes[ROOM];
+    size_t size;
+};
+
+static uint8_t file[1 << 16];
+static size_t length;
+static uint64_t state, told[4]; /* of 0 and of 905 to 907 */
+static int wrong;
+
+/* xorshift64 */
+static uint64_t below(uint64_t n)
+{
+    state ^= state << 13;
+    state ^= state >> 7;
+    state ^= state << 17;
+    return state % n;
+}
+
+static void is(int line, uint64_t found, uint64_t wanted)
+{
+    if (found != wanted && !wrong++)
+        fprintf(stderr, "machines.c:%d: 0x%" PRIx64 " in place of 0x%" PRIx64 "\n", line, found, wanted);
+}
+
+#define IS(found, wanted) is(__LINE__, (found), (wanted))
+
+/* ---- images */
+
+/* Saves a machine, after a try with one byte too few. */
+static void save_all(struct pciguest *machine, struct image *image)
+{
+    size_t needed = 0, again = 0;
+
+    memset(image->bytes, 0x5a, ROOM);
+    IS(pciguest_image_size_all(machine, &image->size), 0);
+    IS(image->size > 0 && image->size <= ROOM, 1);
+    IS(pciguest_save_all(machine, image->bytes, image->size - 1, &needed), 902);
+    IS(needed, image->size);
+    for (size_t i = 0; i < ROOM; i++)
+        IS(image->bytes[i], 0x5a);
+    IS(pciguest_save_all(machine, image->bytes, below(2) ? image->size : ROOM, &again), 0);
+    IS(again, image->size);
+    for (size_t i = image->size; i < ROOM; i++)
+        IS(image->bytes[i], 0x5a);
+}
+
+static bool are_same(const struct image *one, const struct image *other)
+{
+    return one->size == other->size && memcmp(one->bytes, other->bytes, one->size) == 0;
+}
+
+static void save(struct pciguest *machine, size_t guest, struct image *image)
+{
+    IS(pciguest_save(machine, guest, image->bytes, ROOM, &image->size), 0);
+}
+
+/* The guests' own counts, all together: each grows with a load. */
+static void counts(struct pciguest *machine, uint64_t count[GUESTS])
+{
+    for (size_t guest = 0; guest < GUESTS; guest++)
+        IS(pciguest_changed(machine, guest, &count[guest]), 0);
+}
+
+/* Loads bytes, or is refused by the number that is given. The machine's image is then that, or it is as it was. */
+static uint32_t load_all(struct pciguest *machine, const struct image *image)
+{
+    static struct image before, after;
+    uint64_t count[GUESTS] = {0}, grown[GUESTS] = {0};
+    uint32_t number;
+
+    save_all(machine, &before);
+    counts(machine, count);
+    number = pciguest_load_all(machine, image->bytes, image->size);
+    save_all(machine, &after);
+    counts(machine, grown);
+    IS(are_same(&after, number ? &before : image), 1);
+    for (size_t guest = 0; guest < GUESTS; guest++)
+        IS(grown[guest] > count[guest], number == 0);
+    return number;
+}
+
+/* ---- events */
+
+/* An event of a guest or of its device at random, or a function that leaves its slot. */
+static void event(struct pciguest *machine)
+{
+    size_t guest = below(GUESTS);
+    uint64_t slot = below(SLOTS);
+    uint32_t value = (uint32_t)below(UINT32_MAX), part = (uint32_t)below(7);
+    struct pciguest_function row = {.path_length = 0};
+
+    switch (below(8)) {
+    case 0:
+        (void)pciguest_write(machine, guest, PCIGUEST_IO, 0, 0xcf8, 4, value);
+        break;
+    case 1:
+        (void)pciguest_raise(machine, guest, slot, part, below(0x100), (uint8_t)value);
+        break;
+    case 2:
+        (void)pciguest_device_write_wide(machine, guest, slot, part, below(2) ? 6 : below(0x60), 2, value);
+        break;
+    case 3:
+        (void)(below(4) ? pciguest_move(machine, guest, slot, below(GUESTS), below(SLOTS)) : pciguest_take(machine, guest, slot));
+        break;
+    case 4: /* to a guest, if nobody has it */
+        IS(pciguest_function(machine, below(7), &row), 0);
+        (void)pciguest_give(machine, (const char *)row.path, row.path_length, guest, slot);
+        break;
+    default:
+        (void)pciguest_write(machine, guest, PCIGUEST_CONFIG, slot, 4 * below(0x18), 4, value);
+    }
+}
+
+/* ---- loads */
+
+static void host_reads_alike(struct pciguest *machine, struct pciguest *other, const struct pciguest_function *row)
+{
+    uint32_t one = 0, two = 1;
+
+    for (uint64_t offset = 0; offset < 0x100; offset += 4) {
+        IS(pciguest_host_read(machine, PCIGUEST_CONFIG, (uint8_t)row->bus, (uint8_t)row->device, (uint8_t)row->function,
+                              offset, 4, &one), 0);
+        IS(pciguest_host_read(other, PCIGUEST_CONFIG, (uint8_t)row->bus, (uint8_t)row->device, (uint8_t)row->function,
+                              offset, 4, &two), 0);
+        IS(one, two);
+    }
+    for (size_t bar = 0; bar < PCIGUEST_BARS; bar++) {
+        const struct pciguest_bar *region = &row->regions[bar];
+
+        for (uint64_t offset = 0; offset < region->size && offset < 0x100; offset += 4) {
+            IS(pciguest_host_read(machine, region->space, 0, 0, 0, region->first + offset, 4, &one), 0);
+            IS(pciguest_host_read(other, region->space, 0, 0, 0, region->first + offset, 4, &two), 0);
+            IS(one, two);
+        }
+    }
+}
+
+/* Two machines have the same functions in the same slots, hold the same, and show the host the same. */
+static void are_alike(struct pciguest *machine, struct pciguest *other)
+{
+    static struct image one, two;
+    struct pciguest_function row, same;
+
+    for (size_t guest = 0; guest < GUESTS; guest++) {
+        save(machine, guest, &one);
+        save(other, guest, &two);
+        IS(are_same(&one, &two), 1);
+    }
+    for (size_t i = 0; pciguest_function(machine, i, &row) == 0; i++) {
+        IS(pciguest_function(other, i, &same), 0);
+        IS(row.is_given == same.is_given && row.guest == same.guest && row.slot == same.slot, 1);
+        host_reads_alike(machine, other, &row);
+    }
+}
+
+static void carry(struct pciguest *from, struct pciguest *to)
+{
+    static struct image image, guest;
+
+    save_all(from, &image);
+    save(from, below(GUESTS), &guest);
+    IS(load_all(to, &guest), 905);
+    IS(pciguest_load(to, below(GUESTS), image.bytes, image.size), 905);
+    IS(load_all(to, &image), 0);
+    are_alike(from, to);
+}
+
+/* An image with a bit changed, or a byte more or less, which is none. */
+static void spoil(struct pciguest *machine)
+{
+    static struct image image;
+    uint64_t how = below(4);
+    uint32_t number;
+
+    save_all(machine, &image);
+    if (how > 1) {
+        image.bytes[below(image.size)] ^= (uint8_t)(1 << below(8));
+        number = load_all(machine, &image);
+        IS(number == 0 || (number >= 905 && number <= 907), 1);
+        told[number ? number - 904 : 0]++;
+        return;
+    }
+    image.size = how ? image.size + 1 : below(image.size);
+    IS(load_all(machine, &image), 905);
+}
+
+/* ---- other boards */
+
+/* The machine of the file with the last letter of a text in it changed refuses an image. */
+static void meets(const char *text, const struct image *image)
+{
+    static uint8_t changed[sizeof file];
+    struct pciguest other = PCIGUEST_INIT;
+    char *at;
+
+    memcpy(changed, file, length);
+    changed[length] = 0;
+    at = strstr((char *)changed, text);
+    if (!at)
+        exit(2);
+    at[strlen(text) - 1] ^= 1;
+    IS(pciguest_new(&other, changed, length), 0);
+    IS(load_all(&other, image), 907);
+    pciguest_free(&other);
+}
+
+/* Writes into the register of a board what the board of a machine has there. */
+static void copy(struct pciguest *machine, struct pciguest_board *board, const struct pciguest_function *at,
+                 uint64_t offset, uint32_t width)
+{
+    uint8_t bus = (uint8_t)at->bus, device = (uint8_t)at->device, function = (uint8_t)at->function;
+    uint32_t value = 0;
+
+    IS(pciguest_host_read(machine, PCIGUEST_CONFIG, bus, device, function, offset, width, &value), 0);
+    IS(pciguest_board_write(board, PCIGUEST_CONFIG, bus, device, function, offset, width, value), 0);
+}
+
+/* Sets up the board of the file by hand as that of a machine is, with one register otherwise, and gives it to guests. */
+static void drive(struct pciguest *machine, struct pciguest *driven, const struct pciguest_function *at, uint64_t offset,
+                  uint32_t value)
+{
+    struct pciguest_board board = PCIGUEST_BOARD_INIT;
+    struct pciguest_function row;
+
+    IS(pciguest_board_new(&board, file, length), 0);
+    for (size_t i = 0; pciguest_function(machine, i, &row) == 0; i++) {
+        for (uint64_t register_at = row.is_bridge ? 0x18 : 0x10; register_at < 0x34; register_at += 4)
+            copy(machine, &board, &row, register_at, 4);
+        copy(machine, &board, &row, 4, 2);
+    }
+    if (at)
+        IS(pciguest_board_write(&board, PCIGUEST_CONFIG, (uint8_t)at->bus, (uint8_t)at->device, (uint8_t)at->function, offset,
+                                offset == 4 ? 2 : 4, value), 0);
+    IS(pciguest_board_guests(&board, driven), 0);
+    pciguest_board_free(&board);
+}
+
+/* Firmware that writes what the library's own set-up writes leaves an equal board, and other firmware another one. A function
+ * whose regions it leaves closed can be given to no guest. */
+static void firmware(void)
+{
+    static struct image image, given;
+    struct pciguest machine = PCIGUEST_INIT, driven = PCIGUEST_INIT;
+    struct pciguest_function row;
+    size_t index = 0;
+
+    IS(pciguest_new(&machine, file, length), 0);
+    save_all(&machine, &image);
+    drive(&machine, &driven, NULL, 0, 0);
+    IS(load_all(&driven, &image), 0);
+    pciguest_free(&driven);
+    do /* a function that the host keeps */
+        IS(pciguest_function(&machine, index++, &row), 0);
+    while (row.is_bridge || row.is_given || row.regions[0].size == 0);
+    drive(&machine, &driven, &row, 4, 0);
+    IS(load_all(&driven, &image), 907);
+    IS(pciguest_give(&machine, (const char *)row.path, row.path_length, 0, 9), 0);
+    save_all(&machine, &given);
+    IS(load_all(&driven, &given), 906);
+    pciguest_free(&driven);
+    IS(pciguest_slot(&machine, 2, 2, &row), 0);
+    drive(&machine, &driven, &row, 0x10, (uint32_t)row.regions[0].first + 0x8000);
+    IS(load_all(&driven, &image), 907);
+    pciguest_free(&driven);
+    pciguest_free(&machine);
+}
+
+/* Images that belong elsewhere. */
+static void elsewhere(struct pciguest *machine)
+{
+    static struct image image;
+
+    save_all(machine, &image);
+    meets("device = 0x0002", &image);
+    meets("pin = 1", &image);
+    meets("name = \"w", &image);
+    meets("mem = [0xc", &image); /* where regions stand then */
+    firmware();
+}
+
+int main(int argc, char **argv)
+{
+    struct pciguest machines[2] = {PCIGUEST_INIT, PCIGUEST_INIT};
+    FILE *stream = argc == 4 ? fopen(argv[1], "rb") : NULL;
+
+    if (!stream)
+        return 2;
+    length = fread(file, 1, sizeof file - 1, stream);
+    fclose(stream);
+    state = strtoull(argv[3], NULL, 10) * 0x9e3779b97f4a7c15u + 1;
+    for (int n = 0; n < 2; n++)
+        IS(pciguest_new(&machines[n], file, length), 0);
+    for (uint64_t left = strtoull(argv[2], NULL, 10); left > 0 && !wrong; left--) {
+        size_t n = below(2);
+
+        event(&machines[n]);
+        if (below(10) == 0)
+            carry(&machines[n], &machines[1 - n]);
+        if (below(10) == 0)
+            spoil(&machines[n]);
+    }
+    elsewhere(&machines[0]);
+    for (int n = 0; n < 2; n++)
+        pciguest_free(&machines[n]);
+    printf("%" PRIu64 " loaded, %" PRIu64 ", %" PRIu64 " and %" PRIu64 " refused by 905, 906 and 907\n", told[0], told[1], told[2],
+           told[3]);
+    return wrong != 0;
+}
