@@ -1,5 +1,6 @@
 // A board from reset on, as firmware's own cycles read it: where functions are found, what they open, what is wrong and what is lacking.
 
+import { TO_BYTES, TO_TEXT } from './engine.js';
 import { hex, parent_of } from './report.js';
 import { read_readiness } from './readiness.js';
 
@@ -53,11 +54,11 @@ export function windows_now({ io, pref }, values) {
 export class AtReset {
   // `functions` are the report's; `decodes` has the windows of each bridge, by its path.
   constructor(driven, functions, decodes) {
-    Object.assign(this, { driven, declared: functions, decodes, read: new Map(), functions: [], given: false, problems: [], lacks: [] });
+    Object.assign(this, { driven, declared: functions, decodes, read: new Map(), cycles: new Map(), functions: [], given: false, problems: [], lacks: [] });
     this.look();
   }
 
-  tell(line) { return new TextDecoder().decode(this.driven.answer(new TextEncoder().encode(line))).trimEnd(); }
+  tell(line) { return TO_TEXT.decode(this.driven.answer(TO_BYTES.encode(line))).trimEnd(); }
 
   // Looks at all registers, and tells which problems came and which went. A cycle by number leaves 0 in CONFIG_ADDRESS, so what
   // stood there is written back; once the board is given to its guests, the host's reads change nothing.
@@ -115,5 +116,14 @@ export class AtReset {
     return `${path} is looked for at ${at(path).place}: the bridge above it, ${above.path}, has Secondary ${two(bus)}${bus === 0 ? ', so its bus has no number' : ''}`;
   }
 
-  values_at(place, one) { return new Map(dwords_of(one).map(offset => [offset, Number(this.driven.number(`host cr ${place} ${hex(offset)} 4`))])); }
+  values_at(place, one) { return new Map(this.cycles_at(place, one).map(([offset, line]) => [offset, this.driven.register(line)])); }
+
+  // The lines that read a function's registers at a number, with the registers: they are written once while the number stays.
+  cycles_at(place, one) {
+    const known = this.cycles.get(one.path);
+    if (known?.place === place) return known.lines;
+    const lines = dwords_of(one).map(offset => [offset, TO_BYTES.encode(`host cr ${place} ${hex(offset)} 4`)]);
+    this.cycles.set(one.path, { place, lines });
+    return lines;
+  }
 }

@@ -10,7 +10,8 @@ const LONGEST_NAME = 16;
 const FUNCTION_ROW = 416, SEAT = 392;
 const ROOM = 1 << 16;
 // Made once: of a large board hundreds of registers are read after each line.
-const TO_BYTES = new TextEncoder(), TO_TEXT = new TextDecoder();
+export const TO_BYTES = new TextEncoder(), TO_TEXT = new TextDecoder();
+const [LINE_FEED, ZERO, NINE, COLON, A] = TO_BYTES.encode('\n09:a');
 const SPACE_NUMBERS = { cfg: 0, io: 1, mem: 2 };
 
 export class Engine {
@@ -25,6 +26,12 @@ export class Engine {
   with_rooms(sizes, call) {
     const rooms = sizes.map(size => this.exports.page_room(BigInt(size) + 1n));
     try { return call(...rooms); } finally { for (const room of rooms) this.exports.rattle_dealloc(room); }
+  }
+
+  // All of the memory, of which a view is made anew where it has grown.
+  memory() {
+    if (!this.view?.byteLength) this.view = new Uint8Array(this.exports.memory.buffer);
+    return this.view;
   }
 
   // A fresh view after each call: the memory may have grown.
@@ -113,6 +120,17 @@ class Held {
   number(line) {
     const reply = TO_TEXT.decode(this.answer(TO_BYTES.encode(line)));
     return BigInt(reply.slice(reply.indexOf(':') + 2).trimEnd());
+  }
+
+  // The register of up to four bytes that a line of bytes reads. Of a large board thousands are read after a line, so no text is made of
+  // the reply, `NAME: 0x..`.
+  register(line) {
+    this.engine.memory().set(line, Number(this.text));
+    this.run_in(this.text, line.length, this.out, LONGEST_REPLY);
+    const reply = this.engine.memory();
+    let at = reply.indexOf(COLON, Number(this.out)) + 4, value = 0;
+    for (; at < reply.length && reply[at] !== LINE_FEED; at += 1) value = 16 * value + (reply[at] > NINE ? reply[at] - A + 10 : reply[at] - ZERO);
+    return value;
   }
 
   // The place of a guest's name among all names.
