@@ -124,7 +124,9 @@ class Source:
         line = self.texts[file][:self.texts[file].index(text)].count("\n")
         found = [it for it in self.functions[file] if it.first <= line < it.last]
         has_own_name = len(found) == 1 and self.paths.count(found[0].path) == 1
-        return found[0] if has_own_name and not found[0].is_of_trait and not self.proofs_of(found[0], "+").is_dir() else None
+        if not has_own_name or found[0].is_of_trait or "#[cycle(" in found[0].text or self.proofs_of(found[0], "+").is_dir():
+            return None
+        return found[0]
 
     def proofs_of(self, function, mark=""):
         """The folder of a function's proofs, which has a mark before the name of one that calls itself."""
@@ -189,8 +191,9 @@ def own_refusal(path, said):
     status = next((it.partition(": ")[2] for it in said if it.startswith(f"fn {path}: ")), "")
     if status.startswith("no proof: expected answers in "):
         return status
-    folder = "proofs/" + "/".join(path.split("::")[1:]) + "/"
-    errors = [it for it in said if re.match(rf"(\./)?{re.escape(folder)}.*: error: ", it) and not NAMES.search(it)]
+    *folders, name = path.split("::")[1:]
+    own = re.escape("/".join(["proofs", *folders, ""])) + rf"\+?{name}/"
+    errors = [it for it in said if re.match(rf"(\./)?{own}.*: error: ", it) and not NAMES.search(it)]
     return errors[0] if status == "not proved" and errors else None
 
 
@@ -254,7 +257,8 @@ class Tries:
             only = [word for path in looked_at for word in ("--only", path.partition("::")[2])]
             ran = self.rt.checked(there, {}, ["--jobs", "1", *only], None)
         said = ran.stdout.rstrip("\n").split("\n")
-        is_read = not any(self.rt.unread(it, texts) for it in said)
+        sources = [it for it in texts if it.startswith("src/")]
+        is_read = not any(self.rt.unread(it, sources) for it in said)
         if ran.returncode != 1 or not said[-1].startswith("only=") or not is_read:
             return
         # (of a function whose copy is not proved as it stands nothing is known)
