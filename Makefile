@@ -56,7 +56,7 @@ outside: pciguest library/libpciguest.a
 	@tests/parts.py --outside hostile fuzz firmware kit peers qemu page browse bench
 
 # Wrong bodies beside those of the gate, each of which the check of its crate must refuse: all, or those of some crates,
-# as in make edits CRATES='monitor headers'. All of them take longer than the gate.
+# as in make edits CRATES='monitor headers'. A large crate takes minutes.
 CRATES :=
 edits:
 	@tests/edits.py $(CRATES)
