@@ -9,17 +9,12 @@ use Rattle.model_board.specs.State.{BoardFunction, State, with_file}
 use Rattle.model_guests.specs.WorldNow.{WorldNow, names_now}
 use Rattle.model_handoff.specs.Changes.{MachineNow}
 use Rattle.model_handoff.specs.Giving.{with_reset_at}
-use Rattle.model_handoff.proofs.Counting.{names_after}
 use Rattle.model_images.specs.Requests.{Request, after_request, after_requests}
 use Rattle.model_images.specs.RequestLaws.{after_request_on_machine, after_all_requests}
 use Rattle.model_images.specs.FitLaws.{AreFittingRequests}
-use Rattle.model_images.proofs.Loading.{names_after_load}
+use Rattle.model_images.proofs.Counts.{names_stay}
 
 -- ---- requests, one list after another
-
-pub world_along : (rs : List Request) (m : MachineNow) → (after_all_requests m rs).world ≡ after_requests m.world rs
-world_along [] m = refl
-world_along (r ∷ rs) m = world_along rs (after_request_on_machine m r)
 
 pub both_along : (rs ss : List Request) (m : MachineNow) → after_all_requests m (rs ++ ss) ≡ after_all_requests (after_all_requests m rs) ss
 both_along [] ss m = refl
@@ -40,9 +35,6 @@ pub then_done : {A : Type 0} (f : A → List Request) (xs : List A) (i : ℕ) (x
 then_done f xs i x h m new is = grind (arith, both_along, dropped)
 
 -- ---- what stays
-
-names_stay : (w : WorldNow) (r : Request) → names_now (after_request w r) ≡ names_now w
-names_stay w r = grind (arith, names_after, names_after_load)
 
 pub names_along : (rs : List Request) (m : MachineNow) → names_now (after_all_requests m rs).world ≡ names_now m.world
 names_along [] m = refl

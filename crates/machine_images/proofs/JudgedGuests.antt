@@ -1,6 +1,8 @@
--- Guests as a walk over bytes reads them, slot by slot and guest by guest: what is left decides as all does.
-use Rattle.std.proofs.Common.{◌≡◌, ◌+◌, ◌*◌, ◌<◌, ◌≤◌, ℕ, zero, suc, List, [], ◌∷◌, ◌++◌, Option, Ok, Err, length, take, drop, ◌-◌, refl, sym, ap, ap₂, ◌∙◌, arith, append_assoc, length-append}
+-- Guests as a walk over bytes reads them, slot by slot and guest by guest: what is left decides as all does, and the run of
+-- bytes that holds the image of each guest is cut out.
+use Rattle.std.proofs.Common.{◌≡◌, ◌+◌, ◌*◌, ◌<◌, ◌≤◌, ℕ, zero, suc, List, [], ◌∷◌, ◌++◌, Option, None, Ok, Err, length, take, drop, ◌-◌, refl, sym, ap, ap₂, ◌∙◌, subst, arith, append_assoc, length-append}
 use Rattle.std.specs.Prelude.{flat_map, map}
+use Rattle.std.proofs.Math.Seq.{take-append_seam}
 use Rattle.std.proofs.lemmas.List.{append-nil, drop_at, map-append, take_rest}
 use Rattle.std.proofs.lemmas.List.Concat.{flat_map-append}
 use Rattle.arrayvec.specs.ArrayString.{ArrayString}
@@ -9,15 +11,18 @@ use Rattle.model_board.specs.Board.{Board}
 use Rattle.model_board.specs.AtReset.{board_at}
 use Rattle.model_board.specs.State.{BoardFunction}
 use Rattle.model_guests.specs.Text.{Text}
+use Rattle.model_guests.specs.Lone.{LoneGuest}
 use Rattle.model_guests.specs.WorldNow.{WorldNow, names_now}
 use Rattle.model_handoff.proofs.Keeping.{keeps_board}
 use Rattle.model_images.specs.MachineImages.{SavedGuest}
 use Rattle.model_image_bytes.specs.Layouts.{Parsed, parsed}
-use Rattle.model_image_bytes.specs.LoadedBytes.{Left, after_bytes, after_image_front}
+use Rattle.model_image_bytes.specs.LoadedBytes.{Left, after_bytes, after_image_front, load_fault}
 use Rattle.model_image_bytes.specs.MachineBytes.{name_layout}
 use Rattle.model_image_bytes.specs.TakenBytes.{taken_image}
 use Rattle.model_image_bytes.specs.LoadedMachines.{Read, and_then, with_path, with_paths, read_slot, read_slots, guest_at, read_image, read_guest, read_guests}
-use Rattle.machine_images.specs.Judging.{AreSlotsRead, IsGuestRead, functions_now, guest_seated, path_seated, paths_seated, taken_by}
+use Rattle.model_image_bytes.proofs.FrontBytes.{run_there}
+use Rattle.model_image_bytes.proofs.TakenBytes.{front_fits}
+use Rattle.machine_images.specs.Judging.{AreRuns, AreSlotsRead, IsGuestRead, IsRunOf, functions_now, guest_seated, path_seated, paths_seated, taken_by}
 use Rattle.machine_images.proofs.JudgedReads.{behind, read_ends, reads_on, taken_both}
 
 abbrev pub texts_of : List ArrayString → List Text
@@ -27,9 +32,29 @@ texts_of names = map (λ n. n.bytes) names
 pub own_slots : (before own : List (Option ℕ)) (n : ℕ) (seats : List (Option ℕ)) → seats ≡ before ++ own → n ≡ length before → take (length seats - n) (drop n seats) ≡ own
 own_slots before own n seats are count = take_rest seats n ∙ ap (drop n) are ∙ drop_at before own n (sym count)
 
+-- what stands before the rest
+own_part : (own rest : List ℕ) → take (length (own ++ rest) - length rest) (own ++ rest) ≡ own
+own_part own rest =
+    let many = length-append own rest in
+    let count : length (own ++ rest) - length rest ≡ length own = omega arith in
+    ap (λ n. take n (own ++ rest)) count ∙ take-append_seam own rest
+
+pub shorter : (g : LoneGuest) (bytes rest : List ℕ) → after_image_front g bytes ≡ Ok rest → length rest ≤ length bytes
+shorter g bytes rest h =
+    let r = run_there g bytes rest h in
+    let all = ap (λ (xs : List ℕ). length xs) r.are ∙ length-append r.own rest in omega arith
+
+one_more : (b : Board) (gs : List SavedGuest) (runs : List (List ℕ)) (g : SavedGuest) (run : List ℕ) → AreRuns b gs runs → IsRunOf b g run → AreRuns b (gs ++ g ∷ []) (runs ++ run ∷ [])
+one_more b [] [] g run hold one = (one, tt)
+one_more b (h ∷ gs) (r ∷ runs) g run hold one = (hold.0, one_more b gs runs g run hold.1 one)
+one_more b gs runs g run hold one = absurd hold
+
 module _ (w : WorldNow) where
   abbrev fs : List BoardFunction
   fs = functions_now w
+
+  abbrev b : Board
+  b = board_at w.handoff.functions
 
   taken_more : (before own : List (Option ℕ)) → with_paths (paths_seated fs own) (taken_by fs before) ≡ taken_by fs (before ++ own)
   taken_more before own = sym (ap (λ (qs : List (Option Path)). with_paths qs []) (map-append (path_seated fs) before own) ∙ taken_both (paths_seated fs before) (paths_seated fs own) [])
@@ -104,9 +129,6 @@ module _ (w : WorldNow) where
   -- ---- a guest
 
   module _ (name : Text) (before : List (Option ℕ)) (bytes : List ℕ) where
-    abbrev b : Board
-    b = board_at w.handoff.functions
-
     abbrev by_name : Left → Read SavedGuest
     by_name l = and_then (read_image b name) (and_then (read_slots w.handoff 32 (taken_by fs before)) l)
 
@@ -115,45 +137,63 @@ module _ (w : WorldNow) where
         abbrev qs : List (Option Path)
         qs = paths_seated fs slots.own
 
+        abbrev lone : LoneGuest
+        lone = guest_at b qs
+
+        abbrev found : SavedGuest
+        found = record { name = name; paths = qs; image = taken_image lone behind_paths }
+
+        shown : after_image_front lone behind_paths ≡ after_image_front (guest_seated fs slots.own) behind_paths
+        shown = ap (λ (x : Board). after_image_front (guest_at x qs) behind_paths) (sym (keeps_board w.handoff w.guests))
+
         image_decides : (l : Left) → after_image_front (guest_seated fs slots.own) behind_paths ≡ l
-            → read_guest w.handoff (taken_by fs before) name bytes
-            ≡ and_then (λ rest. Ok (parsed (record { name = name; paths = qs; image = taken_image (guest_at b qs) behind_paths }) rest)) l
-        image_decides l h =
-            ap by_name named ∙ ap (and_then (read_image b name)) slots.read
-            ∙ ap (and_then (λ rest. Ok (parsed (record { name = name; paths = qs; image = taken_image (guest_at b qs) behind_paths }) rest)))
-            (ap (λ (x : Board). after_image_front (guest_at x qs) behind_paths) (sym (keeps_board w.handoff w.guests)) ∙ h)
+            → read_guest w.handoff (taken_by fs before) name bytes ≡ and_then (λ rest. Ok (parsed found rest)) l
+        image_decides l h = ap by_name named ∙ ap (and_then (read_image b name)) slots.read ∙ ap (and_then (λ rest. Ok (parsed found rest))) (shown ∙ h)
 
         pub image_refused : (k : ℕ) → after_image_front (guest_seated fs slots.own) behind_paths ≡ Err k → read_guest w.handoff (taken_by fs before) name bytes ≡ Err k
         image_refused k h = image_decides (Err k) h
 
-        pub guest_read : (rest : List ℕ) → after_image_front (guest_seated fs slots.own) behind_paths ≡ Ok rest → IsGuestRead w name before bytes after rest
-        guest_read rest h = record {
-          guest = record { name = name; paths = qs; image = taken_image (guest_at b qs) behind_paths };
-          own = slots.own;
-          seats = slots.seats;
-          count = slots.count;
-          paths = refl;
-          read = image_decides (Ok rest) h;
-        }
+        pub guest_read : (rest run : List ℕ) → after_image_front (guest_seated fs slots.own) behind_paths ≡ Ok rest → run ≡ take (length behind_paths - length rest) behind_paths → IsGuestRead w name before bytes after run rest
+        guest_read rest run h cut =
+            let o = run_there lone behind_paths rest (shown ∙ h) in
+            let own : run ≡ o.own = cut ∙ ap (λ (xs : List ℕ). take (length xs - length rest) xs) o.are ∙ own_part o.own rest in
+            record {
+              guest = found;
+              own = slots.own;
+              seats = slots.seats;
+              count = slots.count;
+              paths = refl;
+              read = image_decides (Ok rest) h;
+              holds = record {
+                rest = rest;
+                image = ap (taken_image lone) (o.are ∙ ap (λ (xs : List ℕ). xs ++ rest) (sym own));
+                fits = front_fits lone behind_paths rest (shown ∙ h);
+                accepted = subst (λ (xs : List ℕ). load_fault lone xs ≡ None) (sym own) o.accepted;
+              };
+            }
 
   -- ---- guests
 
-  pub record IsOnGuests (all : List ℕ) (left : List Text) (seats : List (Option ℕ)) (bytes : List ℕ) : Type 0 where
+  pub record IsOnGuests (all : List ℕ) (left : List Text) (seats : List (Option ℕ)) (runs : List (List ℕ)) (bytes : List ℕ) : Type 0 where
     pub guests : List SavedGuest
     pub paths : flat_map (λ (g : SavedGuest). g.paths) guests ≡ paths_seated fs seats
+    pub hold : AreRuns b guests runs
     pub room : length seats + 32 * length left ≤ 1024
+    pub few : length runs + length left ≤ 32
     pub same : behind guests (read_guests w.handoff (taken_by fs seats) left bytes) ≡ read_guests w.handoff [] (names_now w) all
 
   abbrev next_guests : List Text → List Path → Parsed SavedGuest → Read (List SavedGuest)
   next_guests names taken g = read_guests w.handoff (with_paths g.value.paths taken) names g.rest
 
-  module _ (all : List ℕ) (name : Text) (left : List Text) (seats : List (Option ℕ)) (bytes : List ℕ) (is : IsOnGuests all (name ∷ left) seats bytes) where
-    pub guest_on : (new : List (Option ℕ)) (rest : List ℕ) → IsGuestRead w name seats bytes new rest → IsOnGuests all left new rest
-    guest_on new rest g = record {
+  module _ {all : List ℕ} {name : Text} {left : List Text} {seats : List (Option ℕ)} {runs : List (List ℕ)} {bytes : List ℕ} (is : IsOnGuests all (name ∷ left) seats runs bytes) where
+    pub guest_on : {new : List (Option ℕ)} {run rest : List ℕ} {now : List (List ℕ)} → IsGuestRead w name seats bytes new run rest → now ≡ runs ++ run ∷ [] → IsOnGuests all left new now rest
+    guest_on {new} {run} {rest} {now} g pushed = record {
       guests = is.guests ++ g.guest ∷ [];
       paths = flat_map-append (λ (h : SavedGuest). h.paths) is.guests (g.guest ∷ []) ∙ ap₂ (λ (x y : List (Option Path)). x ++ y) is.paths (append-nil g.guest.paths ∙ g.paths)
           ∙ sym (ap (paths_seated fs) g.seats ∙ map-append (path_seated fs) seats g.own);
+      hold = subst (AreRuns b (is.guests ++ g.guest ∷ [])) (sym pushed) (one_more b is.guests runs g.guest run is.hold g.holds);
       room = let more = ap (λ (xs : List (Option ℕ)). length xs) g.seats in let one = length-append seats g.own in let count = g.count in let room = is.room in omega arith;
+      few = let more = ap (λ (xs : List (List ℕ)). length xs) pushed in let one = length-append runs (run ∷ []) in let few = is.few in omega arith;
       same = ap (λ (ps : List Path). behind (is.guests ++ g.guest ∷ []) (read_guests w.handoff ps left rest))
           (ap (taken_by fs) g.seats ∙ sym (taken_more seats g.own) ∙ ap (λ (qs : List (Option Path)). with_paths qs (taken_by fs seats)) (sym g.paths))
           ∙ reads_on (next_guests left (taken_by fs seats)) is.guests (read_guest w.handoff (taken_by fs seats) name bytes) (parsed g.guest rest) g.read

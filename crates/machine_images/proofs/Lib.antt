@@ -10,5 +10,4 @@ pub mod JudgedMachines
 pub mod AlikeGuests
 pub mod Along
 pub mod LoadedWalks
-pub mod LoadedRuns
 pub mod LoadedMachine

@@ -28,8 +28,8 @@ use Rattle.image_bytes.specs.Faults.{number_of}
 use Rattle.image_bytes.specs.declared.fault.ImageFault.{ImageFault}
 use Rattle.monitor.specs.ByIndex.{name_nth}
 use Rattle.monitor.specs.Loads.{IsLoaded}
-use Rattle.machine_images.specs.Judging.{functions_now, path_seated, paths_seated}
-use Rattle.machine_images.specs.Loading.{IsRunOf, AreRuns, GivesSeats, LoadsRuns}
+use Rattle.machine_images.specs.Judging.{IsRunOf, AreRuns, functions_now, path_seated, paths_seated}
+use Rattle.machine_images.specs.Loading.{GivesSeats, LoadsRuns}
 use Rattle.machine_images.proofs.AlikeGuests.{alike_faults, same_image}
 use Rattle.machine_images.proofs.Along.{board_along, board_of, both_along, names_along}
 

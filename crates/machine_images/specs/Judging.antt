@@ -7,13 +7,17 @@
 --     slot_seated, guest_seated fs seats      a slot, and a guest with these slots, at reset
 --     has_seat w seats f      a guest has the function, or is to get it
 --     held_under w seats      what the handoff holds then, function after function
---     AreSlotsRead, IsGuestRead, AreGuestsRead      slots, a guest, and all guests that were read
-use Rattle.std.specs.Prelude.{List, [], ◌++◌, ◌≡◌, ℕ, ◌==◌, Bool, false, ◌||◌, length, map, flat_map, option_map, slice_get}
-use Rattle.std.specs.Prelude.{Option, option_and_then, Ok}
+--     IsRunOf b g run, AreRuns b gs runs      the run of bytes that holds the image of a guest; of each guest
+--     AreSlotsRead, IsGuestRead, AreGuestsRead      slots, a guest with its run, and all guests with theirs that were read
+--     IsPlanned w bytes seats runs      the slots and the runs of all guests of a machine that bytes hold and that fits
+use Rattle.std.specs.Prelude.{List, [], ◌∷◌, ◌++◌, ◌≡◌, ℕ, ◌==◌, Bool, false, ◌||◌, length, map, flat_map, option_map, slice_get}
+use Rattle.std.specs.Prelude.{Option, None, option_and_then, Ok, ⊤}
 use Rattle.std.specs.List.{list_any}
 use Rattle.std.specs.Option.{option_map_or}
+use Rattle.lists.specs.Elements.{Each}
 use Rattle.model_registers.specs.Decoding.{Function}
 use Rattle.model_board.specs.Paths.{Path}
+use Rattle.model_board.specs.Board.{Board}
 use Rattle.model_board.specs.AtReset.{board_at}
 use Rattle.model_board.specs.State.{BoardFunction}
 use Rattle.model_guests.specs.Lone.{LoneGuest}
@@ -21,10 +25,14 @@ use Rattle.model_guests.specs.Slots.{reset_function}
 use Rattle.model_guests.specs.Text.{Text}
 use Rattle.model_guests.specs.World.{declared}
 use Rattle.model_guests.specs.WorldNow.{WorldNow, board_state, names_now}
+use Rattle.model_handoff.specs.Kept.{IsLawfulOver}
 use Rattle.model_handoff.specs.ViewLaws.{is_at, sits}
-use Rattle.model_images.specs.MachineImages.{SavedGuest}
+use Rattle.model_images.specs.Images.{Fits}
+use Rattle.model_images.specs.MachineImages.{SavedGuest, MachineImage, FitsMachine}
 use Rattle.model_image_bytes.specs.Layouts.{parsed}
-use Rattle.model_image_bytes.specs.LoadedMachines.{with_paths, read_slots, guest_at, read_guest, read_guests}
+use Rattle.model_image_bytes.specs.LoadedBytes.{load_fault}
+use Rattle.model_image_bytes.specs.TakenBytes.{taken_image}
+use Rattle.model_image_bytes.specs.LoadedMachines.{with_paths, read_slots, guest_at, read_guest, read_guests, read_machine}
 use Rattle.board_images.specs.BoardBytes.{held_cells}
 
 abbrev pub functions_now : WorldNow → List BoardFunction
@@ -61,6 +69,21 @@ has_seat w seats f = sits w.guests f.path || list_any (is_at f.path) (paths_seat
 abbrev pub held_under : WorldNow → Seats → List ℕ
 held_under w seats = flat_map (λ f. held_cells (has_seat w seats f) f) (functions_now w)
 
+-- ---- the bytes of images among those of the machine
+
+-- it is taken by a guest of the functions at the paths that the guest has
+pub record IsRunOf (b : Board) (g : SavedGuest) (run : List ℕ) : Type 0 where
+  pub rest : List ℕ
+  pub image : g.image ≡ taken_image (guest_at b g.paths) (run ++ rest)
+  pub fits : Fits g.image (guest_at b g.paths)
+  pub accepted : load_fault (guest_at b g.paths) run ≡ None
+
+abbrev pub AreRuns : Board → List SavedGuest → List (List ℕ) → Type 0
+AreRuns b [] [] = ⊤
+AreRuns b [] (r ∷ rs) = ⊥
+AreRuns b (g ∷ gs) [] = ⊥
+AreRuns b (g ∷ gs) (r ∷ rs) = IsRunOf b g r × AreRuns b gs rs
+
 -- ---- what was read
 
 -- slots come behind those of earlier guests
@@ -71,15 +94,26 @@ pub record AreSlotsRead (w : WorldNow) (before : Seats) (bytes : List ℕ) (afte
   pub read : read_slots w.handoff 32 (taken_by (functions_now w) before) bytes
       ≡ Ok (parsed (paths_seated (functions_now w) own) rest)
 
-pub record IsGuestRead (w : WorldNow) (name : Text) (before : Seats) (bytes : List ℕ) (after : Seats) (rest : List ℕ) : Type 0 where
+pub record IsGuestRead (w : WorldNow) (name : Text) (before : Seats) (bytes : List ℕ) (after : Seats) (run rest : List ℕ) : Type 0 where
   pub guest : SavedGuest
   pub own : Seats
   pub seats : after ≡ before ++ own
   pub count : length own ≡ 32
   pub paths : guest.paths ≡ paths_seated (functions_now w) own
   pub read : read_guest w.handoff (taken_by (functions_now w) before) name bytes ≡ Ok (parsed guest rest)
+  pub holds : IsRunOf (board_at w.handoff.functions) guest run
 
-pub record AreGuestsRead (w : WorldNow) (bytes : List ℕ) (seats : Seats) (rest : List ℕ) : Type 0 where
+pub record AreGuestsRead (w : WorldNow) (bytes : List ℕ) (seats : Seats) (runs : List (List ℕ)) (rest : List ℕ) : Type 0 where
   pub guests : List SavedGuest
   pub paths : flat_map (λ (g : SavedGuest). g.paths) guests ≡ paths_seated (functions_now w) seats
   pub read : read_guests w.handoff [] (names_now w) bytes ≡ Ok (parsed guests rest)
+  pub hold : AreRuns (board_at w.handoff.functions) guests runs
+
+pub record IsPlanned (w : WorldNow) (bytes : List ℕ) (seats : Seats) (runs : List (List ℕ)) : Type 0 where
+  pub image : MachineImage
+  pub read : read_machine w bytes ≡ Ok image
+  pub fits : FitsMachine image w
+  pub count : Each (λ (g : SavedGuest). length g.paths ≡ 32) image.guests
+  pub paths : flat_map (λ (g : SavedGuest). g.paths) image.guests ≡ paths_seated (functions_now w) seats
+  pub hold : AreRuns (board_at w.handoff.functions) image.guests runs
+  pub lawful : IsLawfulOver w

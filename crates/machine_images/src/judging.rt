@@ -1,6 +1,6 @@
-//! Whether bytes can be loaded into a machine. They are compared with what it has, from front to
-//! back, and the first that fails decides.
-ghost use Rattle.std.specs.Prelude.{◌≡◌, ◌≤◌, ◌+◌, ◌++◌, [], None, Some, Ok, Err, IfErr, IfOk, length, option_map, slice_get};
+//! Whether bytes can be loaded into a machine, and what its guests get of them. They are compared
+//! with what it has, from front to back, and the first that fails decides.
+ghost use Rattle.std.specs.Prelude.{◌≡◌, ◌≤◌, ◌+◌, ◌++◌, [], Some, Ok, Err, IfErr, IfOk, length, map, option_map, slice_get, take};
 ghost use Rattle.model_board.specs.AtReset.{board_at};
 ghost use Rattle.model_board.specs.State.{BoardFunction};
 ghost use Rattle.model_audit.specs.Orderly.{IsStateOfBoard};
@@ -11,7 +11,7 @@ ghost use Rattle.model_image_bytes.specs.LoadedMachines.{load_all_fault, machine
 ghost use Rattle.model_image_bytes.specs.MachineBytes.{board_layout, name_layout};
 ghost use Rattle.image_bytes.specs.Faults as image;
 ghost use Rattle.board_images.specs.Faults.{number_of};
-ghost use Rattle.machine_images.specs.Judging.{AreGuestsRead, IsGuestRead, functions_now, has_seat, held_under, taken_by};
+ghost use Rattle.machine_images.specs.Judging.{AreGuestsRead, IsGuestRead, IsPlanned, functions_now, has_seat, held_under, taken_by};
 
 use crate::heading::{four, header, two};
 use crate::seats::{Seats, after_image, is_taken, read_slots};
@@ -21,8 +21,18 @@ use host_bridge::Host;
 use image_bytes::ImageFault;
 use monitor::Monitor;
 
+/// For each guest the bytes that hold its image.
+type Runs<'a> = ArrayVec<&'a [u8], 32>;
+
+/// What all guests get of bytes, in their order: the functions in their slots, and their images.
+#[derive(Drop)]
+pub(crate) struct Plan<'a> {
+    pub(crate) seats: Seats,
+    pub(crate) runs: Runs<'a>,
+}
+
 /// The same fault of the image of a guest.
-pub(crate) fn of_image(fault: ImageFault) -> MachineFault
+fn of_image(fault: ImageFault) -> MachineFault
     ensures { number_of result ≡ image.number_of fault }
 {
     match fault {
@@ -32,7 +42,7 @@ pub(crate) fn of_image(fault: ImageFault) -> MachineFault
 }
 
 /// The bytes after the header, with which they have to begin.
-pub(crate) fn after_header(bytes: &[u8]) -> Result<&[u8], MachineFault>
+fn after_header(bytes: &[u8]) -> Result<&[u8], MachineFault>
     ensures left { IfOk result (λ rest.
         after_bytes 905 machine_header bytes.now ≡ Ok rest.now) }
     ensures refused { IfErr result (λ why.
@@ -63,11 +73,7 @@ fn after_board<'a>(host: &Host, bytes: &'a [u8]) -> Result<&'a [u8], MachineFaul
 /// The bytes after what is the same in all images of a machine: the board, and how many guests
 /// there are.
 #[tactic(auto, using(board_images::proofs::Steps::ends, board_images::proofs::Steps::goes_on))]
-pub(crate) fn after_known<'a>(
-    host: &Host,
-    guests: usize,
-    bytes: &'a [u8],
-) -> Result<&'a [u8], MachineFault>
+fn after_known<'a>(host: &Host, guests: usize, bytes: &'a [u8]) -> Result<&'a [u8], MachineFault>
     ensures left { let own = board_layout.bytes (board_at host.now.state.functions)
         ++ le_bytes 2 guests in
         IfOk result (λ rest. after_bytes 907 own bytes.now ≡ Ok rest.now) }
@@ -80,7 +86,7 @@ pub(crate) fn after_known<'a>(
 }
 
 #[tactic(auto, using(board_images::proofs::FoundParts::are_bytes, board_images::proofs::Steps::goes_on, crate::proofs::JudgedHandoffs::name_is))]
-pub(crate) fn after_name<'a>(name: &[u8], bytes: &'a [u8]) -> Result<&'a [u8], MachineFault>
+fn after_name<'a>(name: &[u8], bytes: &'a [u8]) -> Result<&'a [u8], MachineFault>
     ensures left { let own = name_layout.bytes name.now in
         IfOk result (λ rest. after_bytes 907 own bytes.now ≡ Ok rest.now) }
     ensures refused { let own = name_layout.bytes name.now in
@@ -90,48 +96,63 @@ pub(crate) fn after_name<'a>(name: &[u8], bytes: &'a [u8]) -> Result<&'a [u8], M
     after_own(name, bytes)
 }
 
-/// Adds the slots of a guest of this name, and gives the bytes behind its image.
+/// So many bytes at the front, or all where they are fewer.
+fn front(bytes: &[u8], count: usize) -> &[u8]
+    ensures { result.now ≡ take count bytes.now }
+{
+    if bytes.len() < count {
+        return bytes;
+    }
+    &bytes[..count]
+}
+
+/// Adds the slots of a guest of this name, and gives the bytes that hold its image, and those behind
+/// it.
 fn read_guest<'a>(
     monitor: &Monitor,
     name: &ArrayString<16>,
     seats: &mut Seats,
     bytes: &'a [u8],
-) -> Result<&'a [u8], MachineFault>
+) -> Result<(&'a [u8], &'a [u8]), MachineFault>
     requires { length seats.old.items + 32 ≤ 1024 }
-    ensures read { let w = monitor.now.world in IfOk result (λ rest.
-        IsGuestRead w name.now.bytes seats.old.items bytes.now seats.new.items rest.now) }
+    ensures read { let w = monitor.now.world in IfOk result (λ r.
+        IsGuestRead w name.now.bytes seats.old.items bytes.now seats.new.items r.0.now r.1.now) }
     ensures refused { let taken = taken_by (functions_now monitor.now.world) seats.old.items in
         IfErr result (λ why. read_guest monitor.now.world.handoff taken name.now.bytes bytes.now
         ≡ Err (number_of why)) }
 {
     let before = seats.len();
     let bytes = after_name(name.as_str().as_bytes(), bytes)?;
-    let bytes = read_slots(monitor, seats, bytes)?;
-    match after_image(monitor.host(), &seats.as_slice()[before..], bytes) {
-        Ok(rest) => Ok(rest),
+    let image = read_slots(monitor, seats, bytes)?;
+    match after_image(monitor.host(), &seats.as_slice()[before..], image) {
+        Ok(rest) => Ok((front(image, image.len() - rest.len()), rest)),
         Err(fault) => Err(of_image(fault)),
     }
 }
 
-/// Adds the slots of all guests, and gives the bytes behind the last.
-#[tactic(auto, using(crate::proofs::JudgedGuests::guest_on))]
+/// Adds the slots of all guests and the bytes of their images, and gives those behind the last.
 fn read_guests<'a>(
     monitor: &Monitor,
     seats: &mut Seats,
+    runs: &mut Runs<'a>,
     bytes: &'a [u8],
 ) -> Result<&'a [u8], MachineFault>
-    requires { length seats.old.items ≡ 0 }
-    ensures read { let w = monitor.now.world in
-        IfOk result (λ rest. AreGuestsRead w bytes.now seats.new.items rest.now) }
+    requires no_seats { seats.old.items ≡ [] }
+    requires no_runs { runs.old.items ≡ [] }
+    ensures read { let found = map (λ r. r.now) runs.new.items in
+        IfOk result (λ rest.
+        AreGuestsRead monitor.now.world bytes.now seats.new.items found rest.now) }
     ensures refused { let w = monitor.now.world in
         IfErr result (λ why. read_guests w.handoff [] (names_now w) bytes.now
         ≡ Err (number_of why)) }
 {
     let mut left = monitor.names().as_slice();
     let mut bytes = bytes;
-    while let Some((name, rest)) = left.split_first() {
-        bytes = read_guest(monitor, name, seats, bytes)?;
-        left = rest;
+    while let Some((name, others)) = left.split_first() {
+        let (run, rest) = read_guest(monitor, name, seats, bytes)?;
+        runs.push(run);
+        left = others;
+        bytes = rest;
     }
     Ok(bytes)
 }
@@ -190,19 +211,21 @@ fn after_handoff(
     }
 }
 
-/// Refuses bytes that are no image of a machine like this one.
+/// What guests get of bytes. Refuses bytes that are no image of a machine like this one.
 #[tactic(auto, using(crate::proofs::JudgedHandoffs::known_is, crate::proofs::JudgedMachines::guests_refused))]
-fn judge(monitor: &Monitor, bytes: &[u8]) -> Result<(), MachineFault>
-    ensures taken { IfOk result (λ _. load_all_fault monitor.now.world bytes.now ≡ None) }
+pub(crate) fn judge<'a>(monitor: &Monitor, bytes: &'a [u8]) -> Result<Plan<'a>, MachineFault>
+    ensures planned { let w = monitor.now.world in IfOk result (λ plan.
+        IsPlanned w bytes.now plan.seats.items (map (λ r. r.now) plan.runs.items)) }
     ensures refused { IfErr result (λ why.
         load_all_fault monitor.now.world bytes.now ≡ Some (number_of why)) }
 {
     let bytes = after_header(bytes)?;
     let bytes = after_known(monitor.host(), monitor.names().len(), bytes)?;
     let mut seats = ArrayVec::new();
-    let bytes = read_guests(monitor, &mut seats, bytes)?;
+    let mut runs = ArrayVec::new();
+    let bytes = read_guests(monitor, &mut seats, &mut runs, bytes)?;
     after_handoff(monitor, seats.as_slice(), bytes)?;
-    Ok(())
+    Ok(Plan { seats, runs })
 }
 
 /// Why bytes can't be loaded into a machine, if they can't: they are no image of a machine (905),

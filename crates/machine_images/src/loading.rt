@@ -1,87 +1,19 @@
 //! Images of whole machines that are loaded. The bytes are read before anything changes: which function each slot gets,
 //! and which bytes hold the image of each guest. Then all slots are emptied and filled again, and each guest is loaded.
-ghost use Rattle.std.specs.Prelude.{◌≡◌, ◌≤◌, ◌<◌, ◌+◌, ◌*◌, List, [], ℕ, None, Ok, Err, IfErr, IfOk, IsSome, flat_map, length, map, option_map, take};
+ghost use Rattle.std.specs.Prelude.{◌≡◌, ◌≤◌, ◌<◌, ◌+◌, ◌*◌, List, None, IsSome, flat_map, length, map, option_map};
 ghost use Rattle.model_guests.specs.WorldNow.{names_now};
-ghost use Rattle.model_handoff.specs.Kept.{IsLawfulOver};
 ghost use Rattle.model_images.specs.MachineImages.{SavedGuest};
 ghost use Rattle.model_images.specs.MachineLaws.{gift, gifts, load_of, takings};
 ghost use Rattle.model_images.specs.RequestLaws.{after_all_requests};
-ghost use Rattle.model_image_bytes.specs.Layouts.{parsed};
-ghost use Rattle.model_image_bytes.specs.LoadedMachines.{load_all_fault, read_guest, read_guests};
+ghost use Rattle.model_image_bytes.specs.LoadedMachines.{load_all_fault};
 ghost use Rattle.board_images.specs.Faults.{number_of};
 ghost use Rattle.monitor.specs.ByIndex.{name_nth};
-ghost use Rattle.machine_images.specs.Judging.{functions_now, path_seated, paths_seated, taken_by};
-ghost use Rattle.machine_images.specs.Loading.{FindsRuns, GivesSeats, IsPlanned, IsRunRead, LoadsAll, LoadsRuns};
+ghost use Rattle.machine_images.specs.Judging.{functions_now, path_seated, paths_seated};
+ghost use Rattle.machine_images.specs.Loading.{GivesSeats, LoadsAll, LoadsRuns};
 
-use crate::judging::{after_header, after_known, after_name, machine_fault, of_image};
-use crate::seats::{Seats, after_image, read_slots};
-use arrayvec::{ArrayString, ArrayVec};
+use crate::judging::judge;
 use board_images::MachineFault;
 use monitor::Monitor;
-
-/// For each guest the bytes that hold its image.
-type Runs<'a> = ArrayVec<&'a [u8], 32>;
-
-/// So many bytes at the front, or all where they are fewer.
-fn front(bytes: &[u8], count: usize) -> &[u8]
-    ensures { result.now ≡ take count bytes.now }
-{
-    if bytes.len() < count {
-        return bytes;
-    }
-    &bytes[..count]
-}
-
-/// Adds the slots of a guest of this name, and gives the bytes that hold its image, and those behind it.
-fn find_run<'a>(
-    monitor: &Monitor,
-    name: &ArrayString<16>,
-    seats: &mut Seats,
-    bytes: &'a [u8],
-) -> Result<(&'a [u8], &'a [u8]), MachineFault>
-    requires { length seats.old.items + 32 ≤ 1024 }
-    ensures read { let w = monitor.now.world in IfOk result (λ r.
-        IsRunRead w name.now.bytes seats.old.items bytes.now seats.new.items r.0.now r.1.now) }
-    ensures refused { let taken = taken_by (functions_now monitor.now.world) seats.old.items in
-        IfErr result (λ why. read_guest monitor.now.world.handoff taken name.now.bytes bytes.now
-        ≡ Err (number_of why)) }
-{
-    let before = seats.len();
-    let bytes = after_name(name.as_str().as_bytes(), bytes)?;
-    let image = read_slots(monitor, seats, bytes)?;
-    match after_image(monitor.host(), &seats.as_slice()[before..], image) {
-        Ok(rest) => Ok((front(image, image.len() - rest.len()), rest)),
-        Err(fault) => Err(of_image(fault)),
-    }
-}
-
-/// Adds the slots of guests of these names and the bytes that hold their images, where bytes can be read so.
-fn find_runs<'a>(
-    monitor: &Monitor,
-    names: &[ArrayString<16>],
-    seats: &mut Seats,
-    runs: &mut Runs<'a>,
-    bytes: &'a [u8],
-)
-    requires room { length seats.old.items + 32 * length names.now ≤ 1024 }
-    requires few { length runs.old.items + length names.now ≤ 32 }
-    ensures { let w = monitor.now.world in let texts = map (λ n. n.bytes) names.now in
-        let taken = taken_by (functions_now w) seats.old.items in
-        let found = map (λ r. r.now) runs.old.items in
-        (gs : List SavedGuest) (rest : List ℕ)
-        → read_guests w.handoff taken texts bytes.now ≡ Ok (parsed gs rest)
-        → FindsRuns w gs seats.old.items seats.new.items found
-        (map (λ r. r.now) runs.new.items) }
-{
-    let Some((name, others)) = names.split_first() else {
-        return;
-    };
-    let Ok((run, rest)) = find_run(monitor, name, seats, bytes) else {
-        return;
-    };
-    runs.push(run);
-    find_runs(monitor, others, seats, runs, rest);
-}
 
 /// Takes all functions of a guest, that in the last slot first.
 fn take_slots(monitor: &mut Monitor, guest: usize)
@@ -166,38 +98,6 @@ fn load_all(monitor: &mut Monitor, guest: usize, runs: &[&[u8]])
     load_all(monitor, guest + 1, others);
 }
 
-/// Adds the slots of all guests and the bytes that hold their images, of bytes that the machine doesn't refuse.
-fn plan<'a>(monitor: &Monitor, seats: &mut Seats, runs: &mut Runs<'a>, bytes: &'a [u8])
-    requires accepted { load_all_fault monitor.now.world bytes.now ≡ None }
-    requires no_seats { seats.old.items ≡ [] }
-    requires no_runs { runs.old.items ≡ [] }
-    ensures planned { let found = map (λ r. r.now) runs.new.items in
-        IsPlanned monitor.now.world bytes.now seats.new.items found }
-    ensures lawful { IsLawfulOver monitor.now.world }
-    ensures few { length monitor.now.world.guests ≤ 32 }
-{
-    let Ok(begin) = after_header(bytes) else {
-        unreachable!()
-    };
-    let Ok(front) = after_known(monitor.host(), monitor.names().len(), begin) else {
-        unreachable!()
-    };
-    find_runs(monitor, monitor.names().as_slice(), seats, runs, front);
-}
-
-/// Loads bytes that the machine doesn't refuse.
-fn load_accepted(monitor: &mut Monitor, bytes: &[u8])
-    requires { load_all_fault monitor.old.world bytes.now ≡ None }
-    ensures { LoadsAll monitor.old bytes.now monitor.new }
-{
-    let mut seats = ArrayVec::new();
-    let mut runs = ArrayVec::new();
-    plan(monitor, &mut seats, &mut runs, bytes);
-    take_all(monitor);
-    give_all(monitor, 0, seats.as_slice());
-    load_all(monitor, 0, runs.as_slice());
-}
-
 /// Loads a machine from bytes: its guests then sit where the image says, and hold what it says. All functions are taken
 /// from guests and given again, and each guest is loaded, so nothing comes about that calls for these couldn't bring
 /// about, and counts grow as for them. Or refuses the bytes and changes nothing: 905 where they are no image of a
@@ -208,9 +108,13 @@ pub fn load_machine(monitor: &mut Monitor, bytes: &[u8]) -> Option<MachineFault>
     ensures refused { IsSome result → monitor.new ≡ monitor.old }
     ensures loaded { result ≡ None → LoadsAll monitor.old bytes.now monitor.new }
 {
-    if let Some(why) = machine_fault(monitor, bytes) {
-        return Some(why);
+    match judge(monitor, bytes) {
+        Ok(plan) => {
+            take_all(monitor);
+            give_all(monitor, 0, plan.seats.as_slice());
+            load_all(monitor, 0, plan.runs.as_slice());
+            None
+        }
+        Err(why) => Some(why),
     }
-    load_accepted(monitor, bytes);
-    None
 }

@@ -50,7 +50,7 @@ answers_stay_along w h name there (r ∷ rs) fits none slot n = grind (arith, no
 
 -- ---- counts
 
-names_stay : (w : WorldNow) (r : Request) → names_now (after_request w r) ≡ names_now w
+pub names_stay : (w : WorldNow) (r : Request) → names_now (after_request w r) ≡ names_now w
 names_stay w r = grind (arith, names_after, names_after_load)
 
 counted_after : (m : MachineNow) (i : ℕ) (name : Text) (n : ℕ) → IsCounted m i name n → (r : Request) → IsCounted (after_request_on_machine m r) i name (after_change (changes_by name m.world r) n)

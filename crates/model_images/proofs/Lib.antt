@@ -6,7 +6,7 @@ mod Settling
 mod Runs
 pub mod Steps
 pub mod Fitting
-mod Counts
+pub mod Counts
 pub mod Machines
 mod Emptying
 pub mod Filling

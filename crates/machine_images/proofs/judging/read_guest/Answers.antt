@@ -1,25 +1,32 @@
-use Rattle.std.proofs.Common.{◌≡◌, ◌∙◌, List, Option, ℕ, Ok, Err, sym, ap, ap₂, arith}
+use Rattle.std.proofs.Common.{◌≡◌, ◌∙◌, ◌-◌, List, Option, ℕ, Ok, Err, length, take, drop, sym, ap, ap₂, arith}
 use Rattle.model_board.specs.State.{BoardFunction, State}
 use Rattle.model_image_bytes.specs.LoadedBytes.{after_bytes, after_image_front}
 use Rattle.model_image_bytes.specs.MachineBytes.{name_layout}
 use Rattle.image_bytes.specs.Faults as image
 use Rattle.machine_images.specs.Judging.{guest_seated}
-use Rattle.machine_images.proofs.JudgedGuests.{guest_read, image_refused, own_slots}
+use Rattle.machine_images.proofs.JudgedGuests.{guest_read, image_refused, own_slots, shorter}
 use Rattle.machine_images.proofs.judging.read_guest.Goals as goal
 
 pub returns-in-Ok-clause-read : goal.returns-in-Ok-clause-read
 returns-in-Ok-clause-read c =
-    let slots = c.in_ok-bytes-2.ensures.read in
+    let slots = c.in_ok-image.ensures.read in
     let own = own_slots c.args.seats.now.items slots.own c.len-before.result c.as_slice.result.now (c.as_slice.ensures.value ∙ slots.seats) c.len-before.ensures.value in
     let named : after_bytes 907 (name_layout.bytes c.args.name.now.bytes) c.args.bytes.now ≡ Ok c.in_ok-bytes.bytes.now = grind arith in
-    guest_read c.args.monitor.now.world c.args.name.now.bytes c.args.seats.now.items c.args.bytes.now c.in_ok-bytes.bytes.now named c.read_slots.new.seats.items c.in_ok-bytes-2.bytes.now slots c.in-Ok.rest.now
-    (ap₂ (λ (gs : List BoardFunction) (os : List (Option ℕ)). after_image_front (guest_seated gs os) c.in_ok-bytes-2.bytes.now) (sym (ap (λ (s : State). s.functions) c.host.ensures.state)) (sym own) ∙ c.in-Ok.ensures.left)
+    guest_read c.args.monitor.now.world c.args.name.now.bytes c.args.seats.now.items c.args.bytes.now c.in_ok-bytes.bytes.now named c.read_slots.new.seats.items c.in_ok-image.image.now slots c.in-Ok.rest.now c.front.result.now
+    (ap₂ (λ (gs : List BoardFunction) (os : List (Option ℕ)). after_image_front (guest_seated gs os) c.in_ok-image.image.now) (sym (ap (λ (s : State). s.functions) c.host.ensures.state)) (sym own) ∙ c.in-Ok.ensures.left)
+    c.front.ensures
+
+pub overflow_sub-image : goal.overflow_sub-image
+overflow_sub-image c =
+    let n = c.len-before.result in
+    let seats = c.as_slice.result.now in
+    shorter (guest_seated c.host.result.now.state.functions (take (length seats - n) (drop n seats))) c.in_ok-image.image.now c.in-Ok.rest.now c.in-Ok.ensures.left
 
 pub returns-in-Err-clause-refused : goal.returns-in-Err-clause-refused
 returns-in-Err-clause-refused c =
-    let slots = c.in_ok-bytes-2.ensures.read in
+    let slots = c.in_ok-image.ensures.read in
     let own = own_slots c.args.seats.now.items slots.own c.len-before.result c.as_slice.result.now (c.as_slice.ensures.value ∙ slots.seats) c.len-before.ensures.value in
     let named : after_bytes 907 (name_layout.bytes c.args.name.now.bytes) c.args.bytes.now ≡ Ok c.in_ok-bytes.bytes.now = grind arith in
-    image_refused c.args.monitor.now.world c.args.name.now.bytes c.args.seats.now.items c.args.bytes.now c.in_ok-bytes.bytes.now named c.read_slots.new.seats.items c.in_ok-bytes-2.bytes.now slots (image.number_of c.in-Err.fault)
-    (ap₂ (λ (gs : List BoardFunction) (os : List (Option ℕ)). after_image_front (guest_seated gs os) c.in_ok-bytes-2.bytes.now) (sym (ap (λ (s : State). s.functions) c.host.ensures.state)) (sym own) ∙ c.in-Err.ensures.refused)
+    image_refused c.args.monitor.now.world c.args.name.now.bytes c.args.seats.now.items c.args.bytes.now c.in_ok-bytes.bytes.now named c.read_slots.new.seats.items c.in_ok-image.image.now slots (image.number_of c.in-Err.fault)
+    (ap₂ (λ (gs : List BoardFunction) (os : List (Option ℕ)). after_image_front (guest_seated gs os) c.in_ok-image.image.now) (sym (ap (λ (s : State). s.functions) c.host.ensures.state)) (sym own) ∙ c.in-Err.ensures.refused)
     ∙ ap Err (sym c.of_image.ensures)
