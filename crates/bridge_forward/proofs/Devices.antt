@@ -47,11 +47,6 @@ zero_again (a ∷ []) h = refl
 zero_again (a ∷ b ∷ []) h = refl
 zero_again (a ∷ b ∷ c ∷ p) h = ap (λ (q : Path). a ∷ q) (zero_again (b ∷ c ∷ p) (omega arith))
 
-zero_there : (p : Path) → 0 < length p → 0 < length (function_zero p)
-zero_there [] h = absurd (omega arith)
-zero_there (a ∷ []) h = omega arith
-zero_there (a ∷ b ∷ p) h = omega arith
-
 own_device : (p : Path) → same_device p p ≡ true
 own_device p = rw (path_self (parent p)) (grind (arith, nat_tests))
 

@@ -4,7 +4,7 @@ use Rattle.std.specs.Prelude.{bit_and, bit_or}
 use Rattle.std.specs.Int.Bits.{or_zero_r, and_zero_r}
 use Rattle.std.proofs.lemmas.Nat.{and_mod, and_mask, and_shr, and_block, and_le_l}
 use Rattle.std.proofs.Math.Nat.{pow-suc}
-use Rattle.model_registers.specs.Cell.{Cell, written}
+use Rattle.model_registers.specs.Cell.{Cell}
 use Rattle.model_registers.specs.Registers.{config, File, read, write, field}
 use Rattle.model_registers.specs.ByteEnables.{enabled_bits}
 use Rattle.model_registers.specs.RegisterLaws.{merged}

@@ -1,5 +1,5 @@
 -- A function's file, parted into a guest's own copies and all other cells.
-use Rattle.std.proofs.Common.{◌≡◌, ℕ, zero, suc, ◌+◌, ◌*◌, ◌/◌, ◌%◌, ◌<◌, ◌≤◌, ◌⊎◌, inl, Bool, true, false, not, ◌&&◌, ◌||◌, cond, List, [], ◌∷◌, ◌++◌, length, map, refl, sym, ap, ap₂, ◌∙◌, subst, arith, eqb, leb, ltb, append_assoc, ◌-◌, ◌^◌}
+use Rattle.std.proofs.Common.{◌≡◌, ℕ, zero, suc, ◌+◌, ◌*◌, ◌/◌, ◌%◌, ◌<◌, ◌≤◌, ◌⊎◌, inl, Bool, true, false, ◌&&◌, ◌||◌, cond, List, [], ◌∷◌, ◌++◌, length, map, refl, sym, ap, ap₂, ◌∙◌, subst, arith, eqb, leb, ltb, append_assoc, ◌-◌, ◌^◌}
 use Rattle.std.specs.Prelude.{bit_and, bit_or, flat_map}
 use Rattle.std.specs.Int.Bits.{or_zero_r, and_zero_r}
 use Rattle.std.proofs.lemmas.Bool.{cases_lt, cases_Bool, or_parts, and_cases, eqb-false, leb-false, ltb-false, or_right, and_from, le-leb, lt-ltb, or_cases, and_parts, eqb-true, leb-true, ltb-true, ne_eqb, and_right}
@@ -180,12 +180,6 @@ low_base : (bs : List BaseAddress) (q : ℕ) → q < 0x10 → cell_at (base_file
 low_base [] q h = refl
 low_base (b ∷ bs) q h =
     cell_outside (4 * registers_of b.kind) (0x10 + 4 * b.index) q (b.base + type_bits b.kind) (2 ^ base_width b.kind - b.size) 0 (base_file bs) (inl (omega arith)) ∙ low_base bs q h
-
--- the three parts of the own places
-data OwnOffset (q : ℕ) : Type 0 where
-  of_command : (q ≡ 4) ⊎ (q ≡ 5) → OwnOffset q
-  of_header_type : q ≡ 0x0e → OwnOffset q
-  of_bases : 0x10 ≤ q → q < 0x28 → OwnOffset q
 
 pub reset_holds_own : ResetHoldsOwn
 reset_holds_own d blocks (block n q) mine = cc

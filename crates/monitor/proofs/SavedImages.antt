@@ -7,7 +7,7 @@
 --     filled_after, empty_after      bytes that are compared with such a slot
 --     none_declared, declared_goes_on      declarations that can be written: none, and those of one slot more
 --     slots_go_on, slots_end, slots_done      with slots, one after the other
---     header_ends, latch_ends, slots_decide      with a whole image
+--     header_ends, slots_decide      with a whole image
 --     fault_told      what is told of that
 --     image_put      an image that is put into a buffer, part by part
 --     size_now, fault_now      what calls about a guest answer
@@ -173,9 +173,6 @@ module _ (g : LoneGuest) (bytes : List ℕ) where
   header_ends n h = ap (λ (l : Left). then_read (after_slots g.slots) (then_read after_latch l)) h
 
   module _ (next : List ℕ) (headed : after_bytes 905 header bytes ≡ Ok next) where
-    pub latch_ends : (n : ℕ) → after_latch next ≡ Err n → after_image g bytes ≡ Err n
-    latch_ends n h = ap (λ (l : Left). then_read (after_slots g.slots) (then_read after_latch l)) headed ∙ ap (then_read (after_slots g.slots)) h
-
     pub slots_decide : (rest : List ℕ) → after_latch next ≡ Ok rest → after_slots g.slots rest ≡ after_image g bytes
     slots_decide rest h = sym (ap (λ (l : Left). then_read (after_slots g.slots) (then_read after_latch l)) headed ∙ ap (then_read (after_slots g.slots)) h)
 
