@@ -94,13 +94,14 @@ deb: build library
 deb-test: deb
 	@tests/deb.sh packages
 
-# What an access, an event of a guest and a call from C cost, in nanoseconds, on boards of 1, 4, 1003 and 1024 functions,
-# and in instructions, where valgrind is there; and what an audit, `ready` and `why` cost. It takes Python 3. Two outputs are
-# compared by bench/compare OLD NEW.
+# What an access, an event of a guest, a line of a script and a call from C cost, in nanoseconds, on boards of 1, 4, 1003 and
+# 1024 functions, and in instructions, where valgrind is there; and what an audit, `ready` and `why` cost. It takes Python
+# 3. Two outputs are compared by bench/compare OLD NEW.
 bench: build
 	@bench/boards crates/bench_accesses/out/boards
 	@$(PROVE) bench_accesses
 	@bench/run crates/bench_accesses/out/bench_accesses crates/bench_accesses/out/boards
+	@echo; bench/lines crates/pciguest/out/pciguest crates/bench_accesses/out/boards
 	@echo; bench/audits crates/pciguest/out/pciguest crates/bench_accesses/out/boards
 	@echo; tools/library
 	@$(CC) -O2 -Ilibrary -o crates/pciguest_c/out/calls bench/calls.c library/libpciguest.a
