@@ -1,14 +1,24 @@
 -- Between which addresses a function's regions lie.
 --     IsOutside e a      an address is below the least or above the greatest address of an extent
---     IsExtent space slots e      no address of 64 bits outside the extent lies in a region of the space
-use Rattle.std.specs.Prelude.{◌≡◌, ℕ, ◌<◌, ◌^◌, ◌⊎◌, List, Option, None}
-use Rattle.model_registers.specs.Decoding.{Space}
+--     IsExtent space first last slots e      of the addresses from first to last, none outside the extent lies in a region
+--                                            of the space
+--     AreExtents slots e      the same of all ports and of all memory, and of the memory below 4 GB and from there on
+use Rattle.std.specs.Prelude.{◌≡◌, ℕ, ◌<◌, ◌≤◌, ◌^◌, ◌-◌, ◌⊎◌, List, Option, None}
+use Rattle.model_registers.specs.Decoding.{Space, io, memory}
 use Rattle.bars.specs.declared.region.BasedRegion.{BasedRegion}
 use Rattle.bars.specs.declared.extent.Extent.{Extent}
+use Rattle.bars.specs.declared.extent.Extents.{Extents}
 use Rattle.bars.specs.Hits.{hit_from}
 
 abbrev pub IsOutside : Extent → ℕ → Type 0
 IsOutside e a = (a < e.least) ⊎ (e.greatest < a)
 
-abbrev pub IsExtent : Space → List (Option BasedRegion) → Extent → Type 0
-IsExtent space slots e = (a : ℕ) → a < 2 ^ 64 → IsOutside e a → hit_from space a 0 slots ≡ None
+abbrev pub IsExtent : Space → ℕ → ℕ → List (Option BasedRegion) → Extent → Type 0
+IsExtent space first last slots e = (a : ℕ) → first ≤ a → a ≤ last → IsOutside e a → hit_from space a 0 slots ≡ None
+
+abbrev pub AreExtents : List (Option BasedRegion) → Extents → Type 0
+AreExtents slots e =
+    IsExtent io 0 (2 ^ 64 - 1) slots e.io
+    × IsExtent memory 0 (2 ^ 64 - 1) slots e.mem
+    × IsExtent memory 0 (2 ^ 32 - 1) slots e.low
+    × IsExtent memory (2 ^ 32) (2 ^ 64 - 1) slots e.high

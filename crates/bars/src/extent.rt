@@ -1,8 +1,9 @@
 //! The addresses between which regions lie.
-ghost use Rattle.std.specs.Prelude.{◌≡◌, ◌<◌, ◌^◌, ◌↔◌, ℕ, IsTrue, None};
+ghost use Rattle.std.specs.Prelude.{◌≡◌, ◌≤◌, ◌↔◌, ℕ, List, Option, IsTrue, None};
 ghost use Rattle.bars.specs.Kinds.{named_space};
-ghost use Rattle.bars.specs.Hits.{offset_in};
-ghost use Rattle.bars.specs.Extents.{IsOutside};
+ghost use Rattle.bars.specs.Hits.{offset_in, hit_from};
+ghost use Rattle.bars.specs.declared.region.BasedRegion.{BasedRegion};
+ghost use Rattle.bars.specs.Extents.{IsOutside, AreExtents};
 
 use crate::decl::Space;
 use crate::region::BasedRegion;
@@ -12,6 +13,19 @@ use crate::region::BasedRegion;
 pub struct Extent {
     least: u64,
     greatest: u64,
+}
+
+/// The extents of a function's regions: of those of ports, of those of memory, and of those of memory
+/// below 4 GB and from there on, each at least in part.
+///
+/// Of a function with a region of memory in either half, most addresses lie in the extent of both. They
+/// are passed by the extent of the half in which they lie.
+#[derive(Clone, Copy, Debug)]
+pub struct Extents {
+    pub io: Extent,
+    pub mem: Extent,
+    pub low: Extent,
+    pub high: Extent,
 }
 
 impl Extent {
@@ -30,19 +44,34 @@ impl Extent {
         addr < self.least || addr > self.greatest
     }
 
-    /// The extent with one more region in it, if that lies in the space.
-    pub fn with(self, space: Space, region: BasedRegion) -> Extent
+    /// The extent with one more region in it, if an address from `first` to `last` lies in that.
+    pub fn with(self, space: Space, first: u64, last: u64, region: BasedRegion) -> Extent
         ensures wider { (a : ℕ) → IsOutside result a → IsOutside self a }
-        ensures holds { (a : ℕ) → a < 2 ^ 64 → IsOutside result a →
+        ensures holds { (a : ℕ) → first ≤ a → a ≤ last → IsOutside result a →
             offset_in (named_space space) a region ≡ None }
     {
-        if region.decl.kind().space() != space {
+        let greatest = region.base.saturating_add(region.decl.size() - 1);
+        if region.decl.kind().space() != space || greatest < first || last < region.base {
             return self;
         }
-        let greatest = region.base.saturating_add(region.decl.size() - 1);
         Extent {
             least: self.least.min(region.base),
             greatest: self.greatest.max(greatest),
+        }
+    }
+}
+
+impl Extents {
+    /// Whether an address is outside the extent of its space, or outside that of its half.
+    pub fn is_outside(self, space: Space, addr: u64) -> bool
+        ensures { (slots : List (Option BasedRegion)) → AreExtents slots self → IsTrue result →
+            hit_from (named_space space) addr 0 slots ≡ None }
+    {
+        match space {
+            Space::Io => self.io.is_outside(addr),
+            Space::Mem if self.mem.is_outside(addr) => true,
+            Space::Mem if addr <= u64::from(u32::MAX) => self.low.is_outside(addr),
+            Space::Mem => self.high.is_outside(addr),
         }
     }
 }

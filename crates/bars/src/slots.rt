@@ -2,13 +2,13 @@
 ghost use Rattle.std.specs.Prelude.{◌≡◌, ◌<◌, map, IfSome, IfNone, IsTrue, Some, None, slice_set};
 ghost use Rattle.bars.specs.Kinds.{named_space};
 ghost use Rattle.bars.specs.Hits.{hit_from, named_hit};
-ghost use Rattle.bars.specs.Extents.{IsExtent};
+ghost use Rattle.bars.specs.Extents.{IsExtent, AreExtents};
 ghost use Rattle.bars.specs.Resets.{at_reset};
 ghost use Rattle.bars.specs.Slots.{bases_from, with_no_base_in};
 ghost use Rattle.bars.specs.Parts.{IsPartAt, IsUnused};
 
 use crate::decl::{BarDecl, Space};
-use crate::extent::Extent;
+use crate::extent::{Extent, Extents};
 use crate::region::BasedRegion;
 use std::marker::Model;
 
@@ -19,22 +19,20 @@ use std::marker::Model;
 /// each register. They stand first, beside the Command register of the function.
 #[derive(Debug, Drop)]
 pub struct Slots {
-    io: Extent,
-    mem: Extent,
+    extents: Extents,
     regions: [Option<BasedRegion>; 6],
 }
 
 impl Model for Slots {
     ghost use Rattle.std.specs.Prelude.{List, Option};
-    ghost use Rattle.model_registers.specs.Decoding.{io as io_space, memory};
     ghost use Rattle.bars.specs.declared.region.BasedRegion.{BasedRegion};
-    ghost use Rattle.bars.specs.Extents.{IsExtent};
+    ghost use Rattle.bars.specs.Extents.{AreExtents};
 
     ghost Value = { List (Option BasedRegion) };
 
     ghost view = { λ s. s.regions };
 
-    ghost invariant = { λ s. IsExtent io_space s.regions s.io × IsExtent memory s.regions s.mem };
+    ghost invariant = { λ s. AreExtents s.regions s.extents };
 }
 
 /// The regions of these declarations by index, with bases 0.
@@ -68,6 +66,9 @@ pub struct Part {
 }
 
 /// The first region that holds an address, by the index of its first register, and the offset in it.
+///
+/// It is a call, so that the test that comes before it is compiled into each walk from slot to slot.
+#[inline(never)]
 fn first_hit(regions: &[Option<BasedRegion>; 6], space: Space, addr: u64) -> Option<(u8, u64)>
     ensures { named_hit result ≡ hit_from (named_space space) addr 0 regions.now }
 {
@@ -81,17 +82,30 @@ fn first_hit(regions: &[Option<BasedRegion>; 6], space: Space, addr: u64) -> Opt
     None
 }
 
-/// The extent of the regions in a space.
-fn extent_in(regions: &[Option<BasedRegion>; 6], space: Space) -> Extent
-    ensures { IsExtent (named_space space) regions.now result }
+/// The extent of the regions in a space that hold an address from `first` to `last`.
+fn extent_in(regions: &[Option<BasedRegion>; 6], space: Space, first: u64, last: u64) -> Extent
+    ensures { IsExtent (named_space space) first last regions.now result }
 {
     let mut extent = Extent::empty();
     for reg in 0..6 {
         if let Some(region) = regions[reg] {
-            extent = extent.with(space, region);
+            extent = extent.with(space, first, last, region);
         }
     }
     extent
+}
+
+/// The extents of these regions.
+fn extents_of(regions: &[Option<BasedRegion>; 6]) -> Extents
+    ensures { AreExtents regions.now result }
+{
+    let below_4_gb = u64::from(u32::MAX);
+    Extents {
+        io: extent_in(regions, Space::Io, 0, u64::MAX),
+        mem: extent_in(regions, Space::Mem, 0, u64::MAX),
+        low: extent_in(regions, Space::Mem, 0, below_4_gb),
+        high: extent_in(regions, Space::Mem, below_4_gb + 1, u64::MAX),
+    }
 }
 
 impl Slots {
@@ -101,8 +115,7 @@ impl Slots {
     {
         let regions = regions_at_reset(decls);
         Slots {
-            io: extent_in(&regions, Space::Io),
-            mem: extent_in(&regions, Space::Mem),
+            extents: extents_of(&regions),
             regions,
         }
     }
@@ -148,18 +161,14 @@ impl Slots {
         ensures { self.new ≡ slice_set self.old slot (Some region) }
     {
         self.regions[slot] = Some(region);
-        self.io = extent_in(&self.regions, Space::Io);
-        self.mem = extent_in(&self.regions, Space::Mem);
+        self.extents = extents_of(&self.regions);
     }
 
     /// Whether an address is outside the extent of its space, and so in no region.
     pub fn is_outside(&self, space: Space, addr: u64) -> bool
         ensures { IsTrue result → hit_from (named_space space) addr 0 self.now ≡ None }
     {
-        match space {
-            Space::Io => self.io.is_outside(addr),
-            Space::Mem => self.mem.is_outside(addr),
-        }
+        self.extents.is_outside(space, addr)
     }
 
     /// The first region that holds an address, by the index of its first register, and the offset in it.
@@ -175,7 +184,6 @@ impl Slots {
     {
         let regions = &mut self.regions;
         clear_bases(regions);
-        self.io = extent_in(regions, Space::Io);
-        self.mem = extent_in(regions, Space::Mem);
+        self.extents = extents_of(regions);
     }
 }

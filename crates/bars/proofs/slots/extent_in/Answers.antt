@@ -7,15 +7,15 @@ use Rattle.bars.proofs.slots.extent_in.Goals as goal
 use Rattle.bars.proofs.slots.extent_in.Goals.{in-Some, in_default}
 
 pub loop-reg-preserved : goal.loop-reg-preserved
-loop-reg-preserved c = λ a small out.
+loop-reg-preserved c = λ a from to out.
     let space = named_space c.args.space in
     let n = c.loop-reg.reg in
     elim c.match-regions-reg.branch [
       | in-Some w ↦
           let still : IsOutside w.with-extent.result a = subst (λ (e : Extent). IsOutside e a) w.extent-is out in
-          c.loop-reg.invariant a small (w.with-extent.ensures.wider a still)
-          ∙ passed_region space a n c.args.regions.now _ (omega arith) w.in-Some.region w.in-Some.is (w.with-extent.ensures.holds a small still)
+          c.loop-reg.invariant a from to (w.with-extent.ensures.wider a still)
+          ∙ passed_region space a n c.args.regions.now _ (omega arith) w.in-Some.region w.in-Some.is (w.with-extent.ensures.holds a from to still)
       | in_default w ↦
-          c.loop-reg.invariant a small (subst (λ (e : Extent). IsOutside e a) w.extent-is out)
+          c.loop-reg.invariant a from to (subst (λ (e : Extent). IsOutside e a) w.extent-is out)
           ∙ passed_unused space a n c.args.regions.now _ (omega arith) w.in_default.not-Some
     ]
