@@ -41,8 +41,8 @@ import kit
 FOR_CHECK = 3_000_000_000
 # how many checks run beside proofs, and the memory that has to be free then for one more
 BESIDE, FREE_BESIDE = 2, 2 * FOR_CHECK
-# how many edits are tried in one check at most
-IN_ONE = 8
+# how many edits are tried in one check at most; each check proves anew what the edited functions call
+IN_ONE = 16
 # what a proof file says where the edit took away a name: that says little of the contract
 NAMES = re.compile(r"has no field|is not in scope|has no `|was not admitted|which was rejected")
 HEAD = re.compile(r'^( *)(?:pub(?:\([a-z]+\))? )?(?:const )?(?:unsafe )?(?:extern "C" )?fn (\w+)')
