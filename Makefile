@@ -37,19 +37,19 @@ pciguest:
 	@$(MAKE) --no-print-directory build
 
 # The gate: what the documents say of files and what runs tests and proofs, which takes a moment; every proof from nothing,
-# the tests and the programs, and beside them the edits; then the proved program as its user runs it, the commands that the
-# documents print, and each growth of memory refused in turn on the main board. Parts between brackets run side by side. At
-# the end stands how long each took.
+# the tests and the programs, and beside them the edits; then, beside the edits that are left, the proved program as its user
+# runs it, the commands that the documents print, and each growth of memory refused in turn on the main board. Parts between
+# brackets run side by side. At the end stands how long each took.
 FIRST := [ tests/documents.sh tests/kit.sh tests/tools.sh tests/prove.sh ]
-PROGRAM := tests/program.sh tests/commands.sh \
-  'python3 tests/hostile/growths.py crates/pciguest/out/pciguest --quick --arrays crates/test_landings/out/test_landings'
+PROGRAM := tests/program.sh tests/commands.sh "python3 tests/hostile/growths.py crates/pciguest/out/pciguest --quick"
 gate:
-	@tests/parts.py $(FIRST) tests/proofs.py [ $(PROGRAM) ]
+	@tests/parts.py $(FIRST) 'tests/proofs.py -- [ $(PROGRAM) ]'
 
 # The gate with the library for C, which is built beside the proofs, as its user links it, and what is installed and packed.
+PLACE := cp -f crates/pciguest/out/pciguest pciguest
+USERS := tests/library.sh tests/install.sh "tests/schema.py ./pciguest"
 test:
-	@tests/parts.py $(FIRST) 'tests/proofs.py --library; cp -f crates/pciguest/out/pciguest pciguest' \
-	  [ $(PROGRAM) tests/library.sh tests/install.sh 'tests/schema.py ./pciguest' ]
+	@tests/parts.py $(FIRST) 'tests/proofs.py --library -- "$(PLACE)" [ $(PROGRAM) $(USERS) ]'
 
 # All that stands outside the gate, whole. A part whose packages are missing here is skipped, and they are named.
 outside: pciguest library/libpciguest.a
@@ -114,19 +114,25 @@ bench: build
 bench-peers: pciguest
 	@bench/peers ./pciguest
 
-# The proved program as it is used by one who means harm: memory refused, streams that fail, odd files and
-# great sizes; and the library given images that were changed. It takes cc and Python 3, and some minutes.
+# The proved program as it is used by one who means harm: memory refused, streams that fail, by its calls and as it runs, odd
+# files and great sizes; and the library given images that were changed. It takes cc and Python 3, and some minutes.
 hostile: pciguest library/libpciguest.a
-	@for part in growths streams surroundings sizes; do python3 tests/hostile/$$part.py ./pciguest; done
+	@$(PROVE) test_landings test_worked
+	@cd crates/test_worked && ../../tools/rt_once test
+	@python3 tests/hostile/growths.py ./pciguest --arrays crates/test_landings/out/test_landings
+	@for part in streams surroundings sizes; do python3 tests/hostile/$$part.py ./pciguest; done
 	@python3 tests/hostile/images.py
 
-# Random boards and scripts, answered by the program, by the lone guests and by a second hand in Python:
+# The rows of tests/rows, answered by the lone guests too; the regions of guests, through the monitor and at their places on
+# the board; and random boards and scripts, answered by the program, by the lone guests and by a second hand in Python:
 # about a million lines. Then board files with mistakes, and what a check says of them; random register
 # states, what an audit says of them, whether they are ready, and why things find what they find; and ten thousand guests
 # and a thousand machines that the library saves and loads elsewhere. make fuzz SEED=.. begins with another board.
 SEED := 1
 fuzz: pciguest library/libpciguest.so.0
-	@$(PROVE) test_lone_answers
+	@$(PROVE) test_lone_answers test_landings
+	@tests/cases.py ./pciguest crates/test_lone_answers/out/test_lone_answers
+	@tests/landings.sh crates/test_landings/out/test_landings
 	@python3 tests/fuzz/fuzz.py ./pciguest --lone crates/test_lone_answers/out/test_lone_answers --boards 850 --seed $(SEED)
 	@python3 tests/fuzz/mistakes.py ./pciguest --files 3000 --seed $(SEED)
 	@python3 tests/fuzz/audit.py ./pciguest --states 2000 --seed $(SEED)

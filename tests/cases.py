@@ -7,7 +7,7 @@ audit's lines what `audit --json` writes.
 
 asks all of that of a program. LONE_ANSWERS, the program of the crate test_lone_answers, is asked the scripts of those rows
 whose board has a file of guests beside it. The last line is 'N passed, M failed'. tests/program.sh asks the proved
-program so, and tests/quick.py one that was only compiled.
+program so, `make fuzz` the lone guests too, and tests/quick.py a program that was only compiled.
 
 In boards/expected.txt, and in boards/refused for the boards that are refused, a section begins with '== BOARD' (its
 report, of which tests/report_json.py makes what `list --json` writes), '== check BOARD' or '== check --all BOARD', either with ' with excerpts' after it (on a terminal), '== SCRIPT over BOARD'

@@ -148,7 +148,7 @@ holds 'edits of the gate for which no body is told' unasked_edits
 
 # ---- examples in the headings of crates: their lines stand in a test, one after the other
 strange_examples() {
-  local tests; tests=$(sed 's/^ *//' crates/test_worked/src/examples.rt)
+  local tests; tests=$(sed 's/^ *//' crates/test_parts/src/examples.rt)
   for heading in crates/*/src/lib.rt; do
     example=$(awk '/^\/\/! ```/ { inside = !inside; next } inside { sub(/^\/\/! */, ""); print }' "$heading")
     [[ -z $example || $tests == *"$example"* ]] || echo "$heading"

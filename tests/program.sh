@@ -75,9 +75,7 @@ timeout 60 "$program" demo < long 2> err | head -c 0; status=${PIPESTATUS[0]}
 tell 'demo, its reader gone'
 
 # ---- the rows of tests/rows, the boards and scripts of boards, and the sessions and audits of the examples
-lone=$top/crates/test_lone_answers/out/test_lone_answers
-[ -x "$lone" ] || lone=
-python3 "$top/tests/cases.py" "$program" ${lone:+"$lone"} > told; status=$?
+python3 "$top/tests/cases.py" "$program" > told; status=$?
 counts='^([0-9]+) passed, ([0-9]+) failed$'
 if [[ $(tail -n 1 told) =~ $counts && $status -le 1 ]]; then
   passed=$((passed + BASH_REMATCH[1])) failed=$((failed + BASH_REMATCH[2]))
@@ -85,29 +83,6 @@ if [[ $(tail -n 1 told) =~ $counts && $status -le 1 ]]; then
 else
   failed=$((failed + 1))
   echo "FAILED: tests/cases.py ended with status $status"
-fi
-
-# ---- the regions of guests, through the monitor and at the places where set-up put them
-landings=$top/crates/test_landings/out/test_landings
-if [ -x "$landings" ]; then
-  cat > wanted.out <<'END'
-main.toml: 5 regions, 645 accesses, 0 different
-demo.toml: 0 regions, 0 accesses, 0 different
-host_alone.toml: 0 regions, 0 accesses, 0 different
-second_bridge.toml: 5 regions, 645 accesses, 0 different
-guest_elsewhere.toml: 2 regions, 254 accesses, 0 different
-chain.toml: 0 regions, 0 accesses, 0 different
-kinds.toml: 7 regions, 915 accesses, 0 different
-server.toml: 15 regions, 2219 accesses, 0 different
-largest.toml: 0 regions, 0 accesses, 0 different
-END
-  for board in main demo host_alone second_bridge guest_elsewhere chain kinds server largest; do
-    (cd "$boards" && timeout 60 "$landings" "$board.toml")
-  done > out 2> err; status=$?
-  : > wanted.err; wanted=0
-  tell 'the regions of guests, by two ways'
-else
-  echo 'no crates/test_landings/out/test_landings: the regions of guests are not asked for by two ways'
 fi
 
 # section HEAD: what boards/expected.txt has below it

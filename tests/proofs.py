@@ -2,13 +2,16 @@
 """Every proof from nothing, the tests and the programs, by `rt ci`; and beside it the edits of the gate, and the library
 for C.
 
-    tests/proofs.py [--library]
+    tests/proofs.py [--library] [-- PARTS]
+
+But for the crates that are only for measuring and for comparing at random: those are proved by the targets that ask them.
 
 `rt ci` works on a copy of the repository without edits, since it would prove each crate that has some once more, and then
 try them one by one. In its place tests/edits.py tries those of each crate once `rt ci` has proved it; and with --library,
 tools/library builds the library for C once its crate is proved. Both take what `rt ci` leaves of the processors; where
 memory runs out they are ended first, and do again what was ended; and where `rt ci` fails they are ended. The programs,
-tests and the library that were made are left in crates/NAME/out. The last line is 'N passed, M failed', of all that ran."""
+tests and the library that were made are left in crates/NAME/out. PARTS are words for tests/parts.py, which runs once that is
+left, beside the edits that are still to be tried. The last line is 'N passed, M failed', of all that ran."""
 import contextlib
 import os
 import pathlib
@@ -26,23 +29,25 @@ TOP = pathlib.Path(__file__).resolve().parent.parent
 LIBRARY = "pciguest_c"
 PROVED = re.compile(r"rt: (\w+) (?:proved|is kept: .*)\n")
 COUNTS = re.compile(r"(\d+) passed, (\d+) failed\n")
+# the crates for `make bench`, `make fuzz` and `make hostile`, which prove them
+OUTSIDE = ("bench_accesses", "test_landings", "test_lone_answers", "test_lone_guest", "test_streams", "test_worked")
 # what was made, and isn't copied, as the edits aren't
 LEFT_OUT = ("/.git", "/.prove", "/crates/*/out", "/crates/*/must-fail", "/library/rust/target", "/page/out", "/examples/*/out",
-            "/packages", "/corpus")
+            "/packages", "/corpus", *(f"/crates/{it}" for it in OUTSIDE))
 
 
 class Run:
-    """A command in a group of its own and over the copy in a room, whose lines are shown as they come, and given to who
-    hears them. One that nobody hears is the first to be ended where memory runs out."""
+    """A command in a group of its own and over the copy in a room, or, with no room, over the repository. Its lines are shown
+    as they come, and given to who hears them. One that nobody hears is the first to be ended where memory runs out."""
     showing = threading.Lock()
 
     def __init__(self, room, words, hear=None):
-        self.top, self.hear, self.counts = f"{room}/top", hear, None
+        self.top, self.hear, self.counts = f"{room}/top" if room else str(TOP), hear, None
         self.began = self.ended = time.monotonic()
-        how = {"cwd": self.top, "env": {**os.environ, "TMPDIR": f"{room}/tmp"}, "start_new_session": True}
+        env = {**os.environ, "TMPDIR": f"{room}/tmp"} if room else None
         pipes = {"stdin": subprocess.PIPE, "stdout": subprocess.PIPE, "stderr": subprocess.STDOUT}
-        self.run = subprocess.Popen(words, text=True, errors="replace", **pipes, **how)
-        if not hear:
+        self.run = subprocess.Popen(words, cwd=self.top, env=env, start_new_session=True, text=True, errors="replace", **pipes)
+        if room and not hear:
             with contextlib.suppress(OSError), open(f"/proc/{self.run.pid}/oom_score_adj", "w") as it:
                 it.write("1000")
         self.reader = threading.Thread(target=self.read)
@@ -74,8 +79,9 @@ class Run:
 class Gate:
     """`rt ci` over the copy in a room, and what runs beside it."""
 
-    def __init__(self, room, has_library):
-        self.room, self.has_library, self.library = room, has_library, None
+    def __init__(self, room, has_library, parts):
+        self.room, self.has_library, self.parts = room, has_library, parts
+        self.library = self.asked = None
         self.edits = Run(room, [TOP / "tests/edits.py", "--beside", "."])
         self.proofs = Run(room, [TOP / "tools/rt_gate", "ci"], self.hear)
 
@@ -100,18 +106,23 @@ class Gate:
             return results
         with contextlib.suppress(BrokenPipeError):
             self.edits.run.stdin.close()
-        results["edits"] = self.edits.results()
         if self.has_library and (not self.library or self.library.results()[1]):
             # (what failed failed for memory, most likely, as `rt ci` has proved it)
+            self.edits.results()
             self.library = self.build()
         if self.library:
             results["the library for C"] = self.library.results()
+        keep_made(self.room)
+        if self.parts:
+            self.asked = Run(None, [TOP / "tests/parts.py", *self.parts])
+            results["the programs"] = self.asked.results()
+        results["edits"] = self.edits.results()
         return results
 
     def end(self):
         """Ends what is still running."""
         self.proofs.end()
-        for it in filter(None, (self.edits, self.library)):
+        for it in filter(None, (self.edits, self.library, self.asked)):
             it.end()
 
 
@@ -124,6 +135,8 @@ def copy_to(room):
     os.chmod(room, 0o711)
     os.mkdir(f"{room}/tmp", 0o711)
     shutil.copytree(TOP, f"{room}/top", symlinks=True, ignore=left_out)
+    rows = [it for it in open(f"{room}/top/crates.txt") if it.partition(":")[0] not in OUTSIDE]
+    pathlib.Path(room, "top/crates.txt").write_text("".join(rows))
     # (it is the top of a repository)
     os.mkdir(f"{room}/top/.git")
 
@@ -139,20 +152,20 @@ def keep_made(room):
             shutil.move(str(it), str(to / it.name))
 
 
-def prove(room, has_library):
+def prove(room, has_library, parts):
     copy_to(room)
-    gate = Gate(room, has_library)
+    gate = Gate(room, has_library, parts)
     try:
-        results = gate.results()
+        return gate.results()
     finally:
         gate.end()
-    keep_made(room)
-    return results
 
 
 def main(words):
+    at = words.index("--") if "--" in words else len(words)
+    words, parts = words[:at], words[at + 1:]
     if words not in ([], ["--library"]):
-        print("usage: tests/proofs.py [--library]", file=sys.stderr)
+        print("usage: tests/proofs.py [--library] [-- PARTS]", file=sys.stderr)
         return 2
     if not shutil.which("rt"):
         print("There is no command rt: this needs the Rattle kit.\n0 passed, 1 failed")
@@ -161,7 +174,7 @@ def main(words):
         signal.signal(name, signal.default_int_handler)
     room = tempfile.mkdtemp(prefix="proofs-")
     try:
-        results = prove(room, bool(words))
+        results = prove(room, bool(words), parts)
     finally:
         for _ in range(10):
             shutil.rmtree(room, ignore_errors=True)

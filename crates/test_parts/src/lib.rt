@@ -1,7 +1,11 @@
-//! Tests of calls that no clause pins: where values stand in the text of a document, and what a refused scan leaves.
+//! Tests of what a refused scan leaves, which no clause pins, and of the examples in the headings of crates; and the board of
+//! tests.
 #![tactic(auto)]
 
+mod board;
 #[cfg(test)]
-mod places;
+mod examples;
 #[cfg(test)]
 mod refused_scan;
+
+pub use board::MAIN;

@@ -2,6 +2,7 @@
 //! tests.
 ghost use Rattle.std.specs.Prelude.{◌≡◌, length};
 
+use crate::board::MAIN;
 use accesses::{Access, At, HostAccess, HostAt, Op, Reply};
 use board_file::read_board;
 use host_bridge::{Bdf, TreeWalk};
@@ -9,58 +10,6 @@ use monitor::{Engine, Monitor};
 use session::{LineText, Session};
 use std::test::Fail;
 use window_packing::set_up;
-
-/// An endpoint beside a bridge, two behind it, and two guests.
-pub(crate) const MAIN: &str = "[host]
-io = [0x1000, 0xffff]
-mem = [0xc0000000, 0xdfffffff]
-pref = [0x400000000, 0x4ffffffff]
-
-[[endpoint]]
-at = \"1.0\"
-vendor = 0x1234
-device = 0x0001
-class = 0xff0000
-status = 0x8000
-pin = 1
-bar = [
-  { index = 0, kind = \"io\", size = 32 },
-  { index = 1, kind = \"mem32\", size = 4096, block = 64, rw = \"ff\" },
-]
-
-[[bridge]]
-at = \"2.0\"
-vendor = 0x1234
-device = 0x0002
-io = \"16\"
-pref = \"64\"
-
-[[endpoint]]
-at = \"2.0/0.0\"
-vendor = 0x1234
-device = 0x0003
-class = 0xff0000
-bar = [
-  { index = 0, kind = \"mem32\", size = 0x100000 },
-  { index = 1, kind = \"io\", size = 8 },
-]
-
-[[endpoint]]
-at = \"2.0/1.0\"
-vendor = 0x1234
-device = 0x0004
-class = 0xff0000
-pin = 1
-bar = [ { index = 0, kind = \"mem64p\", size = 0x1000000, block = 16, reset = \"a5\" } ]
-
-[[guest]]
-name = \"a\"
-slots = [\"1.0\", \"2.0/1.0\"]
-
-[[guest]]
-name = \"b\"
-slots = [\"2.0/0.0\"]
-";
 
 /// How many guests a monitor has.
 fn guests_of(monitor: &Monitor) -> usize
