@@ -72,7 +72,7 @@ class Function:
             if text.count(old) != 1:
                 return None
             text = text.replace(old, new)
-        return re.sub(rf"^(.*\bfn {name})\b", rf"\1_copy_{number}", text.replace("#[unsafe(no_mangle)]\n", ""), count=1, flags=re.M)
+        return re.sub(rf"^(.*\bfn {name})\b", rf"\1_copy_{number}", text, count=1, flags=re.M)
 
 
 def module_of(file):
