@@ -1,6 +1,6 @@
 //! `test_landings BOARD` compares each access of a guest to its regions with an access to the place where set-up
 //! put the region, and writes how many differ. `test_landings BOARD SCRIPT` writes what the script writes over the
-//! board, read from an array and written into one.
+//! board, read from an array and written into one. With no word it writes nothing.
 #![tactic(auto)]
 
 mod in_arrays;
@@ -26,11 +26,11 @@ fn land(rt: &(impl AllocGlobal + Files + Print), name: &str) -> Option<()> {
 }
 
 /// Writes that of the board that the first word names, or what the script that the second one names
-/// writes over it. None where no word names a board.
+/// writes over it. None where there is no such board, or it is refused.
 fn serve(rt: &(impl AllocGlobal + Env + Files + Print)) -> Option<()> {
     let words: Vec<String> = env::args(rt).ok()?.collect(rt.alloc()).ok()?;
     if words.len() < 2 {
-        return None;
+        return Some(());
     }
     if words.len() < 3 {
         return land(rt, words[1].as_str());
