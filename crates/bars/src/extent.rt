@@ -64,8 +64,8 @@ impl Extent {
 impl Extents {
     /// Whether an address is outside the extent of its space, or outside that of its half.
     pub fn is_outside(self, space: Space, addr: u64) -> bool
-        ensures { (slots : List (Option BasedRegion)) → AreExtents slots self → IsTrue result →
-            hit_from (named_space space) addr 0 slots ≡ None }
+        ensures { (slots : List (Option BasedRegion)) → AreExtents slots self → IsTrue result
+            → hit_from (named_space space) addr 0 slots ≡ None }
     {
         match space {
             Space::Io => self.io.is_outside(addr),
