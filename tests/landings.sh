@@ -1,5 +1,6 @@
 #!/usr/bin/env bash
-# The regions of the guests of all boards, and of one with a region of each kind: each access through the monitor, and to the place where set-up put the region.
+# The regions of the guests of all boards, and of one with a region of each kind: each access through the monitor, and to
+# the place where set-up put the region.
 #     tests/landings.sh PROGRAM
 # PROGRAM is that of the crate test_landings. The last line is 'N passed, M failed'.
 set -u

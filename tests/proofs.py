@@ -135,8 +135,8 @@ def copy_to(room):
     os.chmod(room, 0o711)
     os.mkdir(f"{room}/tmp", 0o711)
     shutil.copytree(TOP, f"{room}/top", symlinks=True, ignore=left_out)
-    rows = [it for it in open(f"{room}/top/crates.txt") if it.partition(":")[0] not in OUTSIDE]
-    pathlib.Path(room, "top/crates.txt").write_text("".join(rows))
+    crates = pathlib.Path(room, "top/crates.txt")
+    crates.write_text("".join(it for it in crates.read_text().splitlines(True) if it.partition(":")[0] not in OUTSIDE))
     # (it is the top of a repository)
     os.mkdir(f"{room}/top/.git")
 
