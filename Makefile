@@ -41,7 +41,7 @@ pciguest:
 # runs it, the commands that the documents print, and each growth of memory refused in turn on the main board. Parts between
 # brackets run side by side. At the end stands how long each took.
 FIRST := [ tests/documents.sh tests/kit.sh tests/tools.sh tests/prove.sh ]
-PROGRAM := tests/program.sh tests/commands.sh "python3 tests/hostile/growths.py crates/pciguest/out/pciguest --quick"
+PROGRAM := tests/program.sh tests/commands.sh "python3 tests/hostile/growths.py crates/pciguest/out/pciguest --quick --arrays crates/test_streams/out/test_streams"
 gate:
 	@tests/parts.py $(FIRST) 'tests/proofs.py -- [ $(PROGRAM) ]'
 
@@ -117,9 +117,8 @@ bench-peers: pciguest
 # The proved program as it is used by one who means harm: memory refused, streams that fail, by its calls and as it runs, odd
 # files and great sizes; and the library given images that were changed. It takes cc and Python 3, and some minutes.
 hostile: pciguest library/libpciguest.a
-	@$(PROVE) test_landings test_worked
-	@cd crates/test_worked && ../../tools/rt_once test
-	@python3 tests/hostile/growths.py ./pciguest --arrays crates/test_landings/out/test_landings
+	@$(PROVE) test_streams
+	@python3 tests/hostile/growths.py ./pciguest --arrays crates/test_streams/out/test_streams
 	@for part in streams surroundings sizes; do python3 tests/hostile/$$part.py ./pciguest; done
 	@python3 tests/hostile/images.py
 

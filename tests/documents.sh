@@ -118,33 +118,20 @@ unexpected() {
 }
 holds 'boards and scripts of which nothing is expected' unexpected
 
-# ---- bodies that are refused: each row names an edit of the gate, or a test with words that stand in it
-lost_bodies() {
-  local refused=docs/PROMISES.md body by file words rows=0
-  while IFS='|' read -r _ body by _; do
-    rows=$((rows + 1))
-    grep -qE '`crates/[a-z_]+/must-fail/[^`]+\.edit`|`[^`]+` \(`' <<< "$by" || echo "$refused:$body: no edit and no test"
-    while read -r file; do
-      [ -e "$file" ] || echo "$refused:$body: $file"
-    done < <(grep -oE '`(crates|tests)/[^`]*`' <<< "$by" | tr -d '`')
-    while read -r file words; do
-      [ ! -e "$file" ] || grep -qF -- "$words" "$file" || echo "$refused:$body: '$words' in $file"
-    done < <(grep -oE '`(crates|tests)/[^`]*` \([^)]*\)' <<< "$by" | while read -r test; do
-      file=${test#'`'}; grep -oE '`[^`]*`' <<< "${test#*\(}" | tr -d '`' | sed "s#^#${file%%'`'*} #"
-    done)
-  done < <(sed -n '/^## Bodies that are refused/,$p' "$refused" | sed -n '/^|---/,$p' | tail -n +2 | grep '^|')
-  [ "$rows" -gt 0 ] || echo "$refused: no body that is refused"
+# ---- what somebody asked for: each line has its file, a test has its words there, and an edit of the gate has its line and its
+# clause; and no fewer lines are there than the list says
+unnamed() {
+  local file words edit list=tests/named.txt
+  while IFS='|' read -r file words _; do
+    file=${file% } words=${words# } words=${words% }
+    [ -e "$file" ] || { echo "$list: no $file"; continue; }
+    [[ $file == *.edit && $words =~ ^[a-zA-Z_0-9-]+$ ]] || grep -qF -- "$words" "$file" || echo "$list: $file without '$words'"
+  done < <(grep -v '^#' "$list")
+  for edit in crates/*/must-fail/*.edit; do grep -qF "$edit | " "$list" || echo "$list: not $edit"; done
+  find crates/*/must-fail tests/edits -name '*.twin' | while read -r edit; do [ -e "${edit%.twin}.edit" ] || echo "$edit: no edit beside it"; done
+  [ "$(grep -v '^#' "$list" | sort -u | wc -l)" -ge "$(sed -n '1s/.*: \([0-9]*\) lines.*/\1/p' "$list")" ] || echo "$list: lines are gone"
 }
-holds 'bodies whose edit or test is not there' lost_bodies
-
-# ---- the gate tries no other edits, but for those of the crate that shows how one is made
-unasked_edits() {
-  local edit
-  for edit in crates/*/must-fail/*.edit; do
-    [[ $edit == crates/example_presence/* ]] || grep -qF "\`$edit\`" docs/PROMISES.md || echo "$edit: no row in docs/PROMISES.md"
-  done
-}
-holds 'edits of the gate for which no body is told' unasked_edits
+holds 'what was asked for, and is not there' unnamed
 
 # ---- examples in the headings of crates: their lines stand in a test, one after the other
 strange_examples() {

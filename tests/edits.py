@@ -6,7 +6,9 @@
 
 They are those beside the gate, tests/edits/CRATE/*.edit, and with --gate those of the gate too, CRATE/must-fail/*.edit;
 what the crates stand on is proved first, where no earlier run has kept that, and what is kept of a crate is used where all
-of it is checked. With --beside they are those of the gate alone, tried while something proves a copy of the crates in ROOM:
+of it is checked. A file NAME.twin beside NAME.edit is its neutral twin, which has the edit's shape and changes nothing: the
+check must prove it. Where tests/named.txt has a line for an edit, the clause that stands there has to be among those that
+refuse it. With --beside they are those of the gate alone, tried while something proves a copy of the crates in ROOM:
 each line of standard input names a crate that is proved there, whose edits are tried from then on, a few at once, by what
 the proofs leave of the processors and of memory. Where standard input ends, all have to be proved.
 
@@ -43,6 +45,8 @@ FOR_CHECK = 3_000_000_000
 BESIDE, FREE_BESIDE = 2, 2 * FOR_CHECK
 # how many edits are tried in one check at most; each check proves anew what the edited functions call
 IN_ONE = 16
+# the goals that a check tells to be open
+GOALS = re.compile(r"(?<=did not prove ).*|(?<= error: )`[\w-]+`")
 # what a proof file says where the edit took away a name: that says little of the contract
 NAMES = re.compile(r"has no field|is not in scope|has no `|was not admitted|which was rejected")
 HEAD = re.compile(r'^( *)(?:pub(?:\([a-z]+\))? )?(?:const )?(?:unsafe )?(?:extern "C" )?fn (\w+)')
@@ -144,9 +148,18 @@ class Source:
 
 # ---- edits
 
+def named():
+    """The clause that has to refuse each edit of tests/named.txt, by the edit's file."""
+    rows = [it.split(" | ") for it in (TOP / "tests/named.txt").read_text(encoding="utf-8").split("\n")]
+    return {row[0]: row[1] for row in rows if row[0].endswith(".edit")}
+
+
 class Edit:
-    def __init__(self, file, source):
-        self.file, self.name, self.source = file, f"{file.stem}.edit", source
+    """An edit, or a twin of one."""
+
+    def __init__(self, file, source, clauses):
+        self.file, self.name, self.source = file, file.name, source
+        self.is_twin, self.clause = file.suffix == ".twin", clauses.get(str(file.relative_to(TOP)))
         path, old, self.pairs = "", "", []
         for line in file.read_text(encoding="utf-8").split("\n"):
             word, _, rest = line.partition(": ")
@@ -159,6 +172,14 @@ class Edit:
         places = {(path, source.at(path, old)) for path, old, _ in self.pairs}
         self.path, self.function = places.pop() if len(places) == 1 else ("", None)
         self.verdict = None
+
+    def judge(self, is_refused, why):
+        """Tells its verdict, where a check refused it for a reason, or proved it."""
+        goals = [it for found in GOALS.findall(why) for it in re.findall(r"`([\w-]+)`", found)]
+        is_elsewhere = bool(is_refused and self.clause and self.clause not in goals)
+        self.verdict = is_refused != self.is_twin and not is_elsewhere
+        how = f"REFUSED, but not for `{self.clause}`" if is_elsewhere else "refused" if is_refused else "proved"
+        say(f"must-fail {self.source.crate}/{self.name}: {how}{', as it must be' * self.verdict}: {why[:160]} ({' '.join(goals)})")
 
     def put(self, texts):
         """Puts it into the texts of a crate; false, where a text doesn't stand there once."""
@@ -194,7 +215,7 @@ def own_refusal(path, said):
     *folders, name = path.split("::")[1:]
     own = re.escape("/".join(["proofs", *folders, ""])) + rf"\+?{name}/"
     errors = [it for it in said if re.match(rf"(\./)?{own}.*: error: ", it) and not NAMES.search(it)]
-    return errors[0] if status == "not proved" and errors else None
+    return "; ".join(errors) if status == "not proved" else None
 
 
 def say(told):
@@ -208,7 +229,9 @@ class Tries:
     def __init__(self, rt, crate, folders):
         self.rt, self.crate, self.checks = rt, crate, 0
         self.source = Source(crate.name, crate.folder)
-        self.edits = [Edit(it, self.source) for folder in folders for it in sorted(folder.glob("*.edit"))]
+        files = [it for folder in folders for form in ("*.edit", "*.twin") for it in sorted(folder.glob(form))]
+        clauses = named()
+        self.edits = [Edit(it, self.source, clauses) for it in files]
 
     def over_kept(self, work):
         """Does a check over a copy of what is kept of the crate, if anything is."""
@@ -259,15 +282,17 @@ class Tries:
         said = ran.stdout.rstrip("\n").split("\n")
         sources = [it for it in texts if it.startswith("src/")]
         is_read = not any(self.rt.unread(it, sources) for it in said)
-        if ran.returncode != 1 or not said[-1].startswith("only=") or not is_read:
+        if ran.returncode not in (0, 1) or not said[-1].startswith("only=") or not is_read:
             return
         # (of a function whose copy is not proved as it stands nothing is known)
         lost = {self.original(path) for path, edit in looked_at.items() if not edit and f"fn {path}: proved" not in said}
-        for path, edit in looked_at.items():
-            why = edit and not edit.verdict and self.original(path) not in lost and own_refusal(path, said)
-            if why:
-                edit.verdict = True
-                say(f"must-fail {self.crate.name}/{edit.name}: refused, as it must be: {path}: {why[:160]}")
+        for edit in batch:
+            paths = [path for path, it in looked_at.items() if it is edit and self.original(path) not in lost]
+            why = "; ".join(f"{path}: {found}" for path in paths if (found := own_refusal(path, said)))
+            if why and not edit.is_twin:
+                edit.judge(True, why)
+            elif edit.is_twin and paths and all(f"fn {path}: proved" in said for path in paths):
+                edit.judge(False, ", ".join(paths))
 
     @staticmethod
     def original(path):
@@ -279,10 +304,14 @@ class Tries:
         for work in [self.over_kept] * has_kept + [lambda work: work(None)]:
             self.checks += 1
             kind, told = work(lambda kept: self.rt.must_fail(self.crate, str(edit.file), ["--jobs", "1"], kept))
-            edit.verdict = kind in (self.rt.REFUSED, self.rt.AT_LIMIT)
-            if edit.verdict:
+            is_refused = kind in (self.rt.REFUSED, self.rt.AT_LIMIT)
+            if is_refused or edit.is_twin:
                 break
-        say(told)
+        if is_refused or kind == self.rt.MISSED:
+            edit.judge(is_refused, told.partition(": ")[2])
+        else:
+            edit.verdict = False
+            say(told)
 
 
 def try_left(tries, pool):

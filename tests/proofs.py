@@ -29,8 +29,8 @@ TOP = pathlib.Path(__file__).resolve().parent.parent
 LIBRARY = "pciguest_c"
 PROVED = re.compile(r"rt: (\w+) (?:proved|is kept: .*)\n")
 COUNTS = re.compile(r"(\d+) passed, (\d+) failed\n")
-# the crates for `make bench`, `make fuzz` and `make hostile`, which prove them
-OUTSIDE = ("bench_accesses", "test_landings", "test_lone_answers", "test_lone_guest", "test_streams", "test_worked")
+# the crates for `make bench` and `make fuzz`, which prove them
+OUTSIDE = ("bench_accesses", "test_landings", "test_lone_answers", "test_lone_guest")
 # what was made, and isn't copied, as the edits aren't
 LEFT_OUT = ("/.git", "/.prove", "/crates/*/out", "/crates/*/must-fail", "/library/rust/target", "/page/out", "/examples/*/out",
             "/packages", "/corpus", *(f"/crates/{it}" for it in OUTSIDE))

@@ -1,10 +1,10 @@
 """Each growth of memory refused in turn: to the one growth alone, and to it and all after it. Each has a number of its own
 that it answers, by what the program is doing then.
 
-    growths.py PROGRAM [--quick] [--arrays LANDINGS]
+    growths.py PROGRAM [--quick] [--arrays STREAMS]
 
-With --quick the largest board is left out. LANDINGS is the program of the crate test_landings, which runs a script from
-an array into an array."""
+With --quick the largest board is left out. STREAMS is the program of the crate test_streams, which runs a script from an
+array into an array."""
 import collections
 import os
 import sys
@@ -77,10 +77,10 @@ def same_count(room, name, words, scripts):
     print(f"| {name} | {empty.growths} growths with an empty script and with {len(scripts)} others |", flush=True)
 
 
-def same_count_in_arrays(room, landings, scripts):
+def same_count_in_arrays(room, streams, scripts):
     """A script that stands in an array, whose output goes into an array, takes as many growths as an empty one. What is
     written is what the program writes."""
-    program, room.program = room.program, landings
+    program, room.program = room.program, streams
     asked = [(name, script, room.counted([MAIN, room.write("asked", script)], b"")) for name, script in scripts]
     room.program = program
     growths = {counts.growths for _, _, (_, counts) in asked}
@@ -124,8 +124,8 @@ def main(program, *options):
     if largest:
         same_count(room, "run, largest board", ["run", LARGEST], scripts)
     if "--arrays" in options:
-        landings = os.path.abspath(options[options.index("--arrays") + 1])
-        same_count_in_arrays(room, landings, [("an empty script", b""), *scripts[:-2]])
+        streams = os.path.abspath(options[options.index("--arrays") + 1])
+        same_count_in_arrays(room, streams, [("an empty script", b""), *scripts[:-2]])
     return room.end()
 
 

@@ -1,12 +1,9 @@
 //! `test_landings BOARD` compares each access of a guest to its regions with an access to the place where set-up
-//! put the region, and writes how many differ. `test_landings BOARD SCRIPT` writes what the script writes over the
-//! board, read from an array and written into one. With no word it writes nothing.
+//! put the region, and writes how many differ. With no word it writes nothing.
 #![tactic(auto)]
 
-mod in_arrays;
 mod landings;
 
-use crate::in_arrays::run_in_arrays;
 use crate::landings::compare_landings;
 use simulation::board_bytes;
 use std::env;
@@ -25,17 +22,13 @@ fn land(rt: &(impl AllocGlobal + Files + Print), name: &str) -> Option<()> {
     println!(rt; "{name}: {regions} regions, {accesses} accesses, {different} different").ok()
 }
 
-/// Writes that of the board that the first word names, or what the script that the second one names
-/// writes over it. None where there is no such board, or it is refused.
+/// Writes that of the board that the first word names. None where there is no such board, or it is refused.
 fn serve(rt: &(impl AllocGlobal + Env + Files + Print)) -> Option<()> {
     let words: Vec<String> = env::args(rt).ok()?.collect(rt.alloc()).ok()?;
     if words.len() < 2 {
         return Some(());
     }
-    if words.len() < 3 {
-        return land(rt, words[1].as_str());
-    }
-    run_in_arrays(rt, words[1].as_str(), words[2].as_str()).ok()
+    land(rt, words[1].as_str())
 }
 
 fn main(rt: HostRuntime) -> ExitCode {

@@ -1,6 +1,4 @@
-//! A reader and a writer in memory, which give or take a few bytes a call and fail where they are
-//! told to. Crates of tests use them, and no other crate.
-#![tactic(auto)]
+//! A reader and a writer in memory, which give or take a few bytes a call and fail where they are told to.
 
 ghost use Rattle.std.specs.Prelude.{◌≡◌, ◌+◌, ◌-◌, ◌^◌, ◌<◌, ◌≤◌, [], Some, length, take};
 ghost use Rattle.streams.specs.Ends.{failures_of};
@@ -39,7 +37,7 @@ impl Faults {
 
 /// A script in memory.
 #[derive(Drop)]
-pub struct FakeReader<'a> {
+pub(crate) struct FakeReader<'a> {
     script: &'a [u8],
     step: usize,
     faults: Faults,
@@ -48,7 +46,7 @@ pub struct FakeReader<'a> {
 
 impl<'a> FakeReader<'a> {
     /// Gives at most `step` bytes a call. The call `failing`, counted from 0, fails.
-    pub fn new(script: &'a [u8], step: usize, failing: Option<u32>) -> Self
+    pub(crate) fn new(script: &'a [u8], step: usize, failing: Option<u32>) -> Self
         requires { 0 < step }
         ensures script { ⟦<FakeReader<'a> as Reader>⟧.rest result ≡ Some script.now }
         ensures failures { ⟦<FakeReader<'a> as Reader>⟧.failures result ≡ 0 }
@@ -85,7 +83,7 @@ impl Reader for FakeReader<'_> {
 /// A writer into an array, which takes no byte once the array is full, and keeps what it took back
 /// until a flush.
 #[derive(Drop)]
-pub struct FakeWriter<const N: usize> {
+pub(crate) struct FakeWriter<const N: usize> {
     bytes: ArrayVec<u8, N>,
     /// So many of the bytes were flushed.
     flushed: usize,
@@ -97,7 +95,7 @@ pub struct FakeWriter<const N: usize> {
 impl<const N: usize> FakeWriter<N> {
     /// Takes at most `step` bytes a call. The call `failing`, a write or a flush, counted from 0,
     /// fails.
-    pub fn new(step: usize, failing: Option<u32>) -> Self
+    pub(crate) fn new(step: usize, failing: Option<u32>) -> Self
         ensures written { ⟦<FakeWriter<N> as Writer>⟧.written result ≡ Some [] }
         ensures flushed { ⟦<FakeWriter<N> as Writer>⟧.flushed result ≡ Some [] }
         ensures failures { ⟦<FakeWriter<N> as Writer>⟧.failures result ≡ 0 }
@@ -115,14 +113,14 @@ impl<const N: usize> FakeWriter<N> {
     }
 
     /// What was written.
-    pub fn bytes(&self) -> &[u8]
+    pub(crate) fn bytes(&self) -> &[u8]
         ensures { ⟦<FakeWriter<N> as Writer>⟧.written self.now ≡ Some result.now }
     {
         self.bytes.as_slice()
     }
 
     /// What was flushed.
-    pub fn flushed(&self) -> &[u8]
+    pub(crate) fn flushed(&self) -> &[u8]
         ensures { ⟦<FakeWriter<N> as Writer>⟧.flushed self.now ≡ Some result.now }
     {
         &self.bytes.as_slice()[..self.flushed]

@@ -1,0 +1,133 @@
+//! Endpoints by their paths, in a tree of buses and behind a host: lent, raised and reset.
+ghost use Rattle.std.specs.Prelude.{◌<◌, length};
+
+use crate::board::MAIN;
+use bars::{BarDecl, Kind};
+use board_file::read_board;
+use bridge_forward::{Bus, Decl, Declared, Part, Path, lawful_places};
+use config_bytes::Cell;
+use headers::{BridgeDecl, EndpointDecl, EndpointValues, IoDecode, Place, PrefDecode, Region};
+use host_bridge::{Bdf, Host, Space, TreeWalk};
+use std::alloc::{AllocError, Global};
+use std::process::Abort;
+use std::test::Fail;
+
+pub(crate) fn on_root(device: u8) -> Path
+    requires { device < 16 }
+    ensures { length result < 16 }
+{
+    Path::on_root(Part::new(device, 0))
+}
+
+/// Behind the bridge at device 2.
+pub(crate) fn behind_bridge(device: u8) -> Path
+    requires { device < 16 }
+{
+    let mut path = on_root(2);
+    path.push(Part::new(device, 0));
+    path
+}
+
+/// An endpoint with a region of four cells.
+fn endpoint(alloc: Global) -> Result<Declared, Fail> {
+    let region = Region {
+        index: 1,
+        bar: BarDecl::new(Kind::Mem32 { pref: false }, 16)?,
+        block: vec![in alloc; Cell::settable(0, 0xff); 4]?,
+    };
+    let values = EndpointValues {
+        bar: vec![in alloc; region]?,
+        ..EndpointValues::plain(alloc, 0x1234, 1, 0xff_0000)
+    };
+    Ok(Declared::Endpoint(EndpointDecl::new(values)?))
+}
+
+/// An endpoint beside a bridge, and one behind it.
+fn bus(rt: &impl Abort, alloc: Global) -> Result<Bus, Fail> {
+    let bridge = BridgeDecl::new(0x1234, 2, 0, IoDecode::Bits16, PrefDecode::Bits64)?;
+    let decls = vec![in alloc;
+        Decl {
+            path: on_root(1),
+            function: endpoint(alloc)?
+        },
+        Decl {
+            path: on_root(2),
+            function: Declared::Bridge(bridge)
+        },
+        Decl {
+            path: behind_bridge(0),
+            function: endpoint(alloc)?
+        },
+    ]?;
+    assert!(rt; lawful_places(&decls));
+    Ok(Bus::build(alloc, decls)?)
+}
+
+/// What the endpoint at a path reads in the block of its region 1, and all ones are written there.
+fn exchanged(bus: &mut Bus, path: &Path) -> Option<u32> {
+    let endpoint = bus.endpoint_mut(path)?;
+    let before = endpoint.read(1, 0, 0b1111);
+    endpoint.write(1, 0, 0b1111, u32::MAX);
+    Some(before)
+}
+
+/// A bridge is not lent, nor is what is not there; and a reset of one endpoint leaves the others.
+#[test]
+fn lent_and_reset_in_a_tree(rt: HostRuntime) -> Result<(), Fail> {
+    let mut bus = bus(&rt, rt.alloc())?;
+    let (card, behind) = (on_root(1), behind_bridge(0));
+    assert_eq!(rt; exchanged(&mut bus, &card), Some(0));
+    assert_eq!(rt; exchanged(&mut bus, &card), Some(u32::MAX));
+    assert_eq!(rt; exchanged(&mut bus, &behind), Some(0));
+    assert_eq!(rt; exchanged(&mut bus, &on_root(2)), None);
+    assert_eq!(rt; exchanged(&mut bus, &on_root(3)), None);
+    bus.reset_endpoint(&behind);
+    bus.reset_endpoint(&on_root(2));
+    bus.reset_endpoint(&on_root(3));
+    assert_eq!(rt; exchanged(&mut bus, &card), Some(u32::MAX));
+    bus.reset_endpoint(&card);
+    assert_eq!(rt; exchanged(&mut bus, &card), Some(0));
+    assert_eq!(rt; exchanged(&mut bus, &behind), Some(0));
+    Ok(())
+}
+
+/// Raises bits in Status of the endpoint that claims an address of memory, by its path, and says whether
+/// one does.
+fn raised(host: &mut Host, alloc: Global, addr: u64, mask: u8) -> Result<bool, AllocError> {
+    // no two functions stand at one path
+    let _rows = host.routing(alloc)?;
+    let Some(claim) = host.claimant(Space::Mem, addr) else {
+        return Ok(false);
+    };
+    host.raise(&claim.path, Place::Cfg, 7, mask);
+    Ok(true)
+}
+
+/// Only bits that writing a one clears can rise. A reset leaves Command and the bases alone.
+#[test]
+fn raised_and_reset_behind_a_host(rt: HostRuntime) -> Result<(), Fail> {
+    let alloc = rt.alloc();
+    let (mut host, _) = read_board(alloc, MAIN.as_bytes())?;
+    let card = Bdf {
+        bus: 0,
+        device: 1,
+        function: 0,
+    };
+    host.config_write(card, 0x14, 0b1111, 0xc010_0000);
+    host.config_write(card, 0x04, 0b1111, 0xf900_0002);
+    host.config_write(card, 0x3c, 0b0001, 0x5a);
+    host.store(&TreeWalk, 0xc010_0010, 4, 0x1234_5678);
+    assert_eq!(rt; host.config_read(card, 0x04, 0b1111), 0x0000_0002);
+    assert!(rt; raised(&mut host, alloc, 0xc010_0010, 0x8f)?);
+    assert!(rt; !raised(&mut host, alloc, 0, 0xff)?);
+    host.reset_endpoint(&behind_bridge(0));
+    host.reset_endpoint(&on_root(2));
+    assert_eq!(rt; host.config_read(card, 0x04, 0b1111), 0x8900_0002);
+    assert_eq!(rt; host.config_read(card, 0x3c, 0b1111), 0x0000_015a);
+    host.reset_endpoint(&on_root(1));
+    assert_eq!(rt; host.config_read(card, 0x04, 0b1111), 0x8000_0002);
+    assert_eq!(rt; host.config_read(card, 0x14, 0b1111), 0xc010_0000);
+    assert_eq!(rt; host.config_read(card, 0x3c, 0b1111), 0x0000_0100);
+    assert_eq!(rt; host.load(&TreeWalk, 0xc010_0010, 4), 0);
+    Ok(())
+}
