@@ -133,6 +133,9 @@ unnamed() {
 }
 holds 'what was asked for, and is not there' unnamed
 
+# ---- the tables of docs/PROMISES.md are those that the crates give
+holds 'tables of docs/PROMISES.md that are old: run tools/promises' tools/promises --check
+
 # ---- examples in the headings of crates: their lines stand in a test, one after the other
 strange_examples() {
   local tests; tests=$(sed 's/^ *//' crates/test_parts/src/examples.rt)
