@@ -239,6 +239,33 @@ holds 'the program of LIBRARY.md that saves a machine' test "$(./whole < "$board
 holds 'the rows of LIBRARY.md are built' build rows rows.c
 holds 'the rows of LIBRARY.md' test "$(./rows < "$board" | tail -n 1)" = '01:01.0 2.0/1.0 1234:0004'
 
+# ---- its ECAM: identity, a register that is written, and all ones from 100h on, in an empty slot and off function 0 of bus 0
+{
+  echo '#include <stdio.h>'
+  echo '#include "pciguest.h"'
+  sed -n '/^static uint32_t ecam_read/,/^```/p' "$top/docs/LIBRARY.md" | grep -v '^```'
+  cat << 'END'
+static char board[65536];
+int main(void)
+{
+    static const uint64_t offsets[] = {0x0, 0x3c, 0x100, 0x7 << 15, 0x1 << 12, 0x1 << 20};
+    struct pciguest machine = PCIGUEST_INIT;
+
+    if (pciguest_new(&machine, board, fread(board, 1, sizeof board, stdin)))
+        return 1;
+    for (size_t i = 0; i < sizeof offsets / sizeof *offsets; i++) {
+        if (offsets[i])
+            ecam_write(&machine, 0, offsets[i], 1, 0x0b);
+        printf("%x ", ecam_read(&machine, 0, offsets[i], 4));
+    }
+    pciguest_free(&machine);
+    return 0;
+}
+END
+} > ecam.c
+holds 'the ECAM of LIBRARY.md is built' build ecam ecam.c
+holds 'the ECAM of LIBRARY.md' test "$(./ecam < "$top/examples/device.toml")" = 'd0b1234 10b ffffffff ffffffff ffffffff ffffffff '
+
 # ---- what the library takes from outside, and what it gives
 needs() {
   nm -u "$top/library/libpciguest.a" | awk 'NF == 2 && $2 !~ /^(rattle|pciguest_raw)_/ { print $2 }' | sort -u | tr '\n' ' '
