@@ -15,7 +15,7 @@ HEXADECIMAL = {"vendor", "device", "revision", "class", "subvendor", "subsystem"
 class Region(NamedTuple):
     """A declared region of an endpoint."""
 
-    index: int
+    index: int  # type: ignore[assignment]  # tuples have a method of this name
     kind: str
     size: int
 

@@ -2,7 +2,7 @@
 
 from __future__ import annotations
 
-from typing import TYPE_CHECKING, Any, Dict, Iterator, List, Optional, Tuple, Type
+from typing import TYPE_CHECKING, Any, Dict, Iterator, List, Optional, Tuple, Type, Union, overload
 
 from ._library import number
 
@@ -45,7 +45,13 @@ class Register:
     def __repr__(self) -> str:
         return f"<register {self.name}>"
 
-    def __get__(self, device: Optional[Device], owner: Type[Device]) -> Any:
+    @overload
+    def __get__(self, device: None, owner: Type[Device]) -> Register: ...
+
+    @overload
+    def __get__(self, device: Device, owner: Type[Device]) -> int: ...
+
+    def __get__(self, device: Optional[Device], owner: Type[Device]) -> Union[Register, int]:
         return self if device is None else device._read(self)
 
     def __set__(self, device: Device, value: int) -> None:

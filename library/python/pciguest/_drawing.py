@@ -106,7 +106,7 @@ class BoardDrawing:
         self.bus(path, Above(io != "none", decode))
 
     def endpoint(self, path: Path, windows: Above) -> None:
-        table = {**self.identity(path), "class": self.choices.one_of([0xFF0000, 0x020000, 0x010802])}
+        table: Document = {**self.identity(path), "class": self.choices.one_of([0xFF0000, 0x020000, 0x010802])}
         table["pin"] = self.choices.number(0, 4)
         bars, index = [], 0
         while index < 6:

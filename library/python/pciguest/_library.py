@@ -7,7 +7,7 @@ import operator
 import os
 from ctypes import c_size_t
 from pathlib import Path
-from typing import Any, Callable, Dict, SupportsIndex, Tuple
+from typing import Callable, Dict, SupportsIndex, Tuple
 
 from ._calls import ARGUMENT, DECLARED
 
@@ -25,7 +25,7 @@ def _place() -> str:
     return next((str(place) for place in usual if place.exists()), NAME)
 
 
-def _load() -> Dict[str, Callable[..., Any]]:
+def _load() -> Dict[str, Callable[..., int]]:
     place = _place()
     try:
         library = ctypes.CDLL(place)
@@ -34,7 +34,7 @@ def _load() -> Dict[str, Callable[..., Any]]:
             f"{error}. `make library` at the top of the repository leaves {NAME} in library/, and PCIGUEST_LIBRARY_DIR "
             "names the folder of one that stands elsewhere"
         ) from error
-    calls: Dict[str, Callable[..., Any]] = {}
+    calls: Dict[str, Callable[..., int]] = {}
     for name, (answer, parameters) in DECLARED.items():
         call = getattr(library, "pciguest_" + name)
         call.restype, call.argtypes = answer, parameters
@@ -42,10 +42,10 @@ def _load() -> Dict[str, Callable[..., Any]]:
     return calls
 
 
-class _Calls(Dict[str, Callable[..., Any]]):
+class _Calls(Dict[str, Callable[..., int]]):
     """The calls by their names. The library is loaded when the first of them is asked for."""
 
-    def __missing__(self, name: str) -> Callable[..., Any]:
+    def __missing__(self, name: str) -> Callable[..., int]:
         self.update(_load())
         return self[name]
 
@@ -60,8 +60,7 @@ def version() -> int:
     >>> version() // 10000
     0
     """
-    call: Callable[..., int] = CALLS["version"]
-    return call()
+    return CALLS["version"]()
 
 
 def number(name: str, value: SupportsIndex, bits: int) -> int:

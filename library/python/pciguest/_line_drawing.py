@@ -3,7 +3,7 @@ Places and values are often those at which something begins or ends, so that acc
 
 from __future__ import annotations
 
-from typing import Callable, List, Optional, Sequence, Tuple
+from typing import Callable, List, Optional, Sequence, Tuple, cast
 
 from ._board_file import Document, Function, Region, bridges_above, functions
 from ._drawing import Choices
@@ -32,8 +32,9 @@ class Lines:
 
     def pick(self, *weighed: object) -> Callable[[], str]:
         """One of some calls, each with its weight."""
-        calls = [call for call, weight in zip(weighed[::2], weighed[1::2]) for _ in range(weight)]  # type: ignore
-        return self.choices.one_of(calls)  # type: ignore[arg-type]
+        pairs = zip(weighed[::2], weighed[1::2])
+        calls = [cast(Callable[[], str], call) for call, weight in pairs for _ in range(cast(int, weight))]
+        return self.choices.one_of(calls)
 
     def width(self) -> int:
         return self.choices.one_of([4, 4, 4, 4, 2, 1, 2, 1]) if not self.percent(2) else self.choices.one_of([0, 3, 8])
@@ -53,7 +54,7 @@ class Lines:
         """A base to be written: one of those where something begins, or of another region."""
         host = self.document["host"]
         known = [*BASES, *self.recent[is_io], *(host[key][0] for key in host)]
-        base = self.choices.one_of(known) + self.choices.one_of([0, 0, 0x1000, 0x100000, 0x20])
+        base: int = self.choices.one_of(known) + self.choices.one_of([0, 0, 0x1000, 0x100000, 0x20])
         self.recent[is_io] = [*self.recent[is_io][-5:], base]
         return base
 

@@ -85,8 +85,8 @@ class RecordedMachine(Recorded, Machine):
             return f"host move {self._name(source)} {slot} {self._name(target)} {target_slot}"
         if name == "raise":
             guest, slot, part, offset, mask = arguments
-            place = "cfg" if part == RAISE_CONFIG else f"bar{part}"
-            return f"{self._name(guest)} raise {slot} {place} {offset:#x} {mask:#x}"
+            where = "cfg" if part == RAISE_CONFIG else f"bar{part}"
+            return f"{self._name(guest)} raise {slot} {where} {offset:#x} {mask:#x}"
         if name not in ("read", "write"):
             return None
         guest, space, slot, place, width, value = arguments

@@ -2,7 +2,7 @@
 
 from __future__ import annotations
 
-from typing import Callable, NamedTuple, Optional, Tuple
+from typing import Callable, NamedTuple, Optional, Tuple, cast
 
 from ._calls import WORDS
 from ._library import CALLS, number, told
@@ -62,8 +62,7 @@ def words(refusal: int) -> str:
     'slot taken'
     """
     asked = number("number", refusal, 32)
-    call: Callable[..., int] = CALLS["words"]
-    return told(WORDS, lambda text, room, needed: call(asked, text, room, needed))[1]
+    return told(WORDS, lambda text, room, needed: CALLS["words"](asked, text, room, needed))[1]
 
 
 def strerror(refusal: int) -> str:
@@ -72,7 +71,7 @@ def strerror(refusal: int) -> str:
     >>> strerror(602)
     'slot taken'
     """
-    call: Callable[..., bytes] = CALLS["strerror"]
+    call = cast(Callable[..., bytes], CALLS["strerror"])
     return call(number("number", refusal, 32)).decode("ascii", "replace")
 
 

@@ -173,6 +173,6 @@ def rule(over: Any, line: str, ours: Optional[str], theirs: Optional[str]) -> Ro
     if found:
         return found
     try:
-        return (ByGuest(over) if hasattr(over, "guest") else ByFirmware(over)).rule(asked)
+        return ByGuest(over).rule(asked) if hasattr(over, "guest") else ByFirmware(over).rule(asked)
     except (Refusal, ValueError, IndexError):
         return ACCESSES["grammar"]

@@ -307,7 +307,9 @@ def main(given: Optional[List[str]] = None) -> int:
     given = sys.argv[1:] if given is None else given
     at = given.index("--") if "--" in given else len(given)
     options, command = parser().parse_args(given[:at]), given[at + 1 :]
-    back_end: BackEnd = Process(command) if command else Library()
+    back_end: BackEnd = Library()
+    if command:
+        back_end = Process(command)
     try:
         if options.kind == "record":
             lines = (line.rstrip("\n") for line in sys.stdin)
