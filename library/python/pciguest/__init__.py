@@ -47,6 +47,7 @@ from ._board_problems import BoardProblem
 from ._calls import VERSION
 from ._declared import Register
 from ._devices import Device
+from ._differs import DeclaredOtherwise
 from ._functions import Bar, BoardFunction, Function, Window, Windows
 from ._library import version
 from ._machine import Guest, Host, Machine
@@ -63,6 +64,7 @@ __all__ = [
     "BoardProblem",
     "BoardRefusal",
     "Check",
+    "DeclaredOtherwise",
     "Device",
     "Function",
     "Functions",

@@ -3,14 +3,15 @@
 from __future__ import annotations
 
 from ctypes import byref, c_uint64
-from typing import TYPE_CHECKING, Any, ClassVar, Dict, Iterator, List, NamedTuple, Optional, Tuple
+from typing import TYPE_CHECKING, Any, ClassVar, Dict, Iterator, Optional, Tuple
 
 from ._calls import RAISE_CONFIG
-from ._declared import KINDS, Register, declared, endpoint
+from ._declared import Register, declared, endpoint
 from ._library import number
 
 if TYPE_CHECKING:
-    from ._machine import Machine
+    from ._attached import Attaching
+    from ._machine import Guest
 
 
 class Device:
@@ -40,7 +41,10 @@ class Device:
     (1, 1)
 
     A register of an object is what it holds now: reading and setting it is what the device does, whatever its driver may
-    change of it. What a device has to keep over a move or a reset stays in the object; the registers are at reset then.
+    change of it. One access of a guest is one call for each register that it touches, with all that it wrote there, however
+    many cycles of the bus it takes. After a reset, a move or a load the registers hold what the machine made of them when the
+    device is told; what a device keeps in its other attributes is its own to clear. A device may use its own machine as
+    others do, and is told of what it does to itself.
     """
 
     vendor_id: ClassVar[int]
@@ -56,8 +60,9 @@ class Device:
     #: in the order of their places
     registers: ClassVar[Tuple[Register, ...]] = ()
 
-    _machine: Optional[Machine] = None
+    _machine: Optional[Attaching] = None
     _index: int = 0
+    _seat: Optional[Tuple[int, int]] = None
 
     def __init_subclass__(cls, **words: Any) -> None:
         super().__init_subclass__(**words)
@@ -76,24 +81,45 @@ class Device:
     def before_read(self, register: Register) -> None:
         """Its driver is about to read a register, and is told what it holds then."""
 
-    def _attached(self, machine: Machine, index: int) -> None:
-        function, cls = machine.function(index), type(self)
-        found = {at: (bar.space, bar.size, bar.prefetchable, bar.is_64_bit) for at, bar in enumerate(function.regions) if bar}
-        wanted = {at: (*KINDS[kind][:1], size, *KINDS[kind][1:]) for at, (kind, size) in cls.bars.items()}
-        if (function.vendor_id, function.device_id) != (cls.vendor_id, cls.device_id) or found != wanted:
-            raise ValueError(f"{function.path} is not declared as {cls.__name__}.endpoint({function.path!r}) declares it")
-        if self._machine is not None:
-            raise ValueError("the device is attached already")
-        self._machine, self._index = machine, index
+    def on_reset(self) -> None:
+        """Its function was reset where it is, by `Guest.reset` or `reset_guest`."""
+
+    def on_move(self, guest: Guest, slot: int) -> None:
+        """Its function came from a slot of a guest to another, by a call or a line, and is at reset: a reset, unless it is
+        said."""
+        self.on_reset()
+
+    def on_give(self) -> None:
+        """Its function, which no guest had, was given to one, and is at reset: a reset, unless it is said."""
+        self.on_reset()
+
+    def on_take(self) -> None:
+        """Its function was taken from its guest, and no guest has it."""
+
+    def on_load(self) -> None:
+        """An image was loaded, which its registers hold; its function may have another guest or slot than before."""
+
+    def save_state(self) -> bytes:
+        """What it keeps beside its registers, to stand beside an image: nothing, unless it is said."""
+        return b""
+
+    def load_state(self, state: bytes) -> None:
+        """Keeps what was saved so, once the image is loaded. ValueError: it can't be that; then it stays as it is."""
+        if state:
+            raise ValueError("the device keeps nothing beside its registers")
+
+    @property
+    def seat(self) -> Optional[Tuple[int, int]]:
+        """The index of the guest that has its function, and the slot, or None where no guest has it."""
+        return self._seat
 
     def _place(self, register: Register) -> Tuple[int, int, int]:
         """Guest, slot and part of a register, as the library takes them."""
         if self._machine is None:
             raise ValueError("the device is attached to no machine")
-        seat = self._machine.function(self._index).seat
-        if seat is None:
+        if self._seat is None:
             raise ValueError("no guest has the function of the device")
-        return (*seat, RAISE_CONFIG if register.bar is None else register.bar)
+        return (*self._seat, RAISE_CONFIG if register.bar is None else register.bar)
 
     def _read(self, register: Register) -> int:
         value, read, place = 0, c_uint64(), self._place(register)
@@ -114,39 +140,3 @@ class Device:
 def _pieces(register: Register) -> Iterator[Tuple[int, int]]:
     """The first byte of a register and the width of each access that reaches it: 8 bytes at most."""
     return ((first, min(8, register.width - first)) for first in range(0, register.width, 8))
-
-
-class Touch(NamedTuple):
-    """What an access of a driver touches of a device: bytes of a region, or of configuration space."""
-
-    device: Device
-    bar: Optional[int]
-    offset: int
-    width: int
-
-    def registers(self) -> List[Register]:
-        """The registers of which a byte is touched."""
-        return [
-            each
-            for each in self.device.registers
-            if each.bar == self.bar and each.offset < self.offset + self.width and self.offset < each.offset + each.width
-        ]
-
-    def before_read(self) -> bool:
-        """Tells the device what is about to be read, if any register is."""
-        found = self.registers()
-        for register in found:
-            self.device.before_read(register)
-        return bool(found)
-
-    def written(self, value: int) -> None:
-        """Tells the device what was written into each register."""
-        for register in self.registers():
-            self.device.on_write(register, self._in(register, value))
-
-    def _in(self, register: Register, value: int) -> int:
-        """What an access wrote into a register: its bytes at their places, and else what the register holds."""
-        up = 8 * (self.offset - register.offset)
-        moved = [each << up if up >= 0 else each >> -up for each in (value, (1 << 8 * self.width) - 1)]
-        mask = moved[1] & (1 << 8 * register.width) - 1
-        return self.device._read(register) & ~mask | moved[0] & mask

@@ -39,8 +39,8 @@ class Saved:
     def save(self) -> bytes:
         """Saves the guest: its image, which is all that the guest holds. That is its CONFIG_ADDRESS, and of each of its 32
         slots what is declared of the function and what the guest's registers hold; nothing of the board, of other guests
-        or of where its functions stand. docs/FORMATS.md, section 8, has the bytes. What a `Device` keeps beside its
-        registers is the program's to save. The machine stays as it is.
+        or of where its functions stand. docs/FORMATS.md, section 8, has the bytes. `save_state` has what a `Device` keeps beside
+        its registers. The machine stays as it is.
 
         >>> with Machine(BOARD) as machine:
         ...     a = machine.guest("a")
@@ -57,8 +57,8 @@ class Saved:
     def load(self, image: Union[bytes, bytearray]) -> None:
         """Loads an image into the guest, which then holds what the image says: what the guest that was saved held. Each of
         its slots has to be filled or empty as there, and its functions declared as there; they may stand elsewhere, on
-        another board, and the machine of the image isn't needed any more. Other guests can't tell. A `Device` isn't told
-        of it; its registers are as they were saved.
+        another board, and the machine of the image isn't needed any more. Other guests can't tell. The guest's devices
+        are told of it (`Device.on_load`).
 
         905: the bytes are no image. 906: another slot is filled, or a function is declared otherwise. Of both, what the
         first byte that fails tells.
@@ -79,7 +79,9 @@ class Saved:
         905 image
         """
         told = bytes(image)
-        self.machine._call("load", self.index, told, len(told))
+        with self.machine._lock:
+            self.machine._call("load", self.index, told, len(told))
+            self.machine._tell(lambda seat: seat[0] == self.index, lambda device: device.on_load())
 
     def reset_guest(self) -> None:
         """Resets every function of the guest, each where it is, and the guest's own CONFIG_ADDRESS: nothing is carried
@@ -93,11 +95,16 @@ class Saved:
         ...     a.save() == at_reset
         True
         """
-        self.machine._call("reset_guest", self.index)
+        with self.machine._lock:
+            self.machine._call("reset_guest", self.index)
+            self.machine._tell(lambda seat: seat[0] == self.index, lambda device: device.on_reset())
 
 
 class SavedMachine(Held):
     """A machine that is saved and loaded as a whole."""
+
+    def _tell_loaded(self) -> None:
+        """Tells its devices of a load."""
 
     def image_size_all(self) -> int:
         """How many bytes the image of the whole machine has, which `save_all` gives. It stays as long as guests have the
@@ -116,7 +123,8 @@ class SavedMachine(Held):
     def save_all(self) -> bytes:
         """Saves the whole machine: its image, which is who has which function of the board in which slot, what each guest
         holds, and the board as the host reads it, but for what guests made of functions in slots. docs/FORMATS.md, section
-        8, has the bytes. What a `Device` keeps beside its registers is the program's to save. The machine stays as it is.
+        8, has the bytes. `Guest.save_state` has what a `Device` keeps beside its
+        registers. The machine stays as it is.
 
         >>> with Machine(BOARD) as machine:
         ...     machine.save_all()[:8]  # the format, and its version
@@ -132,7 +140,7 @@ class SavedMachine(Held):
         """Loads an image into the whole machine: each slot then has the function that it had in the machine that was saved,
         and each guest holds what that guest held. The board is an equal one, set up alike, and its guests have the same
         names in the same order; where their functions sit now, and what they hold, doesn't matter. The machine of the image
-        isn't needed any more. A `Device` isn't told of it; its registers are as they were saved.
+        isn't needed any more. Devices are told of it (`Device.on_load`).
 
         905: the bytes are no image of a machine. 906: a slot is to get what no guest can be given there, or a function is
         declared otherwise. 907: the board, its guests or how it is set up are others. Of the three, what the first byte
@@ -155,4 +163,6 @@ class SavedMachine(Held):
         907 other board
         """
         told = bytes(image)
-        self._call("load_all", told, len(told))
+        with self._lock:
+            self._call("load_all", told, len(told))
+            self._tell_loaded()

@@ -5,22 +5,22 @@ from __future__ import annotations
 import os
 from ctypes import byref, c_size_t, c_uint32, c_uint64
 from pathlib import Path
-from typing import Any, Callable, Dict, Iterator, List, Optional, Tuple, Union
+from typing import Any, Callable, Iterator, List, Optional, Tuple, Union
 
+from ._attached import Attaching
 from ._calls import CONFIG, GUEST_NAME, IO, MEMORY, RAISE_CONFIG, FunctionTold, Handle, HitTold, RegionTold
-from ._devices import Device, Touch
 from ._functions import Function, function_of
 from ._held import Held, as_bytes
-from ._images import Saved, SavedMachine
+from ._images import Saved
 from ._library import CALLS, number, told
 from ._lines import Access, access_of
 from ._refusal import Refusal, answered
 from ._regions import Hit, Region
-from ._spaces import Functions, ReadableSpace, Space
+from ._spaces import Cycles, Functions, ReadableSpace, Space
 from ._texts import NAME, explained
 
 
-class Machine(SavedMachine):
+class Machine(Attaching):
     """A board that is set up, with its guests.
 
     `Machine.load("board.toml")` sets up the board of a board file, and gives its functions to the guests of the file;
@@ -31,11 +31,8 @@ class Machine(SavedMachine):
     refused by 901. Several threads may use one machine: one call is made at a time.
     """
 
-    # the devices that are attached, by the path of their function
-    _devices: Dict[str, Device]
-
     def __init__(self, board: Union[str, bytes], name: str = NAME) -> None:
-        text, self._devices = as_bytes(board), {}
+        text, self._devices = as_bytes(board), []
         with explained(text, name):
             super().__init__(Handle(), "free", lambda handle: CALLS["new"](handle, text, len(text)))
 
@@ -48,7 +45,7 @@ class Machine(SavedMachine):
     def _made_by(cls, make: Callable[[Any], int]) -> Machine:
         """The machine that a call leaves in a struct that holds none."""
         machine = cls.__new__(cls)
-        machine._devices = {}
+        machine._devices = []
         Held.__init__(machine, Handle(), "free", make)
         return machine
 
@@ -67,6 +64,9 @@ class Machine(SavedMachine):
         with self._lock:
             self._call("guest_count", byref(count))
             return [self._name(index) for index in range(count.value)]
+
+    def _guest_at(self, index: int) -> Guest:
+        return Guest(self, self._name(index), index)
 
     def _name(self, guest: int) -> str:
         """The name of the guest at an index, which is there."""
@@ -88,7 +88,9 @@ class Machine(SavedMachine):
         if source.machine is not self or target.machine is not self:
             raise ValueError("a guest of another machine")
         slots = number("slot", slot, 64), number("target_slot", target_slot, 64)
-        self._call("move", source.index, slots[0], target.index, slots[1])
+        with self._lock:
+            self._call("move", source.index, slots[0], target.index, slots[1])
+            self._tell_moved()
 
     def give(self, path: str, guest: Guest, slot: int) -> None:
         """Gives the function at a path, which no guest has, to a guest, into an empty slot: there and on the board it is
@@ -101,7 +103,9 @@ class Machine(SavedMachine):
         if guest.machine is not self:
             raise ValueError("a guest of another machine")
         text = as_bytes(path)
-        self._call("give", text, len(text), guest.index, number("slot", slot, 64))
+        with self._lock:
+            self._call("give", text, len(text), guest.index, number("slot", slot, 64))
+            self._tell_moved()
 
     def take(self, guest: Guest, slot: int) -> None:
         """Takes the function in a slot of a guest from it: the slot is then empty, and no guest has the function, which is
@@ -111,55 +115,9 @@ class Machine(SavedMachine):
         """
         if guest.machine is not self:
             raise ValueError("a guest of another machine")
-        self._call("take", guest.index, number("slot", slot, 64))
-
-    def attach(self, guest: Guest, slot: int, device: Device) -> None:
-        """Lets a device act behind the function in a slot of a guest, from here on and wherever the function goes: each
-        access of a guest, by its spaces or by a line, tells the device which registers it touches. The function has to be
-        as the class of the device declares it, else it is a ValueError, and so it is where the function has a device.
-
-        303: the slot is above 31. 601: the slot is empty.
-        """
-        if guest.machine is not self:
-            raise ValueError("a guest of another machine")
         with self._lock:
-            path = guest.function(slot).path
-            if path in self._devices:
-                raise ValueError(f"{path} has a device already")
-            index = next(at for at, each in enumerate(self.functions()) if each.path == path)
-            device._attached(self, index)
-            self._devices[path] = device
-
-    def _touch(self, access: Access) -> Optional[Touch]:
-        """What an access touches of a device, if it touches one."""
-        if not self._devices or (access.space, access.place, access.width) == (IO, 0xCF8, 4):
-            return None
-        guest = Guest(self, "", access.guest)
-        try:
-            if access.space == CONFIG:
-                hit: Optional[Hit] = Hit(access.slot, None, access.place)
-            else:
-                hit = guest.locate("io" if access.space == IO else "memory", access.place)
-            device = None if hit is None else self._devices.get(guest.function(hit.slot).path)
-        except (Refusal, ValueError):
-            return None
-        return None if hit is None or device is None else Touch(device, hit.region, hit.offset, access.width)
-
-    def _read(self, access: Access, read: Callable[[], int]) -> int:
-        """A read of a guest: the device that it touches is told before, once it is known not to be refused."""
-        if not self._devices:
-            return read()
-        with self._lock:
-            value, touch = read(), self._touch(access)
-            return read() if touch is not None and touch.before_read() else value
-
-    def _write(self, access: Access, value: int, write: Callable[[], None]) -> None:
-        """A write of a guest: the device that it touches is told after it."""
-        with self._lock:
-            touch = self._touch(access)
-            write()
-            if touch is not None:
-                touch.written(value)
+            self._call("take", guest.index, number("slot", slot, 64))
+            self._tell_moved()
 
     def count(self) -> int:
         """How many functions the board has, endpoints and bridges."""
@@ -187,13 +145,16 @@ class Machine(SavedMachine):
         by its reply: 'a: refused 301 misaligned'."""
         with self._lock:
             found = access_of(as_bytes(line), self._index_of) if self._devices else None
-            touch = None if found is None else self._touch(found.access)
+            touched = self._touch(found.access, found.value) if found and found.value is not None else []
             reply = self._reply("run_line", line)
-            if found is None or touch is None or reply is None or " refused " in reply:
+            if reply is None or " refused " in reply:
                 return reply
-            if found.value is None:
-                return self._reply("run_line", line) if touch.before_read() else reply
-            touch.written(found.value)
+            if found is None:
+                self._tell_moved()
+            elif found.value is not None:
+                self._tell_written(touched)
+            elif self._tell_read([found.access]):
+                return self._reply("run_line", line)
             return reply
 
     def _index_of(self, name: bytes) -> Optional[int]:
@@ -297,7 +258,23 @@ class Guest(Saved):
 
         303: the slot is above 31. 601: the slot is empty.
         """
-        self.machine._call("reset", self.index, number("slot", slot, 64))
+        with self.machine._lock:
+            self.machine._call("reset", self.index, number("slot", slot, 64))
+            self.machine._tell(lambda seat: seat == (self.index, slot), lambda device: device.on_reset())
+
+    def save_state(self, slot: int) -> bytes:
+        """What the `Device` behind the function in a slot keeps beside its registers, which are in an image.
+
+        902: the function has no device. 303: the slot is above 31. 601: the slot is empty.
+        """
+        with self.machine._lock:
+            return self.machine._device_behind(self, slot).save_state()
+
+    def load_state(self, slot: int, state: bytes) -> None:
+        """Lets the device keep what was saved so, once the image is loaded. Refused as `save_state`; ValueError: the device
+        takes the bytes for no state of its own."""
+        with self.machine._lock:
+            self.machine._device_behind(self, slot).load_state(state)
 
     def region(self, slot: int, register: int) -> Region:
         """Where the region that begins at a base address register, 0 to 5, of the function in a slot stands now, in the
@@ -360,21 +337,42 @@ class Guest(Saved):
         return self.machine._told("why", 512, self.index, *at)
 
     def _space(self, space: int, slot: int) -> Space:
-        machine, guest = self.machine, self.index
+        return _GuestSpace(self, space, slot)
 
-        def read(place: int, width: int) -> int:
-            def ask() -> int:
-                value = c_uint32(0)
-                machine._call("read", guest, space, slot, place, width, byref(value))
-                return value.value
 
-            return machine._read(Access(guest, space, slot, place, width), ask)
+class _GuestSpace(Space):
+    """A space of a guest, whose devices are told of accesses."""
 
-        def write(place: int, width: int, value: int) -> None:
-            access = Access(guest, space, slot, place, width)
-            machine._write(access, value, lambda: machine._call("write", guest, space, slot, place, width, value))
+    def __init__(self, guest: Guest, space: int, slot: int) -> None:
+        super().__init__(space, self._cycle_reads, self._cycle_writes)
+        self._machine, self._guest, self._slot = guest.machine, guest.index, slot
 
-        return Space(space, read, write)
+    def _cycle_reads(self, place: int, width: int) -> int:
+        value = c_uint32(0)
+        self._machine._call("read", self._guest, self._space, self._slot, place, width, byref(value))
+        return value.value
+
+    def _cycle_writes(self, place: int, width: int, value: int) -> None:
+        self._machine._call("write", self._guest, self._space, self._slot, place, width, value)
+
+    def _access(self, place: int, width: int) -> Access:
+        return Access(self._guest, self._space, self._slot, place, width)
+
+    def _reads(self, place: int, cycles: Cycles) -> int:
+        if not self._machine._devices:
+            return super()._reads(place, cycles)
+        with self._machine._lock:
+            value = super()._reads(place, cycles)
+            is_told = self._machine._tell_read([self._access(place + done, size) for done, size in cycles])
+            return super()._reads(place, cycles) if is_told else value
+
+    def _writes(self, place: int, cycles: Cycles, value: int) -> None:
+        with self._machine._lock:
+            touched = []
+            for done, size in cycles:
+                touched += self._machine._touch(self._access(place + done, size), value >> 8 * done)
+                super()._writes(place + done, [(0, size)], value >> 8 * done)
+            self._machine._tell_written(touched)
 
 
 class Host:

@@ -2,12 +2,14 @@
 
 from __future__ import annotations
 
-from typing import Callable, Generic, Iterator, Tuple, TypeVar
+from typing import Callable, Generic, List, Tuple, TypeVar
 
 from ._calls import CONFIG, IO, MEMORY
 from ._library import number
 from ._refusal import Refusal
 
+# how far on each cycle of the bus of one access begins, and how wide it is
+Cycles = List[Tuple[int, int]]
 # the last place of each space that an access of several pieces may touch
 LAST = {CONFIG: 0xFF, IO: 0xFFFF, MEMORY: (1 << 64) - 1}
 
@@ -19,18 +21,19 @@ def place_and_width(key: slice) -> Tuple[int, int]:
     return number("place", key.start, 64), number("width", key.stop, 32)
 
 
-def pieces(place: int, width: int, last: int) -> Iterator[Tuple[int, int]]:
-    """How far on each lawful access begins into which one of 1 to 8 bytes is split, as a bridge does, and how wide it is:
-    each is the largest of 4, 2 or 1 bytes that stands at a multiple of its size."""
+def cycles(place: int, width: int, last: int) -> Cycles:
+    """The lawful accesses into which one of 1 to 8 bytes is split, as a bridge does: how far on each begins, and how wide it
+    is, which is the largest of 4, 2 or 1 bytes that stands at a multiple of its size."""
     if not 1 <= width <= 8:
         raise Refusal(302)
     if place > last or width - 1 > last - place:
         raise Refusal(303)
-    done = 0
+    split, done = [], 0
     while done < width:
         size = next(size for size in (4, 2, 1) if (place + done) % size == 0 and width - done >= size)
-        yield done, size
+        split.append((done, size))
         done += size
+    return split
 
 
 class ReadableSpace:
@@ -46,7 +49,12 @@ class ReadableSpace:
         self._read = read
 
     def __getitem__(self, key: slice) -> int:
-        return self._read(*place_and_width(key))
+        place, width = place_and_width(key)
+        return self._reads(place, [(0, width)])
+
+    def _reads(self, place: int, cycles: Cycles) -> int:
+        """What the cycles of one access read."""
+        return sum(self._read(place + done, size) << 8 * done for done, size in cycles)
 
     @property
     def wide(self) -> ReadableWide:
@@ -64,7 +72,12 @@ class Space(ReadableSpace):
 
     def __setitem__(self, key: slice, value: int) -> None:
         place, width = place_and_width(key)
-        self._write(place, width, number("value", value, 32))
+        self._writes(place, [(0, width)], number("value", value, 32))
+
+    def _writes(self, place: int, cycles: Cycles, value: int) -> None:
+        """Makes the cycles of one access that writes."""
+        for done, size in cycles:
+            self._write(place + done, size, value >> 8 * done & (1 << 8 * min(size, 4)) - 1)
 
     @property
     def wide(self) -> Wide:
@@ -83,8 +96,7 @@ class ReadableWide:
 
     def __getitem__(self, key: slice) -> int:
         place, width = place_and_width(key)
-        split = pieces(place, width, LAST[self._of._space])
-        return sum(self._of._read(place + done, size) << 8 * done for done, size in split)
+        return self._of._reads(place, cycles(place, width, LAST[self._of._space]))
 
 
 class Wide(ReadableWide):
@@ -95,8 +107,7 @@ class Wide(ReadableWide):
     def __setitem__(self, key: slice, value: int) -> None:
         place, width = place_and_width(key)
         bits = number("value", value, 64)
-        for done, size in pieces(place, width, LAST[self._of._space]):
-            self._of._write(place + done, size, bits >> 8 * done & (1 << 8 * size) - 1)
+        self._of._writes(place, cycles(place, width, LAST[self._of._space]), bits)
 
 
 AnySpace = TypeVar("AnySpace", bound=ReadableSpace)

@@ -2,7 +2,7 @@
 
 import unittest
 
-from pciguest import Device, Machine, Refusal, Register, check
+from pciguest import DeclaredOtherwise, Device, Machine, Refusal, Register, check
 
 TOP = "host = { io = [0x1000, 0xffff], mem = [0xc0000000, 0xdfffffff], pref = [0x400000000, 0x4ffffffff] }\n"
 
@@ -18,6 +18,7 @@ class Doorbell(Device):
     bell = Register(0x08, 4, rw=0xFFFFFFFF, reset=0x11223344)
     port = Register(0x10, 2, bar=1, rw=0x0FF0)
     far = Register(0xFF8, 4, bar=2, reset=0xA5A5A5A5)
+    long = Register(0x100, 8, bar=2, rw=0xFFFFFFFFFFFFFFFF)
     own = Register(0x40, 4, bar=None, rw=0xFF)
     more = Register(0x48, 1, bar=None, reset=0x7F)
 
@@ -134,6 +135,29 @@ class Acting(Case):
         self.assertEqual(self.device.told, [("rings", 0), ("bell", 7), ("own", 0xAA)])
         self.assertEqual(self.device.own, 0xAA)
 
+    def test_one_access_is_one_call(self):
+        """As examples/c/device.c is told: with the whole value, whatever cycles of the bus it takes."""
+        memory = self.a.memory.wide
+        memory[0x810000100:8] = 0x1122334455667788
+        memory[0x810000103:4] = 0xAABBCCDD
+        memory[0xE0000007:4] = 0x44332211  # the highest byte of one register, and three of the next
+        self.a.config[0].wide[0x3E:8] = 0x8877665544332211
+        told = [("long", 0x1122334455667788), ("long", 0x11AABBCCDD667788), ("rings", 0x11000000)]
+        told += [("bell", 0x11443322), ("own", 0x66554433)]
+        self.assertEqual(self.device.told, told)
+        self.assertEqual((self.device.rings, self.device.long), (1, 0x11AABBCCDD667788))
+        del self.device.told[:]
+        self.assertEqual(memory[0x810000100:8], 0x11AABBCCDD667788)
+        self.assertEqual(memory[0x810000FF7:4], 0x5A5A5A00)
+        self.assertEqual(self.device.told, [("long", "read"), ("far", "read")])
+
+    def test_an_access_past_the_space_is_none(self):
+        self.a.config[0][0x10:4] = 0
+        for call in (lambda: self.a.io.wide[0xFFFD:4], lambda: self.a.memory.wide[0x810000100:9]):
+            with self.assertRaises(Refusal):
+                call()
+        self.assertEqual(self.device.told, [])
+
     def test_lines(self):
         run = self.machine.run_line
         self.assertEqual(run("a mw 0xe0000008 4 0x07\n"), "a: ok")
@@ -191,6 +215,41 @@ class Attaching(Case):
         with self.assertRaises(ValueError):
             self.device.rings = 1 << 32
 
+    def test_what_differs_is_named(self):
+        """All that a class declares is compared, in the order of a board file."""
+        as_it_is = {name: getattr(Doorbell, name) for name in ("status", "rings", "bell", "port", "far", "long", "own", "more")}
+        others = {
+            "vendor_id": {"vendor_id": 0x1235},
+            "device_id": {"device_id": 0x00D1},
+            "revision_id": {"revision_id": 1},
+            "class_code": {"class_code": 0xFF0001},
+            "subsystem_vendor_id": {"subsystem_vendor_id": 0},
+            "subsystem_id": {"subsystem_id": 0x2223},
+            "interrupt_pin": {"interrupt_pin": 2},
+            "bars[0]": {"bars": {**Doorbell.bars, 0: ("mem32p", 0x1000)}},
+            "bars[1]": {"bars": {**Doorbell.bars, 1: ("io", 64)}},
+            "bars[4]": {"bars": {**Doorbell.bars, 4: ("io", 32)}},
+            "status.w1c": {"status": Register(0x00, 1, w1c=0x03)},
+            "rings.rw": {"rings": Register(0x04, 4, rw=0x80000000)},
+            "bell.reset": {"bell": Register(0x08, 4, rw=0xFFFFFFFF)},
+            "more.width": {"more": Register(0x48, 2, bar=None, reset=0x7F)},
+            "own.rw": {"own": Register(0x40, 4, bar=None, rw=0x01FF)},
+            "far.width": {"far": Register(0xFFC, 4, bar=2)},
+        }
+        for field, words in others.items():
+            other = type("Other", (Doorbell,), {**as_it_is, **words})()
+            with self.assertRaises(DeclaredOtherwise) as caught:
+                self.machine.attach(self.a, 1, other)
+            self.assertEqual((caught.exception.field, str(caught.exception)[:7]), (field, "2.0: " + field[:2]))
+        both = type("Other", (Doorbell,), {**as_it_is, **others["own.rw"], **others["class_code"]})()
+        with self.assertRaisesRegex(ValueError, "class_code: the device declares 0xff0001, and the function has 0xff0000"):
+            self.machine.attach(self.a, 1, both)
+
+    def test_what_is_not_declared_may_be_anything(self):
+        less = type("Less", (Doorbell,), {name: None for name in ("status", "far", "more")})
+        with Machine(board(Doorbell)) as machine:
+            machine.attach(machine.guest("a"), 0, less())
+
     def test_two_devices(self):
         other = Doorbell()
         self.machine.attach(self.a, 1, other)
@@ -210,6 +269,149 @@ class Attaching(Case):
             with self.assertRaises(RuntimeError):
                 guest.config[0][0x40:1] = 1
             self.assertEqual(guest.config[0][0x40:1], 1)
+
+
+class Counter(Doorbell):
+    """Keeps, beside its registers, how many rings there were since it was reset, and what it was told."""
+
+    def __init__(self):
+        super().__init__()
+        self.count = 0
+
+    def on_write(self, register, value):
+        super().on_write(register, value)
+        self.count += register is Counter.bell
+
+    def on_reset(self):
+        self.told.append(("reset", self.rings))
+        self.count = 0
+
+    def on_move(self, guest, slot):
+        self.told.append(("move", guest.name, slot, self.seat))
+        super().on_move(guest, slot)
+
+    def on_give(self):
+        self.told.append(("give", self.seat))
+        super().on_give()
+
+    def on_take(self):
+        self.told.append(("take", self.seat))
+
+    def on_load(self):
+        self.told.append(("load", self.rings, self.seat))
+
+    def save_state(self):
+        return self.count.to_bytes(2, "little")
+
+    def load_state(self, state):
+        if len(state) != 2:
+            raise ValueError("no state of this device")
+        self.count = int.from_bytes(state, "little")
+
+
+class Going(Case):
+    def setUp(self):
+        super().setUp()
+        self.counter = Counter()
+        self.machine.detach(self.a, 0)
+        self.machine.attach(self.a, 1, self.counter)
+        self.a.config[0][4:2] = 0
+        self.place(self.a, 1)
+        self.a.memory[0xE0000008:4] = 1
+        del self.counter.told[:]
+
+    def told(self):
+        told, self.counter.told = self.counter.told, []
+        return told
+
+    def test_resets(self):
+        self.a.reset(0)  # another's
+        self.b.reset_guest()
+        self.assertEqual(self.told(), [])
+        self.a.reset(1)
+        self.assertEqual((self.told(), self.counter.count), ([("reset", 0)], 0))
+        self.a.reset_guest()
+        self.assertEqual(self.told(), [("reset", 0)])
+
+    def test_moves(self):
+        self.machine.move(self.a, 0, self.b, 3)  # another's
+        self.machine.move(self.a, 1, self.b, 1)
+        self.assertEqual(self.told(), [("move", "a", 1, (1, 1)), ("reset", 0)])
+        self.assertEqual(self.machine.run_line("host move b 1 a 9\n"), "host: ok")
+        self.assertEqual(self.told(), [("move", "b", 1, (0, 9)), ("reset", 0)])
+        self.machine.run_line("host move b 1 a 9")
+        self.machine.run_line("a raise 9 bar0 0 1")
+        self.machine.take(self.a, 9)
+        self.assertEqual(self.told(), [("take", None)])
+        self.machine.give("2.0", self.b, 0)
+        self.assertEqual(self.told(), [("give", (1, 0)), ("reset", 0)])
+        self.place(self.b, 0)
+        self.b.memory[0xE0000008:4] = 1
+        self.assertEqual(self.counter.rings, 1)
+
+    def test_refused_calls_tell_nothing(self):
+        for call in (lambda: self.a.reset(7), lambda: self.machine.move(self.a, 1, self.a, 0), lambda: self.a.load(b""),
+                     lambda: self.machine.take(self.a, 7), lambda: self.machine.load_all(b"")):
+            with self.assertRaises(Refusal):
+                call()
+        self.assertEqual(self.told(), [])
+
+    def test_a_guest_goes_on_elsewhere(self):
+        image, state = self.a.save(), self.a.save_state(1)
+        with Machine(board(Doorbell, Counter)) as machine:
+            other, there = machine.guest("a"), Counter()
+            machine.attach(other, 1, there)
+            other.load(image)
+            self.assertEqual((there.told, there.count), ([("load", 1, (0, 1))], 0))
+            other.load_state(1, state)
+            self.assertEqual((there.count, there.rings), (1, 1))
+            with self.assertRaises(ValueError):
+                other.load_state(1, b"")
+            for call in (lambda: other.save_state(0), lambda: other.load_state(0, state), lambda: machine.detach(other, 0)):
+                with self.assertRaises(Refusal) as caught:
+                    call()
+                self.assertEqual(caught.exception.number, 902)
+            self.assertEqual(there.count, 1)
+        with self.assertRaises(ValueError):
+            Doorbell().load_state(b"more")
+        self.assertIsNone(Doorbell().load_state(Doorbell().save_state()))
+
+    def test_a_machine_goes_on(self):
+        self.machine.move(self.a, 1, self.b, 5)
+        image = self.machine.save_all()
+        self.machine.move(self.b, 5, self.a, 2)
+        self.told()
+        self.machine.load_all(image)
+        self.assertEqual(self.told(), [("load", 0, (1, 5))])
+        self.machine.take(self.b, 5)
+        empty = self.machine.save_all()
+        self.machine.load_all(image)
+        self.assertEqual(self.told(), [("take", None), ("load", 0, (1, 5))])
+        self.machine.load_all(empty)
+        self.assertEqual(self.told(), [("take", None)])
+
+    def test_detached(self):
+        self.assertIs(self.machine.detach(self.a, 1), self.counter)
+        self.assertIsNone(self.counter.seat)
+        self.a.memory[0xE0000008:4] = 2
+        self.assertEqual(self.told(), [])
+        with self.assertRaises(ValueError):
+            self.counter.rings
+        self.machine.attach(self.a, 1, self.counter)
+        self.assertEqual((self.counter.bell, self.counter.rings), (2, 1))
+
+    def test_a_device_may_use_its_own_machine(self):
+        guest = self.a
+
+        class Busy(Doorbell):
+            def on_write(self, register, value):
+                if register is Busy.port:
+                    guest.memory[0xE0000008:4] = value
+
+        self.machine.detach(self.a, 1)
+        self.machine.attach(self.a, 1, Busy())
+        self.a.io[0x2010:2] = 0x1234
+        self.assertEqual(self.a.memory[0xE0000008:4], 0x1234)
 
 
 if __name__ == "__main__":

@@ -1,0 +1,179 @@
+"""Devices that are attached to functions of a machine, and what they are told."""
+
+from __future__ import annotations
+
+from typing import TYPE_CHECKING, Callable, Iterator, List, NamedTuple, Optional, Tuple
+
+from ._calls import ARGUMENT, CONFIG, IO
+from ._devices import Device
+from ._differs import DeclaredOtherwise, first_difference
+from ._functions import Function
+from ._images import SavedMachine
+from ._lines import Access
+from ._refusal import Refusal
+from ._regions import Hit
+
+if TYPE_CHECKING:
+    from ._declared import Register
+    from ._machine import Guest
+
+# the index of a guest, and a slot
+Seat = Tuple[int, int]
+
+
+class Touch(NamedTuple):
+    """What a cycle of the bus touches of a device: bytes of a region, or of configuration space, and what they are written."""
+
+    device: Device
+    bar: Optional[int]
+    offset: int
+    width: int
+    value: int
+
+    def within(self, register: Register) -> Tuple[int, int]:
+        """The bits of a register that it touches, and what they are written."""
+        if register.bar != self.bar:
+            return 0, 0
+        up, ones = 8 * (self.offset - register.offset), (1 << 8 * self.width) - 1
+        mask, bits = (each << up if up >= 0 else each >> -up for each in (ones, self.value & ones))
+        mask &= (1 << 8 * register.width) - 1
+        return mask, bits & mask
+
+
+def told_by(touched: List[Touch]) -> List[Tuple[Device, Register, int]]:
+    """The registers that an access touches, each with its device and with what was written: the bytes of the access at their
+    places, and else what the register holds."""
+    told = []
+    for device in {id(touch.device): touch.device for touch in touched}.values():
+        here = [touch for touch in touched if touch.device is device]
+        for register in device.registers:
+            parts = [touch.within(register) for touch in here]
+            mask, bits = sum(mask for mask, _ in parts), sum(bits for _, bits in parts)
+            if mask:
+                told.append((device, register, device._read(register) & ~mask | bits))
+    return told
+
+
+class Attaching(SavedMachine):
+    """A machine to whose functions devices are attached."""
+
+    # in the order in which they were attached
+    _devices: List[Device]
+
+    def functions(self) -> Iterator[Function]:
+        raise NotImplementedError
+
+    def function(self, index: int) -> Function:
+        raise NotImplementedError
+
+    def _guest_at(self, index: int) -> Guest:
+        raise NotImplementedError
+
+    def attach(self, guest: Guest, slot: int, device: Device) -> None:
+        """Lets a device act behind the function in a slot of a guest, from here on and wherever the function goes: each
+        access of a guest, by its spaces or by a line, tells the device which registers it touches.
+
+        The function has to be as the class of the device declares it, in all that it declares: identity, regions, and of
+        each register its patterns; else it is a `DeclaredOtherwise`, a ValueError that names the first field that differs. Of
+        cells that belong to no register the class says nothing. ValueError: the function has a device, or the device is
+        attached already. 303: the slot is above 31. 601: the slot is empty.
+        """
+        if guest.machine is not self:
+            raise ValueError("a guest of another machine")
+        with self._lock:
+            path = guest.function(slot).path
+            if self._device_at((guest.index, slot)) is not None:
+                raise ValueError(f"{path} has a device already")
+            if device._machine is not None:
+                raise ValueError("the device is attached already")
+            difference = first_difference(type(device), guest.save(), slot)
+            if difference is not None:
+                raise DeclaredOtherwise(path, difference)
+            device._index = next(at for at, each in enumerate(self.functions()) if each.path == path)
+            device._machine, device._seat = self, (guest.index, slot)
+            self._devices.append(device)
+
+    def detach(self, guest: Guest, slot: int) -> Device:
+        """Takes the device behind the function in a slot of a guest away: it is told nothing any more. The registers stay as
+        they are.
+
+        902: the function has no device. 303: the slot is above 31. 601: the slot is empty.
+        """
+        with self._lock:
+            device = self._device_behind(guest, slot)
+            self._devices.remove(device)
+            device._machine = device._seat = None
+        return device
+
+    def _device_at(self, seat: Seat) -> Optional[Device]:
+        return next((each for each in self._devices if each._seat == seat), None)
+
+    def _device_behind(self, guest: Guest, slot: int) -> Device:
+        """The device at a seat, or why there is none."""
+        if guest.machine is not self:
+            raise ValueError("a guest of another machine")
+        guest.function(slot)
+        device = self._device_at((guest.index, slot))
+        if device is None:
+            raise Refusal(ARGUMENT)
+        return device
+
+    def _touch(self, access: Access, value: int = 0) -> List[Touch]:
+        """What a cycle of the bus touches of a device, if it touches one. Asked before a write, which may move the function."""
+        if not self._devices or (access.space, access.place, access.width) == (IO, 0xCF8, 4):
+            return []
+        guest = self._guest_at(access.guest)
+        try:
+            if access.space == CONFIG:
+                hit: Optional[Hit] = Hit(access.slot, None, access.place)
+            else:
+                hit = guest.locate("io" if access.space == IO else "memory", access.place)
+        except (Refusal, ValueError):
+            return []
+        device = None if hit is None else self._device_at((access.guest, hit.slot))
+        return [] if hit is None or device is None else [Touch(device, hit.region, hit.offset, access.width, value)]
+
+    def _tell_read(self, cycles: List[Access]) -> bool:
+        """Tells devices of a read that isn't refused, each once for each of its registers, and whether there was one to
+        tell."""
+        told = told_by([touch for access in cycles for touch in self._touch(access)])
+        for device, register, _ in told:
+            device.before_read(register)
+        return bool(told)
+
+    def _tell_written(self, touched: List[Touch]) -> None:
+        """Tells devices of an access that was done, each once for each of its registers."""
+        for device, register, value in told_by(touched):
+            device.on_write(register, value)
+
+    def _tell(self, stands: Callable[[Seat], bool], acts: Callable[[Device], None]) -> None:
+        """Lets the devices act whose functions stand at some seats."""
+        for device in list(self._devices):
+            if device._seat is not None and stands(device._seat):
+                acts(device)
+
+    def _reseat(self) -> List[Tuple[Device, Optional[Seat]]]:
+        """Finds out who has the functions of devices now: gives each device whose seat is another one, with that before."""
+        changed = []
+        for device in self._devices:
+            before, device._seat = device._seat, self.function(device._index).seat
+            if before != device._seat:
+                changed.append((device, before))
+        return changed
+
+    def _tell_moved(self) -> None:
+        """Tells the devices whose functions were moved, given or taken."""
+        for device, before in self._reseat():
+            if before is None:
+                device.on_give()
+            elif device._seat is None:
+                device.on_take()
+            else:
+                device.on_move(self._guest_at(before[0]), before[1])
+
+    def _tell_loaded(self) -> None:
+        """Tells the devices of the machine what was loaded."""
+        for device, _ in self._reseat():
+            if device._seat is None:
+                device.on_take()
+        self._tell(lambda seat: True, lambda device: device.on_load())

@@ -1,0 +1,120 @@
+"""In what a function differs from what a device declares. The image of the guest that has it says what it is."""
+
+from __future__ import annotations
+
+from typing import TYPE_CHECKING, Dict, Iterator, List, NamedTuple, Optional, Tuple, Type
+
+from ._declared import KINDS, PATTERNS, Register
+
+if TYPE_CHECKING:
+    from ._devices import Device
+
+# the fields of an identity, with their bytes in an image
+IDENTITY = {
+    "vendor_id": 2,
+    "device_id": 2,
+    "revision_id": 1,
+    "class_code": 3,
+    "subsystem_vendor_id": 2,
+    "subsystem_id": 2,
+    "interrupt_pin": 1,
+}
+# of a cell: at reset, which bits are writable, and which are cleared by ones
+Cell = Tuple[int, int, int]
+
+
+class Difference(NamedTuple):
+    """A field in which a function differs from what a device declares."""
+
+    field: str
+    declared: str
+    found: str
+
+
+class DeclaredOtherwise(ValueError):
+    """A function is not as a device declares it. `field` is the first in which it differs, `declared` what the device says
+    of it, and `found` what the function has."""
+
+    def __init__(self, path: str, difference: Difference) -> None:
+        self.field, self.declared, self.found = difference
+        super().__init__(f"{path}: {self.field}: the device declares {self.declared}, and the function has {self.found}")
+
+
+class Found(NamedTuple):
+    """What is declared of a function."""
+
+    identity: Dict[str, int]
+    #: by base address register
+    bars: Dict[int, Tuple[str, int]]
+    #: by region, or None for configuration space, and by offset
+    cells: Dict[Tuple[Optional[int], int], Cell]
+
+
+def first_difference(cls: Type[Device], image: bytes, slot: int) -> Optional[Difference]:
+    """The first field in which the function in a slot differs, by the image of its guest."""
+    found = _Bytes(image).function(slot)
+    return next((each for each in _fields(cls, found) if each.declared != each.found), None)
+
+
+def _fields(cls: Type[Device], found: Found) -> Iterator[Difference]:
+    for name, value in found.identity.items():
+        yield Difference(name, f"{getattr(cls, name):#x}", f"{value:#x}")
+    for bar in range(6):
+        yield Difference(f"bars[{bar}]", _bar(cls.bars.get(bar)), _bar(found.bars.get(bar)))
+    for register in cls.registers:
+        yield from _patterns(register, found)
+
+
+def _bar(bar: Optional[Tuple[str, int]]) -> str:
+    return "none" if bar is None else f"{bar[0]} of {bar[1]:#x} bytes"
+
+
+def _patterns(register: Register, found: Found) -> Iterator[Difference]:
+    """The fields of a register: how many of its bytes have a cell, and its patterns."""
+    places = range(register.offset, register.offset + register.width)
+    cells = [found.cells[register.bar, place] for place in places if (register.bar, place) in found.cells]
+    yield Difference(f"{register.name}.width", f"{register.width} bytes", f"{len(cells)} bytes")
+    for at, name in enumerate(PATTERNS):
+        bits = int.from_bytes(bytes(cell[at] for cell in cells), "little")
+        yield Difference(f"{register.name}.{name}", f"{getattr(register, name):#x}", f"{bits:#x}")
+
+
+class _Bytes:
+    """An image, which is read from front to back (docs/FORMATS.md, section 8)."""
+
+    def __init__(self, image: bytes) -> None:
+        self.image, self.at = image, 0
+
+    def function(self, slot: int) -> Found:
+        self.number(12)  # the format, its version, the latch
+        for _ in range(slot):
+            if self.number(1):
+                _, values = self.declared()
+                self.at += values
+        self.number(1)
+        return self.declared()[0]
+
+    def number(self, width: int) -> int:
+        self.at += width
+        return int.from_bytes(self.image[self.at - width : self.at], "little")
+
+    def cells(self, count: int) -> List[Cell]:
+        return [(self.number(1), self.number(1), self.number(1)) for _ in range(count)]
+
+    def declared(self) -> Tuple[Found, int]:
+        """What is declared of a function, and how many bytes of values come behind it."""
+        found = Found({name: self.number(width) for name, width in IDENTITY.items()}, {}, {})
+        self.number(4)  # Min_Gnt, Max_Lat, Status at reset
+        values = 23
+        for _ in range(self.number(1)):
+            bar, kind = self.number(1), list(KINDS)[self.number(1)]
+            found.bars[bar] = kind, self.number(8)
+            cells = self.cells(self.number(2))
+            found.cells.update({(bar, at): cell for at, cell in enumerate(cells)})
+            values += len(cells) + (8 if KINDS[kind][2] else 4)
+        for _ in range(self.number(1)):
+            first = self.number(1)
+            cells = self.cells(self.number(1))
+            found.cells.update({(None, first + at): cell for at, cell in enumerate(cells)})
+            values += len(cells)
+        return found, values
