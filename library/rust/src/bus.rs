@@ -1,34 +1,22 @@
 //! Accesses in the form in which hypervisors in Rust hand those on that they trapped.
 
+use crate::acting::waits;
 use crate::machine::Machine;
-use crate::place::{At, Guest, Space};
+use crate::place::{At, Guest, Region, Space};
 use std::sync::{Arc, Mutex, MutexGuard, PoisonError};
-
-/// What answers accesses of some bytes at an offset of a range that begins at `base`: the form of the `BusDevice` of
-/// Firecracker and Cloud Hypervisor, and, but for the types of its numbers, of `MutDevicePio` and `MutDeviceMmio` in the
-/// crate `vm-device` of rust-vmm. This crate stands on none of them, so their traits take some lines over it, as below.
-///
-/// A bus has no refusal: what nobody answers reads all ones, and a write that nobody takes is lost.
-pub trait BusDevice: Send {
-    /// Reads as many bytes as `data` has, that at the lowest address first.
-    fn read(&mut self, base: u64, offset: u64, data: &mut [u8]);
-
-    /// Writes the bytes of `data`, the first at the lowest address.
-    fn write(&mut self, base: u64, offset: u64, data: &[u8]);
-}
 
 /// The ports or the memory of a guest, for the bus of a hypervisor. It answers for all regions of all functions of this
 /// guest, so one is put on the bus for each range that [`Machine::region`] tells to be open, and, for ports, for CF8h to
-/// CFFh.
+/// CFFh. It locks the machine for each access, and makes 8 bytes of it at a time.
 ///
 /// ```
 /// # const BOARD: &str = include_str!("board.toml");
-/// use pciguest::{BusDevice, GuestBus, Machine, Space};
+/// use pciguest::{GuestBus, Machine, Space};
 /// use std::sync::{Arc, Mutex};
 ///
 /// let machine = Arc::new(Mutex::new(Machine::new(BOARD)?));
 /// let a = machine.lock().unwrap().guest("a")?;
-/// let mut ports = GuestBus::new(machine, a, Space::Io);
+/// let ports = GuestBus::new(machine, a, Space::Io);
 ///
 /// let mut identity = [0; 4];
 /// ports.write(0xcf8, 0, &[0, 0, 0, 0x80]); // CONFIG_ADDRESS: device 0, register 0
@@ -37,27 +25,30 @@ pub trait BusDevice: Send {
 /// # Ok::<(), pciguest::Error>(())
 /// ```
 ///
-/// A trait of a hypervisor's own is written over it:
+/// A hypervisor implements the trait of its own bus for it. This is that of Firecracker and Cloud Hypervisor:
 ///
 /// ```
-/// # use pciguest::{BusDevice, GuestBus};
-/// # struct MmioAddress(u64);
-/// # trait MutDeviceMmio {
-/// #     fn mmio_read(&mut self, base: MmioAddress, offset: u64, data: &mut [u8]);
-/// #     fn mmio_write(&mut self, base: MmioAddress, offset: u64, data: &[u8]);
+/// # use pciguest::GuestBus;
+/// # use std::sync::{Arc, Barrier};
+/// # trait BusDeviceSync: Send + Sync {
+/// #     fn read(&self, base: u64, offset: u64, data: &mut [u8]);
+/// #     fn write(&self, base: u64, offset: u64, data: &[u8]) -> Option<Arc<Barrier>>;
 /// # }
-/// struct Memory(GuestBus);
-///
-/// impl MutDeviceMmio for Memory {
-///     fn mmio_read(&mut self, base: MmioAddress, offset: u64, data: &mut [u8]) {
-///         self.0.read(base.0, offset, data)
+/// impl BusDeviceSync for GuestBus {
+///     fn read(&self, base: u64, offset: u64, data: &mut [u8]) {
+///         self.read(base, offset, data)
 ///     }
 ///
-///     fn mmio_write(&mut self, base: MmioAddress, offset: u64, data: &[u8]) {
-///         self.0.write(base.0, offset, data)
+///     fn write(&self, base: u64, offset: u64, data: &[u8]) -> Option<Arc<Barrier>> {
+///         self.write(base, offset, data);
+///         None // it is done: there is nothing for the processor to wait at
 ///     }
 /// }
 /// ```
+///
+/// # Panics
+///
+/// A [`DeviceModel`](crate::DeviceModel) of the same machine makes the access: the machine waits until it has acted.
 #[derive(Clone, Debug)]
 pub struct GuestBus {
     machine: Arc<Mutex<Machine>>,
@@ -75,6 +66,25 @@ impl GuestBus {
         }
     }
 
+    /// Reads as many bytes as `data` has, at an offset of a range that begins at `base`, that at the lowest address first. What
+    /// nobody answers reads all ones.
+    pub fn read(&self, base: u64, offset: u64, data: &mut [u8]) {
+        let mut machine = locked(&self.machine);
+        for (count, part) in data.chunks_mut(8).enumerate() {
+            let at = self.place(base, offset, 8 * count);
+            read_part(&mut machine, self.guest, at, part);
+        }
+    }
+
+    /// Writes the bytes of `data` so, the first at the lowest address. What nobody takes is lost.
+    pub fn write(&self, base: u64, offset: u64, data: &[u8]) {
+        let mut machine = locked(&self.machine);
+        for (count, part) in data.chunks(8).enumerate() {
+            let at = self.place(base, offset, 8 * count);
+            write_part(&mut machine, self.guest, at, part);
+        }
+    }
+
     /// A place in its space, unless it is past the end of all addresses.
     fn place(&self, base: u64, offset: u64, done: usize) -> Option<At> {
         let place = base.checked_add(offset)?.checked_add(done as u64)?;
@@ -85,26 +95,20 @@ impl GuestBus {
     }
 }
 
-impl BusDevice for GuestBus {
-    fn read(&mut self, base: u64, offset: u64, data: &mut [u8]) {
-        let mut machine = locked(&self.machine);
-        for (count, part) in data.chunks_mut(8).enumerate() {
-            let at = self.place(base, offset, 8 * count);
-            read_part(&mut machine, self.guest, at, part);
-        }
-    }
-
-    fn write(&mut self, base: u64, offset: u64, data: &[u8]) {
-        let mut machine = locked(&self.machine);
-        for (count, part) in data.chunks(8).enumerate() {
-            let at = self.place(base, offset, 8 * count);
-            write_part(&mut machine, self.guest, at, part);
-        }
-    }
+/// A region that a write of configuration space moved, opened or closed, in the guest's own view.
+#[derive(Clone, Copy, Debug, PartialEq, Eq)]
+pub struct RegionMove {
+    /// Its first base address register, 0 to 5.
+    pub register: u32,
+    /// Where it stood.
+    pub before: Region,
+    /// Where it stands.
+    pub now: Region,
 }
 
 /// The configuration space of the function in a slot of a guest, by registers of 4 bytes, for a hypervisor that has its
-/// own CONFIG_ADDRESS or memory for configuration: the form of the `PciDevice` of Firecracker and Cloud Hypervisor.
+/// own CONFIG_ADDRESS or memory for configuration: what the `PciDevice` of Firecracker and Cloud Hypervisor asks of it. It
+/// locks the machine for each access, and panics as a [`GuestBus`] does.
 ///
 /// ```
 /// # const BOARD: &str = include_str!("board.toml");
@@ -113,11 +117,59 @@ impl BusDevice for GuestBus {
 ///
 /// let machine = Arc::new(Mutex::new(Machine::new(BOARD)?));
 /// let a = machine.lock().unwrap().guest("a")?;
-/// let mut config = SlotConfig::new(machine, a, 0);
+/// let config = SlotConfig::new(machine, a, 0);
 /// assert_eq!(config.read_config_register(0), 0x0001_1234);
-/// config.write_config_register(1, 0, &[2, 0]); // memory on
-/// assert_eq!(config.read_config_register(1) & 0xffff, 2);
+/// assert_eq!(config.write_config_register(1, 0, &[2, 0])[0].now.is_open, true); // memory on
+/// let moved = config.write_config_register(4, 0, &0xe000_0000u32.to_le_bytes());
+/// assert_eq!((moved[0].before.first, moved[0].now.first), (0, 0xe000_0000));
 /// # Ok::<(), pciguest::Error>(())
+/// ```
+///
+/// The trait of Cloud Hypervisor takes moves and a barrier from a write, and a hypervisor's own allocator in what is left out
+/// here:
+///
+/// ```
+/// # use pciguest::{GuestBus, SlotConfig};
+/// # use std::sync::{Arc, Barrier};
+/// # struct BarReprogrammingParams { old_base: u64, new_base: u64, len: u64 }
+/// # trait PciDevice: Send {
+/// #     fn write_config_register(&mut self, reg_idx: usize, offset: u64, data: &[u8])
+/// #         -> (Vec<BarReprogrammingParams>, Option<Arc<Barrier>>);
+/// #     fn read_config_register(&mut self, reg_idx: usize) -> u32;
+/// #     fn read_bar(&mut self, base: u64, offset: u64, data: &mut [u8]);
+/// #     fn write_bar(&mut self, base: u64, offset: u64, data: &[u8]) -> Option<Arc<Barrier>>;
+/// # }
+/// struct Function {
+///     config: SlotConfig,
+///     memory: GuestBus,
+/// }
+///
+/// impl PciDevice for Function {
+///     fn write_config_register(&mut self, reg_idx: usize, offset: u64, data: &[u8])
+///         -> (Vec<BarReprogrammingParams>, Option<Arc<Barrier>>)
+///     {
+///         let moved = self.config.write_config_register(reg_idx, offset, data).into_iter();
+///         let moved = moved.filter(|it| it.before.first != it.now.first).map(|it| BarReprogrammingParams {
+///             old_base: it.before.first,
+///             new_base: it.now.first,
+///             len: it.now.size,
+///         });
+///         (moved.collect(), None)
+///     }
+///
+///     fn read_config_register(&mut self, reg_idx: usize) -> u32 {
+///         self.config.read_config_register(reg_idx)
+///     }
+///
+///     fn read_bar(&mut self, base: u64, offset: u64, data: &mut [u8]) {
+///         self.memory.read(base, offset, data)
+///     }
+///
+///     fn write_bar(&mut self, base: u64, offset: u64, data: &[u8]) -> Option<Arc<Barrier>> {
+///         self.memory.write(base, offset, data);
+///         None
+///     }
+/// }
 /// ```
 #[derive(Clone, Debug)]
 pub struct SlotConfig {
@@ -137,17 +189,39 @@ impl SlotConfig {
     }
 
     /// Reads the register at an index, 0 to 63: all ones where the slot is empty or there is no such register.
-    pub fn read_config_register(&mut self, index: usize) -> u32 {
+    pub fn read_config_register(&self, index: usize) -> u32 {
         let mut data = [0; 4];
         let at = self.place(index, 0);
         read_part(&mut locked(&self.machine), self.guest, at, &mut data);
         u32::from_le_bytes(data)
     }
 
-    /// Writes 1 to 4 bytes at an offset of this register.
-    pub fn write_config_register(&mut self, index: usize, offset: u64, data: &[u8]) {
+    /// Writes 1 to 4 bytes at an offset of this register, and gives the regions of the function that stand elsewhere, or are
+    /// open or closed, since.
+    pub fn write_config_register(&self, index: usize, offset: u64, data: &[u8]) -> Vec<RegionMove> {
         let at = self.place(index, offset);
-        write_part(&mut locked(&self.machine), self.guest, at, data);
+        let mut machine = locked(&self.machine);
+        let (count, before) = (machine.changed(self.guest), self.regions(&mut machine));
+        write_part(&mut machine, self.guest, at, data);
+        if machine.changed(self.guest) == count {
+            return Vec::new();
+        }
+        let now = self.regions(&mut machine);
+        let both = before.into_iter().zip(now).zip(0..);
+        both.filter_map(|((before, now), register)| {
+            let (before, now) = (before?, now?);
+            (before != now).then_some(RegionMove {
+                register,
+                before,
+                now,
+            })
+        })
+        .collect()
+    }
+
+    /// Where the regions of the function stand, by their first base address registers.
+    fn regions(&self, machine: &mut Machine) -> [Option<Region>; 6] {
+        [0, 1, 2, 3, 4, 5].map(|register| machine.region(self.guest, self.slot, register).ok())
     }
 
     fn place(&self, index: usize, offset: u64) -> Option<At> {
@@ -158,7 +232,16 @@ impl SlotConfig {
 }
 
 /// The machine, also where a thread ended in the middle of what it did with it: no call leaves it halfway.
+///
+/// # Panics
+///
+/// A device of this machine acts on this thread, for which the machine waits.
 fn locked(machine: &Mutex<Machine>) -> MutexGuard<'_, Machine> {
+    let is_waiting = waits(machine);
+    assert!(
+        !is_waiting,
+        "a device calls a bus of its own machine, which waits until the device has acted"
+    );
     machine.lock().unwrap_or_else(PoisonError::into_inner)
 }
 

@@ -1,16 +1,16 @@
 //! What a device declares: identity, regions and registers, and the endpoint of a board file that says the same.
 
-use crate::place::{Part, Space};
+use crate::place::Part;
 use std::fmt::Write;
 
 /// The patterns of a block in a board file, each with the bits that a register has in it.
-const PATTERNS: [(&str, BitsOf); 3] = [
+pub(crate) const PATTERNS: [(&str, BitsOf); 3] = [
     ("reset", |it| it.reset),
     ("rw", |it| it.rw),
     ("w1c", |it| it.w1c),
 ];
 
-type BitsOf = fn(&Register) -> u64;
+pub(crate) type BitsOf = fn(&Register) -> u64;
 
 /// The kind of a region, as board files have it.
 #[derive(Clone, Copy, Debug, PartialEq, Eq)]
@@ -29,25 +29,14 @@ pub enum Kind {
 
 impl Kind {
     /// The word of board files.
-    fn word(self) -> &'static str {
-        match self {
-            Kind::Io => "io",
-            Kind::Mem32 => "mem32",
-            Kind::Mem32p => "mem32p",
-            Kind::Mem64 => "mem64",
-            Kind::Mem64p => "mem64p",
-        }
+    pub(crate) fn word(self) -> &'static str {
+        Kind::word_of(self as u8)
     }
 
-    /// Its space, whether it is prefetchable, and whether it has 64 bits.
-    pub(crate) fn is(self) -> (Space, bool, bool) {
-        match self {
-            Kind::Io => (Space::Io, false, false),
-            Kind::Mem32 => (Space::Memory, false, false),
-            Kind::Mem32p => (Space::Memory, true, false),
-            Kind::Mem64 => (Space::Memory, false, true),
-            Kind::Mem64p => (Space::Memory, true, true),
-        }
+    /// The word of a kind by its number in images.
+    pub(crate) fn word_of(number: u8) -> &'static str {
+        let words = ["io", "mem32", "mem32p", "mem64", "mem64p"];
+        words[usize::from(number.min(4))]
     }
 }
 
@@ -130,6 +119,14 @@ impl Register {
         self.is_touched(other.part, other.offset, other.width)
     }
 
+    /// Where it stands: configuration space before regions, and then by its offset.
+    pub(crate) fn place(&self) -> (Option<u8>, u64) {
+        match self.part {
+            Part::Config => (None, self.offset),
+            Part::Region(at) => (Some(at), self.offset),
+        }
+    }
+
     /// All ones, as many as it has bits.
     pub(crate) fn all_ones(&self) -> u64 {
         u64::MAX >> (64 - 8 * self.width)
@@ -151,8 +148,8 @@ impl Register {
 /// ```
 #[derive(Clone, Debug, PartialEq, Eq)]
 pub struct Declaration {
-    pub(crate) vendor_id: u16,
-    pub(crate) device_id: u16,
+    vendor_id: u16,
+    device_id: u16,
     class_code: u32,
     revision_id: u8,
     subsystem: (u16, u16),
@@ -236,6 +233,20 @@ impl Declaration {
         assert!(other.is_none(), "{register:x?} meets {other:x?}");
         self.registers.push(register);
         self
+    }
+
+    /// Vendor ID, Device ID, Revision ID, class code, Subsystem Vendor ID, Subsystem ID and interrupt pin.
+    pub(crate) fn identity(&self) -> [u64; 7] {
+        let (subvendor, subsystem) = self.subsystem;
+        [
+            self.vendor_id.into(),
+            self.device_id.into(),
+            self.revision_id.into(),
+            self.class_code.into(),
+            subvendor.into(),
+            subsystem.into(),
+            self.interrupt_pin.into(),
+        ]
     }
 
     /// The endpoint of a board file that has this declaration, at a path: its identity, its regions, and the patterns of

@@ -1,13 +1,10 @@
 //! Devices: what stands behind a function's registers, and acts when its driver writes or reads them.
 
 use crate::declared::{Declaration, Register};
-use crate::error::{answered, Error};
-use crate::function::{Function, Ranges};
-use crate::machine::Machine;
-use crate::place::{At, Guest, Hit};
-use crate::raw::{self, Handle, ARGUMENT};
+use crate::place::Guest;
+use crate::raw::{self, Handle};
 use std::fmt;
-use std::sync::{Arc, Mutex, PoisonError};
+use std::sync::{Arc, Mutex, MutexGuard, PoisonError};
 
 /// A device model: it declares the function's identity, its regions and its registers, and says what happens when its
 /// driver writes or reads one. [`Declaration::endpoint`] makes the endpoint of a board file of the same declaration, and
@@ -55,8 +52,12 @@ use std::sync::{Arc, Mutex, PoisonError};
 /// # Ok::<(), Box<dyn std::error::Error>>(())
 /// ```
 ///
-/// What a device has to keep over a move or a reset stays in its fields; the registers are at reset then. A device that
-/// others use too is attached as an `Arc<Mutex<_>>`.
+/// One access of a guest is one call for each register that it touches, with all that it wrote there, however many cycles of
+/// the bus it takes. After a reset, a move or a load the registers hold what the machine made of them when the device is told;
+/// what a device keeps in its own fields is its own to clear. Its machine waits until it has acted: a device that calls a bus of
+/// its own machine ([`GuestBus`](crate::GuestBus), [`SlotConfig`](crate::SlotConfig)) would wait for itself, and panics.
+///
+/// A device that others use too is attached as an `Arc<Mutex<_>>`.
 pub trait DeviceModel: Send {
     /// What it declares, the same each time.
     fn declaration(&self) -> Declaration;
@@ -71,33 +72,98 @@ pub trait DeviceModel: Send {
     fn before_read(&mut self, registers: &mut Registers<'_>, register: Register) {
         let _ = (registers, register);
     }
+
+    /// Its function was reset where it is, by [`Machine::reset`](crate::Machine::reset) or
+    /// [`reset_guest`](crate::Machine::reset_guest).
+    fn on_reset(&mut self, registers: &mut Registers<'_>) {
+        let _ = registers;
+    }
+
+    /// Its function came from a slot of a guest to another, by a call or a line, and is at reset: a reset, unless it is said.
+    fn on_move(&mut self, registers: &mut Registers<'_>, from: Guest, slot: u64) {
+        let _ = (from, slot);
+        self.on_reset(registers);
+    }
+
+    /// Its function, which no guest had, was given to one, and is at reset: a reset, unless it is said.
+    fn on_give(&mut self, registers: &mut Registers<'_>) {
+        self.on_reset(registers);
+    }
+
+    /// Its function was taken from its guest, and no guest has it.
+    fn on_take(&mut self) {}
+
+    /// An image was loaded, which its registers hold; its function may have another guest or slot than before.
+    fn on_load(&mut self, registers: &mut Registers<'_>) {
+        let _ = registers;
+    }
+
+    /// What it keeps beside its registers, to stand beside an image: nothing, unless it is said.
+    fn save_state(&self) -> Vec<u8> {
+        Vec::new()
+    }
+
+    /// Keeps what was saved so, and tells whether it could be that; else it stays as it is. The image is loaded before.
+    fn load_state(&mut self, registers: &mut Registers<'_>, state: &[u8]) -> bool {
+        let _ = registers;
+        state.is_empty()
+    }
+}
+
+/// The device, also where a thread ended in the middle of what it did with it.
+fn locked<D>(device: &Mutex<D>) -> MutexGuard<'_, D> {
+    device.lock().unwrap_or_else(PoisonError::into_inner)
 }
 
 impl<D: DeviceModel> DeviceModel for Arc<Mutex<D>> {
     fn declaration(&self) -> Declaration {
-        self.lock()
-            .unwrap_or_else(PoisonError::into_inner)
-            .declaration()
+        locked(self).declaration()
     }
 
     fn on_write(&mut self, registers: &mut Registers<'_>, register: Register, value: u64) {
-        let mut device = self.lock().unwrap_or_else(PoisonError::into_inner);
-        device.on_write(registers, register, value)
+        locked(self).on_write(registers, register, value)
     }
 
     fn before_read(&mut self, registers: &mut Registers<'_>, register: Register) {
-        let mut device = self.lock().unwrap_or_else(PoisonError::into_inner);
-        device.before_read(registers, register)
+        locked(self).before_read(registers, register)
+    }
+
+    fn on_reset(&mut self, registers: &mut Registers<'_>) {
+        locked(self).on_reset(registers)
+    }
+
+    fn on_move(&mut self, registers: &mut Registers<'_>, from: Guest, slot: u64) {
+        locked(self).on_move(registers, from, slot)
+    }
+
+    fn on_give(&mut self, registers: &mut Registers<'_>) {
+        locked(self).on_give(registers)
+    }
+
+    fn on_take(&mut self) {
+        locked(self).on_take()
+    }
+
+    fn on_load(&mut self, registers: &mut Registers<'_>) {
+        locked(self).on_load(registers)
+    }
+
+    fn save_state(&self) -> Vec<u8> {
+        locked(self).save_state()
+    }
+
+    fn load_state(&mut self, registers: &mut Registers<'_>, state: &[u8]) -> bool {
+        locked(self).load_state(registers, state)
     }
 }
 
 /// The registers of a device that acts: reading and setting one is what the device does, whatever its driver may change of
 /// it.
 pub struct Registers<'a> {
-    handle: &'a mut Handle,
-    guest: Guest,
-    slot: u64,
-    declared: &'a [Register],
+    pub(crate) handle: &'a mut Handle,
+    pub(crate) guest: Guest,
+    pub(crate) slot: u64,
+    pub(crate) declared: &'a [Register],
 }
 
 impl Registers<'_> {
@@ -117,23 +183,22 @@ impl Registers<'_> {
     ///
     /// The device declares no such register.
     pub fn get(&mut self, register: Register) -> u64 {
-        let bytes = self.offsets(register).enumerate();
-        bytes.fold(0, |all, (byte, offset)| {
-            let mut value = 0;
-            // SAFETY: `value` is a place of its own.
-            let answer = unsafe {
-                raw::pciguest_device_read(
-                    self.handle,
-                    self.guest.index(),
-                    self.slot,
-                    register.part.number(),
-                    offset,
-                    &mut value,
-                )
-            };
-            debug_assert_eq!(answer, 0, "a declared register is there");
-            all | u64::from(value) << (8 * byte)
-        })
+        self.has(register);
+        let mut value = 0;
+        // SAFETY: `value` is a place of its own.
+        let answer = unsafe {
+            raw::pciguest_device_read_wide(
+                self.handle,
+                self.guest.index(),
+                self.slot,
+                register.part.number(),
+                register.offset,
+                register.width as u32,
+                &mut value,
+            )
+        };
+        debug_assert_eq!(answer, 0, "a declared register is there");
+        value
     }
 
     /// Sets a register to the low bytes of a value.
@@ -142,219 +207,30 @@ impl Registers<'_> {
     ///
     /// The device declares no such register.
     pub fn set(&mut self, register: Register, value: u64) {
-        for (offset, byte) in self.offsets(register).zip(value.to_le_bytes()) {
-            // SAFETY: no pointer but the handle is passed.
-            let answer = unsafe {
-                raw::pciguest_device_write(
-                    self.handle,
-                    self.guest.index(),
-                    self.slot,
-                    register.part.number(),
-                    offset,
-                    byte,
-                )
-            };
-            debug_assert_eq!(answer, 0, "a declared register is there");
-        }
+        self.has(register);
+        // SAFETY: no pointer but the handle is passed.
+        let answer = unsafe {
+            raw::pciguest_device_write_wide(
+                self.handle,
+                self.guest.index(),
+                self.slot,
+                register.part.number(),
+                register.offset,
+                register.width as u32,
+                value & register.all_ones(),
+            )
+        };
+        debug_assert_eq!(answer, 0, "a declared register is there");
     }
 
-    /// The offsets of the bytes of a register.
-    fn offsets(&self, register: Register) -> std::ops::Range<u64> {
+    fn has(&self, register: Register) {
         let is_declared = self.declared.contains(&register);
         assert!(is_declared, "the device declares no {register:x?}");
-        register.offset..register.offset + register.width
     }
 }
 
 impl fmt::Debug for Registers<'_> {
     fn fmt(&self, f: &mut fmt::Formatter<'_>) -> fmt::Result {
         f.debug_list().entries(self.declared).finish()
-    }
-}
-
-/// Why a device is not attached.
-#[derive(Clone, Copy, Debug, PartialEq, Eq)]
-pub enum NotAttached {
-    /// 303: the slot is above 31. 601: the slot is empty. 902: there is no such guest.
-    Refused(Error),
-    /// The function has another identity or other regions than the device declares.
-    DeclaredOtherwise,
-    /// The function has a device.
-    Taken,
-}
-
-impl fmt::Display for NotAttached {
-    fn fmt(&self, f: &mut fmt::Formatter<'_>) -> fmt::Result {
-        match self {
-            NotAttached::Refused(error) => error.fmt(f),
-            NotAttached::DeclaredOtherwise => {
-                f.write_str("the function is not as the device declares it")
-            }
-            NotAttached::Taken => f.write_str("the function has a device"),
-        }
-    }
-}
-
-impl std::error::Error for NotAttached {}
-
-impl From<Error> for NotAttached {
-    fn from(error: Error) -> NotAttached {
-        NotAttached::Refused(error)
-    }
-}
-
-/// Whether a function has the identity and the regions of a declaration.
-fn is_declared(function: &Function, declared: &Declaration) -> bool {
-    let Ranges::Regions(regions) = &function.ranges else {
-        return false;
-    };
-    let identity = (declared.vendor_id, declared.device_id);
-    let found = regions.map(|bar| bar.map(|it| (it.size, it.space, it.prefetchable, it.is_64_bit)));
-    let wanted = declared.regions.map(|region| {
-        region.map(|(kind, size)| {
-            let (space, prefetchable, is_64_bit) = kind.is();
-            (size, space, prefetchable, is_64_bit)
-        })
-    });
-    (function.vendor_id, function.device_id) == identity && found == wanted
-}
-
-/// A device with its function.
-pub(crate) struct Attached {
-    path: String,
-    registers: Vec<Register>,
-    model: Box<dyn DeviceModel>,
-}
-
-/// What an access of a driver touches of a device: bytes of a part of the function in a slot.
-pub(crate) struct Touch {
-    device: usize,
-    guest: Guest,
-    hit: Hit,
-    width: u64,
-}
-
-impl Machine {
-    /// Lets a device act behind the function in a slot of a guest, from here on and wherever the function goes: each
-    /// access of a guest, by calls or by a line, tells the device which registers it touches. An access that is refused
-    /// tells it nothing. The example stands at [`DeviceModel`].
-    ///
-    /// # Errors
-    ///
-    /// The function has to be as the device declares it, and has no other device.
-    pub fn attach(
-        &mut self,
-        guest: Guest,
-        slot: u64,
-        device: impl DeviceModel + 'static,
-    ) -> Result<(), NotAttached> {
-        let function = self.slot_function(guest, slot)?;
-        if self.devices.iter().any(|it| it.path == function.path) {
-            return Err(NotAttached::Taken);
-        }
-        let declared = device.declaration();
-        if !is_declared(&function, &declared) {
-            return Err(NotAttached::DeclaredOtherwise);
-        }
-        self.devices.push(Attached {
-            path: function.path,
-            registers: declared.registers,
-            model: Box::new(device),
-        });
-        Ok(())
-    }
-
-    /// The registers of the device that is attached to the function in a slot of a guest, as the device reads and sets
-    /// them at any time.
-    ///
-    /// # Errors
-    ///
-    /// 303: the slot is above 31. 601: the slot is empty. 902: there is no such guest, or the function has no device.
-    pub fn registers(&mut self, guest: Guest, slot: u64) -> Result<Registers<'_>, Error> {
-        let path = self.slot_function(guest, slot)?.path;
-        let Machine { handle, devices } = self;
-        let Some(found) = devices.iter().find(|it| it.path == path) else {
-            return Err(answered(ARGUMENT).expect_err("a refusal"));
-        };
-        Ok(Registers {
-            handle,
-            guest,
-            slot,
-            declared: &found.registers,
-        })
-    }
-
-    /// What an access touches of a device, if it touches one.
-    pub(crate) fn touch(&mut self, guest: Guest, at: At, width: u32) -> Option<Touch> {
-        if self.devices.is_empty() || (at, width) == (At::Io { port: 0xcf8 }, 4) {
-            return None;
-        }
-        let hit = self.locate(guest, at).ok()??;
-        let path = self.slot_function(guest, hit.slot).ok()?.path;
-        let device = self.devices.iter().position(|it| it.path == path)?;
-        let width = u64::from(width);
-        Some(Touch {
-            device,
-            guest,
-            hit,
-            width,
-        })
-    }
-
-    /// Tells the device what is about to be read, if any register is.
-    pub(crate) fn tell_read(&mut self, touch: &Touch) -> bool {
-        let Machine { handle, devices } = self;
-        let Attached {
-            registers, model, ..
-        } = &mut devices[touch.device];
-        let touched = touch.registers(registers);
-        for &register in &touched {
-            model.before_read(&mut touch.lent(handle, registers), register);
-        }
-        !touched.is_empty()
-    }
-
-    /// Tells the device what was written into each register.
-    pub(crate) fn tell_written(&mut self, touch: &Touch, value: u32) {
-        let Machine { handle, devices } = self;
-        let Attached {
-            registers, model, ..
-        } = &mut devices[touch.device];
-        for register in touch.registers(registers) {
-            let mut lent = touch.lent(handle, registers);
-            let value = touch.value_in(register, lent.get(register), value);
-            model.on_write(&mut lent, register, value);
-        }
-    }
-}
-
-impl Touch {
-    /// The registers of which a byte is touched.
-    fn registers(&self, declared: &[Register]) -> Vec<Register> {
-        let Hit { part, offset, .. } = self.hit;
-        let all = declared.iter().copied();
-        all.filter(|it| it.is_touched(part, offset, self.width))
-            .collect()
-    }
-
-    /// The registers, lent to the device.
-    fn lent<'a>(&self, handle: &'a mut Handle, declared: &'a [Register]) -> Registers<'a> {
-        Registers {
-            handle,
-            guest: self.guest,
-            slot: self.hit.slot,
-            declared,
-        }
-    }
-
-    /// What an access wrote into a register: its bytes at their places, and else what the register holds.
-    fn value_in(&self, register: Register, holds: u64, value: u32) -> u64 {
-        let all = u64::MAX >> (64 - 8 * self.width);
-        let moved = |bits: u64| match self.hit.offset.checked_sub(register.offset) {
-            Some(up) => bits << (8 * up),
-            None => bits >> (8 * (register.offset - self.hit.offset)),
-        };
-        let mask = moved(all) & register.all_ones();
-        holds & !mask | moved(u64::from(value) & all) & mask
     }
 }

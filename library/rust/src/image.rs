@@ -29,8 +29,8 @@ impl Machine {
 
     /// Saves a guest: its image, which is all that the guest holds. That is its CONFIG_ADDRESS, and of each of its 32 slots
     /// what is declared of the function and what the guest's registers hold; nothing of the board, of other guests or of
-    /// where its functions stand. `docs/FORMATS.md`, section 8, has the bytes. What a [`DeviceModel`](crate::DeviceModel)
-    /// keeps beside its registers is the program's to save. The machine stays as it is. 902: there is no such guest.
+    /// where its functions stand. `docs/FORMATS.md`, section 8, has the bytes, and [`Machine::save_state`] what a device keeps
+    /// beside its registers. The machine stays as it is. 902: there is no such guest.
     ///
     /// ```
     /// # const BOARD: &str = include_str!("board.toml");
@@ -61,8 +61,8 @@ impl Machine {
 
     /// Loads an image into a guest, which then holds what the image says: what the guest that was saved held. Each of its
     /// slots has to be filled or empty as there, and its functions declared as there; they may stand elsewhere, on another
-    /// board, and the machine of the image isn't needed any more. Other guests can't tell. A
-    /// [`DeviceModel`](crate::DeviceModel) isn't told of it; its registers are as they were saved.
+    /// board, and the machine of the image isn't needed any more. Other guests can't tell. The
+    /// guest's devices are told of it ([`DeviceModel::on_load`](crate::DeviceModel::on_load)).
     ///
     /// # Errors
     ///
@@ -89,7 +89,12 @@ impl Machine {
         // SAFETY: `image` has as many bytes as is said, and nothing overlaps.
         answered(unsafe {
             raw::pciguest_load(&mut self.handle, guest.index(), image.as_ptr(), image.len())
-        })
+        })?;
+        self.tell(
+            |(of, _)| of == guest,
+            |model, registers| model.on_load(registers),
+        );
+        Ok(())
     }
 
     /// How many bytes the image of the whole machine has, which [`Machine::save_all`] gives. It stays as long as guests have the
@@ -112,8 +117,7 @@ impl Machine {
 
     /// Saves the whole machine: its image, which is who has which function of the board in which slot, what each guest holds,
     /// and the board as the host reads it, but for what guests made of functions in slots. `docs/FORMATS.md`, section 8, has
-    /// the bytes. What a [`DeviceModel`](crate::DeviceModel) keeps beside its registers is the program's to save. The machine
-    /// stays as it is.
+    /// the bytes, and [`Machine::save_state`] what a device keeps beside its registers. The machine stays as it is.
     ///
     /// ```
     /// # const BOARD: &str = include_str!("board.toml");
@@ -142,7 +146,7 @@ impl Machine {
     /// Loads an image into the whole machine: each slot then has the function that it had in the machine that was saved, and
     /// each guest holds what that guest held. The board is an equal one, set up alike, and its guests have the same names in
     /// the same order; where their functions sit now, and what they hold, doesn't matter. The machine of the image isn't
-    /// needed any more. A [`DeviceModel`](crate::DeviceModel) isn't told of it; its registers are as they were saved.
+    /// needed any more. Devices are told of it ([`DeviceModel::on_load`](crate::DeviceModel::on_load)).
     ///
     /// # Errors
     ///
@@ -170,7 +174,9 @@ impl Machine {
     pub fn load_all(&mut self, image: impl AsRef<[u8]>) -> Result<(), Error> {
         let image = image.as_ref();
         // SAFETY: `image` has as many bytes as is said, and nothing overlaps.
-        answered(unsafe { raw::pciguest_load_all(&mut self.handle, image.as_ptr(), image.len()) })
+        answered(unsafe { raw::pciguest_load_all(&mut self.handle, image.as_ptr(), image.len()) })?;
+        self.tell_loaded();
+        Ok(())
     }
 
     /// Resets every function of a guest, each where it is, and the guest's own CONFIG_ADDRESS: nothing is carried over. 902:
@@ -188,6 +194,11 @@ impl Machine {
     /// ```
     pub fn reset_guest(&mut self, guest: Guest) -> Result<(), Error> {
         // SAFETY: no pointer but the handle is passed.
-        answered(unsafe { raw::pciguest_reset_guest(&mut self.handle, guest.index()) })
+        answered(unsafe { raw::pciguest_reset_guest(&mut self.handle, guest.index()) })?;
+        self.tell(
+            |(of, _)| of == guest,
+            |model, registers| model.on_reset(registers),
+        );
+        Ok(())
     }
 }

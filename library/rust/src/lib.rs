@@ -43,10 +43,13 @@
 
 #![warn(missing_docs)]
 
+mod acting;
+mod attached;
 mod board;
 mod bus;
 mod declared;
 mod device;
+mod differs;
 mod error;
 mod function;
 mod image;
@@ -56,12 +59,15 @@ mod machine;
 mod place;
 mod raw;
 mod text;
+mod touch;
 mod wide;
 
+pub use attached::NotAttached;
 pub use board::{Audit, Board, NotGiven, Readiness};
-pub use bus::{BusDevice, GuestBus, SlotConfig};
+pub use bus::{GuestBus, RegionMove, SlotConfig};
 pub use declared::{Declaration, Kind, Register};
-pub use device::{DeviceModel, NotAttached, Registers};
+pub use device::{DeviceModel, Registers};
+pub use differs::Difference;
 pub use error::{Error, Refusal};
 pub use function::{Bar, BoardFunction, BoardProblem, Function, Functions, Ranges, Window};
 pub use machine::Machine;

@@ -1,11 +1,12 @@
 //! A board that is set up, with its guests.
 
-use crate::device::Attached;
+use crate::attached::Attached;
 use crate::error::{answered, Error};
 use crate::lines::{asked_by, Asked};
 use crate::place::{At, Guest, Hit, HostAt, Part, Region};
 use crate::raw::{self, Handle};
 use crate::text::{reply_to, told};
+use crate::touch::Touch;
 use std::fmt;
 use std::ptr::null_mut;
 
@@ -146,15 +147,13 @@ impl Machine {
     /// # Ok::<(), pciguest::Error>(())
     /// ```
     pub fn read(&mut self, guest: Guest, at: At, width: u32) -> Result<u32, Error> {
-        let value = self.read_alone(guest, at, width)?;
-        match self.touch(guest, at, width) {
-            Some(touch) if self.tell_read(&touch) => self.read_alone(guest, at, width),
-            _ => Ok(value),
-        }
+        self.read_and_tell((guest, at, width), |machine| {
+            machine.read_alone(guest, at, width)
+        })
     }
 
     /// Reads so, and tells no device.
-    fn read_alone(&mut self, guest: Guest, at: At, width: u32) -> Result<u32, Error> {
+    pub(crate) fn read_alone(&mut self, guest: Guest, at: At, width: u32) -> Result<u32, Error> {
         let (space, slot, place) = at.parts();
         let mut value = 0;
         // SAFETY: `value` is a place of its own.
@@ -188,8 +187,21 @@ impl Machine {
     /// # Ok::<(), pciguest::Error>(())
     /// ```
     pub fn write(&mut self, guest: Guest, at: At, width: u32, value: u32) -> Result<(), Error> {
+        let touch = self.write_alone(guest, at, width, value)?;
+        self.tell_written(touch);
+        Ok(())
+    }
+
+    /// Writes so, and gives what it touches of a device, which is told once the whole access is done.
+    pub(crate) fn write_alone(
+        &mut self,
+        guest: Guest,
+        at: At,
+        width: u32,
+        value: u32,
+    ) -> Result<Option<Touch>, Error> {
         let (space, slot, place) = at.parts();
-        let touch = self.touch(guest, at, width);
+        let touch = self.touch(guest, at, width, value);
         // SAFETY: no pointer but the handle is passed.
         answered(unsafe {
             raw::pciguest_write(
@@ -202,10 +214,7 @@ impl Machine {
                 value,
             )
         })?;
-        if let Some(touch) = touch {
-            self.tell_written(&touch, value);
-        }
-        Ok(())
+        Ok(touch)
     }
 
     /// Sets bits of one byte of the function in a guest's slot, as its device does. Only bits that writing a one clears
@@ -312,7 +321,9 @@ impl Machine {
         // SAFETY: no pointer but the handle is passed.
         answered(unsafe {
             raw::pciguest_move(&mut self.handle, from.index(), slot, to.index(), target)
-        })
+        })?;
+        self.tell_moved();
+        Ok(())
     }
 
     /// Resets the function in a guest's slot, where it is: nothing is carried over, as in a move.
@@ -335,7 +346,12 @@ impl Machine {
     /// ```
     pub fn reset(&mut self, guest: Guest, slot: u64) -> Result<(), Error> {
         // SAFETY: no pointer but the handle is passed.
-        answered(unsafe { raw::pciguest_reset(&mut self.handle, guest.index(), slot) })
+        answered(unsafe { raw::pciguest_reset(&mut self.handle, guest.index(), slot) })?;
+        self.tell(
+            |seat| seat == (guest, slot),
+            |model, registers| model.on_reset(registers),
+        );
+        Ok(())
     }
 
     /// Gives the function at a path, which no guest has, to a guest, into an empty slot: there and on the board it is
@@ -366,7 +382,9 @@ impl Machine {
                 guest.index(),
                 slot,
             )
-        })
+        })?;
+        self.tell_moved();
+        Ok(())
     }
 
     /// Takes the function in a guest's slot from this guest: the slot is then empty, and no guest has the function,
@@ -385,7 +403,9 @@ impl Machine {
     /// ```
     pub fn take(&mut self, guest: Guest, slot: u64) -> Result<(), Error> {
         // SAFETY: no pointer but the handle is passed.
-        answered(unsafe { raw::pciguest_take(&mut self.handle, guest.index(), slot) })
+        answered(unsafe { raw::pciguest_take(&mut self.handle, guest.index(), slot) })?;
+        self.tell_moved();
+        Ok(())
     }
 
     /// Reads one byte of the function in a guest's slot, as its device does: of a region, or of configuration space
@@ -692,18 +712,24 @@ impl Machine {
     pub fn run_line(&mut self, line: impl AsRef<[u8]>) -> Result<Option<String>, Error> {
         let line = line.as_ref();
         let found = self.asked(line);
-        let touch = found.and_then(|asked| self.touch(asked.guest, asked.at, asked.width));
+        let written =
+            found.and_then(|asked| self.touch(asked.guest, asked.at, asked.width, asked.written?));
         let reply = self.run_alone(line)?;
-        let is_done = reply
+        if reply
             .as_ref()
-            .map_or(false, |text| !text.contains(" refused "));
-        match (found, touch) {
-            (Some(asked), Some(touch)) if is_done => match asked.written {
-                Some(value) => self.tell_written(&touch, value),
-                None if self.tell_read(&touch) => return self.run_alone(line),
-                None => {}
-            },
-            _ => {}
+            .map_or(true, |text| text.contains(" refused "))
+        {
+            return Ok(reply);
+        }
+        match found {
+            Some(Asked {
+                guest,
+                at,
+                width,
+                written: None,
+            }) if self.tell_read(guest, at, width) => return self.run_alone(line),
+            Some(_) => self.tell_written(written),
+            None => self.tell_moved(),
         }
         Ok(reply)
     }

@@ -8,7 +8,7 @@ use crate::raw::{self, BAD_WIDTH, OUT_OF_RANGE};
 impl Machine {
     /// Reads as a guest what a processor may ask at once and a cycle of the bus can't: 1 to 8 bytes, at any place. It is
     /// split as a bridge does, into lawful reads in the order of addresses, and the byte at the lowest address is the
-    /// lowest of the value. A device that is attached is told of each.
+    /// lowest of the value. A device that is attached is told of it as of one access.
     ///
     /// # Errors
     ///
@@ -28,9 +28,11 @@ impl Machine {
     /// ```
     pub fn read_wide(&mut self, guest: Guest, at: At, width: u32) -> Result<u64, Error> {
         may_be_split(at, width)?;
-        pieces(at, width).try_fold(0, |all, (done, at, size)| {
-            let part = self.read(guest, at, size)?;
-            Ok(all | u64::from(part) << (8 * done))
+        self.read_and_tell((guest, at, width), |machine| {
+            pieces(at, width).try_fold(0, |all, (done, at, size)| {
+                let part = machine.read_alone(guest, at, size)?;
+                Ok(all | u64::from(part) << (8 * done))
+            })
         })
     }
 
@@ -57,9 +59,12 @@ impl Machine {
         value: u64,
     ) -> Result<(), Error> {
         may_be_split(at, width)?;
-        pieces(at, width).try_for_each(|(done, at, size)| {
-            self.write(guest, at, size, (value >> (8 * done)) as u32)
-        })
+        let mut touched = Vec::new();
+        for (done, at, size) in pieces(at, width) {
+            touched.extend(self.write_alone(guest, at, size, (value >> (8 * done)) as u32)?);
+        }
+        self.tell_written(touched);
+        Ok(())
     }
 }
 
@@ -77,7 +82,7 @@ fn may_be_split(at: At, width: u32) -> Result<(), Error> {
 }
 
 /// The lawful pieces of an access that ends within its space: how many bytes come before each, its place and its width.
-fn pieces(at: At, width: u32) -> impl Iterator<Item = (u32, At, u32)> {
+pub(crate) fn pieces(at: At, width: u32) -> impl Iterator<Item = (u32, At, u32)> {
     let (_, _, place) = at.parts();
     let mut done = 0;
     std::iter::from_fn(move || {

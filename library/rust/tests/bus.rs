@@ -1,6 +1,6 @@
 //! Accesses in the form of hypervisors, and those of processors.
 
-use pciguest::{At, BusDevice, Error, GuestBus, Machine, SlotConfig, Space};
+use pciguest::{At, Error, GuestBus, Machine, SlotConfig, Space};
 use std::sync::{Arc, Mutex};
 
 const BOARD: &str = include_str!("../../../boards/main.toml");
@@ -63,7 +63,7 @@ fn wide_accesses_are_split() -> Result<(), Error> {
 fn a_bus_reads_and_writes_bytes() -> Result<(), Error> {
     let shared = Arc::new(Mutex::new(machine()?));
     let a = shared.lock().unwrap().guest("a")?;
-    let mut bus = GuestBus::new(Arc::clone(&shared), a, Space::Memory);
+    let bus = GuestBus::new(Arc::clone(&shared), a, Space::Memory);
     let bytes: Vec<u8> = (1..=19).collect();
     let mut found = vec![0; 19];
     bus.write(0xe000_0000, 3, &bytes);
@@ -100,7 +100,7 @@ fn a_bus_goes_on_after_a_thread_that_ended() -> Result<(), Error> {
         panic!("it ends");
     });
     assert!(ended.join().is_err());
-    let mut ports = GuestBus::new(shared, a, Space::Io);
+    let ports = GuestBus::new(shared, a, Space::Io);
     let mut identity = [0; 4];
     ports.write(0xcf8, 0, &0x8000_0000u32.to_le_bytes());
     ports.read(0xcfc, 0, &mut identity);
@@ -112,7 +112,7 @@ fn a_bus_goes_on_after_a_thread_that_ended() -> Result<(), Error> {
 fn configuration_by_registers() -> Result<(), Error> {
     let shared = Arc::new(Mutex::new(machine()?));
     let a = shared.lock().unwrap().guest("a")?;
-    let mut config = SlotConfig::new(Arc::clone(&shared), a, 0);
+    let config = SlotConfig::new(Arc::clone(&shared), a, 0);
     assert_eq!(config.read_config_register(0), 0x0001_1234);
     config.write_config_register(15, 0, &[9]);
     assert_eq!(config.read_config_register(15) & 0xff, 9);
@@ -122,7 +122,29 @@ fn configuration_by_registers() -> Result<(), Error> {
         assert_eq!(config.read_config_register(index), u32::MAX);
         config.write_config_register(index, 0, &[0; 4]);
     }
-    let mut nobody = SlotConfig::new(shared, a, 31);
+    let nobody = SlotConfig::new(shared, a, 31);
     assert_eq!(nobody.read_config_register(0), u32::MAX);
+    Ok(())
+}
+
+/// Where a write leaves all regions where they are, as one of another register or the last one of sizing, nothing is told.
+#[test]
+fn moves_of_regions() -> Result<(), Error> {
+    let shared = Arc::new(Mutex::new(machine()?));
+    let a = shared.lock().unwrap().guest("a")?;
+    let config = SlotConfig::new(shared, a, 0);
+    let wrote = |index: usize, value: u32| -> Vec<(u32, u64, u64, bool)> {
+        let moved = config.write_config_register(index, 0, &value.to_le_bytes());
+        let told = moved.into_iter();
+        told.map(|it| (it.register, it.before.first, it.now.first, it.now.is_open))
+            .collect()
+    };
+    assert_eq!(wrote(5, 0xd000_0000), [(1, 0xe000_0000, 0xd000_0000, true)]);
+    assert_eq!(wrote(5, 0xd000_0000), []);
+    assert_eq!(wrote(15, 9), []);
+    assert_eq!(wrote(64, 9), []);
+    let closed = wrote(1, 0);
+    assert!(closed.contains(&(1, 0xd000_0000, 0xd000_0000, false)));
+    assert_eq!(wrote(1, 0), []);
     Ok(())
 }

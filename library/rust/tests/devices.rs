@@ -1,121 +1,10 @@
 //! Devices that act when their driver touches their registers.
 
-use pciguest::{
-    At, Declaration, DeviceModel, Error, Guest, Kind, Machine, NotAttached, Register, Registers,
-};
+mod doorbell;
+
+use doorbell::{memory, Case, BELL, FAR, LONG, MORE, OWN, PORT, RINGS, STATUS};
+use pciguest::{At, Declaration, Error, Kind, Register};
 use std::panic::{catch_unwind, set_hook, take_hook};
-use std::sync::{Arc, Mutex};
-
-const TOP: &str = "host = { io = [0x1000, 0xffff], mem = [0xc0000000, 0xdfffffff], \
-                   pref = [0x400000000, 0x4ffffffff] }\n";
-
-const STATUS: Register = Register::in_region(0, 0x00, 1).w1c(0x01);
-const RINGS: Register = Register::in_region(0, 0x04, 4);
-const BELL: Register = Register::in_region(0, 0x08, 4)
-    .rw(0xffff_ffff)
-    .reset(0x1122_3344);
-const PORT: Register = Register::in_region(1, 0x10, 2).rw(0x0ff0);
-const FAR: Register = Register::in_region(2, 0xff8, 4).reset(0xa5a5_a5a5);
-const LONG: Register = Register::in_region(2, 0x100, 8).rw(u64::MAX);
-const OWN: Register = Register::in_config(0x40, 4).rw(0xff);
-const MORE: Register = Register::in_config(0x48, 1).reset(0x7f);
-
-/// Counts the rings of its driver, and keeps what it was told.
-#[derive(Default)]
-struct Doorbell {
-    told: Vec<(Register, Option<u64>)>,
-}
-
-impl DeviceModel for Doorbell {
-    fn declaration(&self) -> Declaration {
-        let head = Declaration::new(0x1234, 0x00d0, 0xff0000)
-            .subsystem(0x1111, 0x2222)
-            .interrupt_pin(1)
-            .region(0, Kind::Mem32, 0x1000)
-            .region(1, Kind::Io, 32)
-            .region(2, Kind::Mem64p, 0x10000);
-        [STATUS, RINGS, BELL, PORT, FAR, LONG, OWN, MORE]
-            .into_iter()
-            .fold(head, Declaration::register)
-    }
-
-    fn on_write(&mut self, registers: &mut Registers<'_>, register: Register, value: u64) {
-        self.told.push((register, Some(value)));
-        if register == BELL {
-            let rings = registers.get(RINGS);
-            registers.set(RINGS, rings + 1);
-            registers.set(STATUS, 1);
-        }
-    }
-
-    fn before_read(&mut self, registers: &mut Registers<'_>, register: Register) {
-        self.told.push((register, None));
-        if register == FAR {
-            registers.set(FAR, 0x5a5a_5a5a);
-        }
-    }
-}
-
-fn memory(address: u64) -> At {
-    At::Memory { address }
-}
-
-/// A machine with two such functions in slots of guest a, and a guest b, where the first has its device.
-struct Case {
-    machine: Machine,
-    a: Guest,
-    b: Guest,
-    device: Arc<Mutex<Doorbell>>,
-}
-
-impl Case {
-    fn new() -> Case {
-        let endpoint = |at| Doorbell::default().declaration().endpoint(at);
-        let guests = "[[guest]]\nname = \"a\"\nslots = [\"1.0\", \"2.0\"]\n[[guest]]\nname = \"b\"\nslots = []\n";
-        let board = [TOP, &endpoint("1.0"), &endpoint("2.0"), guests].concat();
-        let mut machine = Machine::new(board).expect("a board");
-        let (a, b) = (machine.guest("a").unwrap(), machine.guest("b").unwrap());
-        let device: Arc<Mutex<Doorbell>> = Arc::default();
-        machine.attach(a, 0, Arc::clone(&device)).expect("a device");
-        let mut case = Case {
-            machine,
-            a,
-            b,
-            device,
-        };
-        case.place(a, 0).unwrap();
-        case.told();
-        case
-    }
-
-    fn place(&mut self, guest: Guest, slot: u64) -> Result<(), Error> {
-        for (offset, value) in [
-            (0x10, 0xe000_0000),
-            (0x14, 0x2000),
-            (0x18, 0x1000_0000),
-            (0x1c, 8),
-            (4, 3),
-        ] {
-            self.machine
-                .write(guest, At::Config { slot, offset }, 4, value)?;
-        }
-        Ok(())
-    }
-
-    fn told(&mut self) -> Vec<(Register, Option<u64>)> {
-        std::mem::take(&mut self.device.lock().unwrap().told)
-    }
-
-    fn read(&mut self, at: At, width: u32) -> u32 {
-        self.machine.read(self.a, at, width).expect("a read")
-    }
-
-    fn write(&mut self, at: At, width: u32, value: u32) {
-        self.machine
-            .write(self.a, at, width, value)
-            .expect("a write")
-    }
-}
 
 #[test]
 fn a_declaration_is_an_endpoint() {
@@ -285,6 +174,40 @@ fn wide_accesses_and_ports() {
     assert_eq!(case.machine.registers(a, 0).unwrap().get(OWN), 0xaa);
 }
 
+/// As `examples/c/device.c` is told: with the whole value, whatever cycles of the bus it takes.
+#[test]
+fn one_access_is_one_call() {
+    let mut case = Case::new();
+    let a = case.a;
+    for (at, width, value) in [
+        (memory(0x8_1000_0100), 8, 0x1122_3344_5566_7788),
+        (memory(0x8_1000_0103), 4, 0xaabb_ccdd),
+        (memory(0xe000_0007), 4, 0x4433_2211), // the highest byte of one register, and three of the next
+        (
+            At::Config {
+                slot: 0,
+                offset: 0x3e,
+            },
+            8,
+            0x8877_6655_4433_2211,
+        ),
+    ] {
+        case.machine.write_wide(a, at, width, value).unwrap();
+    }
+    let wanted = [
+        (LONG, Some(0x1122_3344_5566_7788)),
+        (LONG, Some(0x11aa_bbcc_dd66_7788)),
+        (RINGS, Some(0x1100_0000)),
+        (BELL, Some(0x1144_3322)),
+        (OWN, Some(0x6655_4433)),
+    ];
+    assert_eq!(case.told(), wanted);
+    let mut read = |address| case.machine.read_wide(a, memory(address), 8).unwrap();
+    assert_eq!(read(0x8_1000_0100), 0x11aa_bbcc_dd66_7788);
+    assert_eq!(read(0x8_1000_0ff7), 0x5a_5a5a_5a00);
+    assert_eq!(case.told(), [(LONG, None), (FAR, None)]);
+}
+
 #[test]
 fn lines_are_told() {
     let mut case = Case::new();
@@ -354,33 +277,4 @@ fn a_device_goes_with_its_function() -> Result<(), Error> {
     assert_eq!(case.machine.registers(a, 9)?.get(RINGS), 0);
     assert_eq!(case.machine.registers(a, 1).unwrap_err().number(), 902); // no device
     Ok(())
-}
-
-/// The same device with another declaration.
-struct Other(Declaration);
-
-impl DeviceModel for Other {
-    fn declaration(&self) -> Declaration {
-        self.0.clone()
-    }
-}
-
-#[test]
-fn what_is_not_attached() {
-    let mut case = Case::new();
-    let a = case.a;
-    let declared = Doorbell::default().declaration();
-    let identity = Declaration::new(0x1234, 0x00d1, 0xff0000);
-    let smaller = declared.clone().region(1, Kind::Io, 64);
-    for other in [identity, smaller] {
-        let answer = case.machine.attach(a, 1, Other(other));
-        assert_eq!(answer, Err(NotAttached::DeclaredOtherwise));
-    }
-    let answer = case.machine.attach(a, 0, Other(declared.clone()));
-    assert_eq!(answer, Err(NotAttached::Taken));
-    let answer = case.machine.attach(a, 2, Other(declared.clone()));
-    assert_eq!(answer.unwrap_err().to_string(), "601 empty slot");
-    assert_eq!(case.machine.attach(a, 1, Other(declared)), Ok(()));
-    case.machine.write(a, memory(0xe000_0008), 4, 1).unwrap();
-    assert_eq!(case.machine.registers(a, 1).unwrap().get(RINGS), 0);
 }

@@ -1,0 +1,114 @@
+//! What accesses of a guest touch of devices, and how these are told.
+
+use crate::declared::Register;
+use crate::error::Error;
+use crate::machine::Machine;
+use crate::place::{At, Guest, Hit};
+use crate::wide::pieces;
+
+/// What a cycle of the bus touches of a device: bytes of a part of its function, and what they are written.
+pub(crate) struct Touch {
+    device: usize,
+    hit: Hit,
+    width: u64,
+    value: u64,
+}
+
+impl Machine {
+    /// Makes a read of a guest. Devices that it touches are told of it once it is known not to be refused, and then it reads
+    /// what they made of their registers.
+    pub(crate) fn read_and_tell<T>(
+        &mut self,
+        (guest, at, width): (Guest, At, u32),
+        read: impl Fn(&mut Machine) -> Result<T, Error>,
+    ) -> Result<T, Error> {
+        let value = read(self)?;
+        if self.tell_read(guest, at, width) {
+            read(self)
+        } else {
+            Ok(value)
+        }
+    }
+
+    /// Tells devices of a read that isn't refused, each once for each of its registers, and whether there was one to tell.
+    pub(crate) fn tell_read(&mut self, guest: Guest, at: At, width: u32) -> bool {
+        if self.devices.is_empty() {
+            return false;
+        }
+        let touched: Vec<Touch> = pieces(at, width)
+            .filter_map(|(_, at, size)| self.touch(guest, at, size, 0))
+            .collect();
+        let told = self.told_by(&touched);
+        for &(device, register, _) in &told {
+            self.act(device, |model, registers| {
+                model.before_read(registers, register)
+            });
+        }
+        !told.is_empty()
+    }
+
+    /// What a cycle of the bus touches of a device, if it touches one. Asked before a write, which may move the function.
+    pub(crate) fn touch(&mut self, guest: Guest, at: At, width: u32, value: u32) -> Option<Touch> {
+        if self.devices.is_empty() || (at, width) == (At::Io { port: 0xcf8 }, 4) {
+            return None;
+        }
+        let hit = self.locate(guest, at).ok()??;
+        let device = self.device_at(guest, hit.slot)?;
+        let (width, value) = (u64::from(width), u64::from(value));
+        Some(Touch {
+            device,
+            hit,
+            width,
+            value,
+        })
+    }
+
+    /// Tells devices of an access that was done, each once for each of its registers.
+    pub(crate) fn tell_written(&mut self, touched: impl IntoIterator<Item = Touch>) {
+        let touched: Vec<Touch> = touched.into_iter().collect();
+        for (device, register, value) in self.told_by(&touched) {
+            self.act(device, |model, registers| {
+                model.on_write(registers, register, value)
+            });
+        }
+    }
+
+    /// The registers that an access touches, each with its device and with what was written: the bytes of the access at their
+    /// places, and else what the register holds.
+    fn told_by(&mut self, touched: &[Touch]) -> Vec<(usize, Register, u64)> {
+        let mut told = Vec::new();
+        for device in 0..self.devices.len() {
+            let here: Vec<&Touch> = touched.iter().filter(|it| it.device == device).collect();
+            let Some(mut lent) = self.lent(device).filter(|_| !here.is_empty()) else {
+                continue;
+            };
+            for &register in lent.declared {
+                let (mask, bits) = here.iter().fold((0, 0), |(mask, bits), touch| {
+                    let (more, there) = touch.within(register);
+                    (mask | more, bits | there)
+                });
+                if mask != 0 {
+                    told.push((device, register, lent.get(register) & !mask | bits));
+                }
+            }
+        }
+        told
+    }
+}
+
+impl Touch {
+    /// The bits of a register that it touches, and what they are written.
+    fn within(&self, register: Register) -> (u64, u64) {
+        let Hit { part, offset, .. } = self.hit;
+        if !register.is_touched(part, offset, self.width) {
+            return (0, 0);
+        }
+        let all = u64::MAX >> (64 - 8 * self.width);
+        let moved = |bits: u64| match offset.checked_sub(register.offset) {
+            Some(up) => bits << (8 * up),
+            None => bits >> (8 * (register.offset - offset)),
+        };
+        let mask = moved(all) & register.all_ones();
+        (mask, moved(self.value & all) & mask)
+    }
+}
