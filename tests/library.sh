@@ -165,12 +165,29 @@ if command -v rustc > /dev/null; then
   holds 'Rust: the example prints what the one in C does' cmp device.rust.out "$top/tests/library/device.stdout"
 fi
 
-# ---- the crate for Rust: its tests, and the examples of its documentation
+# ---- the crates for Rust as they are packed, outside the repository and with no registry: their tests, and the examples of
+# their documentation; without the standard library; and in the example of a hypervisor, where Debian's crates are
+offline() { env -u PCIGUEST_LIBRARY_DIR -C "$1" CARGO_HOME="$room/cargo" CARGO_TARGET_DIR="$room/$2" "${@:3}"; }
 if cargo --version > /dev/null 2>&1; then
-  holds 'Rust: the tests of the crate' env -C "$top/library/rust" CARGO_TARGET_DIR="$room/target" \
-    PCIGUEST_LIBRARY_DIR="$top/library" cargo test --offline --quiet
+  mkdir -p outside/.cargo outside/bare/src
+  echo 'patch.crates-io.pciguest-sys.path = "pciguest-sys"' > outside/.cargo/config.toml
+  for crate in pciguest-sys pciguest; do
+    holds "Rust: $crate is packed" offline "$top/library/rust" packed cargo package --offline --quiet --allow-dirty -p "$crate"
+    tar -C outside -xzf packed/package/"$crate"-[0-9]*.crate && mv outside/"$crate"-[0-9]* "outside/$crate"
+    holds "Rust: the tests of $crate" offline "outside/$crate" target cargo test --offline --quiet
+  done
+  cp "$top/tests/library/bare.rs" outside/bare/src/main.rs
+  printf '[package]\nname = "bare"\nedition = "2021"\n[profile.dev]\npanic = "abort"\n[dependencies]\n%s\n' \
+    'pciguest = { path = "../pciguest", default-features = false }' > outside/bare/Cargo.toml
+  holds 'Rust: the crate without the standard library' offline outside/bare target cargo run --offline --quiet
+  if compgen -G '/usr/share/cargo/registry/vm-superio-*' > /dev/null; then
+    offline "$top/examples/rust" vmm make -s vmm > vmm.out
+    holds 'Rust: the buses of a hypervisor' test "$(cat vmm.out)" = $'printer: read from RAM by the device\nserial: 1 printed'
+  else
+    echo 'no crates of Debian: the example of a hypervisor in Rust is not tried. On Debian: apt-get install librust-vm-superio-dev'
+  fi
 else
-  echo 'no cargo: the crate for Rust is not tried. On Debian: apt-get install cargo'
+  echo 'no cargo: the crates for Rust are not tried. On Debian: apt-get install cargo'
 fi
 
 # ---- the module for Python: its tests, the examples of its documentation, and the example

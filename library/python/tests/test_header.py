@@ -80,7 +80,7 @@ class Header(unittest.TestCase):
     def test_version(self):
         version = re.search(r'^#define PCIGUEST_VERSION "(.*)"', HEADER, re.MULTILINE).group(1)
         self.assertEqual(pciguest.__version__, version)
-        for file in ("python/pyproject.toml", "rust/Cargo.toml"):
+        for file in ("python/pyproject.toml", "rust/Cargo.toml", "rust/sys/Cargo.toml"):
             told = re.search(r'^version = "(.*)"', (TOP / "library" / file).read_text(), re.MULTILINE).group(1)
             self.assertEqual(told, version, file)
         major, minor, patch = map(int, version.split("."))

@@ -1,5 +1,6 @@
 //! Devices that are attached to functions of a machine, and what they are told beside accesses.
 
+#[cfg(feature = "std")]
 use crate::acting::Acting;
 use crate::declared::Register;
 use crate::device::{DeviceModel, Registers};
@@ -7,8 +8,9 @@ use crate::differs::{first_difference, Difference};
 use crate::error::{answered, Error};
 use crate::machine::Machine;
 use crate::place::Guest;
+use crate::prelude::*;
 use crate::raw::{ARGUMENT, BAD_IMAGE};
-use std::fmt;
+use core::fmt;
 
 /// Why a device is not attached.
 #[derive(Clone, Debug, PartialEq, Eq)]
@@ -31,6 +33,7 @@ impl fmt::Display for NotAttached {
     }
 }
 
+#[cfg(feature = "std")]
 impl std::error::Error for NotAttached {}
 
 impl From<Error> for NotAttached {
@@ -153,6 +156,7 @@ impl Machine {
         device: usize,
         acts: impl FnOnce(&mut dyn DeviceModel, &mut Registers<'_>) -> T,
     ) -> Option<T> {
+        #[cfg(feature = "std")]
         let _acting = Acting::begin(self);
         let Attached {
             seat,
@@ -189,7 +193,7 @@ impl Machine {
         for device in 0..self.devices.len() {
             let function = self.function(self.devices[device].function);
             let seat = function.ok().and_then(|it| it.seat);
-            let before = std::mem::replace(&mut self.devices[device].seat, seat);
+            let before = core::mem::replace(&mut self.devices[device].seat, seat);
             if before != seat {
                 changed.push((device, before));
             }
@@ -225,6 +229,7 @@ impl Machine {
     }
 
     fn tell_taken(&mut self, device: usize) {
+        #[cfg(feature = "std")]
         let _acting = Acting::begin(self);
         self.devices[device].model.on_take();
     }

@@ -4,10 +4,11 @@ use crate::error::{answered, Error};
 use crate::function::{BoardFunction, BoardProblem};
 use crate::machine::Machine;
 use crate::place::HostAt;
+use crate::prelude::*;
 use crate::raw::{self, BoardHandle};
 use crate::text::{reply_to, told};
-use std::fmt;
-use std::ptr::null_mut;
+use core::fmt;
+use core::ptr::null_mut;
 
 /// What is wrong in the registers of a board.
 #[derive(Clone, Debug, PartialEq, Eq)]
@@ -385,6 +386,7 @@ impl fmt::Display for NotGiven {
     }
 }
 
+#[cfg(feature = "std")]
 impl std::error::Error for NotGiven {}
 
 impl Drop for Board {

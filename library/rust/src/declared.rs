@@ -1,7 +1,8 @@
 //! What a device declares: identity, regions and registers, and the endpoint of a board file that says the same.
 
 use crate::place::Part;
-use std::fmt::Write;
+use crate::prelude::*;
+use core::fmt::Write;
 
 /// The patterns of a block in a board file, each with the bits that a register has in it.
 pub(crate) const PATTERNS: [(&str, BitsOf); 3] = [

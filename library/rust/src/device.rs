@@ -2,8 +2,10 @@
 
 use crate::declared::{Declaration, Register};
 use crate::place::Guest;
+use crate::prelude::*;
 use crate::raw::{self, Handle};
-use std::fmt;
+use core::fmt;
+#[cfg(feature = "std")]
 use std::sync::{Arc, Mutex, MutexGuard, PoisonError};
 
 /// A device model: it declares the function's identity, its regions and its registers, and says what happens when its
@@ -110,11 +112,13 @@ pub trait DeviceModel: Send {
     }
 }
 
+#[cfg(feature = "std")]
 /// The device, also where a thread ended in the middle of what it did with it.
 fn locked<D>(device: &Mutex<D>) -> MutexGuard<'_, D> {
     device.lock().unwrap_or_else(PoisonError::into_inner)
 }
 
+#[cfg(feature = "std")]
 impl<D: DeviceModel> DeviceModel for Arc<Mutex<D>> {
     fn declaration(&self) -> Declaration {
         locked(self).declaration()

@@ -2,7 +2,8 @@
 
 use crate::declared::{Declaration, Kind, Register, PATTERNS};
 use crate::place::Part;
-use std::fmt;
+use crate::prelude::*;
+use core::fmt;
 
 /// The first field in which a function differs from what a device declares.
 #[derive(Clone, Debug, PartialEq, Eq)]

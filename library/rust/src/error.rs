@@ -1,7 +1,7 @@
 //! Refusals: a number and its words.
 
 use crate::raw::{pciguest_words, WORDS};
-use std::fmt;
+use core::fmt;
 
 /// The number of a refusal, with the words that the program has for it.
 #[derive(Clone, Copy, PartialEq, Eq)]
@@ -34,7 +34,7 @@ impl Refusal {
 
     /// The words of the number, as `misaligned` for 301. A number that stands for nothing has none.
     pub fn words(&self) -> &str {
-        std::str::from_utf8(&self.text[..self.length]).unwrap_or_default()
+        core::str::from_utf8(&self.text[..self.length]).unwrap_or_default()
     }
 }
 
@@ -148,6 +148,7 @@ impl fmt::Display for Error {
     }
 }
 
+#[cfg(feature = "std")]
 impl std::error::Error for Error {}
 
 /// What a call answers: 0, or the number of a refusal.

@@ -3,8 +3,9 @@
 use crate::error::{answered, Error};
 use crate::machine::Machine;
 use crate::place::{Guest, Space};
+use crate::prelude::*;
 use crate::raw;
-use std::iter::FusedIterator;
+use core::iter::FusedIterator;
 
 /// A function of the board as it is now.
 #[derive(Clone, Debug, PartialEq, Eq)]

@@ -3,6 +3,7 @@
 use crate::error::{answered, Error};
 use crate::machine::Machine;
 use crate::place::Guest;
+use crate::prelude::*;
 use crate::raw;
 
 impl Machine {

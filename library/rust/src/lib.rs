@@ -42,10 +42,26 @@
 //! Neither is used in a signal handler, nor in a child that a process with several threads forked.
 
 #![warn(missing_docs)]
+#![cfg_attr(not(feature = "std"), no_std)]
 
+extern crate alloc;
+
+use pciguest_sys as raw;
+
+/// What the standard library has in its prelude, and `alloc` has without it.
+mod prelude {
+    pub(crate) use alloc::borrow::ToOwned;
+    pub(crate) use alloc::boxed::Box;
+    pub(crate) use alloc::string::String;
+    pub(crate) use alloc::vec::Vec;
+    pub(crate) use alloc::{format, vec};
+}
+
+#[cfg(feature = "std")]
 mod acting;
 mod attached;
 mod board;
+#[cfg(feature = "std")]
 mod bus;
 mod declared;
 mod device;
@@ -54,16 +70,17 @@ mod error;
 mod function;
 mod image;
 mod lines;
+#[cfg(feature = "std")]
 mod load;
 mod machine;
 mod place;
-mod raw;
 mod text;
 mod touch;
 mod wide;
 
 pub use attached::NotAttached;
 pub use board::{Audit, Board, NotGiven, Readiness};
+#[cfg(feature = "std")]
 pub use bus::{GuestBus, RegionMove, SlotConfig};
 pub use declared::{Declaration, Kind, Register};
 pub use device::{DeviceModel, Registers};
@@ -74,4 +91,5 @@ pub use machine::Machine;
 pub use place::{At, Guest, Hit, HostAt, Part, Region, Space};
 pub use text::{check, report, strerror, version, words, Check};
 
+#[cfg(feature = "std")]
 pub use load::LoadError;

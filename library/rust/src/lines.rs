@@ -2,6 +2,7 @@
 //! where its reply says that it was done.
 
 use crate::place::{At, Guest};
+use crate::prelude::*;
 
 /// An access of a guest, and the value that a write has.
 #[derive(Clone, Copy)]
@@ -17,7 +18,7 @@ pub(crate) fn asked_by(
     line: &[u8],
     mut guest_of: impl FnMut(&str) -> Option<Guest>,
 ) -> Option<Asked> {
-    let mut words = std::str::from_utf8(line).ok()?.split_ascii_whitespace();
+    let mut words = core::str::from_utf8(line).ok()?.split_ascii_whitespace();
     let (name, verb) = (words.next()?, words.next()?);
     let numbers: Vec<u64> = words.map(number_of).collect::<Option<_>>()?;
     let (space, is_write) = match *verb.as_bytes() {

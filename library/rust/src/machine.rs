@@ -4,11 +4,12 @@ use crate::attached::Attached;
 use crate::error::{answered, Error};
 use crate::lines::{asked_by, Asked};
 use crate::place::{At, Guest, Hit, HostAt, Part, Region};
+use crate::prelude::*;
 use crate::raw::{self, Handle};
 use crate::text::{reply_to, told};
 use crate::touch::Touch;
-use std::fmt;
-use std::ptr::null_mut;
+use core::fmt;
+use core::ptr::null_mut;
 
 /// A board that is set up, with its guests. What it holds is freed when it is dropped.
 ///

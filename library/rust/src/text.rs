@@ -1,11 +1,12 @@
 //! What is told of a board file, of a number and of the library, for which no machine is needed; and replies to lines.
 
 use crate::error::{answered, Error};
+use crate::prelude::*;
 use crate::raw::{
     pciguest_check, pciguest_report, pciguest_strerror, pciguest_version, pciguest_words, ARGUMENT,
     REPLY, WORDS,
 };
-use std::ffi::CStr;
+use core::ffi::CStr;
 
 /// What a check says of a board file.
 #[derive(Clone, Debug, PartialEq, Eq)]

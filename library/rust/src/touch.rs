@@ -4,6 +4,7 @@ use crate::declared::Register;
 use crate::error::Error;
 use crate::machine::Machine;
 use crate::place::{At, Guest, Hit};
+use crate::prelude::*;
 use crate::wide::pieces;
 
 /// What a cycle of the bus touches of a device: bytes of a part of its function, and what they are written.

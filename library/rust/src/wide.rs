@@ -3,6 +3,7 @@
 use crate::error::{answered, Error};
 use crate::machine::Machine;
 use crate::place::{At, Guest};
+use crate::prelude::*;
 use crate::raw::{self, BAD_WIDTH, OUT_OF_RANGE};
 
 impl Machine {
@@ -85,7 +86,7 @@ fn may_be_split(at: At, width: u32) -> Result<(), Error> {
 pub(crate) fn pieces(at: At, width: u32) -> impl Iterator<Item = (u32, At, u32)> {
     let (_, _, place) = at.parts();
     let mut done = 0;
-    std::iter::from_fn(move || {
+    core::iter::from_fn(move || {
         let before = (done < width).then_some(done)?;
         // SAFETY: no pointer is passed.
         let size = unsafe { raw::pciguest_piece(place + u64::from(before), width - before) };

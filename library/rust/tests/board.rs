@@ -3,9 +3,9 @@
 use pciguest::{Board, BoardProblem, Error, HostAt, Machine, Ranges, Space};
 use std::thread;
 
-const BOARD: &str = include_str!("../../../boards/main.toml");
-const LARGEST: &str = include_str!("../../../boards/largest.toml");
-const IO_POOL: &str = include_str!("../../../boards/refused/io_pool.toml");
+const BOARD: &str = include_str!("boards/main.toml");
+const LARGEST: &str = include_str!("boards/largest.toml");
+const IO_POOL: &str = include_str!("boards/refused/io_pool.toml");
 
 fn config(bus: u8, device: u8, offset: u64) -> HostAt {
     HostAt::Config {

@@ -1,8 +1,6 @@
 //! What the header declares. tools/bindings writes this file from library/pciguest.h.
 
-#![allow(dead_code)] // this crate uses not all of it
-
-use std::ffi::{c_char, c_void};
+use core::ffi::{c_char, c_void};
 
 pub const CONFIG: u32 = 0;
 pub const IO: u32 = 1;

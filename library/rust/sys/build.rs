@@ -1,9 +1,11 @@
-//! Links libpciguest.a from the folder PCIGUEST_LIBRARY_DIR, or as `make library` leaves it above this crate, or from the
-//! folder `lib` of what is installed or unpacked with it. Where there is none, `cargo doc` and `cargo check` go on.
+//! Links libpciguest.a from the folder PCIGUEST_LIBRARY_DIR, or the first of the usual ones that has it. Where there is none,
+//! `cargo doc` and `cargo check` go on.
 
 use std::env;
 use std::path::{Path, PathBuf};
-use std::process::exit;
+use std::process::{exit, Command};
+
+const ARCHIVE: &str = "libpciguest.a";
 
 fn main() {
     println!("cargo:rerun-if-changed=build.rs");
@@ -13,7 +15,7 @@ fn main() {
         refuse("the library is for Linux on x86-64 alone");
     }
     let folder = folder();
-    let archive = folder.join("libpciguest.a");
+    let archive = folder.join(ARCHIVE);
     println!("cargo:rerun-if-changed={}", archive.display());
     if !archive.is_file() {
         println!(
@@ -29,20 +31,28 @@ fn main() {
     println!("cargo:rustc-link-lib=static=pciguest");
 }
 
-/// The folder that is named, or the first of the usual ones that has an archive.
+/// The folder that is named, or the first that has an archive: that of the crate, in which a link of the repository leads to
+/// what `make library` leaves; that of what is unpacked or installed with the crate; and that of what is installed elsewhere.
 fn folder() -> PathBuf {
     if let Some(folder) = env::var_os("PCIGUEST_LIBRARY_DIR") {
         return PathBuf::from(folder);
     }
     let here = Path::new(env!("CARGO_MANIFEST_DIR"));
-    let usual = ["..", "../../../lib"].map(|folder| here.join(folder));
-    let found = usual
-        .iter()
-        .find(|folder| folder.join("libpciguest.a").is_file());
-    found.unwrap_or(&usual[0]).clone()
+    let beside = ["lib", "../../../../lib"].map(|folder| here.join(folder));
+    let mut usual = beside.into_iter().chain(installed());
+    let found = usual.find(|folder| folder.join(ARCHIVE).is_file());
+    found.unwrap_or_else(|| here.join("lib"))
+}
+
+/// The folder that pkg-config tells, if there is one.
+fn installed() -> Option<PathBuf> {
+    let words = ["--variable=libdir", "pciguest"];
+    let told = Command::new("pkg-config").args(words).output().ok()?;
+    let folder = String::from_utf8(told.stdout).ok()?;
+    told.status.success().then(|| PathBuf::from(folder.trim()))
 }
 
 fn refuse(why: &str) -> ! {
-    eprintln!("pciguest: {why}");
+    eprintln!("pciguest-sys: {why}");
     exit(1)
 }
