@@ -40,7 +40,8 @@ for file in bin/pciguest include/pciguest.h lib/x86_64-linux-gnu/libpciguest.a l
   share/fish/vendor_completions.d/pciguest.fish share/doc/pciguest/docs/FORMATS.md share/doc/pciguest/docs/RESULTS.md share/pciguest/board.schema.json \
   share/pciguest/rust/Cargo.toml share/pciguest/rust/src/lib.rs share/pciguest/rust/sys/Cargo.toml share/pciguest/rust/sys/src/raw.rs share/pciguest/python/pyproject.toml \
   share/pciguest/python/pciguest/py.typed share/doc/pciguest/examples/session/session.stdout share/doc/pciguest/boards/main.toml \
-  include/pciguest_ops.h bin/pciguest-firmware-test share/pciguest/python/pciguest/firmware_test.py share/pciguest/own.toml; do
+  include/pciguest_ops.h bin/pciguest-firmware-test share/pciguest/python/pciguest/firmware_test.py share/pciguest/own.toml \
+  share/pciguest/python/README.md; do
   holds "$file is installed" test -e "$at/$file"
 done
 holds 'the places in pciguest.pc' same 'prefix=/usr
@@ -133,6 +134,26 @@ if command -v nm > /dev/null && command -v readelf > /dev/null; then
   holds 'it needs the C library alone' same $'[libc.so.6]\n[libpciguest.so.0]' needed
   no_text_changes() { ! readelf -dW library/libpciguest.so.0 | grep -q TEXTREL; }
   holds 'its code is position independent' no_text_changes
+fi
+
+# ---- the wheel, in an environment of its own: it has the library, a readme, and what tests of firmware take
+if tools/wheel "$room/wheels" > "$room/told" 2>&1 && python3 -m venv "$room/own" > /dev/null 2>&1; then
+  own() { env -i -C "$room" PATH="$room/own/bin:/usr/bin:/bin" "$@"; }
+  holds 'the wheel is installed' own pip install --quiet --no-index "$room"/wheels/pciguest-*-py3-none-linux_x86_64.whl
+  holds 'the device model over the wheel' same tests/library/device.stdout \
+    own python "$top/examples/python/device.py" "$top/examples/device.toml"
+  about='import importlib.metadata as m; d = m.metadata("pciguest"); print(d["Description-Content-Type"], d["Requires-Python"])'
+  holds 'what the wheel says of itself' same 'text/markdown >=3.8' own python -c "$about"
+  holds 'its readme' sh -c 'unzip -p "$1" "*/METADATA" | tail -n "$(wc -l < "$2")" | cmp - "$2"' - \
+    "$room"/wheels/pciguest-*.whl library/python/README.md
+  sed -n '/^```python$/,/^```$/p' library/python/README.md | grep -v '^```' > "$room/readme.py"
+  holds 'the example of its readme' same 0x11234 own python readme.py
+  if own python -c 'import tomllib' 2> /dev/null; then
+    own pciguest-firmware-test --boards 6 -- true > "$room/tested" 2>&1
+    holds 'firmware that does nothing, tested by the wheel' grep -q 'FAILED on' "$room/tested"
+  fi
+else
+  echo "the wheel is not tried: $(tail -n 1 "$room/told")"
 fi
 
 # ---- the tarball, in an empty folder and without the kit

@@ -68,7 +68,7 @@ static void ring(struct pciguest *machine, size_t guest, const struct pciguest_h
 /* Tells which addresses of a slot's function have to be trapped from here on. */
 static void tell_traps(struct pciguest *machine, size_t guest, uint64_t slot)
 {
-    struct pciguest_region region;
+    struct pciguest_region region = {0};
 
     for (uint32_t bar = 0; bar < 6; bar++)
         if (pciguest_region(machine, guest, slot, bar, &region) == 0 && region.is_open)

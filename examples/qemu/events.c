@@ -113,7 +113,7 @@ void log_regions(struct board *board, struct seat *seat)
 /* An empty slot of a seat's guest; false where none is. */
 static bool find_empty(struct board *board, const struct seat *seat, struct seat *empty)
 {
-    struct pciguest_region region;
+    struct pciguest_region region = {0};
 
     *empty = *seat;
     for (empty->slot = SLOTS; empty->slot-- > 0;)
@@ -247,7 +247,7 @@ bool message_event(struct board *board, struct seat *seat, const struct message 
 
 void line_event(struct board *board, const char *line, size_t length, FILE *replies)
 {
-    char reply[PCIGUEST_REPLY];
+    char reply[PCIGUEST_REPLY] = {0};
     size_t written = 0;
 
     if (!image_event(board, line, length, replies)) {

@@ -19,9 +19,9 @@ def _place() -> str:
     folder = os.environ.get("PCIGUEST_LIBRARY_DIR")
     if folder:
         return str(Path(folder).resolve() / NAME)
-    here = Path(__file__).resolve()
-    # in the repository it stands above this module, and in a tarball, or where that was installed, in lib
-    usual = (here.parents[2] / NAME, here.parents[min(4, len(here.parents) - 1)] / "lib" / NAME)
+    here = Path(__file__).resolve().parents
+    # a wheel has it beside this module; in the repository it stands above, and in a tarball, or where that was installed, in lib
+    usual = (here[0] / NAME, here[2] / NAME, here[min(4, len(here) - 1)] / "lib" / NAME)
     return next((str(place) for place in usual if place.exists()), NAME)
 
 

@@ -290,8 +290,8 @@ class Guest(Saved):
         return Region(space, told.first, told.size, bool(told.prefetchable), bool(told.is_open))
 
     def changed(self) -> int:
-        """A count that grows by one with each access of this guest, move, reset, gift or taking that touches one of its
-        slots so that an answer of `region` may be another one. While it stays, each of these answers stays; nothing
+        """A count that grows with each access of this guest, move, reset, gift, taking or load that touches one of its slots
+        so that an answer of `region` may be another one. While it stays, each of these answers stays; nothing
         else makes it grow. It is 0 in a machine that was made just now, and goes on from 0 after 2**64 - 1. It changes
         nothing.
         """

@@ -594,9 +594,9 @@ impl Machine {
         Ok(Region::of(&told))
     }
 
-    /// A count of the guest, which grows by one with each access of the guest, move, reset, gift or taking that touches
-    /// one of its slots so that an answer of [`Machine::region`] for it may be another one. While the count stays, each of
-    /// these answers stays; nothing else makes it grow. It is 0 in a machine that was made just now, and goes on from 0
+    /// A count of the guest, which grows with each access of the guest, move, reset, gift, taking or load that touches one of
+    /// its slots so that an answer of [`Machine::region`] for it may be another one. While the count stays, each of these
+    /// answers stays; nothing else makes it grow. It is 0 in a machine that was made just now, and goes on from 0
     /// after 2^64 - 1. It changes nothing.
     ///
     /// ```
