@@ -57,7 +57,8 @@ use std::sync::{Arc, Mutex, MutexGuard, PoisonError};
 /// One access of a guest is one call for each register that it touches, with all that it wrote there, however many cycles of
 /// the bus it takes. After a reset, a move or a load the registers hold what the machine made of them when the device is told;
 /// what a device keeps in its own fields is its own to clear. Its machine waits until it has acted: a device that calls a bus of
-/// its own machine ([`GuestBus`](crate::GuestBus), [`SlotConfig`](crate::SlotConfig)) would wait for itself, and panics.
+/// its own machine ([`GuestBus`](crate::GuestBus), [`SlotConfig`](crate::SlotConfig)) would wait for itself, and panics. One that
+/// locks the machine by itself does wait.
 ///
 /// A device that others use too is attached as an `Arc<Mutex<_>>`.
 pub trait DeviceModel: Send {
