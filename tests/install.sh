@@ -40,7 +40,7 @@ for file in bin/pciguest include/pciguest.h lib/x86_64-linux-gnu/libpciguest.a l
   share/fish/vendor_completions.d/pciguest.fish share/doc/pciguest/docs/FORMATS.md share/doc/pciguest/docs/RESULTS.md share/pciguest/board.schema.json \
   share/pciguest/rust/Cargo.toml share/pciguest/rust/src/lib.rs share/pciguest/rust/sys/Cargo.toml share/pciguest/rust/sys/src/raw.rs share/pciguest/python/pyproject.toml \
   share/pciguest/python/pciguest/py.typed share/doc/pciguest/examples/session/session.stdout share/doc/pciguest/boards/main.toml \
-  include/pciguest_ops.h bin/pciguest-firmware-test share/pciguest/python/pciguest/firmware_test.py share/pciguest/own.toml \
+  include/pciguest_ops.h bin/pciguest-firmware-test share/pciguest/python/pciguest/{firmware,rom}_test.py share/pciguest/own.toml \
   share/pciguest/python/README.md; do
   holds "$file is installed" test -e "$at/$file"
 done
@@ -188,7 +188,7 @@ else
 fi
 if command -v cc > /dev/null && python3 -c 'import tomllib' 2> /dev/null; then
   holds 'the enumerator is built' outside cc -O1 -Wall -Wextra -Werror -Iinclude -o enumerator examples/firmware/enumerator.c
-  holds 'a test of firmware' same '16 boards: the firmware leaves each of them ready' \
+  holds 'a test of firmware' same '41 boards: the firmware leaves 37 of them ready, and says of 4 that they have no room' \
     outside "PYTHON=$(command -v python3)" bin/pciguest-firmware-test --boards 10 -- ./enumerator
   holds 'firmware that does nothing' sh -c '! bin/pciguest-firmware-test --save failed -- true > told && grep -q "FAILED on" told'
 else

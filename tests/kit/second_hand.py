@@ -93,11 +93,12 @@ class SecondHand:
     def board(self, text):
         return SecondHandBoard(tomllib.loads(text))
 
-    def can_be_set_up(self, text):
-        if rules.all_faults(text)[0]:
-            return False
+    def refusal(self, text):
+        number = rules.all_faults(text)[0]
+        if number:
+            return number
         try:
             placement.Layout(board_of(tomllib.loads(text)))
-        except placement.Refused:
-            return False
-        return True
+        except placement.Refused as refused:
+            return refused.args[0]
+        return None

@@ -27,7 +27,7 @@ settings.load_profile("kit")
 
 @given(boards())
 def test_boards_can_be_set_up(board):
-    assert MAKER.can_be_set_up(board)
+    assert MAKER.refusal(board) is None
 
 
 @given(boards(bridges=0, apertures=[PLAIN], guests=False))

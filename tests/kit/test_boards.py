@@ -7,9 +7,13 @@ import places
 from pciguest._board_file import functions, text_of
 from pciguest._drawing import PLAIN, RandomChoices, draw_board
 from pciguest._firmware_run import findings
-from pciguest._judge import KINDS, Sizing, first_register, kind_of, same_problem
+from pciguest._judge import KINDS, kind_of, same_problem
 from pciguest._reasons import reasons
 from pciguest._shrink import shrunk
+from pciguest._special import SPECIAL
+from pciguest._tight import TOO_SMALL, cut, tight, too_small
+from pciguest._watch import Watch
+from pciguest._writers import story_of, why_unfound, writers
 from second_hand import SecondHand, SecondHandBoard
 
 (registers,) = places.modules("firmware", "registers")
@@ -37,6 +41,16 @@ def after(*lines):
     return board
 
 
+def seen(*lines, document=AUDITED):
+    """What is wrong with the last line, on the board of examples/audit after its set-up or on another at reset."""
+    board = SecondHandBoard(document)
+    watch, told = Watch(board, document), []
+    for line in [*(SET_UP if document is AUDITED else []), *lines]:
+        assert board.run_line(line) in ("host: ok", None)
+        told = watch.seen(line)
+    return told
+
+
 class Documents(unittest.TestCase):
     def test_examples_stay_the_same(self):
         for name in ("main", "server", "kinds", "chain", "largest"):
@@ -51,7 +65,7 @@ class Drawing(unittest.TestCase):
         bridges, depth = 0, 0
         for seed in range(100):
             document = draw_board(RandomChoices(seed))
-            self.assertTrue(SecondHand().can_be_set_up(text_of(document)), seed)
+            self.assertIsNone(SecondHand().refusal(text_of(document)), seed)
             bridges = max(bridges, len(document.get("bridge", [])))
             depth = max([depth] + [len(function.path) for function in functions(document)])
         self.assertEqual(bridges, 6)
@@ -64,14 +78,50 @@ class Drawing(unittest.TestCase):
     def test_many_bridges_and_small_apertures(self):
         small = PLAIN._replace(mem=(0xE0000000, 0xE7FFFFFF), io=(0x1000, 0x7FFF))
         for seed in range(30):
-            self.assertTrue(SecondHand().can_be_set_up(text_of(draw_board(RandomChoices(seed), bridges=40))), seed)
-            self.assertTrue(SecondHand().can_be_set_up(text_of(draw_board(RandomChoices(seed), 6, [small]))), seed)
+            self.assertIsNone(SecondHand().refusal(text_of(draw_board(RandomChoices(seed), bridges=40))), seed)
+            self.assertIsNone(SecondHand().refusal(text_of(draw_board(RandomChoices(seed), 6, [small]))), seed)
+
+
+class Tight(unittest.TestCase):
+    def refusal(self, document):
+        return SecondHand().refusal(text_of(document))
+
+    def test_a_board_for_each_mistake(self):
+        for name, drawn in SPECIAL.items():
+            wanted = {"no_ports_left": 203, "no_memory_left": 204, "no_prefetchable_left": 205}.get(name)
+            self.assertEqual(self.refusal(drawn()), wanted, name)
+
+    def test_cut(self):
+        document = cut(SPECIAL["aligned_windows"](), "mem", self.refusal)
+        self.assertEqual(self.refusal(document), None)
+        document["host"]["mem"][1] -= 1 << 20
+        self.assertEqual(self.refusal(document), TOO_SMALL["mem"])
+
+    def test_no_room_is_left(self):
+        for seed in (1, 7):
+            choices = RandomChoices(seed)
+            document = tight(draw_board(choices, 2, guests=False), [], choices, self.refusal)
+            self.assertIsNone(self.refusal(document))
+            for key, (first, last) in document["host"].items():
+                sizes = [bar["size"] for table in document["endpoint"] for bar in table.get("bar", [])
+                         if (bar["kind"] == "io") == (key == "io")]
+                self.assertTrue(sum(sizes) <= last + 1 - first or key != "io")
+            more = too_small(document, choices, self.refusal)
+            self.assertIn(self.refusal(more), TOO_SMALL.values())
+
+    def test_apertures_that_are_given(self):
+        small = PLAIN._replace(mem=(0xE0000000, 0xE3FFFFFF), io=(0x1000, 0x7FFF))
+        choices = RandomChoices(1)
+        document = tight(draw_board(choices, 2, [small], guests=False), ["io", "mem"], choices, self.refusal)
+        self.assertEqual(document["host"], small.table())
+        self.assertIsNone(self.refusal(document))
+        self.assertEqual(self.refusal(too_small(document, choices, self.refusal)), TOO_SMALL["mem"])
 
 
 class Shrinking(unittest.TestCase):
     def shrunk(self, document, holds):
         def asked(smaller):
-            return SecondHand().can_be_set_up(text_of(smaller)) and holds(smaller)
+            return SecondHand().refusal(text_of(smaller)) is None and holds(smaller)
         return shrunk(document, asked, 60)
 
     def test_to_a_bridge_behind_a_bridge(self):
@@ -109,19 +159,46 @@ class Findings(unittest.TestCase):
     def test_sizing_of_each_register(self):
         line, words = "host cw 01:00.0 {:#x} 4 {:#x}", "sizing: 01:00.0 bar{}: all ones are written while Command"
         for offset, register in ((0x10, 0), (0x18, 2), (0x1C, 2)):
-            board = after(line.format(offset, 0xFFFFFFF0))
-            told = Sizing(board).seen(line.format(offset, 0xFFFFFFF0))
-            self.assertTrue(told.startswith(words.format(register)), told)
-        for one in (line.format(0x14, 0xFFFFFFFF), line.format(0x10, 0xC0000000), line.format(0x30, 0xFFFFFFFF),
-                    "host cw 00:02.0 0x10 4 0xffffffff", "host cw 05:00.0 0x10 4 0xffffffff", "host iw 0xcfc 4 0xffffffff"):
-            self.assertIsNone(Sizing(after()).seen(one), one)
-        # an upper half that looks like the type bits of a base
-        self.assertEqual([first_register([0xC, 4, 1, 0, 4, 4], register) for register in range(6)], [0, 0, 2, 3, 4, 4])
+            told = seen(line.format(offset, 0xFFFFFFF0))
+            self.assertTrue(told[0].startswith(words.format(register)), told)
+        for one in (line.format(0x14, 0xFFFFFFFF), line.format(0x10, 0xC0200000), line.format(0x30, 0xFFFFFFFF),
+                    "host cw 00:02.0 0x10 4 0xffffffff", "host cw 05:00.0 0x10 4 0xffffffff"):
+            self.assertEqual(seen(one), [], one)
+
+    def test_transients(self):
+        self.assertEqual(seen(), [])
+        moved = "moved: 2.0/0.0 bar0 at 0xc0400000 size 0x200000: moves while Command 0x0002 opens memory, from 0xc0200000"
+        self.assertEqual(seen("host cw 01:00.0 0x10 4 0xc0400000"), [moved])
+        self.assertEqual(seen("host iw 0xcf8 4 0x80010010", "host iw 0xcfc 4 0xc0400000"), [moved])
+        shut = ["host cw 01:00.0 4 2 0", "host cw 01:00.0 0x10 4 0xffffffff"]
+        self.assertEqual(seen(*shut), [])
+        self.assertIn("ones: 2.0/0.0 bar0 at 0xffe00000 size 0x200000: Command 0x0002 opens memory over the ones of sizing",
+                      seen(*shut, "host cw 01:00.0 4 2 2"))
+        both = "host cw 01:00.0 0x10 4 0xc0000000"
+        self.assertIn("overlap: 2.0/0.0 bar0 and 2.0/2.0 both answer memory 0xc0000000", seen(both))
+        self.assertEqual(seen(both, "host cw 01:00.0 0x3c 1 5"), [])
+
+    def test_windows_of_reset(self):
+        document = SPECIAL["status_bits"]()
+        words = "reset: 3.0: Command 0x0002 opens memory while the {} window is that of reset, 0x0 to 0xfffff"
+        opening = "host cw 00:03.0 4 2 2"
+        self.assertEqual(seen(opening, document=document), [words.format(each) for each in ("memory", "prefetchable")])
+        self.assertEqual(seen("host cw 00:03.0 0x20 4 0xfff0", opening, document=document), [words.format("prefetchable")])
+        self.assertEqual(seen("host cw 00:03.0 0x20 4 0xfff0", "host cw 00:03.0 0x24 4 0xfff0", opening, document=document), [])
+
+    def test_status(self):
+        document = SPECIAL["status_bits"]()
+        told = "status: 1.0: Status 0xf900 becomes 0x0100 as Command is written"
+        self.assertEqual(seen("host cw 00:01.0 4 4 0xf8000000", document=document), [told])
+        for line in ("4 4 0x2", "4 2 0x2", "6 2 0xf900", "7 1 0xff"):
+            self.assertEqual(seen(f"host cw 00:01.0 {line}", document=document), [], line)
 
     def test_each_finding_has_a_kind(self):
         kinds = {kind_of(line) for line in findings(SecondHandBoard(AUDITED))}
         self.assertEqual(kinds, {"unreached", "closed"})
         self.assertLess(kinds, set(KINDS))
+        for line in ("moved: x", "overlap: 1.0 and 2.0 both answer memory 0x0", "sizing: all ones are written", "room: x"):
+            self.assertEqual(kind_of(line), line.partition(":")[0])
 
     def test_the_same_problem(self):
         one = "ready: 1.0 bar0 at 0x0 size 0x10 is closed"
@@ -147,13 +224,50 @@ class Reasons(unittest.TestCase):
         both = "audit: 1.0 bar1 and 2.0 both answer I/O 0x1000"
         self.assertEqual(reasons(board, AUDITED, both)[0], "host why io 0x1000")
 
-    def test_sizing(self):
+    def test_lines(self):
         for line, asked in (("host cw 01:00.0 0x18 4 0xffffffff", "mem 0x4fff00000"),
                             ("host cw 01:00.0 0x1c 4 0xffffffff", "mem 0xffffffff00000000"),
                             ("host cw 00:01.0 0x10 4 0xffffffff", "mem 0xfffff000"),
-                            ("host cw 01:01.0 0x10 4 0xffffffff", "io 0xffffffe0")):
-            board = after(line)
-            self.assertEqual(reasons(board, AUDITED, Sizing(board).seen(line))[0], f"host why {asked}")
+                            ("host cw 01:01.0 0x10 4 0xffffffff", "io 0xffffffe0"),
+                            ("host cw 01:00.0 0x10 4 0xc0400000", "mem 0xc0400000")):
+            self.assertEqual(reasons(after(line), AUDITED, seen(line)[0])[0], f"host why {asked}")
+        words = "reset: 2.0: Command 0x0001 opens I/O while the I/O window is that of reset, 0x0 to 0xfff"
+        self.assertEqual(reasons(after(), AUDITED, words)[0], "host why io 0x0")
+
+
+class WhoWrote(unittest.TestCase):
+    def told(self, finding, *lines):
+        story = story_of(SecondHand(), text_of(AUDITED), AUDITED, lines)
+        return list(writers(story, AUDITED, finding, len(lines)))
+
+    def test_each_kind(self):
+        lines = ["host cw 00:02.0 0x18 4 0x00010100", "host cw 01:00.0 0x10 4 0xc0000000", "host cw 00:02.0 0x20 4 0xc000c000",
+                 "host iw 0xcf8 4 0x80010004", "host iw 0xcfc 1 2", "host cw 00:02.0 0x22 2 0xc010"]
+        command = "2.0/0.0 Command: written last by line 5 of 6: host iw 0xcfc 1 2"
+        base = "2.0/0.0 bar0: written last by line 2 of 6: host cw 01:00.0 0x10 4 0xc0000000"
+        self.assertEqual(self.told("ready: 2.0/0.0 bar0 at 0xc0000000 size 0x100000 is closed", *lines), [base, command])
+        told = self.told("audit: 2.0/0.0 bar0 at 0xc0000000 size 0x100000: 0xc0100000 is not forwarded by 2.0", *lines)
+        self.assertEqual(told[:4], [
+            base, command, "2.0 Memory Base: written last by line 3 of 6: host cw 00:02.0 0x20 4 0xc000c000",
+            "2.0 Memory Limit: written last by line 6 of 6: host cw 00:02.0 0x22 2 0xc010"])
+        self.assertEqual(self.told("audit: 2.0/0.0: a cycle for 01:00.0 reaches nothing", *lines),
+                         [f"2.0 Secondary, Subordinate: written last by line 1 of 6: {lines[0]}"])
+        self.assertEqual(self.told("ready: 2.0: Primary is 00 on bus 01", *lines),
+                         [f"2.0 Primary: written last by line 1 of 6: {lines[0]}"])
+        self.assertEqual(self.told("status: 2.0/0.0: Status 0x0100 becomes 0x0000 as Command is written", *lines),
+                         ["2.0/0.0 Status: never written"])
+
+    def test_a_function_that_is_never_found(self):
+        lines = ["host cw 00:02.0 0x18 4 0x00000100", "host cr 00:01.0 0 4", "host cr 01:00.0 0 4", "host cr 01:01.0 0 4"]
+        story = story_of(SecondHand(), text_of(AUDITED), AUDITED, lines)
+        self.assertEqual(story.unfound("2.0/0.0"), "2.0/0.0")
+        self.assertIsNone(story.unfound("1.0"))
+        told = why_unfound(SecondHand(), text_of(AUDITED), lines, "2.0/0.0", story.asked["2.0/0.0"])
+        self.assertEqual(told, [
+            "the firmware never finds 2.0/0.0: line 3 of 4 asks for it last: host cr 01:00.0 0 4", "host why cfg 01:00.0",
+            "why: 01:00.0 reaches nothing", "why: no bridge on bus 00 takes bus 01"])
+        self.assertNotIn("3.0", story.asked)
+        self.assertIn("never asks for it", why_unfound(SecondHand(), "", lines, "3.0", None)[0])
 
 
 if __name__ == "__main__":

@@ -114,8 +114,7 @@ class FirmwareTest(unittest.TestCase):
     def test_a_lack_since_reset(self):
         told = self.fails("pass", "ready: 1.0 bar0 at 0x0 size 0x[14]0? is closed\n.*so since reset: none of the 0 lines")
         self.assertIn('at = "1.0"', told)
-        why = "\nhost why (mem|io) 0x0\nwhy: .* 0x0: nobody answers\nwhy: 1.0 bar0 .*: closed, Command 0x0000\n"
-        self.assertTrue(re.search(why, told), told)
+        self.assertIn("\n1.0 bar0, Command: never written\nthe firmware never finds 1.0, and never asks for it\n", told)
         self.assertNotIn("2.0", told.split("this board again")[0])
         self.assertIn("size = 0x", self.failed.read_text())
 
@@ -123,6 +122,8 @@ class FirmwareTest(unittest.TestCase):
         told = self.fails(PLACE + OPEN + "; ask('host cr 00:01.0 0 4'); ask('host cw 00:01.0 0x10 4 0xe0000000')",
                           "0xe0000000 is outside the apertures\n")
         self.assertIn("so since line 5 of 5: host cw 00:01.0 0x10 4 0xe0000000\n"
+                      "1.0 bar0: written last by line 5 of 5: host cw 00:01.0 0x10 4 0xe0000000\n"
+                      "1.0 Command: written last by line 3 of 5: host cw 00:01.0 4 2 3\n"
                       "host why mem 0xe0000000\nwhy: memory 0xe0000000: 1.0 bar0 offset 0x0 answers\n\n", told)
 
     def test_sizing(self):
@@ -154,7 +155,7 @@ class FirmwareTest(unittest.TestCase):
 
     def test_dies(self):
         told = self.fails("sys.exit('no memory')", "the firmware ended with status 1", "--shrink", "1")
-        self.assertIn("its standard error:\nno memory", told)
+        self.assertIn("set-up finds room for all regions: `pciguest list` shows where\n\nits standard error:\nno memory", told)
         self.fails("os.kill(os.getpid(), 11)", "was ended by signal 11", "--shrink", "1")
 
     def test_floods(self):
@@ -212,12 +213,69 @@ class FirmwareTest(unittest.TestCase):
 
     def test_random_boards(self):
         self.board.unlink()
-        with mock.patch.object(firmware_test, "EXAMPLES", []):
+        with mock.patch.object(firmware_test, "EXAMPLES", []), mock.patch.object(firmware_test, "SPECIAL", {}):
             words = ["--boards", "3", "--save", str(self.failed), "--", "true"]
             with contextlib.redirect_stdout(io.StringIO()) as out:
                 self.assertEqual(firmware_test.main(words, SecondHand()), 1)
         wanted = r"FAILED on random board \d \(\d+ functions\), and on this board \(\d functions?\)"
         self.assertTrue(re.search(wanted, out.getvalue()), out.getvalue())
+
+    def test_special_boards(self):
+        words = ["--special", "no_ports_left", "--save", str(self.failed), "--", "true"]
+        with contextlib.redirect_stdout(io.StringIO()) as out:
+            self.assertEqual(firmware_test.main(words, SecondHand()), 1)
+        self.assertIn("\nroom: the board has no room for all regions, and the firmware doesn't say so\n", out.getvalue())
+        self.assertIn("--special no_ports_left -- true\n", out.getvalue())
+
+    def test_no_room(self):
+        self.board.write_text(BOARD.replace("0xdfffffff", "0xc00fffff").replace("size = 4096", "size = 0x200000"))
+        said = "1 board: the firmware leaves 0 of them ready, and says of 1 that they have no room\n"
+        full = "ask('host cw 00:01.0 0x14 4 0x1000'); ask('host cw 00:01.0 4 2 1'); sys.stderr.write('no room');"
+        for code, options in ((full + "sys.exit(7)", ["--no-room", "7"]), (full + "sys.exit(7)", []), (full, ["--no-room", "no room"]),
+                              (full, ["--allow", "room"])):
+            status, told = self.run_firmware(code, *options)
+            self.assertEqual((status, said in told), (0, True), told)
+        for code, options in ((full, []), (full + "sys.exit(7)", ["--no-room", "8"]), (full, ["--no-room", "full"])):
+            self.assertEqual(self.run_firmware(code, *options, "--shrink", "0")[0], 1)
+        self.fails("ask('host cw 00:01.0 4 2 2'); sys.exit(1)", "0x0 is outside the apertures", "--shrink", "0")
+        self.fails("os.kill(os.getpid(), 11)", "was ended by signal 11", "--shrink", "0")
+
+    def test_transients(self):
+        code = "ask('host cw 00:01.0 4 2 3');" + PLACE
+        told = ("moved: 1.0 bar0 at 0xc0000000 size 0x1000: moves while Command 0x0003 opens memory, from 0x0")
+        status, words = self.run_firmware(code)
+        self.assertEqual(status, 0)
+        self.assertIn(f"warning: {told}\n  by line 2 of 3 on {self.board}: host cw 00:01.0 0x10 4 0xc0000000\n", words)
+        found = self.fails(code, "so since line 2 of 3: host cw 00:01.0 0x10 4 0xc0000000\n", "--transients")
+        self.assertIn("moves while Command", found)
+        self.assertIn("test --transients --board", found)
+        self.assertEqual(self.run_firmware(code, "--transients", "--allow", "moved")[0], 0)
+        self.assertNotIn("warning", self.run_firmware(PLACE + OPEN)[1])
+
+    def test_a_status_that_is_wiped(self):
+        self.board.write_text(BOARD.replace('device = 2', 'device = 2\nstatus = 0xf900'))
+        wipes = "old = int(ask('host cr 00:02.0 4 4')[6:], 16); ask(f'host cw 00:02.0 4 4 {old | 0x100:#x}');"
+        status, told = self.run_firmware(wipes + PLACE + OPEN)
+        self.assertEqual((status, "warning: status: 2.0: Status 0xf900 becomes 0x0000" in told), (0, True), told)
+        self.fails(wipes + PLACE + OPEN, "2.0 Status: written last by line 2 of", "--transients")
+
+    def test_all_boards(self):
+        boards = ["--board", str(self.board)]
+        told = self.fails("pass", "2 boards: the firmware fails on 2\n", "--all", *boards)
+        line = f"FAILED on {self.board} (closed 2): ready: 1.0 bar0 at 0x0 size 0x1000 is closed\n"
+        self.assertEqual(told, 2 * line + "2 boards: the firmware fails on 2\n")
+        self.fails("sys.exit(3)", r"\(dies 1\): the firmware ended with status 3", "--all")
+
+    def test_sentences_in_place_of_tracebacks(self):
+        words = "import sys; from pciguest._files import told_whole; sys.exit(told_whole(lambda: print('x' * 200000)))"
+        where = {**os.environ, "PYTHONPATH": str(places.TOP / "library/python")}
+        with subprocess.Popen([sys.executable, "-c", words], stdout=subprocess.PIPE, stderr=subprocess.PIPE, env=where) as piped:
+            piped.stdout.close()
+            told = piped.stderr.read()
+        self.assertEqual((piped.wait(), told), (2, b"standard output was closed before all was told\n"))
+        ran = subprocess.run([sys.executable, "-m", "pciguest.rom_test", "/nosuch.rom"], capture_output=True, text=True, env=where)
+        self.assertIn(ran.returncode, (1, 2))
+        self.assertNotIn("Traceback", ran.stderr)
 
     def test_junit_of_a_failure(self):
         self.fails("pass", "is closed")

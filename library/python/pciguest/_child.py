@@ -140,6 +140,11 @@ class Child:
         if self.process.returncode:
             raise Misbehaviour("dies", in_words(self.process.returncode))
 
+    @property
+    def status(self) -> Optional[int]:
+        """With which it ended, or None while it runs."""
+        return self.process.poll()
+
     def last_words(self) -> str:
         """The end of its standard error, as far as it was written by now: it may go on for ever."""
         for _ in range(16):

@@ -108,6 +108,8 @@ class BoardDrawing:
     def endpoint(self, path: Path, windows: Above) -> None:
         table: Document = {**self.identity(path), "class": self.choices.one_of([0xFF0000, 0x020000, 0x010802])}
         table["pin"] = self.choices.number(0, 4)
+        if self.percent(30):
+            table["status"] = self.choices.one_of([0xF900, 0x8000, 0x0100, 0x4900])
         bars, index = [], 0
         while index < 6:
             kind = self.choices.one_of([""] + KINDS)

@@ -3,6 +3,7 @@
 from __future__ import annotations
 
 import math
+import re
 import subprocess
 import sys
 import tempfile
@@ -22,10 +23,11 @@ class DrivenBoard(Protocol):
 
 
 class Maker(Protocol):
-    """Who makes such boards of board files, and says whether our own set-up finds room for all of a board."""
+    """Who makes such boards of board files, and says by which number our own set-up refuses one: None where it finds room
+    for all, and 203 to 205 where a pool doesn't fit its aperture."""
 
     def board(self, text: str) -> DrivenBoard: ...
-    def can_be_set_up(self, text: str) -> bool: ...
+    def refusal(self, text: str) -> Optional[int]: ...
 
 
 class LibraryBoard:
@@ -50,8 +52,9 @@ class Library:
     def board(self, text: str) -> DrivenBoard:
         return LibraryBoard(text)
 
-    def can_be_set_up(self, text: str) -> bool:
-        return _texts.check(text).refusal is None
+    def refusal(self, text: str) -> Optional[int]:
+        refused = _texts.check(text).refusal
+        return refused.number if refused else None
 
 
 class ProgramFailed(Exception):
@@ -112,10 +115,11 @@ class Program:
     def board(self, text: str) -> DrivenBoard:
         return ProgramBoard(self.program, text)
 
-    def can_be_set_up(self, text: str) -> bool:
+    def refusal(self, text: str) -> Optional[int]:
         with tempfile.TemporaryDirectory() as room:
             file = Path(room) / "board.toml"
             file.write_text(text)
-            asked = subprocess.run([self.program, "check", "--plain", str(file)], stdout=subprocess.PIPE,
-                                   stderr=subprocess.DEVNULL)
-            return asked.returncode == 0
+            asked = subprocess.run([self.program, "check", "--plain", str(file)], stdout=subprocess.DEVNULL,
+                                   stderr=subprocess.PIPE)
+        found = re.search(rb"fault (\d+)", asked.stderr)
+        return int(found[1]) if found else None

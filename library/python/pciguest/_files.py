@@ -1,8 +1,12 @@
-"""Files that stand beside this module in the repository, in the tarball, where that was installed, and in Debian's packages."""
+"""Files that stand beside this module in the repository, in the tarball, where that was installed, and in Debian's packages;
+and the standard output of its programs."""
 
 from __future__ import annotations
 
+import os
+import sys
 from pathlib import Path
+from typing import Callable
 
 
 def find(repository: str, installed: str) -> Path:
@@ -14,3 +18,15 @@ def find(repository: str, installed: str) -> Path:
         if top.exists():
             return top
     raise FileNotFoundError(f"{installed} of pciguest stands in none of {', '.join(map(str, tops))}")
+
+
+def told_whole(main: Callable[[], int]) -> int:
+    """Runs a program to its status, which is 2 where nobody reads all that it tells, as behind a pipe into `head`."""
+    try:
+        status = main()
+        sys.stdout.flush()
+        return status
+    except BrokenPipeError:
+        os.dup2(os.open(os.devnull, os.O_WRONLY), sys.stdout.fileno())
+        print("standard output was closed before all was told", file=sys.stderr)
+        return 2

@@ -4,13 +4,14 @@ from __future__ import annotations
 
 import re
 from contextlib import closing
-from typing import Dict, FrozenSet, List, NamedTuple, Optional, Set
+from typing import Dict, FrozenSet, List, NamedTuple, Optional, Set, Union
 
 from ._board_file import Document, text_of
 from ._child import Child, Limits, Misbehaviour
 from ._driven import DrivenBoard, Maker
-from ._judge import Sizing, findings, kind_of, same_problem
+from ._judge import TRANSIENTS, findings, kind_of, same_problem
 from ._reasons import reasons
+from ._watch import Watch
 
 REFUSED = re.compile(r"\S+ refused (\d+) ")
 #: numbers of lines that are no access at all; what else is refused is an access that no board takes
@@ -18,15 +19,33 @@ NO_ACCESS = {"401", "402", "403"}
 
 
 class Run(NamedTuple):
-    """What firmware wrote and was answered, and what is wrong, the first first; `kind`
-    is that of the first. Of firmware that misbehaves the end of its standard error is kept, and how long it was silent."""
+    """What firmware wrote and was answered, and what is wrong, the first first; `kind` is that of the first. `since` has the
+    line of each finding that is about a line, among them the warnings, which aren't wrong. Of firmware that misbehaves the
+    end of its standard error is kept, and how long it was silent."""
 
     lines: List[str]
     replies: List[Optional[str]]
     wrong: List[str]
     kind: Optional[str]
+    since: Dict[str, int] = {}
+    warnings: List[str] = []
     last_words: str = ""
     longest_silence: float = 0
+
+
+class Asked(NamedTuple):
+    """What is asked of firmware: all but what is allowed, by its kind, and transients where they are no warnings; and how
+    it says that a board has no room: by a status, 0 for any but 0, or by words of its standard error."""
+
+    allowed: FrozenSet[str] = frozenset()
+    transients: bool = False
+    no_room: Union[int, str] = 0
+
+    def is_said(self, status: Optional[int], last_words: str) -> bool:
+        """Whether firmware that ended says that there is no room."""
+        if isinstance(self.no_room, str):
+            return self.no_room in last_words
+        return status is not None and (status == self.no_room if self.no_room else status > 0)
 
 
 def environment(document: Document) -> Dict[str, str]:
@@ -39,48 +58,57 @@ def environment(document: Document) -> Dict[str, str]:
 
 
 class Firmware:
-    """A command that is run on boards. What is allowed, by its kind, is not asked of it."""
+    """A command that is run on boards."""
 
-    def __init__(self, command: List[str], maker: Maker, limits: Limits, allowed: FrozenSet[str] = frozenset()) -> None:
-        self.command, self.maker, self.limits, self.allowed = command, maker, limits, allowed
+    def __init__(self, command: List[str], maker: Maker, limits: Limits, asked: Asked = Asked()) -> None:
+        self.command, self.maker, self.limits, self.asked = command, maker, limits, asked
 
-    def run(self, document: Document) -> Run:
-        """Runs it to its end on a board at reset, and judges what it leaves."""
-        lines: List[str] = []
-        replies: List[Optional[str]] = []
+    def run(self, document: Document, has_room: bool = True) -> Run:
+        """Runs it to its end on a board at reset, and judges what it does and leaves. Where the board has no room for all
+        regions, it has to say so, and closed ones are no lack."""
+        run, allowed = Run([], [], [], None, {}), self.asked.allowed
         with closing(self.maker.board(text_of(document))) as board:
             with closing(Child(self.command, self.limits, environment(document))) as child:
                 try:
-                    found = self.converse(child, board, lines, replies)
+                    self.converse(child, Watch(board, document), run)
                 except Misbehaviour as wrong:
-                    told = f"the firmware {wrong.told}{after(lines)}"
-                    return Run(lines, replies, [told], wrong.kind, child.last_words(), child.longest_silence)
-            found += findings(board)
-        asked = [each for each in found if kind_of(each) not in self.allowed]
-        return Run(lines, replies, asked, kind_of(asked[0]) if asked else None)
+                    if has_room or wrong.kind != "dies" or not self.asked.is_said(child.status, child.last_words()):
+                        told = f"the firmware {wrong.told}{after(run.lines)}"
+                        return run._replace(wrong=[told], kind=wrong.kind, last_words=child.last_words(),
+                                            longest_silence=child.longest_silence)
+                is_said = self.asked.is_said(child.status, child.last_words())
+            left = findings(board)
+        if not has_room and left:
+            said = [] if is_said else ["room: the board has no room for all regions, and the firmware doesn't say so"]
+            left = said + [each for each in left if kind_of(each) != "closed"]
+        return self.judged(run, left, allowed)
 
-    def converse(
-        self, child: Child, board: DrivenBoard, lines: List[str], replies: List[Optional[str]]
-    ) -> List[str]:
-        """Answers each line by the board. What is wrong with an access that the board did take is given back."""
-        sizing, found = Sizing(board), []
+    def judged(self, run: Run, left: List[str], allowed: FrozenSet[str]) -> Run:
+        """The run with what is wrong: about its lines, and then about what is left."""
+        about_lines = [each for each in run.since if kind_of(each) not in allowed and each.replace("overlap", "audit", 1) not in left]
+        warnings = [each for each in about_lines if kind_of(each) in TRANSIENTS and not self.asked.transients]
+        wrong = [each for each in about_lines if each not in warnings]
+        wrong += [each for each in left if kind_of(each) not in allowed]
+        return run._replace(wrong=wrong, warnings=warnings, kind=kind_of(wrong[0]) if wrong else None)
+
+    def converse(self, child: Child, watch: Watch, run: Run) -> None:
+        """Answers each line by the board, and keeps in the run what is wrong with an access that the board did take."""
         for raw in child.lines():
             line = raw.decode("utf-8", "backslashreplace")
             if line.split()[:2] == ["host", "guests"]:
                 raise Misbehaviour("nonsense", f"writes a line that is no access, and gives the board away: {line[:100]!r}")
-            reply = board.run_line(line)
+            reply = watch.board.run_line(line)
             refusal = REFUSED.match(reply or "")
             if refusal and refusal[1] in NO_ACCESS:
                 raise Misbehaviour("nonsense", f"writes a line that is no access ({reply}): {line[:100]!r}")
             if refusal:
                 raise Misbehaviour("refused", f"makes an access that no board takes ({reply}): {line}")
-            lines.append(line)
-            replies.append(reply)
-            wrong = sizing.seen(line) if reply == "host: ok" else None
-            found += [wrong] if wrong else []
+            run.lines.append(line)
+            run.replies.append(reply)
+            for told in watch.seen(line):
+                run.since.setdefault(told, len(run.lines))
             if reply is not None:
                 child.answer(reply)
-        return found
 
 
 def after(lines: List[str]) -> str:
@@ -91,17 +119,13 @@ def after(lines: List[str]) -> str:
 
 
 def since(maker: Maker, document: Document, lines: List[str], finding: str) -> int:
-    """The number of the line since which a finding is there: of all lines the last before which it wasn't. It is 0 where
-    it was there at reset and ever since."""
+    """The number of the line since which a finding about what is left is there: of all lines the last before which it
+    wasn't. It is 0 where it was there at reset and ever since."""
     wanted, place = same_problem(finding), 0
     with closing(maker.board(text_of(document))) as board:
-        sizing, was = Sizing(board), wanted in problems(board)
+        was = wanted in problems(board)
         for count, line in enumerate(lines, 1):
             if board.run_line(line) != "host: ok":
-                continue
-            if finding.startswith("sizing:"):
-                if sizing.seen(line) == finding:
-                    return count
                 continue
             now = wanted in problems(board)
             place, was = (count if now and not was else place), now

@@ -14,29 +14,34 @@ import shlex
 import sys
 import time
 import tomllib
+from collections import Counter
 from pathlib import Path
-from typing import Dict, Iterator, List, NamedTuple, Optional, Tuple
+from typing import Dict, Iterator, List, NamedTuple, Optional, Tuple, Union
 
 from . import _junit
 from ._board_file import Document, functions, text_of
 from ._drawing import PARTED, PLAIN, WIDE, Apertures, RandomChoices, draw_board
 from ._child import CannotStart, Limits
 from ._driven import Library, Maker, Program, ProgramFailed
-from ._files import find
-from ._firmware_run import Firmware, Run, reasons_after, since
-from ._judge import KINDS
+from ._files import find, told_whole
+from ._firmware_run import Asked, Firmware, Run, reasons_after, since
+from ._judge import KINDS, LEFT, kind_of
 from ._shrink import shrunk
+from ._special import SPECIAL
+from ._tight import TOO_SMALL, cut, tight, too_small
+from ._writers import story_of, why_unfound, writers
 
 #: boards of the folder `boards`, each of which can be set up
 EXAMPLES = ["main", "server", "second_bridge", "kinds", "chain", "guest_elsewhere"]
 
 
 class Named(NamedTuple):
-    """A board, what it is called, and the words that choose it alone."""
+    """A board, what it is called, the words that choose it alone, and the number by which set-up refuses it."""
 
     name: str
     document: Document
     again: str
+    refusal: Optional[int]
 
 
 class Usage(Exception):
@@ -50,6 +55,11 @@ def aperture(word: str) -> Tuple[int, int]:
         return int(first, 0), int(last, 0)
     except ValueError:
         raise argparse.ArgumentTypeError(f"{word} is no range as 0x1000-0xffff") from None
+
+
+def no_room(word: str) -> Union[int, str]:
+    """How firmware says that there is no room: a status, or words."""
+    return int(word) if word.isdigit() else word
 
 
 def called() -> List[str]:
@@ -69,6 +79,8 @@ def parser() -> argparse.ArgumentParser:
     words.add_argument("--seed", type=int, default=1, metavar="S", help="of the first random board (1)")
     words.add_argument("--bridges", type=int, default=6, metavar="N", help="most bridges of a random board (6)")
     words.add_argument("--board", action="append", default=[], metavar="FILE", help="this board file, and no other board")
+    words.add_argument("--special", action="append", default=[], choices=SPECIAL, metavar="NAME",
+                       help=f"the board for this kind of mistake, and no other board: {', '.join(SPECIAL)}")
     words.add_argument("--time", type=float, default=10, metavar="SECONDS",
                        help="without a line, and twenty times that for a board (10)")
     words.add_argument("--lines", type=int, default=200_000, metavar="N", help="most lines on a board (200000)")
@@ -77,6 +89,12 @@ def parser() -> argparse.ArgumentParser:
     words.add_argument("--pref", type=aperture, metavar="FIRST-LAST", help="the prefetchable memory")
     words.add_argument("--allow", action="append", default=[], choices=KINDS, metavar="KIND",
                        help=f"don't ask for this: {', '.join(KINDS)}")
+    words.add_argument("--transients", action="store_true",
+                       help="what is wrong only while firmware writes is a failure, and no warning")
+    words.add_argument("--no-room", type=no_room, default=0, metavar="STATUS|WORDS",
+                       help="how firmware says that a board has no room for all regions: it ends with this status, or any "
+                       "but 0 (0), or its standard error has these words")
+    words.add_argument("--all", action="store_true", help="all boards: a line for each on which it fails, and no smaller board")
     words.add_argument("--shrink", type=float, default=60, metavar="SECONDS", help="time to look for a smaller board (60)")
     words.add_argument("--save", default="failed.toml", metavar="FILE", help="the board that failed (failed.toml)")
     words.add_argument("--junit", metavar="FILE", help="results in the form of JUnit")
@@ -92,23 +110,51 @@ class Test:
         self.options, self.maker = options, maker or (Program(options.program) if options.program else Library())
         self.limits = Limits(options.time, 20 * options.time, options.lines)
         self.results: List[_junit.Result] = []
+        self.warnings: Dict[str, List[Tuple[Named, Run, str]]] = {}
 
     def firmware(self, limits: Optional[Limits] = None) -> Firmware:
-        return Firmware(self.options.command, self.maker, limits or self.limits, frozenset(self.options.allow))
+        asked = Asked(frozenset(self.options.allow), self.options.transients, self.options.no_room)
+        return Firmware(self.options.command, self.maker, limits or self.limits, asked)
+
+    def refusal(self, document: Document) -> Optional[int]:
+        return self.maker.refusal(text_of(document))
 
     # ---- boards
 
     def boards(self) -> Iterator[Named]:
-        if self.options.board:
+        """The boards that are asked for, or else those of the examples, the special ones and the random ones."""
+        if self.options.board or self.options.special:
             yield from (self.read(Path(file), file) for file in self.options.board)
+            yield from map(self.special, self.options.special)
             return
         for file in example_files():
             yield self.read(file, f"the example {file.name}")
-        given = Apertures(*(getattr(self.options, key) or getattr(PLAIN, key) for key in ("io", "mem", "pref")))
-        choice = [given] if self.given() else [PLAIN, WIDE, PARTED]
-        for seed in range(self.options.seed, self.options.seed + self.options.boards):
-            document = draw_board(RandomChoices(seed), self.options.bridges, choice, guests=False)
-            yield Named(f"random board {seed}", document, f"--boards 1 --seed {seed}")
+        yield from map(self.special, SPECIAL)
+        yield from map(self.random, range(self.options.seed, self.options.seed + self.options.boards))
+
+    def named(self, name: str, document: Document, again: str) -> Named:
+        return Named(name, document, again, self.refusal(document))
+
+    def special(self, name: str) -> Named:
+        """A special board, whose apertures have no more than it needs. Where memory is given, no other is."""
+        document, given = SPECIAL[name](), self.given()
+        own = {key: value for key, value in document["host"].items() if key != "pref" or "mem" not in given}
+        document = {**document, "host": {**own, **given}}
+        for key in document["host"]:
+            if key not in given and self.refusal(document) is None:
+                document = cut(document, key, self.refusal)
+        return self.named(f"the special board {name}", document, f"--special {name}")
+
+    def random(self, seed: int) -> Named:
+        """A random board. One in three has no room left, and one in nine not enough."""
+        given = self.given()
+        apertures = [PLAIN._replace(**{key: (first, last) for key, (first, last) in given.items()})]
+        choices = RandomChoices(seed)
+        document = draw_board(choices, self.options.bridges, apertures if given else [PLAIN, WIDE, PARTED], guests=False)
+        if self.refusal(document) is None and (seed % 3 == 1 or seed % 9 == 3):
+            document = tight(document, list(given), choices, self.refusal)
+            document = (too_small(document, choices, self.refusal) if seed % 9 == 3 else None) or document
+        return self.named(f"random board {seed}", document, f"--boards 1 --seed {seed}")
 
     def given(self) -> Dict[str, List[int]]:
         """The apertures that the words give, in place of each board's own."""
@@ -121,47 +167,78 @@ class Test:
             host = {**document["host"], **self.given()}
         except (OSError, ValueError, KeyError, TypeError) as error:
             raise Usage(f"{file}: {error}") from None
-        return Named(name, {**document, "host": host}, f"--board {shlex.quote(str(file))}")
+        return self.named(name, {**document, "host": host}, f"--board {shlex.quote(str(file))}")
 
     # ---- runs
 
-    def smallest(self, document: Document, run: Run) -> Document:
+    def smallest(self, board: Named, run: Run) -> Document:
         """The smallest board that is found on which the firmware fails in the same way. Who hangs gets less time for
         that: twenty times its longest silence before."""
         silence = min(self.limits.silence, max(1, 20 * run.longest_silence)) if run.kind == "hangs" else self.limits.silence
         firmware = self.firmware(self.limits._replace(silence=silence))
 
         def fails(candidate: Document) -> bool:
-            return self.maker.can_be_set_up(text_of(candidate)) and firmware.run(candidate).kind == run.kind
+            if self.refusal(candidate) != board.refusal:
+                return False
+            return firmware.run(candidate, board.refusal is None).kind == run.kind
 
-        return shrunk(document, fails, self.options.shrink)
+        return shrunk(board.document, fails, self.options.shrink)
 
     def test(self) -> int:
-        """Runs the firmware on all boards, up to the first on which it fails."""
-        left_out = 0
+        """Runs the firmware on all boards, up to the first on which it fails, or to the last."""
+        left_out, without_room, failed = 0, 0, 0
         for board in self.boards():
-            if not self.maker.can_be_set_up(text_of(board.document)):
-                if self.options.board:
-                    raise Usage(f"{board.name}: cannot be set up; `pciguest check {board.name}` says why")
-                left_out += 1
+            if board.refusal not in (None, *TOO_SMALL.values()):
+                raise Usage(f"{board.name}: cannot be set up; `pciguest check {board.name}` says why")
+            if board.refusal and board.again.startswith("--board ") and not self.options.board:
+                left_out += 1  # an example in apertures that are given
                 continue
             begun = time.monotonic()
-            run = self.firmware().run(board.document)
+            run = self.firmware().run(board.document, board.refusal is None)
             took = time.monotonic() - begun
-            told = self.failure(board, run) if run.wrong else ""
+            told = "" if not run.wrong else self.in_a_line(board, run) if self.options.all else self.failure(board, run)
             self.results.append(_junit.Result(board.name, took, run.wrong[0] if run.wrong else None, told))
+            for warning in run.warnings:
+                self.warnings.setdefault(kind_of(warning), []).append((board, run, warning))
             if run.wrong:
-                print(told)
-                return 1
-        print(f"{counted(len(self.results), 'board')}: the firmware leaves each of them ready")
+                print(told, flush=True)
+                failed += 1
+                if not self.options.all:
+                    break
+            without_room += board.refusal is not None and not run.wrong
+        if not failed:
+            self.tell_ready(without_room, left_out)
+        elif self.options.all:
+            print(f"{counted(len(self.results), 'board')}: the firmware fails on {failed}")
+        self.tell_warnings()
+        return int(failed > 0)
+
+    def in_a_line(self, board: Named, run: Run) -> str:
+        """What is told of a board on which the firmware fails, where the others are asked too."""
+        kinds = Counter(map(kind_of, run.wrong) if run.kind in KINDS else [run.kind])
+        counts = ", ".join(f"{kind} {count}" for kind, count in kinds.items())
+        return f"FAILED on {board.name} ({counts}): {run.wrong[0]}"
+
+    def tell_ready(self, without_room: int, left_out: int) -> None:
+        ready = f"{len(self.results) - without_room} of them ready, and says of {without_room} that they have no room"
+        ready = ready if without_room else "each of them ready"
+        print(f"{counted(len(self.results), 'board')}: the firmware leaves {ready}")
         if left_out:
             print(f"{counted(left_out, 'board')} left out: no room in these addresses")
-        return 0
+
+    def tell_warnings(self) -> None:
+        """The first warning of each kind."""
+        for each in self.warnings.values():
+            board, run, warning = each[0]
+            place = run.since[warning]
+            more = len({other.name for other, _, _ in each}) - 1
+            print(f"warning: {warning}\n  by line {place} of {len(run.lines)} on {board.name}: {run.lines[place - 1]}"
+                  + (f"; so on {counted(more, 'other board')}" if more else ""))
 
     def failure(self, board: Named, run: Run) -> str:
         """All that is told of a board on which the firmware fails."""
-        small = self.smallest(board.document, run)
-        last = run if small == board.document else self.firmware().run(small)
+        small = self.smallest(board, run)
+        last = run if small == board.document else self.firmware().run(small, board.refusal is None)
         if last.kind != run.kind:  # it doesn't do the same each time
             small, last = board.document, run
         Path(self.options.save).write_text(text_of(small))
@@ -169,7 +246,8 @@ class Test:
         again = [*called(), *self.repeated()]
         lines = [f"FAILED on {board.name} ({count}), and on this board ({least}):", ""]
         lines += [text_of(small).rstrip(), "", *last.wrong]
-        lines += self.told_since(small, last) if last.kind in KINDS else []
+        lines += self.told_since(small, last) if last.kind in KINDS and last.kind != "room" else []
+        lines += ["set-up finds room for all regions: `pciguest list` shows where"] if last.kind == "dies" else []
         lines += ["", "its standard error:", last.last_words] if last.last_words else []
         words = shlex.join([*again, "--board", self.options.save, "--", *self.options.command])
         lines += ["", f"this board again:  {words}"]
@@ -177,14 +255,22 @@ class Test:
         return "\n".join([*lines, f"the first one:     {words}"])
 
     def told_since(self, document: Document, run: Run) -> List[str]:
-        """Since which line the first problem is there, and why it is at the end, or after that line where it went by."""
-        place, count = since(self.maker, document, run.lines, run.wrong[0]), len(run.lines)
+        """Of the first problem: since which line it is there, who wrote the registers that it names, and why it is so at the
+        end, or after that line where it went by; or why its function was never found."""
+        finding, count, text = run.wrong[0], len(run.lines), text_of(document)
+        place = run.since.get(finding) or since(self.maker, document, run.lines, finding)
         told = f"reset: none of the {count} lines changed it"
         if place:
             told = f"line {place} of {count}: {run.lines[place - 1]}"
-        lines = run.lines[:place] if run.kind == "sizing" else run.lines
-        why = reasons_after(self.maker, document, lines, run.wrong[0])
-        return [f"the first of these is so since {told}", *why]
+        lines = run.lines[:place] if finding in run.since else run.lines
+        story = story_of(self.maker, text, document, lines)
+        path = finding.split()[1].rstrip(":")
+        unfound = story.unfound(path) if kind_of(finding) in LEFT else None
+        if unfound:
+            why = why_unfound(self.maker, text, run.lines, unfound, story.asked.get(unfound))
+        else:
+            why = reasons_after(self.maker, document, lines, finding)
+        return [f"the first of these is so since {told}", *writers(story, document, finding, count), *why]
 
     def repeated(self) -> List[str]:
         """The words that say what is asked of firmware."""
@@ -192,6 +278,8 @@ class Test:
         for key in ("io", "mem", "pref"):
             words += [f"--{key}", "{:#x}-{:#x}".format(*getattr(options, key))] if getattr(options, key) else []
         words += [word for kind in options.allow for word in ("--allow", kind)]
+        words += ["--transients"] if options.transients else []
+        words += ["--no-room", str(options.no_room)] if options.no_room else []
         words += ["--bridges", str(options.bridges)] if options.bridges != 6 else []
         words += ["--time", f"{options.time:g}"] if options.time != 10 else []
         words += ["--lines", str(options.lines)] if options.lines != 200_000 else []
@@ -226,4 +314,4 @@ def main(words: Optional[List[str]] = None, maker: Optional[Maker] = None) -> in
 
 
 if __name__ == "__main__":
-    sys.exit(main())
+    sys.exit(told_whole(main))

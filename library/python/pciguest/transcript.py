@@ -23,6 +23,7 @@ from typing import Callable, Iterable, Iterator, List, NamedTuple, Optional, Pro
 from ._board import Board
 from ._calls import CONFIG, IO, MEMORY
 from ._child import CannotStart, Child, Limits, Misbehaviour
+from ._files import told_whole
 from ._lines import LONGEST, access_of, is_question, number_of
 from ._machine import Machine
 from ._recording import RecordedBoard as RecordedBoard
@@ -318,6 +319,8 @@ def main(given: Optional[List[str]] = None) -> int:
             sys.stdout.write(text_of([section]))
             return 0
         agree, differ = replay_files(options.files, back_end, options.guest)
+    except BrokenPipeError:
+        raise
     except (OSError, ValueError, ImportError, CannotStart, Misbehaviour, Refusal) as error:
         print(error, file=sys.stderr)
         return 2
@@ -326,4 +329,4 @@ def main(given: Optional[List[str]] = None) -> int:
 
 
 if __name__ == "__main__":
-    sys.exit(main())
+    sys.exit(told_whole(main))
