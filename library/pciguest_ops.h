@@ -182,11 +182,22 @@ PG_LIBPAYLOAD(8)
 PG_LIBPAYLOAD(16)
 PG_LIBPAYLOAD(32)
 
-/* ---- in the form of EDK2's EFI_PCI_IO_PROTOCOL, Pci.Read and Pci.Write: a width is 0, 1 or 2, and 0 is EFI_SUCCESS */
+/* ---- in the forms of EDK2, Pci.Read and Pci.Write: a width is 0, 1 or 2, and 0 is EFI_SUCCESS. In an address of
+ * EFI_PCI_ROOT_BRIDGE_IO_PROTOCOL, which has all functions, the bus stands from bit 24 on, then device, function and
+ * register with 8 bits each; EFI_PCI_IO_PROTOCOL is of one function. */
+
+struct pg_root_bridge_io {
+    void *data; /* the firmware's own */
+};
 
 struct pg_pci_io {
     uint32_t bdf;
 };
+
+static inline uint32_t pg_root_bridge_bdf(uint64_t address)
+{
+    return PG_BDF(address >> 24 & 0xFF, address >> 16 & 0x1F, address >> 8 & 7);
+}
 
 static inline size_t pg_pci_io_read(struct pg_pci_io *io, int width, uint32_t offset, size_t count, void *buffer)
 {
@@ -211,6 +222,24 @@ static inline size_t pg_pci_io_write(struct pg_pci_io *io, int width, uint32_t o
         pg_port_config_write(io->bdf, offset + (uint32_t)n, 1 << width, value);
     }
     return 0;
+}
+
+static inline size_t pg_root_bridge_io_read(struct pg_root_bridge_io *root, int width, uint64_t address, size_t count,
+                                            void *buffer)
+{
+    struct pg_pci_io io = { pg_root_bridge_bdf(address) };
+
+    (void)root;
+    return pg_pci_io_read(&io, width, (uint32_t)address & 0xFF, count, buffer);
+}
+
+static inline size_t pg_root_bridge_io_write(struct pg_root_bridge_io *root, int width, uint64_t address, size_t count,
+                                             const void *buffer)
+{
+    struct pg_pci_io io = { pg_root_bridge_bdf(address) };
+
+    (void)root;
+    return pg_pci_io_write(&io, width, (uint32_t)address & 0xFF, count, buffer);
 }
 
 #endif

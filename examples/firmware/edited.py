@@ -1,5 +1,5 @@
 #!/usr/bin/env python3
-"""Writes the enumerator with one mistake: edited.py MISTAKE.edit > COPY.c"""
+"""Writes an enumerator with one mistake: edited.py MISTAKE.edit > COPY.c"""
 import sys
 from pathlib import Path
 

@@ -184,15 +184,24 @@ static void put(struct item *item, uint64_t at)
         pg_config_write(item->function, item->offset + 4, 4, (uint32_t)(at >> 32));
 }
 
-/* Shuts the windows that have nothing behind them, and opens each function's spaces: all is placed by now. */
+/* Shuts the windows of a bus's bridges that have nothing behind them. */
+static void shut_windows(struct bus *bus)
+{
+    for (unsigned n = 0; n < bus->count; n++) {
+        struct item *item = &bus->items[n];
+        if (item->behind != NULL && item->size == 0)
+            write_window(item, 0xFFFFF000, 0);
+    }
+}
+
+/* Opens each function's spaces: all is placed by now. */
 static void open_all(struct bus *bus)
 {
+    shut_windows(bus);
     for (unsigned n = 0; n < bus->count; n++) {
         struct item *item = &bus->items[n];
         uint32_t command = pg_config_read(item->function, 0x04, 2);
 
-        if (item->behind != NULL && item->size == 0)
-            write_window(item, 0xFFFFF000, 0);
         if (item->behind != NULL && item->space == MEM)
             open_all(item->behind);
         pg_config_write(item->function, 0x04, 2, command | (item->behind ? 3 : item->space == IO ? 1 : 2));

@@ -1,10 +1,12 @@
 #!/usr/bin/python3 -B
-"""Is the enumerator of examples/firmware right, and is each of its mistakes found, and shrunk to few functions?
+"""Are the enumerators of examples/firmware right, and is each mistake found, and shrunk to few functions?
 
-    mistakes.py [--program PROGRAM | --second-hand] [--boards N]
+    mistakes.py [--program PROGRAM | --second-hand] [--boards N] [MISTAKE..]
 
-The boards are those of the library, or of the program where one is named, or of the second hand, which needs neither.
-What docs/TESTING_YOURS.md prints of a mistake has to be what is told. Status 1 says that one of these isn't so."""
+An edit has words of what is told of the mistake first, as a pattern, with the most functions of the board on which it is
+found; or why it is none by the profile, and then nothing may be found. The boards are those of the library, or of the
+program where one is named, or of the second hand, which needs neither. What docs/TESTING_YOURS.md prints of a mistake has to
+be what is told. Status 1 says that one of these isn't so."""
 import argparse
 import contextlib
 import io
@@ -15,20 +17,12 @@ import tempfile
 
 import places
 from pciguest import firmware_test
+from pciguest._judge import KINDS
 from second_hand import SecondHand
 
 FOLDER = places.TOP / "examples/firmware"
-#: how each mistake is told first, and on how many functions
-TOLD = {
-    "gap_in_functions": ("reaches nothing", 3),
-    "multifunction_bit": ("is closed", 2),
-    "sized_while_open": ("all ones are written while Command 0x0003 opens", 1),
-    "subordinate_low": ("reaches nothing", 3),
-    "upper_half_forgotten": ("0x0 is not forwarded by", 2),
-    "window_a_unit_short": ("is not forwarded by", 2),
-}
-
-
+#: how the first finding of a board begins
+FIRST = re.compile(rf"(audit|ready|{'|'.join(KINDS)}): |the firmware ")
 def tested(command, maker, *words):
     """The status and what is told of firmware."""
     with tempfile.TemporaryDirectory() as room, contextlib.redirect_stdout(io.StringIO()) as out:
@@ -43,15 +37,35 @@ def is_documented(told):
     return bool(printed) and told.startswith(printed)
 
 
-def wrong_with(name, status, told):
+def said_by(edit):
+    """What an edit says."""
+    return dict(line.split(": ", 1) for line in edit.read_text().splitlines())
+
+
+def wrong_with(said, status, told):
     """What isn't as it has to be with a mistake."""
-    words, most = TOLD[name]
+    if "harmless" in said:
+        return None if status == 0 and "warning" not in told else "found"
     found = re.search(r"on this board \((\d+) function", told)
     if status != 1 or found is None:
         return "not found"
-    if words not in told:
-        return f"not told as '{words}'"
-    return f"{found[1]} functions" if int(found[1]) > most else None
+    if not re.search(said["told"], told):
+        return f"not told as '{said['told']}'"
+    return f"{found[1]} functions" if int(found[1]) > int(said["functions"]) else None
+
+
+def examine(edit, program, maker, words):
+    """Runs an enumerator with one mistake: whether what comes of it is as its edit says."""
+    said = said_by(edit)
+    status, told = tested(program, maker, *words)
+    wrong = wrong_with(said, status, told)
+    if edit.stem == "subordinate_low" and not wrong and not is_documented(told):
+        wrong = "docs/TESTING_YOURS.md prints something else"
+    line = next((line for line in told.splitlines() if FIRST.match(line)), "")
+    count = re.search(r"on this board \((\d+ functions?)\)", told)
+    shown = f"{count[1]}: {line}" if count else f"no mistake: {said.get('harmless')}"
+    print(f"{edit.stem}: {f'FAILED: {wrong}: {told}' if wrong else shown}", flush=True)
+    return wrong is None
 
 
 def main():
@@ -59,23 +73,21 @@ def main():
     parser.add_argument("--program")
     parser.add_argument("--second-hand", action="store_true")
     parser.add_argument("--boards", default="100")
-    options, failed = parser.parse_args(), 0
-    words = ["--boards", options.boards] + (["--program", options.program] if options.program else [])
+    parser.add_argument("mistake", nargs="*")
+    options, right = parser.parse_args(), []
+    words = ["--transients", "--boards", options.boards] + (["--program", options.program] if options.program else [])
     maker = SecondHand() if options.second_hand else None
     with tempfile.TemporaryDirectory() as room:
         subprocess.run(["make", "-s", "-C", FOLDER, f"OUT={room}"], check=True)
-        status, told = tested(f"{room}/enumerator", maker, *words)
-        print(f"enumerator: {told.strip()}", flush=True)
-        failed += status != 0
+        for name in () if options.mistake else ("enumerator", "allocator"):
+            status, told = tested(f"{room}/{name}", maker, *words)
+            print(f"{name}: {told.strip()}", flush=True)
+            right.append(status == 0)
         for edit in sorted(FOLDER.glob("mistakes/*.edit")):
-            status, told = tested(f"{room}/{edit.stem}", maker, *words)
-            wrong = wrong_with(edit.stem, status, told)
-            if edit.stem == "subordinate_low" and not wrong and not is_documented(told):
-                wrong = "docs/TESTING_YOURS.md prints something else"
-            line = next((line for line in told.splitlines() if re.match("audit|ready|sizing", line)), "")
-            print(f"{edit.stem}: {f'FAILED: {wrong}: {told}' if wrong else line}", flush=True)
-            failed += wrong is not None
-    sys.exit(failed > 0)
+            if not options.mistake or edit.stem in options.mistake:
+                right.append(examine(edit, f"{room}/{edit.stem}", maker, words))
+    print(f"{len(right)} programs, of which not as they have to be {right.count(False)}")
+    sys.exit(not all(right))
 
 
 if __name__ == "__main__":
