@@ -3,13 +3,14 @@
 
     corpus.py FOLDER [--transcripts N] [--seed S] [--program PROGRAM]
 
-A transcript is drawn for a random board and answered by the library, or by the program where one is named. It is kept
-where one of its rows is of a kind that no kept one has: a register with a width, a read or a write and the kind of reply;
-a refusal; a window's write; a latch; a move. Once few come with something new, the others are kept as they come. A line
-counts the kinds; those that are never seen among the ones that are named here would be told. Then the corpus is replayed
-as one who has a virtual PCI does, with the functions of guest a as the library has them, which has to agree; and with such
-functions in which one register always reads 0, which many transcripts have to notice. Status 1 says that a kind is
-lacking, that a right guest differs, or that a wrong one is hardly noticed."""
+The first transcripts write each register at every width, and read it back at every width (sweeps.py). The others are drawn
+for random boards. All are answered by the library, or by the program where one is named. A drawn one is kept where one of its
+rows is of a kind that no kept one has: a register with a width, a read or a write and the kind of reply; a refusal; a
+window's write; a latch; a move. Once few come with something new, the others are kept as they come. A line counts the kinds;
+those that are never seen among the ones that are named here would be told. Then the corpus is replayed as one who has a
+virtual PCI does, with the functions of guest a as the library has them, which has to agree. At last each kind of write is lost
+in turn, and each byte of it, which a transcript has to notice where the profile lets it; the others are listed. Status 1 says
+that a kind is lacking, that a right guest differs, or that a lost write isn't noticed."""
 import argparse
 import re
 import sys
@@ -17,14 +18,14 @@ from collections import Counter
 from pathlib import Path
 
 import places  # noqa: F401
+import sweeps
 from pciguest import Machine, transcript
 from pciguest._board_file import text_of
 from pciguest._drawing import RandomChoices, draw_board
 from pciguest._line_drawing import draw_firmware, draw_script
 
 BOARDS, MOST = 20, 60  # transcripts of a board file, and lines of a transcript
-NOTICED = 20  # transcripts that have to notice a mistake
-MISTAKES = {"Command": 0x04, "Cache Line Size": 0x0C, "Latency Timer": 0x0D, "Interrupt Line": 0x3C}
+SWEEP = "sweep"  # the name of the board of the first transcripts
 REGISTERS = [(offset, width) for width in (1, 2, 4) for offset in range(0, 0x40, width)]
 
 
@@ -109,8 +110,18 @@ class Corpus:
         (self.folder / f"{name}.toml").write_text(text_of(document))
         (self.folder / f"{name}.rows").write_text(transcript.text_of(sections))
 
+    def sweep(self):
+        """The transcripts that are not drawn."""
+        sections = sweeps.drawn(self.back_end, f"{SWEEP}.toml")
+        for section in sections:
+            self.seen.update(kind for line, reply in section.rows for kind in kinds(section.mode, line, reply))
+            self.kept, self.rows = self.kept + 1, self.rows + len(section.rows)
+        (self.folder / f"{SWEEP}.toml").write_text(text_of(sweeps.BOARD))
+        (self.folder / f"{SWEEP}.rows").write_text(transcript.text_of(sections))
+
     def write(self):
         self.folder.mkdir(parents=True, exist_ok=True)
+        self.sweep()
         place = 0
         while self.kept < self.wanted:
             place += 1
@@ -143,32 +154,42 @@ class Guest(transcript.GuestBackEnd):
         self.machine.close()
 
 
-class Forgetful(Guest):
-    """The same with a mistake: a byte of configuration space always reads 0."""
-
-    def __init__(self, offset):
-        self.offset = offset
-
-    def read(self, space, slot, place, width):
-        value = super().read(space, slot, place, width)
-        is_read = space == "config" and place <= self.offset < place + width
-        return value & ~(0xFF << 8 * (self.offset - place)) if is_read else value
-
-
 def replayed(folder, back_end, tell=print):
     """How many transcripts a guest's functions answer as they stand, and how many otherwise, line by line of that guest."""
     return transcript.replay_files(map(str, sorted(Path(folder).glob("*.rows"))), back_end, guest="a", tell=tell)
 
 
 def guest_differs(folder):
-    """How many transcripts differ that must agree, and how many mistakes are hardly noticed."""
+    """How many transcripts differ that must agree."""
     agree, wrong = replayed(folder, Guest())
     print(f"guest a by calls: {agree + wrong} transcripts, of which differ {wrong}")
-    for name, offset in MISTAKES.items():
-        _, noticed = replayed(folder, Forgetful(offset), lambda told: None)
-        print(f"where {name} always reads 0 differ {noticed}")
-        wrong += noticed < NOTICED
     return wrong
+
+
+def spans(places):
+    """Offsets as text: those that touch as one span."""
+    found = []
+    for place in sorted(places):
+        if found and found[-1][1] == place - 1:
+            found[-1][1] = place
+        else:
+            found.append([place, place])
+    return ", ".join(f"{first:02x}h" + (f" to {last:02x}h" if last > first else "") for first, last in found)
+
+
+def unnoticed(folder):
+    """Loses each kind of write in turn: how many go unnoticed that could be noticed."""
+    sections = transcript.read((Path(folder) / f"{SWEEP}.rows").read_text())
+    noticed, missed, hidden = sweeps.strength(sections, text_of(sweeps.BOARD))
+    can = len(noticed) + len(missed)
+    print(f"writes and bytes of writes that are lost in turn: {can + len(hidden)}; the profile lets one notice {can}, and "
+          f"noticed are {len(noticed)}")
+    for write, lane in missed:
+        print("not noticed:", *write, "" if lane is None else f"byte {lane}")
+    for mode, place in sorted({(write.mode, write.place) for write, _ in hidden}):
+        offsets = {write.offset + lane for write, lane in hidden if (write.mode, write.place) == (mode, place) and lane is not None}
+        print(f"nothing to be noticed, where no bit can be changed: {mode}, {place}: {spans(offsets)}")
+    return len(missed)
 
 
 def main():
@@ -180,7 +201,8 @@ def main():
     options = parser.parse_args()
     back_end = transcript.Process([options.program]) if options.program else transcript.Library()
     wrong = Corpus(options.folder, options.transcripts, options.seed, back_end).write()
-    sys.exit(wrong + (0 if options.program else guest_differs(options.folder)) > 0)
+    wrong += 0 if options.program else guest_differs(options.folder) + unnoticed(options.folder)
+    sys.exit(wrong > 0)
 
 
 if __name__ == "__main__":
