@@ -158,10 +158,10 @@ has-qemu:
 # is compared with what they leave in QEMU; an audit and `ready` say what is wrong and what is lacking. Then whether that
 # comparison notices an edited board, and these two a SeaBIOS that is broken on purpose. It takes Debian's packages, which it
 # names where they are missing, and some minutes.
-# make firmware ROM=my.rom OPTIONS=..: a ROM of one's own in that PC, and what it leaves; tests/kit/rom.py tells the options.
+# make firmware ROM=my.rom OPTIONS=..: a ROM of one's own in that PC, and what it leaves; OPTIONS=--help tells the options.
 ifdef ROM
 firmware: has-firmware library/libpciguest.so.0
-	@tests/kit/rom.py $(ROM) $(OPTIONS)
+	@PYTHONPATH=library/python /usr/bin/python3 -B -m pciguest.rom_test $(ROM) $(OPTIONS)
 else
 firmware: has-firmware pciguest library/libpciguest.so.0
 	@tests/firmware/firmware.py ./pciguest
@@ -180,7 +180,7 @@ kit: has-kit library/libpciguest.so.0
 	@/usr/bin/python3 -B -m pytest -q -p no:cacheprovider tests/kit/strategies_test.py
 	@tests/kit/mistakes.py
 
-# Transcripts for those who test a virtual PCI of their own: corpus/.
+# Transcripts for those who test a virtual PCI of their own: corpus/; and which writes they notice where they are lost.
 corpus: library/libpciguest.so.0
 	@tests/kit/corpus.py corpus
 

@@ -8,6 +8,7 @@ from typing import Protocol
 
 sys.path.append(str(Path(__file__).resolve().parents[2] / "library/python"))
 import pciguest
+from pciguest._chipset import BoardError
 
 LATCH, DATA = 0xCF8, 0xCFC
 
@@ -19,10 +20,6 @@ class Board(Protocol):
     def port_write(self, port: int, width: int, value: int) -> None: ...
     def memory_read(self, address: int, width: int) -> int: ...
     def memory_write(self, address: int, width: int, value: int) -> None: ...
-
-
-class BoardError(Exception):
-    """The board refused an access."""
 
 
 class LibraryBoard:

@@ -6,7 +6,7 @@ from typing import NamedTuple
 from audit import Logged
 from board import BoardError, LibraryBoard, paths, registers
 from guests import Given
-from pc import PC, BootError
+from pciguest._pc import PC, BootError
 from shown import Shown, altered
 
 

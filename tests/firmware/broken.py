@@ -19,8 +19,8 @@ from audit import Logged
 from board import DATA, LATCH, LibraryBoard
 from boot import SEABIOS, untrue
 from guests import Given
-from pc import PC
 from pciguest._board_file import text_of
+from pciguest._pc import PC
 from trees import HOST
 
 SERVER = Path(__file__).resolve().parents[2] / "boards/server.toml"

@@ -2,40 +2,49 @@
 
 Time is told in ticks of the timer, 1193182 a second, and goes on by one with each access to a port."""
 
+from __future__ import annotations
+
+from typing import Callable, Dict, List, Optional
+
 TICKS = 1193182
+
+
+class BoardError(Exception):
+    """The board refused an access."""
 
 
 class Counter:
     """One counter of the 8254 timer. Its mode is 0 (counts down once) or another (counts in rounds)."""
 
-    def __init__(self):
+    def __init__(self) -> None:
         self.reload, self.start, self.mode, self.access = 0x10000, 0, 2, 3
-        self.low, self.held = None, []
+        self.low: Optional[int] = None
+        self.held: List[int] = []
 
-    def count(self, now):
+    def count(self, now: int) -> int:
         passed = now - self.start
         return (self.reload - passed) & 0xFFFF if self.mode == 0 else self.reload - passed % self.reload
 
-    def is_done(self, now):
+    def is_done(self, now: int) -> bool:
         return now - self.start >= self.reload
 
-    def hold(self, now):
+    def hold(self, now: int) -> None:
         """Keeps the count as the bytes that the next reads give."""
         count = self.count(now) & 0xFFFF
         self.held = {1: [count & 0xFF], 2: [count >> 8]}.get(self.access, [count & 0xFF, count >> 8])
 
-    def command(self, value, now):
+    def command(self, value: int, now: int) -> None:
         if value >> 4 & 3 == 0:
             self.hold(now)
         else:
             self.access, self.mode, self.low, self.held = value >> 4 & 3, value >> 1 & 7, None, []
 
-    def read(self, now):
+    def read(self, now: int) -> int:
         if not self.held:
             self.hold(now)
         return self.held.pop(0)
 
-    def write(self, value, now):
+    def write(self, value: int, now: int) -> None:
         if self.access == 3 and self.low is None:
             self.low = value
             return
@@ -47,14 +56,14 @@ class Counter:
 class InterruptController:
     """One 8259: its mask and its first vector. Interrupts themselves are the PC's."""
 
-    def __init__(self, vector):
+    def __init__(self, vector: int) -> None:
         self.vector, self.mask, self.step = vector, 0xFF, 0
 
-    def command(self, value):
+    def command(self, value: int) -> None:
         if value & 0x10:
             self.step = 1
 
-    def write(self, value):
+    def write(self, value: int) -> None:
         """After a first word of initialisation come three more; all other writes are masks."""
         if self.step == 0:
             self.mask = value
@@ -67,25 +76,26 @@ class InterruptController:
 class SerialPort:
     """A 16550 whose output is told, and whose input is what `type_text` was given."""
 
-    def __init__(self, told):
-        self.told, self.typed, self.kept = told, [], bytearray(8)
+    def __init__(self, told: Callable[[int], None]) -> None:
+        self.told, self.kept = told, bytearray(8)
+        self.typed: List[int] = []
 
-    def type_text(self, text):
+    def type_text(self, text: str) -> None:
         self.typed += text.encode()
 
-    def read(self, register):
+    def read(self, register: int) -> int:
         if register == 0 and not self.kept[3] & 0x80:
             return self.typed.pop(0) if self.typed else 0
         return {2: 0x01, 5: 0x60 | bool(self.typed), 6: 0xB0}.get(register, self.kept[register])
 
-    def write(self, register, value):
+    def write(self, register: int, value: int) -> None:
         if register == 0 and not self.kept[3] & 0x80:
             self.told(value)
         else:
             self.kept[register] = value
 
 
-def clock_memory(ram):
+def clock_memory(ram: int) -> bytearray:
     """The battery-backed bytes: a date, and how many bytes of memory there are."""
     cells = bytearray(128)
     above_1, above_16 = min((ram >> 10) - 1024, 0xFFFF), (ram - (16 << 20)) >> 16
@@ -100,15 +110,15 @@ def clock_memory(ram):
 class Chipset:
     """The ports of these devices. `readers` and `writers` have a call for each port; all others are the board's."""
 
-    def __init__(self, ram, told):
+    def __init__(self, ram: int, told: Callable[[int], None]) -> None:
         self.now = 0
         self.counters = [Counter() for _ in range(3)]
         self.controllers = {0x20: InterruptController(8), 0xA0: InterruptController(0x70)}
         self.serial = SerialPort(told)
         self.cells, self.index, self.kept = clock_memory(ram), 0, {0x61: 0, 0x92: 2}
-        self.readers = {0x61: self.read_speaker, 0x70: lambda: self.index, 0x71: lambda: self.cells[self.index & 127],
+        self.readers: Dict[int, Callable[[], int]] = {0x61: self.read_speaker, 0x70: lambda: self.index, 0x71: lambda: self.cells[self.index & 127],
                         0x92: lambda: self.kept[0x92], 0x402: lambda: 0xE9}
-        self.writers = {0x43: self.write_timer_command, 0x61: self.keep(0x61), 0x70: self.write_index,
+        self.writers: Dict[int, Callable[[int], None]] = {0x43: self.write_timer_command, 0x61: self.keep(0x61), 0x70: self.write_index,
                         0x71: self.write_cell, 0x92: self.keep(0x92), 0x402: told}
         self.add_timer()
         self.add_controllers()
@@ -116,29 +126,29 @@ class Chipset:
             self.readers[0x3F8 + register] = lambda at=register: self.serial.read(at)
             self.writers[0x3F8 + register] = lambda value, at=register: self.serial.write(at, value)
 
-    def add_timer(self):
+    def add_timer(self) -> None:
         for port, counter in enumerate(self.counters, 0x40):
             self.readers[port] = lambda counter=counter: counter.read(self.now)
             self.writers[port] = lambda value, counter=counter: counter.write(value, self.now)
 
-    def add_controllers(self):
+    def add_controllers(self) -> None:
         for port, controller in self.controllers.items():
             self.readers[port], self.writers[port] = (lambda: 0), controller.command
             self.readers[port + 1] = lambda controller=controller: controller.mask
             self.writers[port + 1] = controller.write
 
-    def keep(self, port):
-        def write(value):
+    def keep(self, port: int) -> Callable[[int], None]:
+        def write(value: int) -> None:
             self.kept[port] = value
         return write
 
-    def write_index(self, value):
+    def write_index(self, value: int) -> None:
         self.index = value
 
-    def write_cell(self, value):
+    def write_cell(self, value: int) -> None:
         self.cells[self.index & 127] = value
 
-    def write_timer_command(self, value):
+    def write_timer_command(self, value: int) -> None:
         if value >> 6 == 3:
             for place, counter in enumerate(self.counters):
                 if value >> place & 2 and not value & 0x20:
@@ -146,11 +156,11 @@ class Chipset:
         else:
             self.counters[value >> 6].command(value, self.now)
 
-    def read_speaker(self):
+    def read_speaker(self) -> int:
         """Bit 5 is the output of counter 2, bit 4 goes to and fro."""
         return self.kept[0x61] & 0x0F | self.counters[2].is_done(self.now) << 5 | self.now & 0x10
 
-    def next_tick(self):
+    def next_tick(self) -> Optional[int]:
         """Lets time pass to the next interrupt of counter 0; its vector, or None where it is masked."""
         counter, controller = self.counters[0], self.controllers[0x20]
         self.now += counter.reload - (self.now - counter.start) % counter.reload

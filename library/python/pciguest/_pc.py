@@ -1,6 +1,9 @@
 """A PC on which firmware runs unmodified: a processor (the Unicorn engine), memory, the chipset, and a board.
 
 Whatever port the chipset doesn't have, and whatever address is no memory below 4 GB, is the board's."""
+
+from __future__ import annotations
+
 import struct
 import time
 
@@ -8,18 +11,22 @@ from unicorn import (UC_ARCH_X86, UC_HOOK_INSN, UC_HOOK_INTR, UC_HOOK_MEM_WRITE_
                      UC_PROT_EXEC, UC_PROT_READ, Uc, UcError)
 from unicorn import x86_const as x86
 
-from board import BoardError
-from chipset import Chipset
+from ._chipset import BoardError, Chipset
 
 RAM = 128 << 20
 FOUR_GB = 1 << 32
 # interrupt controllers and timer of later PCs: memory that does nothing
 INERT = (0xFEC00000, 0xFED00000, 0xFEE00000)
 PATIENCE = 120  # seconds of a boot
+WIDE_PAGES = 0x20  # the bit of CR4
 
 
 class BootError(Exception):
     """The firmware stopped before it was done."""
+
+
+class TooWide(BootError):
+    """The firmware asks for what the processor doesn't have."""
 
 
 class NotDone(BootError):
@@ -135,8 +142,16 @@ class PC:
     def place(self):
         return f"{self.engine.reg_read(x86.UC_X86_REG_CS):x}:{self.engine.reg_read(x86.UC_X86_REG_EIP):x}"
 
+    def check_mode(self):
+        """The processor has 32 bits, and goes wrong where 64-bit mode is turned on: by pages of physical addresses of more
+        than 32 bits."""
+        if self.engine.reg_read(x86.UC_X86_REG_CR4) & WIDE_PAGES:
+            raise TooWide("asks for 64-bit mode, which this PC doesn't have")
+
     def resume(self):
         """After a stop: an interrupt that was asked for, or time that passes while the processor halts."""
+        if self.interrupt is not None:
+            self.check_mode()
         if self.engine.reg_read(x86.UC_X86_REG_CR0) & 1:
             raise BootError(f"exception {self.interrupt} in protected mode at {self.place()}")
         if self.interrupt is not None:
@@ -162,6 +177,7 @@ class PC:
             try:
                 engine.emu_start(start, (1 << 64) - 1, timeout=int(left * 1e6))
             except UcError as error:
+                self.check_mode()
                 raise BootError(f"{error} at {self.place()}") from error
             if self.error:
                 raise self.error
