@@ -1,12 +1,13 @@
 #!/usr/bin/python3 -B
 """Boots EDK2, as Debian's ovmf has it, in QEMU on random trees of its devices, and asks what it leaves.
 
-    edk2.py [--trees N] [--seed S] [--program PROGRAM]
+    edk2.py [--trees N] [--seed S] [--tight] [--program PROGRAM]
 
 The trees are those on which SeaBIOS and U-Boot boot (tests/firmware). Each register that EDK2 left is read by QEMU's qtest
 protocol, and written to a board with the same functions as a line of firmware; each byte of that board is then the same as
 QEMU's, or differs by a rule of tests/firmware/rules.py. The board is asked for all that is wrong there: problems of its
-audit, and what it lacks. Status 1 says that a boot went wrong, or that a byte differs by no rule; the last lines count."""
+audit, and what it lacks. With --tight devices with memory below 4 GB are added on bus 0, as long as our own set-up finds room
+for all of the tree, so that next to none is left. Status 1 says that a boot went wrong, or that a byte differs by no rule; the last lines count."""
 import argparse
 import sys
 import tomllib
@@ -37,15 +38,32 @@ class System(NamedTuple):
 
 BACK_TO_BACK = rules.Rule("Bridge Control: fast back-to-back enable", rules.BRIDGE, range(0x3E, 0x3F), 0x80, free="QEMU")
 EDK2 = System(boot.Firmware("EDK2", "/usr/share/ovmf/OVMF.fd", "Shell> ", (), False), ["-machine", "pc,accel=tcg", "-m", "256"],
-              [], {"io": [0x1000, 0xFFFF], "mem": [0x80000000, 0xFEBFFFFF], "pref": [0xE000000000, 0xFFFFFFFFFF]},
+              [], {"io": [0x1000, 0xFFFF], "mem": [0x80000000, 0xFBFFFFFF], "pref": [0xE000000000, 0xFFFFFFFFFF]},
               [*rules.RULES, BACK_TO_BACK], 400)
 # Command opens the function's spaces last, when all else stands
 ORDER = [*range(0x08, 0x100, 4), 0x04]
 
 
-def read_tree(seed, system):
-    """A tree as QEMU has it at reset: its words, and its board file."""
+def filled(tree, document, maker):
+    """Adds displays on bus 0, the largest first, while set-up finds room."""
+    free = [device for device in range(2, 16) if f"{device}.0" not in {one.at for one in functions(document)}]
+    size = 256
+    while free and size >= 4:
+        bars = [{"index": 0, "kind": "mem32p", "size": size << 20}, {"index": 2, "kind": "mem32", "size": 4096}]
+        more = [*document["endpoint"], {"at": f"{free[0]}.0", "vendor": 0x1234, "device": 0x1111, "class": 0x038000, "bar": bars}]
+        if maker.refusal(text_of({**document, "endpoint": more})) is None:
+            document = {**document, "endpoint": more}
+            tree.add(f"bochs-display,romfile=,vgamem={size}M", "pci.0", f"{free.pop(0):x}.0")
+        else:
+            size //= 2
+
+
+def read_tree(seed, system, maker=None):
+    """A tree as QEMU has it at reset: its words, and its board file; filled where there is who says how far."""
     tree = trees.Tree(seed)
+    if maker:
+        with closing(machine.Machine(tree.words, kind=system.kind)) as at_reset:
+            filled(tree, {**tomllib.loads(trees.Reading(at_reset).text), "host": system.host}, maker)
     with closing(machine.Machine(tree.words, kind=system.kind)) as at_reset:
         return tree.words, trees.Reading(at_reset)
 
@@ -69,8 +87,8 @@ def lines_of(cells):
 class Count:
     """What is counted over all trees."""
 
-    def __init__(self, system):
-        self.system = system
+    def __init__(self, system, is_tight):
+        self.system, self.is_tight = system, is_tight
         self.comparison, self.kinds, self.failed = rules.Comparison(system.rules), Counter(), 0
         self.windows, self.regions, self.ready, self.in_order = Counter(), 0, 0, 0
 
@@ -79,7 +97,7 @@ class Count:
         print(f"FAILED: {what}", flush=True)
 
     def tree(self, seed, maker):
-        words, reading = read_tree(seed, self.system)
+        words, reading = read_tree(seed, self.system, maker if self.is_tight else None)
         document = {**tomllib.loads(reading.text), "host": self.system.host}
         cells = boot_tree(words, self.system)
         with closing(maker.board(text_of(document))) as driven:
@@ -119,8 +137,10 @@ def main(system, told):
     parser = argparse.ArgumentParser(description=told.split("\n\n")[0])
     parser.add_argument("--trees", type=int, default=30)
     parser.add_argument("--seed", type=int, default=1)
+    parser.add_argument("--tight", action="store_true")
     parser.add_argument("--program")
-    options, count = parser.parse_args(), Count(system)
+    options = parser.parse_args()
+    count = Count(system, options.tight)
     maker = Program(options.program) if options.program else Library()
     for seed in range(options.seed, options.seed + options.trees):
         try:
