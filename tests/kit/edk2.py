@@ -1,13 +1,13 @@
 #!/usr/bin/python3 -B
 """Boots EDK2, as Debian's ovmf has it, in QEMU on random trees of its devices, and asks what it leaves.
 
-    edk2.py [--trees N] [--seed S] [--tight] [--program PROGRAM]
+    edk2.py [--trees N] [--seed S] [--tight | --over] [--program PROGRAM]
 
 The trees are those on which SeaBIOS and U-Boot boot (tests/firmware). Each register that EDK2 left is read by QEMU's qtest
 protocol, and written to a board with the same functions as a line of firmware; each byte of that board is then the same as
 QEMU's, or differs by a rule of tests/firmware/rules.py. The board is asked for all that is wrong there: problems of its
 audit, and what it lacks. With --tight devices with memory below 4 GB are added on bus 0, as long as our own set-up finds room
-for all of the tree, so that next to none is left. Status 1 says that a boot went wrong, or that a byte differs by no rule; the last lines count."""
+for all of the tree, so that next to none is left; with --over one more is. Status 1 says that a boot went wrong, or that a byte differs by no rule; the last lines count."""
 import argparse
 import sys
 import tomllib
@@ -19,6 +19,7 @@ import places
 from pciguest._board_file import functions, text_of
 from pciguest._driven import Library, Program
 from pciguest._judge import findings, kind_of
+from pciguest._tight import cut, with_region
 
 board, boot, machine, registers, rules, trees = places.modules(
     "firmware", "board", "boot", "machine", "registers", "rules", "trees")
@@ -44,26 +45,41 @@ EDK2 = System(boot.Firmware("EDK2", "/usr/share/ovmf/OVMF.fd", "Shell> ", (), Fa
 ORDER = [*range(0x08, 0x100, 4), 0x04]
 
 
-def filled(tree, document, maker):
-    """Adds displays on bus 0, the largest first, while set-up finds room."""
-    free = [device for device in range(2, 16) if f"{device}.0" not in {one.at for one in functions(document)}]
-    size = 256
-    while free and size >= 4:
-        bars = [{"index": 0, "kind": "mem32p", "size": size << 20}, {"index": 2, "kind": "mem32", "size": 4096}]
-        more = [*document["endpoint"], {"at": f"{free[0]}.0", "vendor": 0x1234, "device": 0x1111, "class": 0x038000, "bar": bars}]
-        if maker.refusal(text_of({**document, "endpoint": more})) is None:
-            document = {**document, "endpoint": more}
-            tree.add(f"bochs-display,romfile=,vgamem={size}M", "pci.0", f"{free.pop(0):x}.0")
+def displays(document, maker):
+    """The MB of displays for which set-up finds room on bus 0, the largest first; and how many MB of memory are left then."""
+    def refusal(candidate):
+        return maker.refusal(text_of(candidate))
+
+    size, sizes = 256, []
+    while size >= 4:
+        more = with_region(with_region(document, (), "mem32p", size << 20), (), "mem32", 4096)
+        if refusal(more) is None:
+            document = more
+            sizes.append(size)
         else:
             size //= 2
+    return sizes, document["host"]["mem"][1] - cut(document, "mem", refusal)["host"]["mem"][1] >> 20
 
 
-def read_tree(seed, system, maker=None):
+def fill(tree, document, maker, is_over):
+    """Adds displays until next to no memory is left, or one of 64 MB more, as functions of the devices that are free."""
+    sizes, left = displays(document, maker)
+    print(f"memory that is left: {left} MB", flush=True)
+    sizes += [64] if is_over else []
+    taken = {one.path[0][0] for one in functions(document)}
+    free = [device for device in range(2, 16) if device not in taken]
+    for place, size in enumerate(sizes):
+        device, function = free[place % len(free)], place // len(free)
+        many = ",multifunction=on" if function or place + len(free) < len(sizes) else ""
+        tree.add(f"bochs-display,romfile=,vgamem={size}M{many}", "pci.0", f"{device:x}.{function}")
+
+
+def read_tree(seed, system, maker=None, is_over=False):
     """A tree as QEMU has it at reset: its words, and its board file; filled where there is who says how far."""
     tree = trees.Tree(seed)
     if maker:
         with closing(machine.Machine(tree.words, kind=system.kind)) as at_reset:
-            filled(tree, {**tomllib.loads(trees.Reading(at_reset).text), "host": system.host}, maker)
+            fill(tree, {**tomllib.loads(trees.Reading(at_reset).text), "host": system.host}, maker, is_over)
     with closing(machine.Machine(tree.words, kind=system.kind)) as at_reset:
         return tree.words, trees.Reading(at_reset)
 
@@ -87,8 +103,8 @@ def lines_of(cells):
 class Count:
     """What is counted over all trees."""
 
-    def __init__(self, system, is_tight):
-        self.system, self.is_tight = system, is_tight
+    def __init__(self, system, is_tight, is_over):
+        self.system, self.is_tight, self.is_over = system, is_tight or is_over, is_over
         self.comparison, self.kinds, self.failed = rules.Comparison(system.rules), Counter(), 0
         self.windows, self.regions, self.ready, self.in_order = Counter(), 0, 0, 0
 
@@ -97,7 +113,7 @@ class Count:
         print(f"FAILED: {what}", flush=True)
 
     def tree(self, seed, maker):
-        words, reading = read_tree(seed, self.system, maker if self.is_tight else None)
+        words, reading = read_tree(seed, self.system, maker if self.is_tight else None, self.is_over)
         document = {**tomllib.loads(reading.text), "host": self.system.host}
         cells = boot_tree(words, self.system)
         with closing(maker.board(text_of(document))) as driven:
@@ -138,9 +154,10 @@ def main(system, told):
     parser.add_argument("--trees", type=int, default=30)
     parser.add_argument("--seed", type=int, default=1)
     parser.add_argument("--tight", action="store_true")
+    parser.add_argument("--over", action="store_true")
     parser.add_argument("--program")
     options = parser.parse_args()
-    count = Count(system, options.tight)
+    count = Count(system, options.tight, options.over)
     maker = Program(options.program) if options.program else Library()
     for seed in range(options.seed, options.seed + options.trees):
         try:

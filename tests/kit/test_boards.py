@@ -190,7 +190,9 @@ class Findings(unittest.TestCase):
         document = SPECIAL["status_bits"]()
         told = "status: 1.0: Status 0xf900 becomes 0x0100 as Command is written"
         self.assertEqual(seen("host cw 00:01.0 4 4 0xf8000000", document=document), [told])
-        for line in ("4 4 0x2", "4 2 0x2", "6 2 0xf900", "7 1 0xff"):
+        self.assertEqual(seen("host cw 00:01.0 7 1 0xff", document=document),
+                         ["status: 1.0: Status 0xf900 becomes 0x0000 by a write"])
+        for line in ("4 4 0x2", "4 2 0x2", "6 2 0x6ff", "7 1 0"):
             self.assertEqual(seen(f"host cw 00:01.0 {line}", document=document), [], line)
 
     def test_each_finding_has_a_kind(self):

@@ -93,8 +93,9 @@ class Watch:
         """After a write of Command or Status."""
         kept, word = self.kept[one.at], self.follower.read(access.number, COMMAND)
         command, status = word & 0xFFFF, word >> 16
-        if kept.status & ~status and access.width == 4:
-            yield f"status: {one.at}: Status {kept.status:#06x} becomes {status:#06x} as Command is written"
+        if kept.status & ~status:
+            how = "as Command is written" if access.width == 4 else "by a write"
+            yield f"status: {one.at}: Status {kept.status:#06x} becomes {status:#06x} {how}"
         opened, kept.command, kept.status = command & ~kept.command & 3, command, status
         if opened:
             yield from self.opened_bridge(one, access, opened) if one.is_bridge else self.opened(one, opened)
@@ -105,21 +106,21 @@ class Watch:
         kept = self.kept[one.at]
         for region in one.regions():
             base = kept.bases[region.index]
-            if opens(bits, region) and has_ones(region, base) and not self.is_given_out(region, base):
+            if opens(bits, region) and has_ones(region, base) and not self.is_given_out(region.is_io, base):
                 space = SPACES[1 if region.is_io else 2]
                 yield (f"ones: {one.at} bar{region.index} at {base:#x} size {region.size:#x}: Command {kept.command:#06x} "
                        f"opens {space} over the ones of sizing")
 
-    def is_given_out(self, region: Region, base: int) -> bool:
-        """Whether a base is an address of an aperture, where ones stand for themselves."""
-        keys = ["io"] if region.is_io else ["mem", "pref"]
-        return any(key in self.host and self.host[key][0] <= base <= self.host[key][1] for key in keys)
+    def is_given_out(self, is_io: bool, address: int) -> bool:
+        """Whether an address is one of an aperture, where ones, or zeros, may be meant."""
+        keys = ["io"] if is_io else ["mem", "pref"]
+        return any(key in self.host and self.host[key][0] <= address <= self.host[key][1] for key in keys)
 
     def opened_bridge(self, one: Function, access: Access, bits: int) -> Iterator[str]:
         command = self.kept[one.at].command
         for window in windows_of(one):
             words = {offset: self.follower.read(access.number, offset) for offset in (window.offset, *window.upper)}
-            if bits & window.bit and window.is_at_reset(words):
+            if bits & window.bit and window.is_at_reset(words) and not self.is_given_out(window.bit == 1, 0):
                 yield (f"reset: {one.at}: Command {command:#06x} opens {SPACES[window.bit]} while the {window.name} window is "
                        f"that of reset, 0x0 to {window.last:#x}")
 
