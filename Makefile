@@ -82,7 +82,7 @@ uninstall:
 	@$(INSTALL) --remove
 
 # A tarball for those without the kit, with the transcripts: pciguest-VERSION-x86_64-linux.tar.gz. It takes Python 3.11.
-# It has the page too, which `page/offline TARBALL` opens without a network.
+# It has the page too, which `page/tests/offline TARBALL` opens without a network.
 dist: build library corpus
 	@$(MAKE) --no-print-directory page
 	@tools/dist
@@ -208,30 +208,30 @@ EXPORTS := $(addprefix pciguest_raw_,new free guest guest_count guest_name funct
 page: pciguest
 	@$(MAKE) --no-print-directory library
 	@$(MAKE) --no-print-directory page/out/pciguest.wasm
-	@page/compare page/out/pciguest.wasm ./pciguest library/libpciguest.so.0
-	@page/assemble page/out/pciguest.wasm pciguest.html
+	@page/tests/compare page/out/pciguest.wasm ./pciguest library/libpciguest.so.0
+	@page/build/assemble page/out/pciguest.wasm pciguest.html
 	@echo 'pciguest.html: open it in a browser'
 
 # The module takes some minutes, and is made once for each library that is proved.
-page/out/pciguest.wasm: crates/pciguest_c/out/libpciguest_c.a page/module page/wasm page/heap.c Makefile
+page/out/pciguest.wasm: crates/pciguest_c/out/libpciguest_c.a page/build/module page/build/wasm page/build/heap.c Makefile
 	@mkdir -p page/out
-	@page/module pciguest_c $@ $(EXPORTS)
+	@page/build/module pciguest_c $@ $(EXPORTS)
 
 # The page over a module for which nothing was proved, in some minutes, for who works on the page: page/out/unproved.html,
 # which says so at its top. `make page` makes the one to hand out.
 try-page:
 	@echo 'This run proves nothing: it only compiles the library for the page. `make page` proves it first.'
 	@mkdir -p page/out
-	@page/unproved page/out/unproved.wasm $(EXPORTS)
-	@page/assemble page/out/unproved.wasm page/out/unproved.html 'Nothing here is proved: this page was built by make try-page.'
+	@page/build/unproved page/out/unproved.wasm $(EXPORTS)
+	@page/build/assemble page/out/unproved.wasm page/out/unproved.html 'Nothing here is proved: this page was built by make try-page.'
 	@echo 'page/out/unproved.html: open it in a browser'
 
 # The page as it was built, and as it stands in each tarball that `make dist` left here, opened where no network is. Then the
 # page as a reader uses it, in headless Chromium, and in Firefox where it is; screenshots are left in page/out.
 browse: page
-	@page/contrast
-	@page/offline pciguest.html $(wildcard pciguest-*-x86_64-linux.tar.gz)
-	@page/browse pciguest.html page/out
+	@page/tests/contrast
+	@page/tests/offline pciguest.html $(wildcard pciguest-*-x86_64-linux.tar.gz)
+	@page/tests/browse pciguest.html page/out
 
 # The program compiled once, with checks, and asked what the tests ask: a minute, and nothing is proved.
 # make quick ONLY=moves.rows asks only that in whose name these words stand.

@@ -1,4 +1,4 @@
-"""Headless Firefox, as page/browse uses it: by Marionette, its own protocol."""
+"""Headless Firefox, as page/tests/browse uses it: by Marionette, its own protocol."""
 import base64
 import json
 import pathlib

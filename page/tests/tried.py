@@ -1,6 +1,12 @@
-"""What page/browse asks of a page in any browser, and counts."""
+"""What page/tests/browse asks of a page in any browser, and counts."""
 import json
+import pathlib
+import sys
 import time
+
+PAGE = pathlib.Path(__file__).resolve().parent.parent
+TOP = PAGE.parent
+sys.path.insert(0, str(PAGE / 'build'))
 
 counts = {'passed': 0, 'failed': 0}
 

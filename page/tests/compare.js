@@ -2,24 +2,17 @@
 // ready, and why something finds what it finds. Where a guest's region stands is compared with what the guest finds as it sizes it, and why
 // its access finds what it finds with what it reads. Images of machines are compared with those of the library for C.
 
-import { Engine, run } from './engine.js';
+import { Engine, run } from '../js/engine.js';
+import { joined, same } from './compare_bytes.js';
 import { images_hold } from './compare_images.js';
-import { read_readiness } from './readiness.js';
-import { words_in } from './reasons.js';
-import { question_of, read_why, read_why_of_guest, SPACE_READ } from './why.js';
+import { read_readiness } from '../js/readiness.js';
+import { words_in } from '../js/reasons.js';
+import { question_of, read_why, read_why_of_guest, SPACE_READ } from '../js/why.js';
 
 // what an audit writes of a board in order
 const NO_PROBLEM = new TextEncoder().encode('audit: ok\n');
 // what the program ends with where a board isn't ready, after the text
 const NOT_READY = 208;
-
-export const same = (a, b) => a.length === b.length && a.every((one, nth) => one === b[nth]);
-
-export function joined(parts) {
-  const all = new Uint8Array(parts.reduce((length, part) => length + part.length, 0));
-  parts.reduce((at, part) => (all.set(part, at), at + part.length), 0);
-  return all;
-}
 
 // A region as its guest's driver finds it: what Command opens, and what the register holds and takes. Null where no region
 // begins, as at the upper register of one before it.

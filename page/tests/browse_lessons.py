@@ -1,6 +1,5 @@
-"""The lessons of the page and its views of registers and lines, used in any browser as a reader does, for page/browse."""
+"""The lessons of the page and its views of registers and lines, used in any browser as a reader does, for page/tests/browse."""
 import json
-import pathlib
 import random
 import re
 import shutil
@@ -14,11 +13,11 @@ import browse_newcomer
 import browse_ready
 import browse_state
 import browse_why
-from tried import CUT, FIELD, PAINTED, holds, said_last, text_of, type_line, until, write_field
+from tried import CUT, FIELD, PAGE, PAINTED, TOP, holds, said_last, text_of, type_line, until, write_field
+from one_script import one_script
 
-HERE = pathlib.Path(__file__).resolve().parent
-PYTHON = HERE.parent / 'library/python/pciguest'
-TASKS = tomllib.loads((HERE / 'tasks.toml').read_text())['task']
+PYTHON = TOP / 'library/python/pciguest'
+TASKS = tomllib.loads((PAGE / 'tasks.toml').read_text())['task']
 
 # What a reader may type in each lesson, or in each part of one.
 SOLUTIONS = {
@@ -240,8 +239,7 @@ def reasons_are_the_prompts(browser, page):
     words = ['a', 'b', 'c', 'host', 'cr', 'cw', 'ir', 'iw', 'mr', 'mw', 'raise', 'move', '0', '1', '4', '0x10', '0xg', '0x', '0XfF', '18446744073709551616', '0xffffffff',
              '0x100000000', '01:02.0', '00:20.0', '1:02.0', 'AB:1f.7', 'cfg', 'bar0', 'bar6', '#', 'é']
     lines = [chance.choice(['', ' ']) + chance.choice([' ', '  ', '\t']).join(chance.choices(words, k=chance.randrange(9))) for _ in range(10000)] + ['a cr 0 0 4' + 200 * ' ']
-    source = re.sub(r'^(import .*;\n|export )', '', (HERE / 'reasons.js').read_text(), flags=re.M)
-    said = browser.run(f"(() => {{ {source}\nreturn {json.dumps(lines)}.map(one => why_bad(one, {json.dumps(guests)}, 'guests')?.why ?? null); }})()")
+    said = browser.run(f"(() => {{ {one_script(PAGE / 'js/reasons.js')}\nreturn {json.dumps(lines)}.map(one => why_bad(one, {json.dumps(guests)}, 'guests')?.why ?? null); }})()")
     differ = [(line, why_bad(line, guests), why) for line, why in zip(lines, said) if why_bad(line, guests) != why]
     holds('of random lines the page says what the prompt for Python says', differ == [], differ[:3])
 

@@ -1,12 +1,11 @@
-"""What is left to do until a board is ready, as the page tells it in any browser: lists, signs, bars and goals, for page/browse."""
+"""What is left to do until a board is ready, as the page tells it in any browser: lists, signs, bars and goals, for page/tests/browse."""
 import base64
 import json
-import pathlib
 import zlib
 
-from tried import holds, said_last, text_of, type_line, until
+from tried import TOP, holds, said_last, text_of, type_line, until
 
-EXAMPLES = pathlib.Path(__file__).resolve().parent.parent / 'examples/audit'
+EXAMPLES = TOP / 'examples/audit'
 LEFT = "[...document.querySelectorAll('#lacking li')].map(one => one.textContent)"
 SIGNS = "[...document.querySelectorAll('#tree .lack')].map(one => `${one.closest('.chip').dataset.path} ${one.querySelector('.mark').textContent}`)"
 BARS = "['.lack-at', '.region.lacks', '.window.lacks', '.bang-at', '.region.wrong'].map(find => document.querySelectorAll(`#addresses ${find}`).length)"

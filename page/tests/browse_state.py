@@ -1,5 +1,5 @@
 """The board goes elsewhere with its state: links, files and tasks with the state of its guests, used in any browser as a reader does, for
-page/browse."""
+page/tests/browse."""
 import json
 import time
 

@@ -1,4 +1,4 @@
-"""Headless Chromium, as page/browse uses it."""
+"""Headless Chromium, as page/tests/browse uses it."""
 import base64
 import json
 import os

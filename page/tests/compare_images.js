@@ -1,7 +1,7 @@
 // Compares the images of the module's machines with those of the library for C, and what it answers to them.
 
-import { run } from './engine.js';
-import { joined, same } from './compare.js';
+import { run } from '../js/engine.js';
+import { joined, same } from './compare_bytes.js';
 
 // Whether a machine that is saved after each piece of a script, and loaded into another one there, goes on as one that runs through; and
 // whether images are loaded and refused alike: one that is loaded is saved again as it is, and one that is refused changes nothing.

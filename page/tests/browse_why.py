@@ -1,4 +1,4 @@
-"""Why something finds what it finds, asked on the page in any browser by a click and by keys, for page/browse: at a reply of all ones, at
+"""Why something finds what it finds, asked on the page in any browser by a click and by keys, for page/tests/browse: at a reply of all ones, at
 a function that no cycle finds, and at an address in a bar; and of guests, at their replies and in their own bars."""
 from browse_ready import SET_UP
 from tried import CUT, PAINTED, holds, said_last, text_of, type_line

@@ -1,4 +1,4 @@
-"""All eight lessons as somebody does them who knows the page alone, in any browser, for page/browse: numbers are read off the tree, lines are
+"""All eight lessons as somebody does them who knows the page alone, in any browser, for page/tests/browse: numbers are read off the tree, lines are
 those that words and hints give, with another number or offset in them, and what is wrong is mended in the fields."""
 from tried import FIELD, holds, said_last, text_of, type_line, write_field
 

@@ -1,0 +1,16 @@
+"""Modules as one script, since a page from a disk can't import."""
+import re
+
+IMPORT = re.compile(r"^import .* from '(.*)';\n", re.M)
+
+
+def modules_of(file):
+    """A module behind all that it imports, without imports and exports, by its file."""
+    found, text = {}, file.read_text()
+    for name in IMPORT.findall(text):
+        found |= modules_of((file.parent / name).resolve())
+    return found | {file: re.sub(r'^export ', '', IMPORT.sub('', text), flags=re.M)}
+
+
+def one_script(file):
+    return '\n'.join(modules_of(file.resolve()).values())
