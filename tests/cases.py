@@ -15,9 +15,11 @@ or '== SCRIPT over BOARD at reset' (firmware's lines), and ends with a line 'fau
 
 In tests/rows a section begins with '== run BOARD: TITLE', '== firmware BOARD: TITLE' or '== ready BOARD: TITLE' and has
 rows 'LINE -> REPLY', of one script, where ' -> REPLY' is one more line of an answer; a last row 'fault N WORDS' is the
-program's end. Or it begins with '== list BOARD: TITLE' and has rows 'OLD | NEW | FAULT', each of a board that is refused. NEW stands
-in the place where OLD stood first in the board's file, as it does after a row 'with OLD | NEW' for the whole section. A
-board lies in tests/rows or in boards.
+program's end. Or it begins with '== list BOARD: TITLE' and has rows 'OLD | NEW | FAULT', each of a board that is refused; or with
+'== check BOARD: TITLE' and has rows 'OLD | NEW | LINE | MARKED', of which a check on a terminal shows that line, with marks below
+these bytes of it, and nothing else. NEW stands in the place where OLD stood first in the board's file, as it does after a row
+'with OLD | NEW' for the whole section; in both '\\t' is a tab, '\\n' ends a line, and '#{N}' is N of these. A board lies in
+tests/rows or in boards.
 """
 import dataclasses
 import os
@@ -35,6 +37,8 @@ TOP = pathlib.Path(__file__).resolve().parent.parent
 ROWS, BOARDS, REFUSED = TOP / "tests/rows", TOP / "boards", TOP / "boards/refused"
 # the seconds that the program has for a case
 SECONDS = 240
+# any end of the program with a fault
+ANY_FAULT = "any"
 # the heads of sections of boards/expected.txt
 FORMS = [
     r"(?P<board>\S+)",
@@ -173,6 +177,22 @@ def audits():
 
 # ---- tests/rows
 
+def in_full(text):
+    """A text of a row as it stands in a board's file."""
+    text = text.replace("\\t", "\t").replace("\\n", "\n")
+    return re.sub(r"#\{(\d+)\}", lambda it: "#" * int(it[1]), text)
+
+
+def excerpt(text, line, marked):
+    """What a check shows of a line of a board's file, with marks below some bytes of it, if any are named."""
+    lines = text.split("\n")
+    number = next(place for place, it in enumerate(lines, 1) if line in it)
+    shown, margin = lines[number - 1], len(f" {number}")
+    before = re.sub(r"[^\t]", " ", shown[:shown.index(marked)])
+    marks = [f"{'':{margin}} | {before}{'^' * len(marked)}"] if marked else []
+    return [f" {number} | {shown}", *marks]
+
+
 class Section:
     """A section of a file of rows."""
 
@@ -186,6 +206,7 @@ class Section:
 
     def put(self, old, new):
         """The board with one text in the place of another."""
+        old, new = in_full(old), in_full(new)
         if old not in self.text:
             raise ValueError(f"{self.title}: no '{old}' in {self.board}")
         return self.text.replace(old, new, 1)
@@ -203,6 +224,11 @@ class Section:
             files = self.files(self.put(parts[0], parts[1]))
             name = f"{self.title}: list {self.board} with '{parts[1]}' in place of '{parts[0]}'"
             yield Case(name, ["list", *files], b"", [], files, parts[2])
+        elif len(parts) == 4:
+            text = self.put(parts[0], parts[1])
+            name = f"{self.title}: check {self.board} with '{parts[1]}' in place of '{parts[0]}'"
+            wanted, files = excerpt(text, in_full(parts[2]), parts[3]), self.files(text)
+            yield Case(name, ["check", *files], b"", wanted, files, ANY_FAULT, only=" | ", on_terminal=True)
         elif row.startswith("fault "):
             self.fault = row[len("fault "):]
         elif " -> " in row:
@@ -273,6 +299,8 @@ def difference(case, status, out, err):
     if last and not wrong:
         wrong.append("the last line has no line feed")
     fault = f"pciguest: fault {case.fault}\n" if case.fault else ""
+    if case.fault == ANY_FAULT and status == 1:
+        fault = err
     if (status, err) != (1 if fault else 0, fault):
         wrong.append(f"standard error: wanted {told(fault)}, came {told(err)} with status {status}")
     return wrong

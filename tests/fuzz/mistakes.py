@@ -3,8 +3,9 @@ that is how much of each aperture its board takes, and what may be a mistake.
 
     mistakes.py PROGRAM [--files N] [--seed S]
 
-Each file is that of a random board, with its tables in some order and a few mistakes. The rules are those
-of docs/FORMATS.md, without a line of the program's code. The same seed makes the same files."""
+Each file is that of a random board, with its tables in some order and a few mistakes, and sometimes so long that these stand
+past its first 65,536 bytes. The rules are those of docs/FORMATS.md, without a line of the program's code. The same seed makes
+the same files."""
 import argparse
 import random
 import re
@@ -20,8 +21,11 @@ from rules import all_faults, place_of
 
 NUMBERS = [-1, 0, 1, 4, 5, 6, 17, 63, 64, 192, 255, 256, 3000, 4096, 4097, 0xF900, 0xFFFE, 0xFFFF, 0x10000,
            1 << 24, 1 << 31, 1 << 40, 1 << 62, -(1 << 62)]
+BACKSLASH = "\\"
 TEXTS = ["x", "a", "host", "A", "", "0.0", "1.0", "01.0", "15.7", "16.0", "1.8", "1.0/2.0", "mem32", "io", "none", "64",
          "ff", "f", "0g", "ffff", "/".join(["1.0"] * 17)]
+# what may stand after a value on its line
+ENDS = ["", "", "", " ", "\t", "\t# x", " # \"", "\t\t#'"]
 OTHERS = ["true", "[1, 2]", '["x"]', "[0x1000, 0x1fff]", "[-4096, 8191]", "[0x100000, 0xffffffff]"]
 
 
@@ -37,8 +41,8 @@ def some_value(rng, old=""):
     """A value as it is written, mostly of the type of the one before."""
     if rng.random() < 0.1:
         old = rng.choice(["1", '"', "["])
-    if old.startswith('"'):
-        return f'"{rng.choice(TEXTS)}"'
+    if old.startswith(('"', "'")):
+        return rng.choice([f'"{rng.choice(TEXTS)}"', f"'{rng.choice([*TEXTS, BACKSLASH])}'", f'"{BACKSLASH * 2}"'])
     return rng.choice(OTHERS) if old.startswith("[") else written(rng, rng.choice(NUMBERS))
 
 
@@ -49,7 +53,7 @@ def keys_in(lines):
 def other_value(rng, lines):
     place = rng.choice(keys_in(lines))
     key, value = lines[place].split(" = ", 1)
-    lines[place] = f"{key} = {some_value(rng, value)}"
+    lines[place] = f"{key} = {some_value(rng, value)}{rng.choice(ENDS)}"
 
 
 def inner_value(rng, lines):
@@ -230,6 +234,8 @@ class Files:
         for _ in range(rng.choice([1, 1, 1, 2, 4])):
             if keys_in(lines):
                 rng.choice(MISTAKES)(rng, lines)
+        if rng.random() < 0.05:
+            lines.insert(0, "#" * rng.randrange(1 << 16, 1 << 17))
         text = "\n".join(lines) + "\n"
         (self.folder / "board.toml").write_text(text)
         done = subprocess.run([self.program, "check", "--all", "board.toml"], cwd=self.folder, capture_output=True, text=True,
