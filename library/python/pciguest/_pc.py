@@ -153,6 +153,8 @@ class PC:
         if self.interrupt is not None:
             self.check_mode()
         if self.engine.reg_read(x86.UC_X86_REG_CR0) & 1:
+            if self.interrupt is None:
+                raise Halted(f"halted in protected mode at {self.place()}")
             raise BootError(f"exception {self.interrupt} in protected mode at {self.place()}")
         if self.interrupt is not None:
             self.enter_interrupt(self.interrupt)
