@@ -190,6 +190,7 @@ corpus: library/libpciguest.so.0
 peers: has-peers library/libpciguest.so.0
 	@tests/kit/peers.py
 	@tests/kit/edk2.py
+	@tests/kit/edk2.py --tight --trees 5
 	@tests/kit/linux.py
 
 has-kit:

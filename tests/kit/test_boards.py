@@ -184,7 +184,9 @@ class Findings(unittest.TestCase):
         opening = "host cw 00:03.0 4 2 2"
         self.assertEqual(seen(opening, document=document), [words.format(each) for each in ("memory", "prefetchable")])
         self.assertEqual(seen("host cw 00:03.0 0x20 4 0xfff0", opening, document=document), [words.format("prefetchable")])
-        self.assertEqual(seen("host cw 00:03.0 0x20 4 0xfff0", "host cw 00:03.0 0x24 4 0xfff0", opening, document=document), [])
+        shut = ["host cw 00:03.0 0x20 4 0xfff0", "host cw 00:03.0 0x24 4 0xfff0", opening]
+        self.assertEqual(seen(*shut, document=document), [])
+        self.assertEqual(seen(*shut, "host cw 00:03.0 0x20 2 0", document=document), [words.format("memory")])
 
     def test_status(self):
         document = SPECIAL["status_bits"]()

@@ -60,6 +60,16 @@ QUESTIONS_IN_C = """
 #include "pciguest_ops.h"
 int main(void)
 {
+    struct pg_root_bridge_io root = { NULL };
+    unsigned char bytes[2];
+
+    pg_root_bridge_io_read(&root, 1, UINT64_C(0x00010002), 1, bytes); /* of 00:01.0, two bytes at offset 2 */
+    if (bytes[0] != 1 || bytes[1] != 0)
+        return 1;
+    bytes[0] = 5;
+    pg_root_bridge_io_write(&root, 0, UINT64_C(0x0001003c), 1, bytes);
+    if (pg_config_read(PG_BDF(0, 1, 0), 0x3c, 1) != 5)
+        return 1;
     if (pg_question("host ready", stderr) != 2 || pg_question("host why mem 0xc0000000", stderr) != 1)
         return 1;
     pg_config_write(PG_BDF(0, 1, 0), 0x10, 4, 0xc0000000);

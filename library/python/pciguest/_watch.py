@@ -83,8 +83,8 @@ class Watch:
         if access.register == COMMAND:
             return list(self.commanded(one, access))
         if one.is_bridge:
-            is_open = self.kept[at].command & 3 and access.offset >= 0x1C
-            return list(self.overlaps()) if is_open else []
+            bits = self.kept[at].command & 3 if access.offset >= 0x1C else 0
+            return [*self.opened_bridge(one, access, bits), *self.overlaps()] if bits else []
         return list(self.placed(one, access)) if access.register <= 0x24 else []
 
     # ---- Command
