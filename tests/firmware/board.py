@@ -4,22 +4,12 @@ A width is 1, 2 or 4 bytes, and a port or address is a multiple of it. A read th
 the width; a write that nothing takes is dropped."""
 import sys
 from pathlib import Path
-from typing import Protocol
 
 sys.path.append(str(Path(__file__).resolve().parents[2] / "library/python"))
 import pciguest
 from pciguest._chipset import BoardError
 
 LATCH, DATA = 0xCF8, 0xCFC
-
-
-class Board(Protocol):
-    """What a PC needs of a board."""
-
-    def port_read(self, port: int, width: int) -> int: ...
-    def port_write(self, port: int, width: int, value: int) -> None: ...
-    def memory_read(self, address: int, width: int) -> int: ...
-    def memory_write(self, address: int, width: int, value: int) -> None: ...
 
 
 class LibraryBoard:

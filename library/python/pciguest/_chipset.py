@@ -4,7 +4,8 @@ Time is told in ticks of the timer, 1193182 a second, and goes on by one with ea
 
 from __future__ import annotations
 
-from typing import Callable, Dict, List, Optional
+from functools import partial
+from typing import Callable, Dict, List, Optional, Tuple
 
 TICKS = 1193182
 
@@ -48,7 +49,7 @@ class Counter:
         if self.access == 3 and self.low is None:
             self.low = value
             return
-        low = {1: value, 2: 0}.get(self.access, self.low)
+        low = {1: value, 2: 0}.get(self.access, self.low or 0)
         high = 0 if self.access == 1 else value
         self.reload, self.start, self.low = (high << 8 | low) or 0x10000, now, None
 
@@ -123,18 +124,20 @@ class Chipset:
         self.add_timer()
         self.add_controllers()
         for register in range(8):
-            self.readers[0x3F8 + register] = lambda at=register: self.serial.read(at)
-            self.writers[0x3F8 + register] = lambda value, at=register: self.serial.write(at, value)
+            self.readers[0x3F8 + register] = partial(self.serial.read, register)
+            self.writers[0x3F8 + register] = partial(self.serial.write, register)
 
     def add_timer(self) -> None:
         for port, counter in enumerate(self.counters, 0x40):
-            self.readers[port] = lambda counter=counter: counter.read(self.now)
-            self.writers[port] = lambda value, counter=counter: counter.write(value, self.now)
+            self.readers[port], self.writers[port] = self.of_counter(counter)
+
+    def of_counter(self, counter: Counter) -> Tuple[Callable[[], int], Callable[[int], None]]:
+        return lambda: counter.read(self.now), lambda value: counter.write(value, self.now)
 
     def add_controllers(self) -> None:
         for port, controller in self.controllers.items():
             self.readers[port], self.writers[port] = (lambda: 0), controller.command
-            self.readers[port + 1] = lambda controller=controller: controller.mask
+            self.readers[port + 1] = partial(getattr, controller, "mask")
             self.writers[port + 1] = controller.write
 
     def keep(self, port: int) -> Callable[[int], None]:

@@ -6,9 +6,9 @@ from __future__ import annotations
 
 import struct
 import time
+from typing import Any, Callable, Dict, List, Optional, Protocol, Tuple
 
-from unicorn import (UC_ARCH_X86, UC_HOOK_INSN, UC_HOOK_INTR, UC_HOOK_MEM_WRITE_PROT, UC_MODE_16, UC_PROT_ALL,
-                     UC_PROT_EXEC, UC_PROT_READ, Uc, UcError)
+import unicorn  # type: ignore
 from unicorn import x86_const as x86
 
 from ._chipset import BoardError, Chipset
@@ -37,9 +37,18 @@ class Halted(BootError):
     """The processor waits for nothing."""
 
 
-def guarded(call):
+class Board(Protocol):
+    """What a PC needs of a board."""
+
+    def port_read(self, port: int, width: int) -> int: ...
+    def port_write(self, port: int, width: int, value: int) -> None: ...
+    def memory_read(self, address: int, width: int) -> int: ...
+    def memory_write(self, address: int, width: int, value: int) -> None: ...
+
+
+def guarded(call: Callable[..., Any]) -> Callable[..., Any]:
     """A call by the engine, which must not see errors: one of the board is kept, and ends the run."""
-    def guard(pc, engine, *words):
+    def guard(pc: PC, engine: Any, *words: Any) -> Any:
         try:
             return call(pc, *words)
         except BoardError as error:
@@ -52,34 +61,38 @@ def guarded(call):
 class PC:
     """`told` is what the firmware wrote to its console. `plain` is a processor without time stamps and APIC."""
 
-    def __init__(self, board, rom, plain):
-        self.board, self.told, self.endings, self.prompts = board, "", [], {}
+    def __init__(self, board: Board, rom: bytes, plain: bool) -> None:
+        self.board, self.told = board, ""
+        self.endings: Tuple[str, ...] = ()
+        self.prompts: Dict[str, str] = {}
         self.chipset = Chipset(RAM, self.tell)
-        self.interrupt, self.is_done, self.error = None, False, None
-        self.engine = Uc(UC_ARCH_X86, UC_MODE_16)
+        self.interrupt: Optional[int] = None
+        self.is_done = False
+        self.error: Optional[BoardError] = None
+        self.engine = unicorn.Uc(unicorn.UC_ARCH_X86, unicorn.UC_MODE_16)
         self.map_memory(rom)
         hook = self.engine.hook_add
-        hook(UC_HOOK_INSN, self.port_in, arg1=x86.UC_X86_INS_IN)
-        hook(UC_HOOK_INSN, self.port_out, arg1=x86.UC_X86_INS_OUT)
+        hook(unicorn.UC_HOOK_INSN, self.port_in, arg1=x86.UC_X86_INS_IN)
+        hook(unicorn.UC_HOOK_INSN, self.port_out, arg1=x86.UC_X86_INS_OUT)
         if plain:
-            hook(UC_HOOK_INSN, self.identify, arg1=x86.UC_X86_INS_CPUID)
-        hook(UC_HOOK_INTR, self.interrupted)
-        hook(UC_HOOK_MEM_WRITE_PROT, lambda *_: True)  # writes to the ROM are dropped
+            hook(unicorn.UC_HOOK_INSN, self.identify, arg1=x86.UC_X86_INS_CPUID)
+        hook(unicorn.UC_HOOK_INTR, self.interrupted)
+        hook(unicorn.UC_HOOK_MEM_WRITE_PROT, lambda *_: True)  # writes to the ROM are dropped
 
-    def map_memory(self, rom):
+    def map_memory(self, rom: bytes) -> None:
         """Memory, the ROM at the top of 4 GB with a copy of its end below 1 MB, and the board in the holes."""
         engine, copy = self.engine, rom[-0x40000:]
-        engine.mem_map(0, 0xA0000, UC_PROT_ALL)
-        engine.mem_map(0xC0000, RAM - 0xC0000, UC_PROT_ALL)
+        engine.mem_map(0, 0xA0000, unicorn.UC_PROT_ALL)
+        engine.mem_map(0xC0000, RAM - 0xC0000, unicorn.UC_PROT_ALL)
         for start in INERT:
-            engine.mem_map(start, 0x1000, UC_PROT_ALL)
-        engine.mem_map(FOUR_GB - len(rom), len(rom), UC_PROT_READ | UC_PROT_EXEC)
+            engine.mem_map(start, 0x1000, unicorn.UC_PROT_ALL)
+        engine.mem_map(FOUR_GB - len(rom), len(rom), unicorn.UC_PROT_READ | unicorn.UC_PROT_EXEC)
         engine.mem_write(FOUR_GB - len(rom), rom)
         engine.mem_write(0x100000 - len(copy), copy)
         for start, end in ((0xA0000, 0xC0000), (RAM, INERT[0])):
             engine.mmio_map(start, end - start, self.memory_read, start, self.memory_write, start)
 
-    def tell(self, value):
+    def tell(self, value: int) -> None:
         """A byte for the console: the run ends with an ending, and a prompt is answered once."""
         self.told += chr(value)
         last = self.told[-80:]
@@ -90,7 +103,7 @@ class PC:
             self.engine.emu_stop()
 
     @guarded
-    def port_in(self, port, width, _data):
+    def port_in(self, port: int, width: int, _data: Any) -> int:
         self.chipset.now += 1
         reader = self.chipset.readers.get(port)
         if reader:
@@ -98,7 +111,7 @@ class PC:
         return whole(lambda at, size: self.board.port_read(at, size), port, width)
 
     @guarded
-    def port_out(self, port, width, value, _data):
+    def port_out(self, port: int, width: int, value: int, _data: Any) -> None:
         self.chipset.now += 1
         writer = self.chipset.writers.get(port)
         if writer:
@@ -107,14 +120,14 @@ class PC:
             parted(lambda at, size, part: self.board.port_write(at, size, part), port, width, value)
 
     @guarded
-    def memory_read(self, offset, width, start):
+    def memory_read(self, offset: int, width: int, start: int) -> int:
         return whole(lambda at, size: self.board.memory_read(at, size), start + offset, width)
 
     @guarded
-    def memory_write(self, offset, width, value, start):
+    def memory_write(self, offset: int, width: int, value: int, start: int) -> None:
         parted(lambda at, size, part: self.board.memory_write(at, size, part), start + offset, width, value)
 
-    def identify(self, engine, _data):
+    def identify(self, engine: Any, _data: Any) -> int:
         """CPUID of a processor that has a floating-point unit and conditional moves, and says no more."""
         leaf = engine.reg_read(x86.UC_X86_REG_EAX)
         words = {0: (1, 0x756E6547, 0x6C65746E, 0x49656E69), 1: (0x633, 0, 0, 0x8001)}.get(leaf, (0, 0, 0, 0))
@@ -123,11 +136,11 @@ class PC:
             engine.reg_write(register, word)
         return 1
 
-    def interrupted(self, engine, vector, _data):
+    def interrupted(self, engine: Any, vector: int, _data: Any) -> None:
         self.interrupt = vector
         engine.emu_stop()
 
-    def enter_interrupt(self, vector):
+    def enter_interrupt(self, vector: int) -> None:
         """Goes to the handler of a vector as a processor in real mode does."""
         engine, read, write = self.engine, self.engine.reg_read, self.engine.reg_write
         flags, stack = read(x86.UC_X86_REG_EFLAGS), read(x86.UC_X86_REG_SP) - 6 & 0xFFFF
@@ -139,16 +152,16 @@ class PC:
         write(x86.UC_X86_REG_CS, segment)
         write(x86.UC_X86_REG_EIP, offset)
 
-    def place(self):
+    def place(self) -> str:
         return f"{self.engine.reg_read(x86.UC_X86_REG_CS):x}:{self.engine.reg_read(x86.UC_X86_REG_EIP):x}"
 
-    def check_mode(self):
+    def check_mode(self) -> None:
         """The processor has 32 bits, and goes wrong where 64-bit mode is turned on: by pages of physical addresses of more
         than 32 bits."""
         if self.engine.reg_read(x86.UC_X86_REG_CR4) & WIDE_PAGES:
             raise TooWide("asks for 64-bit mode, which this PC doesn't have")
 
-    def resume(self):
+    def resume(self) -> None:
         """After a stop: an interrupt that was asked for, or time that passes while the processor halts."""
         if self.interrupt is not None:
             self.check_mode()
@@ -165,7 +178,7 @@ class PC:
             if vector is not None:
                 self.enter_interrupt(vector)
 
-    def boot(self, *endings, patience=PATIENCE):
+    def boot(self, *endings: str, patience: float = PATIENCE) -> None:
         """Runs from reset until the console has told one of the endings."""
         self.endings = endings
         engine, deadline = self.engine, time.monotonic() + patience
@@ -178,7 +191,7 @@ class PC:
                 raise NotDone(f"not done after {patience:g} seconds, at {self.place()}")
             try:
                 engine.emu_start(start, (1 << 64) - 1, timeout=int(left * 1e6))
-            except UcError as error:
+            except unicorn.UcError as error:
                 self.check_mode()
                 raise BootError(f"{error} at {self.place()}") from error
             if self.error:
@@ -190,16 +203,16 @@ class PC:
             start = (engine.reg_read(x86.UC_X86_REG_CS) << 4) + (engine.reg_read(x86.UC_X86_REG_EIP) & 0xFFFF)
 
 
-def pieces(place, width):
+def pieces(place: int, width: int) -> List[Tuple[int, int, int]]:
     """The accesses of at most 4 bytes that an access is made of: aligned ones, or else bytes."""
     size = 1 if place % min(width, 4) else min(width, 4)
     return [(place + done, size, 8 * done) for done in range(0, width, size)]
 
 
-def whole(read, place, width):
+def whole(read: Callable[[int, int], int], place: int, width: int) -> int:
     return sum(read(at, size) << shift for at, size, shift in pieces(place, width))
 
 
-def parted(write, place, width, value):
+def parted(write: Callable[[int, int, int], None], place: int, width: int, value: int) -> None:
     for at, size, shift in pieces(place, width):
         write(at, size, value >> shift & (1 << 8 * size) - 1)

@@ -49,7 +49,7 @@ def half_of_memory() -> Document:
 
 def top_of_memory() -> Document:
     """Memory up to FFFFFFFFh without a gap; a window is the last."""
-    sizes = [128, 64, 32, 16, 8, 4]
+    sizes = [4, 8, 16, 32, 64, 128]
     return board(
         *(endpoint(f"{place}.0", f"mem32 {size * MB}") for place, size in enumerate(sizes, 1)),
         endpoint("7.0", f"mem32 {2 * MB}", f"mem32 {MB}"), bridge("8.0"), endpoint("8.0/0.0", "mem32 4096"),
@@ -65,7 +65,7 @@ def last_region() -> Document:
 
 def top_of_prefetchable() -> Document:
     """Prefetchable memory up to the last address below 2^63."""
-    sizes = [32 * GB, 16 * GB, 8 * GB, 4 * GB, 2 * GB, GB]
+    sizes = [GB, 2 * GB, 4 * GB, 8 * GB, 16 * GB, 32 * GB]
     return board(
         *(endpoint(f"{place}.0", f"mem64p {size}") for place, size in enumerate(sizes, 1)), bridge("7.0"),
         endpoint("7.0/0.0", f"mem64p {512 * MB}", f"mem64p {512 * MB}"), pref=[(1 << 63) - 64 * GB, (1 << 63) - 1])
@@ -84,9 +84,8 @@ def top_of_ports() -> Document:
 
 
 def small_regions() -> Document:
-    """A MB of memory without a gap, of every size from 16 bytes on."""
-    sizes = [1 << bit for bit in range(4, 20)]
-    regions = [16, *sizes]
+    """A MB of memory without a gap, of every size from 16 bytes on, small ones before large ones."""
+    regions = [16, *(1 << bit for low in range(4, 12) for bit in (low, 23 - low))]
     return board(*(endpoint(f"{place}.0", *(f"mem32 {size}" for size in regions[6 * place - 6 : 6 * place]))
                    for place in range(1, 4)))
 

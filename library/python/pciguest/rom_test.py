@@ -131,7 +131,9 @@ def read_rom(file: Path) -> bytes:
 
 def main(given: Optional[List[str]] = None) -> int:
     options = parser().parse_args(given)
-    maker: Maker = Program(options.program) if options.program else Library()
+    maker: Maker = Library()
+    if options.program:
+        maker = Program(options.program)
     try:
         rom, files = read_rom(options.rom), options.board or example_files()
         if options.lines:
