@@ -250,7 +250,7 @@ holds 'the program of LIBRARY.md that saves a machine' test "$(./whole < "$board
 {
   printf '#include <stdio.h>\n#include "pciguest.h"\nstatic char board[65536]; int main(void) {\n'
   echo 'struct pciguest machine = PCIGUEST_INIT; pciguest_new(&machine, board, fread(board, 1, sizeof board, stdin));'
-  sed -n '/^struct pciguest_function row;/,/^```/p' "$top/docs/LIBRARY.md" | grep -v '^```'
+  sed -n '/^struct pciguest_function row /,/^```/p' "$top/docs/LIBRARY.md" | grep -v '^```'
   echo 'pciguest_free(&machine); return 0; }'
 } > rows.c
 holds 'the rows of LIBRARY.md are built' build rows rows.c

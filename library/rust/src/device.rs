@@ -119,48 +119,67 @@ fn locked<D>(device: &Mutex<D>) -> MutexGuard<'_, D> {
     device.lock().unwrap_or_else(PoisonError::into_inner)
 }
 
-#[cfg(feature = "std")]
-impl<D: DeviceModel> DeviceModel for Arc<Mutex<D>> {
-    fn declaration(&self) -> Declaration {
-        locked(self).declaration()
-    }
+/// A device behind something that leads to it.
+macro_rules! device_behind {
+    ($kind:ty, |$it:ident| $device:expr, $($of:tt)*) => {
+        impl<$($of)*> DeviceModel for $kind {
+            fn declaration(&self) -> Declaration {
+                let $it = self;
+                $device.declaration()
+            }
 
-    fn on_write(&mut self, registers: &mut Registers<'_>, register: Register, value: u64) {
-        locked(self).on_write(registers, register, value)
-    }
+            fn on_write(&mut self, registers: &mut Registers<'_>, register: Register, value: u64) {
+                let $it = self;
+                $device.on_write(registers, register, value)
+            }
 
-    fn before_read(&mut self, registers: &mut Registers<'_>, register: Register) {
-        locked(self).before_read(registers, register)
-    }
+            fn before_read(&mut self, registers: &mut Registers<'_>, register: Register) {
+                let $it = self;
+                $device.before_read(registers, register)
+            }
 
-    fn on_reset(&mut self, registers: &mut Registers<'_>) {
-        locked(self).on_reset(registers)
-    }
+            fn on_reset(&mut self, registers: &mut Registers<'_>) {
+                let $it = self;
+                $device.on_reset(registers)
+            }
 
-    fn on_move(&mut self, registers: &mut Registers<'_>, from: Guest, slot: u64) {
-        locked(self).on_move(registers, from, slot)
-    }
+            fn on_move(&mut self, registers: &mut Registers<'_>, from: Guest, slot: u64) {
+                let $it = self;
+                $device.on_move(registers, from, slot)
+            }
 
-    fn on_give(&mut self, registers: &mut Registers<'_>) {
-        locked(self).on_give(registers)
-    }
+            fn on_give(&mut self, registers: &mut Registers<'_>) {
+                let $it = self;
+                $device.on_give(registers)
+            }
 
-    fn on_take(&mut self) {
-        locked(self).on_take()
-    }
+            fn on_take(&mut self) {
+                let $it = self;
+                $device.on_take()
+            }
 
-    fn on_load(&mut self, registers: &mut Registers<'_>) {
-        locked(self).on_load(registers)
-    }
+            fn on_load(&mut self, registers: &mut Registers<'_>) {
+                let $it = self;
+                $device.on_load(registers)
+            }
 
-    fn save_state(&self) -> Vec<u8> {
-        locked(self).save_state()
-    }
+            fn save_state(&self) -> Vec<u8> {
+                let $it = self;
+                $device.save_state()
+            }
 
-    fn load_state(&mut self, registers: &mut Registers<'_>, state: &[u8]) -> bool {
-        locked(self).load_state(registers, state)
-    }
+            fn load_state(&mut self, registers: &mut Registers<'_>, state: &[u8]) -> bool {
+                let $it = self;
+                $device.load_state(registers, state)
+            }
+        }
+    };
 }
+
+// as a machine gives it back
+device_behind!(Box<D>, |it| (**it), D: DeviceModel + ?Sized);
+#[cfg(feature = "std")]
+device_behind!(Arc<Mutex<D>>, |it| locked(it), D: DeviceModel);
 
 /// The registers of a device that acts: reading and setting one is what the device does, whatever its driver may change of
 /// it.

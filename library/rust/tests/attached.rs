@@ -335,5 +335,9 @@ fn a_device_is_detached() -> Result<(), Error> {
         counted.case.machine.registers(a, 1).unwrap_err().number(),
         902
     );
+    let mut other = Case::new(); // where it goes on
+    other.machine.attach(a, 1, device).expect("a device");
+    other.machine.reset(a, 1)?;
+    assert_eq!(counted.told(), [Told::Reset(0)]);
     Ok(())
 }
