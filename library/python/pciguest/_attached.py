@@ -2,9 +2,10 @@
 
 from __future__ import annotations
 
+from ctypes import byref
 from typing import TYPE_CHECKING, Callable, Iterator, List, NamedTuple, Optional, Tuple
 
-from ._calls import ARGUMENT, CONFIG, IO
+from ._calls import ARGUMENT, CONFIG, IO, RAISE_CONFIG, HitTold
 from ._devices import Device
 from ._differs import DeclaredOtherwise, first_difference
 from ._functions import Function
@@ -118,17 +119,22 @@ class Attaching(SavedMachine):
             raise Refusal(ARGUMENT)
         return device
 
+    def _locate(self, guest: int, space: int, place: int) -> Optional[Hit]:
+        """What an access of a guest at a port or an address hits."""
+        told = HitTold()
+        self._call("locate", guest, space, 0, place, byref(told))
+        return Hit(told.slot, None if told.part == RAISE_CONFIG else told.part, told.offset) if told.found else None
+
     def _touch(self, access: Access, value: int = 0) -> List[Touch]:
         """What a cycle of the bus touches of a device, if it touches one. Asked before a write, which may move the function."""
         if not self._devices or (access.space, access.place, access.width) == (IO, 0xCF8, 4):
             return []
-        guest = self._guest_at(access.guest)
         try:
             if access.space == CONFIG:
                 hit: Optional[Hit] = Hit(access.slot, None, access.place)
             else:
-                hit = guest.locate("io" if access.space == IO else "memory", access.place)
-        except (Refusal, ValueError):
+                hit = self._locate(access.guest, access.space, access.place)
+        except Refusal:
             return []
         device = None if hit is None else self._device_at((access.guest, hit.slot))
         return [] if hit is None or device is None else [Touch(device, hit.region, hit.offset, access.width, value)]

@@ -8,7 +8,7 @@ from pathlib import Path
 from typing import Any, Callable, Iterator, List, Optional, Tuple, Union
 
 from ._attached import Attaching
-from ._calls import CONFIG, GUEST_NAME, IO, MEMORY, RAISE_CONFIG, FunctionTold, Handle, HitTold, RegionTold
+from ._calls import CONFIG, GUEST_NAME, IO, MEMORY, RAISE_CONFIG, FunctionTold, Handle, RegionTold
 from ._functions import Function, function_of
 from ._held import Held, as_bytes
 from ._images import Saved
@@ -315,12 +315,7 @@ class Guest(Saved):
         """
         if space not in ("io", "memory"):
             raise ValueError(f"space: {space!r} is neither 'io' nor 'memory'")
-        told = HitTold()
-        asked = IO if space == "io" else MEMORY
-        self.machine._call("locate", self.index, asked, 0, number("place", place, 64), byref(told))
-        if not told.found:
-            return None
-        return Hit(told.slot, None if told.part == RAISE_CONFIG else told.part, told.offset)
+        return self.machine._locate(self.index, IO if space == "io" else MEMORY, number("place", place, 64))
 
     def why(self, space: str, place: int, slot: int = 0) -> str:
         """Why an access of the guest at a port ("io"), at an address ("memory") or at an offset of a slot ("config") finds

@@ -10,7 +10,7 @@ use std::sync::{Arc, Mutex, MutexGuard, PoisonError};
 
 /// A device model: it declares the function's identity, its regions and its registers, and says what happens when its
 /// driver writes or reads one. [`Declaration::endpoint`] makes the endpoint of a board file of the same declaration, and
-/// [`Machine::attach`] lets it act.
+/// [`Machine::attach`](crate::Machine::attach) lets it act.
 ///
 /// ```
 /// use pciguest::{At, Declaration, DeviceModel, Kind, Machine, Register, Registers};
