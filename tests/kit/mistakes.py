@@ -1,7 +1,7 @@
 #!/usr/bin/python3 -B
 """Are the enumerators of examples/firmware right, and is each mistake found, and shrunk to few functions?
 
-    mistakes.py [--program PROGRAM | --second-hand] [--boards N] [MISTAKE..]
+    mistakes.py [--program PROGRAM | --second-hand] [--boards N] [NAME..]
 
 An edit has words of what is told of the mistake first, as a pattern, with the most functions of the board on which it is
 found; or why it is none by the profile, and then nothing may be found. The boards are those of the library, or of the
@@ -10,10 +10,13 @@ be what is told. Status 1 says that one of these isn't so."""
 import argparse
 import contextlib
 import io
+import os
 import re
 import subprocess
 import sys
 import tempfile
+from concurrent.futures import ProcessPoolExecutor
+from functools import partial
 
 import places
 from pciguest import firmware_test
@@ -54,18 +57,22 @@ def wrong_with(said, status, told):
     return f"{found[1]} functions" if int(found[1]) > int(said["functions"]) else None
 
 
-def examine(edit, program, maker, words):
-    """Runs an enumerator with one mistake: whether what comes of it is as its edit says."""
+def examine(room, options, name):
+    """Runs an enumerator, with one mistake where an edit has the name: whether what comes of it is as it has to be, and what
+    is told of that."""
+    words = ["--transients", "--boards", options.boards] + (["--program", options.program] if options.program else [])
+    status, told = tested(f"{room}/{name}", SecondHand() if options.second_hand else None, *words)
+    edit = FOLDER / f"mistakes/{name}.edit"
+    if not edit.exists():
+        return status == 0, f"{name}: {told.strip()}"
     said = said_by(edit)
-    status, told = tested(program, maker, *words)
     wrong = wrong_with(said, status, told)
-    if edit.stem == "subordinate_low" and not wrong and not is_documented(told):
+    if name == "subordinate_low" and not wrong and not is_documented(told):
         wrong = "docs/TESTING_YOURS.md prints something else"
     line = next((line for line in told.splitlines() if FIRST.match(line)), "")
     count = re.search(r"on this board \((\d+ functions?)\)", told)
     shown = f"{count[1]}: {line}" if count else f"no mistake: {said.get('harmless')}"
-    print(f"{edit.stem}: {f'FAILED: {wrong}: {told}' if wrong else shown}", flush=True)
-    return wrong is None
+    return wrong is None, f"{name}: {f'FAILED: {wrong}: {told}' if wrong else shown}"
 
 
 def main():
@@ -73,19 +80,15 @@ def main():
     parser.add_argument("--program")
     parser.add_argument("--second-hand", action="store_true")
     parser.add_argument("--boards", default="100")
-    parser.add_argument("mistake", nargs="*")
+    parser.add_argument("name", nargs="*")
     options, right = parser.parse_args(), []
-    words = ["--transients", "--boards", options.boards] + (["--program", options.program] if options.program else [])
-    maker = SecondHand() if options.second_hand else None
-    with tempfile.TemporaryDirectory() as room:
-        subprocess.run(["make", "-s", "-C", FOLDER, f"OUT={room}"], check=True)
-        for name in () if options.mistake else ("enumerator", "allocator"):
-            status, told = tested(f"{room}/{name}", maker, *words)
-            print(f"{name}: {told.strip()}", flush=True)
-            right.append(status == 0)
-        for edit in sorted(FOLDER.glob("mistakes/*.edit")):
-            if not options.mistake or edit.stem in options.mistake:
-                right.append(examine(edit, f"{room}/{edit.stem}", maker, words))
+    edits = sorted(edit.stem for edit in FOLDER.glob("mistakes/*.edit"))
+    with tempfile.TemporaryDirectory() as room, ProcessPoolExecutor(os.cpu_count()) as processes:
+        subprocess.run(["make", "-s", f"-j{os.cpu_count()}", "-C", FOLDER, f"OUT={room}"], check=True)
+        examined = partial(examine, room, options)
+        for is_right, told in processes.map(examined, options.name or ["enumerator", "allocator", *edits]):
+            print(told, flush=True)
+            right.append(is_right)
     print(f"{len(right)} programs, of which not as they have to be {right.count(False)}")
     sys.exit(not all(right))
 

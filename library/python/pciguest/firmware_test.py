@@ -31,6 +31,8 @@ from ._special import SPECIAL
 from ._tight import TOO_SMALL, cut, tight, too_small
 from ._writers import story_of, why_unfound, writers
 
+#: most lines that tell who wrote registers
+MOST_WRITERS = 24
 #: boards of the folder `boards`, each of which can be set up
 EXAMPLES = ["main", "server", "second_bridge", "kinds", "chain", "guest_elsewhere"]
 
@@ -255,8 +257,9 @@ class Test:
         return "\n".join([*lines, f"the first one:     {words}"])
 
     def told_since(self, document: Document, run: Run) -> List[str]:
-        """Of the first problem: since which line it is there, who wrote the registers that it names, and why it is so at the
-        end, or after that line where it went by; or why its function was never found."""
+        """Of the first problem since which line it is there, and why it is so at the end, or after that line where it went
+        by; or why its function was never found. Before that, who wrote the registers that it names, or that all problems
+        name which are there at the end."""
         finding, count, text = run.wrong[0], len(run.lines), text_of(document)
         place = run.since.get(finding) or since(self.maker, document, run.lines, finding)
         told = f"reset: none of the {count} lines changed it"
@@ -270,7 +273,10 @@ class Test:
             why = why_unfound(self.maker, text, run.lines, unfound, story.asked.get(unfound))
         else:
             why = reasons_after(self.maker, document, lines, finding)
-        return [f"the first of these is so since {told}", *writers(story, document, finding, count), *why]
+        named = [finding] if finding in run.since else [each for each in run.wrong if each not in run.since]
+        wrote = list(dict.fromkeys(line for each in named for line in writers(story, document, each, count)))
+        more = [f"... and {len(wrote) - MOST_WRITERS} registers more"] if len(wrote) > MOST_WRITERS else []
+        return [f"the first of these is so since {told}", *wrote[:MOST_WRITERS], *more, *why]
 
     def repeated(self) -> List[str]:
         """The words that say what is asked of firmware."""
