@@ -14,8 +14,8 @@ INSTALL := PREFIX='$(PREFIX)' DESTDIR='$(DESTDIR)' LIBDIR='$(LIBDIR)' tools/inst
 # the board of `make list` and `make lspci`, unless they are given one
 BOARD := boards/main.toml
 
-.PHONY: demo list lspci has-lspci has-qemu has-firmware has-kit has-peers gate test edits build library install \
-  uninstall dist wheel deb deb-test bench bench-peers hostile fuzz qemu firmware kit corpus peers page browse outside try try-page quick clean
+.PHONY: demo list lspci has-lspci has-qemu has-kvm has-firmware has-kit has-peers gate test edits build library install \
+  uninstall dist wheel deb deb-test bench bench-peers hostile fuzz qemu kvm firmware kit corpus peers page browse outside try try-page quick clean
 
 # Proves and builds the program, and runs a script over the demo board.
 demo: build
@@ -54,7 +54,7 @@ test:
 
 # All that stands outside the gate, whole. A part whose packages are missing here is skipped, and they are named.
 outside: pciguest library/libpciguest.a
-	@tests/parts.py --outside hostile fuzz firmware kit peers qemu page browse bench
+	@tests/parts.py --outside hostile fuzz firmware kit peers qemu kvm page browse bench
 
 # Wrong bodies beside those of the gate, each of which the check of its crate must refuse: all, or those of some crates,
 # as in make edits CRATES='monitor headers'. A large crate takes minutes.
@@ -154,6 +154,15 @@ qemu: has-qemu pciguest library/libpciguest.a
 has-qemu:
 	@examples/qemu/needs
 
+# Two machines of KVM under Linux over one board, one of which goes on over another; and whether what they say tells of each
+# mistake that is made in the hypervisor or in the board. It takes /dev/kvm or QEMU and Debian's packages, which it names where
+# they are missing.
+kvm: has-kvm library/libpciguest.a
+	@$(MAKE) --no-print-directory -C examples/kvm check
+
+has-kvm:
+	@examples/kvm/needs
+
 # Debian's SeaBIOS and U-Boot, unmodified, on boards of the library; and on random trees, where each byte that they leave
 # is compared with what they leave in QEMU; an audit and `ready` say what is wrong and what is lacking. Then whether that
 # comparison notices an edited board, and these two a SeaBIOS that is broken on purpose. It takes Debian's packages, which it
@@ -248,4 +257,4 @@ try:
 clean:
 	rm -rf crates/*/out page/out library/rust/target .prove corpus pciguest pciguest.html library/libpciguest.a library/libpciguest.so.0
 	rm -rf packages pciguest-*-x86_64-linux.tar.gz
-	@$(MAKE) --no-print-directory -C examples/qemu clean
+	@for example in qemu kvm; do $(MAKE) --no-print-directory -C examples/$$example clean; done

@@ -6,7 +6,7 @@ set -u
 cd "$(dirname "$0")/.."
 passed=0
 failed=0
-documents=(*.md docs/*.md docs/{reports,lessons}/*.md {boards,examples,examples/audit,tests}/README.md)
+documents=(*.md docs/*.md docs/{reports,lessons}/*.md {boards,examples,examples/{audit,kvm},tests}/README.md)
 index=docs/DEFINITIONS.md
 room=$(mktemp -d)
 trap 'rm -rf "$room"' EXIT

@@ -1,0 +1,206 @@
+/* A machine's PCI: which of its accesses the board serves, what its devices do then, and their interrupts. All of it is
+ * called under the board's lock. */
+#include "machine.h"
+
+#include <stdio.h>
+#include <stdlib.h>
+#include <string.h>
+#include <sys/ioctl.h>
+#include <time.h>
+
+enum { COMMAND = 0x04, INTERRUPT_LINE = 0x3c, INTERRUPT_PIN = 0x3d, INTERRUPT_OFF = 0x400, CONFIG_ADDRESS = 0xcf8,
+       BELL_STATUS = 0, BELL_COUNT = 4, BELL_RING = 8, WIRES = 4 };
+
+/* The interrupt lines to which the wires of the machine's bus lead. */
+static const unsigned lines[WIRES] = {5, 9, 10, 11};
+
+/* A number of the library that this program can't go on with. */
+static void expect(uint32_t number, const char *what)
+{
+    if (!number)
+        return;
+    fprintf(stderr, "kvm: %s: %u %s\n", what, number, pciguest_strerror(number));
+    exit(1);
+}
+
+static uint32_t config(struct machine *machine, uint64_t slot, uint64_t offset, uint32_t width)
+{
+    uint32_t value = UINT32_MAX;
+
+    expect(pciguest_read(&machine->board->guests, machine->guest, PCIGUEST_CONFIG, slot, offset, width, &value),
+           "configuration space");
+    return value;
+}
+
+uint8_t board_cell(struct machine *machine, uint64_t slot, uint32_t part, uint64_t offset)
+{
+    uint32_t value = 0;
+
+    expect(pciguest_device_read(&machine->board->guests, machine->guest, slot, part, offset, &value), "a device's cell");
+    return (uint8_t)value;
+}
+
+void board_set_cell(struct machine *machine, uint64_t slot, uint32_t part, uint64_t offset, uint8_t value)
+{
+    expect(pciguest_device_write(&machine->board->guests, machine->guest, slot, part, offset, value), "a device's cell");
+}
+
+/* Finds the guest of the machine's name, and what stands behind its functions. */
+void machine_find_guest(struct machine *machine)
+{
+    struct pciguest *guests = &machine->board->guests;
+    struct pciguest_function function;
+
+    expect(pciguest_guest(guests, machine->name, strlen(machine->name), &machine->guest), machine->name);
+    for (uint64_t slot = 0; slot < SLOTS; slot++) {
+        if (pciguest_slot(guests, machine->guest, slot, &function) != 0)
+            continue; /* the slot is empty */
+        if (function.class_code >> 8 == 0x0700)
+            machine->devices[slot] = SERIAL_PORT;
+        else if (function.vendor_id == 0x1234 && function.device_id == 0x0d0b)
+            machine->devices[slot] = BELL;
+        machine->ports[slot] = (struct uart){.machine = machine, .slot = slot};
+    }
+}
+
+/* The interrupt line to which a function's pin is wired; 0 where it has none. To a guest a function stands on bus 0 as the
+ * device of its slot, with no bridge above: its pin arrives there as it is, and the four wires go round as on a PC. */
+static unsigned line_of(struct machine *machine, uint64_t slot)
+{
+    uint32_t pin = config(machine, slot, INTERRUPT_PIN, 1);
+
+    return pin == 0 || pin > WIRES ? 0 : lines[(pin - 1 + slot) % WIRES];
+}
+
+/* Drives the line of a function's pin, which others may share, as its device asks and as its driver lets it. */
+static void drive_line(struct machine *machine, uint64_t slot)
+{
+    unsigned line = line_of(machine, slot);
+    uint32_t bit = 1u << slot;
+    bool is_driven = machine->asking & bit && !(config(machine, slot, COMMAND, 2) & INTERRUPT_OFF);
+
+    if (line == 0 || is_driven == !!(machine->driving[line] & bit))
+        return;
+    machine->driving[line] ^= bit;
+    machine_line(machine, line, machine->driving[line] != 0);
+}
+
+void machine_interrupt(struct machine *machine, uint64_t slot, bool is_asking)
+{
+    machine->asking = (machine->asking & ~(1u << slot)) | (uint32_t)is_asking << slot;
+    drive_line(machine, slot);
+}
+
+/* What the firmware of a PC does, but for regions, which Linux places itself: it tells in Interrupt Line where pins arrive,
+ * and that these lines are driven by level. */
+void machine_wire(struct machine *machine)
+{
+    struct kvm_irqchip chips[2] = {{.chip_id = KVM_IRQCHIP_PIC_MASTER}, {.chip_id = KVM_IRQCHIP_PIC_SLAVE}};
+
+    for (unsigned i = 0; i < 2; i++)
+        needed(ioctl(machine->file, KVM_GET_IRQCHIP, &chips[i]), "KVM_GET_IRQCHIP");
+    for (unsigned wire = 0; wire < WIRES; wire++)
+        chips[lines[wire] / 8].chip.pic.elcr |= 1u << lines[wire] % 8;
+    for (unsigned i = 0; i < 2; i++)
+        needed(ioctl(machine->file, KVM_SET_IRQCHIP, &chips[i]), "KVM_SET_IRQCHIP");
+    for (uint64_t slot = 0; slot < SLOTS; slot++)
+        if (machine->devices[slot])
+            expect(pciguest_write(&machine->board->guests, machine->guest, PCIGUEST_CONFIG, slot, INTERRUPT_LINE, 1,
+                                  line_of(machine, slot)),
+                   "Interrupt Line");
+}
+
+/* Lists the open regions anew where the count says that one of them may stand elsewhere. */
+static void follow_regions(struct machine *machine)
+{
+    struct pciguest *guests = &machine->board->guests;
+    struct pciguest_region region;
+    uint64_t changes = 0;
+
+    expect(pciguest_changed(guests, machine->guest, &changes), "changes");
+    if (machine->is_listed && changes == machine->changes)
+        return;
+    machine->is_listed = true;
+    machine->changes = changes;
+    machine->open_count = 0;
+    for (uint32_t i = 0; i < REGIONS; i++)
+        if (pciguest_region(guests, machine->guest, i / PCIGUEST_BARS, i % PCIGUEST_BARS, &region) == 0 && region.is_open)
+            machine->open[machine->open_count++] = region;
+}
+
+static bool is_of_board(const struct machine *machine, const struct access *access)
+{
+    if (access->space == PCIGUEST_IO && access->place - CONFIG_ADDRESS < 8)
+        return true;
+    for (size_t i = 0; i < machine->open_count; i++)
+        if (machine->open[i].space == access->space && access->place - machine->open[i].first < machine->open[i].size)
+            return true;
+    return false;
+}
+
+/* The bell counts that it was rung, and says so in the bit that its driver clears. */
+static void ring(struct machine *machine, const struct pciguest_hit *hit)
+{
+    struct pciguest *guests = &machine->board->guests;
+    uint64_t count = 0;
+
+    expect(pciguest_device_read_wide(guests, machine->guest, hit->slot, hit->part, BELL_COUNT, 4, &count), "a bell");
+    expect(pciguest_device_write_wide(guests, machine->guest, hit->slot, hit->part, BELL_COUNT, 4, count + 1), "a bell");
+    expect(pciguest_raise(guests, machine->guest, hit->slot, hit->part, BELL_STATUS, 1), "a bell");
+}
+
+/* What the device of a function does after the access that hit it. Of configuration space a driver may have written Command. */
+static void act(struct machine *machine, const struct access *access, const struct pciguest_hit *hit)
+{
+    enum device device = machine->devices[hit->slot];
+    uint64_t end = hit->offset + access->width;
+
+    if (hit->part == PCIGUEST_RAISE_CONFIG) {
+        if (access->is_write)
+            drive_line(machine, hit->slot);
+    } else if (device == SERIAL_PORT) {
+        for (uint64_t offset = hit->offset; offset < end; offset++)
+            uart_touched(&machine->ports[hit->slot], (unsigned)offset, access->is_write);
+    } else if (device == BELL && access->is_write && hit->offset < BELL_RING + 4 && end > BELL_RING) {
+        ring(machine, hit);
+    }
+}
+
+uint64_t now(void)
+{
+    struct timespec time;
+
+    clock_gettime(CLOCK_MONOTONIC, &time);
+    return (uint64_t)time.tv_sec * 1000000000 + (uint64_t)time.tv_nsec;
+}
+
+/* Serves an access if it is the board's. What nobody answers there reads all ones, and what is written is lost. */
+bool machine_board_access(struct machine *machine, struct access *access)
+{
+    struct pciguest *guests = &machine->board->guests;
+    struct pciguest_hit hit = {0};
+    uint64_t began = now();
+
+    if (!is_of_board(machine, access))
+        return false;
+    (void)pciguest_locate(guests, machine->guest, access->space, 0, access->place, &hit);
+    if (access->is_write)
+        (void)pciguest_write_wide(guests, machine->guest, access->space, 0, access->place, access->width, access->value);
+    else
+        (void)pciguest_read_wide(guests, machine->guest, access->space, 0, access->place, access->width, &access->value);
+    if (hit.found)
+        act(machine, access, &hit);
+    follow_regions(machine);
+    machine->board_exits++;
+    machine->board_nanoseconds += now() - began;
+    return true;
+}
+
+void machine_settle(struct machine *machine)
+{
+    uart_settle(&machine->console);
+    for (uint64_t slot = 0; slot < SLOTS; slot++)
+        if (machine->devices[slot] == SERIAL_PORT)
+            uart_settle(&machine->ports[slot]);
+    follow_regions(machine);
+}

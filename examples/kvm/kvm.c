@@ -1,0 +1,179 @@
+/* Machines of KVM over one board: the PCI of each is a guest of the board, and there is no other.
+ *
+ *     kvm BOARD KERNEL INITIAL GUEST[=FILE] ..
+ *
+ * The machine of a guest boots Linux, or goes on where it was saved to a file. A line on standard input is typed at the
+ * console of the machine whose name stands first (`a ls`), or is one of the host: `host save a FILE` stops a machine and
+ * saves it, and `host count` tells what was counted since the last such line. The lines of a console come on standard
+ * output, after the machine's name. The program ends when its machines have. */
+#include "machine.h"
+
+#include <inttypes.h>
+#include <stdio.h>
+#include <stdlib.h>
+#include <string.h>
+#include <unistd.h>
+
+enum { MACHINES = 8, MOMENT = 1000 /* microseconds */ };
+
+/* Linux finds its console at a port, asks for PCI by CF8h and CFCh alone, looks for no clock that isn't there, and restarts by
+ * a fault, which ends the machine. */
+static const char words[] = "console=ttyS0 loglevel=1 nowatchdog acpi=off pci=conf1,noearly initcall_blacklist=add_rtc_cmos "
+                            "cryptomgr.notests reboot=t panic=-1";
+
+static struct board board = {PCIGUEST_INIT, PTHREAD_MUTEX_INITIALIZER};
+static struct machine machines[MACHINES];
+
+int needed(int result, const char *what)
+{
+    if (result >= 0)
+        return result;
+    perror(what);
+    exit(1);
+}
+
+/* The bytes of a file, which the caller frees. */
+void *bytes_of(const char *path, size_t *length)
+{
+    FILE *file = fopen(path, "rb");
+    void *bytes;
+
+    needed(file ? fseek(file, 0, SEEK_END) : -1, path);
+    *length = (size_t)ftell(file);
+    rewind(file);
+    bytes = malloc(*length + 1);
+    needed(bytes && fread(bytes, 1, *length, file) == *length ? 0 : -1, path);
+    fclose(file);
+    return bytes;
+}
+
+static void open_board(const char *path)
+{
+    size_t length;
+    void *bytes = bytes_of(path, &length);
+    uint32_t fault = pciguest_new(&board.guests, bytes, length);
+
+    free(bytes);
+    if (!fault)
+        return;
+    fprintf(stderr, "kvm: %s: %" PRIu32 " %s\n", path, fault, pciguest_strerror(fault));
+    exit(1);
+}
+
+static struct machine *machine_of(const char *name, size_t length)
+{
+    for (struct machine *machine = machines; machine->board; machine++)
+        if (strlen(machine->name) == length && memcmp(machine->name, name, length) == 0)
+            return machine;
+    return NULL;
+}
+
+/* What was counted of a machine since it was told last. */
+static void tell_counts(struct machine *machine)
+{
+    double seconds;
+    uint64_t time = now();
+
+    pthread_mutex_lock(&board.lock);
+    seconds = (double)(time - machine->counted_from) / 1e9;
+    printf("host: %s: %" PRIu64 " exits, %.0f a second; %" PRIu64 " of the board, %.0f ns of the library in one\n",
+           machine->name, machine->exits, (double)machine->exits / seconds, machine->board_exits,
+           machine->board_exits ? (double)machine->board_nanoseconds / (double)machine->board_exits : 0);
+    machine->exits = machine->board_exits = machine->board_nanoseconds = 0;
+    machine->counted_from = time;
+    pthread_mutex_unlock(&board.lock);
+}
+
+/* A byte is typed once the console has room for it. */
+static void type_byte(struct machine *machine, uint8_t byte)
+{
+    bool is_taken = false;
+
+    while (!is_taken && !machine->has_ended) {
+        pthread_mutex_lock(&board.lock);
+        is_taken = uart_receive(&machine->console, byte);
+        pthread_mutex_unlock(&board.lock);
+        if (!is_taken)
+            usleep(MOMENT);
+    }
+}
+
+static void host_line(char *line)
+{
+    static char paths[MACHINES][256];
+    char name[17], path[256];
+    struct machine *machine;
+
+    if (strcmp(line, "count\n") == 0) {
+        for (machine = machines; machine->board; machine++)
+            tell_counts(machine);
+    } else if (sscanf(line, "save %16s %255s", name, path) == 2 && (machine = machine_of(name, strlen(name)))) {
+        machine_stop(machine, strcpy(paths[machine - machines], path));
+    } else {
+        puts("host: bad line");
+    }
+}
+
+/* A line with its line feed, but for the last of a file. */
+static void take_line(char *line)
+{
+    size_t length = strcspn(line, " \n");
+    struct machine *machine = machine_of(line, length);
+
+    if (strncmp(line, "host ", 5) == 0)
+        host_line(line + 5);
+    else if (!machine)
+        puts("host: no such machine");
+    else
+        for (const char *text = line + length + strspn(line + length, " "); *text; text++)
+            type_byte(machine, (uint8_t)*text);
+}
+
+static void *take_lines(void *argument)
+{
+    char *line = NULL;
+    size_t room = 0;
+
+    while (getline(&line, &room, stdin) > 0)
+        take_line(line);
+    free(line);
+    return argument;
+}
+
+/* Makes the machine of a word: GUEST boots, and GUEST=FILE goes on. */
+static void make_machine(struct machine *machine, char *word, const char *kernel, const char *initial)
+{
+    char *file = strchr(word, '=');
+
+    if (file)
+        *file++ = '\0';
+    machine_new(machine, &board, word);
+    if (file)
+        machine_load(machine, file);
+    else
+        machine_boot(machine, kernel, initial, words);
+}
+
+int main(int argc, char **argv)
+{
+    int count = argc - 4;
+    pthread_t reader;
+
+    if (count < 1 || count >= MACHINES) {
+        fputs("kvm BOARD KERNEL INITIAL GUEST[=FILE] ..\n", stderr);
+        return 2;
+    }
+    setvbuf(stdout, NULL, _IOLBF, 0);
+    open_board(argv[1]);
+    for (int i = 0; i < count; i++)
+        make_machine(&machines[i], argv[4 + i], argv[2], argv[3]);
+    for (int i = 0; i < count; i++)
+        machine_start(&machines[i]);
+    needed(-pthread_create(&reader, NULL, take_lines, NULL), "a thread");
+    for (int i = 0; i < count; i++)
+        pthread_join(machines[i].thread, NULL);
+    for (int i = 0; i < count; i++)
+        tell_counts(&machines[i]);
+    pciguest_free(&board.guests);
+    return 0;
+}

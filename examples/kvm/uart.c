@@ -1,0 +1,119 @@
+/* A 16450 over cells. Whoever serves the driver's accesses changes the registers, and calls this after each. */
+#include "uart.h"
+#include "machine.h"
+
+enum { DIVISOR_ACCESS = 0x80, ON_DATA = 1, ON_EMPTY = 2, HAS_DATA = 1, IS_EMPTY = 0x60, NO_CAUSE = 1, EMPTY_CAUSE = 2,
+       DATA_CAUSE = 4 };
+
+static uint8_t get(const struct uart *uart, unsigned cell)
+{
+    if (uart->is_console)
+        return uart->own[cell];
+    return board_cell(uart->machine, uart->slot, cell < HIDDEN ? 0 : PCIGUEST_RAISE_CONFIG, cell);
+}
+
+static void set(struct uart *uart, unsigned cell, uint8_t value)
+{
+    if (uart->is_console)
+        uart->own[cell] = value;
+    else
+        board_set_cell(uart->machine, uart->slot, cell < HIDDEN ? 0 : PCIGUEST_RAISE_CONFIG, cell, value);
+}
+
+void uart_write(struct uart *uart, unsigned offset, uint8_t value)
+{
+    static const uint8_t writable[] = {0xff, 0x0f, 0, 0xff, 0x1f, 0, 0, 0xff};
+
+    uart->own[offset] = (uint8_t)((uart->own[offset] & ~writable[offset]) | (value & writable[offset]));
+}
+
+uint8_t uart_read(const struct uart *uart, unsigned offset)
+{
+    return uart->own[offset];
+}
+
+/* The driver may have chosen to see the divisor in cells 0 and 1, or not to: then they and what is hidden change places. */
+static void choose_cells(struct uart *uart)
+{
+    uint8_t chosen = get(uart, LINE_CONTROL) & DIVISOR_ACCESS;
+
+    if (chosen == get(uart, IS_DIVISOR))
+        return;
+    set(uart, IS_DIVISOR, chosen);
+    for (unsigned cell = 0; cell < 2; cell++) {
+        uint8_t shown = get(uart, cell);
+
+        set(uart, cell, get(uart, HIDDEN + cell));
+        set(uart, HIDDEN + cell, shown);
+    }
+}
+
+/* Tells in the registers what came in and what may be sent, and asks for an interrupt where the driver wants that. */
+void uart_settle(struct uart *uart)
+{
+    unsigned hidden = get(uart, IS_DIVISOR) ? HIDDEN : 0;
+    uint8_t enables = get(uart, hidden + ENABLES), has_data = get(uart, COUNT) > 0 ? HAS_DATA : 0, cause = NO_CAUSE;
+
+    if (has_data && enables & ON_DATA)
+        cause = DATA_CAUSE;
+    else if (enables & ON_EMPTY)
+        cause = EMPTY_CAUSE;
+    set(uart, hidden + DATA, has_data ? get(uart, QUEUE + get(uart, FIRST)) : 0);
+    set(uart, LINE_STATUS, IS_EMPTY | has_data);
+    set(uart, CAUSE, cause);
+    if (uart->is_console)
+        machine_line(uart->machine, CONSOLE_LINE, cause != NO_CAUSE);
+    else
+        machine_interrupt(uart->machine, uart->slot, cause != NO_CAUSE);
+}
+
+static void queue(struct uart *uart, uint8_t byte)
+{
+    uint8_t count = get(uart, COUNT);
+
+    if (count == QUEUE_LENGTH)
+        return; /* an overrun: the byte is lost */
+    set(uart, QUEUE + (get(uart, FIRST) + count) % QUEUE_LENGTH, byte);
+    set(uart, COUNT, count + 1);
+}
+
+bool uart_receive(struct uart *uart, uint8_t byte)
+{
+    bool has_room = get(uart, COUNT) < QUEUE_LENGTH;
+
+    queue(uart, byte);
+    uart_settle(uart);
+    return has_room;
+}
+
+/* What a function sends comes back to it, as if its plug led it there. */
+static void send(struct uart *uart, uint8_t byte)
+{
+    if (uart->is_console)
+        machine_print(uart->machine, byte);
+    else
+        queue(uart, byte);
+}
+
+static void take_next(struct uart *uart)
+{
+    uint8_t count = get(uart, COUNT);
+
+    if (count == 0)
+        return;
+    set(uart, COUNT, count - 1);
+    set(uart, FIRST, (uint8_t)((get(uart, FIRST) + 1) % QUEUE_LENGTH));
+}
+
+void uart_touched(struct uart *uart, unsigned offset, bool is_write)
+{
+    if (offset == DATA && !get(uart, IS_DIVISOR)) {
+        if (is_write)
+            send(uart, get(uart, DATA));
+        else
+            take_next(uart);
+    } else if (offset == LINE_CONTROL && is_write) {
+        choose_cells(uart);
+    }
+    uart_settle(uart);
+}
