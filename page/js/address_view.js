@@ -3,7 +3,7 @@
 
 import { aperture_of, hex, size_in_words } from './report.js';
 import { make, mark_of, owner_in_words } from './marks.js';
-import { bang_at, cause_box, lack_at, name_in, question_mark_at, region_box, svg, ticks } from './bars.js';
+import { bang_at, before_box, cause_box, lack_at, name_in, question_mark_at, region_box, svg, ticks } from './bars.js';
 import { question_at } from './why.js';
 
 const ROW = 20, TICKS = 36;
@@ -50,16 +50,18 @@ const naming = ({ of, region, first, last }, findings) => findings.filter(one =>
 // The causes that name a region or, where they name no register, a bridge.
 const causes_naming = ({ of, region }, causes) => causes.filter(one => one.of.some(({ path, register }) => path === of.path && (region ? region.name : null) === register));
 
-const findings_in_words = ({ problems, lacks, asked }, spans) => {
+// What the last line changed of a region or a window.
+const change_of = ({ of, name }, changes) => changes.find(one => one.path === of.path && one.name === name);
+
+const findings_in_words = ({ problems, lacks, asked, changes }, spans) => {
   const told = (those, name) => those.filter(one => spans.some(span => name(span, [one]).length > 0));
-  return [...told(problems, naming).map(one => `; ! ${one.text}`), ...told(lacks, naming).map(one => `; left to do: ${one.text}`),
+  return [...spans.map(span => change_of(span, changes)).filter(Boolean).map(one => `; before: ${one.before}`),
+    ...told(problems, naming).map(one => `; ! ${one.text}`), ...told(lacks, naming).map(one => `; left to do: ${one.text}`),
     ...told(asked.causes, causes_naming).map(one => `; why: ${one.text}`)].join('');
 };
 
 const span_in_words = (span, board, findings) => `${told_as(span.of)} ${span.name} ${hex(span.first)} to ${hex(span.last)}, `
   + size_in_words(span.last - span.first + 1n) + (span.region ? whose(span.of.path, board) : '') + findings_in_words(findings, [span]);
-
-const NOTHING_FOUND = { problems: [], lacks: [], asked: { space: null, address: null, causes: [] } };
 
 // The used part of an aperture in a thin strip of the whole, the part that is shown, and the address that is asked about.
 function strip_of(used, shown, aperture, width, asked) {
@@ -77,15 +79,15 @@ function strip_of(used, shown, aperture, width, asked) {
 export class Addresses {
   // `light` is given the path of the function that is pointed at, or null; `question` is what one asks.
   constructor(into, light, question) {
-    Object.assign(this, { into, light, question, ranges: new Map(), at: new Map(), width: 0, board: null });
-    new ResizeObserver(() => { if (this.width !== this.into.clientWidth) { this.width = 0; this.redraw(); } }).observe(into);
+    Object.assign(this, { into, light, question, ranges: new Map(), at: new Map(), width: 0, outer: 0, board: null });
+    new ResizeObserver(() => { if (this.outer !== into.clientWidth) { this.outer = into.clientWidth; this.width = 0; this.redraw(); } }).observe(into);
   }
 
-  forget() { this.ranges.clear(); this.at.clear(); }
+  forget() { this.ranges.clear(); this.at.clear(); this.width = 0; }
 
-  // `findings` are problems and lacks, with the address and the space at which they are seen, and what is asked; `none` is told where there
-  // is nothing to draw.
-  draw(functions, apertures, owners, marks, findings = NOTHING_FOUND, none = '') {
+  // `findings` are problems and lacks, with the address and the space at which they are seen, what is asked, and what the last line changed;
+  // `none` is told where there is nothing to draw.
+  draw(functions, apertures, owners, marks, findings, none = '') {
     this.board = { functions, apertures, owners, marks, findings, none };
     this.redraw();
   }
@@ -93,8 +95,13 @@ export class Addresses {
   // A bar that has the keys keeps them, and a question whose bar is gone stands below the others.
   redraw() {
     if (this.board === null) return;
+    const count = Object.keys(NAMES).filter(space => this.spans_and_places_before(space).length > 0).length;
     // asked once for each width, as the browser lays the page out to answer
-    if (this.width === 0) this.width = this.into.clientWidth;
+    if (this.width === 0 || count !== this.count) {
+      this.into.style.setProperty('--bars', Math.max(count, 1));
+      this.width = parseFloat(getComputedStyle(this.into).gridTemplateColumns) || this.into.clientWidth;
+      this.count = count;
+    }
     const keys_at = document.activeElement?.matches('.bars') ? document.activeElement.closest('[data-space]').dataset.space : null;
     const drawn = Object.keys(NAMES).map(space => ({ space, figure: this.figure(space) })), figures = drawn.map(one => one.figure).filter(one => one !== null);
     const without = drawn.filter(one => one.figure === null).flatMap(one => this.question.below(one.space));
@@ -124,8 +131,9 @@ export class Addresses {
 
   figure(space) {
     const { functions, apertures } = this.board, spans = spans_in(space, functions, apertures), findings = this.findings_in(space);
-    if (spans.length === 0) return null;
-    const [aperture, used, outside] = this.extent_of(spans, apertures[space]), range = this.ranges.get(space) ?? used;
+    const all = this.spans_and_places_before(space);
+    if (all.length === 0) return null;
+    const [aperture, used, outside] = this.extent_of(all, apertures[space]), range = this.ranges.get(space) ?? used;
     const figure = make('div', 'space'), told = make('div', 'told'), bar = this.bar(space, spans, range, findings);
     figure.dataset.space = space;
     told.setAttribute('role', 'status');
@@ -138,9 +146,20 @@ export class Addresses {
   }
 
   findings_in(space) {
-    const { findings: { problems, lacks, asked }, apertures } = this.board;
+    const { findings: { problems, lacks, asked, changes }, apertures } = this.board;
     const is_here = one => one.address !== null && aperture_of(one.space, one.address, apertures) === space;
-    return { problems: problems.filter(is_here), lacks: lacks.filter(is_here), asked: { ...asked, address: is_here(asked) ? asked.address : null } };
+    return { problems: problems.filter(is_here), lacks: lacks.filter(is_here), asked: { ...asked, address: is_here(asked) ? asked.address : null }, changes };
+  }
+
+  spans_and_places_before(space) {
+    const { functions, apertures, findings: { changes } } = this.board;
+    return [...spans_in(space, functions, apertures), ...this.places_before(space, changes)];
+  }
+
+  // Where the board's regions and windows stood that the last line moved or shut, in one aperture.
+  places_before(space, changes) {
+    return changes.filter(({ was }) => was !== null && was.owner === undefined && aperture_of(was.space, was.first, this.board.apertures) === space)
+      .map(({ was, path, name, before }) => ({ ...was, depth: path.split('/').length - 1, text: `${path} ${name} ${before}` }));
   }
 
   // Where regions and windows stand that causes name, in one aperture, with the depth of their bus.
@@ -173,24 +192,25 @@ export class Addresses {
     return title;
   }
 
-  bar(space, spans, range, { problems, lacks, asked }) {
+  bar(space, spans, range, { problems, lacks, asked, changes }) {
     const { owners, marks } = this.board, is_seen = span => span.first <= range[1] && range[0] <= span.last, seen = spans.filter(is_seen);
-    const told = this.places_told(space, asked).filter(is_seen);
-    const deepest = Math.max(0, ...[...seen, ...told].map(span => span.depth)) + 1, height = deepest * ROW + 4;
+    const told = this.places_told(space, asked).filter(is_seen), were = this.places_before(space, changes).filter(is_seen);
+    const deepest = Math.max(0, ...[...seen, ...told, ...were].map(span => span.depth)) + 1, height = deepest * ROW + 4;
     const sides_of = span => [place_of(most(span.first, range[0]), range, this.width), place_of(least(span.last, range[1]) + 1n, range, this.width)];
     const bar = svg('svg', { width: this.width, height: height + TICKS, class: 'bars', tabindex: 0, role: 'group' });
     bar.append(svg('rect', { x: 0, y: 0, width: this.width, height, class: 'well' }));
     for (const span of seen.slice().sort((a, b) => a.depth - b.depth || !b.region - !a.region)) {
       const [from, to] = sides_of(span), y = span.depth * ROW + 2, mark = mark_of(owners.get(span.of.path), marks);
-      const wrong = naming(span, problems).length > 0 ? ' wrong' : naming(span, lacks).length > 0 ? ' lacks' : '';
+      const wrong = (naming(span, problems).length > 0 ? ' wrong' : naming(span, lacks).length > 0 ? ' lacks' : '') + (change_of(span, changes) ? ' changed' : '');
       if (span.region) bar.append(region_box(from, to - from, y, ROW - 1, mark, [`${told_as(span.of)} ${span.name}`, told_as(span.of)], wrong, this.board.marks.size > 0));
       else bar.append(svg('rect', { x: from, width: Math.max(to - from, 2), y, height: ROW * (deepest - span.depth), class: `window${wrong}` }),
         ...name_in([`${span.name} of ${told_as(span.of)}`, `of ${told_as(span.of)}`], from, to - from, y + ROW / 2 + 4, 'of'));
     }
-    bar.append(...told.map(one => {
+    const edge = box => one => {
       const [from, to] = sides_of(one);
-      return cause_box(from, to - from, one.depth * ROW + 2, one.register === null ? ROW * (deepest - one.depth) : ROW - 1, one.text);
-    }), ...ticks(this.ticks_of(seen, range), this.width, height, 2, 14));
+      return box(from, to - from, one.depth * ROW + 2, one.register === null ? ROW * (deepest - one.depth) : ROW - 1, one.text);
+    };
+    bar.append(...were.map(edge(before_box)), ...told.map(edge(cause_box)), ...ticks(this.ticks_of(seen, range), this.width, height, 2, 14));
     const at = (those, mark) => those.filter(({ address }) => range[0] <= address && address <= range[1])
       .map(one => mark(place_of(one.address, range, this.width), this.width, height, one.text));
     bar.append(...at(lacks, lack_at), ...at(problems, bang_at), ...at(asked.address === null ? [] : [{ ...asked, text: hex(asked.address) }], question_mark_at));

@@ -51,6 +51,12 @@ export function windows_now({ io, pref }, values) {
   });
 }
 
+// The same of a function that no cycle finds, as the module tells it.
+const regions_of_lost = (one, { firsts, opens }) => one.regions
+  .map(region => ({ ...region, first: firsts[Number(region.name.slice(3))], open: opens[region.kind === 'io' ? 'io' : 'mem'] }));
+const windows_of_lost = ({ windows, opens }, { io, pref }) => windows.filter(({ space }) => ({ io, mem: true, pref })[space])
+  .map(({ space, first, last, is_there }) => (is_there ? { space, first, last, open: opens[space] } : { space, first: 1n, last: 0n, open: false }));
+
 export class AtReset {
   // `functions` are the report's; `decodes` has the windows of each bridge, by its path.
   constructor(driven, functions, decodes) {
@@ -67,7 +73,7 @@ export class AtReset {
     this.ask();
     const lost = new Map(this.problems.filter(one => one.number !== null).map(one => [one.of[0].path, one]));
     const buses = new Map([['', 0]]);
-    this.functions = this.declared.map((one, nth) => this.function_now(one, lost.get(one.path), buses, this.functions[nth]));
+    this.functions = this.declared.map((one, nth) => this.function_now(one, lost.get(one.path), buses, nth));
     if (latch !== 0n && !this.given) this.tell(`host iw 0xcf8 4 ${hex(latch)}`);
     for (const one of [...this.problems, ...this.lacks]) one.space ??= this.space_of(one);
     const [old, now] = [before, this.problems].map(those => new Set(those.map(one => one.text)));
@@ -90,17 +96,18 @@ export class AtReset {
     return region?.kind === 'io' ? 'io' : 'mem';
   }
 
-  // A function that no cycle finds has the registers that were read last, since nothing wrote them since, and stays as it was `before`.
-  function_now(one, lost, buses, before) {
-    const bus = buses.get(parent_of(one.path)), place = lost?.number ?? `${two(bus)}:${one.place.slice(3)}`, name = bus === 0 && one.depth > 0 ? '–' : two(bus);
+  // A function that no cycle finds stays as it was before: nothing wrote into it since.
+  function_now(one, lost, buses, nth) {
+    const before = this.functions[nth], bus = buses.get(parent_of(one.path)), place = lost?.number ?? `${two(bus)}:${one.place.slice(3)}`, name = bus === 0 && one.depth > 0 ? '–' : two(bus);
     if (lost && before?.lost === lost.text && before.bus === name) {
       if (one.kind === 'bridge') buses.set(one.path, before.values.get(BUSES) >> 8 & 0xff);
       return before;
     }
-    const values = lost ? this.read.get(one.path) ?? new Map(dwords_of(one).map(offset => [offset, 0])) : this.values_at(place, one);
+    const told = lost ? this.driven.function_at(nth) : null, values = lost ? this.values_of_lost(one, told) : this.values_at(place, one);
     this.read.set(one.path, values);
     const now = { ...one, place, bus: name, lost: lost?.text ?? null, values };
-    const all_regions = regions_now(one, values), all_windows = one.kind === 'bridge' ? windows_now(this.decodes.get(one.path), values) : [];
+    const all_regions = lost ? regions_of_lost(one, told) : regions_now(one, values);
+    const all_windows = one.kind !== 'bridge' ? [] : lost ? windows_of_lost(told, this.decodes.get(one.path)) : windows_now(this.decodes.get(one.path), values);
     if (one.kind === 'bridge') {
       now.buses = [0, 8, 16].map(shift => values.get(BUSES) >> shift & 0xff).map(number => (number === 0 ? '–' : two(number)));
       if (one.depth === 0) now.buses[0] = two(values.get(BUSES) & 0xff);
@@ -108,6 +115,12 @@ export class AtReset {
     }
     return { ...now, all_regions, all_windows, regions: all_regions.filter(region => region.open), windows: all_windows.filter(window => window.open),
       decodes: this.decodes.get(one.path) };
+  }
+
+  // What was read of a function last, with what its Command opens now.
+  values_of_lost(one, { opens }) {
+    const values = new Map([...dwords_of(one).map(offset => [offset, 0]), ...this.read.get(one.path) ?? []]);
+    return values.set(COMMAND, values.get(COMMAND) & ~(bits.io | bits.mem) | (opens.io ? bits.io : 0) | (opens.mem ? bits.mem : 0));
   }
 
   // At which number a function is looked for, and the bus number of the bridge above it by which that is so.

@@ -1,6 +1,7 @@
 // What bars are drawn of: regions with the mark of their guest and a name, and addresses below.
 
-const LETTER = 6.9;
+// the width of a letter of 13 pixels
+const LETTER = 7.9;
 
 export function svg(tag, attributes, text) {
   const element = document.createElementNS('http://www.w3.org/2000/svg', tag);
@@ -55,6 +56,13 @@ export function question_mark_at(x, width, height, text) {
 export function cause_box(x, width, y, height, text) {
   const edge = svg('rect', { x, y, width: Math.max(width, 2), height, class: 'cause-at' });
   edge.append(svg('title', {}, text));
+  return edge;
+}
+
+// An edge around a place where something stood before the last line.
+export function before_box(x, width, y, height, text) {
+  const edge = svg('rect', { x, y, width: Math.max(width, 2), height, class: 'was-at' });
+  edge.append(svg('title', {}, `before: ${text}`));
   return edge;
 }
 

@@ -61,9 +61,9 @@ export class Board {
 
   forget() { this.turned.clear(); this.whole.clear(); }
 
-  // The texts that name a function, by its path: as wrong, as lacking something, and as a cause of what was asked.
-  draw(functions, owners, marks, { troubles, lacks, causes } = { troubles: new Map(), lacks: new Map(), causes: new Map() }) {
-    Object.assign(this, { functions, owners, marks, troubles, lacks, causes, below: new Map() });
+  // The texts that name a function, by its path: as wrong, as lacking something, as a cause of what was asked, and as changed by the last line.
+  draw(functions, owners, marks, { troubles, lacks, causes, changes }) {
+    Object.assign(this, { functions, owners, marks, troubles, lacks, causes, changes, below: new Map() });
     for (const one of functions) {
       const parent = parent_of(one.path);
       if (!this.below.has(parent)) this.below.set(parent, []);
@@ -73,7 +73,7 @@ export class Board {
   }
 
   redraw() {
-    this.parts.tree.replaceChildren(this.bus_of('', '00'));
+    this.parts.tree.replaceChildren(this.bus_of('', '00'), ...this.parts.tree.querySelectorAll('.cycle'));
     this.draw_table();
   }
 
@@ -128,10 +128,10 @@ export class Board {
 
   chip_of(one) {
     const owner = this.owners.get(one.path), mark = mark_of(owner, this.marks), chip = make('div', 'chip');
-    const [troubles, lacks, causes] = [this.troubles, this.lacks, this.causes].map(texts => this.told_at(one, texts));
+    const [troubles, lacks, causes, changes] = [this.troubles, this.lacks, this.causes, this.changes].map(texts => this.told_at(one, texts));
     const owned = one.kind === 'bridge' || this.marks.size === 0 ? [] : [owner_in_words(owner)];
     const words = [`${one.place}, ${one.words}, ${one.path}`, ...few_of(troubles), ...few_of(lacks).map(text => `left to do: ${text}`),
-      ...few_of(causes).map(text => `why: ${text}`), ...(one.lost ? ['a click or Enter asks why'] : []), ...owned, ...places_of(one, lacks)];
+      ...few_of(causes).map(text => `why: ${text}`), ...few_of(changes).map(text => `changed: ${text}`), ...(one.lost ? ['a click or Enter asks why'] : []), ...owned, ...places_of(one, lacks)];
     chip.title = words.join('\n');
     chip.dataset.path = one.path;
     chip.tabIndex = 0;
@@ -139,9 +139,10 @@ export class Board {
     else { colour(chip, mark); chip.append(badge(mark)); }
     chip.append(`${one.place.slice(3)} ${one.words}`, ...(troubles.length > 0 ? [sign_of('bang', '!', 'wrong', troubles)] : []),
       ...(lacks.length > 0 ? [sign_of('lack', '○', 'left to do', lacks)] : []), ...(causes.length > 0 ? [sign_of('cause', '?', 'why', causes)] : []),
-      small_of(one));
+      ...(changes.length > 0 ? [sign_of('change', 'Δ', 'changed', changes)] : []), small_of(one));
     chip.classList.toggle('troubled', troubles.length > 0);
     chip.classList.toggle('lost', Boolean(one.lost));
+    chip.classList.toggle('changed', changes.length > 0);
     if (this.chosen !== null) this.let_choose(chip, one);
     const tell = said => { this.parts.told.textContent = said ? words.join('; ') : ''; this.light(said ? one.path : null); };
     for (const event of ['focus', 'pointerenter']) chip.addEventListener(event, () => tell(true));

@@ -10,15 +10,15 @@ export class Bytes {
   // `told` is where the name of a byte is told that is pointed at; `mark` is given the offset, or null.
   constructor(into, told, mark) { Object.assign(this, { into, told, mark, cells: [], before: null, of: '' }); }
 
-  // Rows of the header, and of what is behind it where a byte isn't 0.
-  draw(bytes, one, whose) {
+  // Rows of the header, and of what is behind it where a byte isn't 0. Those are marked that changed since, and places that are told as changed.
+  draw(bytes, one, whose, changed) {
     if (bytes === null) { this.into.replaceChildren(); this.cells = []; this.of = ''; return; }
     const rows = [...Array(256 / ACROSS).keys()].filter(row => row * ACROSS < HEADER || bytes.subarray(row * ACROSS, row * ACROSS + ACROSS).some(byte => byte !== 0));
     const of = `${one.path} ${whose} ${rows}`;
     if (of !== this.of) this.build(rows, one.kind);
     for (const [offset, cell] of this.cells) {
       cell.textContent = two_digits(bytes[offset]);
-      cell.classList.toggle('changed', of === this.of && this.before[offset] !== bytes[offset]);
+      cell.classList.toggle('changed', (of === this.of && this.before[offset] !== bytes[offset]) || changed.includes(offset));
       cell.classList.toggle('zero', bytes[offset] === 0);
     }
     Object.assign(this, { of, before: bytes });

@@ -1,9 +1,11 @@
 // The script's console: lines in, each reply beside its line, and stories that play themselves.
 
 import { count_in_words } from './report.js';
+import { asked_of } from './asked.js';
 import { make } from './marks.js';
-import { why_refused } from './reasons.js';
+import { why_bad, why_refused } from './reasons.js';
 import { question_after } from './why.js';
+import { move_in } from './replay.js';
 
 const PAUSE = 650;
 const NOTED = 4;
@@ -15,7 +17,8 @@ const nothing_run = () => ({ prepared: [], said: [], handed: '' });
 export class Console {
   // `parts` are its elements, and `box` the one in which lines are typed; `machine` gives what answers lines, or null; `whose` tells
   // whose lines they are; `moved` is told of each move that was done, `heard` of each reply, `begins` of each line before it runs, with
-  // whether problems are noted, and `ran` of each line; `question` is what one asks of a reply.
+  // whether problems are noted, and `ran` of each line and its
+  // reply; `question` is what one asks of a reply.
   constructor(parts, box, { machine, whose, moved, heard, begins, ran, question }) {
     Object.assign(this, { parts, box, machine, whose, moved, heard, begins, ran, question, marks: new Map(), before: [], back: 0, playing: 0, scrolls: false });
     Object.assign(this, nothing_run());
@@ -52,33 +55,46 @@ export class Console {
 
   all_lines() { return [...this.prepared, ...this.said].join('\n'); }
 
-  run(line) {
-    const machine = this.machine();
-    if (machine === null) { this.put('refused', 'The board is refused, so there is nothing to run.'); return; }
-    this.said = [...this.said, line];
-    if (line.trimStart().startsWith('#')) { this.put('remark', line.trimStart().slice(1).trim()); return; }
-    this.begins(line, true);
-    const row = this.put('row', '');
-    row.append(make('span', 'said', line));
-    this.tell(line, machine, row);
-    this.ran(line);
+  // Shows the lines behind the first ones as not run yet, and leads to the last that ran.
+  mark(count) {
+    const rows = [...this.parts.transcript.querySelectorAll('.row, .remark')], at = count - this.prepared.length;
+    rows.forEach((row, nth) => { row.classList.toggle('later', nth >= at); row.toggleAttribute('aria-current', nth === at - 1 && at < rows.length); });
+    const { transcript } = this.parts, row = rows[at - 1];
+    transcript.scrollTop = row === undefined ? 0 : row.offsetTop - transcript.clientHeight / 2;
   }
 
-  reply_of(line, machine) { return new TextDecoder().decode(machine.answer(new TextEncoder().encode(line))).trimEnd(); }
+  run(line) {
+    if (this.machine() === null) { this.put('refused', 'The board is refused, so there is nothing to run.'); return; }
+    this.begins(line, true);
+    this.said = [...this.said, line];
+    if (line.trimStart().startsWith('#')) { this.put('remark', line.trimStart().slice(1).trim()); this.ran(line, ''); return; }
+    const row = this.put('row', '');
+    row.append(make('span', 'said', line));
+    this.ran(line, this.tell(line, this.machine(), row));
+  }
 
   // The reply of a line, beside it, and why it is refused below it.
   tell(line, machine, row) {
-    const reply = this.reply_of(line, machine);
-    if (reply === '') return;
+    const reply = asked_of(machine, line);
+    if (reply === '') return reply;
     const who = reply.slice(0, reply.indexOf(':')), one = this.reply_in(row, line, reply);
     one.className = who === 'host' ? 'reply host' : 'reply';
     row.append(' ', one);
     if (this.marks.has(who)) one.style.setProperty('--hue', this.marks.get(who).hue);
     one.classList.toggle('refused', reply.includes(': refused '));
     const { as, guests } = this.whose(), why = why_refused(line, reply, guests, as);
-    if (why !== null) this.put('why', why);
+    if (why !== null) {
+      this.put('why', why);
+      this.mark_word(row.firstChild, line, / refused 40[123] /.test(reply) ? why_bad(line, guests, as)?.word : null);
+    }
     this.follow_line(line, reply);
     this.heard(reply);
+    return reply;
+  }
+
+  // The word of a line for which it is refused.
+  mark_word(said, line, word) {
+    if (word) said.replaceChildren(line.slice(0, word.at), make('mark', '', word.word), line.slice(word.at + word.word.length));
   }
 
   // A reply of all ones asks why, by a click or Enter, and takes the answer back by another.
@@ -96,12 +112,9 @@ export class Console {
 
   // Notes what a line did that others ask for: a move, and that firmware handed its board over.
   follow_line(line, reply) {
-    if (reply !== 'host: ok') return;
-    if (HANDS_OVER.test(line)) this.handed = this.all_lines();
-    const words = line.trim().split(/\s+/);
-    if (words[0] === 'host' && words[1] === 'move') {
-      this.moved({ guest: words[2], slot: Number(words[3]) }, { guest: words[4], slot: Number(words[5]) });
-    }
+    if (reply === 'host: ok' && HANDS_OVER.test(line)) this.handed = this.all_lines();
+    const move = move_in(line, reply);
+    if (move !== null) this.moved(...move);
   }
 
   // Runs the lines that stand before a task, which are shown folded or only counted, and are none of the reader's.
@@ -114,7 +127,7 @@ export class Console {
     for (const line of lines) {
       this.prepared.push(line);
       this.begins(line, false);
-      this.follow_line(line, this.reply_of(line, machine));
+      this.follow_line(line, asked_of(machine, line));
     }
   }
 

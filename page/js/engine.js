@@ -8,6 +8,9 @@ const LONGEST_LINE = 256;
 const LONGEST_NAME = 16;
 // how long what is told of a function is, and where it says who has it
 const FUNCTION_ROW = 416, SEAT = 392;
+// what stands where in a row of firmware's board: regions and windows, each with its length, and what Command opens
+const BOARD_ROW = 432, REGIONS_AT = 128, REGION_ROW = 32, WINDOWS_AT = 320, WINDOW_ROW = 24, OPENS_AT = 420;
+const WINDOW_SPACES = ['io', 'mem', 'pref'];
 const ROOM = 1 << 16;
 // Made once: of a large board hundreds of registers are read after each line.
 export const TO_BYTES = new TextEncoder(), TO_TEXT = new TextDecoder();
@@ -175,6 +178,21 @@ class Held {
     });
   }
 
+  // The image of a guest, which a machine of another board can load that has the same functions in the same slots.
+  save_guest(name) {
+    const { engine, handle } = this, guest = BigInt(this.guest(name));
+    return engine.told((...rooms) => engine.exports.pciguest_raw_save(handle, guest, ...rooms)).text;
+  }
+
+  // Loads such an image into a guest: 0, or the number of why it is refused.
+  load_guest(name, image) {
+    const { engine, handle } = this, guest = BigInt(this.guest(name));
+    return engine.with_rooms([image.length], room => {
+      engine.bytes(room, image.length).set(image);
+      return engine.exports.pciguest_raw_load(handle, guest, room, BigInt(image.length));
+    });
+  }
+
   // Where the region that begins at a base address register of a guest's function stands now: { first, size, space, open },
   // or null where none does.
   region(guest, slot, register) {
@@ -227,6 +245,20 @@ class Driven extends Held {
   }
 
   readiness() { return this.long_reply('host ready'); }
+
+  // What the registers of a function say that no cycle need find, by its place in path order: where the regions begin, by register, the windows
+  // that are there, and what its Command opens.
+  function_at(nth) {
+    const { engine, handle } = this, { exports } = engine;
+    return engine.with_rooms([BOARD_ROW], row => {
+      exports.pciguest_raw_board_function(handle, BigInt(nth), row);
+      const told = new DataView(exports.memory.buffer, Number(row), BOARD_ROW);
+      const long = at => told.getBigUint64(at, true), flag = at => told.getUint32(at, true) !== 0;
+      const firsts = Array.from({ length: 6 }, (_, register) => long(REGIONS_AT + REGION_ROW * register)), [io, mem] = [flag(OPENS_AT), flag(OPENS_AT + 4)];
+      const window_at = (space, at) => ({ space, first: long(at), last: long(at + 8), is_there: flag(at + 16) });
+      return { firsts, opens: { io, mem, pref: mem }, windows: WINDOW_SPACES.map((space, nth) => window_at(space, WINDOWS_AT + WINDOW_ROW * nth)) };
+    });
+  }
 
   // What is wrong in the registers as they stand: a line for each problem, and one that counts them. Null once the board is
   // given to its guests: it was in order then, and stays so.

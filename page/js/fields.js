@@ -15,6 +15,9 @@ const number_in = (values, offset, width) => BigInt(values.get(offset & ~3) >>> 
 const byte = (name, title, offset, { values }) => ({ name, places: [[offset, 1]], title: at_offset(title, [offset]), most: 0xffn, now: number_in(values, offset, 1),
   writes: value => [[offset, 1, value]] });
 
+// A register whose bits are shown: the lowest ones tell the kind.
+const register_of = (name, offset, width, low) => ({ name, offset, width, low });
+
 // Bits of a register of two bytes as switches. Of those that writing a one clears, only one that is set can be written.
 function bits_of(title, names, offset, { values }, clears) {
   const now = Number(number_in(values, offset, 2));
@@ -23,7 +26,8 @@ function bits_of(title, names, offset, { values }, clears) {
     const on = (now >> bit & 1) !== 0, place = at_offset(title, [offset]);
     return { name, on, title: `bit ${bit} of ${place}`, places: [[offset, 2]], shut: clears && !on, writes: () => [[offset, 2, clears ? 1 << bit : now ^ 1 << bit]] };
   });
-  return { title, told, fields: [], switches };
+  const form = clears ? null : { is: 'command', title, names: names.map(([name, bit]) => [bit, name]), registers: [register_of(title, offset, 2, 0)] };
+  return { title, told, fields: [], switches, form };
 }
 
 // Base or limit of a window: its low register takes the bits from `shift` on, and the upper one, if there is one, the rest.
@@ -41,15 +45,20 @@ function window_of({ space, first, last, open }, { io, pref }) {
     mem: ['Memory window', 'Memory', 0x20, MEMORY, null],
     pref: ['Prefetchable window', 'Prefetchable Memory', 0x24, MEMORY, pref === 64 && [0x28, 4, 64]],
   }[space];
-  const above = upper ? [upper[0] + upper[1], upper[1], upper[2]] : null;
-  return { title, told: open ? size_in_words(last - first + 1n) : first > last ? 'shut by Limit' : 'shut by Command', switches: [],
+  const above = upper ? [upper[0] + upper[1], upper[1], upper[2]] : null, low = 4;
+  const registers = [register_of('Base', offset, form.width, low), register_of('Limit', offset + form.width, form.width, low),
+    ...(upper ? [register_of('upper Base', upper[0], upper[1], 0), register_of('upper Limit', above[0], above[1], 0)] : [])];
+  return { title, form: { is: 'window', title, unit: form === PORTS ? 0x1000n : 0x100000n, registers }, switches: [],
+    told: open ? size_in_words(last - first + 1n) : first > last ? 'shut by Limit' : 'shut by Command',
     fields: [end_of('first', `${name} Base`, first, offset, form, upper), end_of('last', `${name} Limit`, last, offset + form.width, form, above)] };
 }
 
 function base_of({ name, kind, first, size, open }) {
   const offset = 0x10 + 4 * Number(name.slice(3)), wide = kind.startsWith('mem64');
   const places = [[offset, 4], ...(wide ? [[offset + 4, 4]] : [])];
-  return { title: `${name} ${kind}, ${size_in_words(size)}`, told: open ? 'open' : 'shut by Command', switches: [], fields: [{ name: 'base', now: first, places,
+  const registers = [register_of(name, offset, 4, kind === 'io' ? 2 : 4), ...(wide ? [register_of(`bar${Number(name.slice(3)) + 1}`, offset + 4, 4, 0)] : [])];
+  const form = { is: 'base', title: `${name} ${kind}`, space: kind === 'io' ? 'io' : 'mem', mem64: wide, registers };
+  return { title: `${name} ${kind}, ${size_in_words(size)}`, form, told: open ? 'open' : 'shut by Command', switches: [], fields: [{ name: 'base', now: first, places,
     most: (1n << (wide ? 64n : 32n)) - 1n, title: at_offset(`Base Address Register ${name.slice(3)}`, ...places),
     writes: value => [[offset, 4, value & 0xffffffffn], ...(wide ? [[offset + 4, 4, value >> 32n]] : [])] }] };
 }

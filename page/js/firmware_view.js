@@ -2,6 +2,7 @@
 
 import { AtReset, decodes_of } from './at_reset.js';
 import { texts_by_path } from './audit.js';
+import { texts_of_changes } from './changes.js';
 import { Findings } from './findings_view.js';
 import { hex_line } from './fields.js';
 import { count_in_words } from './report.js';
@@ -22,9 +23,13 @@ export class Firmware {
     this.driven = driven;
     if (driven === null) return;
     const bridges = functions.filter(one => one.kind === 'bridge');
-    this.now = new AtReset(driven, functions, new Map(bridges.map(one => [one.path, decodes_of(machine, one.place)])));
+    this.decodes = new Map(bridges.map(one => [one.path, decodes_of(machine, one.place)]));
+    this.now = new AtReset(driven, functions, this.decodes);
     this.board.chosen = (bridges[0] ?? functions[0])?.path ?? null;
   }
+
+  // Another moment of the board: what answers lines then, and what is seen of it.
+  show(driven, now) { Object.assign(this, { driven, now, came: [] }); }
 
   close() {
     this.driven?.close();
@@ -40,14 +45,16 @@ export class Firmware {
     return found;
   }
 
-  // `owners` and `marks` are those of guests, who have nothing until the board is given to them; `asked` is what one asks, with its causes.
-  draw(apertures, owners, marks, asked) {
+  // `owners` and `marks` are those of guests, who have nothing until the board is given to them; `asked` is what one asks, with its causes, and
+  // `changes` what the last line changed.
+  draw(apertures, owners, marks, asked, changes) {
     if (this.now === null) { this.problems.draw([], ''); this.lacks.draw([], ''); return; }
     const { functions, problems, lacks, given } = this.now, nobody = new Map(), whose = given ? [owners, marks] : [nobody, nobody];
     this.draw_findings(problems, lacks);
     if (functions.length === 0) return;
-    this.board.draw(functions, ...whose, { troubles: texts_by_path(problems), lacks: texts_by_path(lacks), causes: texts_by_path(asked.causes) });
-    this.addresses.draw(functions, apertures, ...whose, { problems, lacks, asked }, 'No region and no window is open.');
+    this.board.draw(functions, ...whose, { troubles: texts_by_path(problems), lacks: texts_by_path(lacks), causes: texts_by_path(asked.causes),
+      changes: texts_of_changes(changes) });
+    this.addresses.draw(functions, apertures, ...whose, { problems, lacks, asked, changes }, 'No region and no window is open.');
     if (!given) this.draw_registers();
   }
 
@@ -63,7 +70,7 @@ export class Firmware {
     const { functions } = this.now, one = functions.find(each => each.path === this.board.chosen);
     if (one === undefined) { this.registers.clear(); return; }
     const bytes = one.lost === null ? keeping_latch(this.driven, () => bytes_of(this.driven, 'host', one.place)) : null;
-    const lost = one.lost === null ? '' : `No cycle finds it, so nothing can be written, and what stands here was read last: ${one.lost}`;
+    const lost = one.lost === null ? '' : `No cycle finds it, so nothing can be written. Bases, windows and what Command opens are as they stand; the rest was read last: ${one.lost}`;
     this.registers.draw(functions, bytes === null ? one : seen_in(one, bytes, one.decodes),
       { bytes, note: lost, whose: 'host', write: each => this.give(hex_line('host', one.place, each)) });
   }

@@ -1,9 +1,8 @@
 // Each guest's own addresses beside the board's: what its registers open now, and where on the board that stands.
 
 import { hex, size_in_words } from './report.js';
-import { all_open } from './guest_map.js';
 import { badge, make, mark_of } from './marks.js';
-import { region_box, svg, ticks } from './bars.js';
+import { before_box, region_box, svg, ticks } from './bars.js';
 import { question_of } from './why.js';
 
 const BAR = 20, LINKS = 36, EDGE = 18;
@@ -47,7 +46,8 @@ const ends_of = (spans, scale) => spans.map(({ first }) => ({ x: scale.at(first)
   .concat(spans.map(({ last }) => ({ x: scale.at(last + 1n), text: hex(last) })));
 
 // A guest's bar above, the board's below, and a band from each region to its place. A click on the guest's bar asks at its address.
-function picture(those, all, scales, marks, width, { tell, ask }) {
+// What the last line moved stood in an edge of dashes.
+function picture(those, all, were, scales, marks, width, { tell, ask }) {
   const top = EDGE, below = top + BAR + LINKS;
   const picture = svg('svg', { height: below + BAR + EDGE, width, class: 'map', role: 'group', 'aria-label': 'What this guest opens, and where it stands; Enter asks where a region begins' });
   for (const y of [top, below]) picture.append(svg('rect', { x: 0, y, width, height: BAR, class: 'well' }));
@@ -56,6 +56,11 @@ function picture(those, all, scales, marks, width, { tell, ask }) {
     picture.append(svg('rect', { x, y: below, width: scales.board.at(last + 1n) - x, height: BAR, class: 'window' }));
   }
   for (const one of those.slice().reverse()) picture.append(joined(one, scales, marks, top, below, { tell, ask }));
+  for (const { was, now } of were) {
+    const x = scales.guest.at(was.first);
+    picture.append(before_box(x, scales.guest.at(was.last + 1n) - x, top, BAR, in_words(was)));
+    if (now) picture.querySelector(`[data-one="${name_of(now)}"]`)?.classList.add('changed');
+  }
   picture.append(...ticks(ends_of(those, scales.guest), width, top, 1, -1), ...ticks(ends_of(those.map(on_board), scales.board), width, below + BAR, 1, 1));
   picture.addEventListener('click', event => {
     const box = picture.getBoundingClientRect(), y = event.clientY - box.top, address = scales.guest.address_at((event.clientX - box.left) / box.width * width);
@@ -134,34 +139,35 @@ export class GuestMaps {
     this.question.ask(question_of(guest, space, hex(address)), this.place_of(guest, space), back);
   }
 
-  figure(space, all, marks, told) {
-    const width = Math.max(this.into.clientWidth, 240), figure = make('div', 'space');
-    const scales = { guest: scale_of(all, width), board: scale_of(all.map(on_board), width) };
+  figure(space, all, marks, told, changes) {
+    const width = Math.max(this.into.clientWidth, 240), figure = make('div', 'space'), were = changes.filter(({ was }) => was?.owner && was.space === space);
+    const scales = { guest: scale_of([...all, ...were.map(one => one.was)], width), board: scale_of(all.map(on_board), width) };
     figure.append(make('div', 'title', `${SPACES[space]}: in the order of addresses; gaps and sizes are not to scale`));
     const tell = one => { told.textContent = one === null ? '' : in_words(one); this.light(one?.of.path ?? null); };
     for (const guest of new Set(all.map(one => one.owner.guest))) {
       const line = make('div', 'whose');
       line.append(badge(marks.get(guest)), `guest ${guest} above, the board below`);
       const ask = (address, name) => this.ask(guest, space, address, name);
-      figure.append(line, picture(all.filter(one => one.owner.guest === guest), all, scales, marks, width, { tell, ask }), this.place_of(guest, space));
+      figure.append(line, picture(all.filter(one => one.owner.guest === guest), all, were.filter(({ was }) => was.owner.guest === guest), scales, marks, width, { tell, ask }), this.place_of(guest, space));
     }
     return figure;
   }
 
-  draw(machine, functions, owners, marks) {
-    const all = all_open(machine, functions, owners).sort((a, b) => [...marks.keys()].indexOf(a.owner.guest) - [...marks.keys()].indexOf(b.owner.guest));
-    const now = all.map(in_words).join('\n') + this.into.clientWidth + [...owners.keys()];
+  // `open` is what guests have open, and `changes` what the last line changed.
+  draw(open, owners, marks, changes) {
+    const all = open.slice().sort((a, b) => [...marks.keys()].indexOf(a.owner.guest) - [...marks.keys()].indexOf(b.owner.guest));
+    const now = all.map(in_words).join('\n') + this.into.clientWidth + [...owners.keys()] + changes.map(one => `${one.name} ${one.before}`);
     if (now === this.seen && all.length > 0) return;
     this.seen = now;
-    this.into.replaceChildren(...(all.length === 0 ? [hint(owners)] : this.figures_of(all, owners, marks)));
+    this.into.replaceChildren(...(all.length === 0 ? [hint(owners)] : this.figures_of(all, owners, marks, changes)));
     this.below.replaceChildren(...[...this.places.values()].filter(one => one.firstChild !== null && !this.into.contains(one)));
   }
 
-  figures_of(all, owners, marks) {
+  figures_of(all, owners, marks, changes) {
     const told = make('div', 'told');
     told.setAttribute('role', 'status');
     const figures = Object.keys(SPACES).map(space => all.filter(one => one.space === space).length > 0
-      ? [this.figure(space, all.filter(one => one.space === space), marks, told)] : []).flat();
+      ? [this.figure(space, all.filter(one => one.space === space), marks, told, changes)] : []).flat();
     const scroll = make('div', 'scroll few');
     scroll.tabIndex = 0;
     scroll.append(table_of(all, marks));

@@ -22,6 +22,11 @@ export const kilobytes = length => `${Math.max(1, Math.round(length / 1024))} KB
 export const is_too_long = fragment => fragment.length > LONGEST_LINK;
 export const TOO_LONG = `mail and chat programs cut those above ${kilobytes(LONGEST_LINK)}`;
 
+// What is handed out of a link: of a page from a disk the fragment alone, since its place is none elsewhere. It can be pasted into any page.
+export const LINK = /^\S*(#(?:kept|task)=[\w.-]+)$/;
+export const link_of = fragment => (location.protocol === 'file:' ? `#${fragment}` : location.href);
+export const PASTE = location.protocol === 'file:' ? ' It goes behind the address of any copy of this page, or is pasted into one.' : '';
+
 // The fragment of a link that holds something, under a name.
 export async function fragment_of(held, name = 'kept') { return `${name}=${await packed(new TextEncoder().encode(JSON.stringify(held)))}`; }
 

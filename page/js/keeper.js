@@ -1,11 +1,11 @@
 // The board goes elsewhere with its state: into a link, into a file, and back from there.
 
-import { fragment_of, is_too_long, kilobytes, TOO_LONG } from './keep.js';
+import { fragment_of, is_too_long, kilobytes, LINK, link_of, PASTE, TOO_LONG } from './keep.js';
 import { count_in_words } from './report.js';
 import { State } from './state.js';
 import { file_of, parts_of } from './state_file.js';
 
-const FILE_NAME = 'board_with_state.toml';
+const FILE_NAME = 'board_with_state.toml', TASK_NAME = 'task.toml';
 // Milliseconds after which a file is surely being saved.
 const FORGOTTEN = 60000;
 // What the image of a machine begins with.
@@ -24,7 +24,7 @@ function told_of({ as, lines, state, script }, is_refused) {
 
 export class Keeper {
   // `parts` are its elements. `page` has `held`, the board with the lines that were run; `as_it_is`, the board with its state; `is_refused`;
-  // and `open`, which shows a board from a beginning on.
+  // `open`, which shows a board from a beginning on; and `begin_task`.
   constructor(parts, page) {
     Object.assign(this, { told: parts.kept_told, page });
     parts.link.addEventListener('click', () => this.copy(page.held()));
@@ -36,6 +36,8 @@ export class Keeper {
       await this.open(new Uint8Array(await file.arrayBuffer()));
       parts.open.value = '';
     });
+    addEventListener('paste', event => { if (this.paste(event.clipboardData.getData('text'))) event.preventDefault(); });
+    parts.paste.addEventListener('input', () => { if (this.paste(parts.paste.value)) parts.paste.value = ''; });
   }
 
   tell(words, is_wrong = false) {
@@ -48,15 +50,23 @@ export class Keeper {
     const fragment = await fragment_of({ script: '', ...kept }), size = kilobytes(fragment.length);
     if (is_too_long(fragment)) { this.tell(`The link would have ${size}, and ${TOO_LONG}: keep a file in its place.`, true); return; }
     history.replaceState(null, '', `#${fragment}`);
-    const copied = await navigator.clipboard?.writeText(location.href).then(() => true, () => false);
+    const copied = await navigator.clipboard?.writeText(link_of(fragment)).then(() => true, () => false);
     const where = copied ? 'copied' : "in this page's address";
-    this.tell(`The link (${size}, ${where}) holds ${told_of(kept, this.page.is_refused())}.`);
+    this.tell(`The link (${size}, ${where}) holds ${told_of(kept, this.page.is_refused())}.${PASTE}`);
+  }
+
+  // Takes a link that is pasted, whole or without what stands before its '#'.
+  paste(text) {
+    const fragment = LINK.exec(text.trim())?.[1];
+    if (fragment !== undefined) location.hash = fragment;
+    return fragment !== undefined;
   }
 
   save(kept) {
     const text = file_of(kept), place = URL.createObjectURL(new Blob([text], { type: 'application/toml' }));
-    Object.assign(document.createElement('a'), { href: place, download: FILE_NAME }).click();
+    Object.assign(document.createElement('a'), { href: place, download: kept.task ? TASK_NAME : FILE_NAME }).click();
     setTimeout(() => URL.revokeObjectURL(place), FORGOTTEN);
+    if (kept.task) return;
     this.tell(`${FILE_NAME} (${kilobytes(text.length)}) holds ${told_of(kept, this.page.is_refused())}. It is a board file to all others too.`);
   }
 
@@ -68,7 +78,8 @@ export class Keeper {
       this.page.open(board, as, { lines, state: await State.of(bytes) });
       return;
     }
-    const { board, as, lines, letters } = parts_of(text);
-    this.page.open(board, as ?? undefined, { lines, state: letters === null ? null : await State.read(letters) });
+    const { board, as, lines, letters, task } = parts_of(text), state = letters === null ? null : await State.read(letters);
+    if (task !== null) this.page.begin_task({ ...task, board, as, lines, state });
+    else this.page.open(board, as ?? undefined, { lines, state });
   }
 }

@@ -27,8 +27,15 @@ export class LessonView {
     Object.assign(this, { parts, tasks, acts });
     parts.again.addEventListener('click', acts.again);
     parts.leave.addEventListener('click', acts.leave);
-    parts.to_line.addEventListener('click', () => parts.line.focus());
     parts.next.addEventListener('click', () => acts.begin(Number(parts.next.dataset.nth), parts.next.dataset.part ? Number(parts.next.dataset.part) : undefined));
+  }
+
+  // The task stands above the lines, and the board file below them; without one the file stands above.
+  enter(is_entered) {
+    document.body.classList.toggle('at-task', is_entered);
+    this.parts.task.hidden = !is_entered;
+    if (is_entered) this.parts.editor.before(this.parts.desk);
+    else this.parts.editor.after(this.parts.desk);
   }
 
   // The numbers of the lessons, with those that are done.
@@ -40,6 +47,7 @@ export class LessonView {
       const item = make('li', ''), is_done = lessons.is_done(task);
       const button = task_button(`${nth + 1}`, `Lesson ${nth + 1}: ${task.title}${is_done ? ', done' : ''}`, () => this.acts.begin(nth));
       button.append(make('span', 'title', ` ${task.title}`), is_done ? ' ✓' : '');
+      button.title = task.title;
       if (task === lessons.task) button.setAttribute('aria-current', 'step');
       item.append(button);
       return item;
@@ -60,8 +68,6 @@ export class LessonView {
 
   draw_task(lessons) {
     const { task, part } = lessons, nth = this.tasks.indexOf(task);
-    document.body.classList.add('at-task');
-    this.parts.task.hidden = false;
     this.parts.task_title.textContent = `${nth < 0 ? 'Task' : `Lesson ${nth + 1}`}: ${task.title}${task.parts ? `, ${task.parts[part].title}` : ''}`;
     this.parts.task_text.replaceChildren(...paragraphs_of(task.text));
     this.parts.hint.hidden = task.hint === '';
@@ -98,13 +104,13 @@ export class LessonView {
 
   close(told) {
     this.parts.progress.textContent += told;
-    document.body.classList.remove('at-task');
-    this.parts.task.hidden = true;
+    this.enter(false);
   }
 
   // Leads to the task that was begun.
   show() {
     this.parts.task_title.focus({ preventScroll: true });
+    this.parts.task.scrollTop = 0;
     this.parts.lessons.scrollIntoView({ block: 'start' });
   }
 }

@@ -14,12 +14,13 @@ export function read_task(found) {
 
 export class Lessons {
   // `tasks` are those of the page. `page` has `open`, which shows a board as somebody from a beginning on; `held`, which
-  // gives what answers lines; `guests`, their names; and `lacks`, the problems and the lacks of the board's registers.
+  // gives what answers lines; `guests`, their names; `move_live`, which loads a guest of another board; and `lacks`, the problems and the lacks of the board's registers.
   constructor(parts, tasks, page) {
     Object.assign(this, { tasks, page, progress: new Progress(), task: null, part: 0, goals: null, key: '', opening: false });
     this.view = new LessonView(parts, tasks, {
       begin: (nth, part) => this.begin_lesson(nth, part), again: () => this.begin(this.task, this.part), leave: () => { this.leave(''); page.left(); },
     });
+    this.view.enter(false);
     this.view.draw_steps(this);
   }
 
@@ -47,7 +48,9 @@ export class Lessons {
   begin(task, part = 0) {
     const of = task.parts?.[part] ?? task;
     this.opening = true;
+    this.view.enter(true);
     this.page.open(task.board, task.as, { lines: of.lines, state: task.state ?? null }, task.parts === undefined);
+    if (task.elsewhere) this.page.move_live(task.elsewhere);
     this.opening = false;
     Object.assign(this, { task, part, key: task.name ? this.key_of(task, part) : '', goals: new Goals(task.goal, this.page.guests(), task.as) });
     this.view.draw_task(this);

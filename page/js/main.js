@@ -23,11 +23,19 @@ import { places_on } from './places.js';
 import { Question } from './question.js';
 import { question_at } from './why.js';
 import { texts_by_path } from './audit.js';
+import { asked_of, keeping_latch } from './asked.js';
+import { texts_of_changes } from './changes.js';
+import { owners_in, path_in } from './replay.js';
+import { Moments } from './moments.js';
+import { FileView } from './file_view.js';
+import { sent_by, way_of } from './way.js';
+import { WayView } from './way_view.js';
+import { Wired } from './wired.js';
 
 const part = Object.fromEntries([...document.querySelectorAll('[id]')].map(one => [one.id, one]));
 const still = matchMedia('(prefers-reduced-motion: reduce)').matches;
 const wanted = () => new URLSearchParams(location.hash.slice(1));
-let engine = null, machine = null, functions = [], owners = new Map(), marks = new Map(), apertures = {}, as = 'guests', beginning = FRESH;
+let shows_before = true, engine = null, machine = null, functions = [], owners = new Map(), first_owners = owners, marks = new Map(), apertures = {}, as = 'guests', beginning = FRESH;
 
 // Whether firmware has given its board to the guests of the file: its lines are a script's from there on.
 const given = () => as === 'firmware' && Boolean(firmware.now?.given);
@@ -36,39 +44,46 @@ const give = line => script_console.give(line);
 const answers = () => (as === 'firmware' ? firmware.driven : machine);
 const speaking = () => (given() ? 'guests' : as);
 const guests = () => (speaking() === 'firmware' ? [] : [...marks.keys()]);
-const path_in = (guest, slot) => [...owners].find(([, owner]) => owner.guest === guest && owner.slot === slot)?.[0];
 // What is asked of firmware's board, or of a guest: why something finds what it finds.
-const question = new Question(part.heard, { light, choose, path_in, held: answers, driven: () => (speaking() === 'firmware' ? firmware.driven : null),
+const question = new Question(part.heard, { light, choose, path_in: (guest, slot) => path_in(owners, { guest, slot }), held: answers, driven: () => (speaking() === 'firmware' ? firmware.driven : null),
   changed: () => { if (as !== 'firmware') question.look(); draw(); } });
 const board = new Board({ tree: part.tree, told: part.told, table: part.functions }, light, choose, ask_of_lost);
 const addresses = new Addresses(part.addresses, light, question);
 const maps = new GuestMaps(part.maps, light, question, part.asked_there);
-const registers = new Registers(part, choose);
+const registers = new Registers(part, choose, { wired: (path, places) => wired.read_back(path, places), moment: () => moments.about() });
 const guest_registers = new GuestRegisters(part, registers, board, give);
 const firmware = new Firmware(part, board, addresses, registers, light, give);
 const box = new ScriptBox(part, known);
 const script_console = new Console(part, box,
   { machine: answers, whose: () => ({ as: speaking(), guests: guests() }), moved, heard: reply => lessons.hear(reply), begins, ran, question });
 const lacks = () => (firmware.now === null ? ['firmware alone is told'] : [...firmware.now.problems, ...firmware.now.lacks].map(one => one.text));
-const lessons = new Lessons(part, TASKS, { open: open_task, held: answers, guests, left: set_up, lacks });
+const lessons = new Lessons(part, TASKS, { open: open_task, move_live, held: answers, guests, left: set_up, lacks });
 const shown = () => ({ board: part.board.value, as });
-const keeper = new Keeper(part, { held, as_it_is, is_refused: () => answers() === null, open: open_beginning });
-new TaskForm(part, { shown: () => ({ ...shown(), guests: guests() }), with_lines, as_it_is });
-// The width up to which guests' registers begin folded.
-const NARROW = 640;
-let following = false, unseen = false;
+const file_view = new FileView(part);
+const keeper = new Keeper(part, { held, as_it_is, is_refused: () => answers() === null, open: open_beginning, begin_task: task => lessons.take_up(task) });
+new TaskForm(part, { shown: () => ({ ...shown(), guests: guests() }), with_lines, as_it_is, save: made => keeper.save(made) });
+// The width up to which guests' registers begin folded, and what a file is refused by that is no TOML.
+const NARROW = 640, NOT_TOML = 101;
+let following = false, unseen = false, has_moved = false, has_marks = false;
+
+let wired = null, sent = null;
+const read_only = line => (as === 'firmware' ? keeping_latch(answers(), () => asked_of(answers(), line)) : asked_of(answers(), line));
+// What each line changed, and the board as it was then.
+const moments = new Moments(part, { shown: () => ({ held: answers(), functions, owners, now: as === 'firmware' ? firmware.now : null }), show: show_moment,
+  read: read_only, lines: all_lines, copy: () => copy_of_board(), choose, light });
+const way = new WayView(part, { still, find: sent_now, way_of: found => way_of(found, functions_now()), passed: what => { sent = what; draw(); } });
 
 // What one may type about: the functions with their numbers as they are now, and where regions stand.
 function known() {
   if (answers() === null) return null;
-  const those = as === 'firmware' ? firmware.now?.functions ?? [] : functions;
+  const those = functions_now();
   const open_of = who => all_open(answers(), those, owners).filter(one => one.owner.guest === who);
   return { as: speaking(), guests: guests(), functions: those, owners, places: who => places_on(who === 'host' ? those : open_of(who)) };
 }
 
 function moved(from, to) {
-  const path = path_in(from.guest, from.slot);
-  if (path !== undefined) { owners.set(path, to); question.doubt(); draw(); }
+  const path = path_in(owners, from);
+  if (path !== undefined) { owners.set(path, to); question.doubt(); has_moved = true; }
 }
 
 // What is kept of the board and of what the reader does. A task has a beginning of its own.
@@ -79,11 +94,13 @@ function held() {
 
 // The board with all lines that lead here, where no state stands between them.
 function with_lines() {
+  moments.to_now();
   return beginning.state === null ? { ...shown(), lines: script_console.all_lines(), state: null } : as_it_is();
 }
 
 // The board with the state of its guests, and the lines by which firmware gave it to them. Where no guest has it, all lines lead here.
 async function as_it_is() {
+  moments.to_now();
   const image = answers()?.save() ?? null;
   if (image === null) return { ...shown(), lines: script_console.all_lines(), state: null };
   return { ...shown(), lines: script_console.handed, state: await State.of(image) };
@@ -92,13 +109,15 @@ async function as_it_is() {
 // A board is looked at before a line gives it to its guests, as it doesn't tell from there on what it lacks. What runs before a task
 // isn't noted.
 function begins(line, is_noted) {
+  if (is_noted) moments.begins(line);
   if (as !== 'firmware' || given() || !HANDS_OVER.test(line)) return;
   if (is_noted) note();
   else firmware.look();
 }
 
 // What is wrong after a line of firmware is noted under it; on a large board, after all that run at once. Reads and questions change nothing.
-function ran(line) {
+function ran(line, reply) {
+  moments.ends(line, reply);
   unseen ||= !/^\s*\S+\s+([cim]r|why|audit|ready)(\s|$)/.test(line);
   if (as === 'firmware' && functions.length <= LARGE) note();
   follow();
@@ -117,28 +136,63 @@ function follow() {
   following = true;
   queueMicrotask(() => {
     following = false;
-    if (as === 'firmware') {
-      if (functions.length > LARGE) note();
-      draw_firmware();
-    } else if (machine !== null) {
-      if (question.look()) draw();
-      draw_guests(machine, functions);
-    }
+    if (as === 'firmware' && functions.length > LARGE) note();
+    if (!moments.is_past() && moments.look()) way.forget();
+    draw(look_at_question() || has_moved);
+    has_moved = false;
+    if (moments.is_past()) return;
     lessons.look();
     keep(held());
   });
 }
 
+// The lines that ran: those before a task can be gone through where they are shown, and nothing before a state that was loaded.
+function all_lines() {
+  const { prepared, said } = script_console;
+  return { lines: [...prepared, ...said], hidden: shows_before && beginning.state === null ? 0 : prepared.length };
+}
+
+const open_board = () => (as === 'firmware' ? engine.open_at_reset(file_view.bytes()) : engine.open(file_view.bytes())).made;
+const copy_of_board = () => ({ functions, owners: first_owners, decodes: as === 'firmware' ? firmware.decodes : null, state: beginning.state,
+  prepared: script_console.prepared.length, open: open_board });
+
+// Shows another moment of the board, after so many lines.
+function show_moment({ held: answering, owners: those, now }, count) {
+  owners = those;
+  if (as === 'firmware') firmware.show(answering, now);
+  else machine = answering;
+  way.forget();
+  registers.forget();
+  script_console.mark(count);
+  question.doubt();
+  question.look();
+  draw();
+}
+
+// What goes down the board that is shown: what is asked, or else what the last line sent; null where nothing does.
+function sent_now() {
+  const line = question.asked?.call === null ? question.asked.line : moments.last.line;
+  return line === null || answers() === null ? null : sent_by(line, () => answers().number('host ir 0xcf8 4'));
+}
+
+const functions_now = () => (as === 'firmware' ? firmware.now?.functions ?? [] : functions);
+
 function draw_guests(held, those) {
-  maps.draw(held, those, owners, marks);
+  maps.draw(moments.open() ?? all_open(held, those, owners), owners, marks, moments.last.changes);
   guest_registers.draw(held, those, owners);
+}
+
+// The question as the board that is shown answers it; a board that is given answers none of firmware's. Whether it has another reply.
+function look_at_question() {
+  if (given()) { question.forget_firmware(); script_console.ask_no_more(); }
+  return question.look();
 }
 
 // What firmware sees, with what it asks, and the guests' part beside it once they have the board.
 function draw_firmware() {
-  if (given()) { question.forget_firmware(); script_console.ask_no_more(); }
-  question.look();
-  firmware.draw(apertures, owners, marks, question.marked());
+  look_at_question();
+  part.verdict.classList.toggle('doubted', (firmware.now?.problems.length ?? 0) > 0);
+  firmware.draw(apertures, owners, marks, marked_now(), moments.last.changes);
   document.body.toggleAttribute('data-given', given());
   if (given()) draw_guests(firmware.driven, firmware.now.functions);
 }
@@ -159,49 +213,29 @@ function light(...paths) {
   }
 }
 
-function draw() {
+// What is asked, or else the address that is on its way.
+function marked_now() {
+  const asked = question.marked();
+  return asked.address !== null || sent === null || sent.space === 'cfg' ? asked : { ...asked, space: sent.space, address: sent.place };
+}
+
+// Draws all, or what a line of guests may change: nothing of the board's own addresses.
+function draw(whole = true) {
+  draw_board(whole);
+  way.offer();
+}
+
+function draw_board(whole) {
   document.body.toggleAttribute('data-given', given());
   draw_key(part.guests, marks, functions.some(one => one.kind !== 'bridge' && !owners.has(one.path)));
+  moments.steps.draw(moments.last);
   if (as === 'firmware') { draw_firmware(); return; }
-  const asked = question.marked();
-  board.draw(functions, owners, marks, { troubles: new Map(), lacks: new Map(), causes: texts_by_path(asked.causes) });
-  addresses.draw(functions, apertures, owners, marks, { problems: [], lacks: [], asked });
-}
-
-// Numbers the lines of the editor, and marks those of which a check tells: what is wrong, and what it warns of.
-function number_lines(wrong, warned) {
-  const lines = part.board.value.split('\n').map((_, nth) => nth + 1);
-  part.numbers.innerHTML = lines.map(line => (wrong.has(line) ? `<b>${line}</b>` : warned.has(line) ? `<i>${line}</i>` : line)).join('\n');
-  part.numbers.scrollTop = part.board.scrollTop;
-}
-
-// Puts the cursor into a line of the editor, and shows it.
-function go_to(line) {
-  const lines = part.board.value.split('\n');
-  const start = lines.slice(0, line - 1).reduce((at, one) => at + one.length + 1, 0);
-  part.board.focus();
-  part.board.setSelectionRange(start, start + lines[line - 1].length);
-  const height = parseFloat(getComputedStyle(part.board).lineHeight);
-  part.board.scrollTop = (line - 1) * height - part.board.clientHeight / 2;
-}
-
-// What a check says, line by line; one that names a line of the file leads there. Firmware is told no warnings: they speak of
-// what set-up makes of the file.
-function tell_check(text) {
-  const told = text.split('\n').filter(one => one !== '' && one !== 'ok').map(one => {
-    const [, line, warning] = /^board\.toml:(\d+): (warning: )?/.exec(one) ?? [];
-    return { one, line: Number(line ?? 0), warns: warning !== undefined };
-  }).filter(({ warns }) => !warns || as !== 'firmware');
-  part.check.replaceChildren(...told.map(({ one, line, warns }) => {
-    const item = document.createElement('li');
-    const shown = Object.assign(document.createElement(line === 0 ? 'span' : 'button'), { textContent: one });
-    if (line !== 0) { shown.type = 'button'; shown.addEventListener('click', () => go_to(line)); }
-    item.classList.toggle('warns', warns);
-    item.append(shown);
-    return item;
-  }));
-  const lines_of = what => new Set(told.filter(({ warns }) => warns === what).map(({ line }) => line));
-  number_lines(lines_of(false), lines_of(true));
+  if (machine === null) return;
+  const asked = marked_now(), { changes } = moments.last, texts = texts_of_changes(changes);
+  if (whole || has_marks || texts.size > 0) board.draw(functions, owners, marks, { troubles: new Map(), lacks: new Map(), causes: texts_by_path(asked.causes), changes: texts });
+  has_marks = texts.size > 0;
+  if (whole) addresses.draw(functions, apertures, owners, marks, { problems: [], lacks: [], asked, changes });
+  draw_guests(machine, functions);
 }
 
 // A line that works on this board, if it was taken.
@@ -218,6 +252,7 @@ function take(text, file) {
   machine = engine.open(file).made;
   functions = read.functions.map(one => ({ ...one, words: class_of(machine, one.place) }));
   owners = new Map(read.slots.map(({ guest, slot, path }) => [path, { guest, slot }]));
+  first_owners = new Map(owners);
   marks = marks_of(machine.guests());
   apertures = apertures_in(part.board.value);
   part.report.textContent = text;
@@ -230,30 +265,35 @@ function take(text, file) {
 function set_up() {
   lessons.leave();
   beginning = FRESH;
+  moments.to_now();
+  way.forget();
   keeper.tell('');
   if (machine !== null) machine.close();
   machine = null;
   firmware.close();
-  const file = new TextEncoder().encode(part.board.value), report = engine.report(file);
-  tell_check(new TextDecoder().decode(engine.check(file).text));
+  const file = file_view.bytes(), report = engine.report(file), line = file_view.tell_check(new TextDecoder().decode(engine.check(file).text), as);
   board.forget();
   addresses.forget();
   question.forget();
   if (report.number === 0) {
     take(new TextDecoder().decode(report.text), file);
   } else {
-    tell(true, `${report.number} ${WORDS[report.number] ?? ''}`);
+    tell(true, `${report.number} ${WORDS[report.number] ?? ''}${report.number === NOT_TOML && line !== null ? `; it can't be read on in line ${line}` : ''}`);
   }
   if (as === 'firmware') firmware.open(engine.open_at_reset(file).made, machine, machine === null ? [] : functions);
   else guest_registers.open(machine === null ? [] : functions, owners);
-  if (machine !== null) draw();
   script_console.clear(marks, first_line());
+  moments.forget();
+  wired = new Wired(() => engine.open_at_reset(file_view.bytes()).made, functions);
+  moments.look();
+  draw();
   follow();
 }
 
 function tell(wrong, text) {
   part.verdict.textContent = text;
   part.verdict.classList.toggle('wrong', wrong);
+  part.verdict.classList.remove('doubted');
   part.figures.classList.toggle('stale', wrong);
   part.figures.hidden = wrong && functions.length === 0;
 }
@@ -269,6 +309,7 @@ function be(whom) {
 function show_text(text, whom = as) {
   be(whom);
   part.boards.value = Object.keys(BOARDS).find(name => BOARDS[name] === text) ?? '';
+  part.boards.options[0].textContent = lessons.opening ? "the lesson's own" : 'a file of your own';
   part.board.value = text;
   set_up();
 }
@@ -281,10 +322,12 @@ function open_beginning(text, whom, from, shows) {
 
 function begin_from(from, shows = true) {
   beginning = from;
+  shows_before = shows;
   script_console.prepare(from.lines, shows);
   if (as === 'firmware') firmware.look();
   if (from.state !== null) load(from.state);
   registers.forget();
+  moments.forget();
   follow();
 }
 
@@ -297,13 +340,25 @@ function load(state) {
     script_console.put('refused', why_not_loaded(number));
     return;
   }
-  owners = new Map(answers().seats().flatMap((owner, nth) => (owner === null ? [] : [[functions[nth].path, owner]])));
+  owners = owners_in(answers(), functions);
   question.doubt();
   if (as === 'firmware') firmware.look();
   else guest_registers.open(functions, owners);
   draw();
   part.line.placeholder = first_line();
   script_console.put('before', 'The state of its guests came with the board');
+}
+
+// A guest that ran lines on another board is saved there and loaded into this machine. From there on one can go through lines.
+function move_live({ board: text, guest, lines }) {
+  const other = engine.open(new TextEncoder().encode(text)).made;
+  for (const line of lines.split('\n')) asked_of(other, line);
+  const number = machine.load_guest(guest, other.save_guest(guest));
+  other.close();
+  script_console.put('before', number === 0 ? `Guest ${guest} came from another board, with all that it held there` : `The guest can't be loaded (${number})`);
+  beginning = { ...beginning, state: new State('', machine.save()) };
+  registers.forget();
+  moments.forget();
 }
 
 function open_task(text, whom, from, shows) {
@@ -338,12 +393,17 @@ async function begin() {
   if (asked.has('kept') || asked.has('task')) keeper.tell('The link is cut, or was changed on its way: nothing of it can be shown. This is another board.', true);
 }
 
+// Brings a part into view, with the keys where it is the box for lines.
+function lead_to(to) {
+  if (to === part.line) to.focus({ preventScroll: true });
+  to.scrollIntoView({ block: to === part.line ? 'center' : 'start' });
+}
+
 function wire() {
   document.body.append(patterns());
-  part.boards.append(...Object.keys(BOARDS).map(name => new Option(name)));
-  part.boards.addEventListener('change', () => show_text(BOARDS[part.boards.value]));
+  part.boards.append(new Option('', ''), ...Object.keys(BOARDS).map(name => new Option(name)));
+  part.boards.addEventListener('change', () => { if (part.boards.value !== '') show_text(BOARDS[part.boards.value]); });
   part.board.addEventListener('input', set_up);
-  part.board.addEventListener('scroll', () => { part.numbers.scrollTop = part.board.scrollTop; });
   part.restart.addEventListener('click', start_again);
   part.as.addEventListener('change', event => { be(event.target.value); set_up(); });
   for (const button of part.jump.querySelectorAll('button')) {
@@ -352,12 +412,14 @@ function wire() {
       part[button.dataset.to].scrollIntoView({ block: 'start' });
     });
   }
-  part.stories.append('Stories: ', ...STORIES.map(({ title }) => {
+  part.stories.querySelector('.bar').append(...STORIES.map(({ title }) => {
     const button = Object.assign(document.createElement('button'), { type: 'button', textContent: title });
     button.addEventListener('click', () => tell_story(title));
     return button;
   }));
-  addEventListener('hashchange', begin);
+  for (const [name, to] of [['to_line', part.line], ['back_to_line', part.line], ['to_moment', part.moment]]) part[name].addEventListener('click', () => lead_to(to));
+  addEventListener('keydown', event => { if (event.key === 'F2') { event.preventDefault(); lead_to(part.line); } });
+  addEventListener('hashchange', () => { if (/^#(kept|task|lesson|story|board)=/.test(location.hash)) begin(); });
   addEventListener('resize', follow);
 }
 

@@ -69,7 +69,7 @@ function wrong_word(words, form) {
   for (const [nth, { name, wrong, begun }] of form.entries()) {
     if (nth === rest.length) return { why: `${name} is missing: ${shape}`, word: null, begun: true };
     const why = wrong(rest[nth].word);
-    if (why !== null) return { why: `${name}, '${rest[nth].word}', ${why}`, word: rest[nth], begun: begun(rest[nth].word) };
+    if (why !== null) return { why: `${name}, '${rest[nth].word}', ${why}`, word: rest[nth], begun: begun(rest[nth].word), name, is_number: why.startsWith('is no number') };
   }
   return rest.length > form.length ? { why: `'${rest[form.length].word}' is a word too many: ${shape}`, word: rest[form.length], begun: false } : null;
 }

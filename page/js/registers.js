@@ -5,6 +5,7 @@ import { make } from './marks.js';
 import { number_of } from './reasons.js';
 import { groups_of, identity_of } from './fields.js';
 import { Bytes } from './bytes_view.js';
+import { Bits } from './bits_view.js';
 import { regions_now, windows_now } from './at_reset.js';
 
 const ALL_DWORDS = Array.from({ length: 64 }, (_, nth) => 4 * nth);
@@ -26,10 +27,12 @@ export function seen_in(one, bytes, decodes) {
 const labelled = (name, input) => { const label = make('label', ''); label.append(...(input.type === 'checkbox' ? [input, name] : [name, input])); return label; };
 
 export class Registers {
-  // `parts` are the elements `chosen`, `lost`, `identity`, `fields`, `bytes` and `byte`; `choose` is given a path.
-  constructor(parts, choose) {
-    Object.assign(this, { parts, seen: '', listed: '', marked: [] });
+  // `parts` are the elements `chosen`, `lost`, `identity`, `fields`, `bytes`, `byte` and `bits`; `choose` is given a path, `wired` gives what
+  // registers of a function read back, and `moment` which bytes of which function the last line changed, and whether that is past.
+  constructor(parts, choose, { wired, moment }) {
+    Object.assign(this, { parts, wired, moment, seen: '', listed: '', marked: [], of_bits: '', one: null });
     this.bytes = new Bytes(parts.bytes, parts.byte, offset => this.light_fields(offset));
+    this.bits = new Bits(parts.bits);
     parts.chosen.addEventListener('change', () => choose(parts.chosen.value));
   }
 
@@ -37,7 +40,7 @@ export class Registers {
   forget() { this.bytes.of = ''; }
 
   clear() {
-    for (const one of [this.parts.fields, this.parts.bytes]) one.replaceChildren();
+    for (const one of [this.parts.fields, this.parts.bytes, this.parts.bits]) one.replaceChildren();
     this.parts.lost.textContent = this.parts.identity.textContent = '';
     this.seen = '';
     this.forget();
@@ -52,12 +55,27 @@ export class Registers {
       this.parts.chosen.replaceChildren(...functions.map(each => new Option(`${each.path} ${each.words}`, each.path)));
     }
     this.parts.chosen.value = one.path;
-    this.parts.lost.textContent = note;
+    const { of, offsets, is_past } = this.moment(), why_shut = is_past ? 'The registers as they were then. A line goes on from how they are now.' : note;
+    this.parts.lost.textContent = why_shut;
     this.parts.identity.textContent = bytes === null ? '' : identity_of(one);
     const groups = groups_of(one), form = [one.path, whose, ...groups.map(group => group.title)].join();
-    if (this.seen !== form) { this.seen = form; this.build(groups); }
-    this.bytes.draw(bytes, one, whose);
-    this.show(groups, note !== '', write);
+    this.one = one;
+    if (this.seen !== form) { this.seen = form; this.of_bits = ''; this.build(groups); }
+    this.bytes.draw(bytes, one, whose, of === one.path ? offsets : []);
+    this.show(groups, why_shut !== '', write);
+    this.show_bits(groups.find(group => group.title === this.of_bits) ?? groups.find(group => group.form && group.form.is !== 'command') ?? groups[0], []);
+  }
+
+  // The bits of a group's registers: what is written into them, and of others what they hold.
+  show_bits(group, written) {
+    if (!group?.form) return;
+    const { form, title } = group, places = form.registers.map(({ offset, width }) => [offset, width]);
+    const held = ([offset, width]) => BigInt(this.one.values.get(offset & ~3) ?? 0) >> BigInt(8 * (offset & 3)) & ((1n << BigInt(8 * width)) - 1n);
+    const values = places.map(place => BigInt(written.find(([offset]) => offset === place[0])?.[2] ?? held(place)));
+    if (this.of_bits !== title || this.bits.shown === null || written.length === 0) {
+      this.of_bits = title;
+      this.bits.draw(form, this.wired(this.one.path, places), values);
+    } else this.bits.show(values);
   }
 
   // A fieldset for each group.
@@ -83,7 +101,7 @@ export class Registers {
         if (at < group.switches.length) this.show_switch(field, input, shut, write);
         else this.show_field(field, input, shut, write);
         input.title = field.title;
-        this.follow(field, input);
+        this.follow(field, input, group);
       });
     });
   }
@@ -110,10 +128,16 @@ export class Registers {
   }
 
   // The bytes of a field are marked while one is at it, and a field while one points at a byte of it.
-  follow(field, input) {
+  follow(field, input, group) {
     const label = input.parentElement, tell = on => () => { this.bytes.light(on ? field.places : []); this.parts.byte.textContent = on ? field.title : ''; };
     this.marked.push([label, field.places]);
-    label.onpointerenter = input.onfocus = tell(true);
+    input.oninput = () => {
+      const value = field.most === undefined ? 0n : number_of(input.value.trim());
+      if (value !== null && value <= (field.most ?? 0n)) this.show_bits(group, field.writes(value));
+    };
+    input.onpointerdown = () => this.show_bits(group, []);
+    label.onpointerenter = tell(true);
+    input.onfocus = () => { tell(true)(); this.show_bits(group, []); };
     label.onpointerleave = input.onblur = tell(false);
   }
 

@@ -22,8 +22,8 @@ export class ScriptBox {
     const ends = this.line.selectionStart === text.length;
     const { from, offers } = board === null || !ends || text === '' ? { from: 0, offers: [] } : completions(text, board);
     // a word that begins what is offered in its place is a name, and none that is wrong
-    const wrong = bad !== null && !bad.begun && !(offers.length > 0 && bad.word?.at === from);
-    this.why.textContent = bad?.why ?? '';
+    const is_name = offers.length > 0 && bad?.word?.at === from, wrong = bad !== null && !bad.begun && !is_name;
+    this.why.textContent = is_name && bad.is_number ? `${bad.name}: ${bad.word.word} begins what is offered` : bad?.why ?? '';
     this.why.classList.toggle('wrong', wrong);
     this.line.setAttribute('aria-invalid', wrong);
     Object.assign(this, { from, at: -1 });

@@ -9,6 +9,7 @@ import time
 import tomllib
 import types
 
+import browse_lecture
 import browse_newcomer
 import browse_ready
 import browse_state
@@ -38,6 +39,10 @@ SOLUTIONS = {
               'host cw 00:01.0 0x10 4 0x2000', 'host cw 00:02.0 0x20 4 0xc000c000', 'host cw 00:02.0 0x1c 2 0x1010', 'host cw 00:02.0 4 2 3',
               'host cw 01:00.0 4 2 3', 'host cw 01:01.0 4 2 2', 'host cw 00:01.0 4 2 1'],
     'neighbour': ['host guests', 'web cw 0 0x10 4 0x80000000', 'web cw 0 4 2 2', 'web mw 0x80000010 4 0x600d600d', 'store mr 0x80000010 4', 'store cw 0 0x24 4 0x80000000', 'store cw 0 4 2 2', 'store mw 0x80000010 4 0x0bad0bad'],
+    'wide': ['host cw 01:00.0 0x18 4 0xffffffff', 'host cw 01:00.0 0x1c 4 0xffffffff', 'host cr 01:00.0 0x18 4', 'host cr 01:00.0 0x1c 4', 'host cw 01:00.0 0x18 4 0',
+             'host cw 01:00.0 0x1c 4 4', 'host cw 00:02.0 0x24 4 0x00f00000', 'host cw 00:02.0 0x28 4 4', 'host cw 00:02.0 0x2c 4 4', 'host cw 00:02.0 4 2 2', 'host cw 01:00.0 4 2 2'],
+    'twins': ['host cr 01:00.0 0 4', 'host cw 00:03.0 0x18 4 0x00020200', 'host cr 02:00.0 0 4'],
+    'live': ['web cr 0 0x10 4', 'web cr 0 4 2', 'web mr 0x80000010 4', 'host mr 0xc0000010 4', 'host move web 0 store 2', 'store cr 2 0x10 4'],
     'move': ['host move web 0 store 2', 'store cr 2 0x10 4', 'store cr 2 4 2', 'store cw 2 0x10 4 0x90000000', 'store cw 2 4 2 2', 'store mr 0x90000010 4',
              'host mr 0xc0000010 4'],
 }
@@ -71,9 +76,9 @@ def lessons_are_done(browser, page):
             if name in CLOSED:
                 type_line(browser, CLOSED[name][0][:-1] + '2')
             holds(f'{name} is done', browser.run(STATE) == 'Done.', text_of(browser, 'goals') + text_of(browser, 'lacks'))
-    holds('all lessons are done', text_of(browser, 'progress') == '8 of 8 done', text_of(browser, 'progress'))
+    holds('all lessons are done', text_of(browser, 'progress') == '11 of 11 done', text_of(browser, 'progress'))
     browser.open(page)
-    holds('the browser keeps what is done', text_of(browser, 'progress') == '8 of 8 done', text_of(browser, 'progress'))
+    holds('the browser keeps what is done', text_of(browser, 'progress') == '11 of 11 done', text_of(browser, 'progress'))
     browser.run(FORGET)
 
 
@@ -331,10 +336,11 @@ ALL = [lessons_are_done, a_reply_counts_in_its_place, a_lesson_leads_on, a_teach
 
 
 def in_browser(browser, page, folder, shot=''):
-    for check in [*ALL, *browse_newcomer.ALL, *browse_ready.ALL, *browse_state.ALL, *browse_why.ALL]:
+    for check in [*ALL, *browse_lecture.ALL, *browse_newcomer.ALL, *browse_ready.ALL, *browse_state.ALL, *browse_why.ALL]:
         check(browser, page)
     browse_state.the_state_looks_well(browser, page, folder, shot)
     browse_why.questions_look_well(browser, page, folder, shot)
+    browse_lecture.a_lecture_looks_well(browser, page, folder, shot)
     looks_fit(browser, page, folder, shot)
 
 

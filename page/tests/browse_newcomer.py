@@ -1,4 +1,4 @@
-"""All eight lessons as somebody does them who knows the page alone, in any browser, for page/tests/browse: numbers are read off the tree, lines are
+"""All lessons as somebody does them who knows the page alone, in any browser, for page/tests/browse: numbers are read off the tree, lines are
 those that words and hints give, with another number or offset in them, and what is wrong is mended in the fields."""
 from tried import FIELD, holds, said_last, text_of, type_line, write_field
 
@@ -107,7 +107,30 @@ def move_a_function(browser, words, hint):
         type_line(browser, line)
 
 
-LESSONS = [read_a_board, number_a_bridge, size_a_region, open_a_window, find_what_is_wrong, make_the_board_ready, write_to_a_neighbour, move_a_function]
+def an_address_above_4_gb(browser, words, hint):
+    for offset in ['0x18', '0x1c']:
+        type_line(browser, f'host cw {words[0]} {offset} 4 0xffffffff')
+        reads(browser, f'host cr {words[0]} {offset} 4')
+    writes(browser, '2.0/0.0', ('bar2', 'base', words[2]))
+    writes(browser, '2.0', ('Prefetchable', 'first', words[2]), ('Prefetchable', 'last', hex(int(words[2], 16) + 0xffffff)))
+    switches(browser, '2.0', 'Memory space')
+    switches(browser, '2.0/0.0', 'Memory space')
+
+
+def two_bridges_one_number(browser, words, hint):
+    type_line(browser, f'host cr {words[0]} 0 4')
+    type_line(browser, words[2])
+    writes(browser, '3.0', ('Buses', 'Secondary', '2'), ('Buses', 'Subordinate', '2'))
+    type_line(browser, hint[-1])
+
+
+def a_guest_moves_live(browser, words, hint):
+    for line in [hint[1], hint[2], hint[3], 'host mr 0xc0000010 4', words[-1], hint[-1]]:
+        type_line(browser, line)
+
+
+LESSONS = [read_a_board, number_a_bridge, size_a_region, open_a_window, find_what_is_wrong, make_the_board_ready, write_to_a_neighbour, move_a_function,
+           an_address_above_4_gb, two_bridges_one_number, a_guest_moves_live]
 
 
 def all_lessons_are_done(browser, page):
@@ -121,7 +144,7 @@ def all_lessons_are_done(browser, page):
             where = f'lesson {nth + 1} in the {scheme} theme at {width} pixels'
             holds(f'{where} is done by what the page says', browser.run(STATE) == 'Done.', text_of(browser, 'goals') + text_of(browser, 'lacks'))
             holds(f'{where} fits', browser.run(FITS))
-        holds('all are done', text_of(browser, 'progress').startswith('8 of 8 done'), text_of(browser, 'progress'))
+        holds('all are done', text_of(browser, 'progress').startswith('11 of 11 done'), text_of(browser, 'progress'))
         browser.run('localStorage.clear()')
 
 

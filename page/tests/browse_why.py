@@ -149,6 +149,7 @@ def a_gone_bar_keeps_its_question(browser, page):
     asked = browser.run(ASKED)
     for number in ['01:00.0', '01:01.0']:
         type_line(browser, f'host cw {number} 4 2 0')
+    type_line(browser, 'host cr 00:02.0 0 4')
     told = browser.run("[document.querySelector('#addresses > .question') !== null, document.querySelector('[data-space=mem]') === null]")
     holds('a question whose bar is gone stands below', told == [True, True] and browser.run(ASKED) == asked, told)
     holds('and tells what is closed', browser.run(LINES)[1].endswith('closed, Command 0x0000'), browser.run(LINES))

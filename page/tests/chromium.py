@@ -81,7 +81,7 @@ class Browser:
 
 
 def press(browser, key, text=''):
-    codes = {'Tab': 9, 'Enter': 13, 'Escape': 27, 'ArrowUp': 38, 'ArrowRight': 39, 'ArrowDown': 40, '+': 187}
+    codes = {'Tab': 9, 'Enter': 13, 'Escape': 27, 'ArrowLeft': 37, 'ArrowUp': 38, 'ArrowRight': 39, 'ArrowDown': 40, 'F2': 113, 'F4': 115, 'F8': 119, 'F9': 120, '+': 187}
     browser.ask('Input.dispatchKeyEvent', type='keyDown', key=key, code=key, windowsVirtualKeyCode=codes[key], **({'text': text} if text else {}))
     browser.ask('Input.dispatchKeyEvent', type='keyUp', key=key, code=key, windowsVirtualKeyCode=codes[key])
 

@@ -5,6 +5,7 @@
 import { Engine, run } from '../js/engine.js';
 import { joined, same } from './compare_bytes.js';
 import { images_hold } from './compare_images.js';
+import { ways_astray } from './compare_ways.js';
 import { read_readiness } from '../js/readiness.js';
 import { words_in } from '../js/reasons.js';
 import { question_of, read_why, read_why_of_guest, SPACE_READ } from '../js/why.js';
@@ -103,7 +104,8 @@ function holds(engine, one) {
   if (made === null) return refusal === number;
   let told = true;
   const replies = run(made, script, (line, reply) => { told &&= guest_is_told(made, line, reply); }), text = joined([...replies, ...AFTER[work](made)]), is_ready = new TextDecoder().decode(text).endsWith('ready: ok\n');
-  const good = told && (work !== 'run' || regions_hold(engine, made, board)) && why_is_read(replies);
+  const is_on_way = work !== 'audit' || ways_astray(engine, board, made).length === 0;
+  const good = told && is_on_way && (work !== 'run' || regions_hold(engine, made, board)) && why_is_read(replies);
   made.close();
   return good && number === (work === 'ready' && !is_ready ? NOT_READY : 0) && same(text, output);
 }

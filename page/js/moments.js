@@ -1,0 +1,63 @@
+// The moments of a board: what each line changes as it runs, and the board as it was after an earlier one, which a copy shows.
+
+import { NOTHING_CHANGED, Watch } from './changes.js';
+import { moment_of, Replay } from './replay.js';
+import { Steps } from './steps.js';
+
+export class Moments {
+  // `page` has `shown`, who answers lines, with functions, owners and what firmware sees; `show`, which shows another moment and is given how many
+  // lines ran until then; `read`, which reads without a trace; `lines`, those that ran, with how many of them can't be gone through; `copy`, what
+  // a copy of the board is made of; `choose` and `light`.
+  constructor(parts, page) {
+    Object.assign(this, { page, last: NOTHING_CHANGED, present: null, replay: null });
+    const moment = () => { const shown = page.shown(); return shown.held === null ? null : moment_of(shown); };
+    this.watch = new Watch({ read: page.read, moment });
+    this.steps = new Steps(parts, { show: count => this.go(count), choose: page.choose, light: page.light });
+  }
+
+  is_past() { return this.steps.is_past(); }
+
+  // What guests have open at the moment that is shown, or null where that isn't known.
+  open() { return (this.is_past() ? this.replay.watch : this.watch).before?.open ?? null; }
+
+  // What the last line changed, and whether that is past.
+  about() { return { ...this.last, is_past: this.is_past() }; }
+
+  to_now() { this.steps.to_now(); }
+
+  begins(line) {
+    this.to_now();
+    this.watch.begins(line);
+  }
+
+  ends(line, reply) { this.watch.ends(line, reply); }
+
+  // From here on nothing has changed.
+  forget() {
+    this.watch.forget();
+    this.last = NOTHING_CHANGED;
+  }
+
+  // After lines: what they changed, and through which one can go. Whether any ran.
+  look() {
+    const looked = this.watch.look(), { lines, hidden } = this.page.lines();
+    if (looked !== null) this.last = looked;
+    this.steps.count([hidden, ...lines.flatMap((line, nth) => (nth < hidden || /^\s*(#|$)/.test(line) ? [] : [nth + 1]))]);
+    return looked !== null;
+  }
+
+  // Shows the board as it was after so many lines, or as it is.
+  go(count) {
+    this.present ??= { ...this.page.shown(), last: this.last };
+    if (this.is_past()) {
+      this.replay ??= new Replay(this.page.copy());
+      this.last = this.replay.go(this.page.lines().lines, count);
+      this.page.show(this.replay, count);
+      return;
+    }
+    const { present, replay } = this;
+    Object.assign(this, { last: present.last, present: null, replay: null });
+    this.page.show(present, count);
+    replay?.close();
+  }
+}

@@ -1,0 +1,74 @@
+// The board as it was after some of the lines that ran: a copy of its own, in which they run again.
+
+import { AtReset } from './at_reset.js';
+import { asked_of, keeping_latch } from './asked.js';
+import { all_open } from './guest_map.js';
+import { NOTHING_CHANGED, Watch } from './changes.js';
+
+// The move that a line did, by its reply: whose slot was left and whose was filled, or null.
+export function move_in(line, reply) {
+  const [who, verb, from, slot, to, target] = line.trim().split(/\s+/);
+  return reply === 'host: ok' && who === 'host' && verb === 'move' ? [{ guest: from, slot: Number(slot) }, { guest: to, slot: Number(target) }] : null;
+}
+
+export const path_in = (owners, { guest, slot }) => [...owners].find(([, owner]) => owner.guest === guest && owner.slot === slot)?.[0];
+
+// Who has which function, as a machine tells it.
+export const owners_in = (held, functions) => new Map(held.seats().flatMap((owner, nth) => (owner === null ? [] : [[functions[nth].path, owner]])));
+
+// How a board stands that answers lines: `now` is what firmware sees of it, or null.
+export function moment_of({ held, functions, owners, now }) {
+  const given = now === null || now.given;
+  return { driven: now?.functions ?? null, problems: now?.problems ?? [], functions: now?.functions ?? functions, owners: new Map(owners),
+    open: given ? all_open(held, now?.functions ?? functions, owners) : null };
+}
+
+export class Replay {
+  // `board` has `open`, which gives what answers lines at the beginning; `functions` and `owners`, those of the report; `decodes`, the windows
+  // that bridges have, or null where guests have the board; and `state`, which is loaded behind `prepared` lines, or null.
+  constructor(board) { Object.assign(this, { board, held: null, count: 0 }); }
+
+  begin() {
+    this.close();
+    const { open, functions, owners, decodes } = this.board;
+    Object.assign(this, { held: open(), functions, owners: new Map(owners), count: 0 });
+    this.now = decodes === null ? null : new AtReset(this.held, functions, decodes);
+    this.watch = new Watch({ read: line => (this.now === null ? asked_of(this.held, line) : keeping_latch(this.held, () => asked_of(this.held, line))),
+      moment: () => moment_of(this) });
+    this.load();
+  }
+
+  load() {
+    const { state, prepared, functions } = this.board;
+    if (state === null || this.count !== prepared || this.held.load(state.image) !== 0) return;
+    this.owners = owners_in(this.held, functions);
+    this.now?.look();
+  }
+
+  run(line) {
+    const reply = asked_of(this.held, line), move = move_in(line, reply), path = move && path_in(this.owners, move[0]);
+    if (path) this.owners.set(path, move[1]);
+    this.count += 1;
+    this.load();
+    return reply;
+  }
+
+  // The board after so many of these lines, and what the last of them did, as `Watch` tells it.
+  go(lines, count) {
+    if (this.held === null || count <= this.count) this.begin();
+    while (this.count + 1 < count) this.run(lines[this.count]);
+    this.now?.look();
+    this.watch.forget();
+    if (this.count === count) return NOTHING_CHANGED;
+    const line = lines[this.count];
+    this.watch.begins(line);
+    this.watch.ends(line, this.run(line));
+    this.now?.look();
+    return this.watch.look();
+  }
+
+  close() {
+    this.held?.close();
+    this.held = null;
+  }
+}

@@ -1,0 +1,73 @@
+// The lines that ran, to go back and forward through: a slider, buttons and keys, and what each line changed, before and after.
+
+import { count_in_words } from './report.js';
+import { make } from './marks.js';
+
+const SHOWN = 8;
+const KEYS = { F8: -1, F9: 1 };
+
+// One change in words, which leads to its function.
+function item_of({ path, name, before, after }, choose, light) {
+  const item = make('li', ''), words = path === null ? name : `${path} ${name}`;
+  const one = path === null ? make('span', '', words) : Object.assign(make('button', 'plain', words), { type: 'button' });
+  if (path !== null) {
+    one.addEventListener('click', () => choose(path));
+    for (const event of ['focus', 'pointerenter']) one.addEventListener(event, () => light(path));
+    for (const event of ['blur', 'pointerleave']) one.addEventListener(event, () => light());
+  }
+  item.append(one, ': ', make('del', '', before), ' → ', make('ins', '', after));
+  return item;
+}
+
+const noted = (name, sign, texts) => texts.map(text => make('li', name, `${sign} ${text}`));
+
+export class Steps {
+  // `parts` are its elements; `page` has `show`, which is given how many lines have run, `choose` and `light`.
+  constructor(parts, page) {
+    Object.assign(this, { parts, page, stops: [0], at: 0 });
+    parts.step.addEventListener('input', () => this.go(Number(parts.step.value)));
+    parts.step_back.addEventListener('click', () => this.go(this.at - 1));
+    parts.step_on.addEventListener('click', () => this.go(this.at + 1));
+    addEventListener('keydown', event => {
+      if (KEYS[event.key] === undefined || event.ctrlKey || event.altKey || event.metaKey) return;
+      event.preventDefault();
+      this.go(this.at + KEYS[event.key]);
+    });
+  }
+
+  // How many lines have run at each stop; one is at the last.
+  count(stops) {
+    Object.assign(this, { stops, at: stops.length - 1 });
+    this.tell();
+  }
+
+  is_past() { return this.at < this.stops.length - 1; }
+
+  to_now() { this.go(this.stops.length - 1); }
+
+  go(at) {
+    const to = Math.min(Math.max(at, 0), this.stops.length - 1);
+    if (to === this.at) return;
+    this.at = to;
+    this.tell();
+    this.page.show(this.stops[to]);
+  }
+
+  tell() {
+    const { step, step_back, step_on, step_told } = this.parts, ran = this.at, all = this.stops.length - 1;
+    Object.assign(step, { max: all, value: ran, disabled: all === 0 });
+    step_back.disabled = ran === 0;
+    step_on.disabled = ran === all;
+    step_told.textContent = all === 0 ? 'no line has run' : ran === all ? `${count_in_words(all, 'line')} ran` : `as after ${ran} of ${count_in_words(all, 'line')}`;
+    document.body.classList.toggle('past', ran < all);
+  }
+
+  // The line that ran last, its reply, and what it changed, with the problems that came and went.
+  draw({ line, reply, changes, came, gone }) {
+    const { last, changes: list } = this.parts, { choose, light } = this.page;
+    last.replaceChildren(...(line === null ? [] : [line, make('span', 'unit', ' → '), reply.split('\n')[0]]));
+    const all = [...changes.map(one => item_of(one, choose, light)), ...noted('came', '+', came), ...noted('gone', '−', gone)];
+    const more = all.length > SHOWN ? [make('li', '', `${all.length - SHOWN} more`)] : [];
+    list.replaceChildren(...all.slice(0, SHOWN), ...more, ...(all.length === 0 && line !== null ? [make('li', 'unit', 'It changed no register.')] : []));
+  }
+}

@@ -1,0 +1,80 @@
+// The way of a configuration number, an address or a port down the tree, bus by bus: which register of whom takes it there, and which drop it.
+
+import { hex, parent_of } from './report.js';
+import { number_of, words_in } from './reasons.js';
+import { SPACE_READ } from './why.js';
+
+const WINDOW_NAMES = { io: 'I/O window', mem: 'memory window', pref: 'prefetchable window' };
+const SPACE_OF = { cw: 'cfg', iw: 'io', mw: 'mem', ...SPACE_READ };
+const NUMBER = /^([0-9a-f]{2}):([0-9a-f]{2}\.[0-7])$/i;
+const LATCH_PORT = 0xcf8n, LATCH_DATA = 0xcfcn, LAST_PORT = 0xcffn;
+const is_in = ({ first, last }, place) => first <= place && place <= last;
+const span_on_way = region => ({ ...region, last: region.first + region.size - 1n });
+const reach_of = ({ first, last }) => `${hex(first)} to ${hex(last)}`;
+const hex_bus = text => parseInt(text, 16);
+
+// What goes down by a line of the host's: { space, place, words }; null where nothing does, as by the latch. `latch` reads CONFIG_ADDRESS.
+export function sent_by(line, latch) {
+  const [who, verb, word] = words_in(line).map(one => one.word), asks = verb === 'why', space = asks ? word : SPACE_OF[verb];
+  const place = asks ? words_in(line)[3]?.word : word;
+  if (who !== 'host' || space === undefined || place === undefined) return null;
+  if (space === 'cfg') return NUMBER.test(place) ? { space, place: place.toLowerCase(), words: `configuration ${place.toLowerCase()}` } : null;
+  const at = number_of(place);
+  if (at === null) return null;
+  if (space === 'io' && LATCH_PORT <= at && at <= LAST_PORT) return sent_by_latch(at, latch);
+  return { space, place: at, words: `${space === 'io' ? 'port' : 'address'} ${hex(at)}` };
+}
+
+function sent_by_latch(at, latch) {
+  const value = Number(at < LATCH_DATA ? 0n : latch()), two = number => number.toString(16).padStart(2, '0');
+  if (value >>> 31 === 0) return null;
+  const place = `${two(value >> 16 & 0xff)}:${two(value >> 11 & 31)}.${value >> 8 & 7}`;
+  return { space: 'cfg', place, words: `port ${hex(at)}, by the latch configuration ${place}` };
+}
+
+// How a function takes what is sent to a bus, or why not: { takes, text, down }, where `down` tells that it goes to the bus behind.
+function met_by_window(one, { space, place }) {
+  const all = one.all_windows ?? one.windows.map(window => ({ ...window, open: true })), those = all.filter(window => (window.space === 'io') === (space === 'io'));
+  const window = those.find(each => each.open && is_in(each, place));
+  if (window) return { takes: true, down: true, text: `takes it down: its ${WINDOW_NAMES[window.space]}, ${reach_of(window)}, holds it` };
+  const why = each => (each.first > each.last ? `${WINDOW_NAMES[each.space]} has its Base above its Limit` : !each.open ? `${WINDOW_NAMES[each.space]} is shut by Command`
+    : `${WINDOW_NAMES[each.space]}, ${reach_of(each)}, doesn't hold it`);
+  return { takes: false, text: `drops it: ${those.length === 0 ? 'it has no such window' : `its ${those.map(why).join(', its ')}`}` };
+}
+
+function met_by_region(one, { space, place }) {
+  const those = (one.all_regions ?? one.regions.map(region => ({ ...region, open: true }))).map(span_on_way)
+    .filter(region => (region.kind === 'io') === (space === 'io') && is_in(region, place));
+  const open = those.find(region => region.open);
+  if (open) return { takes: true, down: false, text: `answers: its ${open.name}, ${reach_of(open)}, holds it at offset ${hex(place - open.first)}` };
+  return { takes: false, text: those.length > 0 ? `drops it: its ${those[0].name} holds it, and Command shuts it` : '' };
+}
+
+function met_by_number(one, { place }, bus) {
+  const [, to, number] = NUMBER.exec(place), target = hex_bus(to);
+  if (target === bus) return { takes: one.place.slice(3) === number, down: false, text: one.place.slice(3) === number ? 'is found' : '' };
+  if (one.kind !== 'bridge') return { takes: false, text: '' };
+  const [, secondary, subordinate] = one.buses.map(name => hex_bus(name) || 0), told = `Secondary ${one.buses[1]}, Subordinate ${one.buses[2]}`;
+  const takes = secondary !== 0 && secondary <= target && target <= subordinate;
+  return { takes, down: takes, text: takes ? `takes it down: ${told}` : `drops it: ${told}` };
+}
+
+// The stops of a way: at each the bus, the functions that take it or drop it with why, and what came of it; and the paths of who answers, of
+// whom there may be several.
+export function way_of(sent, functions) {
+  const stops = [];
+  let parent = '', bus = 0;
+  for (;;) {
+    const here = functions.filter(one => parent_of(one.path) === parent), number = bus;
+    const met_by = one => (sent.space === 'cfg' ? met_by_number(one, sent, number) : one.kind === 'bridge' ? met_by_window(one, sent) : met_by_region(one, sent));
+    const met = here.map(one => ({ one, ...met_by(one) }));
+    const takers = met.filter(each => each.takes), told = met.filter(each => each.text !== '');
+    const name = bus === null ? 'a bus without a number' : `bus ${bus.toString(16).padStart(2, '0')}`;
+    stops.push({ name, path: takers[0]?.one.path ?? (parent || null), met: told.map(({ one, takes, text }) => ({ path: one.path, takes, text })) });
+    if (takers.length === 0) return { sent, stops, ends: [], told: `Nobody on ${name} takes it: what is read is all ones` };
+    if (takers.length > 1 && sent.space !== 'cfg') return { sent, stops, ends: takers.map(each => each.one.path), told: `${takers.length} take it on ${name}: they contend` };
+    if (!takers[0].down) return { sent, stops, ends: [takers[0].one.path], told: `${takers[0].one.path} has it` };
+    parent = takers[0].one.path;
+    bus = hex_bus(takers[0].one.buses[1]) || null;
+  }
+}

@@ -1,0 +1,105 @@
+// A cycle on its way: it goes down the tree stop by stop, by itself or by keys, and at each stop it is told who takes it and who drops it.
+
+import { make } from './marks.js';
+
+const PAUSE_ON_WAY = 900;
+const GO = 'F4';
+
+function button_on_way(text, title, act) {
+  const button = Object.assign(make('button', '', text), { type: 'button', title });
+  button.addEventListener('click', act);
+  return button;
+}
+
+export class WayView {
+  // `way` takes it, `follow` begins it, and along `tree` a mark goes; `still` tells that nothing may move by itself; `find` gives what
+  // goes down the tree or null, `way_of` its way, and `passed` is told of what is sent and of each stop.
+  constructor({ way: into, follow, tree }, { still, find, way_of, passed }) {
+    Object.assign(this, { into, follow, tree, still, find, way_of, passed, way: null, at: 0, timer: 0 });
+    follow.addEventListener('click', () => this.begin());
+    addEventListener('keydown', event => {
+      if (event.key !== GO || event.altKey || event.ctrlKey || event.metaKey) return;
+      event.preventDefault();
+      if (this.way === null) this.begin();
+      else this.go(this.at + 1);
+    });
+    into.addEventListener('keydown', event => {
+      const step = { ArrowRight: 1, ArrowLeft: -1 }[event.key];
+      if (step !== undefined && this.way !== null) { event.preventDefault(); this.go(this.at + step); }
+      if (event.key === 'Escape') this.leave();
+    });
+  }
+
+  // After a line: its way can be followed, where it has one.
+  offer() {
+    this.follow.hidden = this.way !== null || this.find() === null;
+    this.mark();
+  }
+
+  begin() {
+    const sent = this.find();
+    if (sent === null) return;
+    this.way = this.way_of(sent);
+    this.at = 0;
+    this.draw();
+    if (!this.still) this.play();
+  }
+
+  play() {
+    clearTimeout(this.timer);
+    this.timer = setTimeout(() => { if (this.way !== null && this.at + 1 < this.way.stops.length) { this.at += 1; this.draw(); this.play(); } }, PAUSE_ON_WAY);
+  }
+
+  // Another stop, by hand: it goes on by itself no more.
+  go(at) {
+    clearTimeout(this.timer);
+    this.at = Math.min(Math.max(at, 0), this.way.stops.length - 1);
+    this.draw();
+  }
+
+  // Another line, or another moment, has another way.
+  forget() {
+    clearTimeout(this.timer);
+    if (this.way === null) return;
+    this.way = null;
+    this.tree.querySelector('.cycle')?.remove();
+    this.into.replaceChildren();
+    this.passed(null);
+  }
+
+  leave() {
+    this.forget();
+    this.follow.focus({ preventScroll: true });
+  }
+
+  draw() {
+    const { stops, sent, told } = this.way, list = make('ol', ''), is_end = this.at === stops.length - 1, buttons = make('div', 'bar');
+    const had = this.into.contains(document.activeElement) ? document.activeElement.title : '';
+    buttons.append(button_on_way('‹ Stop before', 'The stop before (arrow to the left)', () => this.go(this.at - 1)),
+      button_on_way('Next stop ›', 'The next stop (arrow to the right)', () => this.go(this.at + 1)), button_on_way('Leave its way', 'Escape', () => this.leave()));
+    list.append(...stops.slice(0, this.at + 1).map(({ name, met }) => {
+      const item = make('li', '', `${name}: `);
+      item.append(...met.map(({ path, takes, text }) => make('div', takes ? 'takes' : 'drops', `${path} ${text}`)));
+      return item;
+    }));
+    const end = make('p', '', is_end ? `${told}.` : '');
+    end.setAttribute('role', 'status');
+    buttons.append(end);
+    this.into.replaceChildren(make('p', 'unit', `The way of ${sent.words} from bus 00`), list, buttons);
+    (buttons.querySelector(`[title="${had}"]`) ?? buttons.children[1]).focus({ preventScroll: true });
+    this.passed(sent);
+  }
+
+  // The mark stands at who has it, and those that a stop tells of are marked.
+  mark() {
+    if (this.way === null) return;
+    const { path, met } = this.way.stops[this.at], chip = this.tree.querySelector(`[data-path="${path}"]`);
+    for (const one of this.tree.querySelectorAll('.took, .dropped')) one.classList.remove('took', 'dropped');
+    for (const { path: each, takes } of met) this.tree.querySelector(`[data-path="${each}"]`)?.classList.add(takes ? 'took' : 'dropped');
+    const dot = this.tree.querySelector('.cycle') ?? this.tree.appendChild(make('span', 'cycle'));
+    dot.setAttribute('aria-hidden', true);
+    if (chip === null) { dot.style.transform = 'translate(0, 0)'; return; }
+    const [box, room] = [chip, this.tree].map(one => one.getBoundingClientRect());
+    dot.style.transform = `translate(${box.left - room.left + this.tree.scrollLeft - 6}px, ${box.top - room.top + this.tree.scrollTop - 6}px)`;
+  }
+}
