@@ -11,6 +11,7 @@ MODULE = Path(__file__).resolve().parents[1]
 USER = """\
 import pciguest.__main__
 import pciguest.firmware_test
+import pciguest.rom_test
 import pciguest.strategies
 import pciguest.transcript
 from pciguest import Device, Guest, Register
