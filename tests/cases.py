@@ -137,8 +137,8 @@ def board_cases(said, lines, sections):
     if name in sections:
         wanted = without_fault(sections[name])[0]
         yield dataclasses.replace(on_terminal, name=f"{name}, plain on a terminal", words=plain, wanted=wanted)
-    elif not fault.startswith("101 "):
-        # a plain check has the same lines, but for the excerpts and for the reason why a file is no TOML
+    else:
+        # a plain check has the same lines, but for the excerpts
         wanted = [it for it in wanted if not re.match(r" +\d* *\|", it)]
         yield dataclasses.replace(case, name=f"{name}, plain", words=plain, wanted=wanted)
 
@@ -298,10 +298,10 @@ def difference(case, status, out, err):
         wrong[3:] = [f"and {len(wrong) - 3} lines more"]
     if last and not wrong:
         wrong.append("the last line has no line feed")
-    fault = f"pciguest: fault {case.fault}\n" if case.fault else ""
-    if case.fault == ANY_FAULT and status == 1:
-        fault = err
-    if (status, err) != (1 if fault else 0, fault):
+    fault = f"pciguest: fault {case.fault}" if case.fault else ""
+    # a line may tell more below it
+    first = fault if case.fault == ANY_FAULT and status == 1 else err.partition("\n")[0]
+    if (status, first) != (1 if fault else 0, fault):
         wrong.append(f"standard error: wanted {told(fault)}, came {told(err)} with status {status}")
     return wrong
 

@@ -40,11 +40,18 @@ ends_with() {
   tell "$name"
 }
 
-# fails_with NAME 'N WORDS' WORDS..: it ends with this fault, and writes nothing else
+# fails_with NAME 'N WORDS' WORDS..: it ends with this fault, and writes nothing else but a line below it
 fails_with() {
+  : > wanted.out
+  ends_with_fault "$@"
+}
+
+# ends_with_fault NAME 'N WORDS' WORDS..: it ends with this fault, after the output in wanted.out
+ends_with_fault() {
   local name=$1 fault=$2; shift 2
-  timeout 60 "$program" "$@" > out 2> err; status=$?
-  : > wanted.out; echo "pciguest: fault $fault" > wanted.err; wanted=1
+  timeout 60 "$program" "$@" > out 2> told; status=$?
+  head -n 1 told > err
+  echo "pciguest: fault $fault" > wanted.err; wanted=1
   tell "$name"
 }
 
@@ -210,13 +217,6 @@ fails_with 'audit, no such file' '702 board file' audit nothing.toml < /dev/null
 fails_with 'audit, standard input closed' '501 read failed' audit "$boards/main.toml" <&-
 
 # ---- ready: the same lines, and then what is wrong and what is lacking; where that is anything, a fault after it
-# ends_with_fault NAME 'N WORDS' WORDS..: it ends with this fault, after the output in wanted.out
-ends_with_fault() {
-  local name=$1 fault=$2; shift 2
-  timeout 60 "$program" "$@" > out 2> err; status=$?
-  echo "pciguest: fault $fault" > wanted.err; wanted=1
-  tell "$name"
-}
 echo 'ready: ok' > wanted.out
 ends_with 'ready, no function at all' ready "$boards/host_alone.toml" < /dev/null
 { sed '/^#/d; s/.*/host: ok/' "$top/examples/audit/set_up.script"; echo 'ready: ok'; } > wanted.out
@@ -405,26 +405,14 @@ fails_with '-V' "$usage" -V
 fails_with 'an unknown option' "$usage" demo --x
 fails_with 'a word that is no text' "$usage" $'\377'
 
-# ---- the second line of a fault, where standard error is a terminal
-spawn='import os, pty, subprocess, sys
-to, at = pty.openpty()
-done = subprocess.run(sys.argv[1:], stdin=subprocess.DEVNULL, stdout=subprocess.DEVNULL, stderr=at)
-os.close(at)
-text = b""
-try:
-    while part := os.read(to, 4096):
-        text += part
-except OSError:
-    pass
-sys.stdout.buffer.write(text.replace(b"\r\n", b"\n"))
-sys.exit(done.returncode)'
+# ---- the second line of a fault
 # hints 'N WORDS' 'LINE' WORDS..: it ends with this fault, and with this line below it, if there is one
 hints() {
   local fault=$1 line=$2; shift 2
-  timeout 60 python3 -c "$spawn" "$program" "$@" > err; status=$?
+  timeout 60 "$program" "$@" > /dev/null 2> err < /dev/null; status=$?
   : > out; : > wanted.out; wanted=1
   { echo "pciguest: fault $fault"; [ -z "$line" ] || echo "$line"; } > wanted.err
-  tell "on a terminal: $*"
+  tell "two lines: $*"
 }
 all='usage: pciguest demo|list|check|run|firmware|audit|ready ..'
 hints "$usage" "$all"

@@ -254,7 +254,7 @@ class Files:
             if judged_so:
                 self.differ(seed, judged_so)
             self.warned += done.stdout.count(": warning: ")
-        if number == 101 and not re.fullmatch(r"board\.toml:\d+: refused \(101 not TOML\)\n", done.stdout):
+        if number == 101 and not re.fullmatch(r"board\.toml:\d+: refused: .+ \(101 not TOML\)\n", done.stdout):
             self.differ(seed, done.stdout)
         if number > 101:
             told, count = told_lines(lines, done.stdout)

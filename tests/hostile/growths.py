@@ -55,7 +55,7 @@ def refuse_each(room, name, words, script, mode, board=MAIN, ends="ok"):
     numbers = numbers_of(room, words, script, board, ends)
     rows = [line.rstrip(b"\n").split(b" ", 4) for line in open(table, "rb")]
     room.expect(f"{name}: each growth was refused", len(rows) == len(numbers), f"{len(rows)} of {len(numbers)}")
-    end = (b"%d" % plain.status, b"%d" % len(plain.out), plain.err.rstrip(b"\n"))
+    end = (b"%d" % plain.status, b"%d" % len(plain.out), plain.err.partition(b"\n")[0])
     answers = []
     for number, (growth, asked_again, *ended) in zip(numbers, rows):
         whole = mode == "once" and asked_again == b"1" and tuple(ended) == end

@@ -29,7 +29,7 @@ Counts = namedtuple("Counts", "growths for_words until_file_read before_reading 
 
 
 def fault_line(number):
-    """What the program writes on standard error."""
+    """The first line that the program writes on standard error."""
     return f"pciguest: fault {number} {FAULTS[number]}\n".encode()
 
 
@@ -45,7 +45,7 @@ class Run:
         if self.status == 0:
             return "ok"
         for number in FAULTS:
-            if self.status == 1 and self.err == fault_line(number):
+            if self.status == 1 and self.err.startswith(fault_line(number)):
                 return str(number)
         return f"status {self.status}, standard error {self.err[:80]!r}"
 

@@ -24,7 +24,8 @@ def with_closed(room, name, closed, words, wanted, out=b""):
     line = fault_line(wanted) if wanted else b""
     if "2>&-" in closed:
         line = b""
-    holds = (status, told, said) == (1 if wanted else 0, out, line)
+    first = said[:said.find(b"\n") + 1]
+    holds = (status, told, first) == (1 if wanted else 0, out, line)
     room.expect(name, holds, f"status {status}, {told[:80]!r}, {said[:80]!r}")
     print(f"| {name} | {wanted or 'ok'} |", flush=True)
 
@@ -120,7 +121,8 @@ def as_nobody(room):
     os.chmod(room.folder, 0o755)
     user = 65534 if os.geteuid() == 0 else None
     run = subprocess.run([room.program, "list", board], capture_output=True, user=user, stdin=subprocess.DEVNULL)
-    room.expect("an unreadable board file", (run.returncode, run.stdout, run.stderr) == (1, b"", fault_line(702)), run)
+    told = fault_line(702) + f"cannot read '{board}': permission denied\n".encode()
+    room.expect("an unreadable board file", (run.returncode, run.stdout, run.stderr) == (1, b"", told), run)
     print("| a board file that its user can't read | 702 |")
 
 

@@ -10,5 +10,7 @@ pub mod NextEntry
 pub mod Tests
 pub mod NoProblems
 pub mod FirstBroken
+pub mod ByChecks
+pub mod RefusalLaws
 pub mod Searches
 pub mod PathSets

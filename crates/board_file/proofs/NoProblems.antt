@@ -18,10 +18,10 @@ use Rattle.board_file.specs.PathTexts.{is_path_text, path_at}
 use Rattle.board_file.specs.Functions.{endpoint_standing, bridge_standing, standings, aperture}
 use Rattle.board_file.specs.Rules.{is_founded, have_paths, are_places, slots, names_endpoint, is_natural, are_natural}
 use Rattle.board_file.specs.EntryRules.{are_same_place}
-use Rattle.board_file.specs.Problems.{Found, problems_in, holds}
+use Rattle.board_file.specs.Problems.{Found, none, problems_in, holds}
 use Rattle.board_file.specs.declared.fault.BoardFault.{BoardFault}
 use Rattle.board_file.specs.declared.fault.BoardFault.TheVariants as fault
-use Rattle.board_file.proofs.Tests.{any_order, under, all-both, all-where, all-flat, all-swap, with_earlier, pairs-map, pairs-where, pairs-append, pairs-flat, none, nothing_listed}
+use Rattle.board_file.proofs.Tests.{any_order, under, all-both, all-where, all-flat, all-swap, with_earlier, pairs-map, pairs-where, pairs-append, pairs-flat, nothing_listed}
 
 -- ---- registers and apertures
 

@@ -6,6 +6,7 @@ use Rattle.std.proofs.Math.Bool.{and-true, and_comm, and_assoc}
 use Rattle.std.proofs.lemmas.Bool.{and_parts, ne_eqb}
 use Rattle.std.proofs.lemmas.List.Folds.{list_all-append, list_all-map}
 use Rattle.lists.specs.Elements.{all_pairs}
+use Rattle.board_file.specs.Problems.{none}
 
 -- ---- tests in another order
 
@@ -111,10 +112,6 @@ module _ {A B : Type 0} (r : B → B → Bool) (h : A → List B) where
       (rest_of (all_pairs r (h x)) (list_all (across x) xs) (all_pairs across xs) (list_all (λ y. all_pairs r (h y)) xs))
 
 -- ---- lists that have no element
-
-abbrev pub none : {A : Type 0} → List A → Bool
-none [] = true
-none (x ∷ xs) = false
 
 pub none-append : {A : Type 0} (xs ys : List A) → none (xs ++ ys) ≡ (none xs && none ys)
 none-append xs ys = grind arith

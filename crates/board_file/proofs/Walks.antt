@@ -1,6 +1,9 @@
 -- A walk over a list that appends problems of each element.
-use Rattle.std.proofs.Common.{◌≡◌, ℕ, List, ◌++◌, map, drop}
-use Rattle.std.specs.List.{enumerate_from, flat_map}
+--     GoesOn      what is there with those of the elements that are left
+--     range_more, joined      steps of lists of entries
+use Rattle.std.proofs.Common.{◌≡◌, ℕ, ◌+◌, List, [], ◌∷◌, ◌++◌, map, drop, zero-add, append_assoc, arith}
+use Rattle.std.specs.List.{enumerate_from, flat_map, range_with_len}
+use Rattle.std.proofs.lemmas.List.FromFn.{map-range_with_len_more}
 use Rattle.board_file.specs.Problems.{Found, found_of}
 use Rattle.board_file.specs.declared.finding.Problem.{Problem}
 
@@ -8,3 +11,11 @@ use Rattle.board_file.specs.declared.finding.Problem.{Problem}
 abbrev pub GoesOn : {A : Type 0} → (ℕ × A → List Found) → List A → ℕ → List Problem → List Problem → Type 0
 GoesOn of xs i first problems =
     map found_of problems ++ flat_map of (enumerate_from i (drop i xs)) ≡ map found_of first ++ flat_map of (enumerate_from 0 xs)
+
+pub range_more : {X : Type 0} (f : ℕ → X) (n : ℕ) → map f (range_with_len 0 (n + 1)) ≡ map f (range_with_len 0 n) ++ f n ∷ []
+range_more f n = map-range_with_len_more f 0 n n (zero-add n)
+
+-- a list to which an item was appended, then one list, then another
+pub joined : {X : Type 0} (old with_item with_both : List X) (x : X) (ys zs : List X)
+    → with_item ≡ old ++ x ∷ [] → with_both ≡ with_item ++ ys → with_both ++ zs ≡ old ++ (x ∷ (ys ++ zs))
+joined old with_item with_both x ys zs first second = grind (arith, append_assoc)

@@ -11,6 +11,8 @@ pub mod RuleFaults
 pub mod Problems
 pub mod Tables
 pub mod Faults
+pub mod KeyProblems
 pub mod Meaning
+pub mod RefusalLaws
 pub mod Sources
 pub mod PathSets

@@ -2,8 +2,9 @@
 --     Found, found_of p      an entry, a rule, and the key at which the entry breaks it; the same of a problem
 --     problems_in f fault      all entries that break a rule of this fault, each before those inside it
 --     Adds these old new      the problems, and then these
+--     none ps      there are none
 --     holds fault f      the check of this fault
-use Rattle.std.specs.Prelude.{◌≡◌, ℕ, Bool, true, List, [], ◌∷◌, ◌++◌, map, flat_map, if◌then◌else◌}
+use Rattle.std.specs.Prelude.{◌≡◌, ℕ, Bool, true, false, List, [], ◌∷◌, ◌++◌, map, flat_map, if◌then◌else◌}
 use Rattle.std.specs.List.{enumerate_from, list_all}
 use Rattle.board_file.specs.Entries.{Bar, Config, Endpoint, Bridge, Guest, File}
 use Rattle.board_file.specs.RuleFaults.{key_of}
@@ -23,6 +24,10 @@ pub record Found : Type 0 where
 
 abbrev pub found_of : Problem → Found
 found_of p = record { entry = p.entry; rule = p.rule; key = p.key.now }
+
+abbrev pub none : {A : Type 0} → List A → Bool
+none [] = true
+none (x ∷ xs) = false
 
 abbrev pub Adds : List Found → List Problem → List Problem → Type 0
 Adds these old new = map found_of new ≡ map found_of old ++ these

@@ -1,11 +1,10 @@
 -- The keys of a board file, and what a table has to hold at them.
 --     fields      the keys of a table, whether they are needed, and what stands there
 --     has_form      a value has the type, or is one of the words, that stands at its key
---     table_passes      in a table and all inside it, each needed key is there with its form, or each key is known
-use Rattle.std.specs.Prelude.{ℕ, codes, Bool, true, false, not, ◌&&◌, ◌||◌, List, [], ◌∷◌, length, ◌==◌, Option, Some, None, is_some, if◌then◌else◌}
+--     form_at      what stands at a key
+use Rattle.std.specs.Prelude.{ℕ, codes, Bool, true, false, ◌&&◌, List, [], ◌∷◌, length, ◌==◌, Option, Some, None, is_some, if◌then◌else◌}
 use Rattle.std.specs.List.{list_all}
-use Rattle.std.specs.Option.{option_map_or}
-use Rattle.toml.specs.Data.{Data, string, array, table, Items, no_items, item, Members, no_members, member, get_member, as_integer, as_str, as_table}
+use Rattle.toml.specs.Data.{Data, string, array, Items, no_items, item, as_integer, as_str, as_table}
 use Rattle.board_file.specs.Texts.{same_text, region_kind, io_decode, pref_decode}
 use Rattle.board_file.specs.declared.schema.Level.{Level}
 use Rattle.board_file.specs.declared.schema.Level.TheVariants as level
@@ -13,8 +12,6 @@ use Rattle.board_file.specs.declared.schema.Words.{Words}
 use Rattle.board_file.specs.declared.schema.Words.TheVariants.{RegionKind, IoDecode, PrefDecode}
 use Rattle.board_file.specs.declared.schema.Form.{Form}
 use Rattle.board_file.specs.declared.schema.Form.TheVariants.{Integer, Text, Word, Pair, Texts, Table, Tables}
-use Rattle.board_file.specs.declared.schema.Check.{Check}
-use Rattle.board_file.specs.declared.schema.Check.TheVariants.{Types, Keys}
 use Rattle.board_file.specs.declared.schema.Field.{Field as FieldInCode}
 
 pub record Field : Type 0 where
@@ -82,12 +79,6 @@ abbrev pub form_at : List ℕ → List Field → Option Form
 form_at k [] = None
 form_at k (f ∷ fs) = if same_text f.key k then Some f.form else form_at k fs
 
--- the kind of table that a form leads to
-abbrev pub level_at : Option Form → Option Level
-level_at (Some (Table l)) = Some l
-level_at (Some (Tables l)) = Some l
-level_at _ = None
-
 abbrev pub list_of : Items → List Data
 list_of no_items = []
 list_of (item d ds) = d ∷ list_of ds
@@ -111,38 +102,3 @@ has_form Texts _ = false
 has_form (Table l) d = is_some (as_table d)
 has_form (Tables l) (array ds) = list_all (λ d. is_some (as_table d)) (list_of ds)
 has_form (Tables l) _ = false
-
--- each needed key is there
-abbrev pub has_needed : List Field → Members → Bool
-has_needed [] ms = true
-has_needed (f ∷ fs) ms = (not f.is_needed || is_some (get_member f.key ms)) && has_needed fs ms
-
--- what is asked of a value at a key, apart from what stands inside it
-abbrev pub value_test : Check → Option Form → Data → Bool
-value_test Types (Some form) d = has_form form d
-value_test Types None d = true
-value_test Keys form d = is_some form
-
--- what is asked of a table as a whole
-abbrev pub table_test : Check → Level → Members → Bool
-table_test Types l ms = has_needed (fields l) ms
-table_test Keys l ms = true
-
--- the check holds of a value and of all that stands inside it
-abbrev mutual
-  pub value_passes : Check → Option Form → Data → Bool
-  value_passes c k (table ms) =
-      value_test c k (table ms) && option_map_or (λ l. table_test c l ms && members_pass c l ms) (level_at k) true
-  value_passes c k (array ds) = value_test c k (array ds) && option_map_or (λ l. items_pass c l ds) (level_at k) true
-  value_passes c k d = value_test c k d
-
-  pub items_pass : Check → Level → Items → Bool
-  items_pass c l no_items = true
-  items_pass c l (item d ds) = value_passes c (Some (Table l)) d && items_pass c l ds
-
-  pub members_pass : Check → Level → Members → Bool
-  members_pass c l no_members = true
-  members_pass c l (member k d ms) = value_passes c (form_at k (fields l)) d && members_pass c l ms
-
-abbrev pub table_passes : Check → Level → Members → Bool
-table_passes c l ms = table_test c l ms && members_pass c l ms

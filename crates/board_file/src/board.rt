@@ -22,7 +22,7 @@ use crate::apertures::apertures;
 use crate::building::{bridge, endpoint, guest};
 use crate::entries::{BridgeEntry, EndpointEntry, FileEntries, GuestEntry};
 use crate::fault::BoardFault;
-use crate::judging::{first_fault, form_fault};
+use crate::judging::first_fault;
 use crate::places::FunctionPath;
 use accesses::GuestDecl;
 use bridge_forward::{Bus, Decl, Declared};
@@ -140,10 +140,7 @@ pub(crate) fn read_table(
     ensures refused { IfErr result (λ e.
         e ≢ Memory → meaning (table_view table.now) ≡ Err (number_of e)) }
 {
-    if let Some(fault) = form_fault(table) {
-        return Err(fault);
-    }
-    match first_fault(alloc, file, functions)? {
+    match first_fault(alloc, table, file, functions)? {
         Some(fault) => Err(fault),
         None => build(alloc, file),
     }

@@ -1,7 +1,7 @@
 //! The entries of a board file.
 
 /// An entry of a board file. Lists begin at 0.
-#[derive(Clone, Copy, Debug)]
+#[derive(Clone, Copy, Debug, PartialEq, Eq)]
 pub enum Entry {
     /// The file as a whole.
     File,

@@ -1,52 +1,40 @@
 //! Why a board file is refused.
-ghost use Rattle.std.specs.Prelude.{◌≡◌};
+ghost use Rattle.std.specs.Prelude.{◌≡◌, Some};
 ghost use Rattle.board_file.specs.Faults.{number_of, fault_words};
 ghost use Rattle.board_file.specs.declared.fault.BoardFault.TheVariants.{Memory};
 
 use std::alloc::{AllocError, AllocFailed};
-use thiserror::Error;
+use std::error::Error;
+use std::fmt;
 
 /// Why a board file is refused: the first check that it fails, or that memory is out.
-#[derive(Clone, Copy, PartialEq, Eq, Debug, Error)]
+#[derive(Clone, Copy, PartialEq, Eq, Debug)]
 pub enum BoardFault {
     /// The bytes are no TOML document.
-    #[error("not TOML")]
     NotToml,
     /// A needed key is missing, or a value has another type or is another word than its key's.
-    #[error("key")]
     Key,
     /// A key that no table has.
-    #[error("unknown key")]
     UnknownKey,
     /// An integer outside its range.
-    #[error("number")]
     Number,
     /// A path of more than 16 parts, or more functions, guests or slots than there may be.
-    #[error("too many")]
     TooMany,
     /// An `at` that is no path, or functions that do not stand as those of a board.
-    #[error("place")]
     Place,
     /// A base address register outside 0 to 5, or used twice.
-    #[error("register")]
     Register,
     /// A size that a region can't have, or a block longer than its region.
-    #[error("size")]
     Size,
     /// A name that no guest may have, or a name twice.
-    #[error("guest name")]
     GuestName,
     /// A slot that is no endpoint's path, or an endpoint in two slots.
-    #[error("slot")]
     Slot,
     /// Apertures that are not lawful.
-    #[error("aperture")]
     Aperture,
     /// A pattern that is not lawful, a bit in two masks, or blocks of own registers that overlap.
-    #[error("cell masks")]
     CellMasks,
     /// Out of memory.
-    #[error("memory")]
     Memory,
 }
 
@@ -93,6 +81,17 @@ impl BoardFault {
         }
     }
 }
+
+impl fmt::Display for BoardFault {
+    ghost output = { λ f. Some (fault_words f) };
+
+    fn fmt<W: fmt::Write>(&self, f: &mut fmt::Formatter<W>) -> fmt::Result {
+        let words = self.words();
+        write!(f, "{words}")
+    }
+}
+
+impl Error for BoardFault {}
 
 impl From<AllocError> for BoardFault {
     ghost from_gives = { λ _ e. e ≡ Memory };

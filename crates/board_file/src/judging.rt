@@ -1,83 +1,93 @@
 //! The checks of a file, one after the other.
-ghost use Rattle.std.specs.Prelude.{◌≡◌, IfOk, Some, MatchOption};
+ghost use Rattle.std.specs.Prelude.{◌≡◌, IfOk, map, option_map};
 ghost use Rattle.toml.specs.View.{table_view};
 ghost use Rattle.model_registers.specs.DeclarationRules.{first_broken};
+ghost use Rattle.board_file.specs.Entries as entries;
 ghost use Rattle.board_file.specs.Functions.{standings};
-ghost use Rattle.board_file.specs.Judged.{IsJudged};
-ghost use Rattle.board_file.specs.Meaning.{checks, rules, HasForm};
+ghost use Rattle.board_file.specs.KeyProblems.{problems_of};
+ghost use Rattle.board_file.specs.Meaning.{order, early_checks};
 ghost use Rattle.board_file.specs.Faults.{number_of};
-ghost use Rattle.board_file.specs.Problems.{holds};
+ghost use Rattle.board_file.specs.Problems.{found_of, none};
 
 use crate::entries::FileEntries;
 use crate::fault::BoardFault;
-use crate::finding::problems;
+use crate::finding::{Problem, problems};
+use crate::key_problems::key_problems;
 use crate::places::FunctionPath;
-use crate::schema::{Check, Level, table_passes};
 use std::alloc::{AllocError, Global};
 use toml::Table;
 
-/// The first fault of keys, and of values that have not the form of their keys.
-pub(crate) fn form_fault(table: &Table) -> Option<BoardFault>
-    ensures { MatchOption result (HasForm (table_view table.now)) (λ e.
-        first_broken (checks (table_view table.now)) ≡ Some (number_of e)) }
+/// The checks of a document, in the order in which they are made, but for that of patterns: these are judged last,
+/// since their lengths go by those of blocks.
+pub fn order() -> &'static [BoardFault]
+    ensures { result.now ≡ order }
 {
-    if !table_passes(Check::Types, Level::Top, table) {
-        return Some(BoardFault::Key);
+    &[
+        BoardFault::Key,
+        BoardFault::UnknownKey,
+        BoardFault::Number,
+        BoardFault::TooMany,
+        BoardFault::Place,
+        BoardFault::Register,
+        BoardFault::Size,
+        BoardFault::GuestName,
+        BoardFault::Slot,
+        BoardFault::Aperture,
+    ]
+}
+
+/// All entries that break a rule whose fault this is, each with this rule and the key at which it is
+/// broken, in the order of the file.
+pub(crate) fn problems_of<'a>(
+    alloc: Global,
+    table: &'a Table,
+    file: &FileEntries<'_>,
+    functions: &[FunctionPath],
+    fault: BoardFault,
+) -> Result<Vec<Problem<'a>>, AllocError>
+    requires entries { file.now ≡ entries.file (table_view table.now) }
+    requires places { functions.now ≡ standings file.now }
+    ensures { IfOk result (λ v.
+        map found_of v.items ≡ problems_of (table_view table.now) fault) }
+{
+    match fault {
+        BoardFault::Key | BoardFault::UnknownKey => key_problems(alloc, table, file, fault),
+        _ => problems(alloc, file, functions, fault),
     }
-    if !table_passes(Check::Keys, Level::Top, table) {
-        return Some(BoardFault::UnknownKey);
-    }
-    None
 }
 
 /// Whether no entry breaks a rule with this fault.
 fn holds(
     alloc: Global,
+    table: &Table,
     file: &FileEntries<'_>,
     functions: &[FunctionPath],
     fault: BoardFault,
 ) -> Result<bool, AllocError>
-    requires { functions.now ≡ standings file.now }
-    ensures { IfOk result (λ b. b ≡ holds fault file.now) }
+    requires entries { file.now ≡ entries.file (table_view table.now) }
+    requires places { functions.now ≡ standings file.now }
+    ensures { IfOk result (λ b. b ≡ none (problems_of (table_view table.now) fault)) }
 {
-    let problems = problems(alloc, file, functions, fault)?;
+    let problems = problems_of(alloc, table, file, functions, fault)?;
     Ok(problems.as_slice().is_empty())
 }
 
-/// The first fault of what the file says, but of its patterns.
+/// The first fault of a document, but for that of its patterns.
 pub(crate) fn first_fault(
     alloc: Global,
+    table: &Table,
     file: &FileEntries<'_>,
     functions: &[FunctionPath],
 ) -> Result<Option<BoardFault>, AllocError>
-    requires { functions.now ≡ standings file.now }
+    requires entries { file.now ≡ entries.file (table_view table.now) }
+    requires places { functions.now ≡ standings file.now }
     ensures { IfOk result (λ found.
-        MatchOption found (IsJudged file.now) (λ e.
-        first_broken (rules file.now) ≡ Some (number_of e))) }
+        option_map number_of found ≡ first_broken (early_checks (table_view table.now))) }
 {
-    if !holds(alloc, file, functions, BoardFault::Number)? {
-        return Ok(Some(BoardFault::Number));
-    }
-    if !holds(alloc, file, functions, BoardFault::TooMany)? {
-        return Ok(Some(BoardFault::TooMany));
-    }
-    if !holds(alloc, file, functions, BoardFault::Place)? {
-        return Ok(Some(BoardFault::Place));
-    }
-    if !holds(alloc, file, functions, BoardFault::Register)? {
-        return Ok(Some(BoardFault::Register));
-    }
-    if !holds(alloc, file, functions, BoardFault::Size)? {
-        return Ok(Some(BoardFault::Size));
-    }
-    if !holds(alloc, file, functions, BoardFault::GuestName)? {
-        return Ok(Some(BoardFault::GuestName));
-    }
-    if !holds(alloc, file, functions, BoardFault::Slot)? {
-        return Ok(Some(BoardFault::Slot));
-    }
-    if !holds(alloc, file, functions, BoardFault::Aperture)? {
-        return Ok(Some(BoardFault::Aperture));
+    'checks: for fault in order() {
+        if !holds(alloc, table, file, functions, *fault)? {
+            return Ok(Some(*fault));
+        }
     }
     Ok(None)
 }

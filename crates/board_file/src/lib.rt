@@ -14,7 +14,9 @@ mod function_problems;
 mod guest_problems;
 mod guests;
 mod judging;
+mod key_problems;
 pub mod keys;
+pub mod laws;
 mod numbers;
 mod path_sets;
 pub mod path_text;
@@ -30,6 +32,7 @@ mod texts;
 
 pub use entry::Entry;
 pub use fault::BoardFault;
-pub use finding::{Problem, problems};
+pub use finding::Problem;
+pub use judging::order;
 pub use rule::Rule;
 pub use source::{Source, read_board};

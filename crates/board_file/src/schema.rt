@@ -1,13 +1,13 @@
-//! Which keys the tables of a board file have, and the checks of a TOML table against them.
+//! Which keys the tables of a board file have, and what stands at them.
 ghost use Rattle.std.specs.Prelude.{◌≡◌, is_some};
-ghost use Rattle.toml.specs.View.{view, array_view, table_view};
+ghost use Rattle.toml.specs.View.{view};
 ghost use Rattle.std.specs.List.{list_all};
-ghost use Rattle.toml.specs.Data.{get_member, as_integer, as_str, as_table};
-ghost use Rattle.board_file.specs.Schema.{fields, form_at, level_at, is_listed, has_form, has_needed, value_test, value_passes, items_pass, table_passes};
+ghost use Rattle.toml.specs.Data.{as_integer, as_str, as_table};
+ghost use Rattle.board_file.specs.Schema.{fields, form_at, is_listed, has_form};
 
 use crate::keys::fields;
 use crate::texts::{io_decode, pref_decode, region_kind};
-use toml::value::{Array, Table, Value};
+use toml::value::{Array, Value};
 
 /// The kinds of table in a board file.
 #[derive(Clone, Copy)]
@@ -52,14 +52,6 @@ pub struct Field {
     pub form: Form,
 }
 
-/// What is looked at: that needed keys are there and values have their form, or that each key is
-/// known.
-#[derive(Clone, Copy, PartialEq, Eq)]
-pub enum Check {
-    Types,
-    Keys,
-}
-
 /// What stands at the key in a table of the level.
 pub fn form_at(level: Level, key: &str) -> Option<Form>
     ensures { result ≡ form_at key.now (fields level) }
@@ -70,16 +62,6 @@ pub fn form_at(level: Level, key: &str) -> Option<Form>
         }
     }
     None
-}
-
-fn level_at(form: Option<Form>) -> Option<Level>
-    ensures { result ≡ level_at form }
-{
-    match form {
-        Some(Form::Table(level)) => Some(level),
-        Some(Form::Tables(level)) => Some(level),
-        _ => None,
-    }
 }
 
 /// The text is one of the words.
@@ -143,75 +125,4 @@ fn all_tables(items: &Array) -> bool
     ensures { result ≡ list_all (λ v. is_some (as_table (view v))) items.now.items }
 {
     items.iter().all(|item| item.is_table())
-}
-
-/// Each needed key is there.
-fn has_needed(level: Level, table: &Table) -> bool
-    ensures { result ≡ has_needed (fields level) (table_view table.now) }
-{
-    'search: for field in fields(level) {
-        if field.needed && !has_key(table, field.key) {
-            return false;
-        }
-    }
-    true
-}
-
-fn has_key(table: &Table, key: &str) -> bool
-    ensures { result ≡ is_some (get_member key.now (table_view table.now)) }
-{
-    table.get(key).is_some()
-}
-
-fn value_test(check: Check, form: Option<Form>, value: &Value) -> bool
-    ensures { result ≡ value_test check form (view value.now) }
-{
-    match (check, form) {
-        (Check::Types, Some(form)) => has_form(form, value),
-        (Check::Types, None) => true,
-        (Check::Keys, form) => form.is_some(),
-    }
-}
-
-/// The check holds of the table and of all that stands inside it. A value is looked at once, and
-/// what stands inside an unknown key is passed over.
-#[cycle(walk)]
-pub(crate) fn table_passes(check: Check, level: Level, table: &Table) -> bool
-    ensures { result ≡ table_passes check level (table_view table.now) }
-{
-    if check == Check::Types && !has_needed(level, table) {
-        return false;
-    }
-    'members: for (key, value) in table.iter() {
-        if !value_passes(check, form_at(level, key.as_str()), value) {
-            return false;
-        }
-    }
-    true
-}
-
-#[cycle(walk)]
-fn value_passes(check: Check, form: Option<Form>, value: &Value) -> bool
-    ensures { result ≡ value_passes check form (view value.now) }
-{
-    if !value_test(check, form, value) {
-        return false;
-    }
-    match (level_at(form), value) {
-        (Some(level), Value::Table(table)) => table_passes(check, level, table),
-        (Some(level), Value::Array(items)) => items_pass(check, level, items),
-        _ => true,
-    }
-}
-
-#[cycle(walk)]
-fn items_pass(check: Check, level: Level, items: &Array) -> bool
-    ensures { result ≡ items_pass check level (array_view items.now) }
-{
-    'items: for item in items {
-        if !value_passes(check, Some(Form::Table(level)), item) {
-            return false;
-        }
-    }
-    true
 }

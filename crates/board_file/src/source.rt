@@ -1,11 +1,13 @@
 //! A document with what it says, and the reading of a board file.
-ghost use Rattle.std.specs.Prelude.{◌≡◌, ◌≢◌, IfOk, IfErr, IsUtf8, Ok, Err};
+ghost use Rattle.std.specs.Prelude.{◌≡◌, ◌≢◌, IfOk, IfErr, IsUtf8, Ok, Err, map};
 ghost use Rattle.toml.specs.View.{table_view};
 ghost use Rattle.toml.specs.Parse.{parse_document};
 ghost use Rattle.model_board.specs.AtReset.{IsAtReset};
 ghost use Rattle.model_guests.specs.World.{IsLawfulWorld};
 ghost use Rattle.board_file.specs.Entries as said;
 ghost use Rattle.board_file.specs.Functions.{standings};
+ghost use Rattle.board_file.specs.KeyProblems.{problems_of};
+ghost use Rattle.board_file.specs.Problems.{found_of};
 ghost use Rattle.board_file.specs.Meaning.{world_in, meaning, document_meaning};
 ghost use Rattle.board_file.specs.Faults.{number_of};
 ghost use Rattle.board_file.specs.declared.fault.BoardFault.TheVariants.{NotToml, Memory};
@@ -13,6 +15,8 @@ ghost use Rattle.board_file.specs.declared.fault.BoardFault.TheVariants.{NotToml
 use crate::board::read_table;
 use crate::entries::FileEntries;
 use crate::fault::BoardFault;
+use crate::finding::Problem;
+use crate::judging::problems_of;
 use crate::places::{FunctionPath, function_paths};
 use crate::reading::read_entries;
 use accesses::GuestDecl;
@@ -63,6 +67,15 @@ impl<'a> Source<'a> {
             IfErr result (λ e. e ≢ Memory → meaning ms ≡ Err (number_of e)) }
     {
         read_table(alloc, self.document, &self.file, &self.functions)
+    }
+
+    /// All entries that break a rule whose fault this is, each with this rule and the key at which it is
+    /// broken, in the order of the file.
+    pub fn problems(&self, alloc: Global, fault: BoardFault) -> Result<Vec<Problem<'a>>, AllocError>
+        ensures { let ms = table_view self.now.document.now in
+            IfOk result (λ v. map found_of v.items ≡ problems_of ms fault) }
+    {
+        problems_of(alloc, self.document, &self.file, &self.functions, fault)
     }
 }
 

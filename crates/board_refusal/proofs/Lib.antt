@@ -1,2 +1,3 @@
 pub mod Takers
 pub mod ToldCauses
+pub mod Added

@@ -1,19 +1,22 @@
 -- Of each problem of registers and of cell masks something is said beyond the words of its rule.
-use Rattle.std.proofs.Common.{◌≡◌, ◌≢◌, ◌⊎◌, inl, inr, ℕ, suc, ◌+◌, Bool, true, false, ◌||◌, not, List, [], ◌∷◌, ◌++◌, take, map, Option, Some, None, option_map, refl, sym, ap, subst, arith}
+use Rattle.std.proofs.Common.{◌≡◌, ◌≢◌, inl, inr, ℕ, suc, ◌+◌, Bool, true, false, ◌||◌, not, List, [], ◌∷◌, ◌++◌, take, map, Option, Some, None, option_map, is_some, refl, sym, ap, subst, ◌∙◌, arith}
 use Rattle.std.specs.Prelude.{filter, slice_get, nat_abs}
 use Rattle.std.specs.List.{flat_map, list_all, enumerate_from}
-use Rattle.std.proofs.lemmas.Bool.{eqb-true}
+use Rattle.std.specs.Option.{option_map_or}
 use Rattle.lists.specs.Elements.{IsIn}
 use Rattle.lists.proofs.Members.{front_or_back, from_flat_map, from_filter, all_in}
-use Rattle.toml.specs.Data.{Members}
+use Rattle.toml.specs.Data.{Members, get_member}
 use Rattle.model_registers.specs.DeclarationRules.{has_own_registers}
 use Rattle.board_file.specs.Entries.{Patterns, Bar, Config, Endpoint, Bridge, Guest, File, file}
 use Rattle.board_file.specs.Functions.{region}
 use Rattle.board_file.specs.Blocks.{is_block}
-use Rattle.board_file.specs.Faults.{number_of}
-use Rattle.board_file.specs.RuleFaults.{fault_of, key_of}
+use Rattle.board_file.specs.RuleFaults.{key_of}
 use Rattle.board_file.specs.EntryRules.{file_rules, host_rules, endpoint_rules, has_indices, bar_rules, config_rules, are_apart, bridge_rules, guest_rules, slot_rules}
 use Rattle.board_file.specs.Problems.{Found, unless_kept, broken, of_bar, of_config, of_endpoint, of_bridge, of_slot, of_guest, problems_in}
+use Rattle.board_file.specs.KeyProblems.{tables_of, unless_kept_at, of_field, of_member, keys_in, of_table, of_entry, problems_of}
+use Rattle.board_file.specs.Schema.{Field, fields, form_at, has_form}
+use Rattle.board_file.specs.Tables.{level_of, table_at}
+use Rattle.board_file.specs.declared.schema.Level.{Level}
 use Rattle.board_file.specs.declared.fault.BoardFault.{BoardFault}
 use Rattle.board_file.specs.declared.fault.BoardFault.TheVariants as fault
 use Rattle.board_file.specs.declared.rule.Rule.{Rule}
@@ -22,9 +25,8 @@ use Rattle.board_file.specs.declared.entry.Entry.{Entry}
 use Rattle.board_file.specs.declared.entry.Entry.TheVariants as entry
 use Rattle.diagnostics.specs.declared.entry_places.Other.{Other}
 use Rattle.board_refusal.specs.declared.told.Told.{Told}
-use Rattle.board_check.specs.Problems.{is_wrong, problems_of, key_problems}
-use Rattle.board_check.specs.Spoiling.{is_clear}
-use Rattle.board_check.specs.AllProblems.{with_check, all_from, later_checks}
+use Rattle.board_refusal.specs.Spoiling.{is_clear}
+use Rattle.board_refusal.specs.AllProblems.{with_check, all_from, later_checks}
 use Rattle.board_refusal.specs.PatternCauses.{keyed_text, masks_text}
 use Rattle.board_refusal.specs.RegisterCauses.{taker_of}
 use Rattle.board_refusal.specs.Others.{other_of}
@@ -210,20 +212,40 @@ module _ (f : File) where
 -- ---- all problems
 
 -- rules of keys are none of these
-not_of_keys : (r : Rule) (n : ℕ) → (n ≡ 102) ⊎ (n ≡ 103) → number_of (fault_of r) ≡ n → needs_cause r ≡ false
-not_of_keys rule.OwnRegisters n h e = let is : 106 ≡ n = e in absurd (elim h [ inl k ↦ omega arith | inr k ↦ omega arith ])
-not_of_keys rule.BarMasks n h e = let is : 112 ≡ n = e in absurd (elim h [ inl k ↦ omega arith | inr k ↦ omega arith ])
-not_of_keys rule.ConfigMasks n h e = let is : 112 ≡ n = e in absurd (elim h [ inl k ↦ omega arith | inr k ↦ omega arith ])
-not_of_keys rule.OwnOffsets n h e = let is : 112 ≡ n = e in absurd (elim h [ inl k ↦ omega arith | inr k ↦ omega arith ])
-not_of_keys _ n h e = refl
+kept_caused : (f : File) (e : Entry) (k : List ℕ) (r : Rule) (kept : Bool) → needs_cause r ≡ false → AllCaused f (unless_kept_at e k r kept)
+kept_caused f e k r true says x m need = absurd m
+kept_caused f e k r false says x (inl same) need = absurd (let wrong : true ≡ false = sym need ∙ ap (λ (y : Found). needs_cause y.rule) same ∙ says in cc)
+kept_caused f e k r false says x (inr wrong) need = absurd wrong
 
-keys_caused : (ms : Members) (fault : BoardFault) (x : Found) → (number_of fault ≡ 102) ⊎ (number_of fault ≡ 103) → IsIn x (key_problems ms fault) → Caused (file ms) x
-unfolding is_wrong
-keys_caused ms fault x keys m need = grind (arith, from_filter, eqb-true, not_of_keys)
+abbrev is_there : Members → Field → Bool
+is_there t d = not d.is_needed || is_some (get_member d.key t)
+
+abbrev is_formed : Members → Field → Bool
+is_formed t d = option_map_or (has_form d.form) (get_member d.key t) true
+
+module _ (f : File) (ms : Members) where
+  table_caused : (fault : BoardFault) (e : Entry) (l : Level) (t : Members) → AllCaused f (of_table fault e l t)
+  table_caused fault.Key e l t =
+      of_all f (of_field e t) (fields l)
+      (λ d m. both f (unless_kept_at e d.key rule.Needed (is_there t d)) (unless_kept_at e d.key rule.Form (is_formed t d))
+      (kept_caused f e d.key rule.Needed (is_there t d) refl) (kept_caused f e d.key rule.Form (is_formed t d) refl))
+  table_caused fault.UnknownKey e l t =
+      of_all f (of_member e l) (keys_in t) (λ k m. kept_caused f e k rule.Known (is_some (form_at k (fields l))) refl)
+  table_caused _ e l t = λ x m need. absurd m
+
+  entry_caused : (fault : BoardFault) (e : Entry) (l : Option Level) (t : Option Members)
+      → AllCaused f (option_map_or (λ (n : Level). option_map_or (of_table fault e n) t []) l [])
+  entry_caused fault e None t = λ x m need. absurd m
+  entry_caused fault e (Some l) None = λ x m need. absurd m
+  entry_caused fault e (Some l) (Some t) = table_caused fault e l t
+
+  keys_caused : (fault : BoardFault) (es : List Entry) → AllCaused f (flat_map (of_entry fault ms) es)
+  keys_caused fault es = of_all f (of_entry fault ms) es (λ e m. entry_caused fault e (level_of e) (table_at ms e))
 
 problem_caused : (ms : Members) (fault : BoardFault) (x : Found) → IsIn x (problems_of ms fault) → Caused (file ms) x
-problem_caused ms fault.Key x m = keys_caused ms fault.Key x (inl refl) m
-problem_caused ms fault.UnknownKey x m = keys_caused ms fault.UnknownKey x (inr refl) m
+unfolding problems_of
+problem_caused ms fault.Key x m = keys_caused (file ms) ms fault.Key (tables_of (file ms)) x m
+problem_caused ms fault.UnknownKey x m = keys_caused (file ms) ms fault.UnknownKey (tables_of (file ms)) x m
 problem_caused ms fault x m = in_file_caused (file ms) fault x m
 
 later_caused : (ms : Members) (earlier : List Found) (faults : List BoardFault) → AllCaused (file ms) earlier → AllCaused (file ms) (all_from ms earlier faults)

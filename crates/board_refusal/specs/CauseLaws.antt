@@ -9,7 +9,7 @@ use Rattle.board_file.specs.declared.fault.BoardFault.{BoardFault}
 use Rattle.board_file.specs.declared.rule.Rule.{Rule}
 use Rattle.board_file.specs.declared.rule.Rule.TheVariants as rule
 use Rattle.board_refusal.specs.declared.told.Told.{Told}
-use Rattle.board_check.specs.AllProblems.{all_problems}
+use Rattle.board_refusal.specs.AllProblems.{all_problems}
 use Rattle.board_refusal.specs.Causes.{cause_text}
 use Rattle.board_refusal.specs.Telling.{found_in, IsTold}
 

@@ -1,3 +1,5 @@
+pub mod Spoiling
+pub mod AllProblems
 pub mod Rules
 pub mod Said
 pub mod KeyCauses

@@ -20,7 +20,7 @@ use Rattle.diagnostics.specs.LineNumbers.{line_of}
 use Rattle.diagnostics.specs.EntryPlaces.{IsPlaceOf, line_at, entry_of}
 use Rattle.board_file.specs.Problems.{Found, found_of}
 use Rattle.board_file.specs.RuleFaults.{fault_of}
-use Rattle.board_check.specs.AllProblems.{all_problems, rank}
+use Rattle.board_refusal.specs.AllProblems.{all_problems, rank}
 use Rattle.board_refusal.specs.declared.told.Told.{Told}
 use Rattle.board_refusal.specs.Others.{other_of}
 use Rattle.board_refusal.specs.RegisterCauses.{taker_of}

@@ -2,7 +2,7 @@
 --     problem_text      the line of a problem
 --     lines_text      all lines of a file that is refused
 --     unread_text      what is said of bytes that are no document
-use Rattle.std.specs.Prelude.{ℕ, ◌==◌, true, List, [], ◌∷◌, ◌++◌, length, codes, decimal, Option, None, flat_map, if◌then◌else◌}
+use Rattle.std.specs.Prelude.{ℕ, ◌==◌, true, List, [], ◌∷◌, ◌++◌, length, codes, decimal, Option, flat_map, if◌then◌else◌}
 use Rattle.toml.specs.Data.{Members}
 use Rattle.board_file.specs.declared.fault.BoardFault.{BoardFault}
 use Rattle.board_file.specs.Faults.{number_of, fault_words}
@@ -38,14 +38,14 @@ told_text Plain name ms bytes t = problem_text name ms bytes t
 told_text WithExcerpts name ms bytes t = problem_text name ms bytes t ++ below_problem_text ms bytes t
 
 -- of a fault of which no entry is told
-abbrev pub bare_text : List ℕ → Option ℕ → BoardFault → List ℕ
-bare_text name line f = name ++ line_text line ++ codes ": refused" ++ fault_text f
+abbrev pub bare_text : List ℕ → BoardFault → List ℕ
+bare_text name f = name ++ codes ": refused" ++ fault_text f
 
 abbrev pub count_text : ℕ → List ℕ
 count_text n = decimal n ++ (if n == 1 then codes " problem\n" else codes " problems\n")
 
 abbrev pub lines_text : Style → List ℕ → Members → List ℕ → BoardFault → List Told → List ℕ
-lines_text style name ms bytes f [] = bare_text name None f
+lines_text style name ms bytes f [] = bare_text name f
 lines_text style name ms bytes f (t ∷ ts) =
     flat_map (told_text style name ms bytes) (t ∷ ts) ++ count_text (length (t ∷ ts))
 
@@ -54,6 +54,6 @@ abbrev pub reasoned_text : List ℕ → Option ℕ → List ℕ → BoardFault �
 reasoned_text name line reason f = name ++ line_text line ++ codes ": refused: " ++ reason ++ fault_text f
 
 abbrev pub unread_text : Style → List ℕ → List ℕ → Option Place → List ℕ → BoardFault → List ℕ
-unread_text Plain name bytes place reason f = bare_text name (line_at place) f
+unread_text Plain name bytes place reason f = reasoned_text name (line_at place) reason f
 unread_text WithExcerpts name bytes place reason f =
     reasoned_text name (line_at place) reason f ++ shown_text bytes true place

@@ -4,6 +4,7 @@
 
 mod aperture_causes;
 mod causes;
+mod every_check;
 mod key_causes;
 pub mod laws;
 mod others;
@@ -12,6 +13,7 @@ mod pattern_causes;
 mod register_causes;
 mod said;
 mod size_causes;
+mod spoiling;
 mod telling;
 mod texts;
 mod told;

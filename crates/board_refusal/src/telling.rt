@@ -6,9 +6,9 @@ ghost use Rattle.board_file.specs.Sources.{IsRead};
 ghost use Rattle.board_file.specs.declared.fault.BoardFault.TheVariants.{NotToml};
 ghost use Rattle.board_refusal.specs.Telling.{IsRefusal, IsUnread, IsPlaceIn, IsByLine, IsByCheck, line_or_zero, rank_of};
 
+use crate::every_check::{all_problems, rank};
 use crate::texts::{push_lines, push_unread};
 use crate::told::{Told, with_places};
-use board_check::{all_problems, rank};
 use board_file::{BoardFault, Source};
 use diagnostics::{Place, Places, Style, Telling, line_of};
 use std::alloc::{AllocError, Global};
@@ -90,8 +90,8 @@ pub fn refusal_text(
     Ok(text)
 }
 
-/// What is told of bytes that are no document: one line, with excerpts with the reader's reason, and below it
-/// the line at which the bytes were given up. `name` is what the file is called.
+/// What is told of bytes that are no document: one line with the reader's reason, and with excerpts below it the line at
+/// which the bytes were given up. `name` is what the file is called.
 pub fn unread_text(
     alloc: Global,
     style: Style,

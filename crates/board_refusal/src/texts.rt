@@ -125,16 +125,10 @@ fn push_problems(
 }
 
 /// Appends the line of a fault of which no entry is told.
-fn push_bare(
-    text: &mut String,
-    name: &str,
-    line: Option<usize>,
-    fault: BoardFault,
-) -> Result<(), AllocError>
-    ensures { OnOk result (Adds text.old text.new (bare_text name.now line fault)) }
+fn push_bare(text: &mut String, name: &str, fault: BoardFault) -> Result<(), AllocError>
+    ensures { OnOk result (Adds text.old text.new (bare_text name.now fault)) }
 {
     text.push_str(name)?;
-    push_line_number(text, line)?;
     text.push_str(": refused")?;
     push_fault(text, fault)
 }
@@ -168,13 +162,16 @@ pub(crate) fn push_unread(
     ensures { OnOk result (Adds text.old text.new
         (unread_text telling.now.style telling.now.name.now bytes.now place reason.now NotToml)) }
 {
-    let line = line_at(place);
+    push_reasoned(
+        text,
+        telling.name,
+        line_at(place),
+        reason,
+        BoardFault::NotToml,
+    )?;
     match telling.style {
-        Style::Plain => push_bare(text, telling.name, line, BoardFault::NotToml),
-        Style::WithExcerpts => {
-            push_reasoned(text, telling.name, line, reason, BoardFault::NotToml)?;
-            push_shown_line(alloc, text, bytes, true, place)
-        }
+        Style::Plain => Ok(()),
+        Style::WithExcerpts => push_shown_line(alloc, text, bytes, true, place),
     }
 }
 
@@ -199,7 +196,7 @@ pub(crate) fn push_lines(
         (lines_text telling.now.style telling.now.name.now (table_view source.now.document.now) source.now.bytes.now fault told.now)) }
 {
     if told.is_empty() {
-        return push_bare(text, telling.name, None, fault);
+        return push_bare(text, telling.name, fault);
     }
     push_problems(alloc, text, telling, source, told)?;
     push_count(text, told.len())

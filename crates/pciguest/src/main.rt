@@ -95,10 +95,8 @@ fn main(rt: HostRuntime) -> ExitCode {
         Ok(()) => ExitCode::SUCCESS,
         Err(failure) => {
             let _ = rt.eprint(fault_line(failure.fault));
-            if rt.stderr().is_terminal() {
-                if let Some(hint) = failure.hint {
-                    let _ = rt.eprint(hint);
-                }
+            if let Some(hint) = failure.hint {
+                let _ = rt.eprint(hint);
             }
             ExitCode::FAILURE
         }

@@ -1,0 +1,76 @@
+-- What is wrong with the keys of a board file, table by table.
+--     tables_of f      the tables of a file, each before those inside it
+--     of_field e ms f      at a key that a table may have: where it is needed it is there, and what is there has its form
+--     of_member e l k      at a key that a table has: it is known
+--     key_problems ms fault      all tables that break a rule of keys of this fault
+--     problems_of ms fault      all entries that break a rule of this fault
+use Rattle.std.specs.Prelude.{ℕ, Bool, true, not, ◌||◌, List, [], ◌∷◌, ◌++◌, length, map, flat_map, is_some, if◌then◌else◌}
+use Rattle.std.specs.List.{enumerate_from, range_with_len}
+use Rattle.std.specs.Option.{option_map_or}
+use Rattle.toml.specs.Data.{Members, no_members, member, get_member}
+use Rattle.board_file.specs.Entries.{Endpoint, File, file}
+use Rattle.board_file.specs.Schema.{Field, fields, form_at, has_form}
+use Rattle.board_file.specs.Tables.{level_of, table_at}
+use Rattle.board_file.specs.Problems.{Found, problems_in}
+use Rattle.board_file.specs.declared.schema.Level.{Level}
+use Rattle.board_file.specs.declared.fault.BoardFault.{BoardFault}
+use Rattle.board_file.specs.declared.fault.BoardFault.TheVariants as fault
+use Rattle.board_file.specs.declared.rule.Rule.{Rule}
+use Rattle.board_file.specs.declared.rule.Rule.TheVariants as rule
+use Rattle.board_file.specs.declared.entry.Entry.{Entry}
+use Rattle.board_file.specs.declared.entry.Entry.TheVariants as entry
+
+-- ---- the tables of a file
+
+abbrev pub indices : {A : Type 0} → List A → List ℕ
+indices xs = range_with_len 0 (length xs)
+
+-- an endpoint, its regions and its own registers
+abbrev pub with_endpoint : ℕ × Endpoint → List Entry
+with_endpoint (i, e) =
+    entry.Endpoint i ∷ (map (entry.Bar i) (indices e.bars) ++ map (entry.Config i) (indices e.configs))
+
+abbrev pub tables_of : File → List Entry
+tables_of f =
+    entry.File ∷ entry.Host
+    ∷ (flat_map with_endpoint (enumerate_from 0 f.endpoints)
+    ++ map entry.Bridge (indices f.bridges)
+    ++ map entry.Guest (indices f.guests))
+
+-- ---- what a table is asked
+
+-- a rule that is broken at a key
+abbrev pub unless_kept_at : Entry → List ℕ → Rule → Bool → List Found
+unless_kept_at e k r kept = if kept then [] else (record { entry = e; rule = r; key = k } ∷ [])
+
+abbrev pub of_field : Entry → Members → Field → List Found
+of_field e ms f =
+    unless_kept_at e f.key rule.Needed (not f.is_needed || is_some (get_member f.key ms))
+    ++ unless_kept_at e f.key rule.Form (option_map_or (has_form f.form) (get_member f.key ms) true)
+
+abbrev pub of_member : Entry → Level → List ℕ → List Found
+of_member e l k = unless_kept_at e k rule.Known (is_some (form_at k (fields l)))
+
+-- the keys that a table has
+abbrev pub keys_in : Members → List (List ℕ)
+keys_in no_members = []
+keys_in (member k d ms) = k ∷ keys_in ms
+
+abbrev pub of_table : BoardFault → Entry → Level → Members → List Found
+of_table fault.Key e l ms = flat_map (of_field e ms) (fields l)
+of_table fault.UnknownKey e l ms = flat_map (of_member e l) (keys_in ms)
+of_table _ e l ms = []
+
+-- ---- what is wrong
+
+-- a table that isn't there breaks no rule
+abbrev pub of_entry : BoardFault → Members → Entry → List Found
+of_entry fault ms e = option_map_or (λ l. option_map_or (of_table fault e l) (table_at ms e) []) (level_of e) []
+
+abbrev pub key_problems : Members → BoardFault → List Found
+key_problems ms fault = flat_map (of_entry fault ms) (tables_of (file ms))
+
+unfoldable pub problems_of : Members → BoardFault → List Found
+problems_of ms fault.Key = key_problems ms fault.Key
+problems_of ms fault.UnknownKey = key_problems ms fault.UnknownKey
+problems_of ms fault = problems_in (file ms) fault

@@ -1,0 +1,197 @@
+//! The tables of a file that break a rule of keys.
+ghost use Rattle.std.specs.Prelude.{◌≡◌, ◌++◌, IfOk, OnOk, flat_map, map, option_map, true};
+ghost use Rattle.std.specs.Option.{option_map_or};
+ghost use Rattle.toml.specs.View.{view, table_view};
+ghost use Rattle.board_file.specs.Entries as said;
+ghost use Rattle.board_file.specs.KeyProblems.{with_endpoint, tables_of, unless_kept_at, of_field, of_member, keys_in, of_table, of_entry, key_problems};
+ghost use Rattle.board_file.specs.Problems.{found_of, Adds};
+ghost use Rattle.board_file.specs.Schema.{fields, field_of, has_form};
+
+use crate::entries::{EndpointEntry, FileEntries};
+use crate::entry::Entry;
+use crate::fault::BoardFault;
+use crate::finding::Problem;
+use crate::keys::fields;
+use crate::reading::value_at;
+use crate::rule::Rule;
+use crate::schema::{Field, Form, Level, form_at, has_form};
+use crate::tables::{level_of, table_at};
+use std::alloc::{AllocError, Global};
+use toml::Table;
+use toml::value::Value;
+
+/// Appends the tables of an endpoint's regions and own registers.
+fn push_tables(
+    tables: &mut Vec<Entry>,
+    index: usize,
+    endpoint: &EndpointEntry<'_>,
+) -> Result<(), AllocError>
+    ensures { OnOk result (tables.new.items
+        ≡ tables.old.items ++ with_endpoint (index, endpoint.now)) }
+{
+    tables.push(Entry::Endpoint(index))?;
+    'bars: for bar in 0..endpoint.bars.len() {
+        tables.push(Entry::Bar(index, bar))?;
+    }
+    'configs: for config in 0..endpoint.configs.len() {
+        tables.push(Entry::Config(index, config))?;
+    }
+    Ok(())
+}
+
+/// All tables of a file: endpoints, bridges and guests, each with what stands in it.
+fn tables(alloc: Global, file: &FileEntries<'_>) -> Result<Vec<Entry>, AllocError>
+    ensures { IfOk result (λ v. v.items ≡ tables_of file.now) }
+{
+    let mut tables = Vec::new(alloc);
+    tables.push(Entry::File)?;
+    tables.push(Entry::Host)?;
+    'endpoints: for (index, endpoint) in file.endpoints.iter().enumerate() {
+        push_tables(&mut tables, index, endpoint)?;
+    }
+    'bridges: for index in 0..file.bridges.len() {
+        tables.push(Entry::Bridge(index))?;
+    }
+    'guests: for index in 0..file.guests.len() {
+        tables.push(Entry::Guest(index))?;
+    }
+    Ok(tables)
+}
+
+/// Appends that a rule is broken at a key, unless it is kept.
+fn push_unless<'a>(
+    problems: &mut Vec<Problem<'a>>,
+    entry: Entry,
+    key: &'a str,
+    rule: Rule,
+    kept: bool,
+) -> Result<(), AllocError>
+    ensures { OnOk result (Adds (unless_kept_at entry key.now rule kept) problems.old.items
+        problems.new.items) }
+{
+    if kept {
+        return Ok(());
+    }
+    problems.push(Problem { entry, rule, key })?;
+    Ok(())
+}
+
+/// Whether what stands at a key has its form, where something does.
+fn keeps_form(form: Form, value: Option<&Value>) -> bool
+    ensures { result
+        ≡ option_map_or (has_form form) (option_map (λ v. view v.now) value.entry) true }
+{
+    match value {
+        Some(value) => has_form(form, value),
+        None => true,
+    }
+}
+
+/// Appends what is wrong at a key that the table of an entry may have.
+fn push_field(
+    problems: &mut Vec<Problem<'_>>,
+    entry: Entry,
+    table: &Table,
+    field: &Field,
+) -> Result<(), AllocError>
+    ensures { OnOk result (Adds (of_field entry (table_view table.now) (field_of field.now))
+        problems.old.items problems.new.items) }
+{
+    let value = value_at(table, field.key);
+    let is_there = !field.needed || value.is_some();
+    push_unless(problems, entry, field.key, Rule::Needed, is_there)?;
+    push_unless(
+        problems,
+        entry,
+        field.key,
+        Rule::Form,
+        keeps_form(field.form, value),
+    )
+}
+
+/// Appends what is wrong at the keys that the table of an entry may have.
+fn push_fields(
+    problems: &mut Vec<Problem<'_>>,
+    entry: Entry,
+    level: Level,
+    table: &Table,
+) -> Result<(), AllocError>
+    ensures { OnOk result (Adds (flat_map (of_field entry (table_view table.now)) (fields level))
+        problems.old.items problems.new.items) }
+{
+    'fields: for field in fields(level) {
+        push_field(problems, entry, table, field)?;
+    }
+    Ok(())
+}
+
+/// Appends the keys that the table of an entry has and its level doesn't.
+fn push_unknown<'a>(
+    problems: &mut Vec<Problem<'a>>,
+    entry: Entry,
+    level: Level,
+    table: &'a Table,
+) -> Result<(), AllocError>
+    ensures { OnOk result (Adds (flat_map (of_member entry level) (keys_in (table_view table.now)))
+        problems.old.items problems.new.items) }
+{
+    'members: for (key, _) in table.iter() {
+        let key = key.as_str();
+        let is_known = form_at(level, key).is_some();
+        push_unless(problems, entry, key, Rule::Known, is_known)?;
+    }
+    Ok(())
+}
+
+/// Appends what is wrong with the keys of a table.
+fn push_table<'a>(
+    problems: &mut Vec<Problem<'a>>,
+    fault: BoardFault,
+    entry: Entry,
+    level: Level,
+    table: &'a Table,
+) -> Result<(), AllocError>
+    ensures { OnOk result (Adds (of_table fault entry level (table_view table.now))
+        problems.old.items problems.new.items) }
+{
+    match fault {
+        BoardFault::Key => push_fields(problems, entry, level, table),
+        BoardFault::UnknownKey => push_unknown(problems, entry, level, table),
+        _ => Ok(()),
+    }
+}
+
+/// Appends what is wrong with the keys of an entry. One that isn't there breaks no rule.
+fn push_entry<'a>(
+    problems: &mut Vec<Problem<'a>>,
+    fault: BoardFault,
+    document: &'a Table,
+    entry: Entry,
+) -> Result<(), AllocError>
+    ensures { OnOk result (Adds (of_entry fault (table_view document.now) entry)
+        problems.old.items problems.new.items) }
+{
+    match (level_of(entry), table_at(document, entry)) {
+        (Some(level), Some(table)) => push_table(problems, fault, entry, level, table),
+        _ => Ok(()),
+    }
+}
+
+/// All tables that break a rule of keys with this fault.
+pub(crate) fn key_problems<'a>(
+    alloc: Global,
+    document: &'a Table,
+    file: &FileEntries<'_>,
+    fault: BoardFault,
+) -> Result<Vec<Problem<'a>>, AllocError>
+    requires { file.now ≡ said.file (table_view document.now) }
+    ensures { IfOk result (λ v.
+        map found_of v.items ≡ key_problems (table_view document.now) fault) }
+{
+    let tables = tables(alloc, file)?;
+    let mut problems = Vec::new(alloc);
+    'tables: for entry in &tables {
+        push_entry(&mut problems, fault, document, *entry)?;
+    }
+    Ok(problems)
+}
