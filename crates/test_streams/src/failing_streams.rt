@@ -40,61 +40,119 @@ fn report_to_a_writer_that_fails(rt: HostRuntime) -> Result<(), Fail> {
     Ok(())
 }
 
+/// A script, by its name.
+#[derive(Clone, Copy)]
+enum Script {
+    Short,
+    Long,
+    /// A line that is cut by a read that fails has not run.
+    Cut,
+}
+
+impl Script {
+    fn example(self) -> Example<'static> {
+        match self {
+            Script::Short => SHORT,
+            Script::Long => LONG,
+            Script::Cut => Example {
+                board: Board::Main,
+                script: b"a cr 0 0 4\na cr 0 0",
+                output: b"a: 0x00011234\na: refused 401 bad line\n",
+            },
+        }
+    }
+
+    /// Where each line ends in the script, and its answer in the output.
+    fn ends(self) -> &'static [(usize, usize)] {
+        match self {
+            Script::Short => SHORT_ENDS,
+            Script::Long => LONG_ENDS,
+            Script::Cut => &[(11, 14)],
+        }
+    }
+}
+
+/// The calls of the writer in a run.
+#[derive(Clone, Copy)]
+enum Calls {
+    ShortWhole,
+    ShortByTen,
+    ShortFlushed,
+    LongWhole,
+    LongByFive,
+    LongFlushed,
+}
+
+impl Calls {
+    /// For each call, what was written and what was flushed before it.
+    fn before(self) -> &'static [(usize, usize)] {
+        match self {
+            Calls::ShortWhole => SHORT_CALLS,
+            Calls::ShortByTen => SHORT_BY_TEN,
+            Calls::ShortFlushed => SHORT_FLUSHED,
+            Calls::LongWhole => LONG_CALLS,
+            Calls::LongByFive => LONG_BY_FIVE,
+            Calls::LongFlushed => LONG_FLUSHED,
+        }
+    }
+}
+
 /// The places at which streams fail in turn, the failing one being counted from 0.
 #[derive(Clone, Copy)]
 enum Fails {
-    /// So many reads. For each line stands where it ends in the script, and its answer in the output: before a read that
-    /// fails the lines that were read whole are answered.
-    Reads(u32, &'static [(usize, usize)]),
-    /// The calls of the writer, and for each what was written and what was flushed before it.
-    Calls(&'static [(usize, usize)]),
+    /// So many reads: before one that fails the lines that were read whole are answered.
+    Reads(usize),
+    Calls(Calls),
 }
 
 impl Fails {
     fn places(self) -> usize {
         match self {
-            Fails::Reads(reads, _) => reads as usize,
-            Fails::Calls(calls) => calls.len(),
+            Fails::Reads(reads) => reads,
+            Fails::Calls(calls) => calls.before().len(),
         }
     }
 
     /// What is written, and what is flushed, where the streams fail at a place and a read gives so many bytes.
-    fn before(self, place: usize, given: usize) -> (usize, usize) {
+    fn before(self, script: Script, place: usize, given: usize) -> Option<(usize, usize)> {
         match self {
-            Fails::Reads(_, ends) => {
+            Fails::Reads(_) => {
                 let read = given.saturating_mul(place);
-                let whole = ends.iter().rev().find(|it| it.0 <= read);
-                whole.map_or((0, 0), |it| (it.1, it.1))
+                let whole = script.ends().iter().rev().find(|it| it.0 <= read);
+                Some(whole.map_or((0, 0), |it| (it.1, it.1)))
             }
-            Fails::Calls(calls) => calls[place],
+            Fails::Calls(calls) => calls.before().get(place).copied(),
+        }
+    }
+
+    /// Streams that fail at a place, and the fault of a run over them.
+    fn streams(self, place: usize, given: usize, taken: usize) -> (Streams, Fault) {
+        let mut streams = Streams::of(given, taken);
+        match self {
+            Fails::Reads(_) => {
+                streams.failing_read = Some(place as u32);
+                (streams, Fault::Read)
+            }
+            Fails::Calls(_) => {
+                streams.failing_call = Some(place as u32);
+                (streams, Fault::Write)
+            }
         }
     }
 }
 
 /// A script that is given by so many bytes a read and written by so many a write, over streams that fail.
-type Row = (Example<'static>, usize, usize, Fails);
+type Row = (Script, usize, usize, Fails);
 
 /// With streams that fail at a place, what was done before it is written; and all, with none that fails.
 fn fails_at(rt: &(impl AllocGlobal + Abort), row: Row, place: usize) {
-    let (example, given, taken, fails) = row;
-    let mut streams = Streams::of(given, taken);
-    let fault = match fails {
-        Fails::Reads(..) => {
-            streams.failing_read = Some(place as u32);
-            Fault::Read
-        }
-        Fails::Calls(_) => {
-            streams.failing_call = Some(place as u32);
-            Fault::Write
-        }
-    };
-    let ends_well = place == fails.places();
-    let wanted = if ends_well { Ok(()) } else { Err(fault) };
+    let (script, given, taken, fails) = row;
+    let example = script.example();
     let whole = example.output.len();
-    let (written, flushed) = if ends_well {
-        (whole, whole)
-    } else {
-        fails.before(place, given)
+    let (streams, fault) = fails.streams(place, given, taken);
+    let (wanted, written, flushed) = match fails.before(script, place, given) {
+        Some((written, flushed)) if place < fails.places() => (Err(fault), written, flushed),
+        _ => (Ok(()), whole, whole),
     };
     let (end, writer) = run(rt, example, streams);
     assert_eq!(rt; end, wanted, "place {place} of {given} and {taken} bytes");
@@ -126,13 +184,6 @@ const LONG_ENDS: &[(usize, usize)] = &[
     (170, 96),
     (188, 110),
 ];
-
-/// A line that is cut by a read that fails has not run.
-const CUT: Example<'static> = Example {
-    board: Board::Main,
-    script: b"a cr 0 0 4\na cr 0 0",
-    output: b"a: 0x00011234\na: refused 401 bad line\n",
-};
 
 /// The whole script at one read, and an answer a write: three or ten answers, a flush before the end is read, and one at the end.
 const SHORT_CALLS: &[(usize, usize)] = &[(0, 0), (14, 0), (20, 0), (34, 0), (34, 34)];
@@ -235,19 +286,19 @@ const LONG_FLUSHED: &[(usize, usize)] = &[
 #[test]
 fn streams_fail_in_turn(rt: HostRuntime) -> Result<(), Fail> {
     let rows = [
-        (SHORT, 1, 128, Fails::Reads(36, SHORT_ENDS)),
-        (SHORT, 7, 128, Fails::Reads(6, SHORT_ENDS)),
-        (SHORT, 64, 128, Fails::Reads(2, SHORT_ENDS)),
-        (LONG, 1, 128, Fails::Reads(189, LONG_ENDS)),
-        (LONG, 7, 128, Fails::Reads(28, LONG_ENDS)),
-        (LONG, 4096, 128, Fails::Reads(2, LONG_ENDS)),
-        (CUT, 64, 128, Fails::Reads(2, &[(11, 14)])),
-        (SHORT, 64, 64, Fails::Calls(SHORT_CALLS)),
-        (SHORT, 64, 10, Fails::Calls(SHORT_BY_TEN)),
-        (SHORT, 1, 64, Fails::Calls(SHORT_FLUSHED)),
-        (LONG, 4096, 128, Fails::Calls(LONG_CALLS)),
-        (LONG, 4096, 5, Fails::Calls(LONG_BY_FIVE)),
-        (LONG, 1, 128, Fails::Calls(LONG_FLUSHED)),
+        (Script::Short, 1, 128, Fails::Reads(36)),
+        (Script::Short, 7, 128, Fails::Reads(6)),
+        (Script::Short, 64, 128, Fails::Reads(2)),
+        (Script::Long, 1, 128, Fails::Reads(189)),
+        (Script::Long, 7, 128, Fails::Reads(28)),
+        (Script::Long, 4096, 128, Fails::Reads(2)),
+        (Script::Cut, 64, 128, Fails::Reads(2)),
+        (Script::Short, 64, 64, Fails::Calls(Calls::ShortWhole)),
+        (Script::Short, 64, 10, Fails::Calls(Calls::ShortByTen)),
+        (Script::Short, 1, 64, Fails::Calls(Calls::ShortFlushed)),
+        (Script::Long, 4096, 128, Fails::Calls(Calls::LongWhole)),
+        (Script::Long, 4096, 5, Fails::Calls(Calls::LongByFive)),
+        (Script::Long, 1, 128, Fails::Calls(Calls::LongFlushed)),
     ];
     for row in rows {
         for place in 0..=row.3.places() {
