@@ -141,7 +141,7 @@ class Tests:
 
     def directives(self):
         """Each board of the examples names the schema, and each name leads to it."""
-        for path in sorted(TOP.glob("examples/**/*.toml")):
+        for path in sorted(it for it in TOP.glob("examples/**/*.toml") if it.name != "Cargo.toml"):
             self.holds(f"{path.name} names the schema", not path.read_text().startswith("#:schema ") and "it does not")
         for path in [*TOP.glob("examples/**/*.toml"), *TOP.glob("boards/**/*.toml")]:
             named = re.match(r"#:schema (.*)\n", path.read_text(errors="replace"))
