@@ -130,11 +130,11 @@ impl Fails {
         let mut streams = Streams::of(given, taken);
         match self {
             Fails::Reads(_) => {
-                streams.failing_read = Some(place as u32);
+                streams.failing_read = u32::try_from(place).ok();
                 (streams, Fault::Read)
             }
             Fails::Calls(_) => {
-                streams.failing_call = Some(place as u32);
+                streams.failing_call = u32::try_from(place).ok();
                 (streams, Fault::Write)
             }
         }
