@@ -31,9 +31,10 @@ PROVED = re.compile(r"rt: (\w+) (?:proved|is kept: .*)\n")
 COUNTS = re.compile(r"(\d+) passed, (\d+) failed\n")
 # the crates for `make bench` and `make fuzz`, which prove them
 OUTSIDE = ("bench_accesses", "test_landings", "test_lone_answers", "test_lone_guest")
-# what was made, and isn't copied, as the edits aren't
+# what was made, and isn't copied, as the edits aren't; nor are the links of the crates for Rust, at which `rt ci` stops
 LEFT_OUT = ("/.git", "/.prove", "/crates/*/out", "/crates/*/must-fail", "/library/rust/target", "/page/out", "/examples/*/out",
-            "/packages", "/corpus", *(f"/crates/{it}" for it in OUTSIDE))
+            "/packages", "/corpus", "/library/rust/sys/lib", "/library/rust/sys/pciguest.h", "/library/rust/tests/boards",
+            "/library/rust/tests/beside.toml", *(f"/crates/{it}" for it in OUTSIDE))
 
 
 class Run:
