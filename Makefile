@@ -37,10 +37,9 @@ pciguest:
 	@$(MAKE) --no-print-directory build
 
 # The gate: what the documents say of files and what runs tests and proofs, which takes a moment; the proofs of all that users
-# get, from nothing,
-# the tests and the programs, and beside them the edits; then, beside the edits that are left, the proved program as its user
-# runs it, the commands that the documents print, and each growth of memory refused in turn on the main board. Parts between
-# brackets run side by side. At the end stands how long each took.
+# get, from nothing, their tests and the programs, and beside them the edits; then, beside the edits that are left, the proved
+# program as its user runs it, the commands that the documents print, and each growth of memory refused in turn on the main
+# board. Parts between brackets run side by side. At the end stands how long each took.
 FIRST := [ tests/documents.sh tests/kit.sh tests/tools.sh tests/prove.sh ]
 PROGRAM := tests/program.sh tests/commands.sh "python3 tests/hostile/growths.py crates/pciguest/out/pciguest --quick --arrays crates/test_streams/out/test_streams"
 gate:
