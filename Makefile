@@ -1,9 +1,7 @@
 # What a newcomer needs: `make quick` and `make demo`, which take the kit alone, and `make test`, which also takes cc.
 SHELL := bash
 .SHELLFLAGS := -eu -o pipefail -c
-# how many crates are proved side by side
-JOBS := $(shell nproc)
-PROVE := tools/prove --jobs $(JOBS)
+PROVE := tools/prove
 
 # where `make install` puts the program and the library
 PREFIX := /usr/local
@@ -40,16 +38,16 @@ pciguest:
 # get, from nothing, their tests and the programs, and beside them the edits; then, beside the edits that are left, the proved
 # program as its user runs it, the commands that the documents print, and each growth of memory refused in turn on the main
 # board. Parts between brackets run side by side. At the end stands how long each took.
-FIRST := [ tests/documents.sh tests/kit.sh tests/tools.sh tests/prove.sh ]
+FIRST := [ tests/documents.sh tests/kit.sh tests/tools.sh ]
 PROGRAM := tests/program.sh tests/commands.sh "python3 tests/hostile/growths.py crates/pciguest/out/pciguest --quick --arrays crates/test_streams/out/test_streams"
 gate:
-	@tests/parts.py $(FIRST) 'tests/proofs.py -- [ $(PROGRAM) ]'
+	@tests/parts.py $(FIRST) '$(PROVE) --gate -- [ $(PROGRAM) ]'
 
 # The gate with the library for C, which is built beside the proofs, as its user links it, and what is installed and packed.
 PLACE := cp -f crates/pciguest/out/pciguest pciguest
 USERS := tests/library.sh tests/install.sh "tests/schema.py ./pciguest"
 test:
-	@tests/parts.py $(FIRST) 'tests/proofs.py --library -- "$(PLACE)" [ $(PROGRAM) $(USERS) ]'
+	@tests/parts.py $(FIRST) '$(PROVE) --gate --library -- "$(PLACE)" [ $(PROGRAM) $(USERS) ]'
 
 # All that stands outside the gate, whole. A part whose packages are missing here is skipped, and they are named.
 outside: pciguest library/libpciguest.a
@@ -69,7 +67,7 @@ build:
 
 # Leaves the proved library for C as library/libpciguest.a and library/libpciguest.so.0, beside library/pciguest.h.
 library:
-	@tools/library
+	@$(PROVE) --library
 
 # Puts the program, the library for C, Rust and Python, examples, manual, documents and completions below PREFIX, once they
 # are built:
@@ -107,7 +105,7 @@ bench: build
 	@bench/run crates/bench_accesses/out/bench_accesses crates/bench_accesses/out/boards
 	@echo; bench/lines crates/pciguest/out/pciguest crates/bench_accesses/out/boards
 	@echo; bench/audits crates/pciguest/out/pciguest crates/bench_accesses/out/boards
-	@echo; tools/library
+	@echo; $(PROVE) --library
 	@$(CC) -O2 -Ilibrary -o crates/pciguest_c/out/calls bench/calls.c library/libpciguest.a
 	@bench/calls crates/pciguest_c/out/calls boards/main.toml
 	@echo; $(CC) -O2 -Ilibrary -o crates/pciguest_c/out/images bench/images.c library/libpciguest.a
@@ -221,10 +219,10 @@ page: pciguest
 	@page/build/assemble page/out/pciguest.wasm pciguest.html
 	@echo 'pciguest.html: open it in a browser'
 
-# The module takes some minutes, and is made once for each library that is proved.
-page/out/pciguest.wasm: crates/pciguest_c/out/libpciguest_c.a page/build/module page/build/wasm page/build/heap.c Makefile
+# The module is made once for each library that is built, of the LLVM module that its build leaves.
+page/out/pciguest.wasm: crates/pciguest_c/out/libpciguest_c.a page/build/wasm page/build/heap.c Makefile
 	@mkdir -p page/out
-	@page/build/module pciguest_c $@ $(EXPORTS)
+	@page/build/wasm crates/pciguest_c/out/pciguest_c.bc $@ $(EXPORTS)
 
 # The page over a module for which nothing was proved, in some minutes, for who works on the page: page/out/unproved.html,
 # which says so at its top. `make page` makes the one to hand out.
@@ -254,6 +252,6 @@ try:
 	@cd crates/pciguest && rt try -- demo < ../../boards/demo.script
 
 clean:
-	rm -rf crates/*/out page/out library/rust/target .prove corpus pciguest pciguest.html library/libpciguest.a library/libpciguest.so.0
+	rm -rf crates/*/out page/out library/rust/target corpus pciguest pciguest.html library/libpciguest.a library/libpciguest.so.0
 	rm -rf packages pciguest-*-x86_64-linux.tar.gz
 	@for example in qemu kvm; do $(MAKE) --no-print-directory -C examples/$$example clean; done

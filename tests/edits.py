@@ -404,7 +404,6 @@ def tries_below(top, folders):
     """The edits in these folders, tried over what is proved of the crates below a folder."""
     os.chdir(top)
     rt = kit.load()
-    kit.find_once(rt.rtlib.Crate)
     os.environ.pop(rt.rtlib.ALLOW_C, None)
     rt.rtlib.guarded()
     crates = {it.name: it for it in rt.rtlib.crates_below(os.getcwd())}
