@@ -87,6 +87,9 @@ other_rows() {
 }
 holds 'crates that docs/ARCHITECTURE.md lacks, or that are gone' other_rows
 
+# ---- each crate's code begins with its layer and its neighbours, as crates.txt has them
+holds 'crates that tell others (tests/layers.py --write)' tests/layers.py
+
 # ---- the list of documents has each
 unlisted() {
   local file
@@ -175,7 +178,7 @@ other_kit() { grep -qxF "Proved with \`$(rt version)\`." README.md || echo "READ
 
 # ---- the crates of the kit that README names as trusted are those on which crates.txt has something stand
 other_kit_crates() {
-  diff <(sed 's/^[^:]*://' crates.txt | tr ' ' '\n' | grep -vE '^(|core|std_.*)$' | sort -u |
+  diff <(sed '/^#/d; s/^[^:]*://' crates.txt | tr ' ' '\n' | grep -vE '^(|core|std_.*)$' | sort -u |
       comm -23 - <(sed 's/[: ].*//' crates.txt | sort)) \
     <(grep '^The Rattle toolchain' README.md | grep -o '`[a-z_]*`' | tr -d '`' | sort)
 }

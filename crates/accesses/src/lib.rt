@@ -1,3 +1,5 @@
+//! Layer: guests. Below: model_guests, paths, headers. Above: monitor, lines, board_file, report.
+//!
 //! What guests and the host ask of a board, what they are answered, and the guests of a board.
 #![tactic(auto)]
 

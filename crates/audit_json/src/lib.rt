@@ -1,3 +1,5 @@
+//! Layer: findings. Below: board_audit, report. Above: simulation.
+//!
 //! An audit as JSON on one line: all that is wrong in a board's registers as they stand, each problem with its witness.
 #![tactic(auto)]
 

@@ -1,3 +1,5 @@
+//! Layer: findings. Below: board_audit, report. Above: ready_text, why_text.
+//!
 //! The text of an audit: a line for each problem of a board's registers as they stand, and a last line that
 //! counts them.
 #![tactic(auto)]

@@ -1,3 +1,5 @@
+//! Layer: tests. Below: board_file, monitor.
+//!
 //! What one access of a board and one event of a guest cost: `bench_accesses BOARD` prints it as a row of
 //! numbers, in nanoseconds, and with no word it prints nothing.
 #![tactic(auto)]

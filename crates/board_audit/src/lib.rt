@@ -1,3 +1,5 @@
+//! Layer: findings. Below: model_audit, host_bridge. Above: board_ready, board_why, audit_text, audit_json.
+//!
 //! An audit of a board's registers as they stand: which open regions are not forwarded, which agents
 //! of one bus answer one address, and which functions no cycle finds.
 #![tactic(auto)]

@@ -1,3 +1,5 @@
+//! Layer: files. Below: host_bridge, accesses. Above: diagnostics, session.
+//!
 //! Board files: TOML documents that declare the functions of a board, the addresses that set-up may
 //! give out, and guests.
 #![tactic(auto)]

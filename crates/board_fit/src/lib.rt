@@ -1,3 +1,5 @@
+//! Layer: files. Below: window_packing, diagnostics. Above: simulation.
+//!
 //! What is said of a board file that is accepted: whether its board can be set up, how much of each aperture it
 //! takes and what may be a mistake in the file, or why it can't be set up; with the lines of the file.
 #![tactic(auto)]

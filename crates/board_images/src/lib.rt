@@ -1,3 +1,5 @@
+//! Layer: guests. Below: host_bridge, image_bytes. Above: machine_images.
+//!
 //! The functions of a board as bytes of a machine's image: what is declared of each, and what the handoff holds of
 //! it. They are written into a buffer, and bytes are compared with them where they lie. No call takes memory.
 #![tactic(auto)]

@@ -1,3 +1,5 @@
+//! Layer: findings. Below: model_ready, board_audit. Above: ready_text, monitor.
+//!
 //! What a board lacks that is to be driven, as its registers stand: regions that are closed, outside the
 //! apertures or prefetched where they mustn't be, and bridges that hold another Primary Bus Number.
 #![tactic(auto)]

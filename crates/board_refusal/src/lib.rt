@@ -1,3 +1,5 @@
+//! Layer: files. Below: diagnostics. Above: simulation.
+//!
 //! What is told of a board file that is refused: a line for each entry that breaks its first failing check, or a
 //! later one that waits for none of these, with its line in the file, and why.
 #![tactic(auto)]

@@ -1,3 +1,5 @@
+//! Layer: board. Below: paths, headers. Above: host_bridge, function_images.
+//!
 //! The functions of a board as a tree of buses: configuration cycles, forwarding and claims.
 #![tactic(auto)]
 

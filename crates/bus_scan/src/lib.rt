@@ -1,3 +1,5 @@
+//! Layer: set-up. Below: model_set_up, host_bridge. Above: window_packing.
+//!
 //! Enumeration by configuration cycles alone: the functions of a board with their bus numbers, and the
 //! sizes of their regions (PCI Local Bus 3.0, chapters 6.2.1 and 6.2.5.1; PCI-to-PCI Bridge
 //! Architecture 1.2, chapter 3.2.5).

@@ -1,3 +1,5 @@
+//! Layer: program. Below: lists. Above: simulation.
+//!
 //! The command line: what the words that the program is given ask for, and which of them it doesn't take.
 #![tactic(auto)]
 

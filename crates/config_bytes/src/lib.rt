@@ -1,3 +1,5 @@
+//! Layer: board. Below: model_registers. Above: headers.
+//!
 //! The cells of configuration space and of regions, and files of them (PCI Local Bus 3.0, chapter 6).
 #![tactic(auto)]
 

@@ -1,3 +1,5 @@
+//! Layer: tests. Below: host_bridge.
+//!
 //! Which devices answer, by the host bridge's contracts alone: an example of a crate of one's own.
 #![tactic(auto)]
 

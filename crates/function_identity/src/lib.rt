@@ -1,3 +1,5 @@
+//! Layer: board. Below: model_handoff, host_bridge. Above: monitor.
+//!
 //! What a function of a board is, by which number it is reached, as the registers stand, and the text of its
 //! path. No answer takes memory, and nothing changes.
 #![tactic(auto)]

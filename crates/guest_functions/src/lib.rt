@@ -1,3 +1,5 @@
+//! Layer: guests. Below: paths, headers. Above: function_images.
+//!
 //! A function as a guest sees it: the registers of which the guest has its own copies.
 #![tactic(auto)]
 

@@ -1,3 +1,5 @@
+//! Layer: findings. Below: monitor, why_text. Above: pciguest_c.
+//!
 //! Why an access of a guest finds what it finds, or nobody, and the text of that: told of the guest's own functions and
 //! address latch alone.
 #![tactic(auto)]

@@ -1,3 +1,5 @@
+//! Layer: guests. Below: model_image_bytes, headers. Above: function_images, board_images.
+//!
 //! The bytes of the functions of a guest's image, where they lie: declarations are written into a
 //! buffer, and bytes are compared with them. No call takes memory.
 #![tactic(auto)]

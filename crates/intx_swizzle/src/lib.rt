@@ -1,3 +1,5 @@
+//! Layer: set-up. Below: paths. Above: report.
+//!
 //! Where an interrupt pin of a function reaches bus 0.
 #![tactic(auto)]
 

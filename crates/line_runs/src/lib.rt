@@ -1,3 +1,5 @@
+//! Layer: lines. Below: streams, lines. Above: script.
+//!
 //! Runs of lines over anything that answers them, piece by piece as they are read.
 #![tactic(auto)]
 

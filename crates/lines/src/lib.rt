@@ -1,3 +1,5 @@
+//! Layer: lines. Below: model_lines, accesses. Above: line_runs.
+//!
 //! Lines of scripts and of firmware: what they mean, and the lines that answer them.
 #![tactic(auto)]
 

@@ -1,3 +1,5 @@
+//! Layer: guests. Below: board_images, monitor. Above: pciguest_c.
+//!
 //! Images of whole machines: the board, who has which of its functions, and what they hold. They are written into a
 //! buffer, and bytes are compared with a machine where they lie. No call takes memory.
 #![tactic(auto)]

@@ -1,3 +1,5 @@
+//! Layer: definitions. Below: model_registers. Above: model_set_up, model_guests, paths.
+//!
 //! What a PCI board is, as definitions, and laws about it: paths, bus numbers, configuration cycles, windows,
 //! claims and ports.
 #![tactic(auto)]

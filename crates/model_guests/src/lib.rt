@@ -1,3 +1,5 @@
+//! Layer: definitions. Below: model_board. Above: model_audit, accesses.
+//!
 //! What guests, their scripts and replies are, and what happens to their functions at the devices, as definitions, and
 //! laws about them.
 #![tactic(auto)]

@@ -1,3 +1,5 @@
+//! Layer: definitions. Below: model_images. Above: image_bytes.
+//!
 //! Images of guests as bytes, as definitions, and laws about them: how they are written, read and
 //! loaded.
 #![tactic(auto)]

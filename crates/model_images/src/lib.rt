@@ -1,3 +1,5 @@
+//! Layer: definitions. Below: model_handoff. Above: model_image_bytes.
+//!
 //! Images of guests, by which a guest is saved, loaded and carried elsewhere, as definitions, and
 //! laws about them.
 #![tactic(auto)]

@@ -1,3 +1,5 @@
+//! Layer: definitions. Below: model_why. Above: lines.
+//!
 //! Lines over a board, as definitions: what firmware asks through the host bridge, and sessions, which are firmware's
 //! lines, among them those that ask for an audit of the registers as they stand there, for readiness or why something
 //! finds what it finds, and the one that hands the board to its guests. Laws about them, and about what guests see of a

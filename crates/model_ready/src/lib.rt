@@ -1,3 +1,5 @@
+//! Layer: definitions. Below: model_audit. Above: model_why, board_ready.
+//!
 //! Whether a board in any register state is ready to be driven: definitions, and laws about them. Is each region open,
 //! within the apertures and fetched only as it may be, and does each bridge know its bus?
 #![tactic(auto)]

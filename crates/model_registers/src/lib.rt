@@ -1,3 +1,5 @@
+//! Layer: definitions. Below: lists. Above: model_board, config_bytes, bars.
+//!
 //! Cells, register files and register tables of PCI functions, as definitions, and laws about them.
 #![tactic(auto)]
 

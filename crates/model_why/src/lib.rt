@@ -1,3 +1,5 @@
+//! Layer: definitions. Below: model_ready, model_handoff. Above: model_lines, board_why.
+//!
 //! Why an address or a configuration number finds what it finds, in any register state: definitions, and laws about them.
 #![tactic(auto)]
 

@@ -1,3 +1,5 @@
+//! Layer: guests. Below: function_identity, board_ready, claim_table, function_images, accesses. Above: guest_why, machine_images, script.
+//!
 //! The monitor, which gives functions of a board to guests.
 //!
 //! Guest 0 reads the identity of the function in its slot 0, and the host reads the board's memory:

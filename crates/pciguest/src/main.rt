@@ -1,3 +1,5 @@
+//! Layer: program. Below: simulation.
+//!
 //! The program: a board, its guests and a script of their accesses.
 #![tactic(auto)]
 

@@ -1,3 +1,5 @@
+//! Layer: program. Below: machine_images, guest_why, simulation.
+//!
 //! The library for C: a machine of a board file, or its board at reset, behind a handle, and what each is
 //! asked.
 #![tactic(auto)]

@@ -1,3 +1,5 @@
+//! Layer: findings. Below: board_ready, audit_text. Above: session.
+//!
 //! The text of what a board lacks that is to be driven: a line for each problem of its registers as they stand and for
 //! each lack, and a last line that counts both.
 #![tactic(auto)]

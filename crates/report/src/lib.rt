@@ -1,3 +1,5 @@
+//! Layer: program. Below: model_handoff, window_packing, intx_swizzle, accesses. Above: audit_text, audit_json, report_json.
+//!
 //! The report of a board that is set up: its functions with their regions, interrupts and windows, and
 //! its guests.
 #![tactic(auto)]

@@ -1,3 +1,5 @@
+//! Layer: lines. Below: monitor, line_runs. Above: session.
+//!
 //! Runs of scripts over the monitor, piece by piece.
 #![tactic(auto)]
 

@@ -1,3 +1,5 @@
+//! Layer: program. Below: script, ready_text, why_text, board_file. Above: simulation.
+//!
 //! Sessions over a board: firmware's lines from reset on, among them those that ask for an audit, for readiness or why
 //! something finds what it finds, and the handover of the board to its guests, whose script the lines are from there on.
 //!

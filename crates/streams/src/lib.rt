@@ -1,3 +1,5 @@
+//! Layer: lines. Above: line_runs.
+//!
 //! Where bytes come from and where they go, with a count of the failures of both, and a writer that
 //! keeps bytes back.
 #![tactic(auto)]

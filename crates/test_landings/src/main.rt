@@ -1,3 +1,5 @@
+//! Layer: tests. Below: simulation.
+//!
 //! `test_landings BOARD` compares each access of a guest to its regions with an access to the place where set-up
 //! put the region, and writes how many differ. With no word it writes nothing.
 #![tactic(auto)]

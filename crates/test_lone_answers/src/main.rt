@@ -1,3 +1,5 @@
+//! Layer: tests. Below: test_lone_guest.
+//!
 //! What lone guests answer to a script: `test_lone_answers GUESTS < SCRIPT`, where GUESTS is a file of
 //! guests with their endpoints. It is for random tests alone, and with no word it prints nothing.
 //!

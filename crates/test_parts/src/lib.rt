@@ -1,3 +1,5 @@
+//! Layer: tests. Below: session.
+//!
 //! Tests of what only calls can show of the crates below a session: what a refused scan leaves, which no clause pins, the
 //! examples in the headings of crates, and worked calls: sizes that masks tell, a host from reset on, endpoints by their
 //! paths, and claims; and the board of tests.

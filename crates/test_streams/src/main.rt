@@ -1,3 +1,5 @@
+//! Layer: tests. Below: simulation, test_parts.
+//!
 //! Streams in memory: tests of what only calls can show over them, as streams that fail, reads in pieces, what a writer
 //! keeps back, bytes of a file, and where values stand in the text of a document. And a program: `test_streams BOARD SCRIPT`
 //! writes what the script writes over the board, read from an array and written into one. With no word it writes nothing.

@@ -1,3 +1,5 @@
+//! Layer: set-up. Below: bus_scan. Above: claim_table, board_fit, report.
+//!
 //! Placement: where each region and each bridge's windows stand, and the registers that say so (PCI
 //! Local Bus 3.0, chapter 6.2.5; PCI-to-PCI Bridge Architecture 1.2, chapter 3.2.5).
 //!
