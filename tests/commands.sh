@@ -4,7 +4,7 @@
 # The documents are those of the repository, or those of users in the folder in which a tarball was unpacked.
 # In a block, a line '$ COMMAND' is run in a folder that has the program as ./pciguest and the repository's folders, and
 # the lines up to the next one are what has to come; `...` as the last of them leaves the rest open. A block under a line
-# 'Save this as `NAME`' is saved there first. A block of Rust or C stands, line by line, in the file that the text above links
+# 'Save this as `NAME`' is saved there first. A block of Rust or C stands, line by line, in the file that the text above names
 # last. Of `make` the target alone is looked for. In the manual a literal display is a block, and the program is called by
 # its name alone. The last line is 'N passed, M failed'.
 set -u
@@ -89,7 +89,7 @@ document() {
       text+=$line$'\n'
     else
       [[ $line =~ 'Save this as `'([a-z_.]+)'`' ]] && save=${BASH_REMATCH[1]}
-      [[ $line =~ .*']('(\.\./)?([a-z_/]+\.(rt|c))')' ]] && file=${BASH_REMATCH[2]}
+      [[ $line =~ .*'`'([a-z_/]+\.(rt|c))'`' ]] && file=${BASH_REMATCH[1]}
     fi
   done < <(text_of "$top/$1")
 }
