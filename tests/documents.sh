@@ -38,13 +38,13 @@ bare_specs() {
 listed() { sed -n 's/^## \(model_[a-z_]*\): .*/\1/p' "$index" | sort; }
 section() { awk -v head="## $1: " '/^## / { inside = index($0, head) == 1; next } inside' "$index"; }
 other_crates() { diff <(cd crates && ls -d model_*) <(listed); }
-# of each crate a row for each file that is linked, with the words after it
+# of each crate the files that are named, each with the words after it
 strange_words() {
   local crate file word words
   for crate in $(listed); do
-    section "$crate" | grep '^- ' | tr ';' '\n' | while read -r row; do
-      file=$(sed -n 's/.*](\.\.\/\([^)]*\)): .*/\1/p' <<< "$row") words=${row#*): }
-      [[ $file == crates/$crate/specs/* ]] || echo "$crate: no file in '$row'"
+    section "$crate" | sed -n 's/^- //p' | tr ';' '\n' | while read -r row; do
+      file=crates/$crate/specs/$(sed -n 's/^`\([A-Za-z]*\.antt\)`: .*/\1/p' <<< "$row") words=${row#*: }
+      [ -f "$file" ] || { echo "$crate: no file in '$row'"; continue; }
       for word in $(grep -o '`[^`]*`' <<< "$words" | tr -d '`'); do
         heading "$file" | grep -qE "(^|[ ,(])$word([ ,)]|\$)" || echo "$file: $word"
       done
