@@ -208,15 +208,8 @@ else
 fi
 
 # ---- the lines that docs/LIBRARY.md prints, in a program: its firmware reads what the region on the board begins with,
-# and an empty file is refused. Blocks that are programs themselves come after it
-# blocks LANGUAGE PATTERN WANTED: the blocks of a language in which the pattern is found, or with 0 is not
-blocks() {
-  awk -v begin="\`\`\`$1" -v pattern="$2" -v wanted="$3" '
-    $0 == begin { on = 1; text = ""; next }
-    /^```/ { if (on && (text ~ pattern) == wanted) printf "%s", text; on = 0 }
-    on { text = text $0 "\n" }' "$top/docs/LIBRARY.md"
-}
-blocks c 'int main' 0 > lines.c
+# and an empty file is refused
+awk '/^```/ { on = $0 == "```c"; next } on' "$top/docs/LIBRARY.md" > lines.c
 {
   echo '#include <stdio.h>'
   grep '^#include' lines.c
@@ -228,25 +221,23 @@ holds 'the lines of LIBRARY.md are built' build printed printed.c
 holds 'the lines of LIBRARY.md' test "$(./printed < "$board")" = '0 a5a5a5a5'
 holds 'the lines of LIBRARY.md over an empty file' test "$(./printed < /dev/null)" = '102 0'
 
-# ---- its program that saves a guest, restores it, and lets it go on over another board
-blocks c 'pciguest_reset_guest' 1 > migrate.c
-holds 'the program of LIBRARY.md that migrates a guest is built' build migrate migrate.c
+# ---- the example that saves a guest, restores it, and lets it go on over another board
+holds 'the example that migrates a guest is built' build migrate "$top/examples/c/migrate.c"
 migrated=$(printf '0xffffffff\n0x12345678')
-holds 'the program of LIBRARY.md that migrates a guest' \
+holds 'the example that migrates a guest' \
   test "$(./migrate "$board" "$top/tests/rows/other_places.toml")" = "$migrated"
 if [ -e "$top/library/libpciguest.so.0" ] && command -v python3 > /dev/null; then
-  blocks python reset_guest 1 > migrate.py
   holds 'the same in Python' test "$(env PYTHONPATH="$top/library/python" PYTHONDONTWRITEBYTECODE=1 \
-    PCIGUEST_LIBRARY_DIR="$top/library" python3 migrate.py "$board" "$top/tests/rows/other_places.toml")" = "$migrated"
+    PCIGUEST_LIBRARY_DIR="$top/library" python3 "$top/examples/python/migrate.py" "$board" \
+    "$top/tests/rows/other_places.toml")" = "$migrated"
 fi
 
-# ---- its program that saves a whole machine
-blocks c 'pciguest_save_all' 1 > whole.c
-holds 'the program of LIBRARY.md that saves a machine is built' build whole whole.c
-holds 'it has twenty lines' test "$(wc -l < whole.c)" -le 20
-holds 'the program of LIBRARY.md that saves a machine' test "$(./whole < "$board")" = 0x0b
+# ---- the example that saves a whole machine
+holds 'the example that saves a machine is built' build whole "$top/examples/c/whole_machine.c"
+holds 'it has twenty lines' test "$(grep -vc '^/\*' "$top/examples/c/whole_machine.c")" -le 20
+holds 'the example that saves a machine' test "$(./whole < "$board")" = 0x0b
 
-# ---- the rows of functions that it prints
+# ---- the rows of functions that LIBRARY.md prints
 {
   printf '#include <stdio.h>\n#include "pciguest.h"\nstatic char board[65536]; int main(void) {\n'
   echo 'struct pciguest machine = PCIGUEST_INIT; pciguest_new(&machine, board, fread(board, 1, sizeof board, stdin));'
