@@ -13,7 +13,7 @@ INSTALL := PREFIX='$(PREFIX)' DESTDIR='$(DESTDIR)' LIBDIR='$(LIBDIR)' tools/inst
 BOARD := boards/main.toml
 
 .PHONY: demo list lspci has-lspci has-qemu has-kvm has-firmware has-kit has-peers gate test edits build library install \
-  uninstall dist wheel deb deb-test bench bench-peers hostile fuzz qemu kvm firmware kit corpus peers page browse outside try try-page quick clean
+  uninstall dist wheel cargo deb deb-test bench bench-peers hostile fuzz qemu kvm firmware kit corpus peers page browse outside try try-page quick clean
 
 # Proves and builds the program, and runs a script over the demo board.
 demo: build
@@ -87,6 +87,10 @@ dist: build library corpus
 # A wheel for Python, in packages, with the library in it. It takes pip, setuptools and wheel.
 wheel: library
 	@tools/wheel packages
+
+# The crates for Rust as cargo packs them, in packages, with the library in them.
+cargo: library
+	@tools/cargo packages
 
 # Packages for Debian, in packages; and whether they can be installed, used and removed in a root of their own. It takes
 # dpkg-deb, and the test root's rights, lintian and debootstrap too.

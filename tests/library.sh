@@ -171,9 +171,12 @@ offline() { env -u PCIGUEST_LIBRARY_DIR -C "$1" CARGO_HOME="$room/cargo" CARGO_T
 if cargo --version > /dev/null 2>&1; then
   mkdir -p outside/.cargo outside/bare/src
   echo 'patch.crates-io.pciguest-sys.path = "pciguest-sys"' > outside/.cargo/config.toml
+  holds 'Rust: the tests read their files in the repository too' \
+    offline "$top/library/rust" target cargo check --offline --quiet --workspace --tests
+  holds 'Rust: the crates are packed' offline "$top" target tools/cargo "$room/packed"
   for crate in pciguest-sys pciguest; do
-    holds "Rust: $crate is packed" offline "$top/library/rust" packed cargo package --offline --quiet --allow-dirty -p "$crate"
-    tar -C outside -xzf packed/package/"$crate"-[0-9]*.crate && mv outside/"$crate"-[0-9]* "outside/$crate"
+    holds "Rust: $crate is packed" tar -C outside -xzf packed/"$crate"-[0-9]*.crate
+    mv outside/"$crate"-[0-9]* "outside/$crate"
     holds "Rust: the tests of $crate" offline "outside/$crate" target cargo test --offline --quiet
   done
   cp "$top/tests/library/bare.rs" outside/bare/src/main.rs

@@ -31,17 +31,17 @@ fn main() {
     println!("cargo:rustc-link-lib=static=pciguest");
 }
 
-/// The folder that is named, or the first that has an archive: that of the crate, in which a link of the repository leads to
-/// what `make library` leaves; that of what is unpacked or installed with the crate; and that of what is installed elsewhere.
+/// The folder that is named, or the first that has an archive: that of the crate; that in which `make library` leaves it in the
+/// repository; that of what is unpacked or installed with the crate; and that of what is installed elsewhere.
 fn folder() -> PathBuf {
     if let Some(folder) = env::var_os("PCIGUEST_LIBRARY_DIR") {
         return PathBuf::from(folder);
     }
     let here = Path::new(env!("CARGO_MANIFEST_DIR"));
-    let beside = ["lib", "../../../../lib"].map(|folder| here.join(folder));
+    let beside = ["lib", "../..", "../../../../lib"].map(|folder| here.join(folder));
     let mut usual = beside.into_iter().chain(installed());
     let found = usual.find(|folder| folder.join(ARCHIVE).is_file());
-    found.unwrap_or_else(|| here.join("lib"))
+    found.unwrap_or_else(|| here.join("../.."))
 }
 
 /// The folder that pkg-config tells, if there is one.

@@ -2,7 +2,7 @@
 
 use pciguest::{At, Error, Guest, HostAt, Machine, Part};
 
-const BOARD: &str = include_str!("boards/main.toml");
+const BOARD: &str = include_str!("../../../boards/main.toml");
 const NAMES: [&str; 2] = ["a", "b"];
 
 /// xorshift64

@@ -3,9 +3,9 @@
 use pciguest::{Board, BoardProblem, Error, HostAt, Machine, Ranges, Space};
 use std::thread;
 
-const BOARD: &str = include_str!("boards/main.toml");
-const LARGEST: &str = include_str!("boards/largest.toml");
-const IO_POOL: &str = include_str!("boards/refused/io_pool.toml");
+const BOARD: &str = include_str!("../../../boards/main.toml");
+const LARGEST: &str = include_str!("../../../boards/largest.toml");
+const IO_POOL: &str = include_str!("../../../boards/refused/io_pool.toml");
 
 fn config(bus: u8, device: u8, offset: u64) -> HostAt {
     HostAt::Config {
@@ -191,7 +191,10 @@ fn a_line_hands_the_board_over() -> Result<(), Error> {
     // the machine is as its guests left it
     assert_eq!(board.run_line("a cw 1 4 2 2")?.as_deref(), Some("a: ok"));
     let mut machine = board.into_guests()?;
-    assert_eq!(machine.run_line("a cr 1 4 2")?.as_deref(), Some("a: 0x0002"));
+    assert_eq!(
+        machine.run_line("a cr 1 4 2")?.as_deref(),
+        Some("a: 0x0002")
+    );
     Ok(())
 }
 
@@ -200,10 +203,16 @@ fn a_long_reply_comes_whole() -> Result<(), Error> {
     let mut board = Board::new(BOARD)?;
     let wanted = board.audit()?.text;
     assert!(wanted.len() > 48);
-    assert_eq!(board.run_line("host audit")?.as_deref(), wanted.strip_suffix('\n'));
+    assert_eq!(
+        board.run_line("host audit")?.as_deref(),
+        wanted.strip_suffix('\n')
+    );
     let mut largest = Board::new(LARGEST)?;
     let wanted = largest.audit()?.text;
-    assert_eq!(largest.run_line("host audit")?.as_deref(), wanted.strip_suffix('\n'));
+    assert_eq!(
+        largest.run_line("host audit")?.as_deref(),
+        wanted.strip_suffix('\n')
+    );
     board.write(config(0, 2, 0x18), 4, 0x0001_0100)?;
     assert_eq!(board.run_line("host audit")?.as_deref(), Some("audit: ok"));
     Ok(())

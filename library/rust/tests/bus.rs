@@ -3,7 +3,7 @@
 use pciguest::{At, Error, GuestBus, Machine, SlotConfig, Space};
 use std::sync::{Arc, Mutex};
 
-const BOARD: &str = include_str!("boards/main.toml");
+const BOARD: &str = include_str!("../../../boards/main.toml");
 
 fn memory(address: u64) -> At {
     At::Memory { address }

@@ -2,7 +2,7 @@
 
 use pciguest::{Board, Error, Machine};
 
-const BOARD: &str = include_str!("boards/main.toml");
+const BOARD: &str = include_str!("../../../boards/main.toml");
 
 /// The memory of this process that is resident, in bytes, on pages of 4 KB.
 fn resident() -> u64 {

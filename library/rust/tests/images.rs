@@ -3,19 +3,19 @@
 
 use pciguest::{Error, Guest, Machine};
 
-const BOARD: &str = include_str!("boards/main.toml");
-const SERVER: &str = include_str!("boards/server.toml");
+const BOARD: &str = include_str!("../../../boards/main.toml");
+const SERVER: &str = include_str!("../../../boards/server.toml");
 const SCRIPTS: [(&str, &str); 7] = [
-    (BOARD, include_str!("boards/guest.script")),
-    (BOARD, include_str!("boards/two_guests.script")),
-    (BOARD, include_str!("boards/raise.script")),
-    (BOARD, include_str!("boards/host.script")),
-    (BOARD, include_str!("boards/ports.script")),
-    (BOARD, include_str!("boards/move.script")),
-    (SERVER, include_str!("boards/server.script")),
+    (BOARD, include_str!("../../../boards/guest.script")),
+    (BOARD, include_str!("../../../boards/two_guests.script")),
+    (BOARD, include_str!("../../../boards/raise.script")),
+    (BOARD, include_str!("../../../boards/host.script")),
+    (BOARD, include_str!("../../../boards/ports.script")),
+    (BOARD, include_str!("../../../boards/move.script")),
+    (SERVER, include_str!("../../../boards/server.script")),
 ];
 /// What stands beside the functions of a board that are moved behind two bridges.
-const BESIDE: &str = include_str!("beside.toml");
+const BESIDE: &str = include_str!("../../../tests/library/beside.toml");
 
 /// The number by which a call is refused.
 fn number<T>(answer: Result<T, Error>) -> u32 {

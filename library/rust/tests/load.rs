@@ -6,7 +6,7 @@ use std::path::{Path, PathBuf};
 
 fn board(name: &str) -> PathBuf {
     Path::new(env!("CARGO_MANIFEST_DIR"))
-        .join("tests/boards")
+        .join("tests/../../../boards")
         .join(name)
 }
 

@@ -2,7 +2,7 @@
 
 use pciguest::{At, Bar, Error, Guest, Hit, HostAt, Machine, Part, Ranges, Space, Window};
 
-const BOARD: &str = include_str!("boards/main.toml");
+const BOARD: &str = include_str!("../../../boards/main.toml");
 
 fn config(slot: u64, offset: u64) -> At {
     At::Config { slot, offset }
@@ -389,7 +389,7 @@ fn boards_are_refused() {
     assert_eq!(refused(b"x").to_string(), "101 not TOML");
     assert_eq!(refused(b"\xff").to_string(), "101 not TOML");
     assert!(matches!(refused(b""), Error::BoardFile(refusal) if refusal.number() == 102));
-    let io_pool = include_bytes!("boards/refused/io_pool.toml");
+    let io_pool = include_bytes!("../../../boards/refused/io_pool.toml");
     assert!(
         matches!(refused(io_pool), Error::SetUp(refusal) if refusal.to_string() == "203 I/O pool")
     );

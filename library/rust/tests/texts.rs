@@ -6,7 +6,7 @@ use std::fs;
 use std::path::{Path, PathBuf};
 
 fn folder() -> PathBuf {
-    Path::new(env!("CARGO_MANIFEST_DIR")).join("tests/boards")
+    Path::new(env!("CARGO_MANIFEST_DIR")).join("tests/../../../boards")
 }
 
 /// Each board of the folder, and each that is refused: its name and its bytes.

@@ -1,7 +1,7 @@
 //! The crate and the library are of the version of the header. What the crate declares is written from there by
 //! `tools/bindings`, which `tests/tools.sh` looks after.
 
-const HEADER: &str = include_str!("../pciguest.h");
+const HEADER: &str = include_str!("../../../pciguest.h");
 
 #[test]
 fn version_is_that_of_the_header() {
