@@ -68,8 +68,9 @@ holds 'chapters of the page that no file names' strange_chapters
 # ---- links, and the headings that they name
 anchors() { grep '^#' "$1" | sed 's/^#* //' | tr '[:upper:]' '[:lower:]' | sed 's/[^a-z0-9 _-]//g; s/ /-/g'; }
 links() { grep -o '](\([^)]*\))' "$1" | sed 's/^](\(.*\))$/\1/' | grep -v '^[a-z]*://'; }
+# broken_links DOCUMENT..
 broken_links() {
-  for document in "${documents[@]}"; do
+  for document in "$@"; do
     links "$document" | while read -r link; do
       target=$document
       [ "${link%%#*}" = '' ] || target=$(dirname "$document")/${link%%#*}
@@ -78,7 +79,16 @@ broken_links() {
     done
   done
 }
-holds 'links that lead nowhere' broken_links
+# the documents, boards and examples as a tarball has them
+broken_in_tarball() {
+  local file
+  PREFIX='' DESTDIR='' tools/install --list | sed -n 's|^\([^ ]*\) /share/doc/pciguest/.*|\1|p' |
+    while read -r file; do install -D -m 644 "$file" "$room/packed/$file"; done
+  tools/examples "$room/packed"
+  (cd "$room/packed" && shopt -s globstar && broken_links **/*.md)
+}
+holds 'links that lead nowhere' broken_links "${documents[@]}"
+holds 'links of a tarball that lead nowhere' broken_in_tarball
 
 # ---- each crate has its row in docs/ARCHITECTURE.md
 other_rows() {
