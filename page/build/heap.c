@@ -1,6 +1,6 @@
 /* What the module needs of a C library: blocks of memory, and arithmetic on 128 bits. Nothing here is proved.
- * A block is asked for, resized and given back by one thread; those given back are kept in a list, and the first
- * one that is large enough, and not four times too large, is used again. */
+ * A block is asked for, resized and given back by one thread. Sizes are rounded up to four between each power of two and
+ * the next, and a block that is given back is used again for its size. */
 
 typedef unsigned long word;
 typedef unsigned char byte;
@@ -21,9 +21,23 @@ enum { UNIT = 16, PAGE = 65536, PAGES_AT_ONCE = 16 };
 
 extern byte __heap_base;
 static byte *top;
-static struct head *given_back;
+static struct head *given_back[256];
 
 static word rounded(word size, word unit) { return (size + unit - 1) / unit * unit; }
+
+static word power_in(word count) { return 63 - (word)__builtin_clzl(count); }
+
+/* Units of a block that has so many bytes or more. */
+static word units_for(word size) {
+    word units = rounded(size ? size : 1, UNIT) / UNIT, power = power_in(units);
+    return power < 3 ? units : rounded(units, 1UL << (power - 2));
+}
+
+/* Which of all sizes that is. */
+static word size_number(word units) {
+    word power = power_in(units);
+    return power < 2 ? units : 4 * power - 8 + (units >> (power - 2));
+}
 
 static struct block block_of(struct head *head) { return (struct block){1, (byte *)(head + 1)}; }
 
@@ -36,17 +50,16 @@ static int reaches(word end) {
 
 struct block rattle_alloc(word size, word alignment) {
     (void)alignment; /* at most 16, and each block is aligned so */
-    word need = rounded(size ? size : 1, UNIT);
-    for (struct head **link = &given_back; *link; link = &(*link)->next) {
-        struct head *head = *link;
-        if (need <= head->size && head->size <= 4 * need) {
-            *link = head->next;
-            return block_of(head);
-        }
+    if (size > 1UL << 32) return (struct block){0, 0};
+    word units = units_for(size), need = units * UNIT;
+    struct head **link = &given_back[size_number(units)], *head = *link;
+    if (head) {
+        *link = head->next;
+        return block_of(head);
     }
     if (!top) top = (byte *)rounded((word)&__heap_base, UNIT);
-    if (need > 1UL << 32 || !reaches((word)top + sizeof(struct head) + need)) return (struct block){0, 0};
-    struct head *head = (struct head *)top;
+    if (!reaches((word)top + sizeof(struct head) + need)) return (struct block){0, 0};
+    head = (struct head *)top;
     *head = (struct head){need, 0};
     top += sizeof(struct head) + need;
     return block_of(head);
@@ -54,9 +67,9 @@ struct block rattle_alloc(word size, word alignment) {
 
 void rattle_dealloc(byte *at) {
     if (!at) return;
-    struct head *head = (struct head *)at - 1;
-    head->next = given_back;
-    given_back = head;
+    struct head *head = (struct head *)at - 1, **link = &given_back[size_number(head->size / UNIT)];
+    head->next = *link;
+    *link = head;
 }
 
 struct block rattle_realloc(byte *at, word kept, word size, word alignment) {
