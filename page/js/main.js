@@ -14,8 +14,10 @@ import { ScriptBox } from './script_box.js';
 import { Registers } from './registers.js';
 import { GuestRegisters } from './guest_registers.js';
 import { Firmware } from './firmware_view.js';
-import { keep, kept, kept_in, task_in } from './keep.js';
+import { keep } from './keep.js';
 import { Keeper } from './keeper.js';
+import { wire_leads } from './leads.js';
+import { Opening } from './opening.js';
 import { FRESH, NO_BOARD, State, UNREADABLE, why_not_loaded } from './state.js';
 import { Lessons } from './lessons.js';
 import { TaskForm } from './task_form.js';
@@ -34,7 +36,6 @@ import { Wired } from './wired.js';
 
 const part = Object.fromEntries([...document.querySelectorAll('[id]')].map(one => [one.id, one]));
 const still = matchMedia('(prefers-reduced-motion: reduce)').matches;
-const wanted = () => new URLSearchParams(location.hash.slice(1));
 let shows_before = true, engine = null, machine = null, functions = [], owners = new Map(), first_owners = owners, marks = new Map(), apertures = {}, as = 'guests', beginning = FRESH;
 
 // Whether firmware has given its board to the guests of the file: its lines are a script's from there on.
@@ -374,59 +375,19 @@ function start_again() {
   begin_from(from);
 }
 
-function tell_story(title) {
-  const story = STORIES.find(one => one.title === title);
-  show_text(BOARDS[story.board], story.as);
-  script_console.play(story.script, still || wanted().has('now'));
-  if (story.shows) part[story.shows].scrollIntoView({ block: 'center' });
-}
-
-// What the address asks for, else what the browser kept, else the first board.
-async function begin() {
-  const asked = wanted(), before = asked.has('kept') ? await kept_in(asked.get('kept')) : asked.size > 0 ? null : await kept();
-  if (asked.has('story')) { tell_story(asked.get('story')); return; }
-  if (asked.has('lesson') && lessons.begin_by_name(asked.get('lesson'), Number(asked.get('part')) - 1)) return;
-  if (asked.has('task') && lessons.take_up(await task_in(asked.get('task')))) return;
-  if (before?.task && lessons.take_up(before.task)) { script_console.play(before.script, true); return; }
-  if (before) { open_beginning(before.board, before.as, before.from); script_console.play(before.script, true); return; }
-  show_text(BOARDS[asked.get('board') ?? Object.keys(BOARDS)[0]] ?? '', asked.get('as'));
-  if (asked.has('kept') || asked.has('task')) keeper.tell('The link is cut, or was changed on its way: nothing of it can be shown. This is another board.', true);
-}
-
-// Brings a part into view, with the keys where it is the box for lines.
-function lead_to(to) {
-  if (to === part.line) to.focus({ preventScroll: true });
-  to.scrollIntoView({ block: to === part.line ? 'center' : 'start' });
-}
-
 function wire() {
   document.body.append(patterns());
-  part.boards.append(new Option('', ''), ...Object.keys(BOARDS).map(name => new Option(name)));
-  part.boards.addEventListener('change', () => { if (part.boards.value !== '') show_text(BOARDS[part.boards.value]); });
   part.board.addEventListener('input', set_up);
   part.restart.addEventListener('click', start_again);
   part.as.addEventListener('change', event => { be(event.target.value); set_up(); });
-  for (const button of part.jump.querySelectorAll('button')) {
-    button.addEventListener('click', () => {
-      if (button.dataset.to === 'chosen') part.written.open = true;
-      part[button.dataset.to].scrollIntoView({ block: 'start' });
-    });
-  }
-  part.stories.querySelector('.bar').append(...STORIES.map(({ title }) => {
-    const button = Object.assign(document.createElement('button'), { type: 'button', textContent: title });
-    button.addEventListener('click', () => tell_story(title));
-    return button;
-  }));
-  for (const [name, to] of [['to_line', part.line], ['back_to_line', part.line], ['to_moment', part.moment]]) part[name].addEventListener('click', () => lead_to(to));
-  addEventListener('keydown', event => { if (event.key === 'F2') { event.preventDefault(); lead_to(part.line); } });
-  addEventListener('hashchange', () => { if (/^#(kept|task|lesson|story|board)=/.test(location.hash)) begin(); });
+  wire_leads(part);
   addEventListener('resize', follow);
 }
 
 try {
   engine = await Engine.of(Uint8Array.from(atob(MODULE), one => one.charCodeAt(0)));
   wire();
-  await begin();
+  await new Opening(part, { still, show: show_text, open: open_beginning, play: (script, at_once) => script_console.play(script, at_once), lessons, tell: (...words) => keeper.tell(...words) }).begin();
 } catch (wrong) {
   tell(true, `This browser can't run the module: ${wrong}. It needs WebAssembly with memories of 64-bit addresses, as Chromium and Firefox have them.`);
 }
