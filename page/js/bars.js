@@ -83,7 +83,7 @@ export function ticks(wanted, width, y, rows, step) {
   return drawn;
 }
 
-// The patterns of marks, for the whole page. Those for the text's marks stand in the style sheet.
+// The patterns of marks, for the whole page. Those for the text's marks stand in the style sheets.
 export function patterns() {
   const lines = ['', 'M0 8L8 0', 'M0 0L8 8', 'M4 0V8', 'M0 4H8', 'M4 0V8M0 4H8', 'M0 8L8 0M0 0L8 8'];
   const all = svg('svg', { width: 0, height: 0, style: 'position: absolute', 'aria-hidden': 'true' });

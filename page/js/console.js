@@ -5,11 +5,10 @@ import { asked_of } from './asked.js';
 import { make } from './marks.js';
 import { why_bad, why_refused } from './reasons.js';
 import { question_after } from './why.js';
-import { move_in } from './replay.js';
+import { HANDS_OVER, move_in } from './replay.js';
 
 const PAUSE = 650;
 const NOTED = 4;
-export const HANDS_OVER = /^\s*host\s+guests\s*$/;
 
 // The lines that were prepared, the reader's, and all by which firmware handed its board over.
 const nothing_run = () => ({ prepared: [], said: [], handed: '' });

@@ -1,15 +1,16 @@
 // The library's module, called from JavaScript: addresses and lengths are BigInts, since its memory has 64-bit addresses.
 
+import { two_digits } from './report.js';
+
 const HANDLE = 16;
 const NONE_THERE = 901;
 const TOO_SMALL = 902;
 const LONGEST_REPLY = 48;
 const LONGEST_LINE = 256;
 const LONGEST_NAME = 16;
-// how long what is told of a function is, and where it says who has it
-const FUNCTION_ROW = 416, SEAT = 392;
-// what stands where in a row of firmware's board: regions and windows, each with its length, and what Command opens
-const BOARD_ROW = 432, REGIONS_AT = 128, REGION_ROW = 32, WINDOWS_AT = 320, WINDOW_ROW = 24, OPENS_AT = 420;
+// what stands where in what is told of a function: its number, its regions and windows, each with its length, who has it, and of firmware's
+// board what its Command opens
+const FUNCTION_ROW = 432, NUMBER_AT = 88, REGIONS_AT = 128, REGION_ROW = 32, WINDOWS_AT = 320, WINDOW_ROW = 24, SEAT_AT = 392, OPENS_AT = 420;
 const WINDOW_SPACES = ['io', 'mem', 'pref'];
 const ROOM = 1 << 16;
 // Made once: of a large board hundreds of registers are read after each line.
@@ -92,10 +93,10 @@ export class Engine {
 
 // What is held behind a handle and answers lines.
 class Held {
-  // Its rooms are made once: a search for free memory takes long where a large board has taken much.
+  // Its rooms are made once, as of a large board thousands of calls follow a line.
   constructor(engine, handle) {
-    const [text, out, written] = [LONGEST_LINE, LONGEST_REPLY, 32].map(size => engine.exports.page_room(BigInt(size)));
-    Object.assign(this, { engine, handle, text, out, written });
+    const [text, out, written, row] = [LONGEST_LINE, LONGEST_REPLY, 32, FUNCTION_ROW].map(size => engine.exports.page_room(BigInt(size)));
+    Object.assign(this, { engine, handle, text, out, written, row });
   }
 
   // The reply of one line, with its line feed; nothing for a remark.
@@ -151,16 +152,20 @@ class Held {
     return Array.from({ length: engine.word(written) }, (_, nth) => TO_TEXT.decode(engine.told((...rooms) => exports.pciguest_raw_guest_name(handle, BigInt(nth), ...rooms), LONGEST_NAME).text));
   }
 
+  // What a call tells of a function, by its place in path order; null behind the last one.
+  row_of(call, nth) {
+    const { engine, handle, row } = this;
+    return call(handle, BigInt(nth), row) === 0 ? new DataView(engine.exports.memory.buffer, Number(row), FUNCTION_ROW) : null;
+  }
+
   // Who has each function of the board, in path order: { guest, slot }, or null.
   seats() {
-    const { engine, handle } = this, { exports } = engine, names = this.guests(), found = [];
-    return engine.with_rooms([FUNCTION_ROW], row => {
-      while (exports.pciguest_raw_function(handle, BigInt(found.length), row) === 0) {
-        const told = new DataView(exports.memory.buffer, Number(row), FUNCTION_ROW), [guest, slot] = [0, 8].map(at => Number(told.getBigUint64(SEAT + at, true)));
-        found.push(told.getUint32(SEAT + 16, true) === 0 ? null : { guest: names[guest], slot });
-      }
-      return found;
-    });
+    const names = this.guests(), found = [];
+    for (let told; (told = this.row_of(this.engine.exports.pciguest_raw_function, found.length)) !== null;) {
+      const [guest, slot] = [0, 8].map(at => Number(told.getBigUint64(SEAT_AT + at, true)));
+      found.push(told.getUint32(SEAT_AT + 16, true) === 0 ? null : { guest: names[guest], slot });
+    }
+    return found;
   }
 
   // The image of the machine; null where no guest has the board yet.
@@ -214,7 +219,7 @@ class Held {
 
   close() {
     this.free(this.handle);
-    for (const room of [this.handle, this.text, this.out, this.written]) this.engine.exports.rattle_dealloc(room);
+    for (const room of [this.handle, this.text, this.out, this.written, this.row]) this.engine.exports.rattle_dealloc(room);
   }
 }
 
@@ -246,18 +251,17 @@ class Driven extends Held {
 
   readiness() { return this.long_reply('host ready'); }
 
-  // What the registers of a function say that no cycle need find, by its place in path order: where the regions begin, by register, the windows
-  // that are there, and what its Command opens.
-  function_at(nth) {
-    const { engine, handle } = this, { exports } = engine;
-    return engine.with_rooms([BOARD_ROW], row => {
-      exports.pciguest_raw_board_function(handle, BigInt(nth), row);
-      const told = new DataView(exports.memory.buffer, Number(row), BOARD_ROW);
-      const long = at => told.getBigUint64(at, true), flag = at => told.getUint32(at, true) !== 0;
-      const firsts = Array.from({ length: 6 }, (_, register) => long(REGIONS_AT + REGION_ROW * register)), [io, mem] = [flag(OPENS_AT), flag(OPENS_AT + 4)];
-      const window_at = (space, at) => ({ space, first: long(at), last: long(at + 8), is_there: flag(at + 16) });
-      return { firsts, opens: { io, mem, pref: mem }, windows: WINDOW_SPACES.map((space, nth) => window_at(space, WINDOWS_AT + WINDOW_ROW * nth)) };
-    });
+  // What the registers of a function say that no cycle need find, by its place in path order: the number at which it is looked for, where the
+  // regions begin, by register, the windows that are there, and what its Command opens. What was told before is given where it is the same.
+  function_at(nth, before) {
+    const told = this.row_of(this.engine.exports.pciguest_raw_board_function, nth), long = at => told.getBigUint64(at, true), word = at => told.getUint32(at, true);
+    const words = new Uint32Array(told.buffer, told.byteOffset, FUNCTION_ROW / 4);
+    if (before?.words.every((one, at) => one === words[at])) return before;
+    const [bus, device, number] = [0, 4, 8].map(at => word(NUMBER_AT + at)), [io, mem] = [0, 4].map(at => word(OPENS_AT + at) !== 0);
+    const firsts = Array.from({ length: 6 }, (_, register) => long(REGIONS_AT + REGION_ROW * register));
+    const window_at = (space, at) => ({ space, first: long(at), last: long(at + 8), is_there: word(at + 16) !== 0 });
+    return { words: words.slice(), place: `${two_digits(bus)}:${two_digits(device)}.${number}`, firsts, opens: { io, mem, pref: mem },
+      windows: WINDOW_SPACES.map((space, at) => window_at(space, WINDOWS_AT + WINDOW_ROW * at)) };
   }
 
   // What is wrong in the registers as they stand: a line for each problem, and one that counts them. Null once the board is

@@ -10,7 +10,14 @@ const SECONDARY_STATUS_BITS = STATUS_BITS.map(([name, bit]) => [bit === 14 ? 'Re
 
 const at_offset = (title, ...places) => `${title}, offset ${places.map(([offset]) => `${offset.toString(16)}h`).join(' and ')}`;
 
-const number_in = (values, offset, width) => BigInt(values.get(offset & ~3) >>> 8 * (offset & 3) & (2 ** (8 * width) - 1));
+// What registers hold at an offset, and whether Command opens a space there.
+export const number_in = (values, offset, width) => BigInt(values.get(offset & ~3) ?? 0) >> BigInt(8 * (offset & 3)) & ((1n << BigInt(8 * width)) - 1n);
+const opens = (values, space) => (values.get(4) & (space === 'io' ? 1 : 2)) !== 0;
+// An address as registers hold it, or of a function that no cycle finds as it is told: the bits of the lower one from a shift on, and the upper one.
+function address_in(values, offset, { width, shift, mask }, upper, told) {
+  if (!values.has(offset & ~3)) return told;
+  return ((number_in(values, offset, width) & mask) << shift) + (upper ? number_in(values, ...upper) << (upper[1] === 2 ? 16n : 32n) : 0n);
+}
 
 const byte = (name, title, offset, { values }) => ({ name, places: [[offset, 1]], title: at_offset(title, [offset]), most: 0xffn, now: number_in(values, offset, 1),
   writes: value => [[offset, 1, value]] });
@@ -32,30 +39,32 @@ function bits_of(title, names, offset, { values }, clears) {
 
 // Base or limit of a window: its low register takes the bits from `shift` on, and the upper one, if there is one, the rest.
 function end_of(name, title, now, offset, { width, shift, mask }, upper) {
-  const places = [[offset, width], ...(upper ? [upper.slice(0, 2)] : [])];
-  return { name, now, places, title: at_offset(title, ...places), most: upper ? (1n << BigInt(upper[2])) - 1n : (1n << (width === 1 ? 16n : 32n)) - 1n,
+  const places = [[offset, width], ...(upper ? [upper] : [])];
+  return { name, now, places, title: at_offset(title, ...places), most: (1n << (width === 1 ? 16n : 32n) * (upper ? 2n : 1n)) - 1n,
     writes: value => [[offset, width, value >> shift & mask], ...(upper ? [[upper[0], upper[1], value >> (upper[1] === 2 ? 16n : 32n)]] : [])] };
 }
 
-const PORTS = { width: 1, shift: 8n, mask: 0xf0n }, MEMORY = { width: 2, shift: 16n, mask: 0xfff0n };
+const PORTS = { width: 1, shift: 8n, mask: 0xf0n, unit: 0x1000n }, MEMORY = { width: 2, shift: 16n, mask: 0xfff0n, unit: 0x100000n };
 
-function window_of({ space, first, last, open }, { io, pref }) {
+function window_of(space, { decodes, values, all_windows }) {
   const [title, name, offset, form, upper] = {
-    io: ['I/O window', 'I/O', 0x1c, PORTS, io === 32 && [0x30, 2, 32]],
+    io: ['I/O window', 'I/O', 0x1c, PORTS, decodes.io === 32 && [0x30, 2]],
     mem: ['Memory window', 'Memory', 0x20, MEMORY, null],
-    pref: ['Prefetchable window', 'Prefetchable Memory', 0x24, MEMORY, pref === 64 && [0x28, 4, 64]],
+    pref: ['Prefetchable window', 'Prefetchable Memory', 0x24, MEMORY, decodes.pref === 64 && [0x28, 4]],
   }[space];
-  const above = upper ? [upper[0] + upper[1], upper[1], upper[2]] : null, low = 4;
-  const registers = [register_of('Base', offset, form.width, low), register_of('Limit', offset + form.width, form.width, low),
-    ...(upper ? [register_of('upper Base', upper[0], upper[1], 0), register_of('upper Limit', above[0], above[1], 0)] : [])];
-  return { title, form: { is: 'window', title, unit: form === PORTS ? 0x1000n : 0x100000n, registers }, switches: [],
-    told: open ? size_in_words(last - first + 1n) : first > last ? 'shut by Limit' : 'shut by Command',
-    fields: [end_of('first', `${name} Base`, first, offset, form, upper), end_of('last', `${name} Limit`, last, offset + form.width, form, above)] };
+  const above = upper ? [upper[0] + upper[1], upper[1]] : null, low = 4, limit = offset + form.width, told = all_windows?.find(one => one.space === space);
+  const first = address_in(values, offset, form, upper, told?.first), last = address_in(values, limit, form, above, told && told.last - form.unit + 1n) + form.unit - 1n;
+  const registers = [register_of('Base', offset, form.width, low), register_of('Limit', limit, form.width, low),
+    ...(upper ? [register_of('upper Base', ...upper, 0), register_of('upper Limit', ...above, 0)] : [])];
+  return { title, form: { is: 'window', title, unit: form.unit, registers }, switches: [],
+    told: first > last ? 'shut by Limit' : opens(values, space) ? size_in_words(last - first + 1n) : 'shut by Command',
+    fields: [end_of('first', `${name} Base`, first, offset, form, upper), end_of('last', `${name} Limit`, last, limit, form, above)] };
 }
 
-function base_of({ name, kind, first, size, open }) {
-  const offset = 0x10 + 4 * Number(name.slice(3)), wide = kind.startsWith('mem64');
-  const places = [[offset, 4], ...(wide ? [[offset + 4, 4]] : [])];
+function base_of({ name, kind, first: told, size }, { values }) {
+  const offset = 0x10 + 4 * Number(name.slice(3)), wide = kind.startsWith('mem64'), upper = wide ? [offset + 4, 4] : null;
+  const first = address_in(values, offset, { width: 4, shift: 0n, mask: kind === 'io' ? ~3n : ~15n }, upper, told), open = opens(values, kind);
+  const places = [[offset, 4], ...(wide ? [upper] : [])];
   const registers = [register_of(name, offset, 4, kind === 'io' ? 2 : 4), ...(wide ? [register_of(`bar${Number(name.slice(3)) + 1}`, offset + 4, 4, 0)] : [])];
   const form = { is: 'base', title: `${name} ${kind}`, space: kind === 'io' ? 'io' : 'mem', mem64: wide, registers };
   return { title: `${name} ${kind}, ${size_in_words(size)}`, form, told: open ? 'open' : 'shut by Command', switches: [], fields: [{ name: 'base', now: first, places,
@@ -68,10 +77,10 @@ export function groups_of(one) {
   const bridge = one.kind === 'bridge', own = (title, ...fields) => ({ title, told: '', switches: [], fields, bytes: true });
   const shared = [bits_of('Command', bridge ? COMMAND_BITS.slice(0, 5) : COMMAND_BITS, 4, one, false), bits_of('Status', STATUS_BITS, 6, one, true)];
   const others = [byte('Line', 'Interrupt Line', 0x3c, one), byte('Cache', 'Cache Line Size', 0x0c, one), byte('Latency', 'Latency Timer', 0x0d, one)];
-  if (!bridge) return [...shared, ...one.all_regions.map(base_of), own('Other bytes', ...others)];
+  if (!bridge) return [...shared, ...(one.all_regions ?? one.regions).map(region => base_of(region, one)), own('Other bytes', ...others)];
   const buses = own('Buses', byte('Primary', 'Primary Bus Number', 0x18, one), byte('Secondary', 'Secondary Bus Number', 0x19, one),
     byte('Subordinate', 'Subordinate Bus Number', 0x1a, one));
-  return [shared[0], buses, ...one.all_windows.map(window => window_of(window, one.decodes)), shared[1],
+  return [shared[0], buses, ...['io', 'mem', 'pref'].filter(space => one.decodes[space]).map(space => window_of(space, one)), shared[1],
     bits_of('Secondary Status', SECONDARY_STATUS_BITS, 0x1e, one, true), own('Other bytes', ...others, byte('2nd latency', 'Secondary Latency Timer', 0x1b, one))];
 }
 

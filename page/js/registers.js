@@ -3,10 +3,9 @@
 import { hex } from './report.js';
 import { make } from './marks.js';
 import { number_of } from './reasons.js';
-import { groups_of, identity_of } from './fields.js';
+import { groups_of, identity_of, number_in } from './fields.js';
 import { Bytes } from './bytes_view.js';
 import { Bits } from './bits_view.js';
-import { regions_now, windows_now } from './at_reset.js';
 
 const ALL_DWORDS = Array.from({ length: 64 }, (_, nth) => 4 * nth);
 
@@ -17,11 +16,10 @@ export function bytes_of(held, who, where) {
   return bytes;
 }
 
-// A function with what such bytes say of it: where its regions stand and which windows are open.
+// A function with such bytes as its registers.
 export function seen_in(one, bytes, decodes) {
-  const view = new DataView(bytes.buffer), values = new Map(ALL_DWORDS.map(offset => [offset, view.getUint32(offset, true)]));
-  const regions = regions_now({ regions: one.all_regions ?? one.regions }, values);
-  return { ...one, values, decodes, all_regions: regions, all_windows: one.kind === 'bridge' ? windows_now(decodes, values) : [] };
+  const view = new DataView(bytes.buffer);
+  return { ...one, decodes, values: new Map(ALL_DWORDS.map(offset => [offset, view.getUint32(offset, true)])) };
 }
 
 const labelled = (name, input) => { const label = make('label', ''); label.append(...(input.type === 'checkbox' ? [input, name] : [name, input])); return label; };
@@ -66,12 +64,12 @@ export class Registers {
     this.show_bits(groups.find(group => group.title === this.of_bits) ?? groups.find(group => group.form && group.form.is !== 'command') ?? groups[0], []);
   }
 
-  // The bits of a group's registers: what is written into them, and of others what they hold.
+  // The bits of a group's registers: what is written into them, and of others what they hold, or what is told of one that no cycle finds.
   show_bits(group, written) {
     if (!group?.form) return;
     const { form, title } = group, places = form.registers.map(({ offset, width }) => [offset, width]);
-    const held = ([offset, width]) => BigInt(this.one.values.get(offset & ~3) ?? 0) >> BigInt(8 * (offset & 3)) & ((1n << BigInt(8 * width)) - 1n);
-    const values = places.map(place => BigInt(written.find(([offset]) => offset === place[0])?.[2] ?? held(place)));
+    const all = [...written, ...group.fields.flatMap(field => field.writes(field.now))];
+    const values = places.map(([offset, width]) => BigInt(all.find(([at]) => at === offset)?.[2] ?? number_in(this.one.values, offset, width)));
     if (this.of_bits !== title || this.bits.shown === null || written.length === 0) {
       this.of_bits = title;
       this.bits.draw(form, this.wired(this.one.path, places), values);

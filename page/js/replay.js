@@ -5,6 +5,9 @@ import { asked_of, keeping_latch } from './asked.js';
 import { all_open } from './guest_map.js';
 import { NOTHING_CHANGED, Watch } from './changes.js';
 
+// The line by which firmware gives its board to the guests of the file.
+export const HANDS_OVER = /^\s*host\s+guests\s*$/;
+
 // The move that a line did, by its reply: whose slot was left and whose was filled, or null.
 export function move_in(line, reply) {
   const [who, verb, from, slot, to, target] = line.trim().split(/\s+/);
@@ -46,6 +49,7 @@ export class Replay {
   }
 
   run(line) {
+    if (HANDS_OVER.test(line)) this.now?.look();
     const reply = asked_of(this.held, line), move = move_in(line, reply), path = move && path_in(this.owners, move[0]);
     if (path) this.owners.set(path, move[1]);
     this.count += 1;

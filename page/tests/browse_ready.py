@@ -123,6 +123,8 @@ def guests_leave_what_is_left(browser, page):
     holds('guests leave what is left', browser.run(LEFT) == [text] and browser.run(SIGNS) == ['2.0 ○'], browser.run(LEFT))
     type_line(browser, 'host ready')
     holds('and are not asked', said_last(browser, 'reply') == 'host: refused 401 bad line', said_last(browser, 'reply'))
+    browser.press('F8')
+    holds('so it is where one goes back', browser.run(LEFT) == [text] and browser.run(SIGNS) == ['2.0 ○'], browser.run(LEFT))
     browser.run("document.getElementById('restart').click()")
     holds('at reset all is left again', text_of(browser, 'left') == '5 lacks', text_of(browser, 'left'))
 
