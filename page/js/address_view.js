@@ -88,7 +88,8 @@ export class Addresses {
   // `findings` are problems and lacks, with the address and the space at which they are seen, what is asked, and what the last line changed;
   // `none` is told where there is nothing to draw.
   draw(functions, apertures, owners, marks, findings, none = '') {
-    this.board = { functions, apertures, owners, marks, findings, none };
+    const spans = new Map(Object.keys(NAMES).map(space => [space, spans_in(space, functions, apertures)]));
+    this.board = { spans, apertures, owners, marks, findings, none };
     this.redraw();
   }
 
@@ -130,7 +131,7 @@ export class Addresses {
   }
 
   figure(space) {
-    const { functions, apertures } = this.board, spans = spans_in(space, functions, apertures), findings = this.findings_in(space);
+    const { apertures } = this.board, spans = this.board.spans.get(space), findings = this.findings_in(space);
     const all = this.spans_and_places_before(space);
     if (all.length === 0) return null;
     const [aperture, used, outside] = this.extent_of(all, apertures[space]), range = this.ranges.get(space) ?? used;
@@ -152,8 +153,8 @@ export class Addresses {
   }
 
   spans_and_places_before(space) {
-    const { functions, apertures, findings: { changes } } = this.board;
-    return [...spans_in(space, functions, apertures), ...this.places_before(space, changes)];
+    const { spans, findings: { changes } } = this.board;
+    return [...spans.get(space), ...this.places_before(space, changes)];
   }
 
   // Where the board's regions and windows stood that the last line moved or shut, in one aperture.

@@ -60,9 +60,9 @@ const meaning_of = {
 };
 
 export class Bits {
-  constructor(into) { Object.assign(this, { into, shown: null }); }
+  constructor(into) { Object.assign(this, { into, shown: null, drawn: '' }); }
 
-  clear() { this.shown = null; this.into.replaceChildren(); }
+  clear() { Object.assign(this, { shown: null, drawn: '' }); this.into.replaceChildren(); }
 
   // `form` is what a group of fields says of its registers; `tried` are they as `Wired` read them back, and `values` what they hold.
   draw(form, tried, values) {
@@ -70,10 +70,12 @@ export class Bits {
     this.show(values);
   }
 
-  // Values that one types, register by register.
+  // Values that one types, register by register; those that are drawn already stay.
   show(values) {
     if (this.shown === null) return;
-    const { form, registers } = this.shown, names = new Map(form.names ?? []);
+    const { form, registers } = this.shown, names = new Map(form.names ?? []), drawn = [form.title, form.names, ...registers.flatMap(Object.values), ...values].join();
+    if (drawn === this.drawn) return;
+    this.drawn = drawn;
     this.into.replaceChildren(make('h3', '', `Bits of ${form.title}`), ...registers.map((register, nth) => this.row_of(register, values[nth], names)),
       this.key(), make('p', 'hint', this.in_words(form, registers)));
   }

@@ -1,7 +1,7 @@
 // The 256 bytes of a function's configuration space, beside its fields: those of a field are marked with it, and those that changed.
 
 import { two_digits } from './report.js';
-import { make } from './marks.js';
+import { make, put_text } from './marks.js';
 import { register_at } from './register_names.js';
 
 const ACROSS = 16, HEADER = 64;
@@ -17,7 +17,7 @@ export class Bytes {
     const of = `${one.path} ${whose} ${rows}`;
     if (of !== this.of) this.build(rows, one.kind);
     for (const [offset, cell] of this.cells) {
-      cell.textContent = two_digits(bytes[offset]);
+      put_text(cell, two_digits(bytes[offset]));
       cell.classList.toggle('changed', (of === this.of && this.before[offset] !== bytes[offset]) || changed.includes(offset));
       cell.classList.toggle('zero', bytes[offset] === 0);
     }

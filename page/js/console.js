@@ -19,7 +19,7 @@ export class Console {
   // whether problems are noted, and `ran` of each line and its
   // reply; `question` is what one asks of a reply.
   constructor(parts, box, { machine, whose, moved, heard, begins, ran, question }) {
-    Object.assign(this, { parts, box, machine, whose, moved, heard, begins, ran, question, marks: new Map(), before: [], back: 0, playing: 0, scrolls: false });
+    Object.assign(this, { parts, box, machine, whose, moved, heard, begins, ran, question, marks: new Map(), before: [], back: 0, playing: 0, scrolls: 0 });
     Object.assign(this, nothing_run());
     parts.entry.addEventListener('submit', event => { event.preventDefault(); this.enter(); });
     parts.line.addEventListener('keydown', event => this.recall(event));
@@ -42,11 +42,10 @@ export class Console {
     return one;
   }
 
-  // Shows the last line, once for all that are put at once.
+  // Shows the last line, once for all that is put and drawn at once.
   scroll() {
-    if (this.scrolls) return;
-    this.scrolls = true;
-    queueMicrotask(() => { this.scrolls = false; this.parts.transcript.scrollTop = this.parts.transcript.scrollHeight; });
+    cancelAnimationFrame(this.scrolls);
+    this.scrolls = requestAnimationFrame(() => { this.parts.transcript.scrollTop = this.parts.transcript.scrollHeight; });
   }
 
   // The lines that the reader ran, as a script, and with those that were prepared.
@@ -57,6 +56,7 @@ export class Console {
   // Shows the lines behind the first ones as not run yet, and leads to the last that ran.
   mark(count) {
     const rows = [...this.parts.transcript.querySelectorAll('.row, .remark')], at = count - this.prepared.length;
+    cancelAnimationFrame(this.scrolls);
     rows.forEach((row, nth) => { row.classList.toggle('later', nth >= at); row.toggleAttribute('aria-current', nth === at - 1 && at < rows.length); });
     const { transcript } = this.parts, row = rows[at - 1];
     transcript.scrollTop = row === undefined ? 0 : row.offsetTop - transcript.clientHeight / 2;

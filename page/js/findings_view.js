@@ -1,7 +1,7 @@
 // Problems, lacks or the lines of a reply as a list. Each leads to the functions that it names.
 
 import { parent_of } from './report.js';
-import { make } from './marks.js';
+import { make, put_text } from './marks.js';
 
 export class Findings {
   // `total` and `list` are elements, and `few` is how many are shown at first; `light` is given paths, and `choose` one.
@@ -10,7 +10,7 @@ export class Findings {
   // `told` is what stands for all of them; those that came are marked, but where that are all.
   draw(all, told, came = []) {
     Object.assign(this, { all, came: all.length === came.length ? [] : came });
-    if (this.total.textContent !== told) this.total.textContent = told;
+    put_text(this.total, told);
     this.redraw();
   }
 

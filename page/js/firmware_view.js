@@ -12,7 +12,7 @@ import { bytes_of, seen_in } from './registers.js';
 export class Firmware {
   // `give` runs a line in the console.
   constructor(parts, board, addresses, registers, light, give) {
-    Object.assign(this, { board, addresses, registers, give, driven: null, now: null, came: [] });
+    Object.assign(this, { board, addresses, registers, give, driven: null, now: null, came: [], is_drawn: false });
     const choose = path => this.choose(path);
     this.problems = new Findings({ total: parts.total, list: parts.audit, few: 8 }, light, choose);
     this.lacks = new Findings({ total: parts.left, list: parts.lacking, few: 4 }, light, choose);
@@ -29,11 +29,11 @@ export class Firmware {
   }
 
   // Another moment of the board: what answers lines then, and what is seen of it.
-  show(driven, now) { Object.assign(this, { driven, now, came: [] }); }
+  show(driven, now) { Object.assign(this, { driven, now, came: [], is_drawn: false }); }
 
   close() {
     this.driven?.close();
-    Object.assign(this, { driven: null, now: null, came: [] });
+    Object.assign(this, { driven: null, now: null, came: [], is_drawn: false });
     this.board.chosen = null;
   }
 
@@ -41,7 +41,7 @@ export class Firmware {
   look() {
     if (this.now === null) return { came: [], gone: [] };
     const found = this.now.look();
-    this.came = found.came;
+    Object.assign(this, { came: found.came, is_drawn: false });
     return found;
   }
 
@@ -51,11 +51,12 @@ export class Firmware {
     if (this.now === null) { this.problems.draw([], ''); this.lacks.draw([], ''); return; }
     const { functions, problems, lacks, given } = this.now, nobody = new Map(), whose = given ? [owners, marks] : [nobody, nobody];
     this.draw_findings(problems, lacks);
+    this.is_drawn = true;
     if (functions.length === 0) return;
     this.board.draw(functions, ...whose, { troubles: texts_by_path(problems), lacks: texts_by_path(lacks), causes: texts_by_path(asked.causes),
       changes: texts_of_changes(changes) });
     this.addresses.draw(functions, apertures, ...whose, { problems, lacks, asked, changes }, 'No region and no window is open.');
-    if (!given) this.draw_registers();
+    this.draw_registers();
   }
 
   draw_findings(problems, lacks) {
@@ -65,8 +66,9 @@ export class Firmware {
     this.lacks.draw(lacks, lacks.length > 0 ? count_in_words(lacks.length, 'lack') : nothing);
   }
 
-  // The registers of the selected function, with its bytes where a cycle finds it.
+  // The registers of the selected function, with its bytes where a cycle finds it. Once guests have the board theirs are shown.
   draw_registers() {
+    if (this.now.given) return;
     const { functions } = this.now, one = functions.find(each => each.path === this.board.chosen);
     if (one === undefined) { this.registers.clear(); return; }
     const bytes = one.lost === null ? keeping_latch(this.driven, () => bytes_of(this.driven, 'host', one.place)) : null;

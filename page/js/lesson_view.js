@@ -1,7 +1,7 @@
 // The lessons as a row of numbers, and the task that one is at: its words, and what is done of its goal.
 
 import { count_in_words } from './report.js';
-import { make, sign } from './marks.js';
+import { make, put_text, sign } from './marks.js';
 
 const LACKS_SHOWN = 4;
 
@@ -86,7 +86,7 @@ export class LessonView {
     const { lacks } = lessons.goals, more = lacks.length > LACKS_SHOWN ? [`${lacks.length - LACKS_SHOWN} more`] : [];
     this.parts.lacks.replaceChildren(...[...lacks.slice(0, LACKS_SHOWN), ...more].map(one => make('li', '', one)));
     const state = done ? 'Done.' : `${rows.filter(one => one.met).length} of ${count_in_words(rows.length, 'condition')} met`;
-    if (this.parts.task_state.textContent !== state) this.parts.task_state.textContent = state;
+    put_text(this.parts.task_state, state);
     this.parts.task.classList.toggle('done', done);
     if (done) this.draw_steps(lessons);
     this.offer_next(lessons, done);

@@ -190,10 +190,11 @@ function look_at_question() {
 }
 
 // What firmware sees, with what it asks, and the guests' part beside it once they have the board.
-function draw_firmware() {
+function draw_firmware(whole) {
   look_at_question();
   part.verdict.classList.toggle('doubted', (firmware.now?.problems.length ?? 0) > 0);
-  firmware.draw(apertures, owners, marks, marked_now(), moments.last.changes);
+  if (whole || !firmware.is_drawn) firmware.draw(apertures, owners, marks, marked_now(), moments.last.changes);
+  else firmware.draw_registers();
   document.body.toggleAttribute('data-given', given());
   if (given()) draw_guests(firmware.driven, firmware.now.functions);
 }
@@ -220,7 +221,7 @@ function marked_now() {
   return asked.address !== null || sent === null || sent.space === 'cfg' ? asked : { ...asked, space: sent.space, address: sent.place };
 }
 
-// Draws all, or what a line of guests may change: nothing of the board's own addresses.
+// Draws all, or what a line may change that writes nothing, or is a guest's: nothing of the board's own addresses.
 function draw(whole = true) {
   draw_board(whole);
   way.offer();
@@ -230,11 +231,11 @@ function draw_board(whole) {
   document.body.toggleAttribute('data-given', given());
   draw_key(part.guests, marks, functions.some(one => one.kind !== 'bridge' && !owners.has(one.path)));
   moments.steps.draw(moments.last);
-  if (as === 'firmware') { draw_firmware(); return; }
-  if (machine === null) return;
-  const asked = marked_now(), { changes } = moments.last, texts = texts_of_changes(changes);
-  if (whole || has_marks || texts.size > 0) board.draw(functions, owners, marks, { troubles: new Map(), lacks: new Map(), causes: texts_by_path(asked.causes), changes: texts });
+  const asked = marked_now(), { changes } = moments.last, texts = texts_of_changes(changes), is_marked = whole || has_marks || texts.size > 0;
   has_marks = texts.size > 0;
+  if (as === 'firmware') { draw_firmware(is_marked); return; }
+  if (machine === null) return;
+  if (is_marked) board.draw(functions, owners, marks, { troubles: new Map(), lacks: new Map(), causes: texts_by_path(asked.causes), changes: texts });
   if (whole) addresses.draw(functions, apertures, owners, marks, { problems: [], lacks: [], asked, changes });
   draw_guests(machine, functions);
 }
@@ -380,8 +381,8 @@ function wire() {
   part.board.addEventListener('input', set_up);
   part.restart.addEventListener('click', start_again);
   part.as.addEventListener('change', event => { be(event.target.value); set_up(); });
-  wire_leads(part);
   addEventListener('resize', follow);
+  wire_leads(part);
 }
 
 try {

@@ -18,6 +18,9 @@ export function make(tag, name, text = '') {
   return element;
 }
 
+// Another text; where it is the same, the browser need not lay the page out anew.
+export function put_text(element, text) { if (element.textContent !== text) element.textContent = text; }
+
 // A sign, and what it means for who hears the page.
 export function sign(seen, meaning) {
   const mark = make('span', 'mark', seen);

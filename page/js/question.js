@@ -1,7 +1,7 @@
 // Why something finds what it finds: the question that the reader asked last, where he asked it. It is asked again after each line, as
 // registers may have changed, until he closes it or asks another one.
 
-import { make } from './marks.js';
+import { make, put_text } from './marks.js';
 import { Findings } from './findings_view.js';
 import { read_why, read_why_of_guest } from './why.js';
 
@@ -65,7 +65,7 @@ export class Question {
   // What the question is about, as registers are now, where its line doesn't say it.
   tell_about() {
     const told = this.asked.about?.() ?? '';
-    if (this.about.textContent !== told) this.about.textContent = told;
+    put_text(this.about, told);
     this.about.hidden = told === '';
   }
 

@@ -1,7 +1,7 @@
 // The registers of the selected function: named fields, in which one writes, beside its bytes.
 
 import { hex } from './report.js';
-import { make } from './marks.js';
+import { make, put_text } from './marks.js';
 import { number_of } from './reasons.js';
 import { groups_of, identity_of, number_in } from './fields.js';
 import { Bytes } from './bytes_view.js';
@@ -54,8 +54,8 @@ export class Registers {
     }
     this.parts.chosen.value = one.path;
     const { of, offsets, is_past } = this.moment(), why_shut = is_past ? 'The registers as they were then. A line goes on from how they are now.' : note;
-    this.parts.lost.textContent = why_shut;
-    this.parts.identity.textContent = bytes === null ? '' : identity_of(one);
+    put_text(this.parts.lost, why_shut);
+    put_text(this.parts.identity, bytes === null ? '' : identity_of(one));
     const groups = groups_of(one), form = [one.path, whose, ...groups.map(group => group.title)].join();
     this.one = one;
     if (this.seen !== form) { this.seen = form; this.of_bits = ''; this.build(groups); }
@@ -93,7 +93,7 @@ export class Registers {
   show(groups, shut, write) {
     this.marked = [];
     groups.forEach((group, nth) => {
-      this.told[nth].textContent = group.told && ` ${group.told}`;
+      put_text(this.told[nth], group.told && ` ${group.told}`);
       [...group.switches, ...group.fields].forEach((field, at) => {
         const input = this.inputs[nth][at];
         if (at < group.switches.length) this.show_switch(field, input, shut, write);

@@ -1,7 +1,7 @@
 // The lines that ran, to go back and forward through: a slider, buttons and keys, and what each line changed, before and after.
 
 import { count_in_words } from './report.js';
-import { make } from './marks.js';
+import { make, put_text } from './marks.js';
 
 const SHOWN = 8;
 const KEYS = { F8: -1, F9: 1 };
@@ -58,7 +58,7 @@ export class Steps {
     Object.assign(step, { max: all, value: ran, disabled: all === 0 });
     step_back.disabled = ran === 0;
     step_on.disabled = ran === all;
-    step_told.textContent = all === 0 ? 'no line has run' : ran === all ? `${count_in_words(all, 'line')} ran` : `as after ${ran} of ${count_in_words(all, 'line')}`;
+    put_text(step_told, all === 0 ? 'no line has run' : ran === all ? `${count_in_words(all, 'line')} ran` : `as after ${ran} of ${count_in_words(all, 'line')}`);
     document.body.classList.toggle('past', ran < all);
   }
 
