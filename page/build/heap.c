@@ -1,6 +1,6 @@
 /* What the module needs of a C library: blocks of memory, and arithmetic on 128 bits. Nothing here is proved.
- * A block is asked for, resized and given back by one thread. Sizes are rounded up to four between each power of two and
- * the next, and a block that is given back is used again for its size. */
+ * A block is asked for, resized and given back by one thread. Its size is a power of two, and once it is given back it is
+ * used again for that size. */
 
 typedef unsigned long word;
 typedef unsigned char byte;
@@ -21,23 +21,12 @@ enum { UNIT = 16, PAGE = 65536, PAGES_AT_ONCE = 16 };
 
 extern byte __heap_base;
 static byte *top;
-static struct head *given_back[256];
+static struct head *given_back[64];
 
 static word rounded(word size, word unit) { return (size + unit - 1) / unit * unit; }
 
-static word power_in(word count) { return 63 - (word)__builtin_clzl(count); }
-
-/* Units of a block that has so many bytes or more. */
-static word units_for(word size) {
-    word units = rounded(size ? size : 1, UNIT) / UNIT, power = power_in(units);
-    return power < 3 ? units : rounded(units, 1UL << (power - 2));
-}
-
-/* Which of all sizes that is. */
-static word size_number(word units) {
-    word power = power_in(units);
-    return power < 2 ? units : 4 * power - 8 + (units >> (power - 2));
-}
+/* The power of two that a block of a size has. */
+static word power_for(word size) { return size <= UNIT ? 4 : 64 - (word)__builtin_clzl(size - 1); }
 
 static struct block block_of(struct head *head) { return (struct block){1, (byte *)(head + 1)}; }
 
@@ -51,8 +40,8 @@ static int reaches(word end) {
 struct block rattle_alloc(word size, word alignment) {
     (void)alignment; /* at most 16, and each block is aligned so */
     if (size > 1UL << 32) return (struct block){0, 0};
-    word units = units_for(size), need = units * UNIT;
-    struct head **link = &given_back[size_number(units)], *head = *link;
+    word power = power_for(size), need = 1UL << power;
+    struct head **link = &given_back[power], *head = *link;
     if (head) {
         *link = head->next;
         return block_of(head);
@@ -67,7 +56,7 @@ struct block rattle_alloc(word size, word alignment) {
 
 void rattle_dealloc(byte *at) {
     if (!at) return;
-    struct head *head = (struct head *)at - 1, **link = &given_back[size_number(head->size / UNIT)];
+    struct head *head = (struct head *)at - 1, **link = &given_back[power_for(head->size)];
     head->next = *link;
     *link = head;
 }

@@ -1,29 +1,20 @@
-// The registers of configuration space by name, as the prompt for Python has them (library/python/pciguest/_names.py), with
-// their names in the standards: { name, offset, width, title }.
+// The registers of configuration space by name: { name, offset, width, title }. Names, offsets and widths are REGISTERS, those of the prompt for
+// Python (library/python/pciguest/_names.py), which page/build/assemble gives; titles are their names in the standards.
 
-const table = rows => rows.map(([name, offset, width, title]) => ({ name, offset, width, title }));
-
-const BOTH = table([['vendor', 0x00, 2, 'Vendor ID'], ['device', 0x02, 2, 'Device ID'], ['command', 0x04, 2, 'Command'], ['status', 0x06, 2, 'Status'],
-  ['revision', 0x08, 1, 'Revision ID'], ['interface', 0x09, 1, 'Class Code, interface'], ['subclass', 0x0a, 1, 'Class Code, subclass'],
-  ['class', 0x0b, 1, 'Class Code, base class'], ['cacheline', 0x0c, 1, 'Cache Line Size'], ['latency', 0x0d, 1, 'Latency Timer'], ['header', 0x0e, 1, 'Header Type']]);
-
-const INTERRUPT = table([['line', 0x3c, 1, 'Interrupt Line'], ['pin', 0x3d, 1, 'Interrupt Pin']]);
-
-export const ENDPOINT = [...BOTH,
-  ...table([0, 1, 2, 3, 4, 5].map(index => [`bar${index}`, 0x10 + 4 * index, 4, `Base Address Register ${index}`])),
-  ...table([['subvendor', 0x2c, 2, 'Subsystem Vendor ID'], ['subsystem', 0x2e, 2, 'Subsystem ID']]), ...INTERRUPT,
-  ...table([['min_gnt', 0x3e, 1, 'Min_Gnt'], ['max_lat', 0x3f, 1, 'Max_Lat']])];
-
-export const BRIDGE = [...BOTH,
-  ...table([['primary', 0x18, 1, 'Primary Bus Number'], ['secondary', 0x19, 1, 'Secondary Bus Number'], ['subordinate', 0x1a, 1, 'Subordinate Bus Number'],
-    ['secondary_latency', 0x1b, 1, 'Secondary Latency Timer'], ['io_base', 0x1c, 1, 'I/O Base'], ['io_limit', 0x1d, 1, 'I/O Limit'],
-    ['secondary_status', 0x1e, 2, 'Secondary Status'], ['mem_base', 0x20, 2, 'Memory Base'], ['mem_limit', 0x22, 2, 'Memory Limit'],
-    ['pref_base', 0x24, 2, 'Prefetchable Memory Base'], ['pref_limit', 0x26, 2, 'Prefetchable Memory Limit'],
-    ['pref_base_upper', 0x28, 4, 'Prefetchable Base Upper 32 Bits'], ['pref_limit_upper', 0x2c, 4, 'Prefetchable Limit Upper 32 Bits'],
-    ['io_base_upper', 0x30, 2, 'I/O Base Upper 16 Bits'], ['io_limit_upper', 0x32, 2, 'I/O Limit Upper 16 Bits']]), ...INTERRUPT,
-  ...table([['bridge_control', 0x3e, 2, 'Bridge Control']])];
+const TITLES = { vendor: 'Vendor ID', device: 'Device ID', command: 'Command', status: 'Status', revision: 'Revision ID', interface: 'Class Code, interface',
+  subclass: 'Class Code, subclass', class: 'Class Code, base class', cacheline: 'Cache Line Size', latency: 'Latency Timer', header: 'Header Type',
+  ...Object.fromEntries([0, 1, 2, 3, 4, 5].map(index => [`bar${index}`, `Base Address Register ${index}`])),
+  subvendor: 'Subsystem Vendor ID', subsystem: 'Subsystem ID', line: 'Interrupt Line', pin: 'Interrupt Pin', min_gnt: 'Min_Gnt', max_lat: 'Max_Lat',
+  primary: 'Primary Bus Number', secondary: 'Secondary Bus Number', subordinate: 'Subordinate Bus Number', secondary_latency: 'Secondary Latency Timer',
+  io_base: 'I/O Base', io_limit: 'I/O Limit', secondary_status: 'Secondary Status', mem_base: 'Memory Base', mem_limit: 'Memory Limit',
+  pref_base: 'Prefetchable Memory Base', pref_limit: 'Prefetchable Memory Limit', pref_base_upper: 'Prefetchable Base Upper 32 Bits',
+  pref_limit_upper: 'Prefetchable Limit Upper 32 Bits', io_base_upper: 'I/O Base Upper 16 Bits', io_limit_upper: 'I/O Limit Upper 16 Bits',
+  bridge_control: 'Bridge Control' };
+const [ENDPOINT, BRIDGE] = ['ENDPOINT', 'BRIDGE'].map(kind => Object.entries(REGISTERS[kind]).map(([name, [offset, width]]) => ({ name, offset, width, title: TITLES[name] })));
 
 export const registers_of = kind => (kind === 'bridge' ? BRIDGE : ENDPOINT);
+
+export const register_named = (kind, name) => registers_of(kind).find(one => one.name === name);
 
 // The register that has a byte, or null.
 export const register_at = (kind, at) => registers_of(kind).find(({ offset, width }) => offset <= at && at < offset + width) ?? null;

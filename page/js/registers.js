@@ -69,7 +69,7 @@ export class Registers {
     if (!group?.form) return;
     const { form, title } = group, places = form.registers.map(({ offset, width }) => [offset, width]);
     const all = [...written, ...group.fields.flatMap(field => field.writes(field.now))];
-    const values = places.map(([offset, width]) => BigInt(all.find(([at]) => at === offset)?.[2] ?? number_in(this.one.values, offset, width)));
+    const values = places.map(([offset, width]) => BigInt(all.find(([at]) => at === offset)?.[2] ?? number_in(this.one.values, { offset, width })));
     if (this.of_bits !== title || this.bits.shown === null || written.length === 0) {
       this.of_bits = title;
       this.bits.draw(form, this.wired(this.one.path, places), values);
