@@ -2,7 +2,7 @@
 --     hides q e      the entry stands in a list or a table that is missing, or has another form
 --     spoils q p      what is wrong already may be why the later rule is broken, or belongs to the same entry
 --     is_clear earlier p      none of the earlier problems keeps the rule from being asked; whether a key is known is always asked
-use Rattle.std.specs.Prelude.{ℕ, ◌==◌, Bool, true, false, not, ◌&&◌, ◌||◌, List, codes}
+use Rattle.std.specs.Prelude.{ℕ, Bool, true, false, not, ◌&&◌, ◌||◌, List, codes}
 use Rattle.std.specs.List.{list_all}
 use Rattle.board_file.specs.Texts.{same_text}
 use Rattle.board_file.specs.Problems.{Found}
@@ -10,24 +10,11 @@ use Rattle.board_file.specs.declared.rule.Rule.{Rule}
 use Rattle.board_file.specs.declared.rule.Rule.TheVariants as rule
 use Rattle.board_file.specs.declared.entry.Entry.{Entry}
 use Rattle.board_file.specs.declared.entry.Entry.TheVariants as entry
+use Rattle.board_file.specs.contracts.entry.EntryPartialEq.TheImpl as entry_eq
 use Rattle.board_file.specs.Tables.{owner_of}
 
--- the kind of an entry with its indices
-abbrev pub numbers_of : Entry → ℕ × ℕ × ℕ
-numbers_of entry.File = (0, 0, 0)
-numbers_of entry.Host = (1, 0, 0)
-numbers_of (entry.Endpoint i) = (2, i, 0)
-numbers_of (entry.Bar i j) = (3, i, j)
-numbers_of (entry.Config i j) = (4, i, j)
-numbers_of (entry.Bridge i) = (5, i, 0)
-numbers_of (entry.Guest i) = (6, i, 0)
-numbers_of (entry.Slot i j) = (7, i, j)
-
-abbrev pub same_numbers : ℕ × ℕ × ℕ → ℕ × ℕ × ℕ → Bool
-same_numbers (a, b, c) (d, e, f) = (a == d) && (b == e) && (c == f)
-
 abbrev pub is_same : Entry → Entry → Bool
-is_same e f = same_numbers (numbers_of e) (numbers_of f)
+is_same = (entry_eq.ghosts).eq
 
 -- ---- lists and tables
 

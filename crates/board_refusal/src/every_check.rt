@@ -1,5 +1,5 @@
 //! All that is wrong in a board file, check after check, as far as it can be asked.
-ghost use Rattle.std.specs.Prelude.{◌≡◌, ◌≤◌, ◌++◌, [], ◌∷◌, map, filter, IfOk, OnOk};
+ghost use Rattle.std.specs.Prelude.{◌≡◌, ◌≤◌, map, filter, IfOk, OnOk};
 ghost use Rattle.toml.specs.View.{table_view};
 ghost use Rattle.board_file.specs.Problems.{found_of};
 ghost use Rattle.board_refusal.specs.Spoiling.{is_clear};
@@ -37,37 +37,12 @@ fn later_checks(fault: BoardFault) -> &'static [BoardFault]
     &order()[rank(fault)..]
 }
 
-/// Appends the problem, where it waits for no earlier one.
-fn push_clear<'a>(
-    clear: &mut Vec<Problem<'a>>,
-    earlier: &[Problem<'a>],
-    problem: &Problem<'a>,
-) -> Result<(), AllocError>
-    ensures { let p = is_clear (map found_of earlier.now) in
-        OnOk result (map found_of clear.new.items
-        ≡ map found_of clear.old.items ++ filter p (found_of problem.now ∷ [])) }
+/// Drops the problems that wait for an earlier one.
+fn keep_clear(problems: &mut Vec<Problem<'_>>, earlier: &[Problem<'_>])
+    ensures { map found_of problems.new.items
+        ≡ filter (is_clear (map found_of earlier.now)) (map found_of problems.old.items) }
 {
-    if is_clear(earlier, problem) {
-        clear.push(*problem)?;
-    }
-    Ok(())
-}
-
-/// The problems that wait for no earlier one.
-fn clear_of<'a>(
-    alloc: Global,
-    earlier: &[Problem<'a>],
-    problems: &[Problem<'a>],
-) -> Result<Vec<Problem<'a>>, AllocError>
-    ensures { IfOk result (λ v.
-        map found_of v.items
-        ≡ filter (is_clear (map found_of earlier.now)) (map found_of problems.now)) }
-{
-    let mut clear = Vec::new(alloc);
-    'problems: for problem in problems {
-        push_clear(&mut clear, earlier, problem)?;
-    }
-    Ok(clear)
+    problems.retain(|problem| is_clear(earlier, problem));
 }
 
 /// Appends the problems of a check that wait for no earlier one.
@@ -80,9 +55,9 @@ fn push_check<'a>(
     ensures { OnOk result (map found_of all.new.items
         ≡ with_check (table_view source.now.document.now) (map found_of all.old.items) fault) }
 {
-    let found = source.problems(alloc, fault)?;
-    let clear = clear_of(alloc, all, &found)?;
-    all.extend_from_slice(&clear)
+    let mut found = source.problems(alloc, fault)?;
+    keep_clear(&mut found, all);
+    all.extend_from_slice(&found)
 }
 
 /// All entries that break a rule whose fault this is, and then those that break a rule of a later check

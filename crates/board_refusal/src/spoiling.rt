@@ -2,41 +2,16 @@
 ghost use Rattle.std.specs.Prelude.{◌≡◌, ◌||◌, codes, map, not};
 ghost use Rattle.std.specs.List.{list_all};
 ghost use Rattle.board_file.specs.Problems.{found_of};
-ghost use Rattle.board_refusal.specs.Spoiling.{numbers_of, is_same, is_at, in_endpoint, holds_entry, is_of_form, hides, is_of_keys, hides_lists, asks_functions, hides_functions, asks_guests, hides_guests, asks_parts, is_beside, hides_others, spoils, spoils_none, is_known_rule, is_clear};
+ghost use Rattle.board_refusal.specs.Spoiling.{is_at, in_endpoint, holds_entry, is_of_form, hides, is_of_keys, hides_lists, asks_functions, hides_functions, asks_guests, hides_guests, asks_parts, is_beside, hides_others, spoils, is_known_rule, is_clear};
 
 use board_file::tables::owner_of;
 use board_file::{Entry, Problem, Rule};
-
-/// The kind of an entry with its indices.
-fn numbers_of(entry: Entry) -> (u8, usize, usize)
-    ensures { result ≡ numbers_of entry }
-{
-    match entry {
-        Entry::File => (0, 0, 0),
-        Entry::Host => (1, 0, 0),
-        Entry::Endpoint(i) => (2, i, 0),
-        Entry::Bar(i, j) => (3, i, j),
-        Entry::Config(i, j) => (4, i, j),
-        Entry::Bridge(i) => (5, i, 0),
-        Entry::Guest(i) => (6, i, 0),
-        Entry::Slot(i, j) => (7, i, j),
-    }
-}
-
-/// Whether the two are one entry.
-fn is_same(one: Entry, other: Entry) -> bool
-    ensures { result ≡ is_same one other }
-{
-    let (kind, outer, inner) = numbers_of(one);
-    let (other_kind, other_outer, other_inner) = numbers_of(other);
-    kind == other_kind && outer == other_outer && inner == other_inner
-}
 
 /// Whether the problem is at this key of this entry.
 fn is_at(problem: &Problem<'_>, entry: Entry, key: &str) -> bool
     ensures { result ≡ is_at (found_of problem.now) entry key.now }
 {
-    is_same(problem.entry, entry) && problem.key == key
+    problem.entry == entry && problem.key == key
 }
 
 /// Whether the problem is at the list of endpoints, or at this list of one of them.
@@ -99,7 +74,7 @@ fn is_of_keys(rule: Rule) -> bool
 fn hides_lists(problem: &Problem<'_>) -> bool
     ensures { result ≡ hides_lists (found_of problem.now) }
 {
-    is_of_keys(problem.rule) && is_same(problem.entry, Entry::File)
+    is_of_keys(problem.rule) && problem.entry == Entry::File
 }
 
 /// Whether the rule asks where functions stand.
@@ -144,7 +119,7 @@ fn asks_parts(rule: Rule) -> bool
 fn is_beside(problem: &Problem<'_>, entry: Entry) -> bool
     ensures { result ≡ is_beside (found_of problem.now) entry }
 {
-    is_same(owner_of(problem.entry), owner_of(entry))
+    owner_of(problem.entry) == owner_of(entry)
 }
 
 /// Whether the earlier problem leaves open what the later rule asks of other entries.
@@ -160,24 +135,15 @@ fn hides_others(earlier: &Problem<'_>, later: &Problem<'_>) -> bool
 fn spoils(earlier: &Problem<'_>, later: &Problem<'_>) -> bool
     ensures { result ≡ spoils (found_of earlier.now) (found_of later.now) }
 {
-    is_same(earlier.entry, later.entry)
-        || hides(earlier, later.entry)
-        || hides_others(earlier, later)
-}
-
-/// Whether none of the earlier problems does, one by one.
-fn all_pass(earlier: &[Problem<'_>], later: &Problem<'_>) -> bool
-    ensures { result
-        ≡ list_all (λ q. not (spoils (found_of q) (found_of later.now))) earlier.now }
-{
-    earlier.iter().all(|problem| !spoils(problem, later))
+    earlier.entry == later.entry || hides(earlier, later.entry) || hides_others(earlier, later)
 }
 
 /// Whether none of the earlier problems does.
 fn spoils_none(earlier: &[Problem<'_>], later: &Problem<'_>) -> bool
-    ensures { result ≡ spoils_none (map found_of earlier.now) (found_of later.now) }
+    ensures { result
+        ≡ list_all (λ q. not (spoils (found_of q) (found_of later.now))) earlier.now }
 {
-    all_pass(earlier, later)
+    earlier.iter().all(|problem| !spoils(problem, later))
 }
 
 /// Whether the rule is that a key is known.
