@@ -248,7 +248,8 @@ class Section:
         guests = ROWS / f"{pathlib.Path(self.board).stem}.guests"
         if self.verb == "run" and not self.is_changed and guests.is_file():
             # what the host reads, no lone guest answers
-            pairs = [it for it in zip(self.asked, self.replies) if not re.match(r"host [cim]r ", it[0])]
+            reads, bad = re.compile(r"host [cim]r "), "host: refused 401 bad line"
+            pairs = [it for it in zip(self.asked, self.replies) if not reads.match(it[0]) or it[1] == bad]
             yield Case(f"{name}, by lone guests", [str(guests)], script, [it[1] for it in pairs], of_lone=True)
 
 

@@ -188,7 +188,7 @@ full 'firmware' firmware "$boards/main.toml" < "$boards/firmware.script"
 : > wanted.out
 ends_with 'firmware, a board that does not fit' firmware "$boards/refused/memory_pool.toml" < /dev/null
 echo '?: refused 402 unknown guest' > wanted.out
-ends_with 'firmware, a line of a guest of the file' firmware "$boards/main.toml" <<< 'a cr 0 0 4'
+ends_with 'firmware, a line of a guest of the file' firmware "$boards/main.toml" < <(printf '# host cr 00:01.0 0 4\na cr 0 0 4\n \t\r')
 fails_with 'firmware, a faulty file' '107 size' firmware "$boards/refused/size.toml" < "$boards/firmware.script"
 fails_with 'firmware, no such file' '702 board file' firmware nothing.toml < /dev/null
 fails_with 'firmware, standard input closed' '501 read failed' firmware "$boards/main.toml" <&-
@@ -290,8 +290,9 @@ longest=$(printf '%190s' '')
   printf 'a cw 1 4 2 2\na cw 1 0x10 4 0xffffffff\na cw 1 0x14 4 0xffffffff\n'
   printf 'a mr 0xffffffffff000000 4\na mr 0xfffffffffffffffc 4\na mr 0x10000000000000000 4\n'
   printf 'a ir 0x100000000 4\na cr 0 254 4\na cw 0 4 2 0x100000000\na cw 0 0x3c 1 0x1ff\na cr 0 0x3c 1\n'
-  printf 'a cr 0X0 00 4\na cr +0 0 4\na cr 0x 0 4\na \377\n\377\n\000\n\ta cr 0 0 4\r\n   \r\n'
-  printf 'a cr 0 0 4%s\na cr 0 0 4%s \n' "$longest" "$longest"
+  printf 'a cr 0X0 00 4\na cr +0 0 4\na cr 0x 0 4\na \377\n\377\n\000\n\ta\tcr 0 \t 0 4\r\n   \r\n'
+  printf 'a cr\v0 0 4\na cr 0\f0 4\na\vcr 0 0 4\n\f\n\n\n# a cr 0 0 4\n  # a\n#\na cr 0 0 2\n'
+  printf 'a cr 0 0 4%s\na cr 0 0 4%s \n%s%11s\n' "$longest" "$longest" "$longest" ''
   printf '#%199s\n\n#%200s\na cr 0 0' '' ''
 } > ends.script
 cat > wanted.out <<'END'
@@ -313,12 +314,21 @@ a: refused 401 bad line
 ?: refused 402 unknown guest
 ?: refused 402 unknown guest
 a: 0x00011234
+a: refused 401 bad line
+a: refused 401 bad line
+?: refused 402 unknown guest
+?: refused 402 unknown guest
+a: 0x1234
 a: 0x00011234
+?: refused 403 long line
 ?: refused 403 long line
 ?: refused 403 long line
 a: refused 401 bad line
 END
 ends_with 'run, lines at the ends of what they may say' run "$boards/main.toml" < ends.script
+head -c 201 /dev/zero | tr '\0' '\r' > returns
+echo '?: refused 403 long line' > wanted.out
+ends_with 'run, a line of 201 returns' run "$boards/main.toml" < returns
 
 # ---- boards at the ends of their apertures
 cat > top.toml <<'END'
@@ -339,8 +349,8 @@ endpoints 1 bridges 1
   bar0 mem32 at 0xfff00000 size 0x100000
 END
 ends_with 'list, the last megabyte below 4 GB' list top.toml
-printf 'host cr 00:00.0 0x20 2\nhost cr 00:00.0 0x22 2\n' > top.script
-printf 'host: 0xfff0\nhost: 0xfff0\n' > wanted.out
+printf 'host cr 00:00.0 0x20 2\nhost cr 00:00.0 0x22 2\nhost mr 0xffffffff 1\nhost mr 0x100000000 1\nhost mr 0xffefffff 1\n' > top.script
+printf 'host: 0xfff0\nhost: 0xfff0\nhost: 0x00\nhost: 0xff\nhost: 0xff\n' > wanted.out
 ends_with 'run, the last megabyte below 4 GB' run top.toml < top.script
 sed 's/^pref = .0x4.*/pref = [0x7ffffffffff00000, 0x7fffffffffffffff]/' "$boards/main.toml" > high.toml
 fails_with 'list, the last megabyte below 2^63' '205 prefetchable pool' list high.toml

@@ -27,16 +27,5 @@ pub mod Giving
 pub mod Actions
 pub mod Counting
 pub mod Aside
-pub mod Dialogues
 pub mod LawfulWorlds
-pub mod RowsOfBaseRegisters
-pub mod RowsOfHeaders
-pub mod RowsOfRegions
-pub mod RowsOfRaises
-pub mod RowsOfLines
-pub mod RowsOfBridges
-pub mod RowsOfReports
-pub mod RowsOfHostReads
-pub mod RowsOfLatches
-pub mod RowsOfMoves
-pub mod RowsOfRuns
+pub mod Unasked

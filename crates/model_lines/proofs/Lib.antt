@@ -1,5 +1,4 @@
 pub mod HostLaws
-pub mod RowsOfFirmware
 pub mod WhyLines
 pub mod SessionLines
 pub mod HandoverLines
