@@ -54,7 +54,7 @@ completed() {
   bash -c 'source "$1"; shift; COMP_WORDS=("$@"); COMP_CWORD=$(($# - 1)); _pciguest; echo "${COMPREPLY[@]}"' - \
     "$at/share/bash-completion/completions/pciguest" "$@"
 }
-holds 'all words' same 'audit check demo firmware list ready run --help' completed pciguest ''
+holds 'all words' same 'audit check demo firmware list ready run --help --version' completed pciguest ''
 holds 'a word' same 'list' completed pciguest l
 board=$top/boards/chain.toml
 holds 'a board' test "$(completed pciguest list "${board%ain.toml}")" = "$board"
@@ -80,7 +80,7 @@ if command -v zsh > /dev/null; then
       _files() { print -rl -- ${words[CURRENT]}*.toml(N); }
       source $file' - "$at/share/zsh/site-functions/_pciguest" "$@")
   }
-  holds 'all words in zsh' same 'audit check demo firmware list ready run --help' in_zsh pciguest ''
+  holds 'all words in zsh' same 'audit check demo firmware list ready run --help --version' in_zsh pciguest ''
   holds 'a word of a list in zsh' same '--json chain.toml' in_zsh pciguest list ch
   holds 'a board in zsh' same 'chain.toml' in_zsh pciguest list --json ch
   holds 'a word of a check in zsh' same '--all --plain chain.toml' in_zsh pciguest check ch

@@ -394,7 +394,14 @@ tell 'run, line by line through a pipe'
 cp "$top/tests/help.txt" wanted.out
 ends_with '--help' --help
 ends_with '-h' -h
+ends_with 'help' help
 full '--help' --help
+
+# ---- the version, which is the library's
+sed -n 's/^#define PCIGUEST_VERSION "\(.*\)"/pciguest \1/p' "$top/library/pciguest.h" > wanted.out
+ends_with '--version' --version
+ends_with '-V' -V
+full '--version' --version
 
 # ---- words
 usage='701 usage'
@@ -409,9 +416,8 @@ fails_with 'a word too many for list' "$usage" list "$boards/main.toml" y
 fails_with 'a word too many for demo' "$usage" demo demo
 fails_with 'an unknown word' "$usage" x
 fails_with 'another case' "$usage" Demo
-fails_with 'help' "$usage" help
-fails_with '--version' "$usage" --version
-fails_with '-V' "$usage" -V
+fails_with 'a word after help' "$usage" help list
+fails_with '--version of list' "$usage" list --version
 fails_with 'an unknown option' "$usage" demo --x
 fails_with 'a word that is no text' "$usage" $'\377'
 

@@ -14,7 +14,7 @@ use Rattle.clap.proofs.OnLiterals.{clap_on_literals}
 use Rattle.clap.specs.declared.parser.matches.ArgMatches.{ArgMatches}
 use Rattle.clap.specs.declared.parser.matches.ArgMatches.TheViews.{out-ArgMatches, out-SubCommand}
 use Rattle.clap.specs.declared.parser.matches.SubCommand.{SubCommand}
-use Rattle.command_line.specs.Words.{pciguest_app, subcommand, value, value_in}
+use Rattle.command_line.specs.Words.{pciguest_app, is_taken, subcommand, value, value_in}
 use Rattle.command_line.specs.Choices.{is_json, is_all, is_plain, is_strict, is_true, board_in, IsAskedBy, IsNoCommand}
 use Rattle.command_line.specs.declared.choice.Choice.{Choice}
 use Rattle.command_line.specs.declared.choice.Choice.TheVariants.{Help, Demo, List as Lists, Check, Run, Firmware, Audit, Ready}
@@ -23,6 +23,11 @@ use Rattle.command_line.specs.declared.choice.Choice.TheVariants.{Help, Demo, Li
 pub simple : is_simple_and_free pciguest_app ≡ true
 unfolding clap_on_literals
 simple = refl
+
+-- `help` is none of its subcommands
+pub no_help : (w : List ℕ) → is_taken (w ∷ codes "help" ∷ []) ≡ false
+unfolding clap_on_literals
+no_help w = refl
 
 abbrev Entry : Type 0
 Entry = Bor (List ℕ) × MatchedArg

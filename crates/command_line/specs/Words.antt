@@ -47,11 +47,12 @@ audit_shape = record (new_shape (codes "audit")) { rules = json_rule ∷ strict_
 abbrev pub ready_shape : Shape
 ready_shape = record (new_shape (codes "ready")) { rules = board_rule ∷ [] }
 
--- `pciguest demo` and `pciguest list [--json] BOARD`, with no help subcommand and no version
+-- `pciguest demo` and `pciguest list [--json] BOARD`, with a version and no help subcommand
 abbrev pub demo_and_list_app : App
 demo_and_list_app =
     with_subcommand (with_subcommand
-    (on_top (λ s. record s { disable_help_subcommand = true; subcommand_required = true }) (new_app (codes "pciguest")))
+    (on_top (λ s. record s { has_version = true; disable_help_subcommand = true; subcommand_required = true })
+    (new_app (codes "pciguest")))
     (new_shape (codes "demo"))) list_shape
 
 -- and `pciguest check [--all] [--plain] BOARD`

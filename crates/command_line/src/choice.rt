@@ -1,5 +1,6 @@
 //! What the words of the command line ask for.
-ghost use Rattle.std.specs.Prelude.{◌≡◌, ◌⊎◌, Some, [], true, map, option_map, IfOk, IfErr, IfSome, IfNone, Err, MatchResult};
+ghost use Rattle.std.specs.Prelude.{◌≡◌, ◌⊎◌, Some, [], true, false, map, option_map, IfOk, IfErr, IfSome, IfNone, Err, MatchResult};
+ghost use Rattle.std.specs.Bool.{OnTrue};
 ghost use Rattle.clap.specs.Faults.{fault_of};
 ghost use Rattle.clap.specs.Matches.{first_value, found_of};
 ghost use Rattle.clap.specs.Values.{kind_of};
@@ -90,13 +91,36 @@ fn refusal<'a>(alloc: Global, error: &Error) -> Result<Choice<'a>, WordsFault>
 {
     match error.kind() {
         ErrorKind::OutOfMemory => Err(WordsFault::Memory),
-        ErrorKind::DisplayHelp => {
+        ErrorKind::DisplayHelp | ErrorKind::DisplayVersion => {
             let Ok(text) = error.to_string(alloc) else {
                 return Err(WordsFault::Memory);
             };
             Ok(Choice::Help(text))
         }
         _ => Err(WordsFault::Usage),
+    }
+}
+
+/// Whether the word after the program's name is `help`, and the last.
+fn is_help(words: &[&str]) -> bool
+    ensures { OnTrue result (is_taken (map (λ w. w.now) words.now) ≡ false) }
+{
+    match words {
+        [_, word] => *word == "help",
+        _ => false,
+    }
+}
+
+/// The answer to words that ask for help.
+fn help<'a>(alloc: Global) -> Result<Choice<'a>, WordsFault>
+    ensures { IfOk result IsHelp }
+{
+    let Ok(command) = command(alloc) else {
+        return Err(WordsFault::Memory);
+    };
+    match command.try_get_matches_from(&["pciguest", "--help"]) {
+        Ok(_) => Err(WordsFault::Usage),
+        Err(error) => refusal(alloc, &error),
     }
 }
 
@@ -140,8 +164,8 @@ fn asked<'a>(name: &str, given: &ArgMatches<'a>, is_terminal: bool) -> Option<Ch
 /// What the words ask for. The first of them is the program's name. `is_terminal` tells whether what is
 /// done writes to a terminal: then a check may tell more than lines.
 ///
-/// Words that the command line doesn't take are `Help` where they ask for help, and else
-/// `WordsFault::Usage`.
+/// Words that the command line doesn't take are `Help` where they ask for help or for the version, and else
+/// `WordsFault::Usage`. `help` alone asks for what `--help` does.
 pub fn choose<'a>(
     alloc: Global,
     words: &'a [&'a str],
@@ -155,6 +179,9 @@ pub fn choose<'a>(
     ensures taken { is_taken (map (λ w. w.now) words.entry.now) ≡ true
         → MatchResult result IsWork (λ f. f ≡ WordsFault.Memory) }
 {
+    if is_help(words) {
+        return help(alloc);
+    }
     let Ok(command) = command(alloc) else {
         return Err(WordsFault::Memory);
     };

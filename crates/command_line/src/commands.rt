@@ -10,6 +10,9 @@ ghost use Rattle.command_line.specs.Words.{with_firmware_app, with_audit_app, pc
 use clap::{Arg, ArgAction, Command};
 use std::alloc::{AllocError, Global};
 
+/// The version of the program, which is that of the library's header.
+const VERSION: &str = "0.4.0";
+
 const REFUSED: &str = "End with status 1 where a line was refused";
 
 const REPORT_AS_JSON: &str = "Write the report as JSON";
@@ -154,6 +157,7 @@ fn demo_and_list<'a>(alloc: Global) -> Result<Command<'a>, AllocError>
     let demo = demo(alloc);
     let list = list(alloc)?;
     Command::new(alloc, "pciguest")
+        .version(VERSION)
         .disable_help_subcommand(true)
         .subcommand_required(true)
         .subcommand(demo)?
