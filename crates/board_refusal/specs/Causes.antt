@@ -1,9 +1,9 @@
 -- What is said of a problem beyond the words of its rule.
 --     path_cause_text      what is said of the path of a function or a slot
 --     own_text      what is said of an entry that breaks a rule at a key
---     taker_text      the region without registers of its own and the one that it meets, with their lines
+--     beside_text      the region without registers of its own and the one that it meets, with their lines
 --     cause_text      all of this
-use Rattle.std.specs.Prelude.{ℕ, List, [], ◌++◌, codes, Option, Some, None}
+use Rattle.std.specs.Prelude.{ℕ, nat_abs, List, [], ◌++◌, codes, Option, Some, None}
 use Rattle.std.specs.Option.{option_map_or}
 use Rattle.model_board.specs.Places.{Standing}
 use Rattle.board_file.specs.Entries.{File}
@@ -18,7 +18,7 @@ use Rattle.board_refusal.specs.declared.told.Told.{Told}
 use Rattle.board_refusal.specs.KeyCauses.{known_text, asked_text}
 use Rattle.board_refusal.specs.SizeCauses.{bar_text}
 use Rattle.board_refusal.specs.ApertureCauses.{first_words, io_parts, mem_parts, pref_text}
-use Rattle.board_refusal.specs.PatternCauses.{bar_masks_text, config_masks_text}
+use Rattle.board_refusal.specs.PatternCauses.{masks_text}
 use Rattle.board_refusal.specs.PathCauses.{path_form_text, bridge_text, zero_text, slot_text}
 use Rattle.board_refusal.specs.Said.{bar_of, config_of, at_of}
 
@@ -34,7 +34,9 @@ path_cause_text f e r = option_map_or (at_text (standings f) r) (at_of f e) []
 
 -- the patterns of a region or of a block of own registers
 abbrev pub patterns_text : File → Entry → List ℕ
-patterns_text f e = option_map_or bar_masks_text (bar_of f e) (option_map_or config_masks_text (config_of f e) [])
+patterns_text f e =
+    option_map_or (λ b. masks_text (nat_abs b.block) b.patterns) (bar_of f e)
+    (option_map_or (λ c. masks_text (nat_abs c.block) c.patterns) (config_of f e) [])
 
 abbrev pub own_text : File → Entry → Rule → List ℕ → List ℕ
 own_text f e rule.Known k = known_text (level_of e) k
@@ -56,12 +58,9 @@ abbrev pub met_text : Option Other → List ℕ
 met_text None = codes " is of a 64-bit kind, which takes two registers, and begins at the last"
 met_text (Some o) = codes " takes a register of " ++ named_text o
 
-abbrev pub taker_text : Other → Option Other → List ℕ
-taker_text t o = codes ": " ++ named_text t ++ met_text o
-
 abbrev pub beside_text : Option Other → Option Other → List ℕ
 beside_text None o = other_text o
-beside_text (Some t) o = taker_text t o
+beside_text (Some t) o = codes ": " ++ named_text t ++ met_text o
 
 abbrev pub cause_text : File → Told → List ℕ
 cause_text f t = own_text f t.problem.entry t.problem.rule t.problem.key.now ++ beside_text t.taker t.other

@@ -2,9 +2,9 @@
 --     pattern_parts n text      what is asked of the text of a pattern of a block of n bytes
 --     pattern_words n text      the first of it that isn't kept
 --     masks_text n p      what is said of the patterns of a block
-use Rattle.std.specs.Prelude.{ℕ, nat_abs, nat_le, nat_lt, ◌==◌, ◌/◌, ◌%◌, Bool, not, ◌&&◌, ◌||◌, List, [], ◌∷◌, ◌++◌, length, slice_index, codes, Option, Some, None, if◌then◌else◌}
+use Rattle.std.specs.Prelude.{ℕ, nat_le, nat_lt, ◌==◌, ◌/◌, ◌%◌, Bool, not, ◌&&◌, ◌||◌, List, [], ◌∷◌, ◌++◌, length, slice_index, codes, Option, Some, None, if◌then◌else◌}
 use Rattle.std.specs.List.{list_all}
-use Rattle.board_file.specs.Entries.{Patterns, Bar, Config}
+use Rattle.board_file.specs.Entries.{Patterns}
 use Rattle.board_refusal.specs.ApertureCauses.{Part, first_words}
 
 -- 48 is the digit 0, and 120 the letter x
@@ -47,9 +47,3 @@ masks_text n p =
     else if not (length (pattern_words n p.writable) == 0) then keyed_text (codes "rw") (pattern_words n p.writable)
     else if not (length (pattern_words n p.clearable) == 0) then keyed_text (codes "w1c") (pattern_words n p.clearable)
     else codes ": a bit is in both rw and w1c"
-
-abbrev pub bar_masks_text : Bar → List ℕ
-bar_masks_text b = masks_text (nat_abs b.block) b.patterns
-
-abbrev pub config_masks_text : Config → List ℕ
-config_masks_text c = masks_text (nat_abs c.block) c.patterns

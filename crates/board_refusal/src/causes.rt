@@ -1,16 +1,13 @@
 //! What is said of a problem beyond the words of its rule.
-ghost use Rattle.std.specs.Prelude.{◌≡◌, [], OnOk};
-ghost use Rattle.std.specs.Option.{option_map_or};
+ghost use Rattle.std.specs.Prelude.{◌≡◌, OnOk};
 ghost use Rattle.lists.specs.Texts.{Adds};
 ghost use Rattle.board_file.specs.Functions.{standings};
-ghost use Rattle.board_refusal.specs.Causes.{patterns_text, path_cause_text, own_text, met_text, taker_text, beside_text, cause_text};
-ghost use Rattle.board_refusal.specs.Said.{bar_of};
-ghost use Rattle.board_refusal.specs.SizeCauses.{bar_text};
+ghost use Rattle.board_refusal.specs.Causes.{patterns_text, path_cause_text, own_text, met_text, beside_text, cause_text};
 
 use crate::aperture_causes::{io_words, mem_words, pref_words};
 use crate::key_causes::{push_asked, push_known};
 use crate::path_causes::{push_bridge, push_path_form, push_slot, push_zero};
-use crate::pattern_causes::{push_bar_masks, push_config_masks};
+use crate::pattern_causes::push_masks;
 use crate::said::{at_of, bar_of, config_of};
 use crate::size_causes::push_bar;
 use crate::told::Told;
@@ -21,26 +18,15 @@ use board_file::{Entry, Problem, Rule};
 use diagnostics::{Other, push_named, push_other};
 use std::alloc::{AllocError, Global};
 
-/// Appends what is wrong with the size of the region of an entry.
-fn push_size(text: &mut String, file: &FileEntries<'_>, entry: Entry) -> Result<(), AllocError>
-    ensures { OnOk result (Adds text.old text.new
-        (option_map_or bar_text (bar_of file.now entry) [])) }
-{
-    match bar_of(file, entry) {
-        Some(bar) => push_bar(text, bar),
-        None => Ok(()),
-    }
-}
-
 /// Appends what is wrong with the patterns of the region or the block of an entry.
 fn push_patterns(text: &mut String, file: &FileEntries<'_>, entry: Entry) -> Result<(), AllocError>
     ensures { OnOk result (Adds text.old text.new (patterns_text file.now entry)) }
 {
     if let Some(bar) = bar_of(file, entry) {
-        return push_bar_masks(text, bar);
+        return push_masks(text, bar.block.unsigned_abs(), &bar.patterns);
     }
     match config_of(file, entry) {
-        Some(config) => push_config_masks(text, config),
+        Some(config) => push_masks(text, config.block.unsigned_abs(), &config.patterns),
         None => Ok(()),
     }
 }
@@ -85,7 +71,10 @@ fn push_own(
     match problem.rule {
         Rule::Known => push_known(alloc, text, level, problem.key),
         Rule::Form => push_asked(text, level, problem.key),
-        Rule::Size => push_size(text, file, problem.entry),
+        Rule::Size => match bar_of(file, problem.entry) {
+            Some(bar) => push_bar(text, bar),
+            None => Ok(()),
+        },
         Rule::BarMasks | Rule::ConfigMasks => push_patterns(text, file, problem.entry),
         Rule::IoAperture => text.push_str(io_words(file.io)),
         Rule::MemAperture => text.push_str(mem_words(file.mem)),
@@ -112,16 +101,7 @@ fn push_met(text: &mut String, met: Option<Other>) -> Result<(), AllocError>
     }
 }
 
-/// Appends the region that has no registers of its own, and why.
-fn push_taker(text: &mut String, taker: Other, met: Option<Other>) -> Result<(), AllocError>
-    ensures { OnOk result (Adds text.old text.new (taker_text taker met)) }
-{
-    text.push_str(": ")?;
-    push_named(text, taker)?;
-    push_met(text, met)
-}
-
-/// Appends what other entries have to do with a problem.
+/// Appends what other entries have to do with a problem: the region that has no registers of its own, and why.
 fn push_beside(
     text: &mut String,
     taker: Option<Other>,
@@ -130,7 +110,11 @@ fn push_beside(
     ensures { OnOk result (Adds text.old text.new (beside_text taker other)) }
 {
     match taker {
-        Some(taker) => push_taker(text, taker, other),
+        Some(taker) => {
+            text.push_str(": ")?;
+            push_named(text, taker)?;
+            push_met(text, other)
+        }
         None => push_other(text, other),
     }
 }

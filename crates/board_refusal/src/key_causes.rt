@@ -2,7 +2,7 @@
 ghost use Rattle.std.specs.Prelude.{◌≡◌, ◌<◌, map, flat_map, IfOk, OnOk, option_map};
 ghost use Rattle.lists.specs.Texts.{Adds};
 ghost use Rattle.board_file.specs.Schema.{fields, field_of};
-ghost use Rattle.board_refusal.specs.KeyCauses.{distance, is_off, first_off, nearest, with_comma, keys_text, all_text, meant_text, known_text, form_text, asked_form, asked_text};
+ghost use Rattle.board_refusal.specs.KeyCauses.{distance, is_off, first_off, nearest, with_comma, keys_text, all_text, meant_text, known_text, form_text, asked_text};
 
 use board_file::keys::fields;
 use board_file::schema::{Field, Form, Level, Words, form_at};
@@ -142,16 +142,6 @@ fn form_words(form: Form) -> &'static str
     }
 }
 
-/// What stands at a key of a table of the level.
-fn asked_form(level: Option<Level>, key: &str) -> Option<Form>
-    ensures { result ≡ asked_form level key.now }
-{
-    match level {
-        Some(level) => form_at(level, key),
-        None => None,
-    }
-}
-
 /// Appends what to write at a key of a table of the level.
 pub(crate) fn push_asked(
     text: &mut String,
@@ -160,7 +150,10 @@ pub(crate) fn push_asked(
 ) -> Result<(), AllocError>
     ensures { OnOk result (Adds text.old text.new (asked_text level key.now)) }
 {
-    match asked_form(level, key) {
+    let Some(level) = level else {
+        return Ok(());
+    };
+    match form_at(level, key) {
         Some(form) => text.push_str(form_words(form)),
         None => Ok(()),
     }

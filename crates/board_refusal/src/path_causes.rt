@@ -3,7 +3,7 @@ ghost use Rattle.std.specs.Prelude.{◌≡◌, ◌<◌, ◌≤◌, ◌++◌, cod
 ghost use Rattle.lists.specs.Texts.{Adds};
 ghost use Rattle.board_file.specs.PathTexts.{path_at};
 ghost use Rattle.diagnostics.specs.Shown.{shown_byte};
-ghost use Rattle.board_refusal.specs.PathCauses.{without_bus, unpadded, meant_path, meant_text, path_form_text, is_gap, first_gap, gap_text, bridge_text, zero_text, slot_text};
+ghost use Rattle.board_refusal.specs.PathCauses.{without_bus, unpadded, meant_path, path_form_text, is_gap, first_gap, gap_text, bridge_text, zero_text, slot_text};
 
 use board_file::path_text::{PathText, path_of};
 use board_file::places::{FunctionPath, has_bridge};
@@ -47,23 +47,6 @@ fn meant_path(alloc: Global, text: &[u8]) -> Result<Option<Vec<u8>>, AllocError>
     Ok(Some(path))
 }
 
-/// Appends the path that may be meant, or what a path is.
-fn push_meant(text: &mut String, meant: Option<&[u8]>) -> Result<(), AllocError>
-    ensures { OnOk result (Adds text.old text.new
-        (meant_text (option_map (λ p. p.now) meant.entry))) }
-{
-    match meant {
-        Some(path) => {
-            text.push_str(": is ")?;
-            push_shown(text, path)?;
-            text.push_str(" meant?")
-        }
-        None => text.push_str(
-            ": write parts of device and function, as 2.0/1.0: devices are 0 to 15, functions 0 to 7, without leading zeros",
-        ),
-    }
-}
-
 /// Appends what may be meant by a text that is no path.
 pub(crate) fn push_path_form(
     alloc: Global,
@@ -73,8 +56,14 @@ pub(crate) fn push_path_form(
     ensures { OnOk result (Adds text.old text.new (path_form_text at.now)) }
 {
     match meant_path(alloc, at.text().as_bytes())? {
-        Some(path) => push_meant(text, Some(&path)),
-        None => push_meant(text, None),
+        Some(path) => {
+            text.push_str(": is ")?;
+            push_shown(text, &path)?;
+            text.push_str(" meant?")
+        }
+        None => text.push_str(
+            ": write parts of device and function, as 2.0/1.0: devices are 0 to 15, functions 0 to 7, without leading zeros",
+        ),
     }
 }
 

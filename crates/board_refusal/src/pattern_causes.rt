@@ -1,11 +1,11 @@
 //! What is said of patterns that are not lawful.
 ghost use Rattle.std.specs.Prelude.{◌≡◌, OnOk, option_map};
 ghost use Rattle.lists.specs.Texts.{Adds};
-ghost use Rattle.board_refusal.specs.PatternCauses.{begins_with_0x, is_digit, are_digits, has_whole_bytes, has_room, pattern_parts, pattern_words, keyed_text, masks_text, bar_masks_text, config_masks_text};
+ghost use Rattle.board_refusal.specs.PatternCauses.{begins_with_0x, is_digit, are_digits, has_whole_bytes, has_room, pattern_parts, pattern_words, keyed_text, masks_text};
 ghost use Rattle.board_refusal.specs.ApertureCauses.{first_words};
 
 use crate::aperture_causes::first_words;
-use board_file::entries::{BarEntry, ConfigEntry, PatternTexts};
+use board_file::entries::PatternTexts;
 use std::alloc::AllocError;
 
 /// Whether the text begins as a number of a board file may.
@@ -93,7 +93,11 @@ fn push_keyed(text: &mut String, key: &str, words: &str) -> Result<(), AllocErro
 }
 
 /// Appends what is said of the patterns of a block.
-fn push_masks(text: &mut String, len: u64, patterns: &PatternTexts<'_>) -> Result<(), AllocError>
+pub(crate) fn push_masks(
+    text: &mut String,
+    len: u64,
+    patterns: &PatternTexts<'_>,
+) -> Result<(), AllocError>
     ensures { OnOk result (Adds text.old text.new (masks_text len patterns.now)) }
 {
     let reset = pattern_words(len, patterns.reset);
@@ -109,21 +113,4 @@ fn push_masks(text: &mut String, len: u64, patterns: &PatternTexts<'_>) -> Resul
         return push_keyed(text, "w1c", w1c);
     }
     text.push_str(": a bit is in both rw and w1c")
-}
-
-/// Appends what is wrong with the patterns of a region.
-pub(crate) fn push_bar_masks(text: &mut String, bar: &BarEntry<'_>) -> Result<(), AllocError>
-    ensures { OnOk result (Adds text.old text.new (bar_masks_text bar.now)) }
-{
-    push_masks(text, bar.block.unsigned_abs(), &bar.patterns)
-}
-
-/// Appends what is wrong with the patterns of a block of own registers.
-pub(crate) fn push_config_masks(
-    text: &mut String,
-    config: &ConfigEntry<'_>,
-) -> Result<(), AllocError>
-    ensures { OnOk result (Adds text.old text.new (config_masks_text config.now)) }
-{
-    push_masks(text, config.block.unsigned_abs(), &config.patterns)
 }

@@ -4,7 +4,7 @@ ghost use Rattle.std.specs.List.{flat_map};
 ghost use Rattle.lists.specs.Texts.{Adds};
 ghost use Rattle.toml.specs.View.{table_view};
 ghost use Rattle.board_file.specs.declared.fault.BoardFault.TheVariants.{NotToml};
-ghost use Rattle.board_refusal.specs.Texts.{fault_text, said_text, problem_text, below_problem_text, told_text, bare_text, reasoned_text, unread_text, count_text, lines_text};
+ghost use Rattle.board_refusal.specs.Texts.{fault_text, said_text, problem_text, told_text, reasoned_text, unread_text, count_text, lines_text};
 
 use crate::causes::push_cause;
 use crate::told::Told;
@@ -14,7 +14,6 @@ use diagnostics::{
     Place, Style, Telling, line_at, push_below, push_line_number, push_place, push_shown_line,
 };
 use std::alloc::{AllocError, Global};
-use toml::Table;
 
 /// Appends the number and the words of a fault, and ends the line.
 fn push_fault(text: &mut String, fault: BoardFault) -> Result<(), AllocError>
@@ -66,29 +65,6 @@ fn push_problem_line(
     push_said(alloc, text, source, told)
 }
 
-/// Appends the line of the file at the place of a problem, where that is known.
-fn push_below_problem(
-    alloc: Global,
-    text: &mut String,
-    bytes: &[u8],
-    document: &Table,
-    told: &Told<'_>,
-) -> Result<(), AllocError>
-    ensures { OnOk result (Adds text.old text.new
-        (below_problem_text (table_view document.now) bytes.now told.now)) }
-{
-    let problem = told.problem;
-    push_below(
-        alloc,
-        text,
-        bytes,
-        document,
-        problem.entry,
-        problem.key,
-        told.place,
-    )
-}
-
 /// Appends what is told of a problem.
 fn push_problem(
     alloc: Global,
@@ -103,7 +79,15 @@ fn push_problem(
     push_problem_line(alloc, text, telling.name, source, told)?;
     match telling.style {
         Style::Plain => Ok(()),
-        Style::WithExcerpts => push_below_problem(alloc, text, source.bytes, source.document, told),
+        Style::WithExcerpts => push_below(
+            alloc,
+            text,
+            source.bytes,
+            source.document,
+            told.problem.entry,
+            told.problem.key,
+            told.place,
+        ),
     }
 }
 
@@ -122,15 +106,6 @@ fn push_problems(
         push_problem(alloc, text, telling, source, one)?;
     }
     Ok(())
-}
-
-/// Appends the line of a fault of which no entry is told.
-fn push_bare(text: &mut String, name: &str, fault: BoardFault) -> Result<(), AllocError>
-    ensures { OnOk result (Adds text.old text.new (bare_text name.now fault)) }
-{
-    text.push_str(name)?;
-    text.push_str(": refused")?;
-    push_fault(text, fault)
 }
 
 /// Appends the line of a fault of bytes that are no document, with the reason of the reader.
@@ -196,7 +171,9 @@ pub(crate) fn push_lines(
         (lines_text telling.now.style telling.now.name.now (table_view source.now.document.now) source.now.bytes.now fault told.now)) }
 {
     if told.is_empty() {
-        return push_bare(text, telling.name, fault);
+        text.push_str(telling.name)?;
+        text.push_str(": refused")?;
+        return push_fault(text, fault);
     }
     push_problems(alloc, text, telling, source, told)?;
     push_count(text, told.len())
