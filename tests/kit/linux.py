@@ -18,7 +18,7 @@ ENABLED = "all are enabled"
 # the words of the first process: for each function that Linux found, what its driver would have Linux do
 FIRST = (f"/bin/busybox mkdir -p /sys; /bin/busybox mount -t sysfs sys /sys; for at in /sys/bus/pci/devices/*; "
          f"do echo 1 > $at/enable; done; echo {ENABLED}; /bin/busybox sleep 1000")
-APPEND = f'console=ttyS0 acpi=off pci=assign-busses rdinit=/bin/busybox -- sh -c "{FIRST}"'
+APPEND = f'console=ttyS0 acpi=off no_timer_check pci=assign-busses rdinit=/bin/busybox -- sh -c "{FIRST}"'
 LINUX = edk2.System(
     edk2.boot.Firmware("Linux", "/usr/share/qemu/qboot.rom", f"\n{ENABLED}\r\n", (), False),
     ["-machine", "pc,accel=tcg,acpi=off", "-m", "256"],

@@ -28,8 +28,8 @@ class Machine:
         words = [attach, *(f"{5 + n}={path}" for n, path in enumerate(paths)), "qemu-system-x86_64", "-nodefaults",
                  "-no-user-config", "-display", "none", "-machine", "pc,accel=tcg,memory-backend=ram", "-object",
                  "memory-backend-memfd,id=ram,size=192M,share=on", "-m", "192", "-kernel", f"{out}/vmlinuz", "-initrd",
-                 f"{out}/initrd", "-append", "console=ttyS0 quiet panic=-1", "-serial", f"file:{room}/console", "-chardev",
-                 "stdio,id=words,signal=off", "-serial", "chardev:words", "-monitor",
+                 f"{out}/initrd", "-append", "console=ttyS0 quiet panic=-1 no_timer_check", "-serial", f"file:{room}/console",
+                 "-chardev", "stdio,id=words,signal=off", "-serial", "chardev:words", "-monitor",
                  f"unix:{self.monitor_path},server=on,wait=off", *devices]
         self.process = subprocess.Popen(["timeout", "600", *words], stdin=subprocess.PIPE, stdout=subprocess.PIPE)
         self.answer()
