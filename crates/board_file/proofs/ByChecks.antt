@@ -1,23 +1,24 @@
 -- What is known of a document by its checks.
---     is_judged      where all hold but that of cell masks
+--     judged      where all hold but that of cell masks
 --     refused, accepted, refused_last      what a document means by them
 --     judged_file, refused_first, means_world, means_masks      the same by the first of them that fails, if one does
-use Rattle.std.proofs.Common.{◌≡◌, inl, inr, ℕ, Bool, true, false, List, [], ◌∷◌, ◌++◌, map, Option, None, Some, Ok, Err, refl, sym, ap, subst, ◌∙◌, arith}
+use Rattle.std.proofs.Common.{◌≡◌, ℕ, Bool, true, false, List, [], ◌∷◌, ◌++◌, map, Option, None, Some, Ok, Err, refl, sym, ap, subst, ◌∙◌, arith}
 use Rattle.std.specs.Prelude.{option_map}
 use Rattle.std.specs.List.{list_all}
+use Rattle.std.proofs.lemmas.Bool.{and_parts}
 use Rattle.toml.specs.Data.{Members}
-use Rattle.lists.specs.Elements.{IsIn}
+use Rattle.lists.proofs.Tests.{right_true}
 use Rattle.model_registers.specs.DeclarationRules.{first_broken}
 use Rattle.board_file.specs.Entries.{File, file}
 use Rattle.board_file.specs.Faults.{number_of}
-use Rattle.board_file.specs.Judged.{IsJudged}
+use Rattle.board_file.specs.Judged.{is_judged}
 use Rattle.board_file.specs.KeyProblems.{problems_of}
-use Rattle.board_file.specs.Meaning.{order, check, early_checks, checks, unless, world_of, meaning}
+use Rattle.board_file.specs.Meaning.{file_checks, order, check, early_checks, checks, unless, world_of, meaning}
 use Rattle.board_file.specs.Problems.{none}
 use Rattle.board_file.specs.Rules.{masks_hold}
 use Rattle.board_file.specs.declared.fault.BoardFault.{BoardFault}
 use Rattle.board_file.specs.declared.fault.BoardFault.TheVariants as fault
-use Rattle.board_file.proofs.NoProblems.{no_problems}
+use Rattle.board_file.proofs.Asked.{masks}
 
 -- with one check more
 pub broken_before : (cs : List (ℕ × Bool)) (last : ℕ × Bool) (n : ℕ) → first_broken cs ≡ Some n → first_broken (cs ++ last ∷ []) ≡ Some n
@@ -28,31 +29,23 @@ pub broken_last : (cs : List (ℕ × Bool)) (last : ℕ × Bool) → first_broke
 broken_last [] last h = refl
 broken_last ((m, b) ∷ cs) last h = grind (arith, broken_last cs last)
 
-module _ (ms : Members) where
-  passes : (fs : List BoardFault) → first_broken (map (check ms) fs) ≡ None → (f : BoardFault) → IsIn f fs → none (problems_of ms f) ≡ true
-  passes [] h f isin = absurd isin
-  passes (g ∷ gs) h f (inl same) = grind arith
-  passes (g ∷ gs) h f (inr later) = grind (arith, passes gs)
+all_pass : (ms : Members) (fs : List BoardFault) → first_broken (map (check ms) fs) ≡ None → list_all (λ f. none (problems_of ms f)) fs ≡ true
+all_pass ms [] h = refl
+all_pass ms (f ∷ fs) h = grind (arith, all_pass ms fs)
 
+module _ (ms : Members) where
   module _ (all : first_broken (early_checks ms) ≡ None) where
-    pub is_judged : IsJudged (file ms)
+    pub judged : is_judged (file ms) ≡ true
     unfolding problems_of
-    is_judged = record {
-      numbers = sym (no_problems (file ms) fault.Number) ∙ passes order all fault.Number (inr (inr (inl refl)));
-      counts = sym (no_problems (file ms) fault.TooMany) ∙ passes order all fault.TooMany (inr (inr (inr (inl refl))));
-      places = sym (no_problems (file ms) fault.Place) ∙ passes order all fault.Place (inr (inr (inr (inr (inl refl)))));
-      registers = sym (no_problems (file ms) fault.Register) ∙ passes order all fault.Register (inr (inr (inr (inr (inr (inl refl))))));
-      sizes = sym (no_problems (file ms) fault.Size) ∙ passes order all fault.Size (inr (inr (inr (inr (inr (inr (inl refl)))))));
-      names = sym (no_problems (file ms) fault.GuestName) ∙ passes order all fault.GuestName (inr (inr (inr (inr (inr (inr (inr (inl refl))))))));
-      slots = sym (no_problems (file ms) fault.Slot) ∙ passes order all fault.Slot (inr (inr (inr (inr (inr (inr (inr (inr (inl refl)))))))));
-      apertures = sym (no_problems (file ms) fault.Aperture) ∙ passes order all fault.Aperture (inr (inr (inr (inr (inr (inr (inr (inr (inr (inl refl))))))))));
-    }
+    judged =
+        let (key, more) = and_parts (none (problems_of ms fault.Key)) (list_all (λ f. none (problems_of ms f)) (fault.UnknownKey ∷ file_checks)) (all_pass ms order all) in
+        right_true (none (problems_of ms fault.UnknownKey)) (is_judged (file ms)) more
 
     by_masks : (b : Bool) → list_all masks_hold (file ms).endpoints ≡ b → first_broken (checks ms) ≡ first_broken ((112, b) ∷ [])
     unfolding problems_of
     by_masks b is =
         broken_last (early_checks ms) (check ms fault.CellMasks) all
-        ∙ ap (λ (kept : Bool). first_broken ((112, kept) ∷ [])) (no_problems (file ms) fault.CellMasks ∙ is)
+        ∙ ap (λ (kept : Bool). first_broken ((112, kept) ∷ [])) (masks (file ms) ∙ is)
 
     pub accepted : list_all masks_hold (file ms).endpoints ≡ true → meaning ms ≡ Ok (world_of (file ms))
     accepted h = ap (λ (o : Option ℕ). unless o (world_of (file ms))) (by_masks true h)
@@ -69,8 +62,8 @@ module _ (ms : Members) (f : File) (said : f ≡ file ms) (found : Option BoardF
   pub none_failed : found ≡ None → first_broken (early_checks ms) ≡ None
   none_failed none = sym first ∙ ap (option_map number_of) none
 
-  pub judged_file : found ≡ None → IsJudged f
-  judged_file none = subst IsJudged (sym said) (is_judged ms (none_failed none))
+  pub judged_file : found ≡ None → is_judged f ≡ true
+  judged_file none = ap is_judged said ∙ judged ms (none_failed none)
 
   pub refused_first : (e : BoardFault) → found ≡ Some e → meaning ms ≡ Err (number_of e)
   refused_first e some = refused ms (number_of e) (sym first ∙ ap (option_map number_of) some)

@@ -1,45 +1,98 @@
-use Rattle.std.proofs.lemmas.Grind.{common_steps}
 -- The world of a judged file is lawful.
-use Rattle.std.proofs.Common.{◌≡◌, ℕ, ◌≤◌, Bool, true, false, ◌&&◌, ◌||◌, not, cond, List, [], ◌∷◌, ◌++◌, map, length, nat_le, Option, Some, None, refl, sym, ap, ◌∙◌, subst, arith, leb-true, IsTrue, IsFalse, IsSome}
+use Rattle.std.proofs.Common.{◌≡◌, ◌⊎◌, inl, inr, ℕ, ◌+◌, ◌≤◌, Bool, true, false, ◌&&◌, ◌||◌, not, cond, List, [], ◌∷◌, map, length, nat_le, Option, Some, None, refl, sym, ap, ◌∙◌, subst, arith, leb-true, IsTrue, IsFalse, IsSome}
 use Rattle.std.specs.Prelude.{find, flat_map}
-use Rattle.std.specs.List.{list_all, list_any}
+use Rattle.std.specs.List.{list_all, list_any, enumerate_from}
 use Rattle.std.specs.Option.{option_map_or}
 use Rattle.std.specs.Str.{bytes_eq}
-use Rattle.std.proofs.lemmas.Bool.{and_parts, not-true}
+use Rattle.std.proofs.lemmas.Bool.{and_parts, not-true, or_cases}
 use Rattle.std.proofs.lemmas.List.{length-map, map-append}
 use Rattle.std.proofs.lemmas.Simd.{map-map}
-use Rattle.lists.specs.Elements.{Each, EachPair, all_pairs}
-use Rattle.lists.proofs.EachLemmas.{each_map, each_of_map, each_test}
+use Rattle.lists.specs.Elements.{IsIn, Each, EachPair, all_pairs}
+use Rattle.lists.proofs.EachLemmas.{each_map, each_of_map, each_from_map, each_test, pairs_map, pairs_from_map, pairs_test}
+use Rattle.lists.proofs.Members.{all_in, each_from, pairs_of_map, pairs_weaker}
 use Rattle.lists.proofs.Tests.{left_true, right_true}
-use Rattle.model_board.specs.Paths.{Path, path_eq}
+use Rattle.model_board.specs.Paths.{Path, IsPath, path_eq, parent, function_zero}
 use Rattle.model_board.specs.Board.{Decl, Row, Board, IsBoard, is_bridge, stands_at, is_bridge_at}
-use Rattle.model_board.specs.Places.{standing, has_path, has_bridge, board_of, AreLawfulPlaces}
+use Rattle.model_board.specs.Places.{Standing, standing, has_path, has_bridge, board_of, IsFounded, AreLawfulPlaces}
 use Rattle.model_board.specs.Lawful.{HasLawfulDecls, IsLawfulDecl}
-use Rattle.model_board.proofs.PlacesLaw.{any_board, each_to_board, lawful_places_are_boards}
+use Rattle.model_board.proofs.PlacesLaw.{any_board, apart_turn, each_to_board, lawful_places_are_boards}
 use Rattle.model_registers.specs.Registers as registers
 use Rattle.model_board.specs.State.{row_at, State}
 use Rattle.model_board.specs.AtReset.{reset_state, reset_file, board_at, IsAtReset}
 use Rattle.model_guests.specs.World as world
 use Rattle.model_guests.specs.World.{is_name, declared, HasLawfulGuests, IsLawfulWorld}
-use Rattle.board_file.specs.Entries.{Guest, File}
+use Rattle.board_file.specs.Entries.{Endpoint, Bridge, Guest, File}
 use Rattle.board_file.specs.Functions.{rows, standings, guest}
 use Rattle.board_file.specs.PathTexts.{is_path_text, path_at}
-use Rattle.board_file.specs.Rules.{have_paths, are_places, names, slots, is_endpoint, names_endpoint}
-use Rattle.board_file.specs.Judged.{IsJudged, IsShortGuest}
+use Rattle.board_file.specs.Rules.{is_root, is_endpoint, names_endpoint}
+use Rattle.board_file.specs.EntryRules.{are_same_place, is_behind_bridge}
+use Rattle.board_file.specs.PathEntries.{guest_texts, place_texts, slot_texts}
+use Rattle.board_file.specs.Problems.{none, problems_in}
+use Rattle.board_file.specs.Judged.{is_judged, IsShortGuest}
 use Rattle.board_file.specs.Meaning.{world_of}
-use Rattle.board_file.proofs.ListTests.{pairs_of_test, lawful_places}
-use Rattle.board_file.proofs.PathParts.{places_are_paths}
-use Rattle.board_file.proofs.Tests.{all-flat}
+use Rattle.board_file.specs.declared.entry.Entry.{Entry}
+use Rattle.board_file.specs.declared.fault.BoardFault.TheVariants as fault
+use Rattle.board_file.proofs.Asked.{others, unbroken, counts, names, places, slots}
+use Rattle.board_file.proofs.ListTests.{pairs_of_test}
+use Rattle.board_file.proofs.PathParts.{path_at_is_path}
+use Rattle.board_file.proofs.Tests.{first_three, imply_all}
+
+-- ---- texts of paths
+
+-- what is made of each element with its index, but not of the index
+unnumbered : {A B : Type 0} (g : A → B) (n : ℕ) (xs : List A) → map (λ (p : ℕ × A). g p.1) (enumerate_from n xs) ≡ map g xs
+unnumbered g n [] = refl
+unnumbered g n (x ∷ xs) = ap (λ ys. g x ∷ ys) (unnumbered g (n + 1) xs)
+
+abbrev path_in : Entry × List ℕ → Path
+path_in s = path_at s.1
+
+differ : (s t : List ℕ) → is_path_text s ≡ true → is_path_text t ≡ true → not (are_same_place s t) ≡ true → path_eq (path_at s) (path_at t) ≡ false
+differ s t a b h = grind arith
+
+apart : (texts : List (Entry × List ℕ)) → list_all (λ s. is_path_text s.1) texts ≡ true → all_pairs others texts ≡ true
+    → EachPair (λ p q. IsFalse (path_eq p q)) (map path_in texts)
+apart texts paths own =
+    pairs_of_map (λ p q. IsFalse (path_eq p q)) path_in texts
+    (pairs_weaker (λ s t. IsTrue (others s t)) (λ s t. IsFalse (path_eq (path_in s) (path_in t))) texts (pairs_test others texts own)
+    (λ s t a b. differ s.1 t.1 (all_in (λ u. is_path_text u.1) s texts paths a) (all_in (λ u. is_path_text u.1) t texts paths b)))
 
 -- ---- the board
+
+place_paths : (f : File) → map path_in (place_texts f) ≡ map (λ (s : Standing). s.path) (standings f)
+place_paths f = simp (map-append, map-map, unnumbered (λ (e : Endpoint). path_at e.at) 0 f.endpoints, unnumbered (λ (b : Bridge). path_at b.at) 0 f.bridges)
+
+root_of_test : (p : Path) → is_root p ≡ true → p ≡ []
+root_of_test p h = grind arith
+
+abbrev Founded : List Standing → Path → Type 0
+Founded ss p = IsPath p × ((parent p ≡ []) ⊎ IsTrue (has_bridge ss (parent p))) × IsTrue (has_path ss (function_zero p))
+
+behind : (ss : List Standing) (p : Path) → is_behind_bridge ss p ≡ true → (p ≡ []) ⊎ IsTrue (has_bridge ss p)
+behind ss p h = grind (arith, or_cases, root_of_test)
+
+lawful_places : (f : File) → none (problems_in f fault.Place) ≡ true → AreLawfulPlaces (standings f)
+lawful_places f h =
+    let ss = standings f in let texts = place_texts f in
+    let (paths, own, bridges, zeros) = first_three _ _ _ _ (sym (places f) ∙ h) in
+    let each = each_from (λ t. Founded ss (path_in t)) texts
+    (λ t m. (
+      path_at_is_path t.1,
+      behind ss (parent (path_in t)) (all_in (λ u. is_behind_bridge ss (parent (path_in u))) t texts bridges m),
+      all_in (λ u. has_path ss (function_zero (path_in u))) t texts zeros m,
+    )) in
+    let there = each_from_map (Founded ss) (λ (s : Standing). s.path) ss (subst (Each (Founded ss)) (place_paths f) (each_of_map (Founded ss) path_in texts each)) in
+    let turned = pairs_map (λ p q. IsFalse (path_eq p q)) (λ p q. IsFalse (path_eq q p)) (map path_in texts) apart_turn (apart texts paths own) in
+    record {
+      founded = each_map (λ (s : Standing). Founded ss s.path) (IsFounded ss) ss (λ s k. record { path = k.0; behind_bridge = k.1; function_zero = k.2 }) there;
+      apart = pairs_from_map (λ p q. IsFalse (path_eq q p)) (λ (s : Standing). s.path) ss (subst (EachPair (λ p q. IsFalse (path_eq q p))) (place_paths f) turned);
+    }
 
 places_of_rows : (f : File) → map standing (rows f) ≡ standings f
 places_of_rows f = simp (map-append, map-map)
 
-pub is_board : (f : File) → IsJudged f → IsBoard (board_of (rows f))
-is_board f j =
-    let lawful = lawful_places (standings f) (places_are_paths f) (right_true (have_paths f) (are_places (standings f)) j.places) in
-    (lawful_places_are_boards (rows f)).0 (subst AreLawfulPlaces (sym (places_of_rows f)) lawful)
+pub is_board : (f : File) → is_judged f ≡ true → IsBoard (board_of (rows f))
+is_board f j = (lawful_places_are_boards (rows f)).0 (subst AreLawfulPlaces (sym (places_of_rows f)) (lawful_places f (unbroken f j fault.Place (inr (inr (inl refl))))))
 
 -- ---- slots
 
@@ -72,61 +125,57 @@ names_slot f t h =
     let bridge' : has_bridge (map standing (rows f)) (path_at t) ≡ false = rw same (not-true (has_bridge (standings f) (path_at t)) no_bridge) in
     finds (board_of (rows f)) (path_at t) (sym (stands (rows f) (path_at t)) ∙ there') (sym (bridges (rows f) (path_at t)) ∙ bridge')
 
-slots_named : (f : File) (ts : List (List ℕ)) → list_all (names_endpoint (standings f)) ts ≡ true → Each (λ p. IsSome (declared (board_of (rows f)) p)) (map path_at ts)
-slots_named f ts h =
-    each_of_map (λ p. IsSome (declared (board_of (rows f)) p)) path_at ts
-    (each_map (λ t. IsTrue (names_endpoint (standings f) t)) (λ t. IsSome (declared (board_of (rows f)) (path_at t))) ts (names_slot f) (each_test (names_endpoint (standings f)) ts h))
+slots_named : (f : File) → list_all (λ s. names_endpoint (standings f) s.1) (slot_texts f) ≡ true → Each (λ p. IsSome (declared (board_of (rows f)) p)) (map path_in (slot_texts f))
+slots_named f h =
+    each_of_map (λ p. IsSome (declared (board_of (rows f)) p)) path_in (slot_texts f)
+    (each_from (λ s. IsSome (declared (board_of (rows f)) (path_in s))) (slot_texts f) (λ s m. names_slot f s.1 (all_in (λ t. names_endpoint (standings f) t.1) s (slot_texts f) h m)))
 
 -- ---- guests
 
-same_names : (gs : List Guest) → map (λ g. g.name) (map guest gs) ≡ map (λ g. g.name) gs
-same_names gs = simp map-map
+slot_paths : (n : ℕ) (gs : List Guest) → map path_in (flat_map guest_texts (enumerate_from n gs)) ≡ flat_map (λ (g : world.Guest). g.slots) (map guest gs)
+slot_paths n [] = refl
+slot_paths n (g ∷ gs) = simp (map-append, map-map, unnumbered path_at 0 g.slots, slot_paths (n + 1) gs)
 
-same_slots : (gs : List Guest) → flat_map (λ (g : world.Guest). g.slots) (map guest gs) ≡ map path_at (flat_map (λ (g : Guest). g.slots) gs)
-same_slots [] = refl
-same_slots (g ∷ gs) = ap (λ ps. map path_at g.slots ++ ps) (same_slots gs) ∙ sym (map-append path_at g.slots (flat_map (λ (g : Guest). g.slots) gs))
+module _ (f : File) (j : is_judged f ≡ true) where
+  counts_of : (length f.guests ≤ 32) × (list_all (λ g. nat_le (length g.slots) 32) f.guests ≡ true)
+  counts_of =
+      let (functions, guests, endpoints, more) = first_three _ _ _ _ (sym (counts f) ∙ unbroken f j fault.TooMany (inr (inl refl))) in
+      (leb-true (length f.guests) 32 guests, right_true _ _ more)
 
-few : (gs : List Guest) → list_all (λ g. nat_le (length g.slots) 32) gs ≡ true → Each (λ g. length g.slots ≤ 32) (map guest gs)
-few gs h =
-    each_of_map (λ (g : world.Guest). length g.slots ≤ 32) guest gs
-    (each_map (λ (g : Guest). IsTrue (nat_le (length g.slots) 32)) (λ g. length (map path_at g.slots) ≤ 32) gs
-    (λ g is. rw (length-map g.slots path_at) (leb-true (length g.slots) 32 is)) (each_test (λ (g : Guest). nat_le (length g.slots) 32) gs h))
+  names_of : (list_all (λ g. is_name g.name) f.guests ≡ true) × (all_pairs (λ g h. not (bytes_eq g.name h.name)) f.guests ≡ true)
+  names_of = and_parts _ _ (sym (names f) ∙ unbroken f j fault.GuestName (inr (inr (inr (inr (inr (inl refl)))))))
 
-few_slots : (f : File) → IsJudged f → list_all (λ g. nat_le (length g.slots) 32) f.guests ≡ true
-few_slots f j = right_true _ (list_all (λ (g : Guest). nat_le (length g.slots) 32) f.guests) j.counts
-
-few_guests : (f : File) → IsJudged f → length (map guest f.guests) ≤ 32
-few_guests f j = grind (arith, left_true, length-map, leb-true, right_true)
+  few : (g : Guest) → IsIn g f.guests → length g.slots ≤ 32
+  few g m = leb-true (length g.slots) 32 (all_in (λ (h : Guest). nat_le (length h.slots) 32) g f.guests counts_of.1 m)
 
 short_name : (n : List ℕ) → is_name n ≡ true → length n ≤ 16
 short_name [] h = omega arith
 short_name (c ∷ cs) h = let short : length cs ≤ 15 = search (left_true, right_true, leb-true) in omega arith
 
-short : (gs : List Guest) → list_all is_name (map (λ g. g.name) gs) ≡ true → list_all (λ g. nat_le (length g.slots) 32) gs ≡ true → Each IsShortGuest gs
-short [] h k = tt
-short (g ∷ gs) h k =
-    let (name, names) = and_parts (is_name g.name) (list_all is_name (map (λ (g : Guest). g.name) gs)) h in
-    let (slot, slots) = and_parts (nat_le (length g.slots) 32) (list_all (λ (g : Guest). nat_le (length g.slots) 32) gs) k in
-    (record { name = short_name g.name name; slots = leb-true (length g.slots) 32 slot }, short gs names slots)
+pub short_guests : (f : File) → is_judged f ≡ true → Each IsShortGuest f.guests
+short_guests f j =
+    each_from IsShortGuest f.guests (λ g m. record { name = short_name g.name (all_in (λ (h : Guest). is_name h.name) g f.guests (names_of f j).0 m); slots = few f j g m })
 
-pub short_guests : (f : File) → IsJudged f → Each IsShortGuest f.guests
-short_guests f j = short f.guests (left_true (list_all is_name (names f)) (all_pairs (λ m n. not (bytes_eq m n)) (names f)) j.names) (few_slots f j)
-
-lawful_guests : (f : File) → IsJudged f → HasLawfulGuests (world_of f)
+lawful_guests : (f : File) → is_judged f ≡ true → HasLawfulGuests (world_of f)
 lawful_guests f j =
-    let (lawful, apart) = and_parts (list_all is_name (names f)) (all_pairs (λ m n. not (bytes_eq m n)) (names f)) j.names in
-    let (named, others) = and_parts (list_all (λ (g : Guest). list_all (names_endpoint (standings f)) g.slots) f.guests) (all_pairs (λ p q. not (path_eq p q)) (map path_at (slots f))) j.slots in
+    let (named, own) = and_parts _ _ (sym (slots f) ∙ unbroken f j fault.Slot (inr (inr (inr (inr (inr (inr (inl refl)))))))) in
+    let texts = imply_all (λ s. names_endpoint (standings f) s.1) (λ s. is_path_text s.1) (λ s. left_true (is_path_text s.1) (is_endpoint (standings f) (path_in s))) (slot_texts f) named in
     record {
-      lawful_names = subst (Each (λ n. IsTrue (is_name n))) (sym (same_names f.guests)) (each_test is_name (names f) lawful);
-      names_apart = subst (EachPair (λ m n. IsFalse (bytes_eq m n))) (sym (same_names f.guests)) (pairs_of_test bytes_eq (names f) apart);
-      few_guests = few_guests f j;
-      few_slots = few f.guests (few_slots f j);
-      endpoints = subst (Each (λ p. IsSome (declared (board_of (rows f)) p))) (sym (same_slots f.guests)) (slots_named f (slots f) (all-flat (names_endpoint (standings f)) (λ (g : Guest). g.slots) f.guests ∙ named));
-      paths_apart = subst (EachPair (λ p q. IsFalse (path_eq p q))) (sym (same_slots f.guests)) (pairs_of_test path_eq (map path_at (slots f)) others);
+      lawful_names = each_of_map (λ n. IsTrue (is_name n)) (λ (g : world.Guest). g.name) (map guest f.guests) (each_of_map (λ g. IsTrue (is_name g.name)) guest f.guests (each_test (λ g. is_name g.name) f.guests (names_of f j).0));
+      names_apart =
+          pairs_of_map (λ m n. IsFalse (bytes_eq m n)) (λ (g : world.Guest). g.name) (map guest f.guests)
+          (pairs_of_map (λ g h. IsFalse (bytes_eq g.name h.name)) guest f.guests (pairs_of_test (λ g h. bytes_eq g.name h.name) f.guests (names_of f j).1));
+      few_guests = rw (length-map f.guests guest) (counts_of f j).0;
+      few_slots = each_of_map (λ (g : world.Guest). length g.slots ≤ 32) guest f.guests (each_from (λ g. length (map path_at g.slots) ≤ 32) f.guests (λ g m. rw (length-map g.slots path_at) (few f j g m)));
+      endpoints = subst (Each (λ p. IsSome (declared (board_of (rows f)) p))) (slot_paths 0 f.guests) (slots_named f named);
+      paths_apart = subst (EachPair (λ p q. IsFalse (path_eq p q))) (slot_paths 0 f.guests) (apart (slot_texts f) texts own);
     }
 
-pub lawful_world : (f : File) → IsJudged f → HasLawfulDecls (rows f) → IsLawfulWorld (world_of f)
-lawful_world f j h = grind (arith, common_steps, is_board, each_to_board, lawful_guests)
+pub lawful_rows : (f : File) → HasLawfulDecls (rows f) → HasLawfulDecls (board_of (rows f))
+lawful_rows f h = each_to_board (λ r. IsLawfulDecl r.decl) (rows f) h
+
+pub lawful_world : (f : File) → is_judged f ≡ true → HasLawfulDecls (rows f) → IsLawfulWorld (world_of f)
+lawful_world f j h = record { board = is_board f j; functions = lawful_rows f h; guests = lawful_guests f j }
 
 -- ---- the state at reset
 
@@ -139,6 +188,3 @@ board_at_reset b = rows_at_reset b (reset_file b)
 
 pub is_at_reset : (b : Board) (s : State) → IsBoard b → HasLawfulDecls b → s ≡ reset_state b → IsAtReset s
 is_at_reset b s board lawful e = grind (arith, board_at_reset)
-
-pub lawful_rows : (f : File) → HasLawfulDecls (rows f) → HasLawfulDecls (board_of (rows f))
-lawful_rows f h = each_to_board (λ r. IsLawfulDecl r.decl) (rows f) h

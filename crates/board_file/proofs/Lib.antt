@@ -8,7 +8,8 @@ pub mod Declaring
 pub mod LawfulWorld
 pub mod NextEntry
 pub mod Tests
-pub mod NoProblems
+pub mod Asked
+pub mod Taken
 pub mod FirstBroken
 pub mod ByChecks
 pub mod RefusalLaws

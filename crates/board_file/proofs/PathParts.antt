@@ -1,14 +1,9 @@
 -- What a text is read as is a path.
-use Rattle.std.proofs.Common.{◌≡◌, ℕ, zero, suc, ◌+◌, ◌-◌, ◌≤◌, ◌==◌, Bool, true, false, ◌&&◌, cond, List, [], ◌∷◌, map, length, Option, Some, None, option_map, unwrap_or, arith, leb-true}
+use Rattle.std.proofs.Common.{◌≡◌, ℕ, zero, suc, ◌+◌, ◌-◌, ◌≤◌, ◌==◌, Bool, true, false, ◌&&◌, cond, List, [], ◌∷◌, length, Option, Some, None, option_map, unwrap_or, arith, leb-true}
 use Rattle.std.specs.Prelude.{option_and_then}
 use Rattle.lists.specs.Elements.{Each}
-use Rattle.lists.proofs.EachLemmas.{each_append, each_of_map}
-use Rattle.lists.proofs.Members.{each_from}
 use Rattle.lists.proofs.Tests.{left_true, right_true}
 use Rattle.model_board.specs.Paths.{Part, Path, IsPart, IsPath}
-use Rattle.model_board.specs.Places.{Standing}
-use Rattle.board_file.specs.Entries.{File}
-use Rattle.board_file.specs.Functions.{endpoint_standing, bridge_standing, standings}
 use Rattle.board_file.specs.PathTexts.{is_byte_between, short_part, part_at_front, parts_after, path_at}
 
 ruleset byte_tests = (left_true, right_true, leb-true)
@@ -61,9 +56,3 @@ some_parts (Some found) h = longer found.0 h (parts_after 15 found.1) (within 15
 
 pub path_at_is_path : (text : List ℕ) → IsPath (path_at text)
 path_at_is_path text = some_parts (part_at_front text) (front text)
-
-pub places_are_paths : (f : File) → Each (λ s. IsPath s.path) (standings f)
-places_are_paths f =
-    each_append (λ (s : Standing). IsPath s.path) (map endpoint_standing f.endpoints) (map bridge_standing f.bridges)
-    (each_of_map (λ (s : Standing). IsPath s.path) endpoint_standing f.endpoints (each_from (λ e. IsPath (path_at e.at)) f.endpoints (λ e _. path_at_is_path e.at)))
-    (each_of_map (λ (s : Standing). IsPath s.path) bridge_standing f.bridges (each_from (λ b. IsPath (path_at b.at)) f.bridges (λ b _. path_at_is_path b.at)))

@@ -6,13 +6,17 @@ use Rattle.board_file.specs.Entries.{file}
 use Rattle.board_file.specs.Faults.{number_of}
 use Rattle.board_file.specs.KeyProblems.{problems_of}
 use Rattle.board_file.specs.Meaning.{checks, unless, world_of}
-use Rattle.board_file.specs.Problems.{none}
+use Rattle.board_file.specs.Problems.{none, problems_in}
 use Rattle.board_file.specs.RefusalLaws.{RefusalsHaveProblems, ProblemsBreakChecks}
 use Rattle.board_file.proofs.FirstBroken.{broken_at, from_number, alone}
-use Rattle.board_file.proofs.NoProblems.{none_found}
+use Rattle.board_file.proofs.Tests.{nothing_listed}
 
 some_there : {A : Type 0} (xs : List A) → none xs ≡ false → xs ≢ []
 some_there xs h empty = let wrong : true ≡ false = ap none (sym empty) ∙ h in cc
+
+nothing : {A : Type 0} (xs : List A) → none xs ≡ true → xs ≡ []
+nothing [] h = refl
+nothing (x ∷ xs) h = absurd (cc)
 
 not_none : {A : Type 0} (xs : List A) → xs ≢ [] → none xs ≡ false
 not_none [] h = absurd (h refl)
@@ -32,7 +36,7 @@ refusals_have_problems ms told h =
 
 pub problems_break_checks : ProblemsBreakChecks
 unfolding problems_of
-problems_break_checks ms fault.NotToml h = absurd (h (none_found (file ms) fault.NotToml refl))
-problems_break_checks ms fault.Memory h = absurd (h (none_found (file ms) fault.Memory refl))
+problems_break_checks ms fault.NotToml h = absurd (h (nothing (problems_in (file ms) fault.NotToml) (simp nothing_listed)))
+problems_break_checks ms fault.Memory h = absurd (h (nothing (problems_in (file ms) fault.Memory) (simp nothing_listed)))
 problems_break_checks ms told h =
     from_number (number_of told) (checks ms) (ap (λ kept. kept && true) (not_none (problems_of ms told) h))

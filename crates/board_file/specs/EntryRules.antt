@@ -1,18 +1,18 @@
 -- The rules that the entries of a board file are asked, by the fault of a file in which one is broken: each with
 -- whether it is kept.
---     file_rules, host_rules, endpoint_rules, bar_rules, config_rules, bridge_rules, guest_rules, slot_rules
+--     file_rules, host_rules, place_rules, slot_rules, endpoint_rules, bar_rules, config_rules, bridge_rules, guest_rules
 use Rattle.std.specs.Prelude.{ℕ, ℤ, ◌+◌, nat_abs, pos, int_le, ◌+ℤ◌, Bool, not, ◌&&◌, ◌||◌, length, nat_le, take, map, List, [], ◌∷◌, ◌++◌, option_map}
 use Rattle.std.specs.List.{list_all}
 use Rattle.std.specs.Str.{bytes_eq}
 use Rattle.model_registers.specs.Apertures.{is_io_aperture, is_mem_aperture, has_lawful_pref}
 use Rattle.model_registers.specs.DeclarationRules.{has_own_registers}
 use Rattle.model_board.specs.Paths.{Path, path_eq, parent, function_zero}
-use Rattle.model_board.specs.Places.{has_path, has_bridge}
+use Rattle.model_board.specs.Places.{Standing, has_path, has_bridge}
 use Rattle.model_guests.specs.World.{is_name}
 use Rattle.board_file.specs.Entries.{Bar, Config, Endpoint, Bridge, Guest, File}
 use Rattle.board_file.specs.Blocks.{is_block}
 use Rattle.board_file.specs.PathTexts.{is_path_text, path_at}
-use Rattle.board_file.specs.Functions.{region, standings, aperture}
+use Rattle.board_file.specs.Functions.{region, aperture}
 use Rattle.board_file.specs.Rules.{is_between, has_only_bits, has_few_slashes, is_root, is_size, is_natural, are_natural, names_endpoint}
 use Rattle.board_file.specs.declared.rule.Rule.{Rule}
 use Rattle.board_file.specs.declared.rule.Rule.TheVariants as rule
@@ -37,28 +37,28 @@ host_rules fault.Aperture f =
     ) ∷ []
 host_rules _ f = []
 
--- ---- functions
+-- ---- paths
 
 -- two texts of the same path
 abbrev pub are_same_place : List ℕ → List ℕ → Bool
 are_same_place a b = is_path_text a && is_path_text b && path_eq (path_at a) (path_at b)
 
--- no function with an earlier `at` stands at the same path: of the first n endpoints and the first m bridges
-abbrev pub is_own_place : File → ℕ → ℕ → List ℕ → Bool
-is_own_place f n m at =
-    list_all (λ e. not (are_same_place e.at at)) (take n f.endpoints)
-    && list_all (λ b. not (are_same_place b.at at)) (take m f.bridges)
+abbrev pub is_behind_bridge : List Standing → Path → Bool
+is_behind_bridge ss bus = is_root bus || has_bridge ss bus
 
-abbrev pub is_behind_bridge : File → Path → Bool
-is_behind_bridge f bus = is_root bus || has_bridge (standings f) bus
-
--- of a function whose `at` comes after those of n endpoints and m bridges
-abbrev pub place_rules : File → ℕ → ℕ → List ℕ → List (Rule × Bool)
-place_rules f n m at =
+-- of a function among those that stand so, and whether it has its own path
+abbrev pub place_rules : List Standing → List ℕ → Bool → List (Rule × Bool)
+place_rules ss at is_own =
     (rule.Path, is_path_text at)
-    ∷ (rule.OwnPlace, is_own_place f n m at)
-    ∷ (rule.BehindBridge, is_behind_bridge f (parent (path_at at)))
-    ∷ (rule.FunctionZero, has_path (standings f) (function_zero (path_at at))) ∷ []
+    ∷ (rule.OwnPlace, is_own)
+    ∷ (rule.BehindBridge, is_behind_bridge ss (parent (path_at at)))
+    ∷ (rule.FunctionZero, has_path ss (function_zero (path_at at))) ∷ []
+
+-- of a slot, the same
+abbrev pub slot_rules : List Standing → List ℕ → Bool → List (Rule × Bool)
+slot_rules ss t is_own = (rule.NamesEndpoint, names_endpoint ss t) ∷ (rule.OwnSlot, is_own) ∷ []
+
+-- ---- functions
 
 abbrev pub has_indices : Endpoint → Bool
 has_indices e = list_all (λ b. is_between 0 5 b.index) e.bars
@@ -82,13 +82,12 @@ value_rules e =
 abbrev pub endpoint_numbers : Endpoint → List (Rule × Bool)
 endpoint_numbers e = identity_rules e.vendor e.device e.revision ++ value_rules e
 
-abbrev pub endpoint_rules : BoardFault → File → ℕ → Endpoint → List (Rule × Bool)
-endpoint_rules fault.Number f n e = endpoint_numbers e
-endpoint_rules fault.TooMany f n e = (rule.Slashes, has_few_slashes e.at) ∷ []
-endpoint_rules fault.Place f n e = place_rules f n 0 e.at
-endpoint_rules fault.Register f n e =
+abbrev pub endpoint_rules : BoardFault → Endpoint → List (Rule × Bool)
+endpoint_rules fault.Number e = endpoint_numbers e
+endpoint_rules fault.TooMany e = (rule.Slashes, has_few_slashes e.at) ∷ []
+endpoint_rules fault.Register e =
     (rule.OwnRegisters, not (has_indices e) || has_own_registers (map region e.bars)) ∷ []
-endpoint_rules _ f n e = []
+endpoint_rules _ e = []
 
 abbrev pub bar_rules : BoardFault → Bar → List (Rule × Bool)
 bar_rules fault.Number b = (rule.BarBlock, is_between 0 4096 b.block) ∷ []
@@ -113,11 +112,10 @@ config_rules fault.CellMasks cs n c =
     ∷ (rule.OwnOffsets, list_all (λ d. are_apart d c) (take n cs)) ∷ []
 config_rules _ cs n c = []
 
-abbrev pub bridge_rules : BoardFault → File → ℕ → Bridge → List (Rule × Bool)
-bridge_rules fault.Number f n b = identity_rules b.vendor b.device b.revision
-bridge_rules fault.TooMany f n b = (rule.Slashes, has_few_slashes b.at) ∷ []
-bridge_rules fault.Place f n b = place_rules f (length f.endpoints) n b.at
-bridge_rules _ f n b = []
+abbrev pub bridge_rules : BoardFault → Bridge → List (Rule × Bool)
+bridge_rules fault.Number b = identity_rules b.vendor b.device b.revision
+bridge_rules fault.TooMany b = (rule.Slashes, has_few_slashes b.at) ∷ []
+bridge_rules _ b = []
 
 -- ---- guests
 
@@ -128,14 +126,3 @@ guest_rules fault.GuestName f n g =
     (rule.Name, is_name g.name)
     ∷ (rule.OwnName, list_all (λ h. not (bytes_eq h.name g.name)) (take n f.guests)) ∷ []
 guest_rules _ f n g = []
-
--- no earlier slot has the same path: of the first n guests, and the first m texts of the guest itself
-abbrev pub is_own_slot : File → ℕ → List (List ℕ) → ℕ → List ℕ → Bool
-is_own_slot f n own m t =
-    list_all (λ g. list_all (λ s. not (are_same_place s t)) g.slots) (take n f.guests)
-    && list_all (λ s. not (are_same_place s t)) (take m own)
-
-abbrev pub slot_rules : BoardFault → File → ℕ → List (List ℕ) → ℕ → List ℕ → List (Rule × Bool)
-slot_rules fault.Slot f n own m t =
-    (rule.NamesEndpoint, names_endpoint (standings f) t) ∷ (rule.OwnSlot, is_own_slot f n own m t) ∷ []
-slot_rules _ f n own m t = []

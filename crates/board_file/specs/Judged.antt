@@ -1,15 +1,40 @@
 -- What is known of a file before its functions are made.
---     is_region, is_declarable      of a region, and of an endpoint
+--     kept rules      all of these rules are kept
+--     keeps fault e      an endpoint, its regions and its own registers keep the rules of a fault
+--     is_region, is_config_block, is_declarable, is_lawful_bridge      all rules but those of patterns are kept
 --     HasSmallNumbers      an endpoint's values fit their registers
 --     IsShortGuest      a guest's name and slots fit what holds them
---     IsJudged      of the whole file: all checks hold but that of cell masks
-use Rattle.std.specs.Prelude.{◌≡◌, ◌<◌, ◌≤◌, ◌^◌, nat_abs, length, Bool, true, ◌&&◌}
+--     is_judged      of the whole file: no problem is found under any check but that of cell masks
+use Rattle.std.specs.Prelude.{◌<◌, ◌≤◌, ◌^◌, nat_abs, length, Bool, ◌&&◌, List, []}
 use Rattle.std.specs.List.{list_all}
-use Rattle.board_file.specs.Entries.{Bar, Endpoint, Guest, File}
-use Rattle.board_file.specs.Rules.{is_between, is_size, has_lawful_numbers, registers_hold, sizes_hold, numbers_hold, counts_hold, places_hold, names_hold, slots_hold, apertures_hold}
+use Rattle.board_file.specs.Entries.{Bar, Config, Endpoint, Bridge, Guest, File}
+use Rattle.board_file.specs.EntryRules.{endpoint_rules, bar_rules, config_rules, bridge_rules}
+use Rattle.board_file.specs.Meaning.{file_checks}
+use Rattle.board_file.specs.Problems.{none, problems_in}
+use Rattle.board_file.specs.declared.rule.Rule.{Rule}
+use Rattle.board_file.specs.declared.fault.BoardFault.{BoardFault}
+use Rattle.board_file.specs.declared.fault.BoardFault.TheVariants as fault
+
+abbrev pub kept : List (Rule × Bool) → Bool
+kept rules = list_all (λ r. r.1) rules
 
 abbrev pub is_region : Bar → Bool
-is_region b = is_between 0 4096 b.block && is_between 0 5 b.index && is_size b.kind b.size
+is_region b = kept (bar_rules fault.Number b) && kept (bar_rules fault.Register b) && kept (bar_rules fault.Size b)
+
+abbrev pub is_config_block : Config → Bool
+is_config_block c = kept (config_rules fault.Number [] 0 c)
+
+-- these rules of own registers don't look at others
+abbrev pub keeps : BoardFault → Endpoint → Bool
+keeps fault e =
+    kept (endpoint_rules fault e) && list_all (λ b. kept (bar_rules fault b)) e.bars
+    && list_all (λ c. kept (config_rules fault [] 0 c)) e.configs
+
+abbrev pub is_declarable : Endpoint → Bool
+is_declarable e = keeps fault.Number e && keeps fault.Register e && keeps fault.Size e
+
+abbrev pub is_lawful_bridge : Bridge → Bool
+is_lawful_bridge b = kept (bridge_rules fault.Number b)
 
 -- the declared values fit their registers
 pub record HasSmallNumbers (e : Endpoint) : Type 0 where
@@ -24,20 +49,10 @@ pub record HasSmallNumbers (e : Endpoint) : Type 0 where
   pub max_lat : nat_abs e.max_lat < 2 ^ 8
   pub status : nat_abs e.status < 2 ^ 16
 
-abbrev pub is_declarable : Endpoint → Bool
-is_declarable e = has_lawful_numbers e && registers_hold e && sizes_hold e
-
-pub record IsJudged (f : File) : Type 0 where
-  pub numbers : numbers_hold f ≡ true
-  pub counts : counts_hold f ≡ true
-  pub places : places_hold f ≡ true
-  pub registers : list_all registers_hold f.endpoints ≡ true
-  pub sizes : list_all sizes_hold f.endpoints ≡ true
-  pub names : names_hold f ≡ true
-  pub slots : slots_hold f ≡ true
-  pub apertures : apertures_hold f ≡ true
-
 -- a guest's name and slots fit what holds them
 pub record IsShortGuest (g : Guest) : Type 0 where
   pub name : length g.name ≤ 16
   pub slots : length g.slots ≤ 32
+
+abbrev pub is_judged : File → Bool
+is_judged f = list_all (λ fault. none (problems_in f fault)) file_checks

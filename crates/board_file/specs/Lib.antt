@@ -5,14 +5,15 @@ pub mod PathTexts
 pub mod Blocks
 pub mod Functions
 pub mod Rules
-pub mod Judged
 pub mod EntryRules
+pub mod PathEntries
 pub mod RuleFaults
 pub mod Problems
 pub mod Tables
 pub mod Faults
 pub mod KeyProblems
 pub mod Meaning
+pub mod Judged
 pub mod RefusalLaws
 pub mod Sources
 pub mod PathSets

@@ -1,5 +1,6 @@
 -- The meaning of a board file: a board with its apertures and guests, or the number of the first check that fails.
---     order      the checks but for that of cell masks, in the order in which they are made
+--     file_checks, order      the checks but for that of cell masks, in the order in which they are made, without those of
+--         keys and with them
 --     check ms f, early_checks ms, checks ms      no entry breaks a rule of this fault; the same of these checks, and of all
 --     world_in      a host and guests as a world
 --     world_of, meaning      what a file declares; the same, where all checks hold
@@ -19,12 +20,16 @@ use Rattle.board_file.specs.KeyProblems.{problems_of}
 use Rattle.board_file.specs.declared.fault.BoardFault.{BoardFault}
 use Rattle.board_file.specs.declared.fault.BoardFault.TheVariants as fault
 
+-- those of what a file says
+abbrev pub file_checks : List BoardFault
+file_checks =
+    fault.Number ∷ fault.TooMany ∷ fault.Place ∷ fault.Register ∷ fault.Size ∷ fault.GuestName ∷ fault.Slot ∷ fault.Aperture
+    ∷ []
+
 -- the checks but for that of patterns, in the order in which they are made: patterns are judged last, since their lengths go by
 -- those of blocks
 abbrev pub order : List BoardFault
-order =
-    fault.Key ∷ fault.UnknownKey ∷ fault.Number ∷ fault.TooMany ∷ fault.Place ∷ fault.Register ∷ fault.Size
-    ∷ fault.GuestName ∷ fault.Slot ∷ fault.Aperture ∷ []
+order = fault.Key ∷ fault.UnknownKey ∷ file_checks
 
 abbrev pub check : Members → BoardFault → ℕ × Bool
 check ms f = (number_of f, none (problems_of ms f))

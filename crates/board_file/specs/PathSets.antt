@@ -1,13 +1,11 @@
 -- Functions by the sets of their paths.
 --     AreSetsOf ss all bridges      the paths of all functions, and of the bridges among them
-use Rattle.std.specs.Prelude.{◌≡◌, ◌==◌, not, length, List}
-use Rattle.std.specs.BTreeSet.{BTreeSet, contains, btree_set_len}
-use Rattle.lists.specs.Elements.{all_pairs}
-use Rattle.model_board.specs.Paths.{Path, path_eq}
+use Rattle.std.specs.Prelude.{◌≡◌, List}
+use Rattle.std.specs.BTreeSet.{BTreeSet, contains}
+use Rattle.model_board.specs.Paths.{Path}
 use Rattle.model_board.specs.Places.{Standing, has_path, has_bridge}
 use Rattle.paths.specs.PathOrders.{path_cmp}
 
 pub record AreSetsOf (ss : List Standing) (all bridges : BTreeSet Path) : Type 0 where
   pub has_path_is : (q : Path) → contains path_cmp all q ≡ has_path ss q
   pub has_bridge_is : (q : Path) → contains path_cmp bridges q ≡ has_bridge ss q
-  pub counts : (btree_set_len all == length ss) ≡ all_pairs (λ s t. not (path_eq t.path s.path)) ss

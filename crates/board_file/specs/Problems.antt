@@ -1,15 +1,17 @@
 -- The entries of a file that break a rule.
 --     Found, found_of p      an entry, a rule, and the key at which the entry breaks it; the same of a problem
---     problems_in f fault      all entries that break a rule of this fault, each before those inside it
+--     of_values fault f      those that break a rule of this fault beside paths, each before those inside it
+--     problems_in f fault      all entries that break a rule of this fault, in the order of the file
 --     Adds these old new      the problems, and then these
 --     none ps      there are none
---     holds fault f      the check of this fault
 use Rattle.std.specs.Prelude.{◌≡◌, ℕ, Bool, true, false, List, [], ◌∷◌, ◌++◌, map, flat_map, if◌then◌else◌}
-use Rattle.std.specs.List.{enumerate_from, list_all}
+use Rattle.std.specs.List.{enumerate_from}
 use Rattle.board_file.specs.Entries.{Bar, Config, Endpoint, Bridge, Guest, File}
+use Rattle.model_board.specs.Places.{Standing}
+use Rattle.board_file.specs.Functions.{standings}
+use Rattle.board_file.specs.PathEntries.{PathEntry, place_texts, slot_texts, path_entries}
 use Rattle.board_file.specs.RuleFaults.{key_of}
-use Rattle.board_file.specs.EntryRules.{file_rules, host_rules, endpoint_rules, bar_rules, config_rules, bridge_rules, guest_rules, slot_rules}
-use Rattle.board_file.specs.Rules.{numbers_hold, counts_hold, places_hold, registers_hold, sizes_hold, names_hold, slots_hold, apertures_hold, masks_hold}
+use Rattle.board_file.specs.EntryRules.{file_rules, host_rules, place_rules, slot_rules, endpoint_rules, bar_rules, config_rules, bridge_rules, guest_rules}
 use Rattle.board_file.specs.declared.fault.BoardFault.{BoardFault}
 use Rattle.board_file.specs.declared.fault.BoardFault.TheVariants as fault
 use Rattle.board_file.specs.declared.entry.Entry.{Entry}
@@ -48,42 +50,36 @@ of_bar f i (j, b) = broken (entry.Bar i j) (bar_rules f b)
 abbrev pub of_config : BoardFault → ℕ → List Config → ℕ × Config → List Found
 of_config f i cs (j, c) = broken (entry.Config i j) (config_rules f cs j c)
 
-abbrev pub of_endpoint : BoardFault → File → ℕ × Endpoint → List Found
-of_endpoint fault f (i, e) =
-    broken (entry.Endpoint i) (endpoint_rules fault f i e)
+abbrev pub of_endpoint : BoardFault → ℕ × Endpoint → List Found
+of_endpoint fault (i, e) =
+    broken (entry.Endpoint i) (endpoint_rules fault e)
     ++ flat_map (of_bar fault i) (enumerate_from 0 e.bars)
     ++ flat_map (of_config fault i e.configs) (enumerate_from 0 e.configs)
 
-abbrev pub of_bridge : BoardFault → File → ℕ × Bridge → List Found
-of_bridge fault f (i, b) = broken (entry.Bridge i) (bridge_rules fault f i b)
-
-abbrev pub of_slot : BoardFault → File → ℕ → List (List ℕ) → ℕ × List ℕ → List Found
-of_slot fault f i own (j, t) = broken (entry.Slot i j) (slot_rules fault f i own j t)
+abbrev pub of_bridge : BoardFault → ℕ × Bridge → List Found
+of_bridge fault (i, b) = broken (entry.Bridge i) (bridge_rules fault b)
 
 abbrev pub of_guest : BoardFault → File → ℕ × Guest → List Found
-of_guest fault f (i, g) =
-    broken (entry.Guest i) (guest_rules fault f i g)
-    ++ flat_map (of_slot fault f i g.slots) (enumerate_from 0 g.slots)
+of_guest fault f (i, g) = broken (entry.Guest i) (guest_rules fault f i g)
 
-abbrev pub problems_in : File → BoardFault → List Found
-problems_in f fault =
+-- what an entry says beside paths
+abbrev pub of_values : BoardFault → File → List Found
+of_values fault f =
     broken entry.File (file_rules fault f)
     ++ broken entry.Host (host_rules fault f)
-    ++ flat_map (of_endpoint fault f) (enumerate_from 0 f.endpoints)
-    ++ flat_map (of_bridge fault f) (enumerate_from 0 f.bridges)
+    ++ flat_map (of_endpoint fault) (enumerate_from 0 f.endpoints)
+    ++ flat_map (of_bridge fault) (enumerate_from 0 f.bridges)
     ++ flat_map (of_guest fault f) (enumerate_from 0 f.guests)
 
--- ---- the checks
+-- ---- path by path
 
--- the checks of what a file says; those of a document and of its keys are none of these
-abbrev pub holds : BoardFault → File → Bool
-holds fault.Number f = numbers_hold f
-holds fault.TooMany f = counts_hold f
-holds fault.Place f = places_hold f
-holds fault.Register f = list_all registers_hold f.endpoints
-holds fault.Size f = list_all sizes_hold f.endpoints
-holds fault.GuestName f = names_hold f
-holds fault.Slot f = slots_hold f
-holds fault.Aperture f = apertures_hold f
-holds fault.CellMasks f = list_all masks_hold f.endpoints
-holds _ f = true
+abbrev pub of_place : List Standing → PathEntry → List Found
+of_place ss p = broken p.entry (place_rules ss p.text p.is_own)
+
+abbrev pub of_slot : List Standing → PathEntry → List Found
+of_slot ss p = broken p.entry (slot_rules ss p.text p.is_own)
+
+abbrev pub problems_in : File → BoardFault → List Found
+problems_in f fault.Place = flat_map (of_place (standings f)) (path_entries (place_texts f))
+problems_in f fault.Slot = flat_map (of_slot (standings f)) (path_entries (slot_texts f))
+problems_in f fault = of_values fault f

@@ -12,8 +12,8 @@ ghost use Rattle.board_file.specs.Blocks.{Gives};
 ghost use Rattle.board_file.specs.Entries as entries;
 ghost use Rattle.board_file.specs.Functions as said;
 ghost use Rattle.board_file.specs.Functions.{standings};
-ghost use Rattle.board_file.specs.Judged.{IsJudged, is_declarable, IsShortGuest};
-ghost use Rattle.board_file.specs.Rules.{is_lawful_bridge, masks_hold};
+ghost use Rattle.board_file.specs.Judged.{is_judged, is_declarable, is_lawful_bridge, IsShortGuest};
+ghost use Rattle.board_file.specs.Rules.{masks_hold};
 ghost use Rattle.board_file.specs.Meaning.{world_in, world_of, meaning};
 ghost use Rattle.board_file.specs.Faults.{number_of};
 ghost use Rattle.board_file.specs.declared.fault.BoardFault.TheVariants.{Memory, CellMasks};
@@ -72,7 +72,7 @@ fn with_bridges(decls: Vec<Decl>, entries: &[BridgeEntry<'_>]) -> Result<Vec<Dec
 
 /// All functions, where the patterns are lawful.
 fn decls(alloc: Global, file: &FileEntries<'_>) -> Result<Option<Vec<Decl>>, AllocError>
-    requires { IsJudged file.now }
+    requires { IsTrue (is_judged file.now) }
     ensures { IfOk result (λ found. Gives (list_all masks_hold file.now.endpoints) found (λ v.
         (v.items ≡ said.rows file.now) × HasLawfulDecls v.items)) }
 {
@@ -105,7 +105,7 @@ fn host(alloc: Global, decls: Vec<Decl>, apertures: Apertures) -> Result<Host, A
 
 /// The host and the guests of a judged file. Only its patterns are still judged.
 fn build(alloc: Global, file: &FileEntries<'_>) -> Result<(Host, Vec<GuestDecl>), BoardFault>
-    requires { IsJudged file.now }
+    requires { IsTrue (is_judged file.now) }
     ensures masks { IfOk result (λ r. list_all masks_hold file.now.endpoints ≡ true) }
     ensures world { IfOk result (λ r. world_in r.0 r.1.items ≡ world_of file.now) }
     ensures reset { IfOk result (λ r. IsAtReset r.0.state) }

@@ -7,8 +7,8 @@ ghost use Rattle.bars.specs.Kinds.{kind_of};
 ghost use Rattle.board_file.specs.Blocks.{Gives};
 ghost use Rattle.board_file.specs.Functions as said;
 ghost use Rattle.board_file.specs.PathTexts.{path_at};
-ghost use Rattle.board_file.specs.Judged.{is_region, is_declarable, HasSmallNumbers};
-ghost use Rattle.board_file.specs.Rules.{is_size, is_config_block, bar_holds, config_holds, masks_hold};
+ghost use Rattle.board_file.specs.Judged.{is_region, is_config_block, is_declarable, HasSmallNumbers};
+ghost use Rattle.board_file.specs.Rules.{is_size, bar_holds, config_holds, masks_hold};
 
 use crate::blocks::block;
 use crate::entries::{BarEntry, BridgeEntry, ConfigEntry, EndpointEntry, GuestEntry};

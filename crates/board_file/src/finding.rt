@@ -1,8 +1,8 @@
 //! The entries of a file that break a rule.
-ghost use Rattle.std.specs.Prelude.{◌≡◌, IfOk, OnOk, map, true};
+ghost use Rattle.std.specs.Prelude.{◌≡◌, IfOk, OnOk, map};
 ghost use Rattle.board_file.specs.EntryRules.{file_rules, host_rules};
 ghost use Rattle.board_file.specs.Functions.{standings};
-ghost use Rattle.board_file.specs.Problems.{found_of, Adds, broken, problems_in, holds};
+ghost use Rattle.board_file.specs.Problems.{found_of, Adds, broken, of_values, problems_in};
 
 use crate::apertures::{is_io, is_mem, is_pref};
 use crate::entries::FileEntries;
@@ -11,7 +11,7 @@ use crate::fault::BoardFault;
 use crate::function_problems::{push_bridges, push_endpoints};
 use crate::guest_problems::push_guests;
 use crate::numbers::has_few_functions;
-use crate::path_sets::{places_hold, slots_hold};
+use crate::path_problems::{push_places, push_slots};
 use crate::places::FunctionPath;
 use crate::rule::Rule;
 use std::alloc::{AllocError, Global};
@@ -89,22 +89,20 @@ fn push_host(
     }
 }
 
-/// Whether a look at all places, or at all slots, tells that none breaks a rule. To say which of them do, each is
-/// compared with all others, which takes many times as long where there are a thousand.
-fn hold_at_once(
+/// Appends what is wrong with what entries say beside paths.
+fn push_values(
     alloc: Global,
+    problems: &mut Vec<Problem<'_>>,
     file: &FileEntries<'_>,
-    functions: &[FunctionPath],
     fault: BoardFault,
-) -> Result<bool, AllocError>
-    requires { functions.now ≡ standings file.now }
-    ensures { IfOk result (λ b. b ≡ true → holds fault file.now ≡ true) }
+) -> Result<(), AllocError>
+    ensures { OnOk result (Adds (of_values fault file.now) problems.old.items problems.new.items) }
 {
-    match fault {
-        BoardFault::Place => places_hold(alloc, file, functions),
-        BoardFault::Slot => slots_hold(alloc, file, functions),
-        _ => Ok(false),
-    }
+    push_file(problems, fault, file)?;
+    push_host(problems, fault, file)?;
+    push_endpoints(alloc, problems, file, fault)?;
+    push_bridges(problems, file, fault)?;
+    push_guests(problems, file, fault)
 }
 
 /// All entries that break a rule of what the file says, with this fault, in the order of the file. Of the
@@ -119,13 +117,10 @@ pub fn problems<'a>(
     ensures { IfOk result (λ v. map found_of v.items ≡ problems_in file.now fault) }
 {
     let mut problems = Vec::new(alloc);
-    if hold_at_once(alloc, file, functions, fault)? {
-        return Ok(problems);
+    match fault {
+        BoardFault::Place => push_places(alloc, &mut problems, file, functions)?,
+        BoardFault::Slot => push_slots(alloc, &mut problems, file, functions)?,
+        _ => push_values(alloc, &mut problems, file, fault)?,
     }
-    push_file(&mut problems, fault, file)?;
-    push_host(&mut problems, fault, file)?;
-    push_endpoints(alloc, &mut problems, file, functions, fault)?;
-    push_bridges(&mut problems, file, functions, fault)?;
-    push_guests(&mut problems, file, functions, fault)?;
     Ok(problems)
 }

@@ -1,8 +1,7 @@
 //! The endpoints and bridges of a file that break a rule.
 ghost use Rattle.std.specs.Prelude.{◌≡◌, OnOk, flat_map};
 ghost use Rattle.std.specs.List.{enumerate_from};
-ghost use Rattle.board_file.specs.EntryRules.{endpoint_numbers, place_rules, endpoint_rules};
-ghost use Rattle.board_file.specs.Functions.{standings};
+ghost use Rattle.board_file.specs.EntryRules.{endpoint_numbers, endpoint_rules};
 ghost use Rattle.board_file.specs.Problems.{Adds, broken, of_bar, of_config, of_endpoint, of_bridge};
 
 use crate::blocks::{has_own_offsets, is_block};
@@ -11,8 +10,6 @@ use crate::entry::Entry;
 use crate::fault::BoardFault;
 use crate::finding::{Problem, push_broken};
 use crate::numbers::{config_ends, has_few_slashes, has_only_bits, is_between};
-use crate::path_text::PathText;
-use crate::places::{FunctionPath, has_path, is_behind_bridge, is_own_place};
 use crate::regions::{has_own_registers, is_index, is_size};
 use crate::rule::Rule;
 use std::alloc::{AllocError, Global};
@@ -118,52 +115,14 @@ fn push_numbers(
     )
 }
 
-/// Appends what is wrong with where a function stands, whose `at` comes after those of so many endpoints and
-/// bridges.
-fn push_place(
-    problems: &mut Vec<Problem<'_>>,
-    file: &FileEntries<'_>,
-    functions: &[FunctionPath],
-    entry: Entry,
-    endpoints: usize,
-    bridges: usize,
-    at: &PathText<'_>,
-) -> Result<(), AllocError>
-    requires { functions.now ≡ standings file.now }
-    ensures { OnOk result
-        (Adds (broken entry (place_rules file.now endpoints bridges at.now)) problems.old.items problems.new.items) }
-{
-    let path = at.path();
-    push_broken(
-        problems,
-        entry,
-        &[
-            (Rule::Path, at.is_path()),
-            (Rule::OwnPlace, is_own_place(file, endpoints, bridges, at)),
-            (
-                Rule::BehindBridge,
-                is_behind_bridge(functions, path.parent()),
-            ),
-            (
-                Rule::FunctionZero,
-                has_path(functions, &path.function_zero()),
-            ),
-        ],
-    )
-}
-
 /// Appends what is wrong with an endpoint itself.
 fn push_endpoint(
     problems: &mut Vec<Problem<'_>>,
-    file: &FileEntries<'_>,
-    functions: &[FunctionPath],
     fault: BoardFault,
     index: usize,
     endpoint: &EndpointEntry<'_>,
 ) -> Result<(), AllocError>
-    requires { functions.now ≡ standings file.now }
-    ensures { OnOk result
-        (Adds (broken (Entry.Endpoint index) (endpoint_rules fault file.now index endpoint.now))
+    ensures { OnOk result (Adds (broken (Entry.Endpoint index) (endpoint_rules fault endpoint.now))
         problems.old.items problems.new.items) }
 {
     let entry = Entry::Endpoint(index);
@@ -172,9 +131,6 @@ fn push_endpoint(
         BoardFault::TooMany => {
             let slashes = has_few_slashes(&endpoint.at);
             push_broken(problems, entry, &[(Rule::Slashes, slashes)])
-        }
-        BoardFault::Place => {
-            push_place(problems, file, functions, entry, index, 0, &endpoint.at)
         }
         BoardFault::Register => {
             let own = has_own_registers(endpoint);
@@ -224,16 +180,14 @@ pub(crate) fn push_endpoints(
     alloc: Global,
     problems: &mut Vec<Problem<'_>>,
     file: &FileEntries<'_>,
-    functions: &[FunctionPath],
     fault: BoardFault,
 ) -> Result<(), AllocError>
-    requires { functions.now ≡ standings file.now }
     ensures { OnOk result
-        (Adds (flat_map (of_endpoint fault file.now) (enumerate_from 0 file.now.endpoints))
+        (Adds (flat_map (of_endpoint fault) (enumerate_from 0 file.now.endpoints))
         problems.old.items problems.new.items) }
 {
     'endpoints: for (index, endpoint) in file.endpoints.iter().enumerate() {
-        push_endpoint(problems, file, functions, fault, index, endpoint)?;
+        push_endpoint(problems, fault, index, endpoint)?;
         push_bars(alloc, problems, fault, index, &endpoint.bars)?;
         push_configs(alloc, problems, fault, index, &endpoint.configs)?;
     }
@@ -243,15 +197,12 @@ pub(crate) fn push_endpoints(
 /// Appends what is wrong with a bridge.
 fn push_bridge(
     problems: &mut Vec<Problem<'_>>,
-    file: &FileEntries<'_>,
-    functions: &[FunctionPath],
     fault: BoardFault,
     index: usize,
     bridge: &BridgeEntry<'_>,
 ) -> Result<(), AllocError>
-    requires { functions.now ≡ standings file.now }
-    ensures { OnOk result (Adds (of_bridge fault file.now (index, bridge.now)) problems.old.items
-        problems.new.items) }
+    ensures { OnOk result
+        (Adds (of_bridge fault (index, bridge.now)) problems.old.items problems.new.items) }
 {
     let entry = Entry::Bridge(index);
     match fault {
@@ -268,12 +219,6 @@ fn push_bridge(
             let slashes = has_few_slashes(&bridge.at);
             push_broken(problems, entry, &[(Rule::Slashes, slashes)])
         }
-        BoardFault::Place => {
-            let endpoints = file.endpoints.len();
-            push_place(
-                problems, file, functions, entry, endpoints, index, &bridge.at,
-            )
-        }
         _ => Ok(()),
     }
 }
@@ -282,16 +227,14 @@ fn push_bridge(
 pub(crate) fn push_bridges(
     problems: &mut Vec<Problem<'_>>,
     file: &FileEntries<'_>,
-    functions: &[FunctionPath],
     fault: BoardFault,
 ) -> Result<(), AllocError>
-    requires { functions.now ≡ standings file.now }
     ensures { OnOk result
-        (Adds (flat_map (of_bridge fault file.now) (enumerate_from 0 file.now.bridges))
+        (Adds (flat_map (of_bridge fault) (enumerate_from 0 file.now.bridges))
         problems.old.items problems.new.items) }
 {
     'bridges: for (index, bridge) in file.bridges.iter().enumerate() {
-        push_bridge(problems, file, functions, fault, index, bridge)?;
+        push_bridge(problems, fault, index, bridge)?;
     }
     Ok(())
 }

@@ -7,7 +7,7 @@ ghost use Rattle.board_file.specs.Functions.{standings};
 ghost use Rattle.board_file.specs.KeyProblems.{problems_of};
 ghost use Rattle.board_file.specs.Meaning.{order, early_checks};
 ghost use Rattle.board_file.specs.Faults.{number_of};
-ghost use Rattle.board_file.specs.Problems.{found_of, none};
+ghost use Rattle.board_file.specs.Problems.{found_of};
 
 use crate::entries::FileEntries;
 use crate::fault::BoardFault;
@@ -56,22 +56,6 @@ pub(crate) fn problems_of<'a>(
     }
 }
 
-/// Whether no entry breaks a rule with this fault.
-fn holds(
-    alloc: Global,
-    table: &Table,
-    file: &FileEntries<'_>,
-    functions: &[FunctionPath],
-    fault: BoardFault,
-) -> Result<bool, AllocError>
-    requires entries { file.now ≡ entries.file (table_view table.now) }
-    requires places { functions.now ≡ standings file.now }
-    ensures { IfOk result (λ b. b ≡ none (problems_of (table_view table.now) fault)) }
-{
-    let problems = problems_of(alloc, table, file, functions, fault)?;
-    Ok(problems.as_slice().is_empty())
-}
-
 /// The first fault of a document, but for that of its patterns.
 pub(crate) fn first_fault(
     alloc: Global,
@@ -85,7 +69,8 @@ pub(crate) fn first_fault(
         option_map number_of found ≡ first_broken (early_checks (table_view table.now))) }
 {
     'checks: for fault in order() {
-        if !holds(alloc, table, file, functions, *fault)? {
+        let problems = problems_of(alloc, table, file, functions, *fault)?;
+        if !problems.is_empty() {
             return Ok(Some(*fault));
         }
     }

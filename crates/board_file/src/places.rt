@@ -1,13 +1,9 @@
 //! The paths of functions.
-ghost use Rattle.std.specs.Prelude.{◌≡◌, ◌<◌, ◌||◌, [], IfOk, length, map, not, take, MatchOption};
-ghost use Rattle.std.specs.List.{list_all};
-ghost use Rattle.model_board.specs.Places.{has_path, has_bridge};
-ghost use Rattle.board_file.specs.EntryRules.{are_same_place, is_own_place};
+ghost use Rattle.std.specs.Prelude.{◌≡◌, ◌<◌, [], IfOk, length, MatchOption};
+ghost use Rattle.model_board.specs.Places.{has_bridge};
 ghost use Rattle.board_file.specs.Functions.{standings};
-ghost use Rattle.board_file.specs.Rules.{is_root, is_endpoint, names_endpoint};
 
-use crate::entries::{BridgeEntry, EndpointEntry, FileEntries};
-use crate::path_text::{PathText, are_same_place};
+use crate::entries::FileEntries;
 use paths::{Part, Path};
 use std::alloc::{AllocError, Global};
 use std::marker::Model;
@@ -46,40 +42,6 @@ pub fn function_paths(
     endpoints.chain(bridges).collect(alloc)
 }
 
-/// Whether none of the first endpoints stands there.
-fn no_endpoint(endpoints: &[EndpointEntry<'_>], count: usize, at: &PathText<'_>) -> bool
-    ensures { result
-        ≡ list_all (λ e. not (are_same_place e.at at.now)) (take count endpoints.now) }
-{
-    endpoints
-        .iter()
-        .take(count)
-        .all(|endpoint| !are_same_place(&endpoint.at, at))
-}
-
-/// Whether none of the first bridges stands there.
-fn no_bridge(bridges: &[BridgeEntry<'_>], count: usize, at: &PathText<'_>) -> bool
-    ensures { result
-        ≡ list_all (λ b. not (are_same_place b.at at.now)) (take count bridges.now) }
-{
-    bridges
-        .iter()
-        .take(count)
-        .all(|bridge| !are_same_place(&bridge.at, at))
-}
-
-/// Whether no function before it stands there: of so many endpoints and bridges.
-pub(crate) fn is_own_place(
-    file: &FileEntries<'_>,
-    endpoints: usize,
-    bridges: usize,
-    at: &PathText<'_>,
-) -> bool
-    ensures { result ≡ is_own_place file.now endpoints bridges at.now }
-{
-    no_endpoint(&file.endpoints, endpoints, at) && no_bridge(&file.bridges, bridges, at)
-}
-
 /// The path of these parts.
 pub(crate) fn path_of(parts: &[Part]) -> Option<Path>
     requires { length parts.now < 16 }
@@ -93,24 +55,6 @@ pub(crate) fn path_of(parts: &[Part]) -> Option<Path>
     Some(path)
 }
 
-/// Whether the bus of these parts is bus 0, or is behind a bridge.
-pub(crate) fn is_behind_bridge(functions: &[FunctionPath], bus: &[Part]) -> bool
-    requires { length bus.now < 16 }
-    ensures { result ≡ (is_root bus.now || has_bridge functions.now bus.now) }
-{
-    match path_of(bus) {
-        Some(bridge) => has_bridge(functions, &bridge),
-        None => true,
-    }
-}
-
-/// Whether a function stands at the path.
-pub fn has_path(functions: &[FunctionPath], path: &Path) -> bool
-    ensures { result ≡ has_path functions.now path.now }
-{
-    functions.iter().any(|function| function.path == *path)
-}
-
 /// Whether a bridge stands at the path.
 pub fn has_bridge(functions: &[FunctionPath], path: &Path) -> bool
     ensures { result ≡ has_bridge functions.now path.now }
@@ -118,18 +62,4 @@ pub fn has_bridge(functions: &[FunctionPath], path: &Path) -> bool
     functions
         .iter()
         .any(|function| function.is_bridge && function.path == *path)
-}
-
-/// Whether an endpoint stands at the path.
-fn is_endpoint(functions: &[FunctionPath], path: &Path) -> bool
-    ensures { result ≡ is_endpoint functions.now path.now }
-{
-    has_path(functions, path) && !has_bridge(functions, path)
-}
-
-/// Whether the text is the path of an endpoint.
-pub(crate) fn names_endpoint(functions: &[FunctionPath], text: &PathText<'_>) -> bool
-    ensures { result ≡ names_endpoint functions.now text.now }
-{
-    text.is_path() && is_endpoint(functions, &text.path())
 }

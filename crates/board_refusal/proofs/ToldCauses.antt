@@ -8,11 +8,12 @@ use Rattle.lists.proofs.Members.{front_or_back, from_flat_map, from_filter, all_
 use Rattle.toml.specs.Data.{Members, get_member}
 use Rattle.model_registers.specs.DeclarationRules.{has_own_registers}
 use Rattle.board_file.specs.Entries.{Patterns, Bar, Config, Endpoint, Bridge, Guest, File, file}
-use Rattle.board_file.specs.Functions.{region}
+use Rattle.board_file.specs.Functions.{region, standings}
+use Rattle.board_file.specs.PathEntries.{place_texts, slot_texts, path_entries}
 use Rattle.board_file.specs.Blocks.{is_block}
 use Rattle.board_file.specs.RuleFaults.{key_of}
-use Rattle.board_file.specs.EntryRules.{file_rules, host_rules, endpoint_rules, has_indices, bar_rules, config_rules, are_apart, bridge_rules, guest_rules, slot_rules}
-use Rattle.board_file.specs.Problems.{Found, unless_kept, broken, of_bar, of_config, of_endpoint, of_bridge, of_slot, of_guest, problems_in}
+use Rattle.board_file.specs.EntryRules.{file_rules, host_rules, place_rules, slot_rules, endpoint_rules, has_indices, bar_rules, config_rules, are_apart, bridge_rules, guest_rules}
+use Rattle.board_file.specs.Problems.{Found, unless_kept, broken, of_bar, of_config, of_endpoint, of_bridge, of_guest, of_values, of_place, of_slot, problems_in}
 use Rattle.board_file.specs.KeyProblems.{tables_of, unless_kept_at, of_field, of_member, keys_in, of_table, of_entry, problems_of}
 use Rattle.board_file.specs.Schema.{Field, fields, form_at, has_form}
 use Rattle.board_file.specs.Tables.{level_of, table_at}
@@ -118,12 +119,12 @@ module _ (f : File) (i : ℕ) (e : Endpoint) (at : slice_get f.endpoints i ≡ S
   a_taker : (not (has_indices e) || has_own_registers (map region e.bars)) ≡ false → taker_of f (entry.Endpoint i) rule.OwnRegisters ≢ None
   a_taker broken none = grind (arith, no_takers)
 
-  endpoint_caused : (fault : BoardFault) → AllCaused f (broken (entry.Endpoint i) (endpoint_rules fault f i e))
+  endpoint_caused : (fault : BoardFault) → AllCaused f (broken (entry.Endpoint i) (endpoint_rules fault e))
   endpoint_caused fault.Register =
-      each_rule f (entry.Endpoint i) (endpoint_rules fault.Register f i e)
+      each_rule f (entry.Endpoint i) (endpoint_rules fault.Register e)
       (λ r there. let it = alone r rule.OwnRegisters (not (has_indices e) || has_own_registers (map region e.bars)) there in
       subst (Reason f (entry.Endpoint i)) (sym it.0) (by_region (a_taker it.1)))
-  endpoint_caused fault = no_cause f (entry.Endpoint i) (endpoint_rules fault f i e) refl
+  endpoint_caused fault = no_cause f (entry.Endpoint i) (endpoint_rules fault e) refl
 
   bar_masks_caused : (j : ℕ) (b : Bar) → slice_get e.bars j ≡ Some b → AllCaused f (broken (entry.Bar i j) (bar_rules fault.CellMasks b))
   bar_masks_caused j b there =
@@ -167,47 +168,43 @@ module _ (f : File) where
   host_says fault.Aperture = refl
   host_says _ = refl
 
-  bridge_says : (fault : BoardFault) (i : ℕ) (b : Bridge) → list_all says_all (bridge_rules fault f i b) ≡ true
-  bridge_says fault.Number i b = refl
-  bridge_says _ i b = refl
+  bridge_says : (fault : BoardFault) (b : Bridge) → list_all says_all (bridge_rules fault b) ≡ true
+  bridge_says fault.Number b = refl
+  bridge_says _ b = refl
 
   guest_says : (fault : BoardFault) (i : ℕ) (g : Guest) → list_all says_all (guest_rules fault f i g) ≡ true
   guest_says fault.TooMany i g = refl
   guest_says _ i g = refl
 
-  slot_says : (fault : BoardFault) (i : ℕ) (own : List (List ℕ)) (j : ℕ) (t : List ℕ) → list_all says_all (slot_rules fault f i own j t) ≡ true
-  slot_says fault.Slot i own j t = refl
-  slot_says _ i own j t = refl
-
-  of_endpoint_caused : (fault : BoardFault) (i : ℕ) (e : Endpoint) → IsIn (i, e) (enumerate_from 0 f.endpoints) → AllCaused f (of_endpoint fault f (i, e))
+  of_endpoint_caused : (fault : BoardFault) (i : ℕ) (e : Endpoint) → IsIn (i, e) (enumerate_from 0 f.endpoints) → AllCaused f (of_endpoint fault (i, e))
   of_endpoint_caused fault i e there =
       let at = at_number i e f.endpoints there in
-      let own = broken (entry.Endpoint i) (endpoint_rules fault f i e) in
+      let own = broken (entry.Endpoint i) (endpoint_rules fault e) in
       let bars = flat_map (of_bar fault i) (enumerate_from 0 e.bars) in
       both f (own ++ bars) (flat_map (of_config fault i e.configs) (enumerate_from 0 e.configs))
       (both f own bars (endpoint_caused f i e at fault)
       (of_all f (of_bar fault i) (enumerate_from 0 e.bars) (λ b m. bar_caused f i e at fault b.0 b.1 (at_number b.0 b.1 e.bars m))))
       (of_all f (of_config fault i e.configs) (enumerate_from 0 e.configs) (λ c m. config_caused f i e at fault c.0 c.1 (at_number c.0 c.1 e.configs m)))
 
-  of_guest_caused : (fault : BoardFault) (i : ℕ) (g : Guest) → AllCaused f (of_guest fault f (i, g))
-  of_guest_caused fault i g =
-      both f (broken (entry.Guest i) (guest_rules fault f i g)) (flat_map (of_slot fault f i g.slots) (enumerate_from 0 g.slots))
-      (no_cause f (entry.Guest i) (guest_rules fault f i g) (guest_says fault i g))
-      (of_all f (of_slot fault f i g.slots) (enumerate_from 0 g.slots)
-      (λ s m. no_cause f (entry.Slot i s.0) (slot_rules fault f i g.slots s.0 s.1) (slot_says fault i g.slots s.0 s.1)))
-
-  in_file_caused : (fault : BoardFault) → AllCaused f (problems_in f fault)
-  in_file_caused fault =
+  values_caused : (fault : BoardFault) → AllCaused f (of_values fault f)
+  values_caused fault =
       let whole = broken entry.File (file_rules fault f) in let host = broken entry.Host (host_rules fault f) in
-      let endpoints = flat_map (of_endpoint fault f) (enumerate_from 0 f.endpoints) in
-      let bridges = flat_map (of_bridge fault f) (enumerate_from 0 f.bridges) in
+      let endpoints = flat_map (of_endpoint fault) (enumerate_from 0 f.endpoints) in
+      let bridges = flat_map (of_bridge fault) (enumerate_from 0 f.bridges) in
       both f (whole ++ host ++ endpoints ++ bridges) (flat_map (of_guest fault f) (enumerate_from 0 f.guests))
       (both f (whole ++ host ++ endpoints) bridges
       (both f (whole ++ host) endpoints
       (both f whole host (no_cause f entry.File (file_rules fault f) (file_says fault)) (no_cause f entry.Host (host_rules fault f) (host_says fault)))
-      (of_all f (of_endpoint fault f) (enumerate_from 0 f.endpoints) (λ e m. of_endpoint_caused fault e.0 e.1 m)))
-      (of_all f (of_bridge fault f) (enumerate_from 0 f.bridges) (λ b m. no_cause f (entry.Bridge b.0) (bridge_rules fault f b.0 b.1) (bridge_says fault b.0 b.1))))
-      (of_all f (of_guest fault f) (enumerate_from 0 f.guests) (λ g m. of_guest_caused fault g.0 g.1))
+      (of_all f (of_endpoint fault) (enumerate_from 0 f.endpoints) (λ e m. of_endpoint_caused fault e.0 e.1 m)))
+      (of_all f (of_bridge fault) (enumerate_from 0 f.bridges) (λ b m. no_cause f (entry.Bridge b.0) (bridge_rules fault b.1) (bridge_says fault b.1))))
+      (of_all f (of_guest fault f) (enumerate_from 0 f.guests) (λ g m. no_cause f (entry.Guest g.0) (guest_rules fault f g.0 g.1) (guest_says fault g.0 g.1)))
+
+  in_file_caused : (fault : BoardFault) → AllCaused f (problems_in f fault)
+  in_file_caused fault.Place =
+      of_all f (of_place (standings f)) (path_entries (place_texts f)) (λ p m. no_cause f p.entry (place_rules (standings f) p.text p.is_own) refl)
+  in_file_caused fault.Slot =
+      of_all f (of_slot (standings f)) (path_entries (slot_texts f)) (λ p m. no_cause f p.entry (slot_rules (standings f) p.text p.is_own) refl)
+  in_file_caused fault = values_caused fault
 
 -- ---- all problems
 

@@ -1,10 +1,10 @@
 use Rattle.std.proofs.Common.{arith}
-use Rattle.std.proofs.lemmas.Bool.{and_parts}
+use Rattle.board_file.proofs.Asked.{apertures_of}
 use Rattle.board_file.proofs.LawfulWorld.{is_board, short_guests, lawful_world, board_at_reset, is_at_reset, lawful_rows}
 use Rattle.board_file.proofs.board.build.Goals as goal
 
 pub unwrap-apertures-requires : goal.unwrap-apertures-requires
-unwrap-apertures-requires c = grind (arith, and_parts)
+unwrap-apertures-requires c = grind (arith, apertures_of)
 
 pub host-requires : goal.host-requires
 host-requires c = grind (arith, is_board)

@@ -3,4 +3,4 @@ use Rattle.board_file.proofs.Walks.{GoesOn}
 use Rattle.board_file.proofs.function_problems.push_endpoints.Given as goal
 
 abbrev pub invariant-endpoints : goal.invariant-endpoints
-invariant-endpoints l = GoesOn (of_endpoint l.fault l.file) l.file.endpoints l.index l.initial.problems.items l.problems.items
+invariant-endpoints l = GoesOn (of_endpoint l.fault) l.file.endpoints l.index l.initial.problems.items l.problems.items

@@ -1,0 +1,53 @@
+-- Entries with the texts of paths: functions, each with its `at`, and slots.
+--     PathEntry      an entry, its text, and whether no entry before it has the same path
+--     place_texts, slot_texts      the texts of all functions, endpoints first, and of all slots, guest after guest
+--     path_entries      the same of some texts
+use Rattle.std.specs.Prelude.{ℕ, Bool, not, ◌&&◌, List, ◌++◌, map, flat_map, take}
+use Rattle.std.specs.List.{enumerate_from, list_all}
+use Rattle.model_board.specs.Paths.{Path, path_eq}
+use Rattle.board_file.specs.PathTexts.{is_path_text, path_at}
+use Rattle.board_file.specs.Entries.{Endpoint, Bridge, Guest, File}
+use Rattle.board_file.specs.EntryRules.{are_same_place}
+use Rattle.board_file.specs.declared.entry.Entry.{Entry}
+use Rattle.board_file.specs.declared.entry.Entry.TheVariants as entry
+
+pub record PathEntry : Type 0 where
+  pub entry : Entry
+  pub text : List ℕ
+  pub is_own : Bool
+
+-- ---- texts
+
+abbrev pub endpoint_text : ℕ × Endpoint → Entry × List ℕ
+endpoint_text (i, e) = (entry.Endpoint i, e.at)
+
+abbrev pub bridge_text : ℕ × Bridge → Entry × List ℕ
+bridge_text (i, b) = (entry.Bridge i, b.at)
+
+abbrev pub slot_text : ℕ → ℕ × List ℕ → Entry × List ℕ
+slot_text i (j, t) = (entry.Slot i j, t)
+
+abbrev pub guest_texts : ℕ × Guest → List (Entry × List ℕ)
+guest_texts (i, g) = map (slot_text i) (enumerate_from 0 g.slots)
+
+abbrev pub place_texts : File → List (Entry × List ℕ)
+place_texts f = map endpoint_text (enumerate_from 0 f.endpoints) ++ map bridge_text (enumerate_from 0 f.bridges)
+
+abbrev pub slot_texts : File → List (Entry × List ℕ)
+slot_texts f = flat_map guest_texts (enumerate_from 0 f.guests)
+
+-- ---- entries
+
+-- the text is that of the path
+abbrev pub has_path : Path → List ℕ → Bool
+has_path p t = is_path_text t && path_eq (path_at t) p
+
+-- no text has the same path
+abbrev pub is_free : List (Entry × List ℕ) → List ℕ → Bool
+is_free texts t = list_all (λ s. not (are_same_place s.1 t)) texts
+
+abbrev pub path_entry : List (Entry × List ℕ) → ℕ × (Entry × List ℕ) → PathEntry
+path_entry texts (i, (e, t)) = record { entry = e; text = t; is_own = is_free (take i texts) t }
+
+abbrev pub path_entries : List (Entry × List ℕ) → List PathEntry
+path_entries texts = map (path_entry texts) (enumerate_from 0 texts)

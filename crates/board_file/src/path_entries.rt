@@ -1,0 +1,131 @@
+//! The entries that have the text of a path: functions, and slots. Which texts have the path of one before
+//! them is found by a set of paths, so none is compared with all others.
+ghost use Rattle.std.specs.Prelude.{◌≡◌, ◌++◌, ◌||◌, not, IfOk, OnOk, map};
+ghost use Rattle.std.specs.BTreeSet.{contains};
+ghost use Rattle.model_board.specs.Paths.{Path as PathValue};
+ghost use Rattle.paths.specs.PathOrders.{path_cmp};
+ghost use Rattle.board_file.specs.PathTexts.{is_path_text, path_at};
+ghost use Rattle.board_file.specs.PathEntries as said;
+
+use crate::entries::{FileEntries, GuestEntry};
+use crate::entry::Entry;
+use crate::path_text::PathText;
+use paths::Path;
+use std::alloc::{AllocError, Global};
+use std::collections::BTreeSet;
+use std::marker::Model;
+
+/// An entry, its text, and whether no entry before it has the same path.
+#[derive(Drop)]
+pub(crate) struct PathEntry<'f, 'a> {
+    pub(crate) entry: Entry,
+    pub(crate) text: &'f PathText<'a>,
+    pub(crate) is_own: bool,
+}
+
+impl<'f, 'a> Model for PathEntry<'f, 'a> {
+    ghost Value = { said.PathEntry };
+
+    ghost view = { λ p. record { entry = p.entry; text = p.text.now; is_own = p.is_own } };
+}
+
+/// The texts of all functions, endpoints first.
+fn place_texts<'f, 'a>(
+    alloc: Global,
+    file: &'f FileEntries<'a>,
+) -> Result<Vec<(Entry, &'f PathText<'a>)>, AllocError>
+    ensures { IfOk result (λ v. map (λ p. (p.0, p.1.now)) v.items ≡ said.place_texts file.now) }
+{
+    let mut texts = Vec::new(alloc);
+    'endpoints: for (index, endpoint) in file.endpoints.iter().enumerate() {
+        texts.push((Entry::Endpoint(index), &endpoint.at))?;
+    }
+    'bridges: for (index, bridge) in file.bridges.iter().enumerate() {
+        texts.push((Entry::Bridge(index), &bridge.at))?;
+    }
+    Ok(texts)
+}
+
+/// Appends the texts of a guest's slots.
+fn push_slots<'f, 'a>(
+    texts: &mut Vec<(Entry, &'f PathText<'a>)>,
+    index: usize,
+    guest: &'f GuestEntry<'a>,
+) -> Result<(), AllocError>
+    ensures { OnOk result (map (λ p. (p.0, p.1.now)) texts.new.items
+        ≡ map (λ p. (p.0, p.1.now)) texts.old.items ++ said.guest_texts (index, guest.now)) }
+{
+    'slots: for (number, slot) in guest.slots.iter().enumerate() {
+        texts.push((Entry::Slot(index, number), slot))?;
+    }
+    Ok(())
+}
+
+/// The texts of all slots, guest after guest.
+fn slot_texts<'f, 'a>(
+    alloc: Global,
+    file: &'f FileEntries<'a>,
+) -> Result<Vec<(Entry, &'f PathText<'a>)>, AllocError>
+    ensures { IfOk result (λ v. map (λ p. (p.0, p.1.now)) v.items ≡ said.slot_texts file.now) }
+{
+    let mut texts = Vec::new(alloc);
+    'guests: for (index, guest) in file.guests.iter().enumerate() {
+        push_slots(&mut texts, index, guest)?;
+    }
+    Ok(texts)
+}
+
+/// Whether the text is no path, or one that is not taken yet, which it is from then on.
+fn take(taken: &mut BTreeSet<Path>, text: &PathText<'_>) -> Result<bool, AllocError>
+    ensures own { IfOk result (λ own.
+        own ≡ (not (is_path_text text.now)
+        || not (contains path_cmp taken.old (path_at text.now)))) }
+    ensures taken { OnOk result ((p : PathValue) → contains path_cmp taken.new p
+        ≡ (contains path_cmp taken.old p || said.has_path p text.now)) }
+{
+    if text.is_path() {
+        Ok(taken.insert(text.path())?)
+    } else {
+        Ok(true)
+    }
+}
+
+/// The entries that have these texts.
+fn path_entries<'f, 'a>(
+    alloc: Global,
+    texts: Vec<(Entry, &'f PathText<'a>)>,
+) -> Result<Vec<PathEntry<'f, 'a>>, AllocError>
+    ensures { IfOk result (λ v.
+        v.items ≡ said.path_entries (map (λ p. (p.0, p.1.now)) texts.entry.items)) }
+{
+    let mut taken = BTreeSet::new(alloc);
+    let mut entries = Vec::with_capacity(alloc, texts.len())?;
+    'texts: for (entry, text) in &texts {
+        entries.push(PathEntry {
+            entry: *entry,
+            text: *text,
+            is_own: take(&mut taken, text)?,
+        })?;
+    }
+    Ok(entries)
+}
+
+/// All functions, with where they stand, endpoints first.
+pub(crate) fn places<'f, 'a>(
+    alloc: Global,
+    file: &'f FileEntries<'a>,
+) -> Result<Vec<PathEntry<'f, 'a>>, AllocError>
+    ensures { IfOk result (λ v. v.items ≡ said.path_entries (said.place_texts file.now)) }
+{
+    path_entries(alloc, place_texts(alloc, file)?)
+}
+
+/// All slots, guest after guest.
+pub(crate) fn slots<'f, 'a>(
+    alloc: Global,
+    file: &'f FileEntries<'a>,
+) -> Result<Vec<PathEntry<'f, 'a>>, AllocError>
+    ensures { IfOk result (λ v. v.items ≡ said.path_entries (said.slot_texts file.now)) }
+{
+    path_entries(alloc, slot_texts(alloc, file)?)
+}
