@@ -1,6 +1,6 @@
 //! The rules that entries have to keep.
 ghost use Rattle.std.specs.Prelude.{◌≡◌};
-ghost use Rattle.board_file.specs.RuleFaults.{fault_of, key_of};
+ghost use Rattle.board_file.specs.RuleFaults.{row_of, fault_of, key_of};
 
 use crate::fault::BoardFault;
 
@@ -88,71 +88,65 @@ pub enum Rule {
 }
 
 impl Rule {
+    /// The fault of a file in which the rule is broken, and the key at which it is. A rule of keys is broken at
+    /// any key, and a slot has none.
+    fn row(self) -> (BoardFault, &'static str)
+        ensures { (result.0, result.1.now) ≡ row_of self }
+    {
+        match self {
+            Rule::Needed => (BoardFault::Key, ""),
+            Rule::Form => (BoardFault::Key, ""),
+            Rule::Known => (BoardFault::UnknownKey, ""),
+            Rule::Vendor => (BoardFault::Number, "vendor"),
+            Rule::Device => (BoardFault::Number, "device"),
+            Rule::Revision => (BoardFault::Number, "revision"),
+            Rule::Class => (BoardFault::Number, "class"),
+            Rule::Subvendor => (BoardFault::Number, "subvendor"),
+            Rule::Subsystem => (BoardFault::Number, "subsystem"),
+            Rule::Pin => (BoardFault::Number, "pin"),
+            Rule::MinGnt => (BoardFault::Number, "min_gnt"),
+            Rule::MaxLat => (BoardFault::Number, "max_lat"),
+            Rule::Status => (BoardFault::Number, "status"),
+            Rule::BarBlock => (BoardFault::Number, "block"),
+            Rule::ConfigOff => (BoardFault::Number, "off"),
+            Rule::ConfigBlock => (BoardFault::Number, "block"),
+            Rule::ConfigEnd => (BoardFault::Number, "block"),
+            Rule::Slashes => (BoardFault::TooMany, "at"),
+            Rule::Functions => (BoardFault::TooMany, "endpoint"),
+            Rule::Guests => (BoardFault::TooMany, "guest"),
+            Rule::Slots => (BoardFault::TooMany, "slots"),
+            Rule::Index => (BoardFault::Register, "index"),
+            Rule::Size => (BoardFault::Size, "size"),
+            Rule::BlockFits => (BoardFault::Size, "block"),
+            Rule::Name => (BoardFault::GuestName, "name"),
+            Rule::BarMasks => (BoardFault::CellMasks, "block"),
+            Rule::ConfigMasks => (BoardFault::CellMasks, "block"),
+            Rule::Path => (BoardFault::Place, "at"),
+            Rule::OwnPlace => (BoardFault::Place, "at"),
+            Rule::BehindBridge => (BoardFault::Place, "at"),
+            Rule::FunctionZero => (BoardFault::Place, "at"),
+            Rule::OwnRegisters => (BoardFault::Register, "bar"),
+            Rule::OwnName => (BoardFault::GuestName, "name"),
+            Rule::NamesEndpoint => (BoardFault::Slot, ""),
+            Rule::OwnSlot => (BoardFault::Slot, ""),
+            Rule::IoAperture => (BoardFault::Aperture, "io"),
+            Rule::MemAperture => (BoardFault::Aperture, "mem"),
+            Rule::PrefAperture => (BoardFault::Aperture, "pref"),
+            Rule::OwnOffsets => (BoardFault::CellMasks, "off"),
+        }
+    }
+
     /// The fault of a file in which the rule is broken.
     pub fn fault(self) -> BoardFault
         ensures { result ≡ fault_of self }
     {
-        match self {
-            Rule::Needed | Rule::Form => BoardFault::Key,
-            Rule::Known => BoardFault::UnknownKey,
-            Rule::Vendor
-            | Rule::Device
-            | Rule::Revision
-            | Rule::Class
-            | Rule::Subvendor
-            | Rule::Subsystem
-            | Rule::Pin
-            | Rule::MinGnt
-            | Rule::MaxLat
-            | Rule::Status
-            | Rule::BarBlock
-            | Rule::ConfigOff
-            | Rule::ConfigBlock
-            | Rule::ConfigEnd => BoardFault::Number,
-            Rule::Slashes | Rule::Functions | Rule::Guests | Rule::Slots => BoardFault::TooMany,
-            Rule::Path | Rule::OwnPlace | Rule::BehindBridge | Rule::FunctionZero => {
-                BoardFault::Place
-            },
-            Rule::Index | Rule::OwnRegisters => BoardFault::Register,
-            Rule::Size | Rule::BlockFits => BoardFault::Size,
-            Rule::Name | Rule::OwnName => BoardFault::GuestName,
-            Rule::NamesEndpoint | Rule::OwnSlot => BoardFault::Slot,
-            Rule::IoAperture | Rule::MemAperture | Rule::PrefAperture => BoardFault::Aperture,
-            Rule::BarMasks | Rule::ConfigMasks | Rule::OwnOffsets => BoardFault::CellMasks,
-        }
+        self.row().0
     }
 
-    /// The key at which the rule is broken. A rule of keys is broken at any key, and a slot has none.
+    /// The key at which the rule is broken, if it is one key.
     pub fn key(self) -> &'static str
         ensures { result.now ≡ key_of self }
     {
-        match self {
-            Rule::Needed | Rule::Form | Rule::Known | Rule::NamesEndpoint | Rule::OwnSlot => "",
-            Rule::Vendor => "vendor",
-            Rule::Device => "device",
-            Rule::Revision => "revision",
-            Rule::Class => "class",
-            Rule::Subvendor => "subvendor",
-            Rule::Subsystem => "subsystem",
-            Rule::Pin => "pin",
-            Rule::MinGnt => "min_gnt",
-            Rule::MaxLat => "max_lat",
-            Rule::Status => "status",
-            Rule::BarBlock | Rule::BlockFits | Rule::BarMasks => "block",
-            Rule::ConfigBlock | Rule::ConfigEnd | Rule::ConfigMasks => "block",
-            Rule::ConfigOff | Rule::OwnOffsets => "off",
-            Rule::Path | Rule::OwnPlace | Rule::BehindBridge | Rule::FunctionZero => "at",
-            Rule::Slashes => "at",
-            Rule::Functions => "endpoint",
-            Rule::Guests => "guest",
-            Rule::Slots => "slots",
-            Rule::Index => "index",
-            Rule::Size => "size",
-            Rule::Name | Rule::OwnName => "name",
-            Rule::OwnRegisters => "bar",
-            Rule::IoAperture => "io",
-            Rule::MemAperture => "mem",
-            Rule::PrefAperture => "pref",
-        }
+        self.row().1
     }
 }
