@@ -92,6 +92,9 @@ function change_written({ path, words, before, after }) {
   return { path, name: words, before: value(before), after: before === after ? 'as it was' : value(after), was: null, now: null };
 }
 
+// Whether a line is a remark, or has no word: it changes nothing, and nobody counts it.
+export const is_remark = line => /^\s*(#|$)/.test(line);
+
 // What no line changed.
 export const NOTHING_CHANGED = { line: null, reply: '', of: null, offsets: [], changes: [], came: [], gone: [] };
 
@@ -109,7 +112,7 @@ export class Watch {
   }
 
   ends(line, reply) {
-    this.ran.push({ line, reply });
+    if (!is_remark(line)) this.ran.push({ line, reply });
     if (this.written !== null) this.written.after = this.read(this.written.line);
   }
 

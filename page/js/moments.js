@@ -1,6 +1,6 @@
 // The moments of a board: what each line changes as it runs, and the board as it was after an earlier one, which a copy shows.
 
-import { NOTHING_CHANGED, Watch } from './changes.js';
+import { NOTHING_CHANGED, Watch, is_remark } from './changes.js';
 import { moment_of, Replay } from './replay.js';
 import { Steps } from './steps.js';
 
@@ -42,7 +42,7 @@ export class Moments {
   look() {
     const looked = this.watch.look(), { lines, hidden } = this.page.lines();
     if (looked !== null) this.last = looked;
-    this.steps.count([hidden, ...lines.flatMap((line, nth) => (nth < hidden || /^\s*(#|$)/.test(line) ? [] : [nth + 1]))]);
+    this.steps.count([hidden, ...lines.flatMap((line, nth) => (nth < hidden || is_remark(line) ? [] : [nth + 1]))]);
     return looked !== null;
   }
 

@@ -118,6 +118,9 @@ def guests_lines_can_be_gone_through(browser, page):
     owner = browser.run("document.querySelector('#tree [data-path=\"2.0/0.0\"]').title")
     holds('and after it where it is', 'guest store, slot 2' in owner and browser.run("document.querySelectorAll('.joined').length") == 0, owner)
     browser.run("document.getElementById('leave').click()")
+    browser.open(f'{page}#story=Three guests share a server&now', 1440, 900)
+    told = [browser.run(TOLD), text_of(browser, 'last')]
+    holds('remarks are no lines', told[0] == '12 lines ran' and told[1].startswith('12 lines, the last of them host move store 2 desk 0'), told)
 
 
 # What is sent, and what stands at its stops.
