@@ -4,10 +4,12 @@
  * a refusal (enum pciguest_status), but for pciguest_version and pciguest_strerror, and pciguest_piece and
  * pciguest_ends_within, which only compute. A call that answers a number other than 0 changed nothing and stored nothing,
  * but for a length that tells how much room a text or an image needs, or how many rows there are, and for the text of
- * pciguest_check.
+ * pciguest_check. A null pointer is answered by 902, but that bytes and room may be null where their length is 0; a call of a
+ * struct that holds nothing by 901, but for those that make or free what it holds.
  *
- * tools/bindings reads the declarations and comments below, and writes from them library/words.c and what the modules for
- * Rust and Python declare.
+ * This is the one file of calls. tools/bindings reads its declarations and comments, and writes from them the calls
+ * themselves over those of the proved library (library/calls.c, raw.h, words.c), what the modules for Rust and Python
+ * declare, and the calls of the manual. A call is of version 0.2.0, unless its comment says since when it is there.
  */
 #ifndef PCIGUEST_H
 #define PCIGUEST_H
@@ -19,12 +21,6 @@
 /* The version of this header and of the library beside it, as a text and as a number that grows. */
 #define PCIGUEST_VERSION "0.4.0"
 #define PCIGUEST_VERSION_NUMBER 400 /* 10000 * major + 100 * minor + patch */
-
-/* What stands before each call that has its body here. The library has the same calls, compiled from here, under the same
- * names, for those who load it or call it from another language. */
-#ifndef PCIGUEST_CALL
-#define PCIGUEST_CALL static inline
-#endif
 
 #ifdef __cplusplus
 extern "C" {
@@ -190,7 +186,7 @@ enum pciguest_status {
     PCIGUEST_NOT_AT_RESET = 904,      /* not at reset */
     PCIGUEST_BAD_IMAGE = 905,         /* image */
     PCIGUEST_OTHER_FUNCTIONS = 906,   /* other functions */
-    PCIGUEST_OTHER_BOARD = 907,       /* other board */
+    PCIGUEST_OTHER_BOARD = 907        /* other board */
 };
 
 /* Numbers that no call answers: 401 to 403 stand in replies to lines, and the others in the program's last line. */
@@ -204,163 +200,58 @@ enum pciguest_told {
     PCIGUEST_WRITE_FAILED = 502,  /* write failed */
     PCIGUEST_USAGE = 701,         /* usage */
     PCIGUEST_BOARD_FILE = 702,    /* board file */
-    PCIGUEST_WORD_MEMORY = 799,   /* memory */
+    PCIGUEST_WORD_MEMORY = 799    /* memory */
 };
 
-/* The version of the library that is linked or loaded, as PCIGUEST_VERSION_NUMBER has that of the header. */
+/* The version of the library that is linked or loaded, as PCIGUEST_VERSION_NUMBER has that of the header. Since 0.4.0. */
 uint32_t pciguest_version(void);
 
 /* The words of a number, as pciguest_words has them, as a text that ends with a 0 and stays as long as the library is
- * loaded. A number that stands for nothing, as 0, has the empty text. */
+ * loaded. A number that stands for nothing, as 0, has the empty text. Since 0.4.0. */
 const char *pciguest_strerror(uint32_t number);
-
-/* The calls of the library itself. They take no null pointer, and a line without its line feed; those below, which see
- * to both, are the ones to use. */
-uint32_t pciguest_raw_new(struct pciguest *machine, const uint8_t *board, size_t length);
-void pciguest_raw_free(struct pciguest *machine);
-uint32_t pciguest_raw_guest(struct pciguest *machine, const uint8_t *name, size_t length, size_t *guest);
-uint32_t pciguest_raw_guest_count(struct pciguest *machine, size_t *count);
-uint32_t pciguest_raw_guest_name(struct pciguest *machine, size_t guest, uint8_t *text, size_t room, size_t *needed);
-uint32_t pciguest_raw_read(struct pciguest *machine, size_t guest, uint32_t space, uint64_t slot, uint64_t place,
-                           uint32_t width, uint32_t *value);
-uint32_t pciguest_raw_write(struct pciguest *machine, size_t guest, uint32_t space, uint64_t slot, uint64_t place,
-                            uint32_t width, uint32_t value);
-uint32_t pciguest_raw_raise(struct pciguest *machine, size_t guest, uint64_t slot, uint32_t part, uint64_t offset,
-                            uint8_t mask);
-uint32_t pciguest_raw_host_read(struct pciguest *machine, uint32_t space, uint8_t bus, uint8_t device,
-                                uint8_t function, uint64_t place, uint32_t width, uint32_t *value);
-uint32_t pciguest_raw_move(struct pciguest *machine, size_t from, uint64_t slot, size_t to, uint64_t target);
-uint32_t pciguest_raw_reset(struct pciguest *machine, size_t guest, uint64_t slot);
-uint32_t pciguest_raw_reset_guest(struct pciguest *machine, size_t guest);
-uint32_t pciguest_raw_image_size(struct pciguest *machine, size_t guest, size_t *size);
-uint32_t pciguest_raw_save(struct pciguest *machine, size_t guest, uint8_t *image, size_t room, size_t *needed);
-uint32_t pciguest_raw_load(struct pciguest *machine, size_t guest, const uint8_t *image, size_t length);
-uint32_t pciguest_raw_image_size_all(struct pciguest *machine, size_t *size);
-uint32_t pciguest_raw_save_all(struct pciguest *machine, uint8_t *image, size_t room, size_t *needed);
-uint32_t pciguest_raw_load_all(struct pciguest *machine, const uint8_t *image, size_t length);
-uint32_t pciguest_raw_give(struct pciguest *machine, const uint8_t *path, size_t length, size_t guest, uint64_t slot);
-uint32_t pciguest_raw_take(struct pciguest *machine, size_t guest, uint64_t slot);
-uint32_t pciguest_raw_device_read(struct pciguest *machine, size_t guest, uint64_t slot, uint32_t part, uint64_t offset,
-                                  uint32_t *value);
-uint32_t pciguest_raw_device_write(struct pciguest *machine, size_t guest, uint64_t slot, uint32_t part, uint64_t offset,
-                                   uint8_t value);
-uint32_t pciguest_raw_device_read_wide(struct pciguest *machine, size_t guest, uint64_t slot, uint32_t part,
-                                       uint64_t offset, uint32_t width, uint64_t *value);
-uint32_t pciguest_raw_device_write_wide(struct pciguest *machine, size_t guest, uint64_t slot, uint32_t part,
-                                        uint64_t offset, uint32_t width, uint64_t value);
-uint32_t pciguest_raw_region(struct pciguest *machine, size_t guest, uint64_t slot, uint32_t bar,
-                             struct pciguest_region *region);
-uint32_t pciguest_raw_changed(struct pciguest *machine, size_t guest, uint64_t *count);
-uint32_t pciguest_raw_locate(struct pciguest *machine, size_t guest, uint32_t space, uint64_t slot, uint64_t place,
-                             struct pciguest_hit *hit);
-uint32_t pciguest_raw_why(struct pciguest *machine, size_t guest, uint32_t space, uint64_t slot, uint64_t place,
-                          uint8_t *text, size_t room, size_t *needed);
-uint32_t pciguest_raw_count(struct pciguest *machine, size_t *count);
-uint32_t pciguest_raw_function(struct pciguest *machine, size_t index, struct pciguest_function *function);
-uint32_t pciguest_raw_slot(struct pciguest *machine, size_t guest, uint64_t slot, struct pciguest_function *function);
-uint32_t pciguest_raw_run_line(struct pciguest *machine, const uint8_t *line, size_t length, uint8_t *reply,
-                               size_t room, size_t *written);
-uint32_t pciguest_raw_report(const uint8_t *board, size_t length, uint8_t *text, size_t room, size_t *needed);
-uint32_t pciguest_raw_check(const uint8_t *board, size_t length, uint8_t *text, size_t room, size_t *needed);
-uint32_t pciguest_raw_words(uint32_t number, uint8_t *text, size_t room, size_t *needed);
-uint32_t pciguest_raw_board_new(struct pciguest_board *board, const uint8_t *file, size_t length);
-void pciguest_raw_board_free(struct pciguest_board *board);
-uint32_t pciguest_raw_board_read(struct pciguest_board *board, uint32_t space, uint8_t bus, uint8_t device,
-                                 uint8_t function, uint64_t place, uint32_t width, uint32_t *value);
-uint32_t pciguest_raw_board_write(struct pciguest_board *board, uint32_t space, uint8_t bus, uint8_t device,
-                                  uint8_t function, uint64_t place, uint32_t width, uint32_t value);
-uint32_t pciguest_raw_board_run_line(struct pciguest_board *board, const uint8_t *line, size_t length, uint8_t *reply,
-                                     size_t room, size_t *written);
-uint32_t pciguest_raw_board_count(struct pciguest_board *board, size_t *count);
-uint32_t pciguest_raw_board_function(struct pciguest_board *board, size_t index,
-                                     struct pciguest_board_function *function);
-uint32_t pciguest_raw_board_audit(struct pciguest_board *board, uint8_t *text, size_t room, size_t *needed,
-                                  size_t *count);
-uint32_t pciguest_raw_board_ready(struct pciguest_board *board, uint8_t *text, size_t room, size_t *needed,
-                                  size_t *count);
-uint32_t pciguest_raw_board_problems(struct pciguest_board *board, struct pciguest_problem *problems, size_t room,
-                                     size_t *count);
-uint32_t pciguest_raw_set_up(struct pciguest_board *board, struct pciguest *machine);
-uint32_t pciguest_raw_board_guests(struct pciguest_board *board, struct pciguest *machine);
 
 /* Sets up the board of a board file, given as its bytes, and gives its functions to the guests of the file.
  * 0: the machine holds the world that the file declares, before any access. Otherwise the number of the first
  * check that the file or its board fails, 199 or 299 out of memory, or 903. */
-PCIGUEST_CALL uint32_t pciguest_new(struct pciguest *machine, const void *board, size_t length)
-{
-    if (!machine || (!board && length))
-        return PCIGUEST_ARGUMENT;
-    return pciguest_raw_new(machine, board ? (const uint8_t *)board : (const uint8_t *)"", length);
-}
+uint32_t pciguest_new(struct pciguest *machine, const void *board, size_t length);
 
 /* Frees the machine. The struct then holds none, and may be used for a new one. Where it held none, nothing
  * happens. */
-PCIGUEST_CALL void pciguest_free(struct pciguest *machine)
-{
-    if (machine)
-        pciguest_raw_free(machine);
-}
+void pciguest_free(struct pciguest *machine);
 
 /* The index of the guest of a name, as the calls below take it: guests stand in the order of the board file,
  * from 0 on. 902: no guest has this name. */
-PCIGUEST_CALL uint32_t pciguest_guest(struct pciguest *machine, const char *name, size_t length, size_t *guest)
-{
-    if (!machine || (!name && length) || !guest)
-        return PCIGUEST_ARGUMENT;
-    return pciguest_raw_guest(machine, (const uint8_t *)(name ? name : ""), length, guest);
-}
+uint32_t pciguest_guest(struct pciguest *machine, const char *name, size_t length, size_t *guest);
 
-/* How many guests the machine has. */
-PCIGUEST_CALL uint32_t pciguest_guest_count(struct pciguest *machine, size_t *count)
-{
-    if (!machine || !count)
-        return PCIGUEST_ARGUMENT;
-    return pciguest_raw_guest_count(machine, count);
-}
+/* How many guests the machine has. Since 0.4.0. */
+uint32_t pciguest_guest_count(struct pciguest *machine, size_t *count);
 
 /* Writes the name of a guest by its index, from 0 to one less than pciguest_guest_count tells, and tells its length; it
  * has no 0 at its end. 902: there is less room than that, and nothing was written; or there is no such guest, and nothing
- * was told. PCIGUEST_GUEST_NAME is always enough room. */
-PCIGUEST_CALL uint32_t pciguest_guest_name(struct pciguest *machine, size_t guest, char *text, size_t room,
-                                           size_t *needed)
-{
-    uint8_t none;
-    if (!machine || (!text && room) || !needed)
-        return PCIGUEST_ARGUMENT;
-    return pciguest_raw_guest_name(machine, guest, text ? (uint8_t *)text : &none, room, needed);
-}
+ * was told. PCIGUEST_GUEST_NAME is always enough room. Since 0.4.0. */
+uint32_t pciguest_guest_name(struct pciguest *machine, size_t guest, char *text, size_t room, size_t *needed);
 
 /* Reads as a guest, by the guest's own view: slot and offset, port, or address. What is read is what the guest's
  * own functions answer, each a register file by itself; all ones where nothing of the guest's answers. A read
  * changes nothing. The slot is looked at for configuration space alone.
  * 302: the width is not 1, 2 or 4. 301: the place is no multiple of it. 303: the slot, offset or port is out of
  * range. 902: there is no such guest or space. */
-PCIGUEST_CALL uint32_t pciguest_read(struct pciguest *machine, size_t guest, uint32_t space, uint64_t slot,
-                                     uint64_t place, uint32_t width, uint32_t *value)
-{
-    if (!machine || !value)
-        return PCIGUEST_ARGUMENT;
-    return pciguest_raw_read(machine, guest, space, slot, place, width, value);
-}
+uint32_t pciguest_read(struct pciguest *machine, size_t guest, uint32_t space, uint64_t slot, uint64_t place,
+                       uint32_t width, uint32_t *value);
 
 /* Writes the low bytes of a value as a guest, as many as it is wide. No other guest can tell. Numbers as above. */
-PCIGUEST_CALL uint32_t pciguest_write(struct pciguest *machine, size_t guest, uint32_t space, uint64_t slot,
-                                      uint64_t place, uint32_t width, uint32_t value)
-{
-    if (!machine)
-        return PCIGUEST_ARGUMENT;
-    return pciguest_raw_write(machine, guest, space, slot, place, width, value);
-}
+uint32_t pciguest_write(struct pciguest *machine, size_t guest, uint32_t space, uint64_t slot, uint64_t place,
+                        uint32_t width, uint32_t value);
 
 /* How many bytes the first lawful piece of an access has, with that many bytes left of it from a place on: 4, 2 or 1,
- * the most that stand at a multiple of their number. */
-PCIGUEST_CALL uint32_t pciguest_piece(uint64_t place, uint32_t left)
+ * the most that stand at a multiple of their number. Since 0.3.0. */
+static inline uint32_t pciguest_piece(uint64_t place, uint32_t left)
 {
     return place % 4 == 0 && left >= 4 ? 4 : place % 2 == 0 && left >= 2 ? 2 : 1;
 }
 
-/* Whether an access of 1 to 8 bytes ends where its space does, or before. */
-PCIGUEST_CALL bool pciguest_ends_within(uint32_t space, uint64_t place, uint32_t width)
+/* Whether an access of 1 to 8 bytes ends where its space does, or before. Since 0.3.0. */
+static inline bool pciguest_ends_within(uint32_t space, uint64_t place, uint32_t width)
 {
     uint64_t last = space == PCIGUEST_CONFIG ? 0xff : space == PCIGUEST_IO ? 0xffff : UINT64_MAX;
 
@@ -370,271 +261,133 @@ PCIGUEST_CALL bool pciguest_ends_within(uint32_t space, uint64_t place, uint32_t
 /* Reads as a guest what a processor may ask at once and a cycle of the bus can't: 1 to 8 bytes, at any place. It is
  * split as a bridge does, into the lawful pieces that pciguest_piece tells, in the order of addresses, and the byte at
  * the lowest address is the lowest of the value. 302: the width is not 1 to 8. 303: the slot is out of range, or the
- * access ends past its space. Other numbers as above. */
-PCIGUEST_CALL uint32_t pciguest_read_wide(struct pciguest *machine, size_t guest, uint32_t space, uint64_t slot,
-                                          uint64_t place, uint32_t width, uint64_t *value)
-{
-    uint64_t all = 0;
-    uint32_t done = 0;
+ * access ends past its space. Other numbers as above. Since 0.3.0. */
+uint32_t pciguest_read_wide(struct pciguest *machine, size_t guest, uint32_t space, uint64_t slot, uint64_t place,
+                            uint32_t width, uint64_t *value);
 
-    if (!machine || !value)
-        return PCIGUEST_ARGUMENT;
-    if (width < 1 || width > 8)
-        return PCIGUEST_BAD_WIDTH;
-    if (!pciguest_ends_within(space, place, width))
-        return PCIGUEST_OUT_OF_RANGE;
-    while (done < width) {
-        uint32_t size = pciguest_piece(place + done, width - done), part = 0;
-        uint32_t number = pciguest_read(machine, guest, space, slot, place + done, size, &part);
-        if (number)
-            return number;
-        all |= (uint64_t)part << 8 * done;
-        done += size;
-    }
-    *value = all;
-    return 0;
-}
-
-/* Writes so the low bytes of a value, as many as it is wide. */
-PCIGUEST_CALL uint32_t pciguest_write_wide(struct pciguest *machine, size_t guest, uint32_t space, uint64_t slot,
-                                           uint64_t place, uint32_t width, uint64_t value)
-{
-    uint32_t done = 0;
-
-    if (!machine)
-        return PCIGUEST_ARGUMENT;
-    if (width < 1 || width > 8)
-        return PCIGUEST_BAD_WIDTH;
-    if (!pciguest_ends_within(space, place, width))
-        return PCIGUEST_OUT_OF_RANGE;
-    while (done < width) {
-        uint32_t size = pciguest_piece(place + done, width - done);
-        uint32_t number = pciguest_write(machine, guest, space, slot, place + done, size, (uint32_t)(value >> 8 * done));
-        if (number)
-            return number;
-        done += size;
-    }
-    return 0;
-}
+/* Writes so the low bytes of a value, as many as it is wide. Since 0.3.0. */
+uint32_t pciguest_write_wide(struct pciguest *machine, size_t guest, uint32_t space, uint64_t slot, uint64_t place,
+                             uint32_t width, uint64_t value);
 
 /* Sets bits of one byte of the function in a guest's slot, as its device does. 303: the slot is above 31, or the
  * function has no such byte. 601: the slot is empty. 902: there is no such guest, or the part is above 6. A raise that
  * is refused changes nothing. */
-PCIGUEST_CALL uint32_t pciguest_raise(struct pciguest *machine, size_t guest, uint64_t slot, uint32_t part,
-                                      uint64_t offset, uint8_t mask)
-{
-    if (!machine)
-        return PCIGUEST_ARGUMENT;
-    return pciguest_raw_raise(machine, guest, slot, part, offset, mask);
-}
+uint32_t pciguest_raise(struct pciguest *machine, size_t guest, uint64_t slot, uint32_t part, uint64_t offset,
+                        uint8_t mask);
 
 /* Reads as the host: what the board shows at a physical number, port or address. It changes nothing. Numbers as for
  * pciguest_read; 902 for a device above 31 or a function above 7 too. */
-PCIGUEST_CALL uint32_t pciguest_host_read(struct pciguest *machine, uint32_t space, uint8_t bus, uint8_t device,
-                                          uint8_t function, uint64_t place, uint32_t width, uint32_t *value)
-{
-    if (!machine || !value)
-        return PCIGUEST_ARGUMENT;
-    return pciguest_raw_host_read(machine, space, bus, device, function, place, width, value);
-}
+uint32_t pciguest_host_read(struct pciguest *machine, uint32_t space, uint8_t bus, uint8_t device, uint8_t function,
+                            uint64_t place, uint32_t width, uint32_t *value);
 
 /* Moves the function in a slot of a guest to a slot of another, or of the same. Nothing is carried over: the function
  * is then at reset. 303: a slot is above 31. 601: the slot that it leaves is empty. 602: the slot that it comes to
  * is taken. 902: there is no such guest. */
-PCIGUEST_CALL uint32_t pciguest_move(struct pciguest *machine, size_t from, uint64_t slot, size_t to, uint64_t target)
-{
-    if (!machine)
-        return PCIGUEST_ARGUMENT;
-    return pciguest_raw_move(machine, from, slot, to, target);
-}
+uint32_t pciguest_move(struct pciguest *machine, size_t from, uint64_t slot, size_t to, uint64_t target);
 
 /* Resets the function in a guest's slot, where it is: nothing is carried over, as in a move. It has no line of a script;
  * two moves do the same, to an empty slot and back. 303: the slot is above 31. 601: the slot is empty. 902: there is no
- * such guest. */
-PCIGUEST_CALL uint32_t pciguest_reset(struct pciguest *machine, size_t guest, uint64_t slot)
-{
-    if (!machine)
-        return PCIGUEST_ARGUMENT;
-    return pciguest_raw_reset(machine, guest, slot);
-}
+ * such guest. Since 0.3.0. */
+uint32_t pciguest_reset(struct pciguest *machine, size_t guest, uint64_t slot);
 
 /* Resets every function of a guest, each where it is, and the guest's own CONFIG_ADDRESS: nothing is carried over. The
- * count of pciguest_changed grows by one. It takes no memory. 902: there is no such guest. No line of a script says it. */
-PCIGUEST_CALL uint32_t pciguest_reset_guest(struct pciguest *machine, size_t guest)
-{
-    if (!machine)
-        return PCIGUEST_ARGUMENT;
-    return pciguest_raw_reset_guest(machine, guest);
-}
+ * count of pciguest_changed grows by one. It takes no memory. 902: there is no such guest. No line of a script says it.
+ * Since 0.4.0. */
+uint32_t pciguest_reset_guest(struct pciguest *machine, size_t guest);
 
 /* How many bytes the image of a guest has now, which pciguest_save writes. It stays as long as the guest has the same
  * functions in the same slots: its accesses, its devices, resets and loads don't change it. It takes no memory and changes
- * nothing. 902: there is no such guest. */
-PCIGUEST_CALL uint32_t pciguest_image_size(struct pciguest *machine, size_t guest, size_t *size)
-{
-    if (!machine || !size)
-        return PCIGUEST_ARGUMENT;
-    return pciguest_raw_image_size(machine, guest, size);
-}
+ * nothing. 902: there is no such guest. Since 0.4.0. */
+uint32_t pciguest_image_size(struct pciguest *machine, size_t guest, size_t *size);
 
 /* Saves a guest: writes its image, and tells its length. The image is all that the guest holds: its CONFIG_ADDRESS, and of
  * each of its 32 slots what is declared of the function and what the guest's registers hold; nothing of the board, of other
  * guests or of where its functions stand. docs/FORMATS.md has the bytes. What stands behind them in the room stays. It
  * takes no memory, and the machine stays as it is. 902: there is less room than the image needs, and nothing was written;
- * or there is no such guest, and nothing was told. */
-PCIGUEST_CALL uint32_t pciguest_save(struct pciguest *machine, size_t guest, void *image, size_t room, size_t *needed)
-{
-    uint8_t none;
-    if (!machine || (!image && room) || !needed)
-        return PCIGUEST_ARGUMENT;
-    return pciguest_raw_save(machine, guest, image ? (uint8_t *)image : &none, room, needed);
-}
+ * or there is no such guest, and nothing was told. Since 0.4.0. */
+uint32_t pciguest_save(struct pciguest *machine, size_t guest, void *image, size_t room, size_t *needed);
 
 /* Loads an image into a guest, which then holds what the image says: what the guest that was saved held. Its functions are
  * declared as those of the image, slot by slot; they may stand elsewhere, on another board. Other guests can't tell, and
  * the count of pciguest_changed grows by one. It takes no memory. 906: another slot is filled, or a function is declared
  * otherwise. 905: the bytes are no image, as with a value that its register can't hold. Of both, what the first byte that
- * fails tells. 902: there is no such guest. No line of a script says it. */
-PCIGUEST_CALL uint32_t pciguest_load(struct pciguest *machine, size_t guest, const void *image, size_t length)
-{
-    if (!machine || (!image && length))
-        return PCIGUEST_ARGUMENT;
-    return pciguest_raw_load(machine, guest, image ? (const uint8_t *)image : (const uint8_t *)"", length);
-}
+ * fails tells. 902: there is no such guest. No line of a script says it. Since 0.4.0. */
+uint32_t pciguest_load(struct pciguest *machine, size_t guest, const void *image, size_t length);
 
 /* How many bytes the image of the whole machine has now, which pciguest_save_all writes. It stays as long as guests have the
- * same functions in the same slots. It takes no memory and changes nothing. */
-PCIGUEST_CALL uint32_t pciguest_image_size_all(struct pciguest *machine, size_t *size)
-{
-    if (!machine || !size)
-        return PCIGUEST_ARGUMENT;
-    return pciguest_raw_image_size_all(machine, size);
-}
+ * same functions in the same slots. It takes no memory and changes nothing. Since 0.4.0. */
+uint32_t pciguest_image_size_all(struct pciguest *machine, size_t *size);
 
 /* Saves the whole machine: writes its image, and tells its length. The image is who has which function of the board in
  * which slot, what each guest holds, and the board as the host reads it, but for what guests made of functions in slots.
  * docs/FORMATS.md has the bytes. What stands behind them in the room stays. It takes no memory, and the machine stays as it
- * is. 902: there is less room than the image needs, and nothing was written. */
-PCIGUEST_CALL uint32_t pciguest_save_all(struct pciguest *machine, void *image, size_t room, size_t *needed)
-{
-    uint8_t none;
-    if (!machine || (!image && room) || !needed)
-        return PCIGUEST_ARGUMENT;
-    return pciguest_raw_save_all(machine, image ? (uint8_t *)image : &none, room, needed);
-}
+ * is. 902: there is less room than the image needs, and nothing was written. Since 0.4.0. */
+uint32_t pciguest_save_all(struct pciguest *machine, void *image, size_t room, size_t *needed);
 
 /* Loads an image into the whole machine: each slot then has the function that it had in the machine that was saved, and each
  * guest holds what that guest held. The board is an equal one that is set up alike, and the guests have the same names in the
  * same order; where their functions sit now, and what they hold, doesn't matter. The count of pciguest_changed grows for each
  * guest. It takes no memory. 907: the board, its guests or how it is set up are others. 906: a slot is to get what no guest
  * can be given there, or a function is declared otherwise. 905: the bytes are no image of a machine. Of the three, what the
- * first byte that fails tells. No line of a script says it. */
-PCIGUEST_CALL uint32_t pciguest_load_all(struct pciguest *machine, const void *image, size_t length)
-{
-    if (!machine || (!image && length))
-        return PCIGUEST_ARGUMENT;
-    return pciguest_raw_load_all(machine, image ? (const uint8_t *)image : (const uint8_t *)"", length);
-}
+ * first byte that fails tells. No line of a script says it. Since 0.4.0. */
+uint32_t pciguest_load_all(struct pciguest *machine, const void *image, size_t length);
 
 /* Gives a function of the board that no guest has to a guest, into an empty slot: there and on the board it is then at
  * reset, on the board but for what guests have copies of. Its path is a text, as board files and pciguest_function have
  * it. 303: the slot is above 31, or no endpoint stands at the path. 602: a guest has the function, or the slot is taken.
- * 206: one of its regions is closed. 902: there is no such guest. No line of a script says it. */
-PCIGUEST_CALL uint32_t pciguest_give(struct pciguest *machine, const char *path, size_t length, size_t guest,
-                                     uint64_t slot)
-{
-    if (!machine || (!path && length))
-        return PCIGUEST_ARGUMENT;
-    return pciguest_raw_give(machine, (const uint8_t *)(path ? path : ""), length, guest, slot);
-}
+ * 206: one of its regions is closed. 902: there is no such guest. No line of a script says it. Since 0.4.0. */
+uint32_t pciguest_give(struct pciguest *machine, const char *path, size_t length, size_t guest, uint64_t slot);
 
 /* Takes the function in a guest's slot from this guest: the slot is then empty, and no guest has the function, which is
  * at reset on the board, but for what guests have copies of. Numbers as for pciguest_reset. No line of a
- * script says it. */
-PCIGUEST_CALL uint32_t pciguest_take(struct pciguest *machine, size_t guest, uint64_t slot)
-{
-    if (!machine)
-        return PCIGUEST_ARGUMENT;
-    return pciguest_raw_take(machine, guest, slot);
-}
+ * script says it. Since 0.4.0. */
+uint32_t pciguest_take(struct pciguest *machine, size_t guest, uint64_t slot);
 
 /* Reads one byte of the function in a guest's slot, as its device does: of a region, or of configuration space the two
  * bytes of Status (06h, 07h) and the device's own registers (40h to FFh). A byte that has no register reads 0. It
  * changes nothing. 303: the slot is above 31, or the device has no such byte. 601: the slot is empty. 902: there is no
- * such guest, or the part is above 6. */
-PCIGUEST_CALL uint32_t pciguest_device_read(struct pciguest *machine, size_t guest, uint64_t slot, uint32_t part,
-                                            uint64_t offset, uint32_t *value)
-{
-    if (!machine || !value)
-        return PCIGUEST_ARGUMENT;
-    return pciguest_raw_device_read(machine, guest, slot, part, offset, value);
-}
+ * such guest, or the part is above 6. Since 0.3.0. */
+uint32_t pciguest_device_read(struct pciguest *machine, size_t guest, uint64_t slot, uint32_t part, uint64_t offset,
+                              uint32_t *value);
 
 /* Writes such a byte as its device does: it takes the value, whatever a guest's writes may change of it, and what they
- * may change of it stays. Where no register is, nothing changes. Numbers as above. It has no line of a script. */
-PCIGUEST_CALL uint32_t pciguest_device_write(struct pciguest *machine, size_t guest, uint64_t slot, uint32_t part,
-                                             uint64_t offset, uint8_t value)
-{
-    if (!machine)
-        return PCIGUEST_ARGUMENT;
-    return pciguest_raw_device_write(machine, guest, slot, part, offset, value);
-}
+ * may change of it stays. Where no register is, nothing changes. Numbers as above. It has no line of a script.
+ * Since 0.3.0. */
+uint32_t pciguest_device_write(struct pciguest *machine, size_t guest, uint64_t slot, uint32_t part, uint64_t offset,
+                               uint8_t value);
 
 /* Reads so 1 to 8 bytes at any offset, all of one part; the byte at the lowest offset is the lowest of the value.
  * 302: the width is not 1 to 8. 303: one of the bytes is past the part, or none that the device has. Where one of them is
- * refused, the call is. Other numbers as above. */
-PCIGUEST_CALL uint32_t pciguest_device_read_wide(struct pciguest *machine, size_t guest, uint64_t slot, uint32_t part,
-                                                 uint64_t offset, uint32_t width, uint64_t *value)
-{
-    if (!machine || !value)
-        return PCIGUEST_ARGUMENT;
-    return pciguest_raw_device_read_wide(machine, guest, slot, part, offset, width, value);
-}
+ * refused, the call is. Other numbers as above. Since 0.4.0. */
+uint32_t pciguest_device_read_wide(struct pciguest *machine, size_t guest, uint64_t slot, uint32_t part,
+                                   uint64_t offset, uint32_t width, uint64_t *value);
 
-/* Writes so the low bytes of a value, as many as it is wide. Where one of the bytes is refused, none is written. */
-PCIGUEST_CALL uint32_t pciguest_device_write_wide(struct pciguest *machine, size_t guest, uint64_t slot, uint32_t part,
-                                                  uint64_t offset, uint32_t width, uint64_t value)
-{
-    if (!machine)
-        return PCIGUEST_ARGUMENT;
-    return pciguest_raw_device_write_wide(machine, guest, slot, part, offset, width, value);
-}
+/* Writes so the low bytes of a value, as many as it is wide. Where one of the bytes is refused, none is written.
+ * Since 0.4.0. */
+uint32_t pciguest_device_write_wide(struct pciguest *machine, size_t guest, uint64_t slot, uint32_t part,
+                                    uint64_t offset, uint32_t width, uint64_t value);
 
 /* Where the region that begins at a base address register, 0 to 5, stands now, in the guest's own view. It takes no
  * memory and changes nothing. The answer stays until the guest writes Command or a base address register of this
  * function, or it is moved, reset, loaded or taken: while pciguest_changed tells the same, no answer for this guest changes.
  * 303: the slot is above 31, or no region begins at this register. 601: the slot is empty. 902: there is no such
- * guest. */
-PCIGUEST_CALL uint32_t pciguest_region(struct pciguest *machine, size_t guest, uint64_t slot, uint32_t bar,
-                                       struct pciguest_region *region)
-{
-    if (!machine || !region)
-        return PCIGUEST_ARGUMENT;
-    return pciguest_raw_region(machine, guest, slot, bar, region);
-}
+ * guest. Since 0.3.0. */
+uint32_t pciguest_region(struct pciguest *machine, size_t guest, uint64_t slot, uint32_t bar,
+                         struct pciguest_region *region);
 
 /* A count of the guest, which grows by one with each access of the guest, move, reset, gift or taking that touches one
  * of its slots so that an answer of pciguest_region for it may be another one, and with each pciguest_reset_guest and
  * pciguest_load of it, and by one or more with pciguest_load_all: while the count stays, each of these answers stays, for
  * all slots and registers. Nothing else makes it grow. It is 0 in a machine that was made just now, and goes on from 0
- * after 2^64 - 1. It takes no memory and changes nothing. 902: there is no such guest. */
-PCIGUEST_CALL uint32_t pciguest_changed(struct pciguest *machine, size_t guest, uint64_t *count)
-{
-    if (!machine || !count)
-        return PCIGUEST_ARGUMENT;
-    return pciguest_raw_changed(machine, guest, count);
-}
+ * after 2^64 - 1. It takes no memory and changes nothing. 902: there is no such guest. Since 0.4.0. */
+uint32_t pciguest_changed(struct pciguest *machine, size_t guest, uint64_t *count);
 
 /* What an access of the guest at a place hits, as pciguest_read and pciguest_write take the place: a byte of a function
  * in one of its slots, or nothing. It takes no memory and changes nothing. Every access there begins at this byte, but
- * for four bytes at port CF8h, which are the guest's own CONFIG_ADDRESS. Numbers as for a read of one byte there. */
-PCIGUEST_CALL uint32_t pciguest_locate(struct pciguest *machine, size_t guest, uint32_t space, uint64_t slot,
-                                       uint64_t place, struct pciguest_hit *hit)
-{
-    if (!machine || !hit)
-        return PCIGUEST_ARGUMENT;
-    return pciguest_raw_locate(machine, guest, space, slot, place, hit);
-}
+ * for four bytes at port CF8h, which are the guest's own CONFIG_ADDRESS. Numbers as for a read of one byte there.
+ * Since 0.3.0. */
+uint32_t pciguest_locate(struct pciguest *machine, size_t guest, uint32_t space, uint64_t slot, uint64_t place,
+                         struct pciguest_hit *hit);
 
 /* Writes why an access of the guest at a place, as pciguest_locate takes it, finds what it finds, a line for each thing: at
  * port CF8h, and at CFCh to CFFh, what the guest's CONFIG_ADDRESS makes of it (PCI Local Bus 3.0, 3.2.2.3.2); then the slot,
@@ -644,136 +397,68 @@ PCIGUEST_CALL uint32_t pciguest_locate(struct pciguest *machine, size_t guest, u
  * end. It tells of the guest's own functions and CONFIG_ADDRESS alone: two guests that hold the same are told the same.
  * Nothing changes.
  * Numbers as for a read of one byte there. 902 too: there is less room than the text needs, whose length alone is told.
- * 299: out of memory. */
-PCIGUEST_CALL uint32_t pciguest_why(struct pciguest *machine, size_t guest, uint32_t space, uint64_t slot,
-                                    uint64_t place, char *text, size_t room, size_t *needed)
-{
-    uint8_t none;
-    if (!machine || (!text && room) || !needed)
-        return PCIGUEST_ARGUMENT;
-    return pciguest_raw_why(machine, guest, space, slot, place, text ? (uint8_t *)text : &none, room, needed);
-}
+ * 299: out of memory. Since 0.4.0. */
+uint32_t pciguest_why(struct pciguest *machine, size_t guest, uint32_t space, uint64_t slot, uint64_t place, char *text,
+                      size_t room, size_t *needed);
 
-/* How many functions the board has, endpoints and bridges. */
-PCIGUEST_CALL uint32_t pciguest_count(struct pciguest *machine, size_t *count)
-{
-    if (!machine || !count)
-        return PCIGUEST_ARGUMENT;
-    return pciguest_raw_count(machine, count);
-}
+/* How many functions the board has, endpoints and bridges. Since 0.4.0. */
+uint32_t pciguest_count(struct pciguest *machine, size_t *count);
 
 /* The function at an index, from 0 to one less than pciguest_count tells, in the order of paths: a bridge stands before
  * what is behind it. Where regions and windows stand, and by which number it is reached, is told as the board's own
  * registers have it, which no guest writes; who has it, as it is after the last move. It takes no memory and changes
- * nothing. 902: there is no such function. */
-PCIGUEST_CALL uint32_t pciguest_function(struct pciguest *machine, size_t index, struct pciguest_function *function)
-{
-    if (!machine || !function)
-        return PCIGUEST_ARGUMENT;
-    return pciguest_raw_function(machine, index, function);
-}
+ * nothing. 902: there is no such function. Since 0.4.0. */
+uint32_t pciguest_function(struct pciguest *machine, size_t index, struct pciguest_function *function);
 
 /* The same of the function in a slot of a guest. 303: the slot is above 31. 601: the slot is empty. 902: there is no
- * such guest. */
-PCIGUEST_CALL uint32_t pciguest_slot(struct pciguest *machine, size_t guest, uint64_t slot,
-                                     struct pciguest_function *function)
-{
-    if (!machine || !function)
-        return PCIGUEST_ARGUMENT;
-    return pciguest_raw_slot(machine, guest, slot, function);
-}
+ * such guest. Since 0.4.0. */
+uint32_t pciguest_slot(struct pciguest *machine, size_t guest, uint64_t slot, struct pciguest_function *function);
 
 /* Runs one line of a script, with its line feed or without; a line feed elsewhere makes it a bad line. The reply is one
  * line with its line feed, or nothing for a blank line or a comment; it has no 0 at its end, and `written` tells its
  * length. A line that is refused is answered by its reply, and the call by 0. 902: there is less room than
  * PCIGUEST_REPLY. */
-PCIGUEST_CALL uint32_t pciguest_run_line(struct pciguest *machine, const char *line, size_t length, char *reply,
-                                         size_t room, size_t *written)
-{
-    if (!machine || (!line && length) || !reply || !written)
-        return PCIGUEST_ARGUMENT;
-    if (length && line[length - 1] == '\n')
-        length--;
-    return pciguest_raw_run_line(machine, (const uint8_t *)(line ? line : ""), length, (uint8_t *)reply, room, written);
-}
+uint32_t pciguest_run_line(struct pciguest *machine, const char *line, size_t length, char *reply, size_t room,
+                           size_t *written);
 
 /* Writes the report of a board file, as `pciguest list` does, and tells its length; it has no 0 at its end. 902: there
  * is less room than that, and nothing was written; other numbers as for pciguest_new. No machine is needed. */
-PCIGUEST_CALL uint32_t pciguest_report(const void *board, size_t length, char *text, size_t room, size_t *needed)
-{
-    uint8_t none;
-    if ((!board && length) || (!text && room) || !needed)
-        return PCIGUEST_ARGUMENT;
-    return pciguest_raw_report(board ? (const uint8_t *)board : (const uint8_t *)"", length, text ? (uint8_t *)text : &none,
-                               room, needed);
-}
+uint32_t pciguest_report(const void *board, size_t length, char *text, size_t room, size_t *needed);
 
 /* Writes what is wrong with a board file, or that its board fits, as `pciguest check board.toml` does, without the
  * warnings that `--all` adds, and tells the text's length; it has no 0 at its end. 0: the board fits. 101 to 112 or 201
  * to 205: the file or its board is refused, and the text says why. 199 or 299: out of memory, and nothing was written or
  * told. 902: there is less room than the text needs, and nothing was written. No machine is needed. */
-PCIGUEST_CALL uint32_t pciguest_check(const void *board, size_t length, char *text, size_t room, size_t *needed)
-{
-    uint8_t none;
-    if ((!board && length) || (!text && room) || !needed)
-        return PCIGUEST_ARGUMENT;
-    return pciguest_raw_check(board ? (const uint8_t *)board : (const uint8_t *)"", length, text ? (uint8_t *)text : &none,
-                              room, needed);
-}
+uint32_t pciguest_check(const void *board, size_t length, char *text, size_t room, size_t *needed);
 
 /* Writes the words of a number that a call answers, or that the program or a reply tells, and tells their length; they
  * have no 0 at their end. A number that stands for nothing, as 0, has no words, and length 0. 902: there is less room
  * than the words need, and nothing was written; PCIGUEST_WORDS is always enough. No machine is needed. */
-PCIGUEST_CALL uint32_t pciguest_words(uint32_t number, char *text, size_t room, size_t *needed)
-{
-    uint8_t none;
-    if ((!text && room) || !needed)
-        return PCIGUEST_ARGUMENT;
-    return pciguest_raw_words(number, text ? (uint8_t *)text : &none, room, needed);
-}
+uint32_t pciguest_words(uint32_t number, char *text, size_t room, size_t *needed);
 
 /* Makes the board of a board file, given as its bytes, at reset, for firmware of one's own to drive: no number and no
  * address is given out, and every function is off. The guests of the file are checked, and no function is given to them.
  * 0: the struct holds the board. 101 to 112: the number of the first check that the file fails. 199: out of memory. 903:
- * the struct holds a board already. */
-PCIGUEST_CALL uint32_t pciguest_board_new(struct pciguest_board *board, const void *file, size_t length)
-{
-    if (!board || (!file && length))
-        return PCIGUEST_ARGUMENT;
-    return pciguest_raw_board_new(board, file ? (const uint8_t *)file : (const uint8_t *)"", length);
-}
+ * the struct holds a board already. Since 0.3.0. */
+uint32_t pciguest_board_new(struct pciguest_board *board, const void *file, size_t length);
 
 /* Frees the board, or the machine that a line made of it. The struct then holds none, and may be used for a new one. Where
- * it held none, nothing happens. */
-PCIGUEST_CALL void pciguest_board_free(struct pciguest_board *board)
-{
-    if (board)
-        pciguest_raw_board_free(board);
-}
+ * it held none, nothing happens. Since 0.3.0. */
+void pciguest_board_free(struct pciguest_board *board);
 
 /* Reads as firmware does, in whatever state the registers are: configuration space by bus, device, function and byte
  * offset, I/O by port, or memory by address; all ones where nothing answers. Bus, device and function are looked at for
  * configuration space alone; by ports it is reached at CF8h and CFCh. A read there by number leaves 0 in CONFIG_ADDRESS
  * (CF8h); else a read changes nothing.
  * 302: the width is not 1, 2 or 4 bytes. 301: the place is no multiple of it. 303: the offset is above 255, or the port
- * above FFFFFFFFh. 902: there is no such space, the device is above 31, or the function above 7. */
-PCIGUEST_CALL uint32_t pciguest_board_read(struct pciguest_board *board, uint32_t space, uint8_t bus, uint8_t device,
-                                           uint8_t function, uint64_t place, uint32_t width, uint32_t *value)
-{
-    if (!board || !value)
-        return PCIGUEST_ARGUMENT;
-    return pciguest_raw_board_read(board, space, bus, device, function, place, width, value);
-}
+ * above FFFFFFFFh. 902: there is no such space, the device is above 31, or the function above 7. Since 0.3.0. */
+uint32_t pciguest_board_read(struct pciguest_board *board, uint32_t space, uint8_t bus, uint8_t device,
+                             uint8_t function, uint64_t place, uint32_t width, uint32_t *value);
 
 /* Writes the low bytes of a value as firmware does, as many as it is wide; what nothing takes is dropped. A write of
- * configuration space by number leaves 0 in CONFIG_ADDRESS. Numbers as above. */
-PCIGUEST_CALL uint32_t pciguest_board_write(struct pciguest_board *board, uint32_t space, uint8_t bus, uint8_t device,
-                                            uint8_t function, uint64_t place, uint32_t width, uint32_t value)
-{
-    if (!board)
-        return PCIGUEST_ARGUMENT;
-    return pciguest_raw_board_write(board, space, bus, device, function, place, width, value);
-}
+ * configuration space by number leaves 0 in CONFIG_ADDRESS. Numbers as above. Since 0.3.0. */
+uint32_t pciguest_board_write(struct pciguest_board *board, uint32_t space, uint8_t bus, uint8_t device,
+                              uint8_t function, uint64_t place, uint32_t width, uint32_t value);
 
 /* Runs one line of a session, as `pciguest firmware` does, with its line feed or without: a line of firmware; `host audit`,
  * whose reply is the text of pciguest_board_audit; `host ready`, whose reply tells also what the board lacks that is to be
@@ -785,88 +470,47 @@ PCIGUEST_CALL uint32_t pciguest_board_write(struct pciguest_board *board, uint32
  * The reply is one line with its line feed, or nothing, but for an audit, for `host ready`, for `host why ..` and for a
  * board that isn't given: these may have more lines. It has no 0 at its end, and `written` tells its length.
  * 902: there is less room than PCIGUEST_REPLY, or than a reply of more lines needs, whose length alone is told; nothing
- * happened. 299: out of memory for one of these four lines, and nothing happened; no other line takes memory. */
-PCIGUEST_CALL uint32_t pciguest_board_run_line(struct pciguest_board *board, const char *line, size_t length,
-                                               char *reply, size_t room, size_t *written)
-{
-    if (!board || (!line && length) || !reply || !written)
-        return PCIGUEST_ARGUMENT;
-    if (length && line[length - 1] == '\n')
-        length--;
-    return pciguest_raw_board_run_line(board, (const uint8_t *)(line ? line : ""), length, (uint8_t *)reply, room,
-                                       written);
-}
+ * happened. 299: out of memory for one of these four lines, and nothing happened; no other line takes memory.
+ * Since 0.3.0. */
+uint32_t pciguest_board_run_line(struct pciguest_board *board, const char *line, size_t length, char *reply,
+                                 size_t room, size_t *written);
 
-/* How many functions the board has, endpoints and bridges. */
-PCIGUEST_CALL uint32_t pciguest_board_count(struct pciguest_board *board, size_t *count)
-{
-    if (!board || !count)
-        return PCIGUEST_ARGUMENT;
-    return pciguest_raw_board_count(board, count);
-}
+/* How many functions the board has, endpoints and bridges. Since 0.4.0. */
+uint32_t pciguest_board_count(struct pciguest_board *board, size_t *count);
 
 /* The function at an index, from 0 to one less than pciguest_board_count tells, in the order of paths, as the registers
  * stand: by which number it is looked for and whether that reaches it, where its base address registers or windows are,
  * whatever firmware did of them so far, and whether its Command opens their spaces. It takes no memory and changes nothing,
- * CONFIG_ADDRESS neither. 902: there is no such function. */
-PCIGUEST_CALL uint32_t pciguest_board_function(struct pciguest_board *board, size_t index,
-                                               struct pciguest_board_function *function)
-{
-    if (!board || !function)
-        return PCIGUEST_ARGUMENT;
-    return pciguest_raw_board_function(board, index, function);
-}
+ * CONFIG_ADDRESS neither. 902: there is no such function. Since 0.4.0. */
+uint32_t pciguest_board_function(struct pciguest_board *board, size_t index, struct pciguest_board_function *function);
 
 /* Writes what is wrong in the registers of a board as they stand, whoever wrote them: a line for each problem, and a last
  * line `audit: ok` or `audit: N problems`. A problem is a byte of an open region that a bridge above doesn't forward, an
  * address that two answer on one bus, or a function that no cycle finds. It tells the text's length, which has no 0 at its
  * end, and how many problems there are. The board stays as it is.
- * 902: there is less room than the text needs, whose length alone is told. 299: out of memory. */
-PCIGUEST_CALL uint32_t pciguest_board_audit(struct pciguest_board *board, char *text, size_t room, size_t *needed,
-                                            size_t *count)
-{
-    uint8_t none;
-    if (!board || (!text && room) || !needed || !count)
-        return PCIGUEST_ARGUMENT;
-    return pciguest_raw_board_audit(board, text ? (uint8_t *)text : &none, room, needed, count);
-}
+ * 902: there is less room than the text needs, whose length alone is told. 299: out of memory. Since 0.3.0. */
+uint32_t pciguest_board_audit(struct pciguest_board *board, char *text, size_t room, size_t *needed, size_t *count);
 
 /* Writes what is wrong in the registers of a board as they stand, as pciguest_board_audit does but for its last line, then
  * a line for each thing that they lack, and a last line `ready: ok` or `ready: N lacks`, which counts both. What is lacking
  * is a region that is closed, outside the apertures or prefetched where it mustn't be, and a bridge with another Primary than
  * its bus. It tells the text's length, and how many problems and lacks there are: the board is ready where that is 0. The
  * board stays as it is.
- * 902: there is less room than the text needs, whose length alone is told. 299: out of memory. */
-PCIGUEST_CALL uint32_t pciguest_board_ready(struct pciguest_board *board, char *text, size_t room, size_t *needed,
-                                            size_t *count)
-{
-    uint8_t none;
-    if (!board || (!text && room) || !needed || !count)
-        return PCIGUEST_ARGUMENT;
-    return pciguest_raw_board_ready(board, text ? (uint8_t *)text : &none, room, needed, count);
-}
+ * 902: there is less room than the text needs, whose length alone is told. 299: out of memory. Since 0.4.0. */
+uint32_t pciguest_board_ready(struct pciguest_board *board, char *text, size_t room, size_t *needed, size_t *count);
 
 /* Writes a row for each problem that pciguest_board_audit has a line of, in the same order, and tells how many there are.
- * The board stays as it is. 902: there is room for fewer rows than that, whose number alone is told. 299: out of memory. */
-PCIGUEST_CALL uint32_t pciguest_board_problems(struct pciguest_board *board, struct pciguest_problem *problems,
-                                               size_t room, size_t *count)
-{
-    struct pciguest_problem none;
-    if (!board || (!problems && room) || !count)
-        return PCIGUEST_ARGUMENT;
-    return pciguest_raw_board_problems(board, problems ? problems : &none, room, count);
-}
+ * The board stays as it is. 902: there is room for fewer rows than that, whose number alone is told. 299: out of memory.
+ * Since 0.4.0. */
+uint32_t pciguest_board_problems(struct pciguest_board *board, struct pciguest_problem *problems, size_t room,
+                                 size_t *count);
 
 /* Sets up a board that is at reset as pciguest_new does, in place of firmware of one's own, and gives its functions to
  * the guests of its file: the machine is then the one that pciguest_new makes of the file. The board stays as it is.
  * 901: there is no board. 903: the struct of the machine holds one already. 904: a write was done on the board since
- * reset. 201 to 205: the board can't be set up. 199, 299: out of memory. The first of these that holds is answered. */
-PCIGUEST_CALL uint32_t pciguest_set_up(struct pciguest_board *board, struct pciguest *machine)
-{
-    if (!board || !machine)
-        return PCIGUEST_ARGUMENT;
-    return pciguest_raw_set_up(board, machine);
-}
+ * reset. 201 to 205: the board can't be set up. 199, 299: out of memory. The first of these that holds is answered.
+ * Since 0.3.0. */
+uint32_t pciguest_set_up(struct pciguest_board *board, struct pciguest *machine);
 
 /* Gives the functions of a board to the guests of its file as the board stands, whoever set it up: where its audit tells
  * no problem and each region of their functions is open, the machine is then over this board. Each function that is given
@@ -875,13 +519,8 @@ PCIGUEST_CALL uint32_t pciguest_set_up(struct pciguest_board *board, struct pcig
  * Where it is refused, both structs are as they were.
  * 901: there is no board. 903: the struct of the machine holds one already. 207: the audit tells a problem. 206: a region
  * of a function that is to be given is closed. 299: out of memory. 901, 903 and 207 come in this order before 206;
- * pciguest_board_audit tells the problems of 207. */
-PCIGUEST_CALL uint32_t pciguest_board_guests(struct pciguest_board *board, struct pciguest *machine)
-{
-    if (!board || !machine)
-        return PCIGUEST_ARGUMENT;
-    return pciguest_raw_board_guests(board, machine);
-}
+ * pciguest_board_audit tells the problems of 207. Since 0.4.0. */
+uint32_t pciguest_board_guests(struct pciguest_board *board, struct pciguest *machine);
 
 #ifdef __cplusplus
 }

@@ -1,6 +1,8 @@
 /* tools/bindings writes this file from library/pciguest.h. */
 #include "pciguest.h"
 
+uint32_t pciguest_version(void) { return PCIGUEST_VERSION_NUMBER; }
+
 const char *pciguest_strerror(uint32_t number)
 {
     switch (number) {

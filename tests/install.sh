@@ -127,9 +127,12 @@ holds 'nothing is left but folders' test -z "$(find "$room/package" ! -type d)"
 
 # ---- what the shared library gives and takes
 if command -v nm > /dev/null && command -v readelf > /dev/null; then
-  declared() { grep -o '^[A-Za-z][A-Za-z0-9_ *]*pciguest_[a-z_]*(' library/pciguest.h | sed 's/.*[ *]//; s/($//' | sort -u; }
+  declared() {
+    cat library/{pciguest,raw}.h | grep -v '^static' | grep -o '^[A-Za-z][A-Za-z0-9_ *]*pciguest_[a-z_]*(' |
+      sed 's/.*[ *]//; s/($//' | sort -u
+  }
   visible() { nm -D --defined-only library/libpciguest.so.0 | awk '{ print $3 }' | sort -u; }
-  holds 'the calls of the header alone are visible' test "$(declared)" = "$(visible)"
+  holds 'the calls of the header, and those that they stand over, alone are visible' test "$(declared)" = "$(visible)"
   needed() { readelf -dW library/libpciguest.so.0 | awk '/NEEDED|SONAME/ { print $NF }'; }
   holds 'it needs the C library alone' same $'[libc.so.6]\n[libpciguest.so.0]' needed
   no_text_changes() { ! readelf -dW library/libpciguest.so.0 | grep -q TEXTREL; }

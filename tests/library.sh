@@ -1,7 +1,7 @@
 #!/usr/bin/env bash
 # Uses the library for C as a C program does: the example, random accesses by calls and by lines, which the proved
-# program must answer alike, boards that firmware drives, and what the library refuses; once by the functions of the
-# header, once by those of the library, and, where the compiler has sanitizers, once under them.
+# program must answer alike, boards that firmware drives, and what the library refuses; once plain, and, where the
+# compiler has sanitizers, once under them.
 # Then it runs the tests of the crate for Rust and of the module for Python, where cargo and Python 3 are there.
 #     tests/library.sh [PROGRAM]
 # PROGRAM is the one that `rt ci` or `make build` left, unless it is given. The last line is 'N passed, M failed'.
@@ -36,13 +36,8 @@ holds() {
 # build NAME FILE WORD..: compiles one file with the library
 build() {
   local name=$1 file=$2; shift 2
-  "$compile" -std=c11 -O1 -g -Wall -Wextra -Werror -I"$header" "$@" -o "$name" "$file" "$top/library/libpciguest.a"
+  "$compile" -std=c11 -O1 -g -Wall -Wextra -Werror -I"$top/library" "$@" -o "$name" "$file" "$top/library/libpciguest.a"
 }
-
-# the header with declarations in place of bodies, for the calls that the library exports by their names
-mkdir declared
-awk '/^PCIGUEST_CALL / { sub(/^PCIGUEST_CALL /, ""); call = 1 } call && /^\{/ { body = 1 }
-  body { if (/^\}/) { body = call = 0; print ";" } next } { print }' "$top/library/pciguest.h" > declared/pciguest.h
 
 # boards with their functions behind two more bridges, beside others and at other addresses
 for name in main server demo; do
@@ -52,14 +47,13 @@ done
 
 wraps=(-Wl,--wrap=malloc -Wl,--wrap=realloc -Wl,--wrap=free)
 
-# ---- plain, by the names that the library exports, and under the sanitizers
+# ---- plain, and under the sanitizers
 echo 'int main(void) { return 0; }' > empty.c
-kinds=(plain named)
+kinds=(plain)
 "$compile" -fsanitize=address,undefined -o empty empty.c 2> /dev/null && ./empty 2> /dev/null && kinds+=(sanitized)
 for kind in "${kinds[@]}"; do
-  words=() header=$top/library
+  words=()
   [ "$kind" != sanitized ] || words=(-fsanitize=address,undefined -fno-sanitize-recover=all)
-  [ "$kind" != named ] || header=$room/declared
   holds "$kind: the example is built" build "device.$kind" "$top/examples/c/device.c" "${words[@]}"
   holds "$kind: the accesses are built" build "accesses.$kind" "$top/tests/library/accesses.c" "${words[@]}"
   holds "$kind: the refusals are built" build "refusals.$kind" "$top/tests/library/refusals.c" "${wraps[@]}" "${words[@]}"
@@ -147,14 +141,15 @@ for kind in "${kinds[@]}"; do
   holds "$kind: the report" cmp report wanted.report
 done
 
-# ---- the header by itself, as C++ too where there is a compiler
-header=$top/library
+# ---- the header by itself, in the oldest languages that have what it includes, as C++ too where there is a compiler
 echo '#include "pciguest.h"' > header.c
 cp header.c header.cc
 holds 'the header alone' "$compile" -std=c99 -Wall -Wextra -Wpedantic -Werror -I"$top/library" -c header.c
 echo 'int main() { struct pciguest machine = PCIGUEST_INIT; return machine.live; }' >> header.cc
 if command -v c++ > /dev/null; then
-  holds 'the header as C++' c++ -Wall -Wextra -Wpedantic -Werror -I"$top/library" -c header.cc
+  for words in c++98 c++11 c++17; do
+    holds "the header as $words" c++ "-std=$words" -Wall -Wextra -Wpedantic -Werror -I"$top/library" -c header.cc
+  done
 fi
 
 # ---- the example in Rust, where there is a compiler
@@ -282,9 +277,12 @@ needs() {
   nm -u "$top/library/libpciguest.a" | awk 'NF == 2 && $2 !~ /^(rattle|pciguest_raw)_/ { print $2 }' | sort -u | tr '\n' ' '
 }
 holds 'six calls of the C library, and no more' test "$(needs)" = 'free malloc memcpy memmove memset realloc '
-declared() { grep -o '^[A-Za-z][A-Za-z0-9_ *]*pciguest_[a-z_]*(' "$top/library/pciguest.h" | sed 's/.*[ *]//; s/($//' | sort -u; }
+declared() {
+  cat "$top"/library/{pciguest,raw}.h | grep -v '^static' | grep -o '^[A-Za-z][A-Za-z0-9_ *]*pciguest_[a-z_]*(' |
+    sed 's/.*[ *]//; s/($//' | sort -u
+}
 exported() { nm --defined-only "$top/library/libpciguest.a" | awk '$2 == "T" { print $3 }' | grep '^pciguest' | sort -u; }
-holds 'the header declares what the library exports' test "$(declared)" = "$(exported)"
+holds 'the library exports the calls of the header, and those that they stand over' test "$(declared)" = "$(exported)"
 
 echo "$passed passed, $failed failed"
 [ "$failed" = 0 ]

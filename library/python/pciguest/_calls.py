@@ -237,10 +237,11 @@ class ProblemTold(ctypes.Structure):
 
 # what each call answers, and what it takes
 DECLARED: Dict[str, Tuple[Any, Tuple[Any, ...]]] = {
-    # The version of the library that is linked or loaded, as PCIGUEST_VERSION_NUMBER has that of the header.
+    # The version of the library that is linked or loaded, as PCIGUEST_VERSION_NUMBER has that of the header. Since
+    # 0.4.0.
     "version": (c_uint32, ()),
     # The words of a number, as pciguest_words has them, as a text that ends with a 0 and stays as long as the library
-    # is loaded. A number that stands for nothing, as 0, has the empty text.
+    # is loaded. A number that stands for nothing, as 0, has the empty text. Since 0.4.0.
     "strerror": (c_char_p, (c_uint32,)),
     # Sets up the board of a board file, given as its bytes, and gives its functions to the guests of the file.
     # 0: the machine holds the world that the file declares, before any access. Otherwise the number of the first check
@@ -251,11 +252,11 @@ DECLARED: Dict[str, Tuple[Any, Tuple[Any, ...]]] = {
     # The index of the guest of a name, as the calls below take it: guests stand in the order of the board file, from 0
     # on. 902: no guest has this name.
     "guest": (c_uint32, (POINTER(Handle), c_char_p, c_size_t, POINTER(c_size_t))),
-    # How many guests the machine has.
+    # How many guests the machine has. Since 0.4.0.
     "guest_count": (c_uint32, (POINTER(Handle), POINTER(c_size_t))),
     # Writes the name of a guest by its index, from 0 to one less than pciguest_guest_count tells, and tells its length;
     # it has no 0 at its end. 902: there is less room than that, and nothing was written; or there is no such guest, and
-    # nothing was told. PCIGUEST_GUEST_NAME is always enough room.
+    # nothing was told. PCIGUEST_GUEST_NAME is always enough room. Since 0.4.0.
     "guest_name": (c_uint32, (POINTER(Handle), c_size_t, POINTER(c_char), c_size_t, POINTER(c_size_t))),
     # Reads as a guest, by the guest's own view: slot and offset, port, or address. What is read is what the guest's own
     # functions answer, each a register file by itself; all ones where nothing of the guest's answers. A read changes
@@ -265,17 +266,12 @@ DECLARED: Dict[str, Tuple[Any, Tuple[Any, ...]]] = {
     "read": (c_uint32, (POINTER(Handle), c_size_t, c_uint32, c_uint64, c_uint64, c_uint32, POINTER(c_uint32))),
     # Writes the low bytes of a value as a guest, as many as it is wide. No other guest can tell. Numbers as above.
     "write": (c_uint32, (POINTER(Handle), c_size_t, c_uint32, c_uint64, c_uint64, c_uint32, c_uint32)),
-    # How many bytes the first lawful piece of an access has, with that many bytes left of it from a place on: 4, 2 or
-    # 1, the most that stand at a multiple of their number.
-    "piece": (c_uint32, (c_uint64, c_uint32)),
-    # Whether an access of 1 to 8 bytes ends where its space does, or before.
-    "ends_within": (c_bool, (c_uint32, c_uint64, c_uint32)),
     # Reads as a guest what a processor may ask at once and a cycle of the bus can't: 1 to 8 bytes, at any place. It is
     # split as a bridge does, into the lawful pieces that pciguest_piece tells, in the order of addresses, and the byte
     # at the lowest address is the lowest of the value. 302: the width is not 1 to 8. 303: the slot is out of range, or
-    # the access ends past its space. Other numbers as above.
+    # the access ends past its space. Other numbers as above. Since 0.3.0.
     "read_wide": (c_uint32, (POINTER(Handle), c_size_t, c_uint32, c_uint64, c_uint64, c_uint32, POINTER(c_uint64))),
-    # Writes so the low bytes of a value, as many as it is wide.
+    # Writes so the low bytes of a value, as many as it is wide. Since 0.3.0.
     "write_wide": (c_uint32, (POINTER(Handle), c_size_t, c_uint32, c_uint64, c_uint64, c_uint32, c_uint64)),
     # Sets bits of one byte of the function in a guest's slot, as its device does. 303: the slot is above 31, or the
     # function has no such byte. 601: the slot is empty. 902: there is no such guest, or the part is above 6. A raise
@@ -293,35 +289,36 @@ DECLARED: Dict[str, Tuple[Any, Tuple[Any, ...]]] = {
     "move": (c_uint32, (POINTER(Handle), c_size_t, c_uint64, c_size_t, c_uint64)),
     # Resets the function in a guest's slot, where it is: nothing is carried over, as in a move. It has no line of a
     # script; two moves do the same, to an empty slot and back. 303: the slot is above 31. 601: the slot is empty. 902:
-    # there is no such guest.
+    # there is no such guest. Since 0.3.0.
     "reset": (c_uint32, (POINTER(Handle), c_size_t, c_uint64)),
     # Resets every function of a guest, each where it is, and the guest's own CONFIG_ADDRESS: nothing is carried over.
     # The count of pciguest_changed grows by one. It takes no memory. 902: there is no such guest. No line of a script
-    # says it.
+    # says it. Since 0.4.0.
     "reset_guest": (c_uint32, (POINTER(Handle), c_size_t)),
     # How many bytes the image of a guest has now, which pciguest_save writes. It stays as long as the guest has the
     # same functions in the same slots: its accesses, its devices, resets and loads don't change it. It takes no memory
-    # and changes nothing. 902: there is no such guest.
+    # and changes nothing. 902: there is no such guest. Since 0.4.0.
     "image_size": (c_uint32, (POINTER(Handle), c_size_t, POINTER(c_size_t))),
     # Saves a guest: writes its image, and tells its length. The image is all that the guest holds: its CONFIG_ADDRESS,
     # and of each of its 32 slots what is declared of the function and what the guest's registers hold; nothing of the
     # board, of other guests or of where its functions stand. docs/FORMATS.md has the bytes. What stands behind them in
     # the room stays. It takes no memory, and the machine stays as it is. 902: there is less room than the image needs,
-    # and nothing was written; or there is no such guest, and nothing was told.
+    # and nothing was written; or there is no such guest, and nothing was told. Since 0.4.0.
     "save": (c_uint32, (POINTER(Handle), c_size_t, c_void_p, c_size_t, POINTER(c_size_t))),
     # Loads an image into a guest, which then holds what the image says: what the guest that was saved held. Its
     # functions are declared as those of the image, slot by slot; they may stand elsewhere, on another board. Other
     # guests can't tell, and the count of pciguest_changed grows by one. It takes no memory. 906: another slot is
     # filled, or a function is declared otherwise. 905: the bytes are no image, as with a value that its register can't
     # hold. Of both, what the first byte that fails tells. 902: there is no such guest. No line of a script says it.
+    # Since 0.4.0.
     "load": (c_uint32, (POINTER(Handle), c_size_t, c_char_p, c_size_t)),
     # How many bytes the image of the whole machine has now, which pciguest_save_all writes. It stays as long as guests
-    # have the same functions in the same slots. It takes no memory and changes nothing.
+    # have the same functions in the same slots. It takes no memory and changes nothing. Since 0.4.0.
     "image_size_all": (c_uint32, (POINTER(Handle), POINTER(c_size_t))),
     # Saves the whole machine: writes its image, and tells its length. The image is who has which function of the board
     # in which slot, what each guest holds, and the board as the host reads it, but for what guests made of functions in
     # slots. docs/FORMATS.md has the bytes. What stands behind them in the room stays. It takes no memory, and the
-    # machine stays as it is. 902: there is less room than the image needs, and nothing was written.
+    # machine stays as it is. 902: there is less room than the image needs, and nothing was written. Since 0.4.0.
     "save_all": (c_uint32, (POINTER(Handle), c_void_p, c_size_t, POINTER(c_size_t))),
     # Loads an image into the whole machine: each slot then has the function that it had in the machine that was saved,
     # and each guest holds what that guest held. The board is an equal one that is set up alike, and the guests have the
@@ -329,52 +326,55 @@ DECLARED: Dict[str, Tuple[Any, Tuple[Any, ...]]] = {
     # pciguest_changed grows for each guest. It takes no memory. 907: the board, its guests or how it is set up are
     # others. 906: a slot is to get what no guest can be given there, or a function is declared otherwise. 905: the
     # bytes are no image of a machine. Of the three, what the first byte that fails tells. No line of a script says it.
+    # Since 0.4.0.
     "load_all": (c_uint32, (POINTER(Handle), c_char_p, c_size_t)),
     # Gives a function of the board that no guest has to a guest, into an empty slot: there and on the board it is then
     # at reset, on the board but for what guests have copies of. Its path is a text, as board files and
     # pciguest_function have it. 303: the slot is above 31, or no endpoint stands at the path. 602: a guest has the
     # function, or the slot is taken.
-    # 206: one of its regions is closed. 902: there is no such guest. No line of a script says it.
+    # 206: one of its regions is closed. 902: there is no such guest. No line of a script says it. Since 0.4.0.
     "give": (c_uint32, (POINTER(Handle), c_char_p, c_size_t, c_size_t, c_uint64)),
     # Takes the function in a guest's slot from this guest: the slot is then empty, and no guest has the function, which
     # is at reset on the board, but for what guests have copies of. Numbers as for pciguest_reset. No line of a script
-    # says it.
+    # says it. Since 0.4.0.
     "take": (c_uint32, (POINTER(Handle), c_size_t, c_uint64)),
     # Reads one byte of the function in a guest's slot, as its device does: of a region, or of configuration space the
     # two bytes of Status (06h, 07h) and the device's own registers (40h to FFh). A byte that has no register reads 0.
     # It changes nothing. 303: the slot is above 31, or the device has no such byte. 601: the slot is empty. 902: there
-    # is no such guest, or the part is above 6.
+    # is no such guest, or the part is above 6. Since 0.3.0.
     "device_read": (c_uint32, (POINTER(Handle), c_size_t, c_uint64, c_uint32, c_uint64, POINTER(c_uint32))),
     # Writes such a byte as its device does: it takes the value, whatever a guest's writes may change of it, and what
     # they may change of it stays. Where no register is, nothing changes. Numbers as above. It has no line of a script.
+    # Since 0.3.0.
     "device_write": (c_uint32, (POINTER(Handle), c_size_t, c_uint64, c_uint32, c_uint64, c_uint8)),
     # Reads so 1 to 8 bytes at any offset, all of one part; the byte at the lowest offset is the lowest of the value.
     # 302: the width is not 1 to 8. 303: one of the bytes is past the part, or none that the device has. Where one of
-    # them is refused, the call is. Other numbers as above.
+    # them is refused, the call is. Other numbers as above. Since 0.4.0.
     "device_read_wide": (
         c_uint32,
         (POINTER(Handle), c_size_t, c_uint64, c_uint32, c_uint64, c_uint32, POINTER(c_uint64)),
     ),
     # Writes so the low bytes of a value, as many as it is wide. Where one of the bytes is refused, none is written.
+    # Since 0.4.0.
     "device_write_wide": (c_uint32, (POINTER(Handle), c_size_t, c_uint64, c_uint32, c_uint64, c_uint32, c_uint64)),
     # Where the region that begins at a base address register, 0 to 5, stands now, in the guest's own view. It takes no
     # memory and changes nothing. The answer stays until the guest writes Command or a base address register of this
     # function, or it is moved, reset, loaded or taken: while pciguest_changed tells the same, no answer for this guest
     # changes.
     # 303: the slot is above 31, or no region begins at this register. 601: the slot is empty. 902: there is no such
-    # guest.
+    # guest. Since 0.3.0.
     "region": (c_uint32, (POINTER(Handle), c_size_t, c_uint64, c_uint32, POINTER(RegionTold))),
     # A count of the guest, which grows by one with each access of the guest, move, reset, gift or taking that touches
     # one of its slots so that an answer of pciguest_region for it may be another one, and with each
     # pciguest_reset_guest and pciguest_load of it, and by one or more with pciguest_load_all: while the count stays,
     # each of these answers stays, for all slots and registers. Nothing else makes it grow. It is 0 in a machine that
     # was made just now, and goes on from 0 after 2^64 - 1. It takes no memory and changes nothing. 902: there is no
-    # such guest.
+    # such guest. Since 0.4.0.
     "changed": (c_uint32, (POINTER(Handle), c_size_t, POINTER(c_uint64))),
     # What an access of the guest at a place hits, as pciguest_read and pciguest_write take the place: a byte of a
     # function in one of its slots, or nothing. It takes no memory and changes nothing. Every access there begins at
     # this byte, but for four bytes at port CF8h, which are the guest's own CONFIG_ADDRESS. Numbers as for a read of one
-    # byte there.
+    # byte there. Since 0.3.0.
     "locate": (c_uint32, (POINTER(Handle), c_size_t, c_uint32, c_uint64, c_uint64, POINTER(HitTold))),
     # Writes why an access of the guest at a place, as pciguest_locate takes it, finds what it finds, a line for each
     # thing: at port CF8h, and at CFCh to CFFh, what the guest's CONFIG_ADDRESS makes of it (PCI Local Bus 3.0,
@@ -384,20 +384,20 @@ DECLARED: Dict[str, Tuple[Any, Tuple[Any, ...]]] = {
     # It tells the text's length, which has no 0 at its end. It tells of the guest's own functions and CONFIG_ADDRESS
     # alone: two guests that hold the same are told the same. Nothing changes. Numbers as for a read of one byte there.
     # 902 too: there is less room than the text needs, whose length alone is told.
-    # 299: out of memory.
+    # 299: out of memory. Since 0.4.0.
     "why": (
         c_uint32,
         (POINTER(Handle), c_size_t, c_uint32, c_uint64, c_uint64, POINTER(c_char), c_size_t, POINTER(c_size_t)),
     ),
-    # How many functions the board has, endpoints and bridges.
+    # How many functions the board has, endpoints and bridges. Since 0.4.0.
     "count": (c_uint32, (POINTER(Handle), POINTER(c_size_t))),
     # The function at an index, from 0 to one less than pciguest_count tells, in the order of paths: a bridge stands
     # before what is behind it. Where regions and windows stand, and by which number it is reached, is told as the
     # board's own registers have it, which no guest writes; who has it, as it is after the last move. It takes no memory
-    # and changes nothing. 902: there is no such function.
+    # and changes nothing. 902: there is no such function. Since 0.4.0.
     "function": (c_uint32, (POINTER(Handle), c_size_t, POINTER(FunctionTold))),
     # The same of the function in a slot of a guest. 303: the slot is above 31. 601: the slot is empty. 902: there is no
-    # such guest.
+    # such guest. Since 0.4.0.
     "slot": (c_uint32, (POINTER(Handle), c_size_t, c_uint64, POINTER(FunctionTold))),
     # Runs one line of a script, with its line feed or without; a line feed elsewhere makes it a bad line. The reply is
     # one line with its line feed, or nothing for a blank line or a comment; it has no 0 at its end, and `written` tells
@@ -420,23 +420,23 @@ DECLARED: Dict[str, Tuple[Any, Tuple[Any, ...]]] = {
     # no address is given out, and every function is off. The guests of the file are checked, and no function is given
     # to them.
     # 0: the struct holds the board. 101 to 112: the number of the first check that the file fails. 199: out of memory.
-    # 903: the struct holds a board already.
+    # 903: the struct holds a board already. Since 0.3.0.
     "board_new": (c_uint32, (POINTER(BoardHandle), c_char_p, c_size_t)),
     # Frees the board, or the machine that a line made of it. The struct then holds none, and may be used for a new one.
-    # Where it held none, nothing happens.
+    # Where it held none, nothing happens. Since 0.3.0.
     "board_free": (None, (POINTER(BoardHandle),)),
     # Reads as firmware does, in whatever state the registers are: configuration space by bus, device, function and byte
     # offset, I/O by port, or memory by address; all ones where nothing answers. Bus, device and function are looked at
     # for configuration space alone; by ports it is reached at CF8h and CFCh. A read there by number leaves 0 in
     # CONFIG_ADDRESS (CF8h); else a read changes nothing.
     # 302: the width is not 1, 2 or 4 bytes. 301: the place is no multiple of it. 303: the offset is above 255, or the
-    # port above FFFFFFFFh. 902: there is no such space, the device is above 31, or the function above 7.
+    # port above FFFFFFFFh. 902: there is no such space, the device is above 31, or the function above 7. Since 0.3.0.
     "board_read": (
         c_uint32,
         (POINTER(BoardHandle), c_uint32, c_uint8, c_uint8, c_uint8, c_uint64, c_uint32, POINTER(c_uint32)),
     ),
     # Writes the low bytes of a value as firmware does, as many as it is wide; what nothing takes is dropped. A write of
-    # configuration space by number leaves 0 in CONFIG_ADDRESS. Numbers as above.
+    # configuration space by number leaves 0 in CONFIG_ADDRESS. Numbers as above. Since 0.3.0.
     "board_write": (
         c_uint32,
         (POINTER(BoardHandle), c_uint32, c_uint8, c_uint8, c_uint8, c_uint64, c_uint32, c_uint32),
@@ -452,40 +452,41 @@ DECLARED: Dict[str, Tuple[Any, Tuple[Any, ...]]] = {
     # no 0 at its end, and `written` tells its length.
     # 902: there is less room than PCIGUEST_REPLY, or than a reply of more lines needs, whose length alone is told;
     # nothing happened. 299: out of memory for one of these four lines, and nothing happened; no other line takes
-    # memory.
+    # memory. Since 0.3.0.
     "board_run_line": (
         c_uint32,
         (POINTER(BoardHandle), c_char_p, c_size_t, POINTER(c_char), c_size_t, POINTER(c_size_t)),
     ),
-    # How many functions the board has, endpoints and bridges.
+    # How many functions the board has, endpoints and bridges. Since 0.4.0.
     "board_count": (c_uint32, (POINTER(BoardHandle), POINTER(c_size_t))),
     # The function at an index, from 0 to one less than pciguest_board_count tells, in the order of paths, as the
     # registers stand: by which number it is looked for and whether that reaches it, where its base address registers or
     # windows are, whatever firmware did of them so far, and whether its Command opens their spaces. It takes no memory
-    # and changes nothing, CONFIG_ADDRESS neither. 902: there is no such function.
+    # and changes nothing, CONFIG_ADDRESS neither. 902: there is no such function. Since 0.4.0.
     "board_function": (c_uint32, (POINTER(BoardHandle), c_size_t, POINTER(BoardFunctionTold))),
     # Writes what is wrong in the registers of a board as they stand, whoever wrote them: a line for each problem, and a
     # last line `audit: ok` or `audit: N problems`. A problem is a byte of an open region that a bridge above doesn't
     # forward, an address that two answer on one bus, or a function that no cycle finds. It tells the text's length,
     # which has no 0 at its end, and how many problems there are. The board stays as it is.
-    # 902: there is less room than the text needs, whose length alone is told. 299: out of memory.
+    # 902: there is less room than the text needs, whose length alone is told. 299: out of memory. Since 0.3.0.
     "board_audit": (c_uint32, (POINTER(BoardHandle), POINTER(c_char), c_size_t, POINTER(c_size_t), POINTER(c_size_t))),
     # Writes what is wrong in the registers of a board as they stand, as pciguest_board_audit does but for its last
     # line, then a line for each thing that they lack, and a last line `ready: ok` or `ready: N lacks`, which counts
     # both. What is lacking is a region that is closed, outside the apertures or prefetched where it mustn't be, and a
     # bridge with another Primary than its bus. It tells the text's length, and how many problems and lacks there are:
     # the board is ready where that is 0. The board stays as it is.
-    # 902: there is less room than the text needs, whose length alone is told. 299: out of memory.
+    # 902: there is less room than the text needs, whose length alone is told. 299: out of memory. Since 0.4.0.
     "board_ready": (c_uint32, (POINTER(BoardHandle), POINTER(c_char), c_size_t, POINTER(c_size_t), POINTER(c_size_t))),
     # Writes a row for each problem that pciguest_board_audit has a line of, in the same order, and tells how many there
     # are. The board stays as it is. 902: there is room for fewer rows than that, whose number alone is told. 299: out
-    # of memory.
+    # of memory. Since 0.4.0.
     "board_problems": (c_uint32, (POINTER(BoardHandle), POINTER(ProblemTold), c_size_t, POINTER(c_size_t))),
     # Sets up a board that is at reset as pciguest_new does, in place of firmware of one's own, and gives its functions
     # to the guests of its file: the machine is then the one that pciguest_new makes of the file. The board stays as it
     # is.
     # 901: there is no board. 903: the struct of the machine holds one already. 904: a write was done on the board since
     # reset. 201 to 205: the board can't be set up. 199, 299: out of memory. The first of these that holds is answered.
+    # Since 0.3.0.
     "set_up": (c_uint32, (POINTER(BoardHandle), POINTER(Handle))),
     # Gives the functions of a board to the guests of its file as the board stands, whoever set it up: where its audit
     # tells no problem and each region of their functions is open, the machine is then over this board. Each function
@@ -494,6 +495,6 @@ DECLARED: Dict[str, Tuple[Any, Tuple[Any, ...]]] = {
     # board then holds none. Where it is refused, both structs are as they were.
     # 901: there is no board. 903: the struct of the machine holds one already. 207: the audit tells a problem. 206: a
     # region of a function that is to be given is closed. 299: out of memory. 901, 903 and 207 come in this order before
-    # 206; pciguest_board_audit tells the problems of 207.
+    # 206; pciguest_board_audit tells the problems of 207. Since 0.4.0.
     "board_guests": (c_uint32, (POINTER(BoardHandle), POINTER(Handle))),
 }

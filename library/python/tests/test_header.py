@@ -65,7 +65,7 @@ def judged():
 
 class Header(unittest.TestCase):
     def test_calls(self):
-        named = re.findall(r"^[A-Za-z][\w *]* \*?pciguest_(?!raw_)(\w+)\(", HEADER, re.MULTILINE)
+        named = re.findall(r"^(?!static)[A-Za-z][\w *]* \*?pciguest_(\w+)\(", HEADER, re.MULTILINE)
         self.assertGreater(len(named), 30)
         self.assertEqual(named, list(_calls.DECLARED))
         for name in named:

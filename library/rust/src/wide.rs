@@ -4,7 +4,7 @@ use crate::error::{answered, Error};
 use crate::machine::Machine;
 use crate::place::{At, Guest};
 use crate::prelude::*;
-use crate::raw::{self, BAD_WIDTH, OUT_OF_RANGE};
+use crate::raw::{BAD_WIDTH, CONFIG, IO, OUT_OF_RANGE};
 
 impl Machine {
     /// Reads as a guest what a processor may ask at once and a cycle of the bus can't: 1 to 8 bytes, at any place. It is
@@ -75,11 +75,15 @@ fn may_be_split(at: At, width: u32) -> Result<(), Error> {
     if !(1..=8).contains(&width) {
         return answered(BAD_WIDTH);
     }
-    // SAFETY: no pointer is passed.
-    match unsafe { raw::pciguest_ends_within(space, place, width) } {
-        true => Ok(()),
-        false => answered(OUT_OF_RANGE),
+    let last = match space {
+        CONFIG => 0xff,
+        IO => 0xffff,
+        _ => u64::MAX,
+    };
+    if place > last || u64::from(width) - 1 > last - place {
+        return answered(OUT_OF_RANGE);
     }
+    Ok(())
 }
 
 /// The lawful pieces of an access that ends within its space: how many bytes come before each, its place and its width.
@@ -88,8 +92,13 @@ pub(crate) fn pieces(at: At, width: u32) -> impl Iterator<Item = (u32, At, u32)>
     let mut done = 0;
     core::iter::from_fn(move || {
         let before = (done < width).then_some(done)?;
-        // SAFETY: no pointer is passed.
-        let size = unsafe { raw::pciguest_piece(place + u64::from(before), width - before) };
+        let (place, left) = (place + u64::from(before), width - before);
+        // the most that stand at a multiple of their number
+        let size = match () {
+            _ if place % 4 == 0 && left >= 4 => 4,
+            _ if place % 2 == 0 && left >= 2 => 2,
+            _ => 1,
+        };
         done += size;
         Some((before, at.further(u64::from(before)), size))
     })
