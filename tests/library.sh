@@ -152,6 +152,15 @@ if command -v c++ > /dev/null; then
   done
 fi
 
+# ---- a program that has another library of Rattle beside it, with names that this one has too
+echo 'int pciguest_piece, pciguest_ends_within; void rattle_alloc(void) { __builtin_trap(); }' > beside.c
+echo 'void rattle_dealloc(void) { __builtin_trap(); } void rattle_realloc(void) { __builtin_trap(); }' >> beside.c
+holds 'another library is built' "$compile" -c beside.c
+holds 'the example beside another library is built' build beside "$top/examples/c/device.c" -Wl,--whole-archive beside.o \
+  "$top/library/libpciguest.a" -Wl,--no-whole-archive
+holds 'the example beside another library' \
+  sh -c "./beside '$top/examples/device.toml' | cmp - '$top/tests/library/device.stdout'"
+
 # ---- the example in Rust, where there is a compiler
 if command -v rustc > /dev/null; then
   holds 'Rust: the example is built' rustc --edition 2021 -D warnings -o device.rust "$top/examples/rust/device.rs" \
@@ -273,15 +282,13 @@ holds 'the ECAM of LIBRARY.md is built' build ecam ecam.c
 holds 'the ECAM of LIBRARY.md' test "$(./ecam < "$top/examples/device.toml")" = 'd0b1234 10b ffffffff ffffffff ffffffff ffffffff '
 
 # ---- what the library takes from outside, and what it gives
-needs() {
-  nm -u "$top/library/libpciguest.a" | awk 'NF == 2 && $2 !~ /^(rattle|pciguest_raw)_/ { print $2 }' | sort -u | tr '\n' ' '
-}
+needs() { nm -u "$top/library/libpciguest.a" | awk 'NF == 2 && $2 !~ /^pciguest_raw_/ { print $2 }' | sort -u | tr '\n' ' '; }
 holds 'six calls of the C library, and no more' test "$(needs)" = 'free malloc memcpy memmove memset realloc '
 declared() {
   cat "$top"/library/{pciguest,raw}.h | grep -v '^static' | grep -o '^[A-Za-z][A-Za-z0-9_ *]*pciguest_[a-z_]*(' |
     sed 's/.*[ *]//; s/($//' | sort -u
 }
-exported() { nm --defined-only "$top/library/libpciguest.a" | awk '$2 == "T" { print $3 }' | grep '^pciguest' | sort -u; }
+exported() { nm --defined-only "$top/library/libpciguest.a" | awk '$2 ~ /[A-Z]/ { print $3 }' | sort -u; }
 holds 'the library exports the calls of the header, and those that they stand over' test "$(declared)" = "$(exported)"
 
 echo "$passed passed, $failed failed"
