@@ -1,4 +1,4 @@
-/* The calls of the proved library. They take no null pointer, and a line without its line feed.
+/* The calls of the proved library. They take no null pointer, a line without its line feed, and one call at a time.
  * tools/bindings writes this file from library/pciguest.h. */
 #ifndef RAW_H
 #define RAW_H

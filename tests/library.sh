@@ -1,7 +1,7 @@
 #!/usr/bin/env bash
 # Uses the library for C as a C program does: the example, random accesses by calls and by lines, which the proved
-# program must answer alike, boards that firmware drives, and what the library refuses; once plain, and, where the
-# compiler has sanitizers, once under them.
+# program must answer alike, boards that firmware drives, what the library refuses, and eight threads; once plain, and,
+# where the compiler has sanitizers, once under them.
 # Then it runs the tests of the crate for Rust and of the module for Python, where cargo and Python 3 are there.
 #     tests/library.sh [PROGRAM]
 # PROGRAM is the one that `rt ci` or `make build` left, unless it is given. The last line is 'N passed, M failed'.
@@ -140,6 +140,18 @@ for kind in "${kinds[@]}"; do
   holds "$kind: what is refused" sh -c "./refusals.$kind '$board' > report"
   holds "$kind: the report" cmp report wanted.report
 done
+
+# ---- eight threads over one struct, and under helgrind where that is, for which library/calls.c says what orders them
+holds 'the threads are built' build threads "$top/tests/library/threads.c" -pthread -Wl,--wrap=malloc
+holds 'threads' ./threads "$board" 20000
+echo '#include <valgrind/helgrind.h>' > watched.c
+if command -v valgrind > /dev/null && "$compile" -fsyntax-only watched.c 2> /dev/null; then
+  holds 'the threads are built for helgrind' build watched "$top/tests/library/threads.c" "$top/library/calls.c" \
+    -include "$top/tests/library/watched.h" -pthread -Wl,--wrap=malloc
+  holds 'threads under helgrind' valgrind --quiet --tool=helgrind --error-exitcode=1 ./watched "$board" 100
+else
+  echo 'no valgrind: threads are not tried under helgrind. On Debian: apt-get install valgrind'
+fi
 
 # ---- the header by itself, in the oldest languages that have what it includes, as C++ too where there is a compiler
 echo '#include "pciguest.h"' > header.c

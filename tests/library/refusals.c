@@ -483,7 +483,7 @@ static void words(uint32_t number, const char *wanted)
 
 static void all_words(void)
 {
-    static const uint32_t without[] = {0, 1, 100, 113, 200, 210, 300, 304, 400, 404, 603, 900, 908, 0xffffffff, 0x10065};
+    static const uint32_t without[] = {0, 1, 100, 113, 200, 210, 300, 304, 400, 404, 603, 900, 909, 0xffffffff, 0x10065};
     uint32_t number, known = 0;
     char text[PCIGUEST_WORDS] = {0};
     size_t needed = 0;
@@ -509,13 +509,14 @@ static void all_words(void)
     words(905, "image");
     words(906, "other functions");
     words(907, "other board");
+    words(908, "busy");
     for (size_t i = 0; i < sizeof without / sizeof *without; i++)
         words(without[i], "");
     for (number = 0; number < 1 << 17; number++) {
         IS(pciguest_words(number, text, sizeof text, &needed), 0);
         known += needed != 0;
     }
-    IS(known, 43);
+    IS(known, 44);
 }
 
 /* Each allocation fails in turn: the answer is out of memory, the handle stays empty, and nothing is lost. */

@@ -92,6 +92,8 @@ pub enum Error {
     OtherFunctions(Refusal),
     /// 907: an image is of another board, of other guests, or of a board that is set up otherwise.
     OtherBoard(Refusal),
+    /// 908: another call runs on the machine or the board. A call of this crate has it for itself, so none meets this.
+    Busy(Refusal),
     /// Any other number. The library has none today that a call of this crate meets.
     Other(Refusal),
 }
@@ -112,6 +114,7 @@ impl Error {
             905 => Error::Image(refusal),
             906 => Error::OtherFunctions(refusal),
             907 => Error::OtherBoard(refusal),
+            908 => Error::Busy(refusal),
             _ => Error::Other(refusal),
         }
     }
@@ -131,6 +134,7 @@ impl Error {
             | Error::Image(refusal)
             | Error::OtherFunctions(refusal)
             | Error::OtherBoard(refusal)
+            | Error::Busy(refusal)
             | Error::Other(refusal) => refusal,
         }
     }

@@ -54,10 +54,10 @@ fn numbers_have_words() {
     let known = (0..1 << 16)
         .filter(|&number| !words(number).is_empty())
         .count();
-    assert_eq!(known, 43);
+    assert_eq!(known, 44);
     assert_eq!(words(205), "prefetchable pool");
-    let images = [words(905), words(906), words(907)];
-    assert_eq!(images, ["image", "other functions", "other board"]);
+    let last = [905, 906, 907, 908].map(words);
+    assert_eq!(last, ["image", "other functions", "other board", "busy"]);
     assert_eq!(words(u32::MAX), "");
     for number in (0..1000).chain([u32::MAX]) {
         assert_eq!(strerror(number), words(number), "{number}");

@@ -1,0 +1,294 @@
+/* Threads on one struct. A call that finds another one running is answered by 908 and changes nothing: within an allocation
+ * of a running call every call is; and eight threads that read, write, make, give and free lose nothing.
+ *
+ *     threads BOARD COUNT
+ *
+ * BOARD is boards/main.toml; each thread makes so many calls of each kind. It is linked with --wrap for malloc. The exit
+ * status is 1 where an answer is wrong. */
+#include "pciguest.h"
+
+#include <inttypes.h>
+#include <pthread.h>
+#include <sched.h>
+#include <stdatomic.h>
+#include <stdio.h>
+#include <stdlib.h>
+#include <string.h>
+
+#define THREADS 8
+
+extern void *__real_malloc(size_t size);
+void *__wrap_malloc(size_t size);
+
+static _Atomic int wrong;
+static uint8_t file[65536];
+static size_t length;
+static struct pciguest machine = PCIGUEST_INIT;
+static struct pciguest_board board = PCIGUEST_BOARD_INIT;
+static uint32_t count;
+
+static void is(int line, uint64_t found, uint64_t wanted)
+{
+    if (found != wanted) {
+        fprintf(stderr, "threads.c:%d: %" PRIu64 " in place of %" PRIu64 "\n", line, found, wanted);
+        wrong = 1;
+    }
+}
+
+#define IS(found, wanted) is(__LINE__, (found), (wanted))
+
+/* ---- a call within another one */
+
+static void (*within)(void); /* what is called in the next allocation */
+
+void *__wrap_malloc(size_t size)
+{
+    void (*now)(void) = within;
+
+    within = NULL;
+    if (now)
+        now();
+    return __real_malloc(size);
+}
+
+#define BUSY(call) IS((call), PCIGUEST_BUSY)
+
+static void ask_machine(void)
+{
+    struct pciguest_region region = {0};
+    struct pciguest_hit hit = {0};
+    struct pciguest_function row = {0};
+    char text[PCIGUEST_REPLY] = {0};
+    uint64_t wide = 7;
+    uint32_t value = 7;
+    size_t told = 7;
+
+    BUSY(pciguest_new(&machine, file, length));
+    pciguest_free(&machine);
+    BUSY(pciguest_guest(&machine, "a", 1, &told));
+    BUSY(pciguest_guest_count(&machine, &told));
+    BUSY(pciguest_guest_name(&machine, 0, text, sizeof text, &told));
+    BUSY(pciguest_read(&machine, 0, PCIGUEST_CONFIG, 0, 0, 4, &value));
+    BUSY(pciguest_write(&machine, 0, PCIGUEST_CONFIG, 0, 4, 2, 3));
+    BUSY(pciguest_read_wide(&machine, 0, PCIGUEST_CONFIG, 0, 0, 9, &wide));
+    BUSY(pciguest_write_wide(&machine, 0, PCIGUEST_CONFIG, 0, 4, 3, 3));
+    BUSY(pciguest_raise(&machine, 0, 0, PCIGUEST_RAISE_CONFIG, 7, 0x80));
+    BUSY(pciguest_host_read(&machine, PCIGUEST_CONFIG, 0, 1, 0, 0, 4, &value));
+    BUSY(pciguest_move(&machine, 0, 0, 1, 7));
+    BUSY(pciguest_reset(&machine, 0, 0));
+    BUSY(pciguest_reset_guest(&machine, 0));
+    BUSY(pciguest_image_size(&machine, 0, &told));
+    BUSY(pciguest_save(&machine, 0, text, sizeof text, &told));
+    BUSY(pciguest_load(&machine, 0, text, sizeof text));
+    BUSY(pciguest_image_size_all(&machine, &told));
+    BUSY(pciguest_save_all(&machine, text, sizeof text, &told));
+    BUSY(pciguest_load_all(&machine, text, sizeof text));
+    BUSY(pciguest_give(&machine, "2.0/1.0", 7, 0, 7));
+    BUSY(pciguest_take(&machine, 0, 0));
+    BUSY(pciguest_device_read(&machine, 0, 0, 1, 0, &value));
+    BUSY(pciguest_device_write(&machine, 0, 0, 1, 0, 1));
+    BUSY(pciguest_device_read_wide(&machine, 0, 0, 1, 0, 8, &wide));
+    BUSY(pciguest_device_write_wide(&machine, 0, 0, 1, 0, 8, 1));
+    BUSY(pciguest_region(&machine, 0, 0, 1, &region));
+    BUSY(pciguest_changed(&machine, 0, &wide));
+    BUSY(pciguest_locate(&machine, 0, PCIGUEST_MEMORY, 0, 0x80000000, &hit));
+    BUSY(pciguest_why(&machine, 0, PCIGUEST_MEMORY, 0, 0x80000000, text, sizeof text, &told));
+    BUSY(pciguest_count(&machine, &told));
+    BUSY(pciguest_function(&machine, 0, &row));
+    BUSY(pciguest_slot(&machine, 0, 0, &row));
+    BUSY(pciguest_run_line(&machine, "a cw 0 4 2 3", 12, text, sizeof text, &told));
+    BUSY(pciguest_set_up(&board, &machine));
+    BUSY(pciguest_board_guests(&board, &machine));
+    IS(value == 7 && wide == 7 && told == 7 && text[0] == 0 && row.vendor_id == 0, 1);
+}
+
+static void ask_board(void)
+{
+    struct pciguest other = PCIGUEST_INIT;
+    struct pciguest_board_function row = {0};
+    struct pciguest_problem problem = {0};
+    char text[PCIGUEST_REPLY] = {0};
+    uint32_t value = 7;
+    size_t told = 7;
+
+    BUSY(pciguest_board_new(&board, file, length));
+    pciguest_board_free(&board);
+    BUSY(pciguest_board_read(&board, PCIGUEST_CONFIG, 0, 1, 0, 0, 4, &value));
+    BUSY(pciguest_board_write(&board, PCIGUEST_CONFIG, 0, 1, 0, 4, 2, 3));
+    BUSY(pciguest_board_run_line(&board, "host cw 00:01.0 4 2 3", 21, text, sizeof text, &told));
+    BUSY(pciguest_board_count(&board, &told));
+    BUSY(pciguest_board_function(&board, 0, &row));
+    BUSY(pciguest_board_audit(&board, text, sizeof text, &told, &told));
+    BUSY(pciguest_board_ready(&board, text, sizeof text, &told, &told));
+    BUSY(pciguest_board_problems(&board, &problem, 1, &told));
+    BUSY(pciguest_set_up(&board, &other));
+    BUSY(pciguest_board_guests(&board, &other));
+    IS(value == 7 && told == 7 && text[0] == 0 && other.live == 0, 1);
+}
+
+/* What a call that takes memory answers is what it answers alone, and what the struct holds stays. */
+static void one_within_another(void)
+{
+    char text[512] = {0}, alone[512] = {0};
+    size_t needed = 0, needed_alone = 0, problems = 0;
+
+    IS(pciguest_why(&machine, 0, PCIGUEST_MEMORY, 0, 0xd0000000, alone, sizeof alone, &needed_alone), 0);
+    within = ask_machine;
+    IS(pciguest_why(&machine, 0, PCIGUEST_MEMORY, 0, 0xd0000000, text, sizeof text, &needed), 0);
+    IS(within == NULL && needed == needed_alone && memcmp(text, alone, sizeof text) == 0, 1);
+
+    IS(pciguest_board_audit(&board, alone, sizeof alone, &needed_alone, &problems), 0);
+    within = ask_board;
+    IS(pciguest_board_audit(&board, text, sizeof text, &needed, &problems), 0);
+    IS(within == NULL && needed == needed_alone && memcmp(text, alone, needed) == 0, 1);
+    IS(machine.live && board.live, 1);
+}
+
+/* ---- eight threads */
+
+struct thread {
+    pthread_t thread;
+    uint64_t nth, counted, done, busy;
+    struct pciguest machine;
+};
+
+/* Makes a call until it is answered otherwise than by 908. */
+#define UNTIL_DONE(call)                                  \
+    do {                                                  \
+        uint32_t number = (call);                         \
+        while (number == PCIGUEST_BUSY) {                 \
+            self->busy++;                                 \
+            sched_yield();                                \
+            number = (call);                              \
+        }                                                 \
+        IS(number, 0);                                    \
+        self->done++;                                     \
+    } while (0)
+
+/* Reads what nobody writes, writes eight bytes of its own and reads eight bytes of one thread, and counts what the machine has
+ * to have counted. */
+static void *use(void *at)
+{
+    struct thread *self = at;
+    uint64_t own = (self->nth + 1) * 0x0101010101010101;
+
+    for (uint32_t i = 0; i < count; i++) {
+        uint32_t value = 0;
+        uint64_t wide = 0;
+
+        UNTIL_DONE(pciguest_read(&machine, 0, PCIGUEST_CONFIG, 0, 0, 4, &value));
+        IS(value, 0x00011234);
+        UNTIL_DONE(pciguest_write(&machine, 0, PCIGUEST_CONFIG, 0, 4, 2, 2));
+        self->counted++;
+        UNTIL_DONE(pciguest_write_wide(&machine, 0, PCIGUEST_MEMORY, 0, 0x80000003, 8, own));
+        UNTIL_DONE(pciguest_read_wide(&machine, 0, PCIGUEST_MEMORY, 0, 0x80000003, 8, &wide));
+        IS(wide, (wide & 0xff) * 0x0101010101010101);
+        IS((wide & 0xff) - 1 < THREADS, 1);
+    }
+    return NULL;
+}
+
+/* Makes a machine of one's own struct of a board that all threads share: one gets it. */
+static void *give(void *at)
+{
+    struct thread *self = at;
+    uint32_t number = pciguest_board_guests(&board, &self->machine);
+
+    IS(number == 0 || number == PCIGUEST_NO_MACHINE || number == PCIGUEST_BUSY, 1);
+    self->counted += number == 0;
+    return NULL;
+}
+
+/* Makes a machine in a struct that all threads share: one makes it. */
+static void *make(void *at)
+{
+    struct thread *self = at;
+    uint32_t number = pciguest_new(&machine, file, length);
+
+    IS(number == 0 || number == PCIGUEST_IN_USE || number == PCIGUEST_BUSY, 1);
+    self->counted += number == 0;
+    return NULL;
+}
+
+static void *end(void *at)
+{
+    (void)at;
+    pciguest_free(&machine);
+    return NULL;
+}
+
+/* Runs eight threads, and tells how much they counted together. */
+static uint64_t eight(void *(*run)(void *), struct thread *threads)
+{
+    uint64_t counted = 0, done = 0, busy = 0;
+
+    memset(threads, 0, THREADS * sizeof *threads);
+    for (size_t i = 0; i < THREADS; i++) {
+        threads[i].nth = i;
+        if (pthread_create(&threads[i].thread, NULL, run, &threads[i]) != 0)
+            exit(2);
+    }
+    for (size_t i = 0; i < THREADS; i++) {
+        pthread_join(threads[i].thread, NULL);
+        counted += threads[i].counted;
+        done += threads[i].done;
+        busy += threads[i].busy;
+    }
+    if (done)
+        printf("%" PRIu64 " calls were made, and %" PRIu64 " answered by 908\n", done, busy);
+    return counted;
+}
+
+/* A board on which each region is open, so that it can be given. */
+static void open_board(void)
+{
+    static const struct {
+        uint8_t bus, device;
+        uint64_t offset;
+        uint32_t value;
+    } writes[] = {{0, 1, 0x10, 0x1000}, {0, 1, 0x14, 0xd0000000}, {0, 1, 4, 3}, {0, 2, 0x18, 0x00010100},
+                  {0, 2, 0x1c, 0x3030}, {0, 2, 0x20, 0xd110d110}, {0, 2, 0x24, 0xd2f0d200}, {0, 2, 4, 3},
+                  {1, 0, 0x10, 0xd1100000}, {1, 0, 0x14, 0x3010}, {1, 0, 4, 3}, {1, 1, 0x10, 0xd2000000}, {1, 1, 4, 2}};
+
+    for (size_t i = 0; i < sizeof writes / sizeof writes[0]; i++)
+        IS(pciguest_board_write(&board, PCIGUEST_CONFIG, writes[i].bus, writes[i].device, 0, writes[i].offset, 4,
+                                writes[i].value), 0);
+}
+
+int main(int argc, char **argv)
+{
+    static struct thread threads[THREADS];
+    FILE *opened = argc == 3 ? fopen(argv[1], "rb") : NULL;
+    uint64_t before = 0, after = 0;
+
+    if (!opened)
+        return 2;
+    length = fread(file, 1, sizeof file, opened);
+    fclose(opened);
+    count = (uint32_t)atoi(argv[2]);
+    IS(pciguest_new(&machine, file, length), 0);
+    IS(pciguest_board_new(&board, file, length), 0);
+    one_within_another();
+
+    IS(pciguest_write(&machine, 0, PCIGUEST_CONFIG, 0, 0x14, 4, 0x80000000), 0);
+    IS(pciguest_write(&machine, 0, PCIGUEST_CONFIG, 0, 4, 2, 2), 0);
+    IS(pciguest_write_wide(&machine, 0, PCIGUEST_MEMORY, 0, 0x80000003, 8, 0x0101010101010101), 0);
+    IS(pciguest_changed(&machine, 0, &before), 0);
+    IS(eight(use, threads), THREADS * (uint64_t)count);
+    IS(pciguest_changed(&machine, 0, &after), 0);
+    IS(after - before, THREADS * (uint64_t)count);
+
+    for (uint32_t i = 0; i < count / 100 + 1; i++) {
+        eight(end, threads);
+        IS(machine.live, 0);
+        IS(eight(make, threads), 1);
+        IS(machine.live, 1);
+    }
+    open_board();
+    IS(eight(give, threads), 1);
+    IS(board.live, 0);
+    for (size_t i = 0; i < THREADS; i++)
+        pciguest_free(&threads[i].machine);
+    pciguest_free(&machine);
+    return wrong;
+}
