@@ -25,7 +25,7 @@ pub mod Isolation
 pub mod OwnLines
 pub mod RunLines
 pub mod MoveIndices
-pub mod RowsOfLimits
+pub mod Unasked
 pub mod OneGuest
 pub mod Resets
 pub mod DeviceSeats

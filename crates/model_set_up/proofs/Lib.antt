@@ -11,7 +11,6 @@ pub mod Routes
 pub mod Scanning
 pub mod ScanParts
 pub mod ScanOrder
-pub mod RowsOfScans
 pub mod SetUpRegisters
 pub mod WindowReads
 pub mod BoardWindows
@@ -21,8 +20,6 @@ pub mod PlacedReads
 pub mod Holders
 pub mod UniqueClaimant
 pub mod SetUpNumbers
-pub mod RowsOfClaims
-pub mod Rows
 pub mod LawfulExamples
-pub mod RowsOfPorts
 pub mod FoundBoards
+pub mod Unasked
