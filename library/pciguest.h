@@ -30,7 +30,7 @@ extern "C" {
  * `struct pciguest machine = PCIGUEST_INIT;`, or with all bytes 0, and then holds none. Only the library looks at
  * its fields. Two copies of one struct are never both used; it may be moved, and the place that it left forgotten.
  * Any thread may make a call, and one call runs at a time on one struct: a second one, whatever it asks, is answered by
- * PCIGUEST_BUSY (908) and changes nothing, and pciguest_free then frees nothing. */
+ * PCIGUEST_BUSY (909) and changes nothing, and pciguest_free then frees nothing. */
 struct pciguest {
     bool live;
     void *at;
@@ -153,7 +153,7 @@ enum { PCIGUEST_REPLY = 48, PCIGUEST_WORDS = 20, PCIGUEST_GUEST_NAME = 16 };
 /* What a call answers, each with its words; docs/FORMATS.md says what each means. 101 to 112: the board file is refused.
  * 201 to 205: the board can't be set up. 206, 207: a board or a function can't be given to guests. 301 to 303: an access or
  * a path is refused. 601, 602: a slot is empty that must not be, or is taken. 905 to 907: bytes are no image for a guest or
- * for a machine. 908: another call runs on the struct. */
+ * for a machine. 909: another call runs on the struct. */
 enum pciguest_status {
     PCIGUEST_OK = 0,
     PCIGUEST_NOT_TOML = 101,          /* not TOML */
@@ -189,7 +189,7 @@ enum pciguest_status {
     PCIGUEST_BAD_IMAGE = 905,         /* image */
     PCIGUEST_OTHER_FUNCTIONS = 906,   /* other functions */
     PCIGUEST_OTHER_BOARD = 907,       /* other board */
-    PCIGUEST_BUSY = 908               /* busy */
+    PCIGUEST_BUSY = 909               /* busy */
 };
 
 /* Numbers that no call answers: 401 to 403 stand in replies to lines, and the others in the program's last line. */

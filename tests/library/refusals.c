@@ -509,7 +509,7 @@ static void all_words(void)
     words(905, "image");
     words(906, "other functions");
     words(907, "other board");
-    words(908, "busy");
+    words(909, "busy");
     for (size_t i = 0; i < sizeof without / sizeof *without; i++)
         words(without[i], "");
     for (number = 0; number < 1 << 17; number++) {

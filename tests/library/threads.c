@@ -1,4 +1,4 @@
-/* Threads on one struct. A call that finds another one running is answered by 908 and changes nothing: within an allocation
+/* Threads on one struct. A call that finds another one running is answered by 909 and changes nothing: within an allocation
  * of a running call every call is; and eight threads that read, write, make, give and free lose nothing.
  *
  *     threads BOARD COUNT
@@ -152,7 +152,7 @@ struct thread {
     struct pciguest machine;
 };
 
-/* Makes a call until it is answered otherwise than by 908. */
+/* Makes a call until it is answered otherwise than by 909. */
 #define UNTIL_DONE(call)                                  \
     do {                                                  \
         uint32_t number = (call);                         \
@@ -235,7 +235,7 @@ static uint64_t eight(void *(*run)(void *), struct thread *threads)
         busy += threads[i].busy;
     }
     if (done)
-        printf("%" PRIu64 " calls were made, and %" PRIu64 " answered by 908\n", done, busy);
+        printf("%" PRIu64 " calls were made, and %" PRIu64 " answered by 909\n", done, busy);
     return counted;
 }
 

@@ -61,7 +61,7 @@ NOT_AT_RESET = 904  # not at reset
 BAD_IMAGE = 905  # image
 OTHER_FUNCTIONS = 906  # other functions
 OTHER_BOARD = 907  # other board
-BUSY = 908  # busy
+BUSY = 909  # busy
 
 NOT_READY = 208  # not ready
 REFUSED_LINE = 209  # refused line
@@ -79,7 +79,7 @@ class Handle(ctypes.Structure):
     """What a program holds of a machine: a board that is set up, with its guests. It begins as `struct pciguest machine
     = PCIGUEST_INIT;`, or with all bytes 0, and then holds none. Only the library looks at its fields. Two copies of one
     struct are never both used; it may be moved, and the place that it left forgotten. Any thread may make a call, and
-    one call runs at a time on one struct: a second one, whatever it asks, is answered by PCIGUEST_BUSY (908) and
+    one call runs at a time on one struct: a second one, whatever it asks, is answered by PCIGUEST_BUSY (909) and
     changes nothing, and pciguest_free then frees nothing."""
 
     _fields_ = [

@@ -47,7 +47,7 @@ class Texts(unittest.TestCase):
         self.assertEqual(sum(words(each) != "" for each in range(1000)), 44)
         self.assertEqual(words(205), "prefetchable pool")
         last = ["image", "other functions", "other board", "busy"]
-        self.assertEqual([words(each) for each in (905, 906, 907, 908)], last)
+        self.assertEqual([words(each) for each in (905, 906, 907, 909)], last)
         self.assertEqual(words(0xFFFFFFFF), "")
         for each in (*range(1000), 0xFFFFFFFF):
             self.assertEqual(strerror(each), words(each))

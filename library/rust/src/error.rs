@@ -92,7 +92,7 @@ pub enum Error {
     OtherFunctions(Refusal),
     /// 907: an image is of another board, of other guests, or of a board that is set up otherwise.
     OtherBoard(Refusal),
-    /// 908: another call runs on the machine or the board. A call of this crate has it for itself, so none meets this.
+    /// 909: another call runs on the machine or the board. A call of this crate has it for itself, so none meets this.
     Busy(Refusal),
     /// Any other number. The library has none today that a call of this crate meets.
     Other(Refusal),
@@ -114,7 +114,7 @@ impl Error {
             905 => Error::Image(refusal),
             906 => Error::OtherFunctions(refusal),
             907 => Error::OtherBoard(refusal),
-            908 => Error::Busy(refusal),
+            909 => Error::Busy(refusal),
             _ => Error::Other(refusal),
         }
     }

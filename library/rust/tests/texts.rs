@@ -56,7 +56,7 @@ fn numbers_have_words() {
         .count();
     assert_eq!(known, 44);
     assert_eq!(words(205), "prefetchable pool");
-    let last = [905, 906, 907, 908].map(words);
+    let last = [905, 906, 907, 909].map(words);
     assert_eq!(last, ["image", "other functions", "other board", "busy"]);
     assert_eq!(words(u32::MAX), "");
     for number in (0..1000).chain([u32::MAX]) {

@@ -88,7 +88,7 @@ pub const OTHER_FUNCTIONS: u32 = 906;
 /// other board
 pub const OTHER_BOARD: u32 = 907;
 /// busy
-pub const BUSY: u32 = 908;
+pub const BUSY: u32 = 909;
 
 /// not ready
 pub const NOT_READY: u32 = 208;
@@ -114,7 +114,7 @@ pub const WORD_MEMORY: u32 = 799;
 /// What a program holds of a machine: a board that is set up, with its guests. It begins as `struct pciguest machine =
 /// PCIGUEST_INIT;`, or with all bytes 0, and then holds none. Only the library looks at its fields. Two copies of one
 /// struct are never both used; it may be moved, and the place that it left forgotten. Any thread may make a call, and
-/// one call runs at a time on one struct: a second one, whatever it asks, is answered by PCIGUEST_BUSY (908) and
+/// one call runs at a time on one struct: a second one, whatever it asks, is answered by PCIGUEST_BUSY (909) and
 /// changes nothing, and pciguest_free then frees nothing.
 #[repr(C)]
 pub struct Handle {
