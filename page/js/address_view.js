@@ -2,7 +2,7 @@
 // zoomed into, and read by mouse and by keys, and asked why something answers at an address or doesn't.
 
 import { aperture_of, hex, size_in_words } from './report.js';
-import { make, mark_of, owner_in_words } from './marks.js';
+import { make, make_button, mark_of, owner_in_words } from './marks.js';
 import { bang_at, before_box, cause_box, lack_at, name_in, question_mark_at, region_box, svg, ticks } from './bars.js';
 import { question_at } from './why.js';
 
@@ -185,10 +185,7 @@ export class Addresses {
     const out = [most(range[0] - size / 2n, aperture[0]), least(range[1] + size / 2n, aperture[1])];
     for (const [name, words, act] of [['−', 'Zoom out', () => this.zoom(space, out)], ['+', 'Zoom in', () => this.zoom_in(space, spans, range)],
       ['used', 'Show all that is used', () => this.zoom(space, null)], ['aperture', 'Show the whole aperture', () => this.zoom(space, aperture)]]) {
-      const button = Object.assign(make('button', '', name), { type: 'button', title: words });
-      button.setAttribute('aria-label', `${words}, ${NAMES[space]}`);
-      button.addEventListener('click', act);
-      buttons.append(button);
+      buttons.append(Object.assign(make_button(name, act, '', `${words}, ${NAMES[space]}`), { title: words }));
     }
     return title;
   }

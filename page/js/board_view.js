@@ -1,7 +1,7 @@
 // The tree of buses and the table of functions. Buses fold, and a large board begins folded.
 
 import { hex, parent_of, size_in_words } from './report.js';
-import { badge, colour, make, mark_of, owner_in_words, sign } from './marks.js';
+import { badge, colour, make, make_button, mark_of, owner_in_words, sign } from './marks.js';
 
 export const LARGE = 64;
 const MANY = 12, TOLD = 8, UNNUMBERED = '–';
@@ -47,13 +47,6 @@ function line_of(name, seen, meaning, text) {
   return one;
 }
 
-function button_of(text, words, act) {
-  const button = Object.assign(make('button', 'fold', text), { type: 'button' });
-  button.setAttribute('aria-label', words);
-  button.addEventListener('click', act);
-  return button;
-}
-
 export class Board {
   // `parts` are the elements `tree`, `told` and `table`; `light` is given the path of a function, or null, `choose` that of one
   // that is chosen, and `ask` such a function first where no cycle finds it.
@@ -92,7 +85,7 @@ export class Board {
     on.append(...few.map(one => this.function_of(one)));
     if (all.length > MANY * 2) {
       const words = few === all ? 'show fewer' : `${all.length - MANY} more`;
-      const more = button_of(words, `bus ${name}: ${words}`, () => this.turn(this.whole, parent, `[data-more="${parent}"]`));
+      const more = make_button(words, () => this.turn(this.whole, parent, `[data-more="${parent}"]`), 'fold', `bus ${name}: ${words}`);
       more.dataset.more = parent;
       on.append(more);
     }
@@ -107,8 +100,8 @@ export class Board {
     row.append(this.chip_of(one));
     if (one.kind !== 'bridge') return row;
     const open = this.is_open(one.path), count = (this.below.get(one.path) ?? []).length;
-    const fold = button_of(open ? '−' : `+${count}`, `${open ? 'Fold' : 'Unfold'} bus ${one.buses[1]}`,
-      () => this.turn(this.turned, one.path, `[data-fold="${one.path}"]`));
+    const fold = make_button(open ? '−' : `+${count}`, () => this.turn(this.turned, one.path, `[data-fold="${one.path}"]`), 'fold',
+      `${open ? 'Fold' : 'Unfold'} bus ${one.buses[1]}`);
     fold.dataset.fold = one.path;
     fold.setAttribute('aria-expanded', open);
     row.append(fold);
@@ -169,8 +162,8 @@ export class Board {
     }
     const groups = [...buses].flatMap(([key, all]) => {
       const open = this.is_open(key), row = make('tr', 'group'), cell = make('td', '');
-      const fold = button_of(`${open ? '−' : '+'} ${key}: ${all.length}`, `${open ? 'Fold' : 'Unfold'} ${key} of the table`,
-        () => this.turn(this.turned, key, `[data-fold="${key}"]`));
+      const fold = make_button(`${open ? '−' : '+'} ${key}: ${all.length}`, () => this.turn(this.turned, key, `[data-fold="${key}"]`), 'fold',
+        `${open ? 'Fold' : 'Unfold'} ${key} of the table`);
       fold.dataset.fold = key;
       fold.setAttribute('aria-expanded', open);
       cell.colSpan = names.length;

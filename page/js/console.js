@@ -2,7 +2,7 @@
 
 import { count_in_words } from './report.js';
 import { asked_of } from './asked.js';
-import { make } from './marks.js';
+import { make, make_button } from './marks.js';
 import { why_bad, why_refused } from './reasons.js';
 import { question_after } from './why.js';
 import { HANDS_OVER, move_in } from './replay.js';
@@ -100,9 +100,8 @@ export class Console {
   reply_in(row, line, reply) {
     const asked = question_after(line, reply, this.whose());
     if (asked === null) return make('span', '', reply);
-    const button = Object.assign(make('button', '', reply), { type: 'button', title: asked.line });
+    const button = Object.assign(make_button(reply, () => this.question.turn(asked, row, () => button)), { title: asked.line });
     button.setAttribute('aria-expanded', false);
-    button.addEventListener('click', () => this.question.turn(asked, row, () => button));
     return button;
   }
 

@@ -32,6 +32,11 @@ export class Engine {
     try { return call(...rooms); } finally { for (const room of rooms) this.exports.rattle_dealloc(room); }
   }
 
+  // Runs a call with bytes in the module's memory: where they stand, and how many they are.
+  with_bytes(bytes, call) {
+    return this.with_rooms([bytes.length], at => { this.bytes(at, bytes.length).set(bytes); return call(at, BigInt(bytes.length)); });
+  }
+
   // All of the memory, of which a view is made anew where it has grown.
   memory() {
     if (!this.view?.byteLength) this.view = new Uint8Array(this.exports.memory.buffer);
@@ -59,12 +64,7 @@ export class Engine {
   }
 
   // What a call writes of a board file.
-  written(call, file) {
-    return this.with_rooms([file.length], board => {
-      this.bytes(board, file.length).set(file);
-      return this.told((...rooms) => call(board, BigInt(file.length), ...rooms));
-    });
-  }
+  written(call, file) { return this.with_bytes(file, (...board) => this.told((...rooms) => call(...board, ...rooms))); }
 
   // The report of a board file; nothing where it is refused.
   report(file) { return this.written(this.exports.pciguest_raw_report, file); }
@@ -76,10 +76,7 @@ export class Engine {
   made(call, file, kind) {
     const handle = this.exports.page_room(BigInt(HANDLE));
     this.bytes(handle, HANDLE).fill(0);
-    const number = this.with_rooms([file.length], text => {
-      this.bytes(text, file.length).set(file);
-      return call(handle, text, BigInt(file.length));
-    });
+    const number = this.with_bytes(file, (...text) => call(handle, ...text));
     if (number !== 0) { this.exports.rattle_dealloc(handle); return { number, made: null }; }
     return { number, made: new kind(this, handle) };
   }
@@ -175,13 +172,7 @@ class Held {
   }
 
   // Loads the bytes of an image: 0, or the number of why they are refused, and then nothing has changed.
-  load(image) {
-    const { engine, handle } = this;
-    return engine.with_rooms([image.length], room => {
-      engine.bytes(room, image.length).set(image);
-      return engine.exports.pciguest_raw_load_all(handle, room, BigInt(image.length));
-    });
-  }
+  load(image) { return this.engine.with_bytes(image, (...bytes) => this.engine.exports.pciguest_raw_load_all(this.handle, ...bytes)); }
 
   // The image of a guest, which a machine of another board can load that has the same functions in the same slots.
   save_guest(name) {
@@ -192,10 +183,7 @@ class Held {
   // Loads such an image into a guest: 0, or the number of why it is refused.
   load_guest(name, image) {
     const { engine, handle } = this, guest = BigInt(this.guest(name));
-    return engine.with_rooms([image.length], room => {
-      engine.bytes(room, image.length).set(image);
-      return engine.exports.pciguest_raw_load(handle, guest, room, BigInt(image.length));
-    });
+    return engine.with_bytes(image, (...bytes) => engine.exports.pciguest_raw_load(handle, guest, ...bytes));
   }
 
   // Where the region that begins at a base address register of a guest's function stands now: { first, size, space, open },

@@ -1,7 +1,7 @@
 // Problems, lacks or the lines of a reply as a list. Each leads to the functions that it names.
 
 import { parent_of } from './report.js';
-import { make, put_text } from './marks.js';
+import { make, make_button, put_text } from './marks.js';
 
 export class Findings {
   // `total` and `list` are elements, and `few` is how many are shown at first; `light` is given paths, and `choose` one.
@@ -18,20 +18,18 @@ export class Findings {
     const { all, few, whole } = this;
     this.list.replaceChildren(...(whole ? all : all.slice(0, few)).map(one => this.item_of(one)));
     if (all.length <= few) return;
-    const item = make('li', ''), more = Object.assign(make('button', 'fold', whole ? 'show fewer' : `${all.length - few} more`), { type: 'button' });
-    more.addEventListener('click', () => { this.whole = !whole; this.redraw(); this.list.lastChild.firstChild.focus({ preventScroll: true }); });
-    item.append(more);
+    const item = make('li', ''), turn = () => { this.whole = !whole; this.redraw(); this.list.lastChild.firstChild.focus({ preventScroll: true }); };
+    item.append(make_button(whole ? 'show fewer' : `${all.length - few} more`, turn, 'fold'));
     this.list.append(item);
   }
 
   // A function that isn't found leads to the bridge above it; what names none leads nowhere.
   item_of({ text, of, number }) {
     if (of.length === 0) return make('li', '', text);
-    const item = make('li', this.came.includes(text) ? 'came' : ''), button = Object.assign(make('button', '', text), { type: 'button' });
+    const item = make('li', this.came.includes(text) ? 'came' : ''), last = of[of.length - 1].path;
+    const button = make_button(text, () => this.choose(number === null ? last : parent_of(last) || last));
     for (const event of ['focus', 'pointerenter']) button.addEventListener(event, () => this.light(...of.map(one => one.path)));
     for (const event of ['blur', 'pointerleave']) button.addEventListener(event, () => this.light());
-    const last = of[of.length - 1].path;
-    button.addEventListener('click', () => this.choose(number === null ? last : parent_of(last) || last));
     item.append(button);
     return item;
   }

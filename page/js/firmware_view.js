@@ -5,7 +5,7 @@ import { texts_by_path } from './audit.js';
 import { texts_of_changes } from './changes.js';
 import { Findings } from './findings_view.js';
 import { hex_line } from './fields.js';
-import { count_in_words } from './report.js';
+import { count_in_words, two_digits } from './report.js';
 import { keeping_latch } from './asked.js';
 import { bytes_of, seen_in } from './registers.js';
 
@@ -95,7 +95,7 @@ export class Firmware {
 
   // The first device that answers on bus 0, of a board without a report.
   first_place() {
-    const places = Array.from({ length: 16 }, (_, device) => `00:${device.toString(16).padStart(2, '0')}.0`);
+    const places = Array.from({ length: 16 }, (_, device) => `00:${two_digits(device)}.0`);
     return places.find(place => this.driven.number(`host cr ${place} 0 4`) !== 0xffffffffn) ?? places[0];
   }
 }

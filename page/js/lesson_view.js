@@ -1,7 +1,7 @@
 // The lessons as a row of numbers, and the task that one is at: its words, and what is done of its goal.
 
 import { count_in_words } from './report.js';
-import { make, put_text, sign } from './marks.js';
+import { make, make_button, put_text, sign } from './marks.js';
 
 const LACKS_SHOWN = 4;
 
@@ -12,13 +12,6 @@ function paragraphs_of(text) {
     paragraph.append(...one.split('`').map((part, nth) => (nth % 2 === 1 ? make('code', '', part) : part)));
     return paragraph;
   });
-}
-
-function task_button(text, words, act) {
-  const button = Object.assign(make('button', '', text), { type: 'button' });
-  if (words) button.setAttribute('aria-label', words);
-  button.addEventListener('click', act);
-  return button;
 }
 
 export class LessonView {
@@ -45,7 +38,7 @@ export class LessonView {
     this.parts.progress.textContent = `${done} of ${this.tasks.length} done${kept}`;
     this.parts.steps.replaceChildren(...this.tasks.map((task, nth) => {
       const item = make('li', ''), is_done = lessons.is_done(task);
-      const button = task_button(`${nth + 1}`, `Lesson ${nth + 1}: ${task.title}${is_done ? ', done' : ''}`, () => this.acts.begin(nth));
+      const button = make_button(`${nth + 1}`, () => this.acts.begin(nth), '', `Lesson ${nth + 1}: ${task.title}${is_done ? ', done' : ''}`);
       button.append(make('span', 'title', ` ${task.title}`), is_done ? ' ✓' : '');
       button.title = task.title;
       if (task === lessons.task) button.setAttribute('aria-current', 'step');
@@ -59,7 +52,7 @@ export class LessonView {
     const { task, part } = lessons, nth = this.tasks.indexOf(task), those = task === null ? [] : lessons.parts_of(task);
     this.parts.parts.hidden = those.length === 0;
     this.parts.parts.replaceChildren(...those.map((one, at) => {
-      const item = make('li', ''), button = task_button(`${one.title}${one.done ? ' ✓' : ''}`, `${one.title}${one.done ? ', done' : ''}`, () => this.acts.begin(nth, at));
+      const item = make('li', ''), button = make_button(`${one.title}${one.done ? ' ✓' : ''}`, () => this.acts.begin(nth, at), '', `${one.title}${one.done ? ', done' : ''}`);
       if (at === part) button.setAttribute('aria-current', 'step');
       item.append(button);
       return item;

@@ -18,6 +18,14 @@ export function make(tag, name, text = '') {
   return element;
 }
 
+// A button; `words` are its name where the text says less.
+export function make_button(text, act, name = '', words = '') {
+  const button = Object.assign(make('button', name, text), { type: 'button' });
+  if (words) button.setAttribute('aria-label', words);
+  button.addEventListener('click', act);
+  return button;
+}
+
 // Another text; where it is the same, the browser need not lay the page out anew.
 export function put_text(element, text) { if (element.textContent !== text) element.textContent = text; }
 

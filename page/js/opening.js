@@ -1,6 +1,7 @@
 // What is shown: what the address asks for, what the browser kept, a board of the page, or a story.
 
 import { kept, kept_in, task_in } from './keep.js';
+import { make_button } from './marks.js';
 
 const wanted = () => new URLSearchParams(location.hash.slice(1));
 
@@ -11,11 +12,7 @@ export class Opening {
     Object.assign(this, { parts, page });
     parts.boards.append(new Option('', ''), ...Object.keys(BOARDS).map(name => new Option(name)));
     parts.boards.addEventListener('change', () => { if (parts.boards.value !== '') page.show(BOARDS[parts.boards.value]); });
-    parts.stories.querySelector('.bar').append(...STORIES.map(story => {
-      const button = Object.assign(document.createElement('button'), { type: 'button', textContent: story.title });
-      button.addEventListener('click', () => this.tell_story(story));
-      return button;
-    }));
+    parts.stories.querySelector('.bar').append(...STORIES.map(story => make_button(story.title, () => this.tell_story(story))));
     addEventListener('hashchange', () => { if (/^#(kept|task|lesson|story|board)=/.test(location.hash)) this.begin(); });
   }
 

@@ -1,7 +1,7 @@
 // Why something finds what it finds: the question that the reader asked last, where he asked it. It is asked again after each line, as
 // registers may have changed, until he closes it or asks another one.
 
-import { make, put_text } from './marks.js';
+import { make, make_button, put_text } from './marks.js';
 import { Findings } from './findings_view.js';
 import { read_why, read_why_of_guest } from './why.js';
 
@@ -14,20 +14,13 @@ export class Question {
   constructor(heard, { driven, held, path_in, light, choose, changed }) {
     Object.assign(this, { heard, driven, held, path_in, changed, ...UNASKED });
     const head = make('div', 'line'), line = make('code', ''), list = make('ul', '');
-    head.append(line, this.button_to_close());
+    head.append(line, make_button('×', () => this.close(), 'fold', 'Close the question'));
     this.about = make('p', 'about');
     this.box = make('div', 'question');
     for (const [name, value] of [['role', 'group'], ['aria-label', 'Why'], ['aria-live', 'off']]) this.box.setAttribute(name, value);
     this.box.addEventListener('keydown', event => { if (event.key === 'Escape') this.close(); });
     this.box.append(head, this.about, list);
     this.findings = new Findings({ total: line, list, few: LINES_SHOWN }, light, choose);
-  }
-
-  button_to_close() {
-    const button = Object.assign(make('button', 'fold', '×'), { type: 'button' });
-    button.setAttribute('aria-label', 'Close the question');
-    button.addEventListener('click', () => this.close());
-    return button;
   }
 
   can_ask() { return this.driven() !== null; }

@@ -1,7 +1,7 @@
 // The lines that ran, to go back and forward through: a slider, buttons and keys, and what each line changed, before and after.
 
 import { count_in_words } from './report.js';
-import { make, put_text } from './marks.js';
+import { make, make_button, put_text } from './marks.js';
 
 const SHOWN = 8;
 const KEYS = { F8: -1, F9: 1 };
@@ -9,9 +9,8 @@ const KEYS = { F8: -1, F9: 1 };
 // One change in words, which leads to its function.
 function item_of({ path, name, before, after }, choose, light) {
   const item = make('li', ''), words = path === null ? name : `${path} ${name}`;
-  const one = path === null ? make('span', '', words) : Object.assign(make('button', 'plain', words), { type: 'button' });
+  const one = path === null ? make('span', '', words) : make_button(words, () => choose(path), 'plain');
   if (path !== null) {
-    one.addEventListener('click', () => choose(path));
     for (const event of ['focus', 'pointerenter']) one.addEventListener(event, () => light(path));
     for (const event of ['blur', 'pointerleave']) one.addEventListener(event, () => light());
   }

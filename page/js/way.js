@@ -1,6 +1,6 @@
 // The way of a configuration number, an address or a port down the tree, bus by bus: which register of whom takes it there, and which drop it.
 
-import { hex, parent_of } from './report.js';
+import { hex, parent_of, two_digits } from './report.js';
 import { number_of, words_in } from './reasons.js';
 import { SPACE_READ } from './why.js';
 
@@ -26,9 +26,9 @@ export function sent_by(line, latch) {
 }
 
 function sent_by_latch(at, latch) {
-  const value = Number(at < LATCH_DATA ? 0n : latch()), two = number => number.toString(16).padStart(2, '0');
+  const value = Number(at < LATCH_DATA ? 0n : latch());
   if (value >>> 31 === 0) return null;
-  const place = `${two(value >> 16 & 0xff)}:${two(value >> 11 & 31)}.${value >> 8 & 7}`;
+  const place = `${two_digits(value >> 16 & 0xff)}:${two_digits(value >> 11 & 31)}.${value >> 8 & 7}`;
   return { space: 'cfg', place, words: `port ${hex(at)}, by the latch configuration ${place}` };
 }
 
@@ -69,7 +69,7 @@ export function way_of(sent, functions) {
     const met_by = one => (sent.space === 'cfg' ? met_by_number(one, sent, number) : one.kind === 'bridge' ? met_by_window(one, sent) : met_by_region(one, sent));
     const met = here.map(one => ({ one, ...met_by(one) }));
     const takers = met.filter(each => each.takes), told = met.filter(each => each.text !== '');
-    const name = bus === null ? 'a bus without a number' : `bus ${bus.toString(16).padStart(2, '0')}`;
+    const name = bus === null ? 'a bus without a number' : `bus ${two_digits(bus)}`;
     stops.push({ name, path: takers[0]?.one.path ?? (parent || null), met: told.map(({ one, takes, text }) => ({ path: one.path, takes, text })) });
     if (takers.length === 0) return { sent, stops, ends: [], told: `Nobody on ${name} takes it: what is read is all ones` };
     if (takers.length > 1 && sent.space !== 'cfg') return { sent, stops, ends: takers.map(each => each.one.path), told: `${takers.length} take it on ${name}: they contend` };

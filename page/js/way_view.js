@@ -1,15 +1,9 @@
 // A cycle on its way: it goes down the tree stop by stop, by itself or by keys, and at each stop it is told who takes it and who drops it.
 
-import { make } from './marks.js';
+import { make, make_button } from './marks.js';
 
 const PAUSE_ON_WAY = 900;
 const GO = 'F4';
-
-function button_on_way(text, title, act) {
-  const button = Object.assign(make('button', '', text), { type: 'button', title });
-  button.addEventListener('click', act);
-  return button;
-}
 
 export class WayView {
   // `way` takes it, `follow` begins it, and along `tree` a mark goes; `still` tells that nothing may move by itself; `find` gives what
@@ -75,8 +69,10 @@ export class WayView {
   draw() {
     const { stops, sent, told } = this.way, list = make('ol', ''), is_end = this.at === stops.length - 1, buttons = make('div', 'bar');
     const had = this.into.contains(document.activeElement) ? document.activeElement.title : '';
-    buttons.append(button_on_way('‹ Stop before', 'The stop before (arrow to the left)', () => this.go(this.at - 1)),
-      button_on_way('Next stop ›', 'The next stop (arrow to the right)', () => this.go(this.at + 1)), button_on_way('Leave its way', 'Escape', () => this.leave()));
+    for (const [text, title, act] of [['‹ Stop before', 'The stop before (arrow to the left)', () => this.go(this.at - 1)],
+      ['Next stop ›', 'The next stop (arrow to the right)', () => this.go(this.at + 1)], ['Leave its way', 'Escape', () => this.leave()]]) {
+      buttons.append(Object.assign(make_button(text, act), { title }));
+    }
     list.append(...stops.slice(0, this.at + 1).map(({ name, met }) => {
       const item = make('li', '', `${name}: `);
       item.append(...met.map(({ path, takes, text }) => make('div', takes ? 'takes' : 'drops', `${path} ${text}`)));
