@@ -68,3 +68,8 @@ PAINTED = """(() => {
   const fills = [...document.querySelectorAll('.fill')].map(one => ratio(light(getComputedStyle(one).fill), light(getComputedStyle(document.body).backgroundColor)));
   return [Math.min(...texts), Math.min(...fills)];
 })()"""
+
+# What guests open, as the page draws it.
+MAPS = "[...document.querySelectorAll('.joined')].map(one => one.getAttribute('aria-label'))"
+# Whether the head of a part is in the window.
+SEEN = "(() => { const b = document.getElementById('%s').getBoundingClientRect(); return b.top >= 0 && b.top < innerHeight - 60; })()"
