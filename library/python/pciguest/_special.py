@@ -174,7 +174,7 @@ def many_functions() -> Document:
 
 def identities() -> Document:
     """Device IDs and class codes at their ends, among them those of bridges of other kinds, which have no bus behind."""
-    odd = [(0xFFFF, 0xFFFFFF), (0, 0), (0xFFFF, 0x068000), (1, 0x060000), (0x8000, 0x060100), (0, 0x060980)]
+    odd = [(0xFFFF, 0xFFFFFF), (0, 0), (0xFFFF, 0x068000), (1, 0x060000), (0x8000, 0x060100), (0, 0x060980), (0x7010, 0x010180)]
     tables = [endpoint(f"{place}.0", "mem32 4096", "io 16", device=device, **{"class": code})
               for place, (device, code) in enumerate(odd, 1)]
     return board(*tables, {**bridge("8.0"), "device": 0xFFFF}, endpoint("8.0/0.0", "mem32 16", device=0))
