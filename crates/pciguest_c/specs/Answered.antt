@@ -1,10 +1,8 @@
--- What a call answers that names a guest: 901 where the handle holds no machine, and 902 where the machine has no such
--- guest, or where the place that is named is none.
+-- What a call answers that names a guest: 901 where the handle holds no machine, and 902 where the machine has no such guest.
 --     AnswersOf h guest n P      P of the machine, where it has the guest
---     AnswersAt h guest place n P      P of the machine and the place, where it has the guest and the place is one
 --     TellsOf o guest text n before after old new      a buffer before and after a text of the guest goes to its front, and how
 --         long that is told to be: 902 also where the buffer has less room
-use Rattle.std.specs.Prelude.{◌≡◌, ◌≢◌, ◌<◌, ◌≤◌, ℕ, Option, None, Some, IfNone, IfSome, length}
+use Rattle.std.specs.Prelude.{◌≡◌, ◌≢◌, ◌<◌, ◌≤◌, ℕ, Option, IfNone, IfSome, length}
 use Rattle.model_guests.specs.Text.{Text}
 use Rattle.model_guests.specs.WorldNow.{WorldNow}
 use Rattle.model_handoff.specs.Changes.{MachineNow}
@@ -16,14 +14,6 @@ pub record AnswersOf (h : Handle) (guest n : ℕ) (P : MachineNow → Type 0) : 
   pub nothing : IfNone (machine_of h) (n ≡ 901)
   pub nobody : IfSome (machine_of h) (λ m. length m.world.guests ≤ guest → n ≡ 902)
   pub asked : IfSome (machine_of h) (λ m. guest < length m.world.guests → P m)
-
-pub record AnswersAt {T : Type 0} (h : Handle) (guest : ℕ) (place : Option T) (n : ℕ)
-    (P : MachineNow → T → Type 0) : Type 0 where
-  pub nothing : IfNone (machine_of h) (n ≡ 901)
-  pub nobody : IfSome (machine_of h) (λ m. length m.world.guests ≤ guest → n ≡ 902)
-  pub nowhere : IfSome (machine_of h) (λ m. place ≡ None → n ≡ 902)
-  pub asked :
-      IfSome (machine_of h) (λ m. guest < length m.world.guests → (t : T) → place ≡ Some t → P m t)
 
 pub record TellsOf (o : Option MachineNow) (guest : ℕ) (text : WorldNow → ℕ → Text) (n : ℕ)
     (before after : Text) (old new : ℕ) : Type 0 where

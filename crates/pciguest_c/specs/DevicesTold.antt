@@ -6,7 +6,6 @@
 --     width_fault off n      what is no width, or ends past what 64 bits number
 --     wide_read w guest d n      what is read of n bytes, or the number of the first of these refusals
 --     after_wide m guest d n v      the machine after a number was written there, if they can be read
---     number_left old r      what a call leaves where a number goes: what was read, or what stood there
 use Rattle.std.specs.Prelude.{ℕ, zero, suc, ◌+◌, ◌*◌, ◌/◌, ◌%◌, ◌^◌, ◌==◌, ◌||◌, nat_lt, nat_le, List, [], ◌∷◌}
 use Rattle.std.specs.Prelude.{if◌then◌else◌, is_ok, Option, None, Some, Result, Ok, Err}
 use Rattle.std.specs.Option.{option_map_or}
@@ -72,7 +71,3 @@ wide_read w guest d n = option_map_or Err (width_fault d.offset n) (bytes_read w
 abbrev pub after_wide : MachineNow → ℕ → DeviceByte → ℕ → ℕ → MachineNow
 after_wide m guest d n v =
     if is_ok (wide_read m.world guest d n) then after_bytes m guest (bytes_from d n) v else m
-
-abbrev pub number_left : ℕ → Result ℕ ℕ → ℕ
-number_left old (Ok n) = n
-number_left old (Err n) = old

@@ -1,8 +1,6 @@
 -- What C is told of a function of a board that firmware drives: PCI Local Bus 3.0, chapter 6; PCI-to-PCI Bridge
 -- Architecture 1.2, chapter 3.
 --     driven_row f      all that is told of it
---     driven_left old f      what a call leaves where it goes: the function, or what stood there
-use Rattle.std.specs.Prelude.{Option, Some, None}
 use Rattle.model_handoff.specs.DrivenFunctions.{DrivenFunctionNow}
 use Rattle.pciguest_c.specs.QueriesTold.{one_if}
 use Rattle.pciguest_c.specs.FunctionsTold.{function_row}
@@ -15,7 +13,3 @@ driven_row f = record {
   opens_io = one_if f.opens_io;
   opens_memory = one_if f.opens_memory;
 }
-
-abbrev pub driven_left : DrivenRow → Option DrivenFunctionNow → DrivenRow
-driven_left old None = old
-driven_left old (Some f) = driven_row f

@@ -4,11 +4,9 @@
 --     window_row w, window_rows r      a window, and a bridge's windows for ports, memory and prefetchable memory
 --     text_room, text_row t      a text at the front of the bytes that are there for it, the others 0
 --     function_row f      all that is told of a function
---     function_number f      0 where there is a function, or 902
 --     slot_asked w guest slot      the function in a slot of a guest by its index, or why there is none
---     found_left old f, row_left old r      what a call leaves where an answer goes: the answer, or what stood there
 use Rattle.std.specs.Prelude.{◌==◌, ◌-◌, ◌++◌, ℕ, List, [], ◌∷◌, map, length, replicate, find, is_some}
-use Rattle.std.specs.Prelude.{Option, Some, None, Result, Ok, Err}
+use Rattle.std.specs.Prelude.{Option, Some, None, Result}
 use Rattle.std.specs.Option.{option_map_or}
 use Rattle.model_registers.specs.Declarations.{registers_of}
 use Rattle.model_registers.specs.Decoding.{space_of}
@@ -86,17 +84,5 @@ function_row f = record {
   slot = option_map_or (λ (s : Seat). s.slot) f.seat 0;
 }
 
-abbrev pub function_number : {A : Type 0} → Option A → ℕ
-function_number None = 902
-function_number (Some f) = 0
-
 abbrev pub slot_asked : WorldNow → ℕ → ℕ → Result FunctionNow ℕ
 slot_asked w guest slot = slot_answer (board_state w) w.guests (name_nth w guest) slot
-
-abbrev pub found_left : FunctionRow → Option FunctionNow → FunctionRow
-found_left old None = old
-found_left old (Some f) = function_row f
-
-abbrev pub row_left : FunctionRow → Result FunctionNow ℕ → FunctionRow
-row_left old (Ok f) = function_row f
-row_left old (Err n) = old

@@ -14,3 +14,4 @@ pub mod TextsTold
 pub mod Answered
 pub mod Handovers
 pub mod ImagesTold
+pub mod Calls

@@ -1,10 +1,9 @@
 -- What C is told of a guest's regions, and of what its accesses hit.
---     number_answered r      0, or the number of a refusal
 --     region_asked, hit_asked      the answers for a guest by its index
 --     space_number      1 ports, 2 memory
 --     part_number      the part of a function in which a byte stands: a region by its register, or 6
---     region_left old r, hit_left old r      what a call leaves where an answer goes: the answer, or what stood there
-use Rattle.std.specs.Prelude.{ℕ, Bool, if◌then◌else◌, Option, Some, None, Result, Ok, Err}
+--     region_told, hit_told      the answers for C
+use Rattle.std.specs.Prelude.{ℕ, Bool, if◌then◌else◌, Option, Some, None, Result}
 use Rattle.model_registers.specs.Registers.{Place, config, block, offset_of}
 use Rattle.model_registers.specs.Decoding.{Space, io, memory}
 use Rattle.model_guests.specs.Accesses.{Target}
@@ -17,10 +16,6 @@ use Rattle.model_handoff.specs.Located.{location}
 use Rattle.monitor.specs.ByIndex.{name_nth}
 use Rattle.pciguest_c.specs.declared.querying.RegionTold.{RegionTold}
 use Rattle.pciguest_c.specs.declared.querying.HitTold.{HitTold}
-
-abbrev pub number_answered : {A : Type 0} → Result A ℕ → ℕ
-number_answered (Ok x) = 0
-number_answered (Err n) = n
 
 abbrev pub region_asked : WorldNow → ℕ → ℕ → ℕ → Result model.RegionNow ℕ
 region_asked w guest slot register = region_answer (lone_of w.guests (name_nth w guest)) slot register
@@ -48,14 +43,6 @@ region_told r = record {
   is_open = one_if r.is_open;
 }
 
-abbrev pub region_left : RegionTold → Result model.RegionNow ℕ → RegionTold
-region_left old (Ok r) = region_told r
-region_left old (Err n) = old
-
 abbrev pub hit_told : Option Landing → HitTold
 hit_told None = record { slot = 0; offset = 0; part = 0; found = 0 }
 hit_told (Some l) = record { slot = l.slot; offset = offset_of l.place; part = part_number l.place; found = 1 }
-
-abbrev pub hit_left : HitTold → Result (Option Landing) ℕ → HitTold
-hit_left old (Ok l) = hit_told l
-hit_left old (Err n) = old

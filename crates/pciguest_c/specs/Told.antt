@@ -1,7 +1,6 @@
 -- What C is told, in the words of guests' definitions.
 --     number_told      the number of a reply: 0, or that of its refusal
 --     index_asked w name      the index of the first guest of a name
---     index_told i      0 where a guest of a name is there, or 902
 --     value_told old r      what a call leaves where a value goes: what was read, or what stood there
 --     target_told space slot n      where an access goes: 0 configuration space, 1 ports, 2 memory
 --     at_bus      the function of a physical number
@@ -31,10 +30,6 @@ number_told (refused n) = n
 
 abbrev pub index_asked : WorldNow → Text → Option ℕ
 index_asked w name = position (λ n. bytes_eq n name) (names_now w)
-
-abbrev pub index_told : Option ℕ → ℕ
-index_told None = 902
-index_told (Some i) = 0
 
 abbrev pub value_told : ℕ → Reply → ℕ
 value_told old (answered v w) = v

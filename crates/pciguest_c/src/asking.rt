@@ -2,6 +2,7 @@
 ghost use Rattle.std.specs.Prelude.{◌≡◌, ◌<◌, ◌≤◌, Some, None, IfOk, IfErr, length, option_map, position};
 ghost use Rattle.std.specs.Str.{bytes_eq};
 ghost use Rattle.accesses.specs.Accesses.{target_of, part_of};
+ghost use Rattle.pciguest_c.specs.Calls.{where_guest};
 ghost use Rattle.pciguest_c.specs.Told.{index_asked, target_told, part_told};
 
 use crate::numbers::ARGUMENT;
@@ -50,16 +51,39 @@ pub fn check_guest(machine: &Monitor, guest: usize) -> Result<(), u32>
     }
 }
 
-/// This place, or 902 where it is none, or where no guest has this index.
-pub fn place_for<T: Copy>(machine: &Monitor, guest: usize, place: Option<T>) -> Result<T, u32>
-    ensures there { IfOk result (λ p.
-        (guest < length machine.now.world.guests) × (place ≡ Some p)) }
+/// Where an access of a guest goes, or 902 where there is no such guest or space.
+pub fn target_for(
+    machine: &Monitor,
+    guest: usize,
+    space: u32,
+    slot: u64,
+    place: u64,
+) -> Result<At, u32>
+    ensures there { IfOk result (λ _. guest < length machine.now.world.guests) }
+    ensures told { IfOk result (λ at.
+        where_guest machine.now guest (target_told space slot place) ≡ Some (target_of at)) }
     ensures none { IfErr result (λ n. n ≡ 902) }
     ensures nowhere { IfErr result (λ _.
-        guest < length machine.now.world.guests → place ≡ None) }
+        where_guest machine.now guest (target_told space slot place) ≡ None) }
 {
     check_guest(machine, guest)?;
-    match place {
+    match at_of(space, slot, place) {
+        Some(at) => Ok(at),
+        None => Err(ARGUMENT),
+    }
+}
+
+/// Where a raise at a guest or an access of its device goes, or 902 where there is no such guest or part.
+pub fn part_for(machine: &Monitor, guest: usize, part: u32) -> Result<Place, u32>
+    ensures there { IfOk result (λ _. guest < length machine.now.world.guests) }
+    ensures told { IfOk result (λ p.
+        where_guest machine.now guest (part_told part) ≡ Some (part_of p)) }
+    ensures none { IfErr result (λ n. n ≡ 902) }
+    ensures nowhere { IfErr result (λ _.
+        where_guest machine.now guest (part_told part) ≡ None) }
+{
+    check_guest(machine, guest)?;
+    match place_of(part) {
         Some(place) => Ok(place),
         None => Err(ARGUMENT),
     }

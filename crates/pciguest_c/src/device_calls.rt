@@ -1,12 +1,7 @@
 //! What a device itself reads and writes of a guest's function.
-ghost use Rattle.std.specs.Prelude.{◌≡◌, ◌≢◌, Some};
-ghost use Rattle.model_guests.specs.DeviceEvents.{device_reads, device_writes};
-ghost use Rattle.pciguest_c.specs.Handles.{session_of, machine_of};
-ghost use Rattle.pciguest_c.specs.Answered.{AnswersAt};
-ghost use Rattle.pciguest_c.specs.Told.{number_told, part_told, value_told};
-ghost use Rattle.pciguest_c.specs.DevicesTold.{reply_at_device, after_at_device};
+ghost use Rattle.pciguest_c.specs.Calls.{Answers, device_read, device_write, nothing, number};
 
-use crate::asking::{place_for, place_of};
+use crate::asking::part_for;
 use crate::handle::Handle;
 use crate::numbers::{number_of, put_value};
 use std::alloc::Global;
@@ -23,15 +18,11 @@ pub extern "C" fn pciguest_raw_device_read(
     offset: u64,
     value: &mut u32,
 ) -> u32
-    ensures read { AnswersAt handle.old guest (part_told part) result (λ m p.
-        let e = device_reads (record { slot = slot; part = p; offset = offset }) in
-        let r = reply_at_device m.world guest e in
-        (result ≡ number_told r) × (value.new ≡ value_told value.old r)) }
-    ensures unread { result ≢ 0 → value.new ≡ value.old }
-    ensures kept { session_of handle.new ≡ session_of handle.old }
+    ensures { Answers (device_read guest slot part offset) handle.old handle.new result
+        (number value.old) (number value.new) }
 {
     let answer = handle.ask_machine(alloc, |machine| {
-        let place = place_for(machine, guest, place_of(part))?;
+        let place = part_for(machine, guest, part)?;
         Ok(machine.device_read(guest, slot, place, offset))
     });
     put_value(answer, value)
@@ -48,14 +39,11 @@ pub extern "C" fn pciguest_raw_device_write(
     offset: u64,
     value: u8,
 ) -> u32
-    ensures written { AnswersAt handle.old guest (part_told part) result (λ m p.
-        let e = device_writes (record { slot = slot; part = p; offset = offset }) value in
-        (result ≡ number_told (reply_at_device m.world guest e))
-        × (machine_of handle.new ≡ Some (after_at_device m guest e))) }
-    ensures refused { result ≢ 0 → session_of handle.new ≡ session_of handle.old }
+    ensures { Answers (device_write guest slot part offset value) handle.old handle.new result
+        nothing nothing }
 {
     number_of(handle.ask_machine(alloc, |machine| {
-        let place = place_for(machine, guest, place_of(part))?;
+        let place = part_for(machine, guest, part)?;
         Ok(machine.device_write(guest, slot, place, offset, value))
     }))
 }

@@ -1,10 +1,8 @@
 //! What is asked of the functions of a board that firmware drives: how many there are, and what is told of each.
-ghost use Rattle.std.specs.Prelude.{◌≡◌, ◌≢◌, IfNone, IfSome, length};
-ghost use Rattle.model_handoff.specs.DrivenFunctions.{driven_function_nth};
+ghost use Rattle.std.specs.Prelude.{◌≡◌};
 ghost use Rattle.session.specs.DrivenFunctions.{driven_function_named};
-ghost use Rattle.pciguest_c.specs.Handles.{session_of, board_of};
-ghost use Rattle.pciguest_c.specs.FunctionsTold.{function_number};
-ghost use Rattle.pciguest_c.specs.DrivenTold.{driven_row, driven_left};
+ghost use Rattle.pciguest_c.specs.DrivenTold.{driven_row};
+ghost use Rattle.pciguest_c.specs.Calls.{AnswersBoard, board_count, board_function, number, a_driven};
 
 use crate::function_row::{FunctionRow, function_row};
 use crate::handle::Handle;
@@ -41,12 +39,8 @@ pub extern "C" fn pciguest_raw_board_count(
     handle: &mut Handle,
     count: &mut usize,
 ) -> u32
-    ensures none { IfNone (board_of handle.old) (result ≡ 901) }
-    ensures answered { IfSome (board_of handle.old) (λ _. result ≡ 0) }
-    ensures counted { IfSome (board_of handle.old) (λ b.
-        count.new ≡ length b.state.functions) }
-    ensures untold { result ≢ 0 → count.new ≡ count.old }
-    ensures kept { session_of handle.new ≡ session_of handle.old }
+    ensures { AnswersBoard board_count handle.old handle.new result
+        (number count.old) (number count.new) }
 {
     put_result(handle.ask_board(alloc, |board| Ok(board.count())), count)
 }
@@ -59,12 +53,8 @@ pub extern "C" fn pciguest_raw_board_function(
     index: usize,
     told: &mut DrivenRow,
 ) -> u32
-    ensures none { IfNone (board_of handle.old) (result ≡ 901) }
-    ensures told { IfSome (board_of handle.old) (λ b.
-        let f = driven_function_nth b.state index in
-        (result ≡ function_number f) × (told.new ≡ driven_left told.old f)) }
-    ensures untold { result ≢ 0 → told.new ≡ told.old }
-    ensures kept { session_of handle.new ≡ session_of handle.old }
+    ensures { AnswersBoard (board_function index) handle.old handle.new result
+        (a_driven told.old) (a_driven told.new) }
 {
     let answer = handle.ask_board(alloc, |board| match board.function(index) {
         Some(function) => Ok(driven_row(&function)),

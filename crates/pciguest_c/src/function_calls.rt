@@ -1,67 +1,35 @@
 //! What is asked of the functions of the board: how many there are, and what is told of each.
-ghost use Rattle.std.specs.Prelude.{◌≡◌, ◌≢◌, ◌<◌, ◌≤◌, IfNone, IfSome, length};
-ghost use Rattle.model_guests.specs.WorldNow.{board_state};
-ghost use Rattle.model_handoff.specs.Functions.{function_nth};
-ghost use Rattle.session.specs.Stages.{machine_in};
-ghost use Rattle.pciguest_c.specs.Handles.{session_of, machine_of};
-ghost use Rattle.pciguest_c.specs.Answered.{AnswersOf};
-ghost use Rattle.pciguest_c.specs.QueriesTold.{number_answered};
-ghost use Rattle.pciguest_c.specs.FunctionsTold.{function_number, found_left, slot_asked, row_left};
+ghost use Rattle.std.specs.Prelude.{◌≡◌, IfErr, IfOk};
+ghost use Rattle.model_lines.specs.Sessions.{given};
+ghost use Rattle.pciguest_c.specs.Calls.{Answers, function_count, function_at, function_in, number, a_function};
+ghost use Rattle.pciguest_c.specs.Calls.{telling_slot, tells, refusal};
 
 use crate::asking::check_guest;
 use crate::function_row::{FunctionRow, function_row};
 use crate::handle::Handle;
-use crate::numbers::{ARGUMENT, NO_MACHINE, put_result};
+use crate::numbers::{ARGUMENT, put_result};
 use monitor::Monitor;
-use session::Session;
 use std::alloc::Global;
 
-/// Tells of the function in a slot of a guest.
-fn slot_function(machine: &Monitor, guest: usize, slot: u64, told: &mut FunctionRow) -> u32
-    ensures guest { length machine.now.world.guests ≤ guest → result ≡ 902 }
-    ensures told { guest < length machine.now.world.guests →
-        let r = slot_asked machine.now.world guest slot in
-        (result ≡ number_answered r) × (told.new ≡ row_left told.old r) }
-    ensures untold { result ≢ 0 → told.new ≡ told.old }
+/// What is told of the function in a slot of a guest, or the number of why there is none.
+#[tactic(auto, unfolding(crate::specs::Calls::telling_slot))]
+fn slot_function(machine: &Monitor, guest: usize, slot: u64) -> Result<FunctionRow, u32>
+    ensures told { IfOk result (λ f.
+        telling_slot machine.now guest slot ≡ tells (a_function f) (given machine.now)) }
+    ensures refused { IfErr result (λ n. telling_slot machine.now guest slot ≡ refusal n) }
 {
-    if let Err(number) = check_guest(machine, guest) {
-        return number;
-    }
+    check_guest(machine, guest)?;
     match machine.slot_function(guest, slot) {
-        Ok(function) => {
-            *told = function_row(&function);
-            0
-        }
-        Err(number) => u32::from(number),
-    }
-}
-
-/// The same of a session, or 901 where no guests have its board.
-fn slot_in(session: &mut Session, guest: usize, slot: u64, told: &mut FunctionRow) -> u32
-    ensures none { IfNone (machine_in session.old) (result ≡ 901) }
-    ensures guest { IfSome (machine_in session.old) (λ m.
-        length m.world.guests ≤ guest → result ≡ 902) }
-    ensures told { IfSome (machine_in session.old) (λ m. guest < length m.world.guests →
-        let r = slot_asked m.world guest slot in
-        (result ≡ number_answered r) × (told.new ≡ row_left told.old r)) }
-    ensures untold { result ≢ 0 → told.new ≡ told.old }
-    ensures kept { session.new ≡ session.old }
-{
-    match session.monitor() {
-        Some(machine) => slot_function(machine, guest, slot, told),
-        None => NO_MACHINE,
+        Ok(function) => Ok(function_row(&function)),
+        Err(number) => Err(u32::from(number)),
     }
 }
 
 /// How many functions the board has.
 #[unsafe(no_mangle)]
 pub extern "C" fn pciguest_raw_count(alloc: Global, handle: &mut Handle, count: &mut usize) -> u32
-    ensures none { IfNone (machine_of handle.old) (result ≡ 901) }
-    ensures answered { IfSome (machine_of handle.old) (λ _. result ≡ 0) }
-    ensures counted { IfSome (machine_of handle.old) (λ m.
-        count.new ≡ length (board_state m.world).functions) }
-    ensures untold { result ≢ 0 → count.new ≡ count.old }
-    ensures kept { session_of handle.new ≡ session_of handle.old }
+    ensures { Answers function_count handle.old handle.new result
+        (number count.old) (number count.new) }
 {
     put_result(
         handle.ask_machine(alloc, |machine| Ok(machine.count())),
@@ -77,12 +45,8 @@ pub extern "C" fn pciguest_raw_function(
     index: usize,
     told: &mut FunctionRow,
 ) -> u32
-    ensures none { IfNone (machine_of handle.old) (result ≡ 901) }
-    ensures told { IfSome (machine_of handle.old) (λ m.
-        let f = function_nth (board_state m.world) m.world.guests index in
-        (result ≡ function_number f) × (told.new ≡ found_left told.old f)) }
-    ensures untold { result ≢ 0 → told.new ≡ told.old }
-    ensures kept { session_of handle.new ≡ session_of handle.old }
+    ensures { Answers (function_at index) handle.old handle.new result
+        (a_function told.old) (a_function told.new) }
 {
     let answer = handle.ask_machine(alloc, |machine| match machine.function(index) {
         Some(function) => Ok(function_row(&function)),
@@ -100,16 +64,9 @@ pub extern "C" fn pciguest_raw_slot(
     slot: u64,
     told: &mut FunctionRow,
 ) -> u32
-    ensures told { AnswersOf handle.old guest result (λ m.
-        let r = slot_asked m.world guest slot in
-        (result ≡ number_answered r) × (told.new ≡ row_left told.old r)) }
-    ensures untold { result ≢ 0 → told.new ≡ told.old }
-    ensures kept { session_of handle.new ≡ session_of handle.old }
+    ensures { Answers (function_in guest slot) handle.old handle.new result
+        (a_function told.old) (a_function told.new) }
 {
-    let Some(mut session) = handle.take(alloc) else {
-        return NO_MACHINE;
-    };
-    let number = slot_in(&mut session, guest, slot, told);
-    *handle = Handle::of(session);
-    number
+    let answer = handle.ask_machine(alloc, |machine| slot_function(machine, guest, slot));
+    put_result(answer, told)
 }

@@ -1,13 +1,11 @@
 //! What C asks as a guest. Each call answers 0, or the number of a refusal.
-ghost use Rattle.std.specs.Prelude.{◌≡◌, ◌≢◌, ◌<◌, ◌≤◌, None, Some, IfNone, IfSome, length, unwrap_or};
-ghost use Rattle.model_guests.specs.Accesses.{Target, access, raises, reads, writes};
+ghost use Rattle.std.specs.Prelude.{◌≡◌, ◌<◌, length};
+ghost use Rattle.model_guests.specs.Accesses.{access, reads};
 ghost use Rattle.accesses.specs.Accesses.{reply_of, target_of};
-ghost use Rattle.pciguest_c.specs.Handles.{session_of, machine_of};
-ghost use Rattle.pciguest_c.specs.Answered.{AnswersAt};
-ghost use Rattle.pciguest_c.specs.Told.{index_asked, index_told, number_told, value_told, target_told, part_told};
-ghost use Rattle.pciguest_c.specs.Told.{reply_asked, after_asked};
+ghost use Rattle.pciguest_c.specs.Told.{reply_asked};
+ghost use Rattle.pciguest_c.specs.Calls.{Answers, read, write, raise, guest_named, nothing, number};
 
-use crate::asking::{at_of, check_guest, index_named, place_for, place_of};
+use crate::asking::{index_named, part_for, target_for};
 use crate::handle::Handle;
 use crate::numbers::{ARGUMENT, number_of, put_result, put_value};
 use accesses::{Access, At, Op, Reply};
@@ -15,7 +13,7 @@ use monitor::Monitor;
 use std::alloc::Global;
 
 /// Reads as a guest: nothing changes.
-fn read(machine: &mut Monitor, guest: usize, at: At, width: u64) -> Reply
+fn read_at(machine: &mut Monitor, guest: usize, at: At, width: u64) -> Reply
     requires { guest < length machine.old.world.guests }
     ensures reply { let e = access (record { target = target_of at; width = width; op = reads }) in
         reply_of result ≡ reply_asked machine.old.world guest e }
@@ -37,25 +35,12 @@ pub extern "C" fn pciguest_raw_read(
     width: u32,
     value: &mut u32,
 ) -> u32
-    ensures none { IfNone (machine_of handle.old) (result ≡ 901) }
-    ensures space { IfSome (machine_of handle.old) (λ _.
-        target_told space slot place ≡ None → result ≡ 902) }
-    ensures guest { IfSome (machine_of handle.old) (λ m.
-        length m.world.guests ≤ guest → result ≡ 902) }
-    ensures read { IfSome (machine_of handle.old) (λ m. guest < length m.world.guests →
-        (t : Target) → target_told space slot place ≡ Some t →
-        let e = access (record { target = t; width = width; op = reads }) in
-        let r = reply_asked m.world guest e in
-        (result ≡ number_told r) × (value.new ≡ value_told value.old r)) }
-    ensures unread { result ≢ 0 → value.new ≡ value.old }
-    ensures kept { session_of handle.new ≡ session_of handle.old }
+    ensures { Answers (read guest space slot place width) handle.old handle.new result
+        (number value.old) (number value.new) }
 {
     let answer = handle.ask_machine(alloc, |machine| {
-        let Some(at) = at_of(space, slot, place) else {
-            return Err(ARGUMENT);
-        };
-        check_guest(machine, guest)?;
-        Ok(read(machine, guest, at, u64::from(width)))
+        let at = target_for(machine, guest, space, slot, place)?;
+        Ok(read_at(machine, guest, at, u64::from(width)))
     });
     put_value(answer, value)
 }
@@ -72,23 +57,11 @@ pub extern "C" fn pciguest_raw_write(
     width: u32,
     value: u32,
 ) -> u32
-    ensures none { IfNone (machine_of handle.old) (result ≡ 901) }
-    ensures space { IfSome (machine_of handle.old) (λ _.
-        target_told space slot place ≡ None → result ≡ 902) }
-    ensures guest { IfSome (machine_of handle.old) (λ m.
-        length m.world.guests ≤ guest → result ≡ 902) }
-    ensures written { IfSome (machine_of handle.old) (λ m. guest < length m.world.guests →
-        (t : Target) → target_told space slot place ≡ Some t →
-        let e = access (record { target = t; width = width; op = writes value }) in
-        (result ≡ number_told (reply_asked m.world guest e))
-        × (machine_of handle.new ≡ Some (after_asked m guest e))) }
-    ensures refused { result ≢ 0 → session_of handle.new ≡ session_of handle.old }
+    ensures { Answers (write guest space slot place width value) handle.old handle.new result
+        nothing nothing }
 {
     number_of(handle.ask_machine(alloc, |machine| {
-        let Some(at) = at_of(space, slot, place) else {
-            return Err(ARGUMENT);
-        };
-        check_guest(machine, guest)?;
+        let at = target_for(machine, guest, space, slot, place)?;
         let width = u64::from(width);
         let op = Op::Write(value);
         Ok(machine.step(guest, Access { at, width, op }))
@@ -107,14 +80,11 @@ pub extern "C" fn pciguest_raw_raise(
     offset: u64,
     mask: u8,
 ) -> u32
-    ensures raised { AnswersAt handle.old guest (part_told part) result (λ m p.
-        let e = raises (record { slot = slot; part = p; offset = offset; mask = mask }) in
-        (result ≡ number_told (reply_asked m.world guest e))
-        × (machine_of handle.new ≡ Some (after_asked m guest e))) }
-    ensures refused { result ≢ 0 → session_of handle.new ≡ session_of handle.old }
+    ensures { Answers (raise guest slot part offset mask) handle.old handle.new result
+        nothing nothing }
 {
     number_of(handle.ask_machine(alloc, |machine| {
-        let place = place_for(machine, guest, place_of(part))?;
+        let place = part_for(machine, guest, part)?;
         Ok(machine.raise(guest, slot, place, offset, mask))
     }))
 }
@@ -127,11 +97,8 @@ pub extern "C" fn pciguest_raw_guest(
     name: &[u8],
     guest: &mut usize,
 ) -> u32
-    ensures none { IfNone (machine_of handle.old) (result ≡ 901) }
-    ensures named { IfSome (machine_of handle.old) (λ m. let i = index_asked m.world name.now in
-        (result ≡ index_told i) × (guest.new ≡ unwrap_or i guest.old)) }
-    ensures untold { result ≢ 0 → guest.new ≡ guest.old }
-    ensures kept { session_of handle.new ≡ session_of handle.old }
+    ensures { Answers (guest_named name.now) handle.old handle.new result
+        (number guest.old) (number guest.new) }
 {
     let answer = handle.ask_machine(alloc, |machine| match index_named(machine, name) {
         Some(index) => Ok(index),

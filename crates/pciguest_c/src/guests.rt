@@ -1,8 +1,9 @@
 //! Which guests a machine has: how many, and the name of each.
-ghost use Rattle.std.specs.Prelude.{◌≡◌, ◌≢◌, ◌<◌, ◌≤◌, IfErr, IfNone, IfOk, IfSome, length};
+ghost use Rattle.std.specs.Prelude.{◌≡◌, ◌<◌, ◌≤◌, IfErr, IfOk, IfSome, length};
 ghost use Rattle.monitor.specs.ByIndex.{name_nth};
 ghost use Rattle.pciguest_c.specs.Handles.{session_of, machine_of};
 ghost use Rattle.pciguest_c.specs.Answered.{TellsOf};
+ghost use Rattle.pciguest_c.specs.Calls.{Answers, guest_count, number};
 ghost use Rattle.pciguest_c.specs.TextsTold.{IsTold};
 
 use crate::asking::guest_count;
@@ -53,12 +54,8 @@ pub extern "C" fn pciguest_raw_guest_count(
     handle: &mut Handle,
     count: &mut usize,
 ) -> u32
-    ensures none { IfNone (machine_of handle.old) (result ≡ 901) }
-    ensures answered { IfSome (machine_of handle.old) (λ _. result ≡ 0) }
-    ensures counted { IfSome (machine_of handle.old) (λ m.
-        count.new ≡ length m.world.guests) }
-    ensures untold { result ≢ 0 → count.new ≡ count.old }
-    ensures kept { session_of handle.new ≡ session_of handle.old }
+    ensures { Answers guest_count handle.old handle.new result
+        (number count.old) (number count.new) }
 {
     put_result(
         handle.ask_machine(alloc, |machine| Ok(guest_count(machine))),

@@ -1,23 +1,16 @@
 //! What C asks as the host. Each call answers 0, or the number of a refusal.
-ghost use Rattle.std.specs.Prelude.{◌≡◌, ◌≢◌, ◌<◌, ◌≤◌, None, Some, IfNone, IfSome, length, option_map};
-ghost use Rattle.model_guests.specs.Grammar.{HostTarget};
-ghost use Rattle.model_guests.specs.Lines.{host_move};
-ghost use Rattle.model_guests.specs.WorldNow.{move_reply, host_reply};
-ghost use Rattle.model_guests.specs.Calls.{asks};
-ghost use Rattle.model_handoff.specs.Actions.{calls};
-ghost use Rattle.model_handoff.specs.Changes.{after_on_machine};
-ghost use Rattle.accesses.specs.Accesses.{host_target_of};
-ghost use Rattle.monitor.specs.Moves.{move_nth};
-ghost use Rattle.session.specs.Stages.{machine_in};
-ghost use Rattle.pciguest_c.specs.Handles.{session_of, machine_of};
-ghost use Rattle.pciguest_c.specs.Told.{at_bus, number_told, value_told, host_target_told};
+ghost use Rattle.std.specs.Prelude.{◌≡◌, ◌<◌, None, Some, true, false, IfErr, IfOk, length, option_map};
+ghost use Rattle.model_lines.specs.Sessions.{given};
+ghost use Rattle.accesses.specs.Accesses.{host_target_of, reply_of};
+ghost use Rattle.pciguest_c.specs.Told.{at_bus, host_target_told};
+ghost use Rattle.pciguest_c.specs.Calls.{Answers, host_read, move, are_guests};
+ghost use Rattle.pciguest_c.specs.Calls.{host_reading, reading, refusal, nothing, number};
 
 use crate::asking::check_guest;
 use crate::handle::Handle;
-use crate::numbers::{ARGUMENT, NO_MACHINE, number_of, put_value};
-use accesses::{Bdf, HostAccess, HostAt};
+use crate::numbers::{ARGUMENT, number_of, put_value};
+use accesses::{Bdf, HostAccess, HostAt, Reply};
 use monitor::Monitor;
-use session::Session;
 use std::alloc::Global;
 
 /// Where an access of the host goes, if there is such a space and such a physical number.
@@ -43,8 +36,29 @@ pub fn host_at(space: u32, bus: u8, device: u8, function: u8, place: u64) -> Opt
     }
 }
 
-/// Reads as the host.
-fn host_read(
+/// The same, or 902 where there is none.
+pub fn host_target_for(
+    space: u32,
+    bus: u8,
+    device: u8,
+    function: u8,
+    place: u64,
+) -> Result<HostAt, u32>
+    ensures told { IfOk result (λ at.
+        host_target_told space (at_bus bus device function) place ≡ Some (host_target_of at)) }
+    ensures none { IfErr result (λ n. n ≡ 902) }
+    ensures nowhere { IfErr result (λ _.
+        host_target_told space (at_bus bus device function) place ≡ None) }
+{
+    match host_at(space, bus, device, function, place) {
+        Some(at) => Ok(at),
+        None => Err(ARGUMENT),
+    }
+}
+
+/// Reads as the host, or 902 where there is no such place.
+#[tactic(auto, unfolding(crate::specs::Calls::host_reading))]
+fn host_asked(
     machine: &mut Monitor,
     space: u32,
     bus: u8,
@@ -52,49 +66,28 @@ fn host_read(
     function: u8,
     place: u64,
     width: u64,
-    value: &mut u32,
-) -> u32
-    ensures place { host_target_told space (at_bus bus device function) place ≡ None →
-        result ≡ 902 }
-    ensures read { (t : HostTarget) →
-        host_target_told space (at_bus bus device function) place ≡ Some t →
-        let r = host_reply machine.old.world (record { target = t; width = width }) in
-        (result ≡ number_told r) × (value.new ≡ value_told value.old r) }
-    ensures unread { result ≢ 0 → value.new ≡ value.old }
+) -> Result<Reply, u32>
+    ensures read { IfOk result (λ r. host_reading machine.old
+        (host_target_told space (at_bus bus device function) place) width
+        ≡ reading (reply_of r) (given machine.old)) }
+    ensures refused { IfErr result (λ n. host_reading machine.old
+        (host_target_told space (at_bus bus device function) place) width ≡ refusal n) }
     ensures kept { machine.new ≡ machine.old }
 {
-    let Some(at) = host_at(space, bus, device, function, place) else {
-        return ARGUMENT;
-    };
-    put_value(Ok(machine.host_read(HostAccess { at, width })), value)
+    let at = host_target_for(space, bus, device, function, place)?;
+    Ok(machine.host_read(HostAccess { at, width }))
 }
 
-/// The same in a session, or 901 where no guests have its board.
-fn host_read_in(
-    session: &mut Session,
-    space: u32,
-    bus: u8,
-    device: u8,
-    function: u8,
-    place: u64,
-    width: u64,
-    value: &mut u32,
-) -> u32
-    ensures none { IfNone (machine_in session.old) (result ≡ 901) }
-    ensures place { IfSome (machine_in session.old) (λ _.
-        host_target_told space (at_bus bus device function) place ≡ None → result ≡ 902) }
-    ensures read { IfSome (machine_in session.old) (λ m.
-        (t : HostTarget) →
-        host_target_told space (at_bus bus device function) place ≡ Some t →
-        let r = host_reply m.world (record { target = t; width = width }) in
-        (result ≡ number_told r) × (value.new ≡ value_told value.old r)) }
-    ensures unread { result ≢ 0 → value.new ≡ value.old }
-    ensures kept { session.new ≡ session.old }
+/// Refuses an index of two that no guest has.
+fn check_guests(machine: &Monitor, from: usize, to: usize) -> Result<(), u32>
+    ensures from { IfOk result (λ _. from < length machine.now.world.guests) }
+    ensures to { IfOk result (λ _. to < length machine.now.world.guests) }
+    ensures there { IfOk result (λ _. are_guests machine.now from to ≡ true) }
+    ensures none { IfErr result (λ n. n ≡ 902) }
+    ensures nobody { IfErr result (λ _. are_guests machine.now from to ≡ false) }
 {
-    match session.monitor() {
-        Some(machine) => { host_read(machine, space, bus, device, function, place, width, value) }
-        None => NO_MACHINE,
-    }
+    check_guest(machine, from)?;
+    check_guest(machine, to)
 }
 
 /// Reads 1, 2 or 4 bytes as the host does: what the board shows at physical numbers. Bus, device and
@@ -111,33 +104,14 @@ pub extern "C" fn pciguest_raw_host_read(
     width: u32,
     value: &mut u32,
 ) -> u32
-    ensures none { IfNone (machine_of handle.old) (result ≡ 901) }
-    ensures place { IfSome (machine_of handle.old) (λ _.
-        host_target_told space (at_bus bus device function) place ≡ None → result ≡ 902) }
-    ensures read { IfSome (machine_of handle.old) (λ m.
-        (t : HostTarget) →
-        host_target_told space (at_bus bus device function) place ≡ Some t →
-        let r = host_reply m.world (record { target = t; width = width }) in
-        (result ≡ number_told r) × (value.new ≡ value_told value.old r)) }
-    ensures unread { result ≢ 0 → value.new ≡ value.old }
-    ensures kept { session_of handle.new ≡ session_of handle.old }
+    ensures { Answers (host_read space bus device function place width) handle.old handle.new
+        result (number value.old) (number value.new) }
 {
-    let Some(mut session) = handle.take(alloc) else {
-        return NO_MACHINE;
-    };
-    let width = u64::from(width);
-    let number = host_read_in(
-        &mut session,
-        space,
-        bus,
-        device,
-        function,
-        place,
-        width,
-        value,
-    );
-    *handle = Handle::of(session);
-    number
+    let answer = handle.ask_machine(alloc, |machine| {
+        let width = u64::from(width);
+        host_asked(machine, space, bus, device, function, place, width)
+    });
+    put_value(answer, value)
 }
 
 /// Moves the function in a slot of a guest to a slot of another, or of the same. It is then at reset.
@@ -150,21 +124,10 @@ pub extern "C" fn pciguest_raw_move(
     to: usize,
     target: u64,
 ) -> u32
-    ensures none { IfNone (machine_of handle.old) (result ≡ 901) }
-    ensures from { IfSome (machine_of handle.old) (λ m.
-        length m.world.guests ≤ from → result ≡ 902) }
-    ensures to { IfSome (machine_of handle.old) (λ m.
-        length m.world.guests ≤ to → result ≡ 902) }
-    ensures moved { IfSome (machine_of handle.old) (λ m.
-        from < length m.world.guests → to < length m.world.guests →
-        let v = move_nth m.world from slot to target in
-        (result ≡ number_told (move_reply m.world.guests v))
-        × (machine_of handle.new ≡ Some (after_on_machine m (calls (asks (host_move v)))))) }
-    ensures refused { result ≢ 0 → session_of handle.new ≡ session_of handle.old }
+    ensures { Answers (move from slot to target) handle.old handle.new result nothing nothing }
 {
     number_of(handle.ask_machine(alloc, |machine| {
-        check_guest(machine, from)?;
-        check_guest(machine, to)?;
+        check_guests(machine, from, to)?;
         Ok(machine.move_function(from, slot, to, target))
     }))
 }

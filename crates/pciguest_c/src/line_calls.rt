@@ -1,9 +1,8 @@
 //! What a line does and writes, for C.
 ghost use Rattle.std.specs.Prelude.{◌≡◌, ◌≢◌, ◌<◌, ◌≤◌, ◌⊎◌, Some, IfNone, IfSome, IfOk, IfErr, IsFalse, length};
-ghost use Rattle.model_guests.specs.WorldNow.{line_output};
-ghost use Rattle.model_handoff.specs.Changes.{after_line_on_machine};
 ghost use Rattle.model_lines.specs.Sessions.{session_output, after_session_line};
-ghost use Rattle.pciguest_c.specs.Handles.{session_of, machine_of};
+ghost use Rattle.pciguest_c.specs.Calls.{Answers, run_line, buffer};
+ghost use Rattle.pciguest_c.specs.Handles.{session_of};
 ghost use Rattle.session.specs.Stages.{asks_for_more};
 ghost use Rattle.pciguest_c.specs.TextsTold.{at_front};
 
@@ -43,15 +42,8 @@ pub extern "C" fn pciguest_raw_run_line(
     out: &mut [u8],
     written: &mut usize,
 ) -> u32
-    ensures none { IfNone (machine_of handle.old) (result ≡ 901) }
-    ensures room { IfSome (machine_of handle.old) (λ _. length out.old < 48 → result ≡ 902) }
-    ensures ran { IfSome (machine_of handle.old) (λ m. 48 ≤ length out.old →
-        (result ≡ 0) × (machine_of handle.new ≡ Some (after_line_on_machine m line.now))) }
-    ensures text { IfSome (machine_of handle.old) (λ m. 48 ≤ length out.old →
-        let text = line_output m.world line.now in
-        (out.new ≡ at_front text out.old) × (written.new ≡ length text)) }
-    ensures refused { result ≢ 0 → session_of handle.new ≡ session_of handle.old }
-    ensures unwritten { result ≢ 0 → (out.new ≡ out.old) × (written.new ≡ written.old) }
+    ensures { Answers (run_line line.now) handle.old handle.new result
+        (buffer out.old written.old) (buffer out.new written.new) }
 {
     let has_room = LONGEST_REPLY <= out.len();
     let answer = handle.ask_machine(alloc, |machine| {

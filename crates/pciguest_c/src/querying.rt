@@ -1,17 +1,14 @@
 //! Where the regions of guests' functions stand, how often they may have come to stand elsewhere, and what guests'
 //! accesses hit.
-ghost use Rattle.std.specs.Prelude.{◌≡◌, ◌≢◌, ◌<◌, ◌≤◌, None, Some, IfNone, IfSome, length, option_map, slice_get};
-ghost use Rattle.model_guests.specs.Accesses.{Target};
+ghost use Rattle.std.specs.Prelude.{◌≡◌, Some, IfSome, option_map, slice_get};
 ghost use Rattle.monitor.specs.Queries.{region_named, hit_named};
-ghost use Rattle.pciguest_c.specs.Handles.{session_of, machine_of};
-ghost use Rattle.pciguest_c.specs.Answered.{AnswersOf};
-ghost use Rattle.pciguest_c.specs.Told.{target_told};
-ghost use Rattle.pciguest_c.specs.QueriesTold.{number_answered, region_asked, hit_asked};
-ghost use Rattle.pciguest_c.specs.QueriesTold.{region_told, region_left, hit_told, hit_left};
+ghost use Rattle.pciguest_c.specs.Handles.{machine_of};
+ghost use Rattle.pciguest_c.specs.Calls.{Answers, region, changed, locate, number, a_region, a_hit};
+ghost use Rattle.pciguest_c.specs.QueriesTold.{region_told, hit_told};
 
-use crate::asking::{at_of, check_guest};
+use crate::asking::{check_guest, target_for};
 use crate::handle::Handle;
-use crate::numbers::{ARGUMENT, put_result};
+use crate::numbers::put_result;
 use accesses::Place;
 use monitor::{Hit, RegionNow, Space};
 use std::alloc::Global;
@@ -87,11 +84,8 @@ pub extern "C" fn pciguest_raw_region(
     bar: u32,
     told: &mut RegionTold,
 ) -> u32
-    ensures told { AnswersOf handle.old guest result (λ m.
-        let r = region_asked m.world guest slot bar in
-        (result ≡ number_answered r) × (told.new ≡ region_left told.old r)) }
-    ensures untold { result ≢ 0 → told.new ≡ told.old }
-    ensures kept { session_of handle.new ≡ session_of handle.old }
+    ensures { Answers (region guest slot bar) handle.old handle.new result
+        (a_region told.old) (a_region told.new) }
 {
     let answer = handle.ask_machine(alloc, |machine| {
         check_guest(machine, guest)?;
@@ -111,10 +105,10 @@ pub extern "C" fn pciguest_raw_changed(
     guest: usize,
     count: &mut u64,
 ) -> u32
-    ensures told { AnswersOf handle.old guest result (λ m.
-        (result ≡ 0) × (slice_get m.counts guest ≡ Some count.new)) }
-    ensures untold { result ≢ 0 → count.new ≡ count.old }
-    ensures kept { session_of handle.new ≡ session_of handle.old }
+    ensures told { Answers (changed guest) handle.old handle.new result
+        (number count.old) (number count.new) }
+    ensures counted { result ≡ 0 → IfSome (machine_of handle.old) (λ m.
+        slice_get m.counts guest ≡ Some count.new) }
 {
     let answer = handle.ask_machine(alloc, |machine| {
         check_guest(machine, guest)?;
@@ -134,23 +128,11 @@ pub extern "C" fn pciguest_raw_locate(
     place: u64,
     told: &mut HitTold,
 ) -> u32
-    ensures none { IfNone (machine_of handle.old) (result ≡ 901) }
-    ensures space { IfSome (machine_of handle.old) (λ _.
-        target_told space slot place ≡ None → result ≡ 902) }
-    ensures guest { IfSome (machine_of handle.old) (λ m.
-        length m.world.guests ≤ guest → result ≡ 902) }
-    ensures told { IfSome (machine_of handle.old) (λ m. guest < length m.world.guests →
-        (t : Target) → target_told space slot place ≡ Some t →
-        let r = hit_asked m.world guest t in
-        (result ≡ number_answered r) × (told.new ≡ hit_left told.old r)) }
-    ensures untold { result ≢ 0 → told.new ≡ told.old }
-    ensures kept { session_of handle.new ≡ session_of handle.old }
+    ensures { Answers (locate guest space slot place) handle.old handle.new result
+        (a_hit told.old) (a_hit told.new) }
 {
     let answer = handle.ask_machine(alloc, |machine| {
-        let Some(at) = at_of(space, slot, place) else {
-            return Err(ARGUMENT);
-        };
-        check_guest(machine, guest)?;
+        let at = target_for(machine, guest, space, slot, place)?;
         match machine.locate(guest, at) {
             Ok(hit) => Ok(hit_for(hit)),
             Err(why) => Err(u32::from(why.number())),

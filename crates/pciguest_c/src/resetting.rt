@@ -1,10 +1,6 @@
 //! Functions of guests that are reset where they are, one or all of a guest.
-ghost use Rattle.std.specs.Prelude.{◌≡◌, ◌≢◌, ◌<◌, Some, length};
-ghost use Rattle.model_guests.specs.DeviceEvents.{resets};
-ghost use Rattle.pciguest_c.specs.Handles.{session_of, machine_of};
-ghost use Rattle.pciguest_c.specs.Answered.{AnswersOf};
-ghost use Rattle.pciguest_c.specs.Told.{number_told};
-ghost use Rattle.pciguest_c.specs.DevicesTold.{reply_at_device, after_at_device};
+ghost use Rattle.std.specs.Prelude.{◌≡◌, ◌<◌, length};
+ghost use Rattle.pciguest_c.specs.Calls.{Answers, reset, reset_guest, nothing};
 ghost use Rattle.pciguest_c.specs.ImagesTold.{after_restart};
 
 use crate::asking::check_guest;
@@ -21,10 +17,7 @@ pub extern "C" fn pciguest_raw_reset(
     guest: usize,
     slot: u64,
 ) -> u32
-    ensures reset { AnswersOf handle.old guest result (λ m.
-        (result ≡ number_told (reply_at_device m.world guest (resets slot)))
-        × (machine_of handle.new ≡ Some (after_at_device m guest (resets slot)))) }
-    ensures refused { result ≢ 0 → session_of handle.new ≡ session_of handle.old }
+    ensures { Answers (reset guest slot) handle.old handle.new result nothing nothing }
 {
     number_of(handle.ask_machine(alloc, |machine| {
         check_guest(machine, guest)?;
@@ -45,9 +38,7 @@ fn restart(machine: &mut Monitor, guest: usize)
 /// counted once, and no memory is taken.
 #[unsafe(no_mangle)]
 pub extern "C" fn pciguest_raw_reset_guest(alloc: Global, handle: &mut Handle, guest: usize) -> u32
-    ensures reset { AnswersOf handle.old guest result (λ m.
-        (result ≡ 0) × (machine_of handle.new ≡ Some (after_restart m guest))) }
-    ensures refused { result ≢ 0 → session_of handle.new ≡ session_of handle.old }
+    ensures { Answers (reset_guest guest) handle.old handle.new result nothing nothing }
 {
     number_of_done(handle.ask_machine(alloc, |machine| {
         check_guest(machine, guest)?;

@@ -1,8 +1,6 @@
 //! Images of guests: how many bytes the image of a guest has, and its bytes.
-ghost use Rattle.std.specs.Prelude.{◌≡◌, ◌≢◌, ◌<◌, length};
-ghost use Rattle.session.specs.Stages.{machine_in};
-ghost use Rattle.pciguest_c.specs.Handles.{session_of, machine_of};
-ghost use Rattle.pciguest_c.specs.Answered.{AnswersOf, TellsOf};
+ghost use Rattle.std.specs.Prelude.{◌≡◌, ◌<◌, Some, length};
+ghost use Rattle.pciguest_c.specs.Calls.{Answers, IsAnswer, answer, image_size, save, buffer, number};
 ghost use Rattle.pciguest_c.specs.ImagesTold.{image_asked};
 ghost use Rattle.pciguest_c.specs.TextsTold.{IsTold};
 
@@ -30,9 +28,8 @@ fn save(machine: &Monitor, guest: usize, out: &mut [u8], needed: &mut usize) -> 
 
 /// The same of a session, or 901 where no guests have its board, and 902 where there is no such guest.
 fn save_in(session: &mut Session, guest: usize, out: &mut [u8], needed: &mut usize) -> u32
-    ensures image { TellsOf (machine_in session.old) guest image_asked result
-        out.old out.new needed.old needed.new }
-    ensures kept { session.new ≡ session.old }
+    ensures { IsAnswer (answer (save guest) (Some session.old) (buffer out.old needed.old))
+        (Some session.new) result (buffer out.new needed.new) }
 {
     let Some(machine) = session.monitor() else {
         return NO_MACHINE;
@@ -51,10 +48,8 @@ pub extern "C" fn pciguest_raw_image_size(
     guest: usize,
     size: &mut usize,
 ) -> u32
-    ensures size { AnswersOf handle.old guest result (λ m.
-        (result ≡ 0) × (size.new ≡ length (image_asked m.world guest))) }
-    ensures untold { result ≢ 0 → size.new ≡ size.old }
-    ensures kept { session_of handle.new ≡ session_of handle.old }
+    ensures { Answers (image_size guest) handle.old handle.new result
+        (number size.old) (number size.new) }
 {
     let answer = handle.ask_machine(alloc, |machine| {
         check_guest(machine, guest)?;
@@ -73,9 +68,8 @@ pub extern "C" fn pciguest_raw_save(
     out: &mut [u8],
     needed: &mut usize,
 ) -> u32
-    ensures image { TellsOf (machine_of handle.old) guest image_asked result
-        out.old out.new needed.old needed.new }
-    ensures kept { session_of handle.new ≡ session_of handle.old }
+    ensures { Answers (save guest) handle.old handle.new result
+        (buffer out.old needed.old) (buffer out.new needed.new) }
 {
     let Some(mut session) = handle.take(alloc) else {
         return NO_MACHINE;

@@ -1,17 +1,33 @@
 //! Functions of the board that come to a guest from none, or leave it for no other.
-ghost use Rattle.std.specs.Prelude.{◌≡◌, ◌≢◌, Some};
-ghost use Rattle.pciguest_c.specs.Handles.{session_of, machine_of};
-ghost use Rattle.pciguest_c.specs.Answered.{AnswersOf};
-ghost use Rattle.pciguest_c.specs.Told.{number_told};
-ghost use Rattle.pciguest_c.specs.SeatingsTold.{gift_reply, after_gift, taking_reply, after_taking};
+ghost use Rattle.std.specs.Prelude.{◌≡◌, IfErr, IfOk};
+ghost use Rattle.model_lines.specs.Sessions.{given};
+ghost use Rattle.pciguest_c.specs.Calls.{Answers, give, take, giving, tells, refusal, nothing};
 
 use crate::asking::check_guest;
 use crate::handle::Handle;
-use crate::numbers::number_of;
-use accesses::Reply;
+use crate::numbers::{number_of, number_of_done};
 use board_file::path_text::path_of;
-use monitor::Withheld;
+use monitor::{Monitor, Withheld};
 use std::alloc::Global;
+
+/// Gives a function by the text of its path, or gives the number of why that is refused.
+#[tactic(auto, unfolding(crate::specs::Calls::giving))]
+fn give_at(machine: &mut Monitor, path: &[u8], guest: usize, slot: u64) -> Result<(), u32>
+    ensures given { IfOk result (λ _.
+        giving machine.old path.now guest slot ≡ tells nothing (given machine.new)) }
+    ensures refused { IfErr result (λ n. giving machine.old path.now guest slot ≡ refusal n) }
+    ensures kept { IfErr result (λ _. machine.new ≡ machine.old) }
+{
+    check_guest(machine, guest)?;
+    // No endpoint stands at a text that is no path.
+    let Some(path) = path_of(path) else {
+        return Err(u32::from(Withheld::NoEndpoint.number()));
+    };
+    match machine.give(&path, guest, slot) {
+        Ok(()) => Ok(()),
+        Err(why) => Err(u32::from(why.number())),
+    }
+}
 
 /// Gives the function at a path, which no guest has, to a guest, into an empty slot: there and on the board it is
 /// at reset.
@@ -23,23 +39,9 @@ pub extern "C" fn pciguest_raw_give(
     guest: usize,
     slot: u64,
 ) -> u32
-    ensures given { AnswersOf handle.old guest result (λ m.
-        (result ≡ number_told (gift_reply m.world path.now guest slot))
-        × (machine_of handle.new ≡ Some (after_gift m path.now guest slot))) }
-    ensures refused { result ≢ 0 → session_of handle.new ≡ session_of handle.old }
+    ensures { Answers (give path.now guest slot) handle.old handle.new result nothing nothing }
 {
-    let answer = handle.ask_machine(alloc, |machine| {
-        check_guest(machine, guest)?;
-        // No endpoint stands at a text that is no path.
-        let Some(path) = path_of(path) else {
-            return Err(u32::from(Withheld::NoEndpoint.number()));
-        };
-        match machine.give(&path, guest, slot) {
-            Ok(()) => Ok(Reply::Done),
-            Err(why) => Err(u32::from(why.number())),
-        }
-    });
-    number_of(answer)
+    number_of_done(handle.ask_machine(alloc, |machine| give_at(machine, path, guest, slot)))
 }
 
 /// Takes the function in a slot from its guest: the slot is then empty, and on the board the function is at reset.
@@ -50,10 +52,7 @@ pub extern "C" fn pciguest_raw_take(
     guest: usize,
     slot: u64,
 ) -> u32
-    ensures taken { AnswersOf handle.old guest result (λ m.
-        (result ≡ number_told (taking_reply m.world guest slot))
-        × (machine_of handle.new ≡ Some (after_taking m guest slot))) }
-    ensures refused { result ≢ 0 → session_of handle.new ≡ session_of handle.old }
+    ensures { Answers (take guest slot) handle.old handle.new result nothing nothing }
 {
     number_of(handle.ask_machine(alloc, |machine| {
         check_guest(machine, guest)?;

@@ -2,7 +2,7 @@ use Rattle.std.proofs.Common.{◌∙◌}
 use Rattle.accesses.specs.Accesses.{target_of}
 use Rattle.monitor.specs.ByIndex.{name_nth}
 use Rattle.pciguest_c.proofs.Kept.{reads_count_none}
-use Rattle.pciguest_c.proofs.guest_calls.read.Goals as goal
+use Rattle.pciguest_c.proofs.guest_calls.read_at.Goals as goal
 
 pub returns-clause-kept : goal.returns-clause-kept
 returns-clause-kept c =
