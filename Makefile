@@ -253,7 +253,7 @@ quick:
 # The demo in about a minute: nothing is proved.
 try:
 	@echo 'This run proves nothing: it only compiles the program and runs it. `make demo` proves it first.'
-	@cd crates/pciguest && rt try -- demo < ../../boards/demo.script
+	@cd crates/pciguest && ../../tools/rt try -- demo < ../../boards/demo.script
 
 clean:
 	rm -rf crates/*/out page/out library/rust/target corpus pciguest pciguest.html library/libpciguest.a library/libpciguest.so.0
