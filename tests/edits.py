@@ -17,7 +17,7 @@ of a crate tries many, also of one function, and of functions that call each oth
 they call, and one copy more of each function as it stands. An edit is refused where the check names its copy, for a goal or
 an answer of that function itself, and proves the copy as it stands. Other edits, as of a struct, are put into the function
 where it stands, each in a check of its own of the functions that it changes. What gets no verdict so is tried alone in a
-check of the whole crate, by the words and the judgement of `rt must-fail`; with --alone all are. Each verdict is told once
+check of the whole crate; with --alone all are. Each verdict is told once
 it is there; the last line is 'N passed, M failed'."""
 import contextlib
 import copy
@@ -301,17 +301,22 @@ class Tries:
     def try_alone(self, edit):
         """One check of the whole crate, and another one from nothing where what is kept of it may have decided."""
         has_kept = os.path.isdir(f"{self.crate.folder}/out/incremental")
+        texts, said = self.rt.read_edit(str(edit.file), self.crate.folder)
         for work in [self.over_kept] * has_kept + [lambda work: work(None)]:
+            if not texts:
+                break
             self.checks += 1
-            kind, told = work(lambda kept: self.rt.must_fail(self.crate, str(edit.file), ["--jobs", "1"], kept))
-            is_refused = kind in (self.rt.REFUSED, self.rt.AT_LIMIT)
+            ran = work(lambda kept: self.rt.checked(self.crate, texts, ["--jobs", "1"], kept))
+            said, is_refused = ran.stdout.rstrip("\n").split("\n"), ran.returncode == 1
             if is_refused or edit.is_twin:
                 break
-        if is_refused or kind == self.rt.MISSED:
-            edit.judge(is_refused, told.partition(": ")[2])
+        errors = [it for it in said if re.match(r"\S+:\d+:\d+: error", it)] if texts else [said]
+        is_read = texts and not any(self.rt.unread(it, texts) for it in said)
+        if is_read and (ran.returncode == 0 or is_refused and said[-1].startswith("logic=not-proved")):
+            edit.judge(is_refused, "; ".join([it for it in errors if not NAMES.search(it)] or errors))
         else:
             edit.verdict = False
-            say(told)
+            say(f"must-fail {self.crate.name}/{edit.name}: BAD EDIT: {'; '.join(errors or said[-1:])[:400]}")
 
 
 def try_left(tries, pool):
