@@ -5,7 +5,7 @@ audit's lines what `audit --json` writes.
 
     tests/cases.py PROGRAM [LONE_ANSWERS]
 
-asks all of that of a program. LONE_ANSWERS, the program of the crate test_lone_answers, is asked the scripts of those rows
+asks all of that of a program. LONE_ANSWERS, the program of the crate test_lone_guest, is asked the scripts of those rows
 whose board has a file of guests beside it. The last line is 'N passed, M failed'. tests/program.sh asks the proved
 program so, `make fuzz` the lone guests too, and tests/quick.py a program that was only compiled.
 

@@ -151,7 +151,7 @@ holds 'tables of docs/PROMISES.md that are old: run tools/promises' tools/promis
 
 # ---- examples in the headings of crates: their lines stand in a test, one after the other
 strange_examples() {
-  local tests; tests=$(sed 's/^ *//' crates/test_parts/src/examples.rt)
+  local tests; tests=$(sed 's/^ *//' crates/test_streams/src/examples.rt)
   for heading in crates/*/src/lib.rt; do
     example=$(awk '/^\/\/! ```/ { inside = !inside; next } inside { sub(/^\/\/! */, ""); print }' "$heading")
     [[ -z $example || $tests == *"$example"* ]] || echo "$heading"

@@ -1,4 +1,4 @@
-"""A board's guests as the program test_lone_answers takes them: their endpoints in plain numbers."""
+"""A board's guests as the program test_lone_guest takes them: their endpoints in plain numbers."""
 
 KINDS = ["io", "mem32", "mem32p", "mem64", "mem64p"]
 NUMBERS = ["vendor", "device", "revision", "class", "subvendor", "subsystem", "pin", "min_gnt", "max_lat", "status"]

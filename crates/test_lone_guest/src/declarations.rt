@@ -7,11 +7,12 @@
 //!   (64-bit memory), and `cells COUNT VALUE WRITABLE CLEARED`: so many registers alike, in the block of
 //!   the last region;
 //! - `config OFFSET VALUE WRITABLE CLEARED`: a configuration register of the device's own.
+use crate::declared::{LoneBlock, LoneEndpoint, LoneRegion};
+use crate::register::Register;
 use accesses::Names;
 use arrayvec::ArrayString;
 use bars::Kind;
 use std::alloc::Global;
-use test_lone_guest::{LoneBlock, LoneEndpoint, LoneRegion, Register};
 
 /// Names of guests, and their endpoints.
 #[derive(Drop)]

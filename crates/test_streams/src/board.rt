@@ -1,7 +1,7 @@
 //! The board that tests have in common.
 
 /// An endpoint beside a bridge, two behind it, and two guests.
-pub const MAIN: &str = "[host]
+pub(crate) const MAIN: &str = "[host]
 io = [0x1000, 0xffff]
 mem = [0xc0000000, 0xdfffffff]
 pref = [0x400000000, 0x4ffffffff]

@@ -1,21 +1,30 @@
-//! Layer: tests. Below: test_lone_guest.
+//! Layer: tests. Below: lines.
 //!
-//! What lone guests answer to a script: `test_lone_answers GUESTS < SCRIPT`, where GUESTS is a file of
-//! guests with their endpoints. It is for random tests alone, and with no word it prints nothing.
+//! The slow second answer, for tests alone: guests as nothing but their own functions, each a lone
+//! register file, with neither board nor monitor. It is written by hand apart from the monitor, and
+//! shares with it the types of accesses and replies, the reading of a line and the text of a reply.
+//! Its contracts say what safety asks, and nothing of the answers.
 //!
-//! A read by the host has no answer here, and makes no output line.
+//! `test_lone_guest GUESTS < SCRIPT` writes what lone guests answer to a script, where GUESTS is a file of
+//! guests with their endpoints. A read by the host has no answer here, and makes no output line. With no
+//! word it writes nothing.
 #![tactic(auto)]
 
+mod declarations;
+mod declared;
+mod file;
+mod function;
 mod guests;
+mod register;
 
-use crate::guests::{Declared, read_guests};
+use crate::declarations::{Declared, read_guests};
+use crate::guests::LoneGuests;
 use accesses::Names;
 use std::alloc::Global;
 use std::io::{BufWriter, Read, Write};
 use std::process::ExitCode;
 use std::rt::{Env, Files};
 use std::{env, fs, io};
-use test_lone_guest::LoneGuests;
 
 /// The bytes of the file at a path.
 fn bytes_of(rt: &impl Files, alloc: Global, path: &str) -> Option<Vec<u8>> {
