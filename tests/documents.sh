@@ -6,7 +6,7 @@ set -u
 cd "$(dirname "$0")/.."
 passed=0
 failed=0
-documents=(*.md docs/*.md docs/{reports,lessons}/*.md {boards,examples,examples/{audit,kvm},tests}/README.md)
+documents=(*.md docs/*.md docs/{reports,lessons}/*.md {boards,examples,examples/{audit,kvm,qemu},tests}/README.md)
 index=docs/DEFINITIONS.md
 room=$(mktemp -d)
 trap 'rm -rf "$room"' EXIT
@@ -131,6 +131,17 @@ unexpected() {
 }
 holds 'boards and scripts of which nothing is expected' unexpected
 
+# ---- a type has a name of its own; of those that two crates share the list only gets shorter
+shared='Fault FunctionRow Located Part PathText Place Problem RegionNow Told Window'
+homonyms() {
+  diff <(grep -oE '^pub (struct|enum|union|trait|type) \w+' crates/*/src/*.rt | awk -F '[/: ]' '{ print $2, $NF }' | sort -u |
+    cut -d ' ' -f 2 | sort | uniq -d) <(tr ' ' '\n' <<< "$shared")
+}
+holds 'types of one name in two crates, or that are no longer' homonyms
+
+# ---- a lemma stands once
+holds 'lemmas that stand twice' tests/doubles.py
+
 # ---- what somebody asked for: each line has its file, a test has its words there, and an edit of the gate has its line and its
 # clause; and no fewer lines are there than the list says
 unnamed() {
@@ -182,8 +193,11 @@ lacking_calls() {
 holds 'numbers that the manual lacks' lacking_numbers
 holds 'calls that the manual lacks' lacking_calls
 
-# ---- the kit: the README names the one that is here, where there is one
-other_kit() { grep -qxF "Proved with \`$(rt version)\`." README.md || echo "README.md: not proved with $(rt version)"; }
+# ---- the kit: the README names the logic of the one that is here, where there is one, and this kit among those of that logic
+other_kit() {
+  local kit logic; read -r kit _ logic <<< "$(rt version)"
+  grep -qE "^Proved with kits of the logic \`$logic\`: (.*, )?\`$kit\`(,.*)?\.\$" README.md || echo "README.md: not proved with $(rt version)"
+}
 ! command -v rt > /dev/null || holds 'the kit that the README names' other_kit
 
 # ---- the crates of the kit that README names as trusted are those on which crates.txt has something stand
