@@ -6,7 +6,7 @@ set -u
 cd "$(dirname "$0")/.."
 passed=0
 failed=0
-documents=(*.md docs/*.md docs/{reports,lessons}/*.md {boards,examples,examples/{audit,kvm,qemu},tests}/README.md)
+documents=(*.md docs/*.md docs/{reports,lessons}/*.md {boards,examples,examples/{audit,kvm,qemu},page,tests}/README.md)
 index=docs/DEFINITIONS.md
 room=$(mktemp -d)
 trap 'rm -rf "$room"' EXIT
@@ -90,15 +90,12 @@ broken_in_tarball() {
 holds 'links that lead nowhere' broken_links "${documents[@]}"
 holds 'links of a tarball that lead nowhere' broken_in_tarball
 
-# ---- each crate has its row in docs/ARCHITECTURE.md
-other_rows() {
-  diff <(sed -n 's/^\([a-z_]*\)\( staticlib\)\?:.*/\1/p' crates.txt | sort) \
-    <(sed -n '/^## Crates/,/^### What/s/^| `\([a-z_]*\)` |.*/\1/p' docs/ARCHITECTURE.md | sort)
-}
-holds 'crates that docs/ARCHITECTURE.md lacks, or that are gone' other_rows
-
 # ---- each crate's code begins with its layer and its neighbours, as crates.txt has them
+untold() {
+  for file in crates/*/src/{lib,main}.rt; do ! [ -e "$file" ] || sed -n 3p "$file" | grep -q '^//! [A-Z`]' || echo "$file"; done
+}
 holds 'crates that tell others (tests/layers.py --write)' tests/layers.py
+holds 'crates that do not say below that what they hold' untold
 
 # ---- the list of documents has each
 unlisted() {
