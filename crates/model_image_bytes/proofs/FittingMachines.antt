@@ -23,12 +23,13 @@ use Rattle.model_handoff.specs.Regions.{AreServed}
 use Rattle.model_handoff.specs.ViewLaws.{seated_files}
 use Rattle.model_handoff.proofs.GivenSeats.{declared_there, some_function}
 use Rattle.model_images.specs.Images.{SavedFunction, restored, Fits, FitSlots}
-use Rattle.model_images.specs.MachineImages.{SavedGuest, MachineImage, shown_handoff, restored_guest, restored_guests, values_in, handoff_under, HoldsFittingValues, HoldsWhatFits, FitsMachine}
+use Rattle.model_images.specs.MachineImages.{SavedGuest, MachineImage, shown_handoff, restored_guest, restored_guests, handoff_under, HoldsFittingValues, HoldsWhatFits, FitsMachine}
 use Rattle.model_images.proofs.Filling.{none_closed}
 use Rattle.model_images.proofs.Machines.{opens_alike}
 use Rattle.model_images.proofs.MachineLoads.{ApartSaved, of_others, IsFound, each_found, saved_apart}
 use Rattle.model_image_bytes.specs.Layouts.{Parsed, parsed, number, le_bytes, fit_times, counted, fit_each, optional}
 use Rattle.model_image_bytes.specs.ImageBytes.{image_layout, image_bytes}
+use Rattle.model_image_bytes.specs.ByteLaws.{HasBytes}
 use Rattle.model_image_bytes.specs.LoadedBytes.{after_bytes, at_end}
 use Rattle.model_image_bytes.specs.TakenBytes.{taken_image}
 use Rattle.model_image_bytes.specs.MachineBytes.{path_layout, board_layout, name_layout, paths_layout, guest_layout, cells_layout, on_board, machine_bytes}
@@ -44,6 +45,21 @@ use Rattle.model_image_bytes.proofs.SeatedPaths.{is_in}
 abbrev Free : State → List Path → List SavedGuest → Type 0
 Free s taken [] = Unit {0}
 Free s taken (g ∷ gs) = AllFree s taken g.paths × Free s (with_paths g.paths taken) gs
+
+-- the paths and the image of a guest have bytes; its name is only compared
+pub record IsWritten (g : SavedGuest) : Type 0 where
+  pub paths : paths_layout.fits g.paths ≡ true
+  pub image : HasBytes g.image
+
+written_each : (n : ℕ) (gs : List SavedGuest) → fit_times guest_layout.fits n gs ≡ true → Each IsWritten gs
+written_each n [] fits = tt
+written_each zero (g ∷ gs) fits = cc
+written_each (suc n) (g ∷ gs) fits =
+    let own = left_true (guest_layout.fits g) (fit_times guest_layout.fits n gs) fits in
+    let others = right_true (name_layout.fits g.name) (paths_layout.fits g.paths && image_layout.fits g.image) own in (
+      record { paths = left_true (paths_layout.fits g.paths) (image_layout.fits g.image) others; image = right_true (paths_layout.fits g.paths) (image_layout.fits g.image) others },
+      written_each n gs (right_true (guest_layout.fits g) (fit_times guest_layout.fits n gs) fits),
+    )
 
 -- ---- what is read again
 
@@ -68,31 +84,29 @@ module _ (s : State) where
   abbrev FitsThere : SavedGuest → Type 0
   FitsThere g = Fits g.image (guest_at b g.paths)
 
-  guest_again : (g : SavedGuest) (taken : List Path) → AllFree s taken g.paths → FitsThere g → guest_layout.fits g ≡ true → (rest : List ℕ) → read_guest s taken g.name (guest_layout.bytes g ++ rest) ≡ Ok (parsed g rest)
-  guest_again g taken free there fits rest =
+  guest_again : (g : SavedGuest) (taken : List Path) → AllFree s taken g.paths → FitsThere g → IsWritten g → (rest : List ℕ) → read_guest s taken g.name (guest_layout.bytes g ++ rest) ≡ Ok (parsed g rest)
+  guest_again g taken free there written rest =
       let name = name_layout.bytes g.name in
       let paths = paths_layout.bytes g.paths in
       let image = image_bytes g.image in
       let at = guest_at b g.paths in
-      let others = right_true (name_layout.fits g.name) (paths_layout.fits g.paths && image_layout.fits g.image) fits in
-      let has = right_true (paths_layout.fits g.paths) (image_layout.fits g.image) others in
+      let has = written.image in
       ap (read_guest s taken g.name) (append_assoc name (paths ++ image) rest ∙ ap (λ (bs : List ℕ). name ++ bs) (append_assoc paths image rest))
       ∙ ap (λ r. and_then (read_image b g.name) (and_then (read_slots s 32 taken) r)) (own_bytes 907 name (paths ++ (image ++ rest)))
-      ∙ ap (and_then (read_image b g.name)) (slots_again 32 g.paths taken free (left_true (paths_layout.fits g.paths) (image_layout.fits g.image) others) (image ++ rest))
+      ∙ ap (and_then (read_image b g.name)) (slots_again 32 g.paths taken free written.paths (image ++ rest))
       ∙ ap (and_then (λ (r : List ℕ). Ok (parsed (record { name = g.name; paths = g.paths; image = taken_image at (image ++ rest) }) r))) (fitting_front at g.image has there rest)
       ∙ ap (λ i. Ok (parsed (record { name = g.name; paths = g.paths; image = i }) rest)) (taken_again at g.image has there rest)
 
-  guests_again : (n : ℕ) (gs : List SavedGuest) (taken : List Path) → Free s taken gs → Each FitsThere gs → fit_times guest_layout.fits n gs ≡ true → (rest : List ℕ)
+  guests_again : (gs : List SavedGuest) (taken : List Path) → Free s taken gs → Each FitsThere gs → Each IsWritten gs → (rest : List ℕ)
       → read_guests s taken (map (λ (g : SavedGuest). g.name) gs) (flat_map guest_layout.bytes gs ++ rest) ≡ Ok (parsed gs rest)
-  guests_again zero [] taken free there fits rest = refl
-  guests_again (suc n) (g ∷ gs) taken free there fits rest =
+  guests_again [] taken free there written rest = refl
+  guests_again (g ∷ gs) taken free there written rest =
       let more = flat_map guest_layout.bytes gs in
       let names = map (λ (h : SavedGuest). h.name) gs in
       ap (read_guests s taken (g.name ∷ names)) (append_assoc (guest_layout.bytes g) more rest)
       ∙ ap (and_then (λ (h : Parsed SavedGuest). preceded h.value (read_guests s (with_paths h.value.paths taken) names h.rest)))
-      (guest_again g taken free.0 there.0 (left_true (guest_layout.fits g) (fit_times guest_layout.fits n gs) fits) (more ++ rest))
-      ∙ ap (preceded g) (guests_again n gs (with_paths g.paths taken) free.1 there.1 (right_true (guest_layout.fits g) (fit_times guest_layout.fits n gs) fits) rest)
-  guests_again n gs taken free there fits rest = cc
+      (guest_again g taken free.0 there.0 written.0 (more ++ rest))
+      ∙ ap (preceded g) (guests_again gs (with_paths g.paths taken) free.1 there.1 written.1 rest)
 
   -- ---- paths that stand in one slot alone
 
@@ -181,17 +195,14 @@ as_long (g ∷ gs) = ap suc (as_long gs)
 -- ---- all of it
 
 -- the image, as what is shown tells it
-told_again : (w : WorldNow) (i : MachineImage) → FitsMachine i w → HasMachineBytes (told (handoff_under i w) i.guests) → read_machine w (machine_bytes (told (handoff_under i w) i.guests)) ≡ Ok (told (handoff_under i w) i.guests)
-told_again w i fits has =
+told_again : (w : WorldNow) (i : MachineImage) → FitsMachine i w → Each IsWritten i.guests → read_machine w (machine_bytes (told (handoff_under i w) i.guests)) ≡ Ok (told (handoff_under i w) i.guests)
+told_again w i fits written =
     let gs = i.guests in
     let s = w.handoff in
     let under = handoff_under i w in
     let names = names_now w in
     let held = held_bytes under in
     let guests = flat_map guest_layout.bytes gs in
-    let fit = right_true ((number 2).fits (length gs)) (fit_times guest_layout.fits (length gs) gs)
-    (left_true ((counted 2 guest_layout).fits gs) (fit_each cells_layout (board_at under.functions) (values_in under) && (number 4).fits under.latch)
-    (right_true (board_layout.fits (board_at under.functions)) ((on_board (board_at under.functions)).fits (gs, (values_in under, under.latch))) has)) in
     let board : board_at under.functions ≡ board_at s.functions =
     (opens_alike (seated_files (shown_handoff w) (restored_guests i)) (shown_handoff w)).board ∙ (opens_alike (seated_files s w.guests) s).board in
     let many : length gs ≡ length names = as_long gs ∙ ap (λ (ns : List Text). length ns) fits.names in
@@ -203,13 +214,20 @@ told_again w i fits has =
     ∙ ap (λ l. and_then (read_held w) (and_then (read_guests s [] names) (and_then (after_bytes 907 (known_bytes w)) l))) (own_bytes 905 machine_header (known_bytes w ++ (guests ++ held)))
     ∙ ap (λ l. and_then (read_held w) (and_then (read_guests s [] names) l)) (own_bytes 907 (known_bytes w) (guests ++ held))
     ∙ ap (λ (ns : List Text). and_then (read_held w) (read_guests s [] ns (guests ++ held))) (sym fits.names)
-    ∙ ap (and_then (read_held w)) (guests_again s (length gs) gs [] free there fit held)
+    ∙ ap (and_then (read_held w)) (guests_again s gs [] free there written held)
     ∙ ap (λ l. and_then (λ (rest : List ℕ). Ok (told under gs)) (and_then at_end l)) (ap (after_bytes 907 held) (sym (append-nil held)) ∙ own_bytes 907 held [])
 
-pub read_again : (w : WorldNow) (i : MachineImage) → HasMachineBytes i → FitsMachine i w → read_machine w (machine_bytes i) ≡ Ok i
+-- that its guests' paths and images have bytes is all that it needs
+pub read_written : (w : WorldNow) (i : MachineImage) → Each IsWritten i.guests → FitsMachine i w → read_machine w (machine_bytes i) ≡ Ok i
+read_written w i written fits =
+    subst (λ h. read_machine w (machine_bytes (record { handoff = h; guests = i.guests })) ≡ Ok (record { handoff = h; guests = i.guests })) fits.handoff (told_again w i fits written)
+
+read_again : (w : WorldNow) (i : MachineImage) → HasMachineBytes i → FitsMachine i w → read_machine w (machine_bytes i) ≡ Ok i
 read_again w i has fits =
-    subst (λ h. HasMachineBytes (record { handoff = h; guests = i.guests }) → read_machine w (machine_bytes (record { handoff = h; guests = i.guests })) ≡ Ok (record { handoff = h; guests = i.guests })) fits.handoff
-    (told_again w i fits) has
+    let b = i.handoff.board in
+    let guests = left_true ((counted 2 guest_layout).fits i.guests) (fit_each cells_layout b i.handoff.values && (number 4).fits i.handoff.latch)
+    (right_true (board_layout.fits b) ((on_board b).fits (i.guests, (i.handoff.values, i.handoff.latch))) has) in
+    read_written w i (written_each (length i.guests) i.guests (right_true ((number 2).fits (length i.guests)) (fit_times guest_layout.fits (length i.guests) i.guests) guests)) fits
 
 pub fitting_is_accepted : FittingIsAccepted
 fitting_is_accepted w i has fits = ap result_err (read_again w i has fits)

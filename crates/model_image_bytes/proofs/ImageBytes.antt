@@ -6,7 +6,7 @@ use Rattle.std.proofs.lemmas.Option.{same_Some}
 use Rattle.lists.proofs.Tests.{left_true, right_true}
 use Rattle.model_registers.specs.ConfigAddress.{latched}
 use Rattle.model_registers.specs.EndpointTable.{endpoint_reset}
-use Rattle.model_images.specs.Images.{SavedFunction, Image, saved, restored, lone_of_image, fit_cells, FitSlots}
+use Rattle.model_images.specs.Images.{image_of_lone, SavedFunction, Image, saved, restored, lone_of_image, fit_cells, FitSlots}
 use Rattle.model_images.proofs.Fitting.{values_with}
 use Rattle.model_image_bytes.specs.Layouts.{number, fit_times, optional}
 use Rattle.model_image_bytes.specs.ImageBytes.{endpoint_layout, function_layout, image_layout, image_of}
@@ -67,13 +67,11 @@ slots_back (suc n) (Some s ∷ ss) h =
       (record { decl = refl; values = parts.values }, more.1),
     )
 
+pub image_back : (i : Image) → HasBytes i → image_of_lone (lone_of_image i) ≡ i
+image_back i has = ap (λ (ss : List (Option SavedFunction)). record { latch = i.latch; slots = ss }) (slots_back 32 i.slots (parts_of i has).slots).0
+
 pub read_is_of_a_guest : ReadIsOfAGuest
 read_is_of_a_guest bs i h =
-    let parts = parts_of i (read_are_bytes bs i h).1 in
-    let back = slots_back 32 i.slots parts.slots in (
-      lone_of_image i,
-      record {
-        image = ap (λ (ss : List (Option SavedFunction)). record { latch = i.latch; slots = ss }) back.0;
-        fits = record { latch = parts.latched; slots = back.1 };
-      },
-    )
+    let has = (read_are_bytes bs i h).1 in
+    let parts = parts_of i has in
+    (lone_of_image i, record { image = image_back i has; fits = record { latch = parts.latched; slots = (slots_back 32 i.slots parts.slots).1 } })

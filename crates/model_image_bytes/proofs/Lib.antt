@@ -11,7 +11,9 @@ pub mod MachineBytes
 pub mod ReadMachines
 pub mod SeatedPaths
 pub mod TakenMachines
+mod ByteCells
 mod FittingMachines
 mod SavableMachines
 mod SavedMachines
+mod SavedWorlds
 mod Examples

@@ -1,20 +1,19 @@
 -- The image of a machine whose functions hold bytes has bytes.
-use Rattle.std.proofs.Common.{◌≡◌, ℕ, zero, suc, ◌/◌, ◌<◌, ◌^◌, Bool, true, false, ◌&&◌, cond, List, [], ◌∷◌, length, Some, None, Option, refl, sym, ap, subst, arith}
-use Rattle.std.specs.Prelude.{map, flat_map}
+use Rattle.std.proofs.Common.{◌≡◌, ℕ, ◌<◌, ◌^◌, Bool, true, false, ◌&&◌, cond, List, [], ◌∷◌, length, Some, None, Option, refl, sym, ap, subst, arith}
+use Rattle.std.specs.Prelude.{map}
 use Rattle.std.specs.Option.{option_map_or}
 use Rattle.std.proofs.lemmas.Bool.{and_from, lt-ltb}
 use Rattle.std.proofs.lemmas.List.{length-map}
 use Rattle.lists.specs.Elements.{Each}
-use Rattle.lists.proofs.EachLemmas.{each_append, each_map, each_of_map}
+use Rattle.lists.proofs.EachLemmas.{each_map, each_of_map}
 use Rattle.lists.proofs.Members.{each_in}
-use Rattle.model_registers.specs.Cell.{Cell, IsCell}
-use Rattle.model_registers.specs.Registers.{Place, config, after, PlacedCell, File, cell_at, field, cells_from}
+use Rattle.model_registers.specs.Registers.{PlacedCell, File, cell_at}
 use Rattle.model_registers.specs.AccessLaws.{HoldsBytes}
 use Rattle.model_registers.specs.CopiedFiles.{agreed_file}
 use Rattle.model_registers.specs.OwnCopies.{is_own}
-use Rattle.model_registers.specs.Declarations.{Region, ConfigBlock, IoDecode, PrefDecode, Endpoint, Bridge}
+use Rattle.model_registers.specs.Declarations.{IoDecode, PrefDecode, Endpoint, Bridge}
 use Rattle.model_registers.specs.DeclarationRules.{IsLawfulBridge}
-use Rattle.model_registers.specs.EndpointTable.{region_cells, block_cells, header_cells, endpoint_reset}
+use Rattle.model_registers.specs.EndpointTable.{endpoint_reset}
 use Rattle.model_registers.proofs.ByteAccesses.{number_fits}
 use Rattle.model_board.specs.Paths.{Part, Path, IsPart, IsPath}
 use Rattle.model_board.specs.Board.{Decl, endpoint, Row, Board}
@@ -40,6 +39,7 @@ use Rattle.model_image_bytes.specs.ImageBytes.{image_layout}
 use Rattle.model_image_bytes.specs.ByteLaws.{IsDeclared, IsSavableGuest}
 use Rattle.model_image_bytes.specs.MachineBytes.{path_layout, io_number, pref_number, third, bridge_layout, decl_layout, row_layout, board_layout, name_layout, paths_layout, guest_layout, cells_layout, on_board}
 use Rattle.model_image_bytes.specs.MachineByteLaws.{HasMachineBytes, CanBeDeclared, IsWritableName, IsWritableMachine, MachinesHaveBytes}
+use Rattle.model_image_bytes.proofs.ByteCells.{hold_bytes, reset_bytes}
 use Rattle.model_image_bytes.proofs.Savable.{times_fit, counted_fit, endpoint_fits, values_fit, as_long, guests_have_bytes}
 
 -- ---- the board
@@ -107,30 +107,8 @@ declared_written fs can p d h =
 
 -- ---- with functions at reset
 
-field_bytes : (n v rw w1c : ℕ) (p : Place) → HoldsBytes (field p n v rw w1c)
-field_bytes zero v rw w1c p = tt
-field_bytes (suc n) v rw w1c p = (omega arith, field_bytes n (v / 256) (rw / 256) (w1c / 256) (after p))
-
-cells_bytes : (cs : List Cell) (p : Place) → Each IsCell cs → HoldsBytes (cells_from p cs)
-cells_bytes [] p h = tt
-cells_bytes (c ∷ cs) p h = (h.0.value_fits, cells_bytes cs (after p) h.1)
-
 abbrev IsByte : PlacedCell → Type 0
 IsByte e = e.cell.value < 256
-
-blocks_bytes : (bs : List ConfigBlock) → Each (λ (b : ConfigBlock). Each IsCell b.cells) bs → HoldsBytes (flat_map block_cells bs)
-blocks_bytes [] h = tt
-blocks_bytes (b ∷ bs) h = each_append IsByte (block_cells b) (flat_map block_cells bs) (cells_bytes b.cells (config b.offset) h.0) (blocks_bytes bs h.1)
-
-regions_bytes : (rs : List Region) → Each (λ (r : Region). Each IsCell r.cells) rs → HoldsBytes (flat_map (region_cells (λ r. 0)) rs)
-regions_bytes [] h = tt
-regions_bytes (r ∷ rs) h = grind (arith, each_append, field_bytes, cells_bytes, regions_bytes rs h.1)
-
-header_bytes : (d : Endpoint) → HoldsBytes (header_cells d false 0)
-header_bytes d = grind arith
-
-reset_bytes : (d : Endpoint) → IsDeclared d → HoldsBytes (endpoint_reset d false)
-reset_bytes d h = grind (arith, each_append, header_bytes, blocks_bytes, regions_bytes)
 
 agreed_bytes : (left own : File) → HoldsBytes left → HoldsBytes own → HoldsBytes (agreed_file left own)
 agreed_bytes [] own h k = tt
@@ -139,6 +117,9 @@ agreed_bytes (e ∷ es) own h k = (of (is_own e.place), agreed_bytes es own h.1 
     of : (t : Bool) → IsByte (cond t e (record e { cell = cell_at own e.place }))
     of true = h.0
     of false = let one = number_fits own k e.place 1 in omega arith
+
+written_at_reset : (d : Endpoint) → IsDeclared d → HoldsBytes (endpoint_reset d false)
+written_at_reset d h = hold_bytes (endpoint_reset d false) (reset_bytes d h.cells)
 
 pub writable_under : (s : State) → IsWritableState s → (gs : GuestsNow) → IsWritableState (with_seated_reset s gs)
 writable_under s h gs = record {
@@ -155,7 +136,7 @@ writable_under s h gs = record {
     decl_stays o f = grind arith
 
     written : (f : BoardFunction) → HoldsBytes f.file → HoldsBytes (agreed_function (seated_files s gs) f).file
-    written f k = grind (arith, agreed_bytes, reset_bytes, declared_written)
+    written f k = grind (arith, agreed_bytes, written_at_reset, declared_written)
 
 -- ---- guests
 
@@ -171,10 +152,13 @@ module _ (b : Board) (paths : Each (λ (r : Row). IsPath r.path) b) where
       (ap (λ t. (t && true) && true) (path_fits p path), slots_fit qs os are.1)
   slots_fit qs os are = grind arith
 
+  pub paths_fit : (g : GuestNow) → IsSeatedGuest b g → paths_layout.fits g.paths ≡ true
+  paths_fit g seated =
+      subst (λ n. fit_times (optional path_layout).fits n g.paths ≡ true) seated.count (times_fit (optional path_layout).fits g.paths (slots_fit g.paths g.lone.slots seated.seats))
+
   guest_fits : (g : GuestNow) → IsSeatedGuest b g → IsWritableName g.name → IsSavableGuest g.lone → guest_layout.fits (saved_guest g) ≡ true
   guest_fits g seated name can =
-      let slots : paths_layout.fits g.paths ≡ true =
-      subst (λ n. fit_times (optional path_layout).fits n g.paths ≡ true) seated.count (times_fit (optional path_layout).fits g.paths (slots_fit g.paths g.lone.slots seated.seats)) in
+      let slots = paths_fit g seated in
       let image = guests_have_bytes g.lone can in
       and_from (name_layout.fits g.name) (paths_layout.fits g.paths && image_layout.fits (image_of_lone g.lone)) (name_fits g.name name)
       (and_from (paths_layout.fits g.paths) (image_layout.fits (image_of_lone g.lone)) slots image)

@@ -293,7 +293,7 @@ accepted_is_image g savable bytes all h = (taken_image g bytes, accepted_is_take
 
 -- ---- in a world
 
-taken_now : (w : WorldNow) (name : Text) (bytes : List ℕ) (i : Image) → load_fault (lone_of w.guests name) bytes ≡ None → image_of bytes ≡ Some i → after_load_bytes name bytes w ≡ after_load name i w
+pub taken_now : (w : WorldNow) (name : Text) (bytes : List ℕ) (i : Image) → load_fault (lone_of w.guests name) bytes ≡ None → image_of bytes ≡ Some i → after_load_bytes name bytes w ≡ after_load name i w
 taken_now w name bytes i none is = grind arith
 
 pub loads_image : LoadsImage

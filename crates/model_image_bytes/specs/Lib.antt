@@ -11,3 +11,4 @@ pub mod LoadedMachines
 pub mod LoadedMachineLaws
 pub mod ByteExamples
 pub mod MachineByteExamples
+pub mod SavedLaws

@@ -5,7 +5,8 @@
 --                                                  in bytes that a machine reads as an image
 --     ReadStandsThere      so it stands there
 --     FittingIsAccepted      the bytes of an image that fits the machine are not refused
---     FittingIsLoaded, TakesSavedMachine      it is loaded; so a machine that takes what was saved of one like it is that one
+--     FittingIsLoaded      and it is loaded
+--     IsTaken w v, TakesSavedMachine      so a machine takes what was saved of one like it, and is that other one
 --     RefusedKeeps      refused bytes change nothing
 use Rattle.std.specs.Prelude.{◌≡◌, ℕ, List, ◌++◌, flat_map, Some, None, Ok, IsTrue}
 use Rattle.lists.specs.Elements.{Each}
@@ -20,8 +21,7 @@ use Rattle.model_image_bytes.specs.ImageBytes.{image_bytes}
 use Rattle.model_image_bytes.specs.ByteLaws.{AreBytes}
 use Rattle.model_image_bytes.specs.LoadedBytes.{after_image_front, load_fault}
 use Rattle.model_image_bytes.specs.MachineBytes.{guest_layout, machine_bytes, machine_of}
-use Rattle.model_image_bytes.specs.MachineByteLaws.{HasMachineBytes, CanBeCompared, IsWritableMachine}
-use Rattle.model_image_bytes.specs.MachineByteLaws.{IsWritableWorld}
+use Rattle.model_image_bytes.specs.MachineByteLaws.{HasMachineBytes, CanBeCompared, IsWritableMachine, CanBeSaved}
 use Rattle.model_image_bytes.specs.LoadedMachines.{guest_at, machine_header, known_bytes, held_bytes, read_machine}
 use Rattle.model_image_bytes.specs.LoadedMachines.{load_all_fault, after_load_all_bytes}
 
@@ -64,10 +64,13 @@ abbrev pub FittingIsLoaded : Type 0
 FittingIsLoaded = (w : WorldNow) (i : MachineImage) → HasMachineBytes i → FitsMachine i w
     → after_load_all_bytes (machine_bytes i) w ≡ after_load_all i w
 
--- a machine that takes the bytes of one like it is that other one
+pub record IsTaken (w v : WorldNow) : Type 0 where
+  pub accepted : load_all_fault v (machine_bytes (image_of_machine w)) ≡ None
+  pub world : after_load_all_bytes (machine_bytes (image_of_machine w)) v ≡ w
+
+-- so to any later requests it answers as that one would have
 abbrev pub TakesSavedMachine : Type 0
-TakesSavedMachine = (w v : WorldNow) → IsSavableWorld w → IsWritableWorld w → IsSavableWorld v → AreAlike w v
-    → after_load_all_bytes (machine_bytes (image_of_machine w)) v ≡ w
+TakesSavedMachine = (w v : WorldNow) → IsSavableWorld w → CanBeSaved w → IsSavableWorld v → AreAlike w v → IsTaken w v
 
 abbrev pub RefusedKeeps : Type 0
 RefusedKeeps = (w : WorldNow) (bytes : List ℕ) (k : ℕ) → load_all_fault w bytes ≡ Some k

@@ -9,6 +9,8 @@
 --     IsWritableMachine, IsWritableWorld      a machine of such, whose functions hold bytes, and of no more functions and
 --                            guests than there are numbers for; a world of it, whose guests can be saved
 --     MachinesHaveBytes      the image of such a world has bytes
+--     AreDeclared fs      the declaration of each function of a board can be written
+--     CanBeSaved w      so it is of a world's board, and each of its guests can be saved, whatever its handoff holds
 use Rattle.std.specs.Prelude.{◌≡◌, ◌<◌, ◌^◌, ℕ, List, Some, IsTrue, ⊤, length}
 use Rattle.lists.specs.Elements.{Each}
 use Rattle.model_registers.specs.AccessLaws.{HoldsBytes}
@@ -51,9 +53,12 @@ pub record IsWritableName (name : Text) : Type 0 where
   pub are_bytes : AreBytes name
   pub short : length name < 256
 
+abbrev pub AreDeclared : List BoardFunction → Type 0
+AreDeclared fs = Each (λ (f : BoardFunction). CanBeDeclared f.decl) fs
+
 -- the declarations and the names that bytes of guests are compared with
 pub record CanBeCompared (w : WorldNow) : Type 0 where
-  pub declared : Each (λ (f : BoardFunction). CanBeDeclared f.decl) w.handoff.functions
+  pub declared : AreDeclared w.handoff.functions
   pub names : Each IsWritableName (names_now w)
 
 -- whatever its guests hold
@@ -70,3 +75,8 @@ pub record IsWritableWorld (w : WorldNow) : Type 0 where
 
 abbrev pub MachinesHaveBytes : Type 0
 MachinesHaveBytes = (w : WorldNow) → IsSavableWorld w → IsWritableWorld w → HasMachineBytes (image_of_machine w)
+
+-- all that a guest's image needs, and that a machine like it needs to take its own
+pub record CanBeSaved (w : WorldNow) : Type 0 where
+  pub declared : AreDeclared w.handoff.functions
+  pub guests : Each (λ (g : GuestNow). IsSavableGuest g.lone) w.guests

@@ -11,6 +11,7 @@ ghost use Rattle.model_image_bytes.specs.LoadedLaws.{AcceptedIsImage, ImagesDeci
 ghost use Rattle.model_image_bytes.specs.LoadedMachineLaws.{AcceptedIsMachine, FittingIsAccepted, FittingIsLoaded, ReadFits, ReadStandsThere, RefusedKeeps, TakesSavedMachine};
 ghost use Rattle.model_image_bytes.specs.MachineByteExamples.{MachineByteExamples};
 ghost use Rattle.model_image_bytes.specs.MachineByteLaws.{MachineBytesAreBytes, MachineBytesAreRead, MachineReadAreBytes, MachinesHaveBytes, OneMachineImage};
+ghost use Rattle.model_image_bytes.specs.SavedLaws.{CanBeSavedAlong, CanBeSavedAtFirst, NoImageIsRefused, SavesWhatWasTaken, TakesItsOwn, TakesSavedGuest};
 ghost use Rattle.model_image_bytes.specs.TakenBytes.{AcceptedIsTaken, ImageIsTaken, SlotsAreTaken};
 
 /// Every list of numbers is either the bytes of one image, which is that of a guest, or read as
@@ -37,6 +38,18 @@ pub fn fitting_bytes_are_taken()
     ensures load { LoadsImage }
     ensures refused { RefusedStays }
     ensures saved { KeepsSavedBytes }
+{}
+
+/// The bytes that were saved of a guest, whenever that was, are taken by each guest of equal
+/// declarations, in whatever world: it then answers as the other would have, and no one else is told
+/// otherwise. For this the guest's world can be saved from the first, along any requests. What is
+/// saved of a guest after a load are the bytes that were loaded.
+pub fn saved_guests_are_taken()
+    ensures first { CanBeSavedAtFirst }
+    ensures along { CanBeSavedAlong }
+    ensures taken { TakesSavedGuest }
+    ensures again { SavesWhatWasTaken }
+    ensures refused { NoImageIsRefused }
 {}
 
 /// Where bytes that a guest takes say what each slot holds. They are the image of just that, which
@@ -71,8 +84,9 @@ pub fn machines_have_bytes()
 
 /// Bytes that a machine doesn't refuse are the image of a machine that fits it, and it is loaded.
 /// In them each guest stands by its name and its paths, and then by an image that it takes. The
-/// bytes of each image that fits are taken, and refused bytes change nothing. So a machine that
-/// takes what was saved of one like it is that other one.
+/// bytes of each image that fits are taken, and refused bytes change nothing. So a machine takes
+/// what was saved of one like it, and is that other one; one like it is the same machine later,
+/// where no function was given or taken meanwhile.
 pub fn machine_bytes_are_taken()
     ensures fits { ReadFits }
     ensures accepted { AcceptedIsMachine }
@@ -80,6 +94,7 @@ pub fn machine_bytes_are_taken()
     ensures fitting { FittingIsAccepted }
     ensures loaded { FittingIsLoaded }
     ensures saved { TakesSavedMachine }
+    ensures own { TakesItsOwn }
     ensures refused { RefusedKeeps }
 {}
 

@@ -5,6 +5,7 @@ mod FixedBits
 mod Settling
 mod Runs
 pub mod Steps
+pub mod KeptFunctions
 pub mod Fitting
 pub mod Counts
 pub mod Machines

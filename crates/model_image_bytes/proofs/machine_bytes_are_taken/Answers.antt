@@ -1,6 +1,6 @@
 use Rattle.model_image_bytes.proofs.TakenMachines.{read_fits, accepted_is_machine, read_stands_there, refused_keeps}
 use Rattle.model_image_bytes.proofs.FittingMachines.{fitting_is_accepted, fitting_is_loaded}
-use Rattle.model_image_bytes.proofs.SavedMachines.{takes_saved_machine}
+use Rattle.model_image_bytes.proofs.SavedMachines.{takes_saved_machine, takes_its_own}
 use Rattle.model_image_bytes.proofs.machine_bytes_are_taken.Goals as goal
 
 pub returns-clause-fits : goal.returns-clause-fits
@@ -20,6 +20,9 @@ returns-clause-loaded c = fitting_is_loaded
 
 pub returns-clause-saved : goal.returns-clause-saved
 returns-clause-saved c = takes_saved_machine
+
+pub returns-clause-own : goal.returns-clause-own
+returns-clause-own c = takes_its_own
 
 pub returns-clause-refused : goal.returns-clause-refused
 returns-clause-refused c = refused_keeps
