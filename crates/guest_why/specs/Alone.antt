@@ -1,13 +1,13 @@
 -- What a guest is told of its accesses is told of what it holds alone.
 --     EqualGuests      guests that hold the same are told the same, whatever else there is
---     AgreeAlong      two guests that hold the same, and of whose actions the same is their own
---     EqualAlong      after such actions they are told the same
+--     AgreeAlong      two guests that hold the same, and of whose actions, loads and restarts the same is their own
+--     EqualAlong      after such requests they are told the same
 use Rattle.std.specs.Prelude.{ℕ, ◌≡◌, List, IsSome}
 use Rattle.model_guests.specs.Accesses.{Target}
 use Rattle.model_guests.specs.Text.{Text}
 use Rattle.model_guests.specs.Guests.{guest_named, lone_of}
 use Rattle.model_guests.specs.WorldNow.{WorldNow}
-use Rattle.model_handoff.specs.Actions.{Action, after_actions, action_inputs}
+use Rattle.model_images.specs.Requests.{Request, after_requests, request_inputs}
 use Rattle.model_why.specs.WhyGuests.{guest_why_text}
 use Rattle.guest_why.specs.Findings.{lone_asked}
 
@@ -16,15 +16,15 @@ abbrev pub EqualGuests : Type 0
 EqualGuests = (v w : WorldNow) (i j : ℕ) → lone_asked v i ≡ lone_asked w j → (t : Target)
     → guest_why_text (lone_asked v i) t ≡ guest_why_text (lone_asked w j) t
 
-pub record AgreeAlong (v w : WorldNow) (one other : Text) (first second : List Action) : Type 0 where
+pub record AgreeAlong (v w : WorldNow) (one other : Text) (first second : List Request) : Type 0 where
   pub in_first : IsSome (guest_named v.guests one)
   pub in_second : IsSome (guest_named w.guests other)
   pub holds : lone_of v.guests one ≡ lone_of w.guests other
-  pub inputs : action_inputs one v first ≡ action_inputs other w second
+  pub inputs : request_inputs one v first ≡ request_inputs other w second
 
 -- whatever other guests do meanwhile, and whatever is done to them
 abbrev pub EqualAlong : Type 0
-EqualAlong = (v w : WorldNow) (one other : Text) (first second : List Action) → AgreeAlong v w one other first second
+EqualAlong = (v w : WorldNow) (one other : Text) (first second : List Request) → AgreeAlong v w one other first second
     → (t : Target)
-    → guest_why_text (lone_of (after_actions v first).guests one) t
-    ≡ guest_why_text (lone_of (after_actions w second).guests other) t
+    → guest_why_text (lone_of (after_requests v first).guests one) t
+    ≡ guest_why_text (lone_of (after_requests w second).guests other) t

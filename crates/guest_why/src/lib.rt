@@ -17,7 +17,7 @@ pub use monitor::{At, Monitor};
 pub use whole::guest_why_text;
 
 /// Guests that hold the same are told the same, whatever stands on their boards and whoever else is there; and so they
-/// are after any calls, gifts and takings of which the same is their own.
+/// are after any calls, gifts, takings, loads and restarts of which the same is their own.
 pub fn told_alone()
     ensures equal { EqualGuests }
     ensures along { EqualAlong }
