@@ -1,4 +1,4 @@
-//! Layer: definitions. Below: model_images. Above: image_bytes.
+//! Layer: definitions. Below: model_images. Above: image_bytes, board_declared.
 //!
 //! Images of guests as bytes, as definitions, and laws about them: how they are written, read and
 //! loaded.
