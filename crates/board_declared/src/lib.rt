@@ -1,4 +1,4 @@
-//! Layer: guests. Below: model_image_bytes, host_bridge.
+//! Layer: guests. Below: model_image_bytes, host_bridge. Above: monitor.
 //!
 //! That what a board declares can be written into images: each number of a cell is a byte. So it is of all boards, since
 //! cells are kept in bytes. Before a board is handed over these calls look at each cell, and say it in the words of

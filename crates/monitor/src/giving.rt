@@ -6,20 +6,24 @@ ghost use Rattle.model_guests.specs.WorldNow.{world_over};
 ghost use Rattle.model_handoff.specs.Handoffs.{IsHandoff, taken_over};
 ghost use Rattle.model_handoff.specs.Regions.{CanBeGiven};
 ghost use Rattle.model_handoff.specs.Changes.{BeginsIn};
+ghost use Rattle.model_image_bytes.specs.MachineByteLaws.{CanBeSaved};
 ghost use Rattle.monitor.specs.Beginnings.{world_on, world_of};
 
 use crate::beginning::{guests_of, names_of};
 use crate::engine::Engine;
 use crate::taking::take_over;
 use accesses::GuestDecl;
+use board_declared::read_declarations;
 use host_bridge::{Host, Route};
+use model_image_bytes::saved_guests_are_taken;
 use std::alloc::{AllocError, Global};
 use window_packing::Ready;
 
 impl<R: Route + Drop> Engine<R> {
     /// Gives functions of a board that is in order to guests, over a route that fits the board. No region of
     /// theirs is closed. Each of them is reset first, but for what guests have copies of, and the address
-    /// latch is cleared. Only where memory is out it refuses, and then it gives the board back as it was.
+    /// latch is cleared. Only where memory is out it refuses, and then it gives the board back as it was. That
+    /// the guests can be saved is seen of what the board declares.
     pub fn over_by_route(
         alloc: Global,
         host: Host,
@@ -32,8 +36,11 @@ impl<R: Route + Drop> Engine<R> {
         requires given { CanBeGiven (world_on host guests.now) host.state }
         ensures made { let w = world_on host guests.now in
             IfOk result (BeginsIn (λ v. v ≡ world_over w (taken_over w host.state))) }
+        ensures savable { IfOk result (λ m. CanBeSaved m.world) }
         ensures kept { IfErr result (λ h. h ≡ host) }
     {
+        read_declarations(&host);
+        saved_guests_are_taken();
         let Ok(kept) = guests_of(alloc, &host, guests) else {
             return Err(host);
         };
@@ -52,7 +59,9 @@ impl<R: Route + Drop> Engine<R> {
     ) -> Result<Engine<R>, AllocError>
         requires fits { R.fits route ready.host }
         requires lawful { HasLawfulGuests (world_of ready guests.now) }
-        ensures { IfOk result (BeginsIn (λ v. v ≡ world_at_first (world_of ready guests.now))) }
+        ensures made { IfOk result (BeginsIn (λ v.
+            v ≡ world_at_first (world_of ready guests.now))) }
+        ensures savable { IfOk result (λ m. CanBeSaved m.world) }
     {
         let (host, _table, _plan) = ready.into_parts();
         match Engine::over_by_route(alloc, host, route, guests) {

@@ -1,4 +1,4 @@
-//! Layer: guests. Below: function_identity, board_ready, claim_table, function_images, accesses. Above: guest_why, machine_images, script.
+//! Layer: guests. Below: function_identity, board_ready, claim_table, board_declared, function_images, accesses. Above: guest_why, machine_images, script.
 //!
 //! The monitor, which gives functions of a board to guests.
 //!

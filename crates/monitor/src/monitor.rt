@@ -6,6 +6,7 @@ ghost use Rattle.model_guests.specs.WorldNow.{world_over};
 ghost use Rattle.model_handoff.specs.Handoffs.{IsHandoff, taken_over};
 ghost use Rattle.model_handoff.specs.Regions.{CanBeGiven, first_fault};
 ghost use Rattle.model_handoff.specs.Changes.{BeginsIn};
+ghost use Rattle.model_image_bytes.specs.MachineByteLaws.{CanBeSaved};
 ghost use Rattle.bus_scan.specs.declared.fault.Fault.TheVariants.{Memory};
 ghost use Rattle.monitor.specs.Beginnings.{world_on, world_of};
 ghost use Rattle.monitor.specs.Handovers.{IsFaultOf};
@@ -30,6 +31,7 @@ impl Monitor {
         requires { HasLawfulGuests (world_of ready guests.now) }
         ensures made { IfOk result (BeginsIn (λ v.
             v ≡ world_at_first (world_of ready guests.now))) }
+        ensures savable { IfOk result (λ m. CanBeSaved m.world) }
         ensures refused { IfErr result (λ f. f ≡ Memory) }
     {
         let table = Table::build(alloc, &ready)?;
@@ -49,6 +51,7 @@ impl Monitor {
         requires lawful { HasLawfulGuests (world_on host guests.now) }
         ensures made { let w = world_on host guests.now in
             IfOk result (BeginsIn (λ v. v ≡ world_over w (taken_over w host.state))) }
+        ensures savable { IfOk result (λ m. CanBeSaved m.world) }
         ensures given { IfOk result (λ _.
             first_fault (world_on host guests.now) host.state ≡ None) }
         ensures kept { IfErr result (λ r. r.board ≡ host) }
@@ -74,6 +77,7 @@ impl Monitor {
         requires given { CanBeGiven (world_on host guests.now) host.state }
         ensures made { let w = world_on host guests.now in
             IfOk result (BeginsIn (λ v. v ≡ world_over w (taken_over w host.state))) }
+        ensures savable { IfOk result (λ m. CanBeSaved m.world) }
         ensures kept { IfErr result (λ h. h ≡ host) }
     {
         let Ok(table) = Table::of_open_regions(alloc, &host) else {

@@ -23,8 +23,8 @@ over_by_route-requires-clause-given g c =
     let host : c.into_parts-host.result.0 ≡ c.args.ready.host = ap (λ (x : HostState × List TableRow × Plan). x.0) c.into_parts-host.ensures.parts in
     subst (λ (h : HostState). CanBeGiven (world_on h c.args.guests.now) h.state) (sym host) (ready_given c.args.ready c.into_parts-host.ensures.ready c.args.guests.now c.requires.lawful)
 
-pub returns-in-Ok : goal.returns-in-Ok
-returns-in-Ok g c =
+pub returns-in-Ok-clause-made : goal.returns-in-Ok-clause-made
+returns-in-Ok-clause-made g c =
     let host : c.into_parts-host.result.0 ≡ c.args.ready.host = ap (λ (x : HostState × List TableRow × Plan). x.0) c.into_parts-host.ensures.parts in
     let made = c.in-Ok.ensures.made in
     record {

@@ -1,6 +1,8 @@
-use Rattle.std.proofs.Common.{rules}
+use Rattle.std.proofs.Common.{refl, rules, subst, sym}
 use Rattle.monitor.proofs.Machines.{begins_counted}
 use Rattle.model_handoff.specs.Handoffs.{taken_over}
+use Rattle.model_images.proofs.Machines.{savable_at_first}
+use Rattle.model_image_bytes.specs.MachineByteLaws.{CanBeSaved}
 use Rattle.monitor.specs.Beginnings.{world_on}
 use Rattle.monitor.specs.Views.{texts}
 use Rattle.monitor.proofs.FirstWorlds.{routing_on, sound_at_first, shown_at_first}
@@ -20,3 +22,9 @@ returns-clause-made g c =
     let shown = shown_at_first c.args.host c.args.guests.now c.requires.handoff c.requires.lawful c.requires.given c.take_over.new.host c.take_over.ensures
     (texts c.names_of.result) c.names_of.ensures c.in-Ok.kept.items c.in-Ok.ensures.kept in
     begins_counted w (taken_over w c.args.host.state) c.take_over.new.host (texts c.names_of.result) c.in-Ok.kept.items c.of_parts.ensures shown c.in-Ok.ensures.counts
+
+pub returns-clause-savable : goal.returns-clause-savable
+returns-clause-savable g c =
+    let w = world_on c.args.host c.args.guests.now in
+    let at_first = c.saved_guests_are_taken.ensures.first w c.args.host.state c.read_declarations.ensures in
+    subst CanBeSaved (sym (returns-clause-made g c).world) (at_first.taken_over (savable_at_first w c.args.host.state c.requires.handoff refl c.requires.lawful c.requires.given).lawful)
