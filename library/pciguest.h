@@ -256,7 +256,7 @@ static inline uint32_t pciguest_piece(uint64_t place, uint32_t left)
 /* Whether an access of 1 to 8 bytes ends where its space does, or before. Since 0.3.0. */
 static inline bool pciguest_ends_within(uint32_t space, uint64_t place, uint32_t width)
 {
-    uint64_t last = space == PCIGUEST_CONFIG ? 0xff : space == PCIGUEST_IO ? 0xffff : UINT64_MAX;
+    uint64_t last = space == PCIGUEST_CONFIG ? 0xff : space == PCIGUEST_IO ? 0xffffffff : UINT64_MAX;
 
     return place <= last && width - 1 <= last - place;
 }

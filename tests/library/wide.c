@@ -21,7 +21,7 @@ static uint64_t below(uint64_t n)
     return state % n;
 }
 
-static const uint64_t ends[] = {[PCIGUEST_CONFIG] = 0x100, [PCIGUEST_IO] = 0x10000, [PCIGUEST_MEMORY] = 0};
+static const uint64_t ends[] = {[PCIGUEST_CONFIG] = 0x100, [PCIGUEST_IO] = 0x100000000, [PCIGUEST_MEMORY] = 0};
 
 static uint64_t any_place(uint32_t space)
 {
@@ -29,7 +29,7 @@ static uint64_t any_place(uint32_t space)
         return ends[space] - below(12);
     switch (space) {
     case PCIGUEST_CONFIG: return below(64);
-    case PCIGUEST_IO: return below(3) ? 0x1000 + below(64) : 0xcf4 + below(16);
+    case PCIGUEST_IO: return below(4) ? (below(2) ? 0x1000 : 0x10000) + below(64) : 0xcf4 + below(16);
     default: return 0xc0000000 + (below(4) << 20) + below(80);
     }
 }
@@ -104,6 +104,11 @@ int main(int argc, char **argv)
         (void)pciguest_write(&wide, 0, PCIGUEST_CONFIG, slot, 4, 2, 3);
         (void)pciguest_write(&lawful, 0, PCIGUEST_CONFIG, slot, 4, 2, 3);
     }
+    /* a region at ports above FFFFh, where narrow accesses reach it too */
+    (void)pciguest_write(&wide, 0, PCIGUEST_CONFIG, 0, 0x10, 4, 0x10000);
+    (void)pciguest_write(&lawful, 0, PCIGUEST_CONFIG, 0, 0x10, 4, 0x10000);
+    is_well &= pciguest_read_wide(&wide, 0, PCIGUEST_IO, 0, 0xfffe, 4, &value) == 0 && value == 0xffff;
+    is_well &= pciguest_read_wide(&wide, 0, PCIGUEST_IO, 0, 0xfffffffc, 5, &value) == PCIGUEST_OUT_OF_RANGE;
     state = strtoull(argv[3], NULL, 10) * 0x9e3779b97f4a7c15;
     for (unsigned long left = strtoul(argv[2], NULL, 10); left && is_well; left--)
         is_well = is_alike(&wide, &lawful);

@@ -11,7 +11,7 @@ from ._refusal import Refusal
 # how far on each cycle of the bus of one access begins, and how wide it is
 Cycles = List[Tuple[int, int]]
 # the last place of each space that an access of several pieces may touch
-LAST = {CONFIG: 0xFF, IO: 0xFFFF, MEMORY: (1 << 64) - 1}
+LAST = {CONFIG: 0xFF, IO: 0xFFFFFFFF, MEMORY: (1 << 64) - 1}
 
 
 def place_and_width(key: slice) -> Tuple[int, int]:

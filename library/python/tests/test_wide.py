@@ -6,7 +6,7 @@ import unittest
 from boards import MAIN
 from pciguest import Board, Machine, Refusal
 
-ENDS = {"config": 0x100, "io": 0x10000, "memory": 1 << 64}
+ENDS = {"config": 0x100, "io": 1 << 32, "memory": 1 << 64}
 
 
 def spaces(machine, slot):
@@ -20,7 +20,7 @@ def a_place(chance, space):
     if space == "config":
         return chance.randrange(64)
     if space == "io":
-        return chance.choice([0x1000, 0xCF4]) + chance.randrange(16)
+        return chance.choice([0x1000, 0x10000, 0xCF4]) + chance.randrange(16)
     return 0xC0000000 + (chance.randrange(3) << 20) + chance.randrange(80)
 
 
@@ -83,6 +83,15 @@ class Wide(unittest.TestCase):
         with Board(MAIN) as board:
             board.io.wide[0xCF8:8] = 0x1234567880001000
             self.assertEqual(board.io.wide[0xCF8:6], 0x123480001000)
+
+    def test_ports_above_ffffh(self):
+        with Machine(MAIN) as machine:
+            guest = machine.guest("a")
+            guest.config[0][0x10:4], guest.config[0][4:2] = 0x10000, 1
+            self.assertEqual(guest.io[0x10000:4], 0)
+            self.assertEqual(guest.io.wide[0xFFFE:8], 0xFFFF)
+            with self.assertRaises(Refusal):
+                guest.io.wide[0xFFFFFFFC:5]
 
     def test_numbers_that_do_not_fit(self):
         with Machine(MAIN) as machine:

@@ -77,7 +77,7 @@ fn may_be_split(at: At, width: u32) -> Result<(), Error> {
     }
     let last = match space {
         CONFIG => 0xff,
-        IO => 0xffff,
+        IO => 0xffff_ffff,
         _ => u64::MAX,
     };
     if place > last || u64::from(width) - 1 > last - place {

@@ -46,10 +46,10 @@ fn wide_accesses_are_split() -> Result<(), Error> {
     assert_eq!(number(machine.read_wide(a, memory(0), 9)), 302);
     assert_eq!(number(machine.read_wide(a, memory(u64::MAX), 2)), 303);
     assert_eq!(
-        number(machine.read_wide(a, At::Io { port: 0xfffd }, 4)),
+        number(machine.read_wide(a, At::Io { port: 0xffff_fffd }, 4)),
         303
     );
-    assert_eq!(machine.read_wide(a, At::Io { port: 0xfffd }, 3)?, 0xff_ffff);
+    assert_eq!(machine.read_wide(a, At::Io { port: 0xfffd }, 4)?, 0xffff_ffff);
     let end = At::Config {
         slot: 0,
         offset: 0xfd,
