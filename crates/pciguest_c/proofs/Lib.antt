@@ -3,6 +3,7 @@ mod FunctionRows
 mod FaultNumbers
 mod Images
 mod Kept
+mod LongTexts
 mod Moved
 mod OpenFaults
 mod Options

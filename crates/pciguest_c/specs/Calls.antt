@@ -1,7 +1,8 @@
 -- What C asks of a machine or of a board that firmware drives, as data, and what each call answers.
 --     Call, BoardCall      a call with what it is given
---     Told      what a call tells, and what stands where it goes: nothing, a number, a row of some kind; a text or a line's reply,
---         which go to a buffer, and with it how many bytes a text takes
+--     Told      what a call tells, and what stands where it goes: nothing, a number, a row of some kind; a text, a line's reply or
+--         a machine's image, which go to a buffer, and with it how many bytes that takes; a text with a count beside it; and rows,
+--         with how many there are
 --     Outcome      a call is refused, or is done, with what is told and the session after it
 --     reading r, doing r, telling f r      the outcome of a reply, which tells what was read, or nothing; and of an answer
 --     where_lawful, where_guest m guest, of_guest m guest      902 where a value is none that is lawful, and where the machine
@@ -9,10 +10,15 @@
 --     outcome c m, board_outcome c b      what becomes of a call of a machine, and of a board
 --     Answer      the number that is answered, the session after it, and what then stands where the answer goes
 --     settled s old o      the answer of an outcome: a refusal tells and changes nothing, and 902 is answered where a buffer has
---         less room than a text takes, whose length alone is told, or than a reply may
+--         less room than a text, an image or rows take, whose length alone is told, or than a reply may
 --     Answers c before after n old new, AnswersBoard ..      a call of a handle is answered so, and by 901 where nothing is held
-use Rattle.std.specs.Prelude.{◌≡◌, ℕ, slice_get, Bool, true, false, unwrap_or, if◌then◌else◌, nat_lt, nat_le, length, Option, None, Some, option_and_then, Result, Ok, Err}
-use Rattle.model_guests.specs.Accesses.{Op, RaisePlace, Reply, answered, done, refused}
+--     unless_out n o      an outcome; but where n is 299, memory ran out, and nothing is told or changed
+--     AnswersOrRunsOut c before after n old new, AnswersBoardOrRunsOut ..      the same of a call that takes memory
+--     AnswersLine line room before after n old new      the same of a line of a session, which takes memory where it asks for more
+--         than a reply, and has no less room than a reply may take
+--     AnswersLoad told R before after n      a load, after which the machine is one that R relates, or else by the number that is told of it
+use Rattle.std.specs.Prelude.{◌≡◌, ◌≢◌, ◌==◌, ℕ, List, map, IfNone, IfSome, slice_get, Bool, true, false, unwrap_or, if◌then◌else◌, nat_lt, nat_le, length, Option, None, Some, option_and_then, option_map, Result, Ok, Err}
+use Rattle.model_guests.specs.Accesses.{Op, RaisePlace, Reply, Target, answered, done, refused}
 use Rattle.model_guests.specs.Accesses.{Event, access, raises, reads, writes}
 use Rattle.model_guests.specs.DeviceEvents.{DeviceByte, DeviceEvent, resets, device_reads, device_writes}
 use Rattle.model_guests.specs.Text.{Text}
@@ -20,29 +26,38 @@ use Rattle.model_guests.specs.Grammar.{HostTarget}
 use Rattle.model_guests.specs.Lines.{host_move}
 use Rattle.model_guests.specs.WorldNow.{move_reply, host_reply, board_state, line_output}
 use Rattle.model_guests.specs.Calls.{asks}
+use Rattle.model_audit.specs.AuditText.{audit}
+use Rattle.model_audit.specs.Problems.{problems}
+use Rattle.model_ready.specs.Lacks.{lack_count}
+use Rattle.model_ready.specs.ReadyText.{ready_report}
 use Rattle.model_handoff.specs.Actions.{calls}
 use Rattle.model_handoff.specs.Changes.{MachineNow, after_on_machine, after_line_on_machine}
 use Rattle.model_handoff.specs.Functions.{function_nth}
 use Rattle.model_handoff.specs.DrivenFunctions.{driven_function_nth}
 use Rattle.model_lines.specs.HostAccesses.{HostAccess}
 use Rattle.model_lines.specs.HostAccesses as board
-use Rattle.model_lines.specs.Sessions.{DrivenNow, SessionNow, driven, given, after_board_access}
-use Rattle.session.specs.Stages.{board_in, machine_in}
+use Rattle.model_lines.specs.Sessions.{DrivenNow, SessionNow, driven, given, after_board_access, session_output, after_session_line}
+use Rattle.session.specs.Stages.{asks_for_more, board_in, machine_in}
+use Rattle.monitor.specs.ByIndex.{name_nth}
 use Rattle.monitor.specs.Moves.{move_nth}
+use Rattle.machine_images.specs.SavedParts.{capped}
 use Rattle.pciguest_c.specs.Told.{target_told, part_told, at_bus, host_target_told, reply_asked, after_asked, index_asked}
 use Rattle.pciguest_c.specs.DevicesTold.{reply_at_device, after_at_device, wide_read, after_wide}
 use Rattle.pciguest_c.specs.SeatingsTold.{gift_reply, after_gift, taking_reply, after_taking}
-use Rattle.pciguest_c.specs.ImagesTold.{image_asked, after_restart}
+use Rattle.pciguest_c.specs.ImagesTold.{image_asked, after_restart, machine_image}
 use Rattle.pciguest_c.specs.QueriesTold.{region_asked, region_told, hit_asked, hit_told}
 use Rattle.pciguest_c.specs.FunctionsTold.{function_row, slot_asked}
 use Rattle.pciguest_c.specs.DrivenTold.{driven_row}
+use Rattle.pciguest_c.specs.WhyTold.{why_asked}
+use Rattle.pciguest_c.specs.ProblemsTold.{problem_row}
 use Rattle.pciguest_c.specs.TextsTold.{at_front}
-use Rattle.pciguest_c.specs.Handles.{session_of}
+use Rattle.pciguest_c.specs.Handles.{session_of, machine_of, board_of}
 use Rattle.pciguest_c.specs.declared.handle.Handle.{Handle}
 use Rattle.pciguest_c.specs.declared.querying.RegionTold.{RegionTold}
 use Rattle.pciguest_c.specs.declared.querying.HitTold.{HitTold}
 use Rattle.pciguest_c.specs.declared.function_row.FunctionRow.{FunctionRow}
 use Rattle.pciguest_c.specs.declared.driven_calls.DrivenRow.{DrivenRow}
+use Rattle.pciguest_c.specs.declared.problem_rows.ProblemRow.{ProblemRow}
 
 pub data Call : Type 0 where
   read : (guest space slot place width : ℕ) → Call
@@ -63,11 +78,15 @@ pub data Call : Type 0 where
   changed : (guest : ℕ) → Call
   guest_named : (name : Text) → Call
   guest_count : Call
+  guest_name : (guest : ℕ) → Call
   image_size : (guest : ℕ) → Call
   save : (guest : ℕ) → Call
+  image_size_all : Call
+  save_all : Call
   function_count : Call
   function_at : (index : ℕ) → Call
   function_in : (guest slot : ℕ) → Call
+  why : (guest space slot place : ℕ) → Call
   run_line : (line : Text) → Call
 
 pub data BoardCall : Type 0 where
@@ -75,6 +94,9 @@ pub data BoardCall : Type 0 where
   board_write : (space bus device function place width value : ℕ) → BoardCall
   board_count : BoardCall
   board_function : (index : ℕ) → BoardCall
+  board_audit : BoardCall
+  board_ready : BoardCall
+  board_problems : BoardCall
 
 pub data Told : Type 0 where
   nothing : Told
@@ -85,7 +107,12 @@ pub data Told : Type 0 where
   a_driven : DrivenRow → Told
   text : Text → Told
   reply : Text → Told
+  image : Text → Told
   buffer : Text → ℕ → Told
+  counted : Text → ℕ → Told
+  counter : Text → ℕ → ℕ → Told
+  rows : List ProblemRow → Told
+  row_buffer : List ProblemRow → ℕ → Told
 
 pub data Outcome : Type 0 where
   refusal : ℕ → Outcome
@@ -129,10 +156,9 @@ device_asked m guest e = doing (reply_at_device m.world guest e) (given (after_a
 abbrev pub byte_at : ℕ → RaisePlace → ℕ → DeviceByte
 byte_at slot part offset = record { slot = slot; part = part; offset = offset }
 
--- words that tactics leave closed, as replies of the host compute long
-unfoldable pub host_reading : MachineNow → Option HostTarget → ℕ → Outcome
-host_reading m o width =
-    where_lawful o (λ t. reading (host_reply m.world (record { target = t; width = width })) (given m))
+-- words that tactics leave closed, as replies of the host and what is found on a board compute long
+unfoldable pub host_asked : MachineNow → Option HostTarget → ℕ → Option Reply
+host_asked m o width = option_map (λ t. host_reply m.world (record { target = t; width = width })) o
 
 unfoldable pub giving : MachineNow → Text → ℕ → ℕ → Outcome
 giving m path guest slot =
@@ -142,10 +168,23 @@ unfoldable pub telling_slot : MachineNow → ℕ → ℕ → Outcome
 telling_slot m guest slot =
     of_guest m guest (telling (λ f. a_function (function_row f)) (slot_asked m.world guest slot) (given m))
 
-unfoldable pub board_asked : DrivenNow → Option HostTarget → ℕ → Op → (Reply → SessionNow → Outcome) → Outcome
-board_asked b o width op f = where_lawful o (λ t.
+unfoldable pub board_asked : DrivenNow → Option HostTarget → ℕ → Op → Option (Reply × DrivenNow)
+board_asked b o width op = option_map (λ t.
     let a : HostAccess = record { target = t; width = width; op = op } in
-    f (board.answer b.state a) (driven (after_board_access b a)))
+    (board.answer b.state a, after_board_access b a)) o
+
+unfoldable pub telling_why : MachineNow → ℕ → Option Target → Outcome
+telling_why m guest o = where_lawful (where_guest m guest o) (λ t. telling text (why_asked m.world guest t) (given m))
+
+unfoldable pub auditing : DrivenNow → Outcome
+auditing b = tells (counted (audit b.state.functions) (length (problems b.state.functions))) (driven b)
+
+unfoldable pub judging : DrivenNow → Outcome
+judging b =
+    tells (counted (ready_report b.world.apertures b.state.functions) (lack_count b.world.apertures b.state.functions)) (driven b)
+
+unfoldable pub finding : DrivenNow → Outcome
+finding b = tells (rows (map problem_row (problems b.state.functions))) (driven b)
 
 abbrev pub outcome : Call → MachineNow → Outcome
 outcome (read guest space slot place width) m = where_lawful (where_guest m guest (target_told space slot place)) (λ t.
@@ -155,7 +194,7 @@ outcome (write guest space slot place width value) m = where_lawful (where_guest
 outcome (raise guest slot part offset mask) m = where_lawful (where_guest m guest (part_told part)) (λ p.
     asked m guest (raises (record { slot = slot; part = p; offset = offset; mask = mask })))
 outcome (host_read space bus device function place width) m =
-    host_reading m (host_target_told space (at_bus bus device function) place) width
+    where_lawful (host_asked m (host_target_told space (at_bus bus device function) place) width) (λ r. reading r (given m))
 outcome (move source slot guest target) m =
     if are_guests m source guest
     then doing (move_reply m.world.guests (move_nth m.world source slot guest target))
@@ -182,38 +221,56 @@ outcome (locate guest space slot place) m = where_lawful (where_guest m guest (t
 outcome (changed guest) m = of_guest m guest (tells (number (unwrap_or (slice_get m.counts guest) 0)) (given m))
 outcome (guest_named name) m = where_lawful (index_asked m.world name) (λ i. tells (number i) (given m))
 outcome guest_count m = tells (number (length m.world.guests)) (given m)
+outcome (guest_name guest) m = of_guest m guest (tells (text (name_nth m.world guest)) (given m))
 outcome (image_size guest) m = of_guest m guest (tells (number (length (image_asked m.world guest))) (given m))
 outcome (save guest) m = of_guest m guest (tells (text (image_asked m.world guest)) (given m))
+outcome image_size_all m = tells (number (capped (length (machine_image m.world)))) (given m)
+outcome save_all m = tells (image (machine_image m.world)) (given m)
 outcome function_count m = tells (number (length (board_state m.world).functions)) (given m)
 outcome (function_at index) m = where_lawful (function_nth (board_state m.world) m.world.guests index) (λ f.
     tells (a_function (function_row f)) (given m))
 outcome (function_in guest slot) m = telling_slot m guest slot
+outcome (why guest space slot place) m = telling_why m guest (target_told space slot place)
 outcome (run_line line) m = tells (reply (line_output m.world line)) (given (after_line_on_machine m line))
 
 abbrev pub board_outcome : BoardCall → DrivenNow → Outcome
 board_outcome (board_read space bus device function place width) b =
-    board_asked b (host_target_told space (at_bus bus device function) place) width reads reading
+    where_lawful (board_asked b (host_target_told space (at_bus bus device function) place) width reads) (λ a.
+    reading a.0 (driven a.1))
 board_outcome (board_write space bus device function place width value) b =
-    board_asked b (host_target_told space (at_bus bus device function) place) width (writes value) doing
+    where_lawful (board_asked b (host_target_told space (at_bus bus device function) place) width (writes value)) (λ a.
+    doing a.0 (driven a.1))
 board_outcome board_count b = tells (number (length b.state.functions)) (driven b)
 board_outcome (board_function index) b = where_lawful (driven_function_nth b.state index) (λ f.
     tells (a_driven (driven_row f)) (driven b))
+board_outcome board_audit b = auditing b
+board_outcome board_ready b = judging b
+board_outcome board_problems b = finding b
 
 -- ---- what is answered
 
 abbrev pub fits : Told → Told → Bool
 fits (text t) (buffer out needed) = nat_le (length t) (length out)
 fits (reply t) (buffer out needed) = nat_le 48 (length out)
+fits (image t) (buffer out needed) = nat_le (length t) (length out)
+fits (counted t n) (counter out needed count) = nat_le (length t) (length out)
+fits (rows rs) (row_buffer out count) = nat_le (length rs) (length out)
 fits t old = true
 
 abbrev pub left : Told → Told → Told
 left nothing old = old
 left (text t) (buffer out needed) = buffer (at_front t out) (length t)
 left (reply t) (buffer out needed) = buffer (at_front t out) (length t)
+left (image t) (buffer out needed) = buffer (at_front t out) (capped (length t))
+left (counted t n) (counter out needed count) = counter (at_front t out) (length t) n
+left (rows rs) (row_buffer out count) = row_buffer (at_front rs out) (length rs)
 left t old = t
 
 abbrev pub short : Told → Told → Told
 short (text t) (buffer out needed) = buffer out (length t)
+short (image t) (buffer out needed) = buffer out (capped (length t))
+short (counted t n) (counter out needed count) = counter out (length t) count
+short (rows rs) (row_buffer out count) = row_buffer out (length rs)
 short t old = old
 
 pub record Answer : Type 0 where
@@ -247,3 +304,34 @@ Answers c before after n old new = IsAnswer (answer c (session_of before) old) (
 
 abbrev pub AnswersBoard : BoardCall → Handle → Handle → ℕ → Told → Told → Type 0
 AnswersBoard c before after n old new = IsAnswer (board_answer c (session_of before) old) (session_of after) n new
+
+-- ---- calls that take memory
+
+abbrev pub unless_out : ℕ → Outcome → Outcome
+unless_out n (refusal k) = refusal k
+unless_out n (tells t x) = if n == 299 then refusal 299 else tells t x
+
+abbrev pub AnswersOrRunsOut : Call → Handle → Handle → ℕ → Told → Told → Type 0
+AnswersOrRunsOut c before after n old new =
+    IsAnswer (answer_of (λ m. unless_out n (outcome c m)) (session_of before) old (machine_of before)) (session_of after) n new
+
+abbrev pub AnswersBoardOrRunsOut : BoardCall → Handle → Handle → ℕ → Told → Told → Type 0
+AnswersBoardOrRunsOut c before after n old new =
+    IsAnswer (answer_of (λ b. unless_out n (board_outcome c b)) (session_of before) old (board_of before)) (session_of after) n new
+
+-- ---- a line of a session, and loads
+
+abbrev pub line_outcome : Text → ℕ → ℕ → SessionNow → Outcome
+line_outcome line room n s =
+    if nat_lt room 48 then refusal 902
+    else (if asks_for_more s line then unless_out n (tells (text (session_output s line)) (after_session_line s line))
+    else tells (reply (session_output s line)) (after_session_line s line))
+
+abbrev pub AnswersLine : Text → ℕ → Option SessionNow → Option SessionNow → ℕ → Told → Told → Type 0
+AnswersLine line room before after n old new = IsAnswer (answer_of (line_outcome line room n) before old before) after n new
+
+pub record AnswersLoad (told : MachineNow → ℕ) (R : MachineNow → MachineNow → Type 0) (before after : Handle) (n : ℕ) : Type 0 where
+  pub nothing : IfNone (machine_of before) (n ≡ 901)
+  pub number : IfSome (machine_of before) (λ m. n ≡ told m)
+  pub loaded : IfSome (machine_of before) (λ m. n ≡ 0 → (x : MachineNow) × R m x × (machine_of after ≡ Some x))
+  pub refused : n ≢ 0 → session_of after ≡ session_of before

@@ -1,10 +1,26 @@
--- Why a board is not given to the guests of its file, for C.
---     IsNumberOfRefusal b n      the number of why: of its first fault, or of no memory
-use Rattle.std.specs.Prelude.{◌≡◌, ℕ}
-use Rattle.model_lines.specs.Sessions.{DrivenNow}
+-- How a machine is made of a board, for C.
+--     SetsUp o before after n      our own set-up of a board that firmware drives, if there is one, into a handle: 901 where there
+--         is none, 903 where the handle holds something, and 904 where firmware wrote; else 0, out of memory, or the first rule
+--         that the board breaks
+--     IsNumberOfRefusal b n      why a board is not given to the guests of its file: the number of its first fault, or of no memory
+use Rattle.std.specs.Prelude.{◌≡◌, ◌≢◌, ◌<◌, ◌≤◌, ◌⊎◌, ℕ, true, false, Option, IfNone, IfSome, IsSome, option_and_then}
+use Rattle.model_handoff.specs.Changes.{BeginsIn}
+use Rattle.model_lines.specs.Sessions.{DrivenNow, SessionNow}
 use Rattle.monitor.specs.declared.handover.HandoverFault.{HandoverFault}
 use Rattle.monitor.specs.Handovers.{number_of}
 use Rattle.session.specs.Boards.{IsRefusalOf}
+use Rattle.session.specs.Files.{BreaksRule, IsAtFirst}
+use Rattle.session.specs.Stages.{machine_in}
+
+pub record SetsUp (o : Option DrivenNow) (before after : Option SessionNow) (n : ℕ) : Type 0 where
+  pub nothing : IfNone o (n ≡ 901)
+  pub in_use : IfSome o (λ _. IfSome before (λ _. n ≡ 903))
+  pub written : IfSome o (λ b. IfNone before (b.written ≡ true → n ≡ 904))
+  pub numbers : IfSome o (λ b. IfNone before (b.written ≡ false → (n ≡ 0) ⊎ ((199 ≤ n) × (n ≤ 299))))
+  pub made : n ≡ 0 → IsSome (option_and_then machine_in after)
+  pub begins : IfSome o (λ b. n ≡ 0 → IfSome (option_and_then machine_in after) (BeginsIn (IsAtFirst b.world)))
+  pub placement : IfSome o (λ b. 199 < n → n < 299 → BreaksRule b.world n)
+  pub refused : n ≢ 0 → after ≡ before
 
 pub record IsNumberOfRefusal (b : DrivenNow) (n : ℕ) : Type 0 where
   pub fault : HandoverFault

@@ -2,10 +2,10 @@
 --     image_asked w guest      the bytes of the image of a guest by its index
 --     after_restart m guest      the machine after this guest was put to reset
 --     load_number w guest bytes      0, or the number of why bytes can't be loaded into the guest
+--     load_asked m guest bytes      the same, or 902 where the machine has no such guest
 --     machine_image w      the bytes of the image of the whole machine
---     TellsAll o n before after old new      a buffer before and after these go to its front, and how many that is told to be
 --     load_all_number w bytes      0, or the number of why bytes can't be loaded into the machine
-use Rattle.std.specs.Prelude.{◌≡◌, ℕ, Option, IfNone, IfSome, length, unwrap_or}
+use Rattle.std.specs.Prelude.{ℕ, if◌then◌else◌, length, nat_lt, unwrap_or}
 use Rattle.model_guests.specs.Text.{Text}
 use Rattle.model_guests.specs.Guests.{lone_of}
 use Rattle.model_guests.specs.WorldNow.{WorldNow}
@@ -19,8 +19,6 @@ use Rattle.model_image_bytes.specs.LoadedBytes.{load_fault}
 use Rattle.model_image_bytes.specs.LoadedMachines.{load_all_fault}
 use Rattle.model_image_bytes.specs.MachineBytes.{machine_bytes}
 use Rattle.monitor.specs.ByIndex.{name_nth}
-use Rattle.machine_images.specs.SavedParts.{capped}
-use Rattle.pciguest_c.specs.TextsTold.{IsTold}
 
 abbrev pub image_asked : WorldNow → ℕ → Text
 image_asked w guest = image_bytes (image_of_guest (name_nth w guest) w)
@@ -31,15 +29,13 @@ after_restart m guest = after_request_on_machine m (restarts (name_nth m.world g
 unfoldable pub load_number : WorldNow → ℕ → Text → ℕ
 load_number w guest bytes = unwrap_or (load_fault (lone_of w.guests (name_nth w guest)) bytes) 0
 
+abbrev pub load_asked : MachineNow → ℕ → Text → ℕ
+load_asked m guest bytes = if nat_lt guest (length m.world.guests) then load_number m.world guest bytes else 902
+
 -- ---- the whole machine
 
 abbrev pub machine_image : WorldNow → Text
 machine_image w = machine_bytes (image_of_machine w)
-
-pub record TellsAll (o : Option MachineNow) (n : ℕ) (before after : Text) (old new : ℕ) : Type 0 where
-  pub nothing : IfNone o ((n ≡ 901) × (after ≡ before) × (new ≡ old))
-  pub told : IfSome o (λ m. IsTold (machine_image m.world) before after n)
-  pub needed : IfSome o (λ m. new ≡ capped (length (machine_image m.world)))
 
 unfoldable pub load_all_number : WorldNow → Text → ℕ
 load_all_number w bytes = unwrap_or (load_all_fault w bytes) 0

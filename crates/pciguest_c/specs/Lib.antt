@@ -11,7 +11,6 @@ pub mod ProblemsTold
 pub mod DrivenTold
 pub mod Handles
 pub mod TextsTold
-pub mod Answered
 pub mod Handovers
 pub mod ImagesTold
 pub mod Calls

@@ -3,8 +3,7 @@
 --     no_register      in place of a base address register, where none is told
 --     reached_text p      the text of what a cycle reaches, which is empty where it reaches nothing
 --     problem_row p      all that is told of a problem
---     rows_at_front rows out      a buffer with rows at its front
-use Rattle.std.specs.Prelude.{ℕ, ◌++◌, List, [], drop, length, Option}
+use Rattle.std.specs.Prelude.{ℕ, [], length, Option}
 use Rattle.std.specs.Option.{option_map_or}
 use Rattle.model_board.specs.Paths.{Path}
 use Rattle.model_guests.specs.Text.{Text}
@@ -63,6 +62,3 @@ problem_row (not_found path at instead) = record {
   device = at.part.device;
   function = at.part.function;
 }
-
-abbrev pub rows_at_front : List ProblemRow → List ProblemRow → List ProblemRow
-rows_at_front rows out = rows ++ drop (length rows) out

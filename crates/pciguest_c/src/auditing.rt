@@ -1,15 +1,28 @@
 //! What C is told of all that is wrong in the registers of a board.
-ghost use Rattle.std.specs.Prelude.{◌≡◌, ◌≢◌, IfSome, length};
-ghost use Rattle.model_audit.specs.AuditText.{audit};
-ghost use Rattle.model_audit.specs.Problems.{problems};
-ghost use Rattle.pciguest_c.specs.Handles.{session_of, board_of};
-ghost use Rattle.pciguest_c.specs.TextsTold.{TellsText};
+ghost use Rattle.std.specs.Prelude.{◌≡◌, IfOk, IfErr, string_bytes};
+ghost use Rattle.model_lines.specs.Sessions.{driven};
+ghost use Rattle.pciguest_c.specs.Calls.{AnswersBoardOrRunsOut, board_audit, auditing, counted, counter};
+ghost use Rattle.pciguest_c.specs.Calls.{refusal, tells, unless_out};
 
 use crate::handle::Handle;
 use crate::numbers::MEMORY;
 use crate::text_calls::tell_counted;
-use session::Audit;
+use session::{Audit, Board};
 use std::alloc::Global;
+
+/// What is wrong, or 299 out of memory.
+#[tactic(auto, unfolding(crate::specs::Calls::auditing))]
+fn audit_of(alloc: Global, board: &mut Board) -> Result<Audit, u32>
+    ensures told { IfOk result (λ a. auditing board.old
+        ≡ tells (counted (string_bytes a.text) a.problems) (driven board.old)) }
+    ensures memory { IfErr result (λ n. unless_out n (auditing board.old) ≡ refusal n) }
+    ensures kept { board.new ≡ board.old }
+{
+    match board.audit(alloc) {
+        Ok(audit) => Ok(audit),
+        Err(_) => Err(MEMORY),
+    }
+}
 
 /// Writes what is wrong in the registers of a board as they stand to the front of `out`, and tells how many
 /// problems there are; and how long the text is, also where `out` has less room than that. The board stays
@@ -22,18 +35,10 @@ pub extern "C" fn pciguest_raw_board_audit(
     needed: &mut usize,
     count: &mut usize,
 ) -> u32
-    ensures text { TellsText (board_of handle.old) (λ b. audit b.state.functions)
-        result out.old out.new needed.old needed.new }
-    ensures count { IfSome (board_of handle.old) (λ b. result ≡ 0 →
-        count.new ≡ length (problems b.state.functions)) }
-    ensures kept { session_of handle.new ≡ session_of handle.old }
-    ensures uncounted { result ≢ 0 → count.new ≡ count.old }
+    ensures { AnswersBoardOrRunsOut board_audit handle.old handle.new result
+        (counter out.old needed.old count.old) (counter out.new needed.new count.new) }
 {
-    let answer = handle.ask_board(alloc, |board| match board.audit(alloc) {
-        Ok(audit) => Ok(audit),
-        Err(_) => Err(MEMORY),
-    });
-    match answer {
+    match handle.ask_board(alloc, |board| audit_of(alloc, board)) {
         Ok(Audit { text, problems }) => {
             tell_counted(text.as_bytes(), problems, out, needed, count)
         }

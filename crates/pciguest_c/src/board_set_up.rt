@@ -1,64 +1,46 @@
 //! Our own set-up of a board at reset, for C.
-ghost use Rattle.std.specs.Prelude.{◌≡◌, ◌≢◌, ◌<◌, ◌≤◌, ◌⊎◌, true, false, IfNone, IfSome, IfOk, IfErr};
-ghost use Rattle.std.specs.Prelude.{IsErrOf, IsFalse, IsSome, IsTrue};
-ghost use Rattle.model_handoff.specs.Changes.{BeginsIn};
-ghost use Rattle.session.specs.Files.{BreaksRule, IsAtFirst};
-ghost use Rattle.session.specs.Stages.{board_in, machine_in};
-ghost use Rattle.pciguest_c.specs.Handles.{session_of, machine_of, board_of};
+ghost use Rattle.std.specs.Prelude.{◌≡◌, Some};
+ghost use Rattle.session.specs.Stages.{board_in};
+ghost use Rattle.pciguest_c.specs.Handles.{session_of, board_of};
+ghost use Rattle.pciguest_c.specs.Handovers.{SetsUp};
 
 use crate::handle::Handle;
 use crate::numbers::{IN_USE, MEMORY, NO_MACHINE, NOT_AT_RESET};
 use session::{Board, Session};
 use std::alloc::Global;
 
-/// The session that our own set-up makes of a board, unless the handle where it goes is in use.
-fn set_up(alloc: Global, board: &Board, in_use: bool) -> Result<Box<Session>, u32>
-    ensures in_use { IsTrue in_use → IsErrOf result 903 }
-    ensures written { IsFalse in_use → board.now.written ≡ true → IsErrOf result 904 }
-    ensures at_reset { IsFalse in_use → board.now.written ≡ false →
-        IfErr result (λ n. (199 ≤ n) × (n ≤ 299)) }
-    ensures made { IfOk result (λ s. IsSome (machine_in s.value)) }
-    ensures begins { IfOk result (λ s.
-        IfSome (machine_in s.value) (BeginsIn (IsAtFirst board.now.world))) }
-    ensures placement { IfErr result (λ n. 199 < n → n < 299 → BreaksRule board.now.world n) }
-    ensures numbers { IfErr result (λ n. n ≢ 0) }
+/// Puts the machine that our own set-up makes of a board into a handle that holds nothing.
+fn set_up(alloc: Global, board: &Board, machine: &mut Handle) -> u32
+    ensures { SetsUp (Some board.now) (session_of machine.old) (session_of machine.new) result }
 {
-    if in_use {
-        return Err(IN_USE);
+    if machine.is_live() {
+        return IN_USE;
     }
     if !board.is_at_reset() {
-        return Err(NOT_AT_RESET);
+        return NOT_AT_RESET;
     }
     match board.set_up(alloc) {
         Ok(monitor) => match Box::new(alloc, Session::of(alloc, monitor)) {
-            Ok(session) => Ok(session),
-            Err(_) => Err(MEMORY),
+            Ok(session) => {
+                *machine = Handle::of(session);
+                0
+            }
+            Err(_) => MEMORY,
         },
-        Err(fault) => Err(u32::from(fault.number())),
+        Err(fault) => u32::from(fault.number()),
     }
 }
 
 /// The same of a session, or 901 where firmware drives no board in it.
-fn set_up_of(alloc: Global, session: &mut Session, in_use: bool) -> Result<Box<Session>, u32>
-    ensures none { IfNone (board_in session.old) (IsErrOf result 901) }
-    ensures in_use { IfSome (board_in session.old) (λ _. IsTrue in_use → IsErrOf result 903) }
-    ensures written { IfSome (board_in session.old) (λ b.
-        IsFalse in_use → b.written ≡ true → IsErrOf result 904) }
-    ensures at_reset { IfSome (board_in session.old) (λ b.
-        IsFalse in_use → b.written ≡ false →
-        IfErr result (λ n. (199 ≤ n) × (n ≤ 299))) }
-    ensures made { IfOk result (λ s. IsSome (machine_in s.value)) }
-    ensures begins { IfSome (board_in session.old) (λ b.
-        IfOk result (λ s. IfSome (machine_in s.value) (BeginsIn (IsAtFirst b.world)))) }
-    ensures placement { IfSome (board_in session.old) (λ b.
-        IfErr result (λ n. 199 < n → n < 299 → BreaksRule b.world n)) }
-    ensures numbers { IfErr result (λ n. n ≢ 0) }
+fn set_up_in(alloc: Global, session: &mut Session, machine: &mut Handle) -> u32
+    ensures made { let before = session_of machine.old in
+        SetsUp (board_in session.old) before (session_of machine.new) result }
     ensures kept { session.new ≡ session.old }
 {
-    let Some(board) = session.board() else {
-        return Err(NO_MACHINE);
-    };
-    set_up(alloc, board, in_use)
+    match session.board() {
+        Some(board) => set_up(alloc, board, machine),
+        None => NO_MACHINE,
+    }
 }
 
 /// Sets up a board at reset as our own set-up does, and gives its functions to the guests of its file: the
@@ -71,31 +53,14 @@ pub extern "C" fn pciguest_raw_set_up(
     handle: &mut Handle,
     machine: &mut Handle,
 ) -> u32
-    ensures none { IfNone (board_of handle.old) (result ≡ 901) }
-    ensures in_use { IfSome (board_of handle.old) (λ _.
-        IfSome (session_of machine.old) (λ _. result ≡ 903)) }
-    ensures written { IfSome (board_of handle.old) (λ b. IfNone (session_of machine.old)
-        (b.written ≡ true → result ≡ 904)) }
-    ensures numbers { IfSome (board_of handle.old) (λ b. IfNone (session_of machine.old)
-        (b.written ≡ false → (result ≡ 0) ⊎ ((199 ≤ result) × (result ≤ 299)))) }
-    ensures made { result ≡ 0 → IsSome (machine_of machine.new) }
-    ensures begins { IfSome (board_of handle.old) (λ b. result ≡ 0 →
-        IfSome (machine_of machine.new) (BeginsIn (IsAtFirst b.world))) }
-    ensures placement { IfSome (board_of handle.old) (λ b.
-        199 < result → result < 299 → BreaksRule b.world result) }
+    ensures made { let before = session_of machine.old in
+        SetsUp (board_of handle.old) before (session_of machine.new) result }
     ensures kept { session_of handle.new ≡ session_of handle.old }
-    ensures refused { result ≢ 0 → session_of machine.new ≡ session_of machine.old }
 {
     let Some(mut session) = handle.take(alloc) else {
         return NO_MACHINE;
     };
-    let answer = set_up_of(alloc, &mut session, machine.is_live());
+    let number = set_up_in(alloc, &mut session, machine);
     *handle = Handle::of(session);
-    match answer {
-        Ok(made) => {
-            *machine = Handle::of(made);
-            0
-        }
-        Err(number) => number,
-    }
+    number
 }

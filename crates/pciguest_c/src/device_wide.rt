@@ -4,7 +4,7 @@ ghost use Rattle.pciguest_c.specs.Calls.{Answers, device_read_wide, device_write
 use crate::asking::part_for;
 use crate::device_bytes::{wide_read, wide_write};
 use crate::handle::Handle;
-use crate::numbers::put_result;
+use crate::numbers::{number_of_done, put_result};
 use std::alloc::Global;
 
 /// Reads 1 to 8 bytes of a guest's function as its device, all of one region or of configuration space, the lowest
@@ -46,12 +46,8 @@ pub extern "C" fn pciguest_raw_device_write_wide(
     ensures { Answers (device_write_wide guest slot part offset width value)
         handle.old handle.new result nothing nothing }
 {
-    let answer = handle.ask_machine(alloc, |machine| {
+    number_of_done(handle.ask_machine(alloc, |machine| {
         let place = part_for(machine, guest, part)?;
         wide_write(machine, guest, slot, place, offset, width, value)
-    });
-    match answer {
-        Ok(_) => 0,
-        Err(number) => number,
-    }
+    }))
 }

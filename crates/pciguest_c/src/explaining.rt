@@ -1,19 +1,19 @@
 //! What C is told of why an access of a guest finds what it finds.
-ghost use Rattle.std.specs.Prelude.{◌≡◌, ◌≢◌, ◌<◌, ◌⊎◌, ℕ, None, Some, IfNone, IfSome, IfOk, IfErr, length, string_bytes};
-ghost use Rattle.pciguest_c.specs.Handles.{session_of, machine_of};
+ghost use Rattle.std.specs.Prelude.{◌≡◌, IfOk, IfErr, string_bytes};
+ghost use Rattle.model_lines.specs.Sessions.{given};
 ghost use Rattle.pciguest_c.specs.Told.{target_told};
-ghost use Rattle.pciguest_c.specs.TextsTold.{at_front};
-ghost use Rattle.pciguest_c.specs.WhyTold.{why_fault, why_asked, IsWhyNumber};
+ghost use Rattle.pciguest_c.specs.Calls.{AnswersOrRunsOut, why, telling_why, text, buffer};
+ghost use Rattle.pciguest_c.specs.Calls.{refusal, tells, unless_out};
 
-use crate::asking::{at_of, check_guest};
+use crate::asking::target_for;
 use crate::handle::Handle;
-use crate::numbers::ARGUMENT;
 use crate::text_calls::tell;
 use guest_why::guest_why_text;
 use monitor::Monitor;
 use std::alloc::Global;
 
 /// Why an access of a guest finds what it finds, or the number of why that isn't told.
+#[tactic(auto, unfolding(crate::specs::Calls::telling_why))]
 fn why_of(
     alloc: Global,
     machine: &Monitor,
@@ -22,17 +22,13 @@ fn why_of(
     slot: u64,
     place: u64,
 ) -> Result<String, u32>
-    ensures text { let t = target_told space slot place in
-        IfOk result (λ s. string_bytes s ≡ why_asked machine.now.world guest t) }
-    ensures served { let t = target_told space slot place in
-        IfOk result (λ _. why_fault machine.now.world guest t ≡ None) }
-    ensures refused { let t = target_told space slot place in
-        IfErr result (λ n. IsWhyNumber n (why_fault machine.now.world guest t)) }
+    ensures told { IfOk result (λ s.
+        telling_why machine.now guest (target_told space slot place)
+        ≡ tells (text (string_bytes s)) (given machine.now)) }
+    ensures refused { IfErr result (λ n.
+        unless_out n (telling_why machine.now guest (target_told space slot place)) ≡ refusal n) }
 {
-    let Some(at) = at_of(space, slot, place) else {
-        return Err(ARGUMENT);
-    };
-    check_guest(machine, guest)?;
+    let at = target_for(machine, guest, space, slot, place)?;
     match guest_why_text(alloc, machine, guest, at) {
         Ok(text) => Ok(text),
         Err(fault) => Err(u32::from(fault.number())),
@@ -52,35 +48,14 @@ pub extern "C" fn pciguest_raw_why(
     out: &mut [u8],
     needed: &mut usize,
 ) -> u32
-    ensures none { IfNone (machine_of handle.old) (result ≡ 901) }
-    ensures fault { IfSome (machine_of handle.old) (λ m.
-        (n : ℕ) → why_fault m.world guest (target_told space slot place) ≡ Some n →
-        (result ≡ n) × (needed.new ≡ needed.old)) }
-    ensures text { IfSome (machine_of handle.old) (λ m. result ≡ 0 →
-        let text = why_asked m.world guest (target_told space slot place) in
-        (out.new ≡ at_front text out.old) × (needed.new ≡ length text)) }
-    ensures room { IfSome (machine_of handle.old) (λ m.
-        why_fault m.world guest (target_told space slot place) ≡ None → result ≡ 902 →
-        let text = why_asked m.world guest (target_told space slot place) in
-        (length out.old < length text) × (needed.new ≡ length text)) }
-    ensures numbers { IfSome (machine_of handle.old) (λ m.
-        why_fault m.world guest (target_told space slot place) ≡ None →
-        (result ≡ 0) ⊎ (result ≡ 299) ⊎ (result ≡ 902)) }
-    ensures kept { session_of handle.new ≡ session_of handle.old }
-    ensures unwritten { result ≢ 0 → out.new ≡ out.old }
-    ensures untold { result ≢ 0 → result ≢ 902 → needed.new ≡ needed.old }
+    ensures { AnswersOrRunsOut (why guest space slot place) handle.old handle.new result
+        (buffer out.old needed.old) (buffer out.new needed.new) }
 {
     let answer = handle.ask_machine(alloc, |machine| {
         why_of(alloc, machine, guest, space, slot, place)
     });
     match answer {
-        Ok(text) => {
-            if tell(text.as_bytes(), out, needed) {
-                0
-            } else {
-                ARGUMENT
-            }
-        }
+        Ok(text) => tell(text.as_bytes(), out, needed),
         Err(number) => number,
     }
 }

@@ -1,10 +1,8 @@
 //! Which guests a machine has: how many, and the name of each.
 ghost use Rattle.std.specs.Prelude.{◌≡◌, ◌<◌, ◌≤◌, IfErr, IfOk, IfSome, length};
 ghost use Rattle.monitor.specs.ByIndex.{name_nth};
-ghost use Rattle.pciguest_c.specs.Handles.{session_of, machine_of};
-ghost use Rattle.pciguest_c.specs.Answered.{TellsOf};
-ghost use Rattle.pciguest_c.specs.Calls.{Answers, guest_count, number};
-ghost use Rattle.pciguest_c.specs.TextsTold.{IsTold};
+ghost use Rattle.pciguest_c.specs.Handles.{machine_of};
+ghost use Rattle.pciguest_c.specs.Calls.{Answers, guest_count, guest_name, buffer, number};
 
 use crate::asking::guest_count;
 use crate::handle::Handle;
@@ -24,26 +22,6 @@ fn name_of(machine: &Monitor, guest: usize) -> Result<ArrayString<16>, u32>
     match machine.names().get(guest) {
         Some(name) => Ok(*name),
         None => Err(ARGUMENT),
-    }
-}
-
-/// Tells how long a name is, and puts it at the front of a buffer, if that has room for it.
-fn put_name(answer: Result<ArrayString<16>, u32>, out: &mut [u8], needed: &mut usize) -> u32
-    ensures name { IfOk answer (λ n. IsTold n.bytes out.old out.new result) }
-    ensures needed { IfOk answer (λ n. needed.new ≡ length n.bytes) }
-    ensures enough { IfOk answer (λ _. 16 ≤ length out.old → result ≡ 0) }
-    ensures refused { IfErr answer (λ n. (result ≡ n) × (needed.new ≡ needed.old)) }
-    ensures unwritten { IfErr answer (λ _. out.new ≡ out.old) }
-{
-    match answer {
-        Ok(name) => {
-            if tell(name.as_str().as_bytes(), out, needed) {
-                0
-            } else {
-                ARGUMENT
-            }
-        }
-        Err(number) => number,
     }
 }
 
@@ -73,12 +51,13 @@ pub extern "C" fn pciguest_raw_guest_name(
     out: &mut [u8],
     needed: &mut usize,
 ) -> u32
-    ensures name { TellsOf (machine_of handle.old) guest name_nth result
-        out.old out.new needed.old needed.new }
+    ensures name { Answers (guest_name guest) handle.old handle.new result
+        (buffer out.old needed.old) (buffer out.new needed.new) }
     ensures enough { IfSome (machine_of handle.old) (λ m. guest < length m.world.guests →
         16 ≤ length out.old → result ≡ 0) }
-    ensures kept { session_of handle.new ≡ session_of handle.old }
 {
-    let answer = handle.ask_machine(alloc, |machine| name_of(machine, guest));
-    put_name(answer, out, needed)
+    match handle.ask_machine(alloc, |machine| name_of(machine, guest)) {
+        Ok(name) => tell(name.as_str().as_bytes(), out, needed),
+        Err(number) => number,
+    }
 }

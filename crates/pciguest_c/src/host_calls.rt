@@ -1,10 +1,8 @@
 //! What C asks as the host. Each call answers 0, or the number of a refusal.
 ghost use Rattle.std.specs.Prelude.{◌≡◌, ◌<◌, None, Some, true, false, IfErr, IfOk, length, option_map};
-ghost use Rattle.model_lines.specs.Sessions.{given};
 ghost use Rattle.accesses.specs.Accesses.{host_target_of, reply_of};
 ghost use Rattle.pciguest_c.specs.Told.{at_bus, host_target_told};
-ghost use Rattle.pciguest_c.specs.Calls.{Answers, host_read, move, are_guests};
-ghost use Rattle.pciguest_c.specs.Calls.{host_reading, reading, refusal, nothing, number};
+ghost use Rattle.pciguest_c.specs.Calls.{Answers, host_read, host_asked, move, are_guests, nothing, number};
 
 use crate::asking::check_guest;
 use crate::handle::Handle;
@@ -57,7 +55,7 @@ pub fn host_target_for(
 }
 
 /// Reads as the host, or 902 where there is no such place.
-#[tactic(auto, unfolding(crate::specs::Calls::host_reading))]
+#[tactic(auto, unfolding(crate::specs::Calls::host_asked))]
 fn host_asked(
     machine: &mut Monitor,
     space: u32,
@@ -67,11 +65,12 @@ fn host_asked(
     place: u64,
     width: u64,
 ) -> Result<Reply, u32>
-    ensures read { IfOk result (λ r. host_reading machine.old
+    ensures read { IfOk result (λ r. host_asked machine.old
         (host_target_told space (at_bus bus device function) place) width
-        ≡ reading (reply_of r) (given machine.old)) }
-    ensures refused { IfErr result (λ n. host_reading machine.old
-        (host_target_told space (at_bus bus device function) place) width ≡ refusal n) }
+        ≡ Some (reply_of r)) }
+    ensures none { IfErr result (λ n. n ≡ 902) }
+    ensures nowhere { IfErr result (λ _. host_asked machine.old
+        (host_target_told space (at_bus bus device function) place) width ≡ None) }
     ensures kept { machine.new ≡ machine.old }
 {
     let at = host_target_for(space, bus, device, function, place)?;

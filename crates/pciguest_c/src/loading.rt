@@ -1,11 +1,9 @@
 //! Images that are loaded into guests.
-ghost use Rattle.std.specs.Prelude.{◌≡◌, ◌≢◌, ◌<◌, Some, IfErr, IfOk, IfSome, length};
-ghost use Rattle.model_handoff.specs.Changes.{MachineNow};
+ghost use Rattle.std.specs.Prelude.{◌≡◌, ◌≢◌, ◌<◌, IfErr, IfOk, length};
 ghost use Rattle.monitor.specs.ByIndex.{name_nth};
 ghost use Rattle.monitor.specs.Loads.{IsLoaded};
-ghost use Rattle.pciguest_c.specs.Handles.{session_of, machine_of};
-ghost use Rattle.pciguest_c.specs.Answered.{AnswersOf};
-ghost use Rattle.pciguest_c.specs.ImagesTold.{load_number};
+ghost use Rattle.pciguest_c.specs.Calls.{AnswersLoad};
+ghost use Rattle.pciguest_c.specs.ImagesTold.{load_number, load_asked};
 
 use crate::asking::check_guest;
 use crate::handle::Handle;
@@ -39,12 +37,8 @@ pub extern "C" fn pciguest_raw_load(
     guest: usize,
     image: &[u8],
 ) -> u32
-    ensures fault { AnswersOf handle.old guest result (λ m.
-        result ≡ load_number m.world guest image.now) }
-    ensures loaded { IfSome (machine_of handle.old) (λ m. result ≡ 0 → (n : MachineNow)
-        × IsLoaded m (name_nth m.world guest) image.now n
-        × (machine_of handle.new ≡ Some n)) }
-    ensures refused { result ≢ 0 → session_of handle.new ≡ session_of handle.old }
+    ensures { AnswersLoad (λ m. load_asked m guest image.now)
+        (λ m n. IsLoaded m (name_nth m.world guest) image.now n) handle.old handle.new result }
 {
     number_of_done(handle.ask_machine(alloc, |machine| {
         check_guest(machine, guest)?;

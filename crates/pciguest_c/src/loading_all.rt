@@ -1,8 +1,7 @@
 //! Images of whole machines that are loaded.
-ghost use Rattle.std.specs.Prelude.{◌≡◌, ◌≢◌, Some, IfErr, IfNone, IfOk, IfSome};
-ghost use Rattle.model_handoff.specs.Changes.{MachineNow};
+ghost use Rattle.std.specs.Prelude.{◌≡◌, ◌≢◌, IfErr, IfOk};
 ghost use Rattle.machine_images.specs.Loading.{LoadsAll};
-ghost use Rattle.pciguest_c.specs.Handles.{session_of, machine_of};
+ghost use Rattle.pciguest_c.specs.Calls.{AnswersLoad};
 ghost use Rattle.pciguest_c.specs.ImagesTold.{load_all_number};
 
 use crate::handle::Handle;
@@ -30,12 +29,8 @@ fn load_all(machine: &mut Monitor, image: &[u8]) -> Result<(), u32>
 /// given there, or 907 for another board or other guests; what the first byte that fails tells. No memory is taken.
 #[unsafe(no_mangle)]
 pub extern "C" fn pciguest_raw_load_all(alloc: Global, handle: &mut Handle, image: &[u8]) -> u32
-    ensures none { IfNone (machine_of handle.old) (result ≡ 901) }
-    ensures fault { IfSome (machine_of handle.old) (λ m.
-        result ≡ load_all_number m.world image.now) }
-    ensures loaded { IfSome (machine_of handle.old) (λ m. result ≡ 0 → (n : MachineNow)
-        × LoadsAll m image.now n × (machine_of handle.new ≡ Some n)) }
-    ensures refused { result ≢ 0 → session_of handle.new ≡ session_of handle.old }
+    ensures { AnswersLoad (λ m. load_all_number m.world image.now)
+        (λ m n. LoadsAll m image.now n) handle.old handle.new result }
 {
     number_of_done(handle.ask_machine(alloc, |machine| load_all(machine, image)))
 }

@@ -37,13 +37,13 @@ pub fn number_of(answer: Result<Reply, u32>) -> u32
     }
 }
 
-/// The same of what answers nothing else.
-pub fn number_of_done(answer: Result<(), u32>) -> u32
+/// The same of what is told of nowhere.
+pub fn number_of_done<T: Drop>(answer: Result<T, u32>) -> u32
     ensures done { IfOk answer (λ _. result ≡ 0) }
     ensures refused { IfErr answer (λ n. result ≡ n) }
 {
     match answer {
-        Ok(()) => 0,
+        Ok(_) => 0,
         Err(number) => number,
     }
 }

@@ -8,8 +8,10 @@ ghost use Rattle.paths.specs.BusAddresses.{bus_address_of};
 ghost use Rattle.board_audit.specs.Told.{problem_of};
 ghost use Rattle.pciguest_c.specs.QueriesTold.{space_number};
 ghost use Rattle.pciguest_c.specs.ProblemsTold.{no_register, problem_row, reached_text};
+ghost use Rattle.pciguest_c.specs.TextsTold.{IsTold};
 
 use crate::function_row::text_row;
+use crate::numbers::ARGUMENT;
 use bars::Space;
 use board_audit::{Agent, Problem, RegionNow};
 use function_identity::{PathText, path_text};
@@ -157,7 +159,7 @@ fn problem_row(problem: &Problem) -> ProblemRow
 }
 
 /// Puts problems at the front of a buffer that has room for them.
-pub fn put_problems(out: &mut [ProblemRow], problems: &[Problem])
+fn put_problems(out: &mut [ProblemRow], problems: &[Problem])
     requires { length problems.now ≤ length out.old }
     ensures { out.new ≡ map problem_row (map problem_of problems.now)
         ++ drop (length problems.now) out.old }
@@ -165,4 +167,19 @@ pub fn put_problems(out: &mut [ProblemRow], problems: &[Problem])
     for k in 0..problems.len() {
         out[k] = problem_row(&problems[k]);
     }
+}
+
+/// Tells how many problems there are, and puts them at the front of a buffer, or answers 902 where that has room for
+/// fewer.
+pub fn tell_problems(problems: &[Problem], out: &mut [ProblemRow], count: &mut usize) -> u32
+    ensures rows { let rows = map problem_row (map problem_of problems.now) in
+        IsTold rows out.old out.new result }
+    ensures count { count.new ≡ length (map problem_row (map problem_of problems.now)) }
+{
+    *count = problems.len();
+    if out.len() < problems.len() {
+        return ARGUMENT;
+    }
+    put_problems(out, problems);
+    0
 }

@@ -1,15 +1,28 @@
 //! What C is told of all that is wrong and all that is lacking in the registers of a board.
-ghost use Rattle.std.specs.Prelude.{◌≡◌, ◌≢◌, IfSome};
-ghost use Rattle.model_ready.specs.Lacks.{lack_count};
-ghost use Rattle.model_ready.specs.ReadyText.{ready_report};
-ghost use Rattle.pciguest_c.specs.Handles.{session_of, board_of};
-ghost use Rattle.pciguest_c.specs.TextsTold.{TellsText};
+ghost use Rattle.std.specs.Prelude.{◌≡◌, IfOk, IfErr, string_bytes};
+ghost use Rattle.model_lines.specs.Sessions.{driven};
+ghost use Rattle.pciguest_c.specs.Calls.{AnswersBoardOrRunsOut, board_ready, judging, counted, counter};
+ghost use Rattle.pciguest_c.specs.Calls.{refusal, tells, unless_out};
 
 use crate::handle::Handle;
 use crate::numbers::MEMORY;
 use crate::text_calls::tell_counted;
-use session::Readiness;
+use session::{Board, Readiness};
 use std::alloc::Global;
+
+/// What is wrong and lacking, or 299 out of memory.
+#[tactic(auto, unfolding(crate::specs::Calls::judging))]
+fn readiness_of(alloc: Global, board: &mut Board) -> Result<Readiness, u32>
+    ensures told { IfOk result (λ r. judging board.old
+        ≡ tells (counted (string_bytes r.text) r.count) (driven board.old)) }
+    ensures memory { IfErr result (λ n. unless_out n (judging board.old) ≡ refusal n) }
+    ensures kept { board.new ≡ board.old }
+{
+    match board.ready(alloc) {
+        Ok(told) => Ok(told),
+        Err(_) => Err(MEMORY),
+    }
+}
 
 /// Writes what is wrong and what is lacking in the registers of a board as they stand, by the apertures of its
 /// file, to the front of `out`, and tells how many problems and lacks there are; and how long the text is, also
@@ -22,19 +35,10 @@ pub extern "C" fn pciguest_raw_board_ready(
     needed: &mut usize,
     count: &mut usize,
 ) -> u32
-    ensures text { TellsText (board_of handle.old)
-        (λ b. ready_report b.world.apertures b.state.functions)
-        result out.old out.new needed.old needed.new }
-    ensures count { IfSome (board_of handle.old) (λ b. result ≡ 0 →
-        count.new ≡ lack_count b.world.apertures b.state.functions) }
-    ensures kept { session_of handle.new ≡ session_of handle.old }
-    ensures uncounted { result ≢ 0 → count.new ≡ count.old }
+    ensures { AnswersBoardOrRunsOut board_ready handle.old handle.new result
+        (counter out.old needed.old count.old) (counter out.new needed.new count.new) }
 {
-    let answer = handle.ask_board(alloc, |board| match board.ready(alloc) {
-        Ok(told) => Ok(told),
-        Err(_) => Err(MEMORY),
-    });
-    match answer {
+    match handle.ask_board(alloc, |board| readiness_of(alloc, board)) {
         Ok(Readiness { text, count: lacks }) => {
             tell_counted(text.as_bytes(), lacks, out, needed, count)
         }

@@ -1,9 +1,8 @@
 //! Images of whole machines: how many bytes the image of the machine has, and its bytes.
-ghost use Rattle.std.specs.Prelude.{◌≡◌, IfNone, IfSome, length};
+ghost use Rattle.std.specs.Prelude.{◌≡◌, Some, length};
 ghost use Rattle.machine_images.specs.SavedParts.{capped};
-ghost use Rattle.session.specs.Stages.{machine_in};
-ghost use Rattle.pciguest_c.specs.Handles.{session_of, machine_of};
-ghost use Rattle.pciguest_c.specs.ImagesTold.{TellsAll, machine_image};
+ghost use Rattle.pciguest_c.specs.Calls.{Answers, IsAnswer, answer, image_size_all, save_all, buffer, number};
+ghost use Rattle.pciguest_c.specs.ImagesTold.{machine_image};
 ghost use Rattle.pciguest_c.specs.TextsTold.{IsTold};
 
 use crate::handle::Handle;
@@ -29,9 +28,8 @@ fn save_all(machine: &Monitor, out: &mut [u8], needed: &mut usize) -> u32
 
 /// The same of a session, or 901 where no guests have its board.
 fn save_all_in(session: &mut Session, out: &mut [u8], needed: &mut usize) -> u32
-    ensures image { TellsAll (machine_in session.old) result
-        out.old out.new needed.old needed.new }
-    ensures kept { session.new ≡ session.old }
+    ensures { IsAnswer (answer save_all (Some session.old) (buffer out.old needed.old))
+        (Some session.new) result (buffer out.new needed.new) }
 {
     match session.monitor() {
         Some(machine) => save_all(machine, out, needed),
@@ -46,11 +44,8 @@ pub extern "C" fn pciguest_raw_image_size_all(
     handle: &mut Handle,
     size: &mut usize,
 ) -> u32
-    ensures none { IfNone (machine_of handle.old)
-        ((result ≡ 901) × (size.new ≡ size.old)) }
-    ensures size { IfSome (machine_of handle.old) (λ m.
-        (result ≡ 0) × (size.new ≡ capped (length (machine_image m.world)))) }
-    ensures kept { session_of handle.new ≡ session_of handle.old }
+    ensures { Answers image_size_all handle.old handle.new result
+        (number size.old) (number size.new) }
 {
     put_result(
         handle.ask_machine(alloc, |machine| Ok(machine_size(machine))),
@@ -67,9 +62,8 @@ pub extern "C" fn pciguest_raw_save_all(
     out: &mut [u8],
     needed: &mut usize,
 ) -> u32
-    ensures image { TellsAll (machine_of handle.old) result
-        out.old out.new needed.old needed.new }
-    ensures kept { session_of handle.new ≡ session_of handle.old }
+    ensures { Answers save_all handle.old handle.new result
+        (buffer out.old needed.old) (buffer out.new needed.new) }
 {
     let Some(mut session) = handle.take(alloc) else {
         return NO_MACHINE;

@@ -1,6 +1,5 @@
 //! What C is told as text.
-ghost use Rattle.std.specs.Prelude.{◌≡◌, ◌≢◌, ◌<◌, ◌≤◌, ◌⊎◌, ◌↔◌, ℕ, IsTrue, length};
-ghost use Rattle.std.specs.Bool.{OnTrue, OnFalse};
+ghost use Rattle.std.specs.Prelude.{◌≡◌, ◌≢◌, ◌<◌, ◌≤◌, ◌⊎◌, ℕ, length};
 ghost use Rattle.model_guests.specs.Text.{Text};
 ghost use Rattle.model_guests.specs.World.{World};
 ghost use Rattle.model_handoff.specs.Report.{report};
@@ -22,22 +21,20 @@ pub fn put(out: &mut [u8], text: &[u8])
     out[..text.len()].copy_from_slice(text);
 }
 
-/// Tells how long a text is, and puts it at the front of a buffer, if that has room for it.
-pub fn tell(text: &[u8], out: &mut [u8], needed: &mut usize) -> bool
-    ensures room { IsTrue result ↔ (length text.now ≤ length out.old) }
-    ensures text { OnTrue result (out.new ≡ at_front text.now out.old) }
-    ensures unwritten { OnFalse result (out.new ≡ out.old) }
+/// Tells how long a text is, and puts it at the front of a buffer, or answers 902 where that has less room.
+pub fn tell(text: &[u8], out: &mut [u8], needed: &mut usize) -> u32
+    ensures text { IsTold text.now out.old out.new result }
     ensures needed { needed.new ≡ length text.now }
 {
     *needed = text.len();
     if out.len() < text.len() {
-        return false;
+        return ARGUMENT;
     }
     put(out, text);
-    true
+    0
 }
 
-/// Tells a text so with a number beside it, which stays where the buffer has less room: then it answers 902.
+/// The same with a number beside it, which stays where the buffer has less room.
 pub fn tell_counted(
     text: &[u8],
     counted: usize,
@@ -50,11 +47,11 @@ pub fn tell_counted(
     ensures count { result ≡ 0 → count.new ≡ counted }
     ensures uncounted { result ≢ 0 → count.new ≡ count.old }
 {
-    if !tell(text, out, needed) {
-        return ARGUMENT;
+    let number = tell(text, out, needed);
+    if number == 0 {
+        *count = counted;
     }
-    *count = counted;
-    0
+    number
 }
 
 /// Writes the report of a board file to the front of `out`, and tells how long it is, also where `out`
@@ -77,13 +74,7 @@ pub extern "C" fn pciguest_raw_report(
     ensures untold { result ≢ 0 → result ≤ 299 → needed.new ≡ needed.old }
 {
     match report_of(alloc, board) {
-        Ok(text) => {
-            if tell(text.as_bytes(), out, needed) {
-                0
-            } else {
-                ARGUMENT
-            }
-        }
+        Ok(text) => tell(text.as_bytes(), out, needed),
         Err(number) => number,
     }
 }
@@ -109,7 +100,7 @@ pub extern "C" fn pciguest_raw_check(
 {
     match check_of(alloc, board) {
         Ok((text, number)) => {
-            if tell(text.as_bytes(), out, needed) {
+            if tell(text.as_bytes(), out, needed) == 0 {
                 number
             } else {
                 ARGUMENT
@@ -127,9 +118,5 @@ pub extern "C" fn pciguest_raw_words(number: u32, out: &mut [u8], needed: &mut u
     ensures needed { needed.new ≡ length (words_of_number number) }
     ensures enough { 20 ≤ length out.old → result ≡ 0 }
 {
-    if tell(words_of(number), out, needed) {
-        0
-    } else {
-        ARGUMENT
-    }
+    tell(words_of(number), out, needed)
 }
