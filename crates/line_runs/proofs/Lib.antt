@@ -4,3 +4,5 @@ pub mod LineEnds
 pub mod LongLines
 pub mod Reaching
 pub mod Results
+pub mod Parts
+mod Watched

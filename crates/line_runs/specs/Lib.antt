@@ -1,3 +1,4 @@
 pub mod Faults
 pub mod Pieces
 pub mod Runs
+pub mod Refusals

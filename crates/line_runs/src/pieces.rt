@@ -87,9 +87,10 @@ fn answer_line<L, S: Answers<L>, W: Writer>(
     ensures failures { W.failures writer.new ≡ W.failures writer.old + stop_failures_of result }
 {
     let mut reply = LineText::new();
-    let Ok(more) = server.answer(line, long, &mut reply) else {
+    let Ok(answer) = server.answer(line, long, &mut reply) else {
         return Err(Stop::Memory);
     };
+    let more = answer.more;
     if reply.as_slice().is_empty() && more.is_none() {
         return Ok(false);
     }

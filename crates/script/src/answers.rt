@@ -1,5 +1,5 @@
 //! What a line does and writes.
-ghost use Rattle.std.specs.Prelude.{◌≡◌, ◌<◌, ◌++◌, ◌∷◌, [], length, MatchOption, IfSome};
+ghost use Rattle.std.specs.Prelude.{◌≡◌, ◌<◌, ◌++◌, ◌∷◌, [], length, option_map, MatchOption, IfSome};
 ghost use Rattle.model_guests.specs.Text.{Text};
 ghost use Rattle.model_guests.specs.Replies.{line_text};
 ghost use Rattle.model_guests.specs.WorldNow.{names_now, written_by, line_output};
@@ -9,9 +9,10 @@ ghost use Rattle.model_handoff.specs.Changes.{after_on_machine, after_line_on_ma
 ghost use Rattle.accesses.specs.Accesses.{reply_of};
 ghost use Rattle.accesses.specs.Replies.{IsShown};
 ghost use Rattle.line_runs.specs.Pieces.{IsBefore};
+ghost use Rattle.script.specs.Refusals.{refusal_of, reply_to, refusal_in, refusal_on_machine};
 ghost use Rattle.lines.specs.Lines.{who_of, meaning_of, GuestIs, GuestsAre};
 
-use line_runs::Answers;
+use line_runs::{Answer, Answers};
 use lines::{LineText, What, Who, line_meaning, push_line};
 use monitor::{Monitor, Refusal, Reply};
 use std::alloc::AllocError;
@@ -24,6 +25,8 @@ pub fn answer(monitor: &mut Monitor, what: What) -> Option<(Who, Reply)>
         (meaning_of (names_now monitor.old.world) what) in
         MatchOption result (written ≡ []) (λ a. written
         ≡ line_text (who_of (names_now monitor.new.world) a.0) (reply_of a.1) ∷ []) }
+    ensures reply { option_map (λ a. reply_of a.1) result
+        ≡ reply_to monitor.old.world (meaning_of (names_now monitor.old.world) what) }
     ensures after { let m = meaning_of (names_now monitor.old.world) what in
         monitor.new ≡ after_on_machine monitor.old (calls (asks m)) }
     ensures who { IfSome result
@@ -52,19 +55,31 @@ pub fn answer(monitor: &mut Monitor, what: What) -> Option<(Who, Reply)>
     }
 }
 
-/// Runs the event of a line, and writes what the line writes into an empty text: nothing, or one line with
-/// its line feed. All replies are written in one place, into a text that is then not moved: that is faster.
+/// The number by which a reply refuses, if it does.
 #[inline(always)]
-fn push_answer(monitor: &mut Monitor, line: &[u8], text: &mut LineText)
+pub fn refusal_of(reply: Reply) -> Option<u16>
+    ensures { result ≡ refusal_of (reply_of reply) }
+{
+    match reply {
+        Reply::Refused(why) => Some(why.number()),
+        _ => None,
+    }
+}
+
+/// Runs the event of a line, and writes what the line writes into an empty text: nothing, or one line with
+/// its line feed. It gives the number by which the line is refused. All replies are written in one place, into a text
+/// that is then not moved: that is faster.
+#[inline(always)]
+fn push_answer(monitor: &mut Monitor, line: &[u8], text: &mut LineText) -> Option<u16>
     requires { text.old.items ≡ [] }
     ensures text { text.new.items ≡ line_output monitor.old.world line.now }
+    ensures refused { result ≡ refusal_in monitor.old.world line.now }
     ensures after { monitor.new ≡ after_line_on_machine monitor.old line.now }
 {
     let what = line_meaning(line, monitor.names());
-    let Some((who, reply)) = answer(monitor, what) else {
-        return;
-    };
+    let (who, reply) = answer(monitor, what)?;
     push_line(text, who, monitor.names(), reply);
+    refusal_of(reply)
 }
 
 /// Runs the event of a line, and gives what the line writes: nothing, or one line with its line feed. No
@@ -74,18 +89,25 @@ pub fn run_line(monitor: &mut Monitor, line: &[u8]) -> LineText
     ensures after { monitor.new ≡ after_line_on_machine monitor.old line.now }
 {
     let mut text = LineText::new();
-    push_answer(monitor, line, &mut text);
+    let _ = push_answer(monitor, line, &mut text);
     text
 }
 
 /// Runs the event of a line, and writes what the line writes into an empty text: nothing, or one line with
-/// its line feed. If `long`, bytes of the line were passed over. No memory is taken. It is compiled once, for
-/// scripts and for sessions, and what it calls into it: that is faster.
+/// its line feed. It gives the number by which the line is refused. If `long`, bytes of the line were passed over. No
+/// memory is taken. It is compiled once, for scripts and for sessions, and what it calls into it: that is faster.
 #[inline(never)]
-pub fn answer_line(monitor: &mut Monitor, line: &[u8], long: bool, text: &mut LineText)
+pub fn answer_line(
+    monitor: &mut Monitor,
+    line: &[u8],
+    long: bool,
+    text: &mut LineText,
+) -> Option<u16>
     requires { text.old.items ≡ [] }
     ensures text { (before : Text) → IsBefore long before →
         text.new.items ≡ line_output monitor.old.world (before ++ line.now) }
+    ensures refused { (before : Text) → IsBefore long before →
+        result ≡ refusal_in monitor.old.world (before ++ line.now) }
     ensures after { (before : Text) → IsBefore long before →
         monitor.new ≡ after_line_on_machine monitor.old (before ++ line.now) }
 {
@@ -97,9 +119,9 @@ pub fn answer_line(monitor: &mut Monitor, line: &[u8], long: bool, text: &mut Li
             monitor.names(),
             Reply::Refused(Refusal::LongLine),
         );
-        return;
+        return Some(Refusal::LongLine.number());
     }
-    push_answer(monitor, line, text);
+    push_answer(monitor, line, text)
 }
 
 /// The language of scripts, whose lines a monitor answers.
@@ -107,6 +129,8 @@ pub struct Script;
 
 impl Answers<Script> for Monitor {
     ghost protocol = { machine_protocol };
+
+    ghost refusal = { refusal_on_machine };
 
     ghost TakesMemory = { ⊥ };
 
@@ -116,8 +140,8 @@ impl Answers<Script> for Monitor {
         line: &[u8],
         long: bool,
         text: &mut LineText,
-    ) -> Result<Option<String>, AllocError> {
-        answer_line(self, line, long, text);
-        Ok(None)
+    ) -> Result<Answer, AllocError> {
+        let refused = answer_line(self, line, long, text);
+        Ok(Answer::short(refused))
     }
 }

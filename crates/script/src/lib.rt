@@ -6,7 +6,7 @@
 mod answers;
 mod running;
 
-pub use answers::{Script, answer, answer_line, run_line};
+pub use answers::{Script, answer, answer_line, refusal_of, run_line};
 pub use line_runs::RunFault;
 pub use lines::{Line, LineText, What, Who, parse_line};
 pub use monitor::Monitor;

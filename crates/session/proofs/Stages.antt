@@ -1,8 +1,9 @@
 -- Where a session hands its board over, and where it doesn't.
 --     handed_over_as      the session that a machine makes, which guests have
 --     IsAnswered, answered      what the line of a handover that is done writes and leaves
+--     told_refusal      the number by which one is refused
 use Rattle.std.proofs.Common.{◌≡◌, ℕ, Bool, false, true, cond, None, List, refl, sym, ap, ap₂, ◌∙◌, map}
-use Rattle.std.specs.Prelude.{IsTrue, IfSome}
+use Rattle.std.specs.Prelude.{IsTrue, IfSome, IsSome, Some}
 use Rattle.model_guests.specs.Text.{Text}
 use Rattle.model_guests.specs.Guests.{GuestNow}
 use Rattle.model_guests.specs.WorldNow.{WorldNow}
@@ -12,10 +13,15 @@ use Rattle.model_handoff.specs.Changes.{MachineNow, BeginsIn}
 use Rattle.model_handoff.specs.Regions.{first_fault}
 use Rattle.model_handoff.proofs.Served.{fault_decides}
 use Rattle.model_lines.specs.GivenLaws.{IsGiven}
-use Rattle.model_lines.specs.Sessions.{DrivenNow, SessionNow, driven, given, is_handover, handed_over, after_handover, handover_output, told_output}
+use Rattle.model_lines.specs.Sessions.{DrivenNow, SessionNow, driven, given, is_handover, is_question, handed_over, after_handover, handover_output, told_output}
 use Rattle.model_lines.specs.Sessions.{after_session_line, session_output}
+use Rattle.model_lines.specs.FirmwareLines.{meaning}
 use Rattle.model_lines.proofs.SessionLines.{no_audit, no_ready, handover_leaves}
-use Rattle.session.specs.Boards.{IsHandedOverAs}
+use Rattle.monitor.specs.declared.handover.HandoverFault.{HandoverFault}
+use Rattle.monitor.specs.declared.handover.HandoverFault.TheVariants.{NotInOrder, Closed, Memory}
+use Rattle.monitor.specs.Handovers.{number_of, handoff_fault}
+use Rattle.session.specs.Boards.{IsHandedOverAs, IsRefusalOf}
+use Rattle.session.specs.Refusals.{handover_refusal, refusal_by, refusal_in}
 use Rattle.session.specs.Stages.{board_in, IsDriven}
 
 machine_is : (m : MachineNow) (w : WorldNow) → m.world ≡ w → m.counts ≡ map (λ (g : GuestNow). 0) m.world.guests
@@ -37,11 +43,16 @@ handed_over_as b m begins =
 pub record IsAnswered (x new : SessionNow) (line : Text) : Type 0 where
   pub writes : handover_output None ≡ session_output x line
   pub leaves : new ≡ after_session_line x line
+  pub refused : None ≡ refusal_in x line
 
 handover_writes : (b : DrivenNow) (line : Text) → IsTrue (is_handover line) → session_output (driven b) line ≡ handover_output (first_fault b.world b.state)
 handover_writes b line asks =
     ap₂ (λ (t r : Bool). cond t (audit b.state.functions) (cond r (ready_report b.world.apertures b.state.functions) (cond (is_handover line) (handover_output (first_fault b.world b.state)) (told_output b line)))) (no_audit line asks) (no_ready line asks)
     ∙ ap (λ (u : Bool). cond u (handover_output (first_fault b.world b.state)) (told_output b line)) asks
+
+handover_refuses : (b : DrivenNow) (line : Text) → IsTrue (is_handover line) → refusal_in (driven b) line ≡ handover_refusal (first_fault b.world b.state)
+handover_refuses b line asks =
+    ap (λ (t : Bool). cond t (handover_refusal (first_fault b.world b.state)) (cond (is_question line) None (refusal_by b.state (meaning line)))) asks
 
 pub answered : (x new : SessionNow) → IsDriven x → IfSome (board_in x) (λ b. IsHandedOverAs b new) → (line : Text) → IsTrue (is_handover line) → IsAnswered x new line
 answered (driven b) new is handed line asks =
@@ -49,5 +60,13 @@ answered (driven b) new is handed line asks =
     record {
       writes = sym (handover_writes b line asks ∙ ap handover_output none);
       leaves = handed.now ∙ sym (handover_leaves b line asks ∙ ap (after_handover b) none);
+      refused = sym (handover_refuses b line asks ∙ ap handover_refusal none);
     }
 answered (given m) new is handed line asks = absurd (let wrong : false ≡ true = is in cc)
+
+pub told_refusal : (x : SessionNow) (f : HandoverFault) → IsDriven x → IsSome (handoff_fault f) → IfSome (board_in x) (λ b. IsRefusalOf b f) → (line : Text) → IsTrue (is_handover line)
+    → Some (number_of f) ≡ refusal_in x line
+told_refusal (driven b) (NotInOrder p) is told first line asks = sym (handover_refuses b line asks ∙ ap handover_refusal first)
+told_refusal (driven b) (Closed r) is told first line asks = sym (handover_refuses b line asks ∙ ap handover_refusal first)
+told_refusal (driven b) Memory is told first line asks = absurd (let wrong : false ≡ true = told in cc)
+told_refusal (given m) f is told first line asks = absurd (let wrong : false ≡ true = is in cc)

@@ -6,3 +6,4 @@ pub mod Stages
 pub mod Tellings
 pub mod Lending
 pub mod DrivenFunctions
+pub mod Refusals

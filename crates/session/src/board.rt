@@ -1,6 +1,6 @@
 //! A board that firmware drives.
 ghost use Rattle.std.specs.Prelude.{◌≡◌, ◌≢◌, ◌≤◌, ◌++◌, ◌∷◌, [], false, not, codes, length};
-ghost use Rattle.std.specs.Prelude.{MatchOption, IfOk, IfErr, IfSome, string_bytes};
+ghost use Rattle.std.specs.Prelude.{option_and_then, MatchOption, IfOk, IfErr, IfSome, string_bytes};
 ghost use Rattle.std.specs.Bool.{OnTrue};
 ghost use Rattle.model_guests.specs.Accesses.{reads, writes};
 ghost use Rattle.model_guests.specs.Replies.{reply_text};
@@ -12,7 +12,7 @@ ghost use Rattle.model_ready.specs.Lacks.{lack_count};
 ghost use Rattle.model_ready.specs.ReadyText.{ready_report};
 ghost use Rattle.model_handoff.specs.Changes.{BeginsIn};
 ghost use Rattle.model_lines.specs.HostAccesses.{answer};
-ghost use Rattle.model_lines.specs.FirmwareLines.{line_output};
+ghost use Rattle.model_lines.specs.FirmwareLines.{line_output, meaning};
 ghost use Rattle.model_lines.specs.WhyLines.{why_written};
 ghost use Rattle.model_lines.specs.GivenLaws.{IsGiven};
 ghost use Rattle.model_lines.specs.Sessions.{at_reset, after_board_access, after_board_line};
@@ -24,8 +24,10 @@ ghost use Rattle.line_runs.specs.Pieces.{IsBefore};
 ghost use Rattle.board_file.specs.declared.fault.BoardFault.TheVariants.{Memory};
 ghost use Rattle.board_file.specs.Faults.{number_of as file_number};
 ghost use Rattle.session.specs.Boards.{IsRefusalOf};
+ghost use Rattle.script.specs.Refusals.{refusal_of};
 ghost use Rattle.session.specs.Faults.{OnFile, OnSetUp};
 ghost use Rattle.session.specs.Files.{Declares, Refuses, BreaksRule, IsAtFirst};
+ghost use Rattle.session.specs.Refusals.{refusal_by};
 
 use crate::accessing;
 use crate::audit::Audit;
@@ -39,6 +41,7 @@ use host_bridge::Host;
 use lines::{FirmwareWhat, LineText, WhyAsked, firmware_meaning, push_named};
 use monitor::{Monitor, Refused};
 use ready_text::{Readiness, ready_text};
+use script::refusal_of;
 use std::alloc::{AllocError, Global};
 use std::marker::Model;
 use why_text::{why_number_text, why_port_text, why_text};
@@ -130,6 +133,8 @@ impl Board {
         ensures text { MatchOption result (line_output self.old.state line.now ≡ []) (λ a.
             line_output self.old.state line.now
             ≡ a.0.now ++ codes ": " ++ reply_text (reply_of a.1) ++ 10 ∷ []) }
+        ensures refused { option_and_then (λ a. refusal_of (reply_of a.1)) result
+            ≡ refusal_by self.old.state (meaning line.now) }
         ensures after { self.new ≡ after_board_line self.old line.now }
         ensures short { IfSome result (λ a. length a.0.now ≤ 16) }
         ensures shown { IfSome result (λ a. IsShown a.1) }
@@ -149,34 +154,42 @@ impl Board {
         }
     }
 
-    /// Runs the event of a line, and writes what the line writes into an empty text.
-    fn push_answer(&mut self, line: &[u8], text: &mut LineText)
+    /// Runs the event of a line, and writes what the line writes into an empty text. It gives the number by which the
+    /// line is refused.
+    fn push_answer(&mut self, line: &[u8], text: &mut LineText) -> Option<u16>
         requires { text.old.items ≡ [] }
         ensures text { text.new.items ≡ line_output self.old.state line.now }
+        ensures refused { result ≡ refusal_by self.old.state (meaning line.now) }
         ensures after { self.new ≡ after_board_line self.old line.now }
     {
-        let Some((name, reply)) = self.reply_to(line) else {
-            return;
-        };
+        let (name, reply) = self.reply_to(line)?;
         push_named(text, name, reply);
+        refusal_of(reply)
     }
 
     /// Runs a line of firmware, which is given without its line feed, and writes what the line writes into an
-    /// empty text: nothing, or one line with its line feed. If `long`, bytes of the line were passed over. No
-    /// memory is taken.
-    pub(crate) fn answer_line(&mut self, line: &[u8], long: bool, text: &mut LineText)
+    /// empty text: nothing, or one line with its line feed. It gives the number by which the line is refused. If `long`,
+    /// bytes of the line were passed over. No memory is taken.
+    pub(crate) fn answer_line(
+        &mut self,
+        line: &[u8],
+        long: bool,
+        text: &mut LineText,
+    ) -> Option<u16>
         requires { text.old.items ≡ [] }
         ensures text { (before : Text) → IsBefore long before →
             text.new.items ≡ line_output self.old.state (before ++ line.now) }
+        ensures refused { (before : Text) → IsBefore long before →
+            result ≡ refusal_by self.old.state (meaning (before ++ line.now)) }
         ensures after { (before : Text) → IsBefore long before →
             self.new ≡ after_board_line self.old (before ++ line.now) }
     {
         // No event runs, and all such lines write the same.
         if long {
             push_named(text, b"?", Reply::Refused(Refusal::LongLine));
-            return;
+            return Some(Refusal::LongLine.number());
         }
-        self.push_answer(line, text);
+        self.push_answer(line, text)
     }
 
     /// What our own set-up makes of this board, which is at reset: a board that is set up, with its functions

@@ -1,6 +1,6 @@
 //! A session over a board.
 ghost use Rattle.std.specs.Prelude.{◌≡◌, ◌≢◌, ◌++◌, [], ⊤, length, map, option_map, string_bytes, is_some};
-ghost use Rattle.std.specs.Prelude.{Ok, None, IsOk, IfOk, IfErr, IfSome, OnOk, OnErr, IsFalse};
+ghost use Rattle.std.specs.Prelude.{Ok, None, IsOk, IfOk, IfErr, IfSome, OnOk, OnErr, MatchResult, IsFalse};
 ghost use Rattle.std.specs.Borrow.{sem};
 ghost use Rattle.std.specs.Option.{option_copied_mut};
 ghost use Rattle.model_guests.specs.Text.{Text};
@@ -17,6 +17,7 @@ ghost use Rattle.board_file.specs.declared.fault.BoardFault.TheVariants.{Memory}
 ghost use Rattle.board_file.specs.Faults.{number_of as file_number};
 ghost use Rattle.session.specs.Files.{Declares, Refuses};
 ghost use Rattle.session.specs.Boards.{IsHandedOverAs, IsRefusalOf};
+ghost use Rattle.session.specs.Refusals.{refusal_in};
 ghost use Rattle.session.specs.Stages.{board_in, machine_in, asks_for_more, IsDriven, IsGiven};
 
 use crate::asking::{Asked, asked_by};
@@ -26,7 +27,7 @@ use crate::stage::{Stage, answer_handover, hand_over};
 use board_audit::Problem;
 use board_file::BoardFault;
 use headers::Apertures;
-use line_runs::Answers;
+use line_runs::{Answer, Answers};
 use lines::LineText;
 use monitor::{HandoverFault, Monitor};
 use ready_text::Readiness;
@@ -217,40 +218,43 @@ impl Session {
         line: &[u8],
         long: bool,
         text: &mut LineText,
-    ) -> Result<Option<String>, AllocError>
+    ) -> Result<Answer, AllocError>
         requires { text.old.items ≡ [] }
-        ensures text { IfOk result (λ more. (before : Text) → IsBefore long before →
-            with_more text.new.items (option_map string_bytes more)
+        ensures text { IfOk result (λ a. (before : Text) → IsBefore long before →
+            with_more text.new.items (option_map string_bytes a.more)
             ≡ session_output self.old (before ++ line.now)) }
+        ensures refused { IfOk result (λ a. (before : Text) → IsBefore long before →
+            a.refused ≡ refusal_in self.old (before ++ line.now)) }
         ensures after { OnOk result ((before : Text) → IsBefore long before →
             self.new ≡ after_session_line self.old (before ++ line.now)) }
-        ensures more { IfOk result (λ more.
-            IfSome more (λ _. (self.new ≡ self.old) × (text.new ≡ text.old))) }
+        ensures more { IfOk result (λ a.
+            IfSome a.more (λ _. (self.new ≡ self.old) × (text.new ≡ text.old))) }
         ensures kept { OnErr result ((self.new ≡ self.old) × (text.new ≡ text.old)) }
         ensures plain { (before : Text) → IsBefore long before →
-            IsFalse (asks_for_more self.old (before ++ line.now)) → result ≡ Ok None }
+            IsFalse (asks_for_more self.old (before ++ line.now)) →
+            MatchResult result (λ a. a.more ≡ None) (λ _. ⊥) }
     {
         match &mut self.stage {
             Stage::Given(monitor) => {
-                script::answer_line(monitor, line, long, text);
-                Ok(None)
+                let refused = script::answer_line(monitor, line, long, text);
+                Ok(Answer::short(refused))
             }
             Stage::Driven(board) => match asked_by(line, long) {
                 Asked::Access => {
-                    board.answer_line(line, long, text);
-                    Ok(None)
+                    let refused = board.answer_line(line, long, text);
+                    Ok(Answer::short(refused))
                 }
                 Asked::Audit => {
                     let told = board.audit(self.alloc)?;
-                    Ok(Some(told.text))
+                    Ok(Answer::text(told.text))
                 }
                 Asked::Ready => {
                     let ready = board.ready(self.alloc)?;
-                    Ok(Some(ready.text))
+                    Ok(Answer::text(ready.text))
                 }
                 Asked::Why(at) => {
                     let told = board.why(self.alloc, at)?;
-                    Ok(Some(told))
+                    Ok(Answer::text(told))
                 }
                 Asked::Handover => answer_handover(self.alloc, &mut self.stage, text),
             },
@@ -277,7 +281,8 @@ impl Session {
         ensures kept { OnErr result ((self.new ≡ self.old) × (text.new ≡ text.old)) }
         ensures plain { IsFalse (asks_for_more self.old line.now) → result ≡ Ok None }
     {
-        self.answer_line(line, false, text)
+        let answer = self.answer_line(line, false, text)?;
+        Ok(answer.more)
     }
 }
 
@@ -288,6 +293,8 @@ pub struct SessionLines;
 impl Answers<SessionLines> for Session {
     ghost protocol = { session_protocol };
 
+    ghost refusal = { refusal_in };
+
     ghost TakesMemory = { ⊤ };
 
     fn answer(
@@ -295,7 +302,7 @@ impl Answers<SessionLines> for Session {
         line: &[u8],
         long: bool,
         text: &mut LineText,
-    ) -> Result<Option<String>, AllocError> {
+    ) -> Result<Answer, AllocError> {
         self.answer_line(line, long, text)
     }
 }

@@ -5,11 +5,13 @@ ghost use Rattle.model_guests.specs.Text.{Text};
 ghost use Rattle.model_lines.specs.Sessions.{is_handover, session_output, after_session_line};
 ghost use Rattle.line_runs.specs.Pieces.{with_more};
 ghost use Rattle.session.specs.Boards.{IsHandedOverAs, IsRefusalOf};
+ghost use Rattle.session.specs.Refusals.{refusal_in};
 ghost use Rattle.session.specs.Stages.{session_now, board_in, IsAtLine, IsDriven};
 
 use crate::board::Board;
 use crate::telling::handover_refusal;
 use accesses::Reply;
+use line_runs::Answer;
 use lines::{LineText, push_named};
 use monitor::{HandoverFault, Monitor, Refused};
 use std::alloc::{AllocError, Global};
@@ -58,17 +60,19 @@ pub(crate) fn answer_handover(
     alloc: Global,
     stage: &mut Stage,
     text: &mut LineText,
-) -> Result<Option<String>, AllocError>
+) -> Result<Answer, AllocError>
     requires driven { IsDriven (session_now stage.old) }
     requires at_line { IsAtLine stage.old }
     requires empty { text.old.items ≡ [] }
-    ensures text { IfOk result (λ more. (line : Text) → IsTrue (is_handover line) →
-        with_more text.new.items (option_map string_bytes more)
+    ensures text { IfOk result (λ a. (line : Text) → IsTrue (is_handover line) →
+        with_more text.new.items (option_map string_bytes a.more)
         ≡ session_output (session_now stage.old) line) }
+    ensures refused { IfOk result (λ a. (line : Text) → IsTrue (is_handover line) →
+        a.refused ≡ refusal_in (session_now stage.old) line) }
     ensures after { OnOk result ((line : Text) → IsTrue (is_handover line) →
         session_now stage.new ≡ after_session_line (session_now stage.old) line) }
-    ensures more { IfOk result (λ more.
-        IfSome more (λ _.
+    ensures more { IfOk result (λ a.
+        IfSome a.more (λ _.
         (session_now stage.new ≡ session_now stage.old) × (text.new ≡ text.old))) }
     ensures kept { OnErr result ((stage.new ≡ stage.old) × (text.new ≡ text.old)) }
     ensures at_line { IsAtLine stage.new }
@@ -76,11 +80,14 @@ pub(crate) fn answer_handover(
     match hand_over(alloc, stage) {
         Ok(()) => {
             push_named(text, b"host", Reply::Done);
-            Ok(None)
+            Ok(Answer::short(None))
         }
         Err(fault) => {
             let told = handover_refusal(alloc, &fault)?;
-            Ok(Some(told))
+            Ok(Answer {
+                more: Some(told),
+                refused: Some(fault.number()),
+            })
         }
     }
 }

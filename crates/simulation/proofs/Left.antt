@@ -15,10 +15,11 @@ use Rattle.session.specs.Files.{Declares}
 use Rattle.simulation.specs.declared.fault.Fault.{Fault}
 use Rattle.simulation.specs.declared.fault.Fault.TheVariants.{File, SetUp, Read, Write}
 use Rattle.simulation.specs.Faults.{IsOfSession, OnSession}
-use Rattle.simulation.specs.Refusals.{refuses, IsWatched}
+use Rattle.line_runs.specs.Refusals.{refuses, IsWatched}
+use Rattle.session.specs.Refusals.{refusal_in}
 use Rattle.simulation.specs.Sessions.{at_first, Drives, HasAnswered, IsLeft, IsSession, Left}
 use Rattle.simulation.proofs.Begun.{runs_over}
-use Rattle.simulation.proofs.Ran.{same_end, same_error}
+use Rattle.line_runs.proofs.Parts.{same_end, same_error}
 
 -- how a session was opened
 abbrev pub IsBegun : Text → SessionNow → Type 0
@@ -32,23 +33,23 @@ session_over board x end at r begun ran = record {
 }
 
 pub ran_early : {T : Type 0} (board : Text) (strict : Bool) (x : SessionNow) (at : Ends) (e : RunFault) → IsBegun board x
-    → IsWatched strict session_protocol x at (Err e) → IsSession {T = T} board at (Err e)
+    → IsWatched strict session_protocol refusal_in x at (Err e) → IsSession {T = T} board at (Err e)
 ran_early {T} board strict x at e begun w =
     session_over board x w.end at (Err e) begun (same_error (SessionNow × Bool) T session_protocol x w.end at e w.runs)
 
 pub ran_whole : {T : Type 0} (board : Text) (strict : Bool) (x : SessionNow) (at : Ends) (y : SessionNow × Bool) (z : T) → IsBegun board x
-    → IsWatched strict session_protocol x at (Ok y) → IsSession board at (Ok z)
+    → IsWatched strict session_protocol refusal_in x at (Ok y) → IsSession board at (Ok z)
 ran_whole {T} board strict x at y z begun w =
     session_over board x w.end at (Ok z) begun (same_end (SessionNow × Bool) T session_protocol x w.end at y z w.runs)
 
 pub left_by : (board : Text) (strict : Bool) (x : SessionNow) (at : Ends) (y : SessionNow × Bool) (a : Apertures) (begun : IsBegun board x) → a ≡ begun.0.apertures
-    → IsWatched strict session_protocol x at (Ok y) → IsLeft strict board at (y.0, a, y.1)
+    → IsWatched strict session_protocol refusal_in x at (Ok y) → IsLeft strict board at (y.0, a, y.1)
 unfolding ran_whole
 left_by board strict x at y a begun same w = record {
   session = ran_whole board strict x at y tt begun w;
   left = w.left;
   apertures = same;
-  refused = λ s known. w.refused s known ∙ ap (λ z. strict && refuses session_protocol z (lines s)) begun.3;
+  refused = λ s known. w.refused s known ∙ ap (λ z. strict && refuses session_protocol refusal_in z (lines s)) begun.3;
   asked = w.asked;
 }
 

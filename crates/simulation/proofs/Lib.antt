@@ -1,7 +1,5 @@
 mod FaultNumbers
 mod Begun
-mod Parts
-mod Watched
 mod Strict
 mod ToldAfter
 pub mod Left

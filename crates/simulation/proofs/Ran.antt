@@ -16,7 +16,7 @@ use Rattle.simulation.specs.declared.fault.Fault.TheVariants.{File, SetUp}
 use Rattle.session.specs.declared.opening.OpenFault.{OpenFault}
 use Rattle.session.specs.declared.opening.OpenFault.TheVariants as opening
 use Rattle.session.specs.Faults as opened
-use Rattle.simulation.proofs.Parts.{IsPart, runs_of_part}
+use Rattle.line_runs.proofs.Parts.{IsPart, runs_of_part}
 use Rattle.simulation.specs.Faults.{of_open, of_run, read_faults, write_faults, IsOfBoard, OnFile, OnRun, OnSetUp, OnSession}
 
 -- the run failed for memory as the call that it was part of
@@ -68,16 +68,6 @@ pub opened_set_up : {T : Type 0} (P : ℕ → Type 0) (r : Result T Fault) (o : 
 opened_set_up P (Ok x) o h said = absurd h
 opened_set_up P (Err f) (opening.File b) h said = subst (OnSetUp P) (sym h) tt
 opened_set_up P (Err f) (opening.SetUp s) h said = subst (OnSetUp P) (sym h) said
-
--- an error is one whatever the result would have been
-pub same_error : (A B : Type 0) {S : Type 0} (p : Protocol S) (s end : S) (at : Ends) (e : RunFault) → Runs {T = A} p s end at (Err e) → Runs {T = B} p s end at (Err e)
-same_error A B p s end at run.Read runs = runs
-same_error A B p s end at run.Write runs = runs
-same_error A B p s end at run.Memory runs = runs
-
--- and so is an end of all lines
-pub same_end : (A B : Type 0) {S : Type 0} (p : Protocol S) (s end : S) (at : Ends) (x : A) (y : B) → Runs p s end at (Ok x) → Runs p s end at (Ok y)
-same_end A B p s end at x y runs = runs
 
 -- a run over a machine, as one over its world alone: the counts stand beside it
 pub world_part : IsPart machine_protocol world_protocol (λ (m : MachineNow). m.world)

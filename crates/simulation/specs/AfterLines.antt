@@ -36,7 +36,8 @@ use Rattle.simulation.specs.declared.listing.ReportForm.TheVariants.{Lines, Json
 use Rattle.simulation.specs.declared.questions.Answer.{Answer}
 use Rattle.simulation.specs.declared.questions.Question.{Question}
 use Rattle.simulation.specs.declared.questions.Question.TheVariants as question
-use Rattle.simulation.specs.Refusals.{refuses}
+use Rattle.line_runs.specs.Refusals.{refuses}
+use Rattle.session.specs.Refusals.{refusal_in}
 use Rattle.simulation.specs.Sessions.{at_first, HasEnded, IsSession}
 
 abbrev pub session_text : World → List Text → Text
@@ -91,6 +92,6 @@ Tells tell board at (Err other) = ⊤
 
 pub record IsAnswer (q : Question) (strict : Bool) (board : Text) (at : Ends) (a : Answer) : Type 0 where
   pub told : IsTold (told_of q) board at
-  pub refused : ForSome at.script (λ s. a.refused ≡ (strict && refuses session_protocol (at_first told.world) (lines s)))
+  pub refused : ForSome at.script (λ s. a.refused ≡ (strict && refuses session_protocol refusal_in (at_first told.world) (lines s)))
   pub asked : a.refused ≡ true → strict ≡ true
   pub count : ForSome at.script (λ s. a.count ≡ count_of q told.world (left_after told.world (lines s)))

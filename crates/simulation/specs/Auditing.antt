@@ -18,7 +18,8 @@ use Rattle.simulation.specs.declared.fault.Fault.TheVariants.{NotInOrder, Refuse
 use Rattle.simulation.specs.declared.listing.ReportForm.{ReportForm}
 use Rattle.simulation.specs.declared.questions.Question.TheVariants as question
 use Rattle.simulation.specs.AfterLines.{left_after, told_of, IsTold, Tells}
-use Rattle.simulation.specs.Refusals.{refuses}
+use Rattle.line_runs.specs.Refusals.{refuses}
+use Rattle.session.specs.Refusals.{refusal_in}
 use Rattle.simulation.specs.Sessions.{at_first}
 
 abbrev pub audit_of : ReportForm → World → SessionNow → Text
@@ -29,7 +30,7 @@ has_problems w ls = nat_lt 0 (length (problems (session_functions (left_after w 
 
 pub record IsAudited (form : ReportForm) (strict refused : Bool) (board : Text) (at : Ends) : Type 0 where
   pub told : IsTold (audit_of form) board at
-  pub answers : ForSome at.script (λ s. (strict && refuses session_protocol (at_first told.world) (lines s)) ≡ refused)
+  pub answers : ForSome at.script (λ s. (strict && refuses session_protocol refusal_in (at_first told.world) (lines s)) ≡ refused)
 
 pub record IsJudged (form : ReportForm) (strict disorder : Bool) (board : Text) (at : Ends) : Type 0 where
   pub audited : IsAudited form strict false board at

@@ -3,7 +3,6 @@ pub mod Demo
 pub mod Listing
 pub mod Lines
 pub mod Checking
-pub mod Refusals
 pub mod Running
 pub mod Sessions
 pub mod AfterLines

@@ -18,7 +18,8 @@ use Rattle.session.specs.Files.{IsSetUp}
 use Rattle.simulation.specs.declared.fault.Fault.{Fault}
 use Rattle.simulation.specs.declared.fault.Fault.TheVariants.{RefusedLine}
 use Rattle.simulation.specs.Faults.{OnRun}
-use Rattle.simulation.specs.Refusals.{refuses}
+use Rattle.line_runs.specs.Refusals.{refuses}
+use Rattle.script.specs.Refusals.{refusal_in}
 
 -- the replies to each guest are those of its own functions, as lone register files, to its own lines and the moves that
 -- touch it
@@ -31,7 +32,7 @@ pub record IsRun {T : Type 0} (board : Text) (at : Ends) (result : Result T RunF
 
 pub record HasRun (refused : Bool) (board : Text) (at : Ends) : Type 0 where
   pub run : IsRun {T = Unit {0}} board at (Ok tt)
-  pub answers : ForSome at.script (λ s. refuses world_protocol (world_at_first run.world) (lines s) ≡ refused)
+  pub answers : ForSome at.script (λ s. refuses world_protocol refusal_in (world_at_first run.world) (lines s) ≡ refused)
 
 abbrev pub RunsStrictly : {T : Type 0} → Text → Ends → Result T Fault → Type 0
 RunsStrictly board at (Ok x) = HasRun false board at

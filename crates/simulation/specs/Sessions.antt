@@ -21,7 +21,8 @@ use Rattle.simulation.specs.declared.fault.Fault.{Fault}
 use Rattle.simulation.specs.declared.fault.Fault.TheVariants.{RefusedLine}
 use Rattle.simulation.specs.Faults.{OnSession}
 use Rattle.simulation.specs.Lines.{RunsOver}
-use Rattle.simulation.specs.Refusals.{refuses}
+use Rattle.line_runs.specs.Refusals.{refuses}
+use Rattle.session.specs.Refusals.{refusal_in}
 
 abbrev pub at_first : World → SessionNow
 at_first w = driven (at_reset w)
@@ -35,7 +36,7 @@ HasEnded board at = IsSession {T = Unit {0}} board at (Ok tt)
 
 pub record HasAnswered (strict refused : Bool) (board : Text) (at : Ends) : Type 0 where
   pub session : HasEnded board at
-  pub answers : ForSome at.script (λ s. (strict && refuses session_protocol (at_first session.over.world) (lines s)) ≡ refused)
+  pub answers : ForSome at.script (λ s. (strict && refuses session_protocol refusal_in (at_first session.over.world) (lines s)) ≡ refused)
 
 abbrev pub Drives : {T : Type 0} → Bool → Text → Ends → Result T Fault → Type 0
 Drives strict board at (Ok x) = HasAnswered strict false board at
@@ -49,5 +50,5 @@ pub record IsLeft (strict : Bool) (board : Text) (at : Ends) (x : Left) : Type 0
   pub session : HasEnded board at
   pub left : x.0 ≡ session.over.end
   pub apertures : x.1 ≡ session.over.world.apertures
-  pub refused : ForSome at.script (λ s. x.2 ≡ (strict && refuses session_protocol (at_first session.over.world) (lines s)))
+  pub refused : ForSome at.script (λ s. x.2 ≡ (strict && refuses session_protocol refusal_in (at_first session.over.world) (lines s)))
   pub asked : x.2 ≡ true → strict ≡ true

@@ -7,7 +7,7 @@ ghost use Rattle.simulation.specs.Faults.{read_faults, write_faults, OnFile, OnS
 ghost use Rattle.simulation.specs.Sessions.{Drives, IsLeft, IsSession};
 
 use crate::fault::Fault;
-use crate::watching::run_lines;
+use line_runs::run_watched;
 use session::{Apertures, Board, Session, SessionLines};
 use std::alloc::Global;
 use streams::{Reader, Writer};
@@ -41,7 +41,7 @@ pub(crate) fn session_after<R: Reader, W: Writer>(
     let driven = Board::open(alloc, board)?;
     let apertures = driven.apertures();
     let session = Session::over(alloc, driven);
-    let (session, refused) = run_lines::<SessionLines, Session, R, W>(
+    let (session, refused) = run_watched::<SessionLines, Session, R, W>(
         session, strict, reader, writer,
     )?;
     Ok((session, apertures, refused))

@@ -21,7 +21,6 @@ mod questions;
 mod readiness;
 mod running;
 mod standard_streams;
-mod watching;
 
 pub use auditing::audit;
 pub use board_fit::Warned;

@@ -6,7 +6,7 @@ ghost use Rattle.session.specs.Files.{Refuses, Breaks};
 ghost use Rattle.simulation.specs.Running.{IsRun, RunsStrictly};
 
 use crate::fault::Fault;
-use crate::watching::run_lines;
+use line_runs::run_watched;
 use monitor::Monitor;
 use script::{Script, run};
 use session::open;
@@ -76,7 +76,7 @@ pub fn whole_strictly<R: Reader, W: Writer>(
     ensures writes { W.failures writer.new ≡ W.failures writer.old + write_faults result }
 {
     let monitor = open(alloc, board)?;
-    let (_, refused) = run_lines::<Script, Monitor, R, W>(monitor, true, reader, writer)?;
+    let (_, refused) = run_watched::<Script, Monitor, R, W>(monitor, true, reader, writer)?;
     if refused {
         return Err(Fault::RefusedLine);
     }

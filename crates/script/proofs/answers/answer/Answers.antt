@@ -1,11 +1,12 @@
-use Rattle.std.proofs.Common.{◌≡◌, ◌∙◌, [], ◌∷◌, ap, refl, sym, subst}
+use Rattle.std.proofs.Common.{◌≡◌, ◌∙◌, [], ◌∷◌, Some, ap, refl, sym, subst}
 use Rattle.model_guests.specs.Accesses.{access, raises}
 use Rattle.model_guests.specs.Grammar.{guest, host}
 use Rattle.model_guests.specs.Replies.{line_text}
-use Rattle.model_guests.specs.Guests.{Move}
+use Rattle.model_guests.specs.Guests.{Move, lone_of}
+use Rattle.model_guests.specs.Lone as lone
 use Rattle.model_guests.specs.Lines.{bad, guest_event, host_move, host_read, nothing}
 use Rattle.model_guests.specs.Text.{Text}
-use Rattle.model_guests.specs.WorldNow.{names_now, written_by}
+use Rattle.model_guests.specs.WorldNow.{move_reply, names_now, written_by}
 use Rattle.model_guests.specs.Calls.{asks}
 use Rattle.model_handoff.specs.Actions.{calls}
 use Rattle.model_handoff.specs.Changes.{MachineNow, after_on_machine}
@@ -71,3 +72,21 @@ returns-in-Move-clause-after c =
     let m = c.args.monitor.now in
     rw c.in-Move.is
     (c.move_function-reply.ensures.after ∙ ap (λ (v : Move). after_on_machine m (calls (asks (host_move v)))) (move_there m.world c.in-Move.from c.in-Move.slot c.in-Move.to c.in-Move.target))
+
+pub returns-in-Guest-clause-reply : goal.returns-in-Guest-clause-reply
+returns-in-Guest-clause-reply c =
+    let w = c.args.monitor.now.world in
+    let e = access (access_of c.in-Guest.access) in
+    rw c.in-Guest.is (ap Some (c.step-reply.ensures.reply ∙ ap (λ (n : Text). lone.answer (lone_of w.guests n) e) (name_there w c.in-Guest.guest)))
+
+pub returns-in-Raise-clause-reply : goal.returns-in-Raise-clause-reply
+returns-in-Raise-clause-reply c =
+    let w = c.args.monitor.now.world in
+    let e = raises (record { slot = c.in-Raise.slot; part = part_of c.in-Raise.place; offset = c.in-Raise.off; mask = c.in-Raise.mask }) in
+    rw c.in-Raise.is (ap Some (c.raise-reply.ensures.reply ∙ ap (λ (n : Text). lone.answer (lone_of w.guests n) e) (name_there w c.in-Raise.guest)))
+
+pub returns-in-Move-clause-reply : goal.returns-in-Move-clause-reply
+returns-in-Move-clause-reply c =
+    let w = c.args.monitor.now.world in
+    rw c.in-Move.is
+    (ap Some (c.move_function-reply.ensures.reply ∙ ap (λ (v : Move). move_reply w.guests v) (move_there w c.in-Move.from c.in-Move.slot c.in-Move.to c.in-Move.target)))

@@ -1,13 +1,21 @@
 use Rattle.std.proofs.Common.{◌∙◌}
 use Rattle.session.specs.Stages.{session_now}
-use Rattle.session.proofs.Stages.{answered}
+use Rattle.session.proofs.Stages.{answered, told_refusal}
 use Rattle.session.proofs.stage.answer_handover.Goals as goal
 
 pub returns-in-Ok-clause-text : goal.returns-in-Ok-clause-text
 returns-in-Ok-clause-text c = λ line asks.
-    c.push_named.ensures
-    ∙ (answered (session_now c.args.stage.now) (session_now c.hand_over.new.stage) c.requires.driven c.in-Ok.ensures.given line asks).writes
+    rw c.short.ensures (c.push_named.ensures
+    ∙ (answered (session_now c.args.stage.now) (session_now c.hand_over.new.stage) c.requires.driven c.in-Ok.ensures.given line asks).writes)
 
 pub returns-in-Ok-clause-after : goal.returns-in-Ok-clause-after
 returns-in-Ok-clause-after c = λ line asks.
     (answered (session_now c.args.stage.now) (session_now c.hand_over.new.stage) c.requires.driven c.in-Ok.ensures.given line asks).leaves
+
+pub returns-in-Ok-clause-refused : goal.returns-in-Ok-clause-refused
+returns-in-Ok-clause-refused c = λ line asks.
+    rw c.short.ensures (answered (session_now c.args.stage.now) (session_now c.hand_over.new.stage) c.requires.driven c.in-Ok.ensures.given line asks).refused
+
+pub returns-in_ok-told-in-Err-clause-refused : goal.returns-in_ok-told-in-Err-clause-refused
+returns-in_ok-told-in-Err-clause-refused c = λ line asks.
+    rw c.number.ensures (told_refusal (session_now c.args.stage.now) c.in-Err.fault c.requires.driven c.in_ok-told-in-Err.ensures.told c.in-Err.ensures.refused line asks)

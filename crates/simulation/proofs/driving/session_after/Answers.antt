@@ -24,7 +24,7 @@ returns-in_err-session-clause-writes g c = written_again c.from_residual-in_err-
 
 pub returns-in_err-session-clause-runs : goal.returns-in_err-session-clause-runs
 returns-in_err-session-clause-runs g c =
-    let at = ends (g.R.Reader.rest c.args.reader.now) (g.R.Reader.rest c.run_lines.new.reader) (g.W.Writer.written c.args.writer.now) (g.W.Writer.written c.run_lines.new.writer) (g.W.Writer.flushed c.run_lines.new.writer) in
+    let at = ends (g.R.Reader.rest c.args.reader.now) (g.R.Reader.rest c.run_watched.new.reader) (g.W.Writer.written c.args.writer.now) (g.W.Writer.written c.run_watched.new.writer) (g.W.Writer.flushed c.run_watched.new.writer) in
     ran_session (IsSession c.args.board.now at) c.from_residual-in_err-session.result _ c.from_residual-in_err-session.ensures.1
     (ran_early c.args.board.now c.args.strict _ at _ (c.in_ok-driven.driven.world, c.in_ok-driven.ensures.declared, c.in_ok-driven.ensures.lawful, c.over-session.ensures ∙ ap driven c.in_ok-driven.ensures.reset) c.in_err-session.ensures.runs)
 
@@ -34,11 +34,11 @@ returns-in_err-session-clause-lacking_flushed g c is =
 
 pub returns-clause-runs : goal.returns-clause-runs
 returns-clause-runs g c =
-    let at = ends (g.R.Reader.rest c.args.reader.now) (g.R.Reader.rest c.run_lines.new.reader) (g.W.Writer.written c.args.writer.now) (g.W.Writer.written c.run_lines.new.writer) (g.W.Writer.flushed c.run_lines.new.writer) in
+    let at = ends (g.R.Reader.rest c.args.reader.now) (g.R.Reader.rest c.run_watched.new.reader) (g.W.Writer.written c.args.writer.now) (g.W.Writer.written c.run_watched.new.writer) (g.W.Writer.flushed c.run_watched.new.writer) in
     ran_whole c.args.board.now c.args.strict _ at _ _ (c.in_ok-driven.driven.world, c.in_ok-driven.ensures.declared, c.in_ok-driven.ensures.lawful, c.over-session.ensures ∙ ap driven c.in_ok-driven.ensures.reset) c.in_ok-session.ensures.runs
 
 pub returns-clause-left : goal.returns-clause-left
 returns-clause-left g c =
-    let at = ends (g.R.Reader.rest c.args.reader.now) (g.R.Reader.rest c.run_lines.new.reader) (g.W.Writer.written c.args.writer.now) (g.W.Writer.written c.run_lines.new.writer) (g.W.Writer.flushed c.run_lines.new.writer) in
+    let at = ends (g.R.Reader.rest c.args.reader.now) (g.R.Reader.rest c.run_watched.new.reader) (g.W.Writer.written c.args.writer.now) (g.W.Writer.written c.run_watched.new.writer) (g.W.Writer.flushed c.run_watched.new.writer) in
     left_by c.args.board.now c.args.strict _ at _ c.apertures-apertures.result (c.in_ok-driven.driven.world, c.in_ok-driven.ensures.declared, c.in_ok-driven.ensures.lawful, c.over-session.ensures ∙ ap driven c.in_ok-driven.ensures.reset)
     c.apertures-apertures.ensures c.in_ok-session.ensures.runs

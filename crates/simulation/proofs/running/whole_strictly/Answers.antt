@@ -25,15 +25,15 @@ returns-in_err-refused-clause-writes g c = written_again c.from_residual-in_err-
 
 pub returns-in_err-refused-clause-runs : goal.returns-in_err-refused-clause-runs
 returns-in_err-refused-clause-runs g c =
-    let at = ends (g.R.Reader.rest c.args.reader.now) (g.R.Reader.rest c.run_lines.new.reader) (g.W.Writer.written c.args.writer.now) (g.W.Writer.written c.run_lines.new.writer) (g.W.Writer.flushed c.run_lines.new.writer) in
+    let at = ends (g.R.Reader.rest c.args.reader.now) (g.R.Reader.rest c.run_watched.new.reader) (g.W.Writer.written c.args.writer.now) (g.W.Writer.written c.run_watched.new.writer) (g.W.Writer.flushed c.run_watched.new.writer) in
     strict_early c.args.board.now _ at c.from_residual-in_err-refused.result _ c.from_residual-in_err-refused.ensures.1 c.in_ok-monitor.ensures.opened c.in_err-refused.ensures.runs
 
 pub returns-then-refused-clause-runs : goal.returns-then-refused-clause-runs
 returns-then-refused-clause-runs g c =
-    let at = ends (g.R.Reader.rest c.args.reader.now) (g.R.Reader.rest c.run_lines.new.reader) (g.W.Writer.written c.args.writer.now) (g.W.Writer.written c.run_lines.new.writer) (g.W.Writer.flushed c.run_lines.new.writer) in
+    let at = ends (g.R.Reader.rest c.args.reader.now) (g.R.Reader.rest c.run_watched.new.reader) (g.W.Writer.written c.args.writer.now) (g.W.Writer.written c.run_watched.new.writer) (g.W.Writer.flushed c.run_watched.new.writer) in
     has_run c.args.board.now _ _ at _ c.in_ok-monitor.ensures.opened c.in_ok-refused.ensures.runs c.if-refused.true
 
 pub returns-clause-runs : goal.returns-clause-runs
 returns-clause-runs g c =
-    let at = ends (g.R.Reader.rest c.args.reader.now) (g.R.Reader.rest c.run_lines.new.reader) (g.W.Writer.written c.args.writer.now) (g.W.Writer.written c.run_lines.new.writer) (g.W.Writer.flushed c.run_lines.new.writer) in
+    let at = ends (g.R.Reader.rest c.args.reader.now) (g.R.Reader.rest c.run_watched.new.reader) (g.W.Writer.written c.args.writer.now) (g.W.Writer.written c.run_watched.new.writer) (g.W.Writer.flushed c.run_watched.new.writer) in
     has_run c.args.board.now _ _ at _ c.in_ok-monitor.ensures.opened c.in_ok-refused.ensures.runs c.if-refused.false

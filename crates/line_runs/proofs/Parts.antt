@@ -1,7 +1,9 @@
 -- A run over one protocol is one over another that is a part of it: what stands beside that tells nothing.
 --     IsPart p q part      each line writes the same over the part, and leaves the part of what it leaves
 --     runs_of_part      so does a run
-use Rattle.std.proofs.Common.{◌≡◌, ◌++◌, ◌||◌, Bool, List, [], ◌∷◌, Option, Result, Ok, Err, refl, ap, ap₂, ◌∙◌, subst, take}
+--     same_refusals      each line is refused as it is of the part
+--     same_error, same_end      how a run ended tells the same whatever it gives
+use Rattle.std.proofs.Common.{◌≡◌, ◌++◌, ◌||◌, Bool, List, [], ◌∷◌, Option, is_some, Result, Ok, Err, refl, ap, ap₂, ◌∙◌, subst, take}
 use Rattle.std.specs.Io.{StartsWith}
 use Rattle.std.specs.Io.KnownBytes.{Appends}
 use Rattle.model_guests.specs.Text.{Text, lines}
@@ -10,7 +12,7 @@ use Rattle.line_runs.specs.Pieces.{IsStoppedIn, IsLackingIn}
 use Rattle.line_runs.specs.Runs.{Ends, Runs}
 use Rattle.line_runs.specs.declared.running.RunFault.{RunFault}
 use Rattle.line_runs.specs.declared.running.RunFault.TheVariants as run
-use Rattle.simulation.specs.Refusals.{refuses, tells_refusal}
+use Rattle.line_runs.specs.Refusals.{Refusal, refuses}
 
 pub record IsPart {S T : Type 0} (p : Protocol S) (q : Protocol T) (part : S → T) : Type 0 where
   pub writes : (s : S) (line : Text) → p.writes s line ≡ q.writes (part s) line
@@ -36,11 +38,12 @@ same_first : {S T : Type 0} {p : Protocol S} {q : Protocol T} {part : S → T} �
 same_first is s [] = refl
 same_first is s (line ∷ more) = is.writes s line
 
-pub same_refusals : {S T : Type 0} {p : Protocol S} {q : Protocol T} {part : S → T} → IsPart p q part → (s : S) (ls : List Text)
-    → refuses p s ls ≡ refuses q (part s) ls
-same_refusals is s [] = refl
-same_refusals {p = p} {q = q} is s (line ∷ more) =
-    ap₂ (λ (a b : Bool). a || b) (ap tells_refusal (is.writes s line)) (same_refusals is (p.next s line) more ∙ ap (λ t. refuses q t more) (is.next s line))
+pub same_refusals : {S T : Type 0} {p : Protocol S} {q : Protocol T} {part : S → T} → IsPart p q part → (f : Refusal S) (g : Refusal T)
+    → ((s : S) (line : Text) → f s line ≡ g (part s) line) → (s : S) (ls : List Text) → refuses p f s ls ≡ refuses q g (part s) ls
+same_refusals is f g same s [] = refl
+same_refusals {p = p} {q = q} is f g same s (line ∷ more) =
+    ap₂ (λ (a b : Bool). a || b) (ap is_some (same s line))
+    (same_refusals is f g same (p.next s line) more ∙ ap (λ t. refuses q g t more) (is.next s line))
 
 cut_of_part : {S T : Type 0} {p : Protocol S} {q : Protocol T} {part : S → T} → IsPart p q part → (s end : S) {old_rest new_rest old new : Option Text}
     → IsCut p s old_rest new_rest old new end → IsCut q (part s) old_rest new_rest old new (part end)
@@ -101,3 +104,15 @@ runs_of_part is s end at (Ok x) ran = record {
 runs_of_part is s end at (Err run.Read) ran = cut_of_part is s end ran
 runs_of_part is s end at (Err run.Write) ran = λ script known. stopped_of_part is s end (ran script known)
 runs_of_part is s end at (Err run.Memory) ran = λ script known. lacking_of_part is s end (ran script known)
+
+-- ---- what a run gives
+
+-- an error is one whatever the result would have been
+pub same_error : (A B : Type 0) {S : Type 0} (p : Protocol S) (s end : S) (at : Ends) (e : RunFault) → Runs {T = A} p s end at (Err e) → Runs {T = B} p s end at (Err e)
+same_error A B p s end at run.Read runs = runs
+same_error A B p s end at run.Write runs = runs
+same_error A B p s end at run.Memory runs = runs
+
+-- and so is an end of all lines
+pub same_end : (A B : Type 0) {S : Type 0} (p : Protocol S) (s end : S) (at : Ends) (x : A) (y : B) → Runs p s end at (Ok x) → Runs p s end at (Ok y)
+same_end A B p s end at x y runs = runs
