@@ -1,4 +1,4 @@
-//! Layer: findings. Below: board_audit, report. Above: simulation.
+//! Layer: findings. Below: findings, report. Above: simulation.
 //!
 //! An audit as JSON on one line: all that is wrong in a board's registers as they stand, each problem with its witness.
 #![tactic(auto)]
@@ -7,5 +7,5 @@ mod parts;
 mod problems;
 mod whole;
 
-pub use board_audit::Problem;
+pub use findings::Problem;
 pub use whole::problems_json;

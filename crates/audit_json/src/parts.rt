@@ -6,7 +6,7 @@ ghost use Rattle.paths.specs.BusAddresses.{bus_address_of};
 ghost use Rattle.audit_json.specs.AuditValue.{path_value, space_text, register_value, reached_value, region_value, agent_value, number_value};
 
 use bars::Space;
-use board_audit::{Agent, RegionNow};
+use findings::{Agent, RegionNow};
 use paths::{Bdf, Path};
 use report::push_path;
 use serde_json::{Value, json};

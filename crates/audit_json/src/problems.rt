@@ -3,13 +3,13 @@ ghost use Rattle.std.specs.Prelude.{◌≡◌, IfOk};
 ghost use Rattle.serde_json.specs.View.{view};
 ghost use Rattle.paths.specs.BusAddresses.{bus_address_of};
 ghost use Rattle.model_audit.specs.Problems.{not_forwarded, contended, not_found};
-ghost use Rattle.board_audit.specs.Told.{problem_of};
+ghost use Rattle.findings.specs.Findings.{problem_of};
 ghost use Rattle.audit_json.specs.AuditValue.{problem_value};
 
 use crate::parts::{
     agent_value, number_value, path_value, reached_value, region_value, space_text,
 };
-use board_audit::{Agent, Problem, RegionNow};
+use findings::{Agent, Problem, RegionNow};
 use paths::{Bdf, Path};
 use serde_json::{Value, json};
 use std::alloc::{AllocError, Global};

@@ -1,11 +1,11 @@
 //! The whole value, and its text.
 ghost use Rattle.std.specs.Prelude.{◌≡◌, IfOk, map, string_bytes};
 ghost use Rattle.serde_json.specs.View.{view};
-ghost use Rattle.board_audit.specs.Told.{problem_of};
+ghost use Rattle.findings.specs.Findings.{problem_of};
 ghost use Rattle.audit_json.specs.AuditValue.{problem_value, problems_value, problems_json};
 
 use crate::problems::problem_value;
-use board_audit::Problem;
+use findings::Problem;
 use serde_json::{Value, json};
 use std::alloc::{AllocError, Global};
 

@@ -1,6 +1,6 @@
 //! Who answers an address, and what keeps other regions that hold it from answering.
-use board_audit::RegionNow;
 use bridge_forward::{Claim, Path, Window};
+use findings::RegionNow;
 
 /// What a window of a bridge is for.
 #[derive(Clone, Copy, Debug, PartialEq, Eq)]

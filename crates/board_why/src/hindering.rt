@@ -10,8 +10,8 @@ ghost use Rattle.board_why.specs.Told.{window_told, windows_told, hindrance_told
 
 use crate::causes::{Hindrance, NamedWindow, WindowName};
 use bars::Space;
-use board_audit::{is_in, opens};
 use bridge_forward::{Ranges, RoutingRow, Window};
+use findings::{is_in, opens};
 use headers::{BridgeDecl, IoDecode, PrefDecode};
 
 /// Whether a bridge forwards an address. Nothing else does.

@@ -7,8 +7,8 @@ ghost use Rattle.bridge_forward.specs.RoutingRows.{base_of};
 ghost use Rattle.board_why.specs.ByRows.{is_held, held_in, held_of, all_held};
 
 use bars::Space;
-use board_audit::RegionNow;
 use bridge_forward::{Claim, Path, Ranges, RoutingRegion, RoutingRow};
+use findings::RegionNow;
 use std::alloc::{AllocError, Global};
 
 /// An address that is asked about, and who answers it.

@@ -1,4 +1,4 @@
-//! Layer: findings. Below: model_why, board_audit. Above: why_text.
+//! Layer: findings. Below: model_why, findings. Above: why_text.
 //!
 //! Why an address of memory or an I/O port, or a configuration number, finds what it finds on a board, or nobody, as
 //! the registers stand: who answers, and each other region that holds the address, with what keeps it from

@@ -12,8 +12,8 @@ ghost use Rattle.board_why.specs.Told.{cause_told};
 use crate::causes::Cause;
 use crate::hindering::{forwards, hindrance_of};
 use crate::holding::{Asked, Held};
-use board_audit::opens;
 use bridge_forward::{Path, RoutingRow};
+use findings::opens;
 use host_bridge::Host;
 
 /// What keeps the address from a path at the function at an index, whose row is given, if that is above the path and

@@ -7,7 +7,7 @@ use Rattle.model_why.specs.WhyText.{why_line}
 use Rattle.model_why.specs.WhyPorts.{PortUse, holds_latch, shows_data, hides_data, like_others, use_lines}
 use Rattle.report.specs.Found.{ended}
 use Rattle.model_guests.proofs.WrittenLines.{text_of_lines-append}
-use Rattle.audit_text.proofs.Chains.{onto}
+use Rattle.findings_told.proofs.Chains.{onto}
 use Rattle.why_text.specs.Lines.{use_line}
 
 -- a line for what the latch makes of a port, or none

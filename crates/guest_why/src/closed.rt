@@ -7,7 +7,7 @@ ghost use Rattle.bars.specs.Slots.{placed, bases_from};
 ghost use Rattle.guest_why.specs.Findings.{lone_asked, base_holds, closed_at, closed_in, closed_told};
 
 use bars::{BasedRegion, Space};
-use board_audit::opens;
+use findings::opens;
 use monitor::Monitor;
 use std::alloc::{AllocError, Global};
 

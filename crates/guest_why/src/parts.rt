@@ -13,7 +13,7 @@ ghost use Rattle.guest_why.specs.Lines.{head_text, place_line, closed_line, told
 use crate::closed::ClosedInSlot;
 use crate::finding::Finding;
 use accesses::{At, Place};
-use audit_text::push_number;
+use findings_told::push_number;
 use monitor::Hit;
 use paths::Bdf;
 use std::alloc::AllocError;

@@ -1,4 +1,4 @@
-//! Layer: definitions. Below: model_set_up, model_guests. Above: model_ready, model_handoff, claim_table, board_audit.
+//! Layer: definitions. Below: model_set_up, model_guests. Above: model_ready, model_handoff, claim_table.
 //!
 //! An audit of a board in any register state: definitions, and laws about them. Does every address reach one place,
 //! can every function be found, and if not, which bridge and which address? What our own set-up leaves passes.

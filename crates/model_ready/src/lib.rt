@@ -1,4 +1,4 @@
-//! Layer: definitions. Below: model_audit. Above: model_why, board_ready.
+//! Layer: definitions. Below: model_audit. Above: model_why, findings.
 //!
 //! Whether a board in any register state is ready to be driven: definitions, and laws about them. Is each region open,
 //! within the apertures and fetched only as it may be, and does each bridge know its bus?

@@ -13,7 +13,7 @@ use Rattle.model_audit.specs.OpenRegions.{closed_of, closed_regions}
 use Rattle.model_guests.specs.Text.{Text}
 use Rattle.model_guests.specs.World.{World}
 use Rattle.model_handoff.specs.Regions.{HandoffFault, in_disorder, closed_region, first_fault}
-use Rattle.board_audit.specs.Told.{problem_of}
+use Rattle.findings.specs.Findings.{problem_of}
 use Rattle.host_bridge.specs.HostState.{HostState}
 use Rattle.monitor.specs.declared.handover.HandoverFault.{HandoverFault}
 use Rattle.monitor.specs.declared.handover.HandoverFault.TheVariants.{NotInOrder, Closed, Memory}

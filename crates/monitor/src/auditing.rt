@@ -3,12 +3,10 @@ ghost use Rattle.std.specs.Prelude.{◌≡◌, [], IfOk, map};
 ghost use Rattle.model_audit.specs.Problems.{problems};
 ghost use Rattle.model_ready.specs.Lacks.{lacks};
 ghost use Rattle.model_guests.specs.WorldNow.{board_state};
-ghost use Rattle.board_audit.specs.Told.{problem_of};
-ghost use Rattle.board_ready.specs.Told.{lack_of};
+ghost use Rattle.findings.specs.Findings.{problem_of, lack_of};
 
 use crate::engine::Engine;
-use board_audit::{Problem, problems};
-use board_ready::{Lack, lacks};
+use findings::{Lack, Problem, lacks, problems};
 use headers::Apertures;
 use host_bridge::Route;
 use std::alloc::{AllocError, Global};

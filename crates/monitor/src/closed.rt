@@ -6,50 +6,24 @@ ghost use Rattle.model_board.specs.Paths.{path_eq};
 ghost use Rattle.model_board.specs.Routing.{routing};
 ghost use Rattle.model_guests.specs.World.{Guest as GuestValue};
 ghost use Rattle.model_audit.specs.OpenRegions.{region_now, closed_of};
-ghost use Rattle.bars.specs.Kinds.{named_space};
 ghost use Rattle.bridge_forward.specs.RoutingRows.{base_of};
 ghost use Rattle.monitor.specs.Handovers.{closed_if_given, first_closed_at};
 
 use accesses::GuestDecl;
-use bars::Space;
 use bridge_forward::{Ranges, RoutingRegion, RoutingRow};
+use findings::{RegionNow, opens};
 use host_bridge::Host;
 use paths::Path;
 use std::alloc::{AllocError, Global};
-use std::marker::Model;
-
-/// A region whose space Command doesn't open, and the path of its endpoint.
-#[derive(Debug, Drop)]
-pub struct ClosedRegion {
-    pub path: Path,
-    pub region: RoutingRegion,
-}
-
-impl Model for ClosedRegion {
-    ghost use Rattle.model_set_up.specs.PlacedRegions.{PlacedRegion};
-    ghost use Rattle.model_audit.specs.OpenRegions.{region_now};
-    ghost use Rattle.bridge_forward.specs.RoutingRows.{base_of};
-
-    ghost Value = { PlacedRegion };
-
-    ghost view = { λ r. region_now r.path (base_of r.region) };
-}
-
-/// Whether the word of the Command register opens a space.
-fn opens(command: u16, space: Space) -> bool
-    ensures { result ≡ opens_space command (named_space space) }
-{
-    command & space.command_bit() != 0
-}
 
 /// The first region of a function that Command doesn't open.
-fn closed_in(path: &Path, command: u16, regions: &[RoutingRegion]) -> Option<ClosedRegion>
+fn closed_in(path: &Path, command: u16, regions: &[RoutingRegion]) -> Option<RegionNow>
     ensures { result ≡ slice_get
         (filter (λ q. not (opens_space command q.space)) (map (region_now path.now) (map base_of regions.now))) 0 }
 {
     for region in regions {
         if !opens(command, region.kind.space()) {
-            return Some(ClosedRegion {
+            return Some(RegionNow {
                 path: path.copied(),
                 region: *region,
             });
@@ -59,7 +33,7 @@ fn closed_in(path: &Path, command: u16, regions: &[RoutingRegion]) -> Option<Clo
 }
 
 /// The first closed region of a function.
-fn closed_of(row: &RoutingRow) -> Option<ClosedRegion>
+fn closed_of(row: &RoutingRow) -> Option<RegionNow>
     ensures { result ≡ slice_get (closed_of row.now) 0 }
 {
     match &row.ranges {
@@ -88,7 +62,7 @@ fn is_given(decls: &[GuestDecl], path: &Path) -> bool
 }
 
 /// The first closed region of a function, if it is given to a guest.
-fn closed_if_given(decls: &[GuestDecl], row: &RoutingRow) -> Option<ClosedRegion>
+fn closed_if_given(decls: &[GuestDecl], row: &RoutingRow) -> Option<RegionNow>
     ensures { let ps = flat_map (λ (g : GuestValue). g.slots) decls.now in
         result ≡ closed_if_given ps row.now }
 {
@@ -100,7 +74,7 @@ fn closed_if_given(decls: &[GuestDecl], row: &RoutingRow) -> Option<ClosedRegion
 }
 
 /// The first closed region of the functions that are given to guests.
-fn first_closed_in(rows: &[RoutingRow], decls: &[GuestDecl]) -> Option<ClosedRegion>
+fn first_closed_in(rows: &[RoutingRow], decls: &[GuestDecl]) -> Option<RegionNow>
     ensures { let ps = flat_map (λ (g : GuestValue). g.slots) decls.now in
         result ≡ first_closed_at ps rows.now }
 {
@@ -117,7 +91,7 @@ pub(crate) fn first_closed(
     alloc: Global,
     host: &Host,
     decls: &[GuestDecl],
-) -> Result<Option<ClosedRegion>, AllocError>
+) -> Result<Option<RegionNow>, AllocError>
     ensures { let ps = flat_map (λ (g : GuestValue). g.slots) decls.now in
         IfOk result (λ r. r ≡ first_closed_at ps (routing host.now.state.functions)) }
 {

@@ -2,13 +2,13 @@
 ghost use Rattle.std.specs.Prelude.{◌≡◌, None, IfOk, IfNone, IfSome, map, option_map, slice_get};
 ghost use Rattle.model_audit.specs.Problems.{problems};
 ghost use Rattle.model_handoff.specs.Regions.{first_fault};
-ghost use Rattle.board_audit.specs.Told.{problem_of};
+ghost use Rattle.findings.specs.Findings.{problem_of};
 ghost use Rattle.monitor.specs.Beginnings.{world_on};
 ghost use Rattle.monitor.specs.Handovers.{number_of, handover_words, words_of, IsFaultOf};
 
-use crate::closed::{ClosedRegion, first_closed};
+use crate::closed::first_closed;
 use accesses::GuestDecl;
-use board_audit::{Problem, problems};
+use findings::{Problem, RegionNow, problems};
 use host_bridge::Host;
 use std::alloc::{AllocError, Global};
 
@@ -17,7 +17,7 @@ use std::alloc::{AllocError, Global};
 #[derive(Drop)]
 pub enum HandoverFault {
     NotInOrder(Problem),
-    Closed(ClosedRegion),
+    Closed(RegionNow),
     Memory,
 }
 

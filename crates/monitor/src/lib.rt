@@ -1,4 +1,4 @@
-//! Layer: guests. Below: function_identity, board_ready, claim_table, board_declared, function_images, accesses. Above: guest_why, machine_images, script.
+//! Layer: guests. Below: function_identity, findings, claim_table, board_declared, function_images, accesses. Above: guest_why, machine_images, script.
 //!
 //! The monitor, which gives functions of a board to guests.
 //!
@@ -51,10 +51,8 @@ pub use accesses::{
     Access, At, Bdf, GuestDecl, HostAccess, HostAt, Names, Op, Place, Refusal, Reply,
 };
 pub use bars::Space;
-pub use board_audit::Problem;
-pub use board_ready::Lack;
-pub use closed::ClosedRegion;
 pub use engine::Engine;
+pub use findings::{Lack, Problem};
 pub use functions::FunctionNow;
 pub use handover::{HandoverFault, Refused, handover_words};
 pub use image_bytes::ImageFault;

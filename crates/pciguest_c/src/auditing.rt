@@ -7,14 +7,14 @@ ghost use Rattle.pciguest_c.specs.Calls.{refusal, tells, unless_out};
 use crate::handle::Handle;
 use crate::numbers::MEMORY;
 use crate::text_calls::tell_counted;
-use session::{Audit, Board};
+use session::{Board, CountedText};
 use std::alloc::Global;
 
 /// What is wrong, or 299 out of memory.
 #[tactic(auto, unfolding(crate::specs::Calls::auditing))]
-fn audit_of(alloc: Global, board: &mut Board) -> Result<Audit, u32>
+fn audit_of(alloc: Global, board: &mut Board) -> Result<CountedText, u32>
     ensures told { IfOk result (λ a. auditing board.old
-        ≡ tells (counted (string_bytes a.text) a.problems) (driven board.old)) }
+        ≡ tells (counted (string_bytes a.text) a.count) (driven board.old)) }
     ensures memory { IfErr result (λ n. unless_out n (auditing board.old) ≡ refusal n) }
     ensures kept { board.new ≡ board.old }
 {
@@ -39,7 +39,7 @@ pub extern "C" fn pciguest_raw_board_audit(
         (counter out.old needed.old count.old) (counter out.new needed.new count.new) }
 {
     match handle.ask_board(alloc, |board| audit_of(alloc, board)) {
-        Ok(Audit { text, problems }) => {
+        Ok(CountedText { text, count: problems }) => {
             tell_counted(text.as_bytes(), problems, out, needed, count)
         }
         Err(number) => number,

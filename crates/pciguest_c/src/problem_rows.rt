@@ -5,7 +5,7 @@ ghost use Rattle.model_audit.specs.Problems.{not_forwarded, contended, not_found
 ghost use Rattle.model_guests.specs.PathTexts.{path_text};
 ghost use Rattle.bars.specs.Kinds.{named_space};
 ghost use Rattle.paths.specs.BusAddresses.{bus_address_of};
-ghost use Rattle.board_audit.specs.Told.{problem_of};
+ghost use Rattle.findings.specs.Findings.{problem_of};
 ghost use Rattle.pciguest_c.specs.QueriesTold.{space_number};
 ghost use Rattle.pciguest_c.specs.ProblemsTold.{no_register, problem_row, reached_text};
 ghost use Rattle.pciguest_c.specs.TextsTold.{IsTold};
@@ -13,7 +13,7 @@ ghost use Rattle.pciguest_c.specs.TextsTold.{IsTold};
 use crate::function_row::text_row;
 use crate::numbers::ARGUMENT;
 use bars::Space;
-use board_audit::{Agent, Problem, RegionNow};
+use findings::{Agent, Problem, RegionNow};
 use function_identity::{PathText, path_text};
 use host_bridge::{Bdf, Path};
 

@@ -7,12 +7,12 @@ ghost use Rattle.pciguest_c.specs.Calls.{refusal, tells, unless_out};
 use crate::handle::Handle;
 use crate::numbers::MEMORY;
 use crate::text_calls::tell_counted;
-use session::{Board, Readiness};
+use session::{Board, CountedText};
 use std::alloc::Global;
 
 /// What is wrong and lacking, or 299 out of memory.
 #[tactic(auto, unfolding(crate::specs::Calls::judging))]
-fn readiness_of(alloc: Global, board: &mut Board) -> Result<Readiness, u32>
+fn readiness_of(alloc: Global, board: &mut Board) -> Result<CountedText, u32>
     ensures told { IfOk result (λ r. judging board.old
         ≡ tells (counted (string_bytes r.text) r.count) (driven board.old)) }
     ensures memory { IfErr result (λ n. unless_out n (judging board.old) ≡ refusal n) }
@@ -39,7 +39,7 @@ pub extern "C" fn pciguest_raw_board_ready(
         (counter out.old needed.old count.old) (counter out.new needed.new count.new) }
 {
     match handle.ask_board(alloc, |board| readiness_of(alloc, board)) {
-        Ok(Readiness { text, count: lacks }) => {
+        Ok(CountedText { text, count: lacks }) => {
             tell_counted(text.as_bytes(), lacks, out, needed, count)
         }
         Err(number) => number,

@@ -30,17 +30,15 @@ ghost use Rattle.session.specs.Files.{Declares, Refuses, BreaksRule, IsAtFirst};
 ghost use Rattle.session.specs.Refusals.{refusal_by};
 
 use crate::accessing;
-use crate::audit::Audit;
 use crate::opening::{self, OpenFault};
 use accesses::{GuestDecl, HostAccess, Refusal, Reply};
 use bars::Space;
-use board_audit::problems;
 use board_file::{BoardFault, read_board};
+use findings_told::{CountedText, audit_text, ready_text};
 use headers::Apertures;
 use host_bridge::Host;
 use lines::{FirmwareWhat, LineText, WhyAsked, firmware_meaning, push_named};
 use monitor::{Monitor, Refused};
-use ready_text::{Readiness, ready_text};
 use script::refusal_of;
 use std::alloc::{AllocError, Global};
 use std::marker::Model;
@@ -236,19 +234,18 @@ impl Board {
 
     /// All that is wrong in the registers as they stand, whoever wrote them. Nothing changes, also where memory
     /// is out.
-    pub fn audit(&mut self, alloc: Global) -> Result<Audit, AllocError>
+    pub fn audit(&mut self, alloc: Global) -> Result<CountedText, AllocError>
         ensures text { IfOk result (λ a. string_bytes a.text ≡ audit self.old.state.functions) }
-        ensures problems { IfOk result (λ a.
-            a.problems ≡ length (problems self.old.state.functions)) }
+        ensures count { IfOk result (λ a.
+            a.count ≡ length (problems self.old.state.functions)) }
         ensures after { self.new ≡ self.old }
     {
-        let found = problems(alloc, &mut self.host)?;
-        Audit::of(alloc, &found)
+        audit_text(alloc, &mut self.host)
     }
 
     /// All that is wrong and all that is lacking in the registers as they stand, whoever wrote them, by the
     /// apertures of the board's file. Nothing changes, also where memory is out.
-    pub fn ready(&mut self, alloc: Global) -> Result<Readiness, AllocError>
+    pub fn ready(&mut self, alloc: Global) -> Result<CountedText, AllocError>
         ensures text { IfOk result (λ r.
             string_bytes r.text
             ≡ ready_report self.old.world.apertures self.old.state.functions) }
@@ -265,7 +262,7 @@ impl Board {
         &mut self,
         alloc: Global,
         apertures: &Apertures,
-    ) -> Result<Readiness, AllocError>
+    ) -> Result<CountedText, AllocError>
         ensures text { IfOk result (λ r.
             string_bytes r.text ≡ ready_report apertures.now self.old.state.functions) }
         ensures count { IfOk result (λ r.

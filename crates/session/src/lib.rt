@@ -1,4 +1,4 @@
-//! Layer: program. Below: script, ready_text, why_text, board_file. Above: simulation.
+//! Layer: program. Below: script, why_text, board_file. Above: simulation.
 //!
 //! Sessions over a board: firmware's lines from reset on, among them those that ask for an audit, for readiness or why
 //! something finds what it finds, and the handover of the board to its guests, whose script the lines are from there on.
@@ -27,7 +27,6 @@
 
 mod accessing;
 mod asking;
-mod audit;
 mod board;
 mod functions;
 mod opening;
@@ -39,9 +38,9 @@ mod telling;
 
 pub use accesses::{Bdf, HostAccess, HostAt, Reply};
 pub use accessing::{read, write};
-pub use audit::Audit;
 pub use board::Board;
 pub use board_file::BoardFault;
+pub use findings_told::CountedText;
 pub use functions::DrivenFunction;
 pub use headers::Apertures;
 pub use host_bridge::Host;
@@ -49,6 +48,5 @@ pub use line_runs::RunFault;
 pub use lines::{LineText, WhyAsked};
 pub use monitor::{HandoverFault, Monitor, Problem, Refused};
 pub use opening::{OpenFault, open};
-pub use ready_text::Readiness;
 pub use running::run;
 pub use session::{Session, SessionLines};

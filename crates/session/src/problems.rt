@@ -1,10 +1,10 @@
 //! What an audit of a board that firmware drives finds, problem by problem.
 ghost use Rattle.std.specs.Prelude.{◌≡◌, IfOk, map};
 ghost use Rattle.model_audit.specs.Problems.{problems};
-ghost use Rattle.board_audit.specs.Told.{problem_of};
+ghost use Rattle.findings.specs.Findings.{problem_of};
 
 use crate::board::Board;
-use board_audit::{Problem, problems};
+use findings::{Problem, problems};
 use std::alloc::{AllocError, Global};
 
 impl Board {

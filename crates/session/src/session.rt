@@ -7,7 +7,7 @@ ghost use Rattle.model_guests.specs.Text.{Text};
 ghost use Rattle.model_guests.specs.World.{World, IsLawfulWorld};
 ghost use Rattle.model_audit.specs.AuditText.{audit};
 ghost use Rattle.model_audit.specs.Problems.{problems};
-ghost use Rattle.board_audit.specs.Told.{problem_of};
+ghost use Rattle.findings.specs.Findings.{problem_of};
 ghost use Rattle.model_ready.specs.Lacks.{lack_count};
 ghost use Rattle.model_ready.specs.ReadyText.{ready_report};
 ghost use Rattle.model_lines.specs.Sessions.{driven, given, at_reset, session_functions, session_protocol};
@@ -21,16 +21,15 @@ ghost use Rattle.session.specs.Refusals.{refusal_in};
 ghost use Rattle.session.specs.Stages.{board_in, machine_in, asks_for_more, IsDriven, IsGiven};
 
 use crate::asking::{Asked, asked_by};
-use crate::audit::Audit;
 use crate::board::Board;
 use crate::stage::{Stage, answer_handover, hand_over};
-use board_audit::Problem;
 use board_file::BoardFault;
+use findings::Problem;
+use findings_told::CountedText;
 use headers::Apertures;
 use line_runs::{Answer, Answers};
 use lines::LineText;
 use monitor::{HandoverFault, Monitor};
-use ready_text::Readiness;
 use std::alloc::{AllocError, Global};
 use std::marker::Model;
 
@@ -162,18 +161,18 @@ impl Session {
 
     /// All that is wrong in the registers of the board as they stand, whoever wrote them. Nothing changes, also
     /// where memory is out.
-    pub fn audit(&mut self, alloc: Global) -> Result<Audit, AllocError>
+    pub fn audit(&mut self, alloc: Global) -> Result<CountedText, AllocError>
         ensures text { IfOk result
             (λ a. string_bytes a.text ≡ audit (session_functions self.old)) }
-        ensures problems { IfOk result (λ a.
-            a.problems ≡ length (problems (session_functions self.old))) }
+        ensures count { IfOk result (λ a.
+            a.count ≡ length (problems (session_functions self.old))) }
         ensures after { self.new ≡ self.old }
     {
         match &mut self.stage {
             Stage::Driven(board) => board.audit(alloc),
             Stage::Given(monitor) => {
                 let found = monitor.problems(alloc)?;
-                Audit::of(alloc, &found)
+                CountedText::of_problems(alloc, &found)
             }
             Stage::Between => unreachable!(),
         }
@@ -194,7 +193,7 @@ impl Session {
 
     /// All that is wrong and all that is lacking in the registers of the board as they stand, whoever wrote them,
     /// by these apertures. Nothing changes, also where memory is out.
-    pub fn ready(&mut self, alloc: Global, apertures: &Apertures) -> Result<Readiness, AllocError>
+    pub fn ready(&mut self, alloc: Global, apertures: &Apertures) -> Result<CountedText, AllocError>
         ensures text { IfOk result (λ r.
             string_bytes r.text ≡ ready_report apertures.now (session_functions self.old)) }
         ensures count { IfOk result (λ r.
@@ -206,7 +205,7 @@ impl Session {
             Stage::Given(monitor) => {
                 let found = monitor.problems(alloc)?;
                 let lacking = monitor.lacks(alloc, apertures)?;
-                Readiness::of(alloc, &found, &lacking)
+                CountedText::of_lacks(alloc, &found, &lacking)
             }
             Stage::Between => unreachable!(),
         }

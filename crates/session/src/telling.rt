@@ -6,13 +6,14 @@ ghost use Rattle.report.specs.Found.{ended};
 ghost use Rattle.monitor.specs.Handovers.{number_of, words_of, handoff_fault};
 ghost use Rattle.session.specs.Tellings.{cause_text};
 
-use audit_text::push_problem;
-use monitor::{ClosedRegion, HandoverFault};
+use findings::RegionNow;
+use findings_told::push_problem;
+use monitor::HandoverFault;
 use report::push_path;
 use std::alloc::{AllocError, Global};
 
 /// Appends the line of a closed region.
-fn push_closed(text: &mut String, closed: &ClosedRegion) -> Result<(), AllocError>
+fn push_closed(text: &mut String, closed: &RegionNow) -> Result<(), AllocError>
     ensures { OnOk result (Adds text.old text.new (ended (closed_text closed.now))) }
 {
     text.push_str("closed: ")?;

@@ -13,7 +13,7 @@ use crate::driving::session_after;
 use crate::fault::Fault;
 use crate::listing::ReportForm;
 use audit_json::problems_json;
-use session::{Apertures, Session};
+use session::{Apertures, CountedText, Session};
 use std::alloc::{AllocError, Global};
 use streams::{Reader, Writer};
 
@@ -26,32 +26,23 @@ pub(crate) enum Question {
     Ready,
 }
 
-/// A text that answers a question, and how many problems and lacks it counts.
-#[derive(Drop)]
-struct Told {
-    text: String,
-    count: usize,
-}
-
 /// What is wrong in the registers of the board of a session, in a form.
-fn audit_in(alloc: Global, form: ReportForm, session: &mut Session) -> Result<Told, AllocError>
+fn audit_in(
+    alloc: Global,
+    form: ReportForm,
+    session: &mut Session,
+) -> Result<CountedText, AllocError>
     ensures text { IfOk result (λ t. string_bytes t.text
         ≡ audit_in form (session_functions session.old)) }
     ensures count { IfOk result
         (λ t. t.count ≡ length (problems (session_functions session.old))) }
 {
     match form {
-        ReportForm::Lines => {
-            let audit = session.audit(alloc)?;
-            Ok(Told {
-                text: audit.text,
-                count: audit.problems,
-            })
-        }
+        ReportForm::Lines => session.audit(alloc),
         ReportForm::Json => {
             let found = session.problems(alloc)?;
             let text = problems_json(alloc, &found)?;
-            Ok(Told {
+            Ok(CountedText {
                 text,
                 count: found.len(),
             })
@@ -65,7 +56,7 @@ fn tell(
     question: Question,
     session: &mut Session,
     apertures: &Apertures,
-) -> Result<Told, AllocError>
+) -> Result<CountedText, AllocError>
     ensures text { IfOk result (λ t. string_bytes t.text
         ≡ told_by question apertures.now (session_functions session.old)) }
     ensures count { IfOk result (λ t. t.count
@@ -73,13 +64,7 @@ fn tell(
 {
     match question {
         Question::Audit(form) => audit_in(alloc, form, session),
-        Question::Ready => {
-            let ready = session.ready(alloc, apertures)?;
-            Ok(Told {
-                text: ready.text,
-                count: ready.count,
-            })
-        }
+        Question::Ready => session.ready(alloc, apertures),
     }
 }
 

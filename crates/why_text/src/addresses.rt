@@ -10,10 +10,10 @@ ghost use Rattle.report.specs.Found.{ended};
 ghost use Rattle.why_text.specs.Lines.{address_head, told_lines};
 
 use crate::parts::{push_command, push_windows};
-use audit_text::{push_address, push_region, push_space};
 use bars::Space;
 use board_why::{Cause, Hindrance, Told};
 use bridge_forward::{Claim, Path};
+use findings_told::{push_address, push_region, push_space};
 use report::push_path;
 use std::alloc::AllocError;
 

@@ -1,4 +1,4 @@
-//! Layer: findings. Below: board_why, audit_text. Above: guest_why, session.
+//! Layer: findings. Below: board_why, findings_told. Above: guest_why, session.
 //!
 //! The text of why an address, an I/O port or a configuration number finds what it finds on a board: a line for who
 //! answers, and one for each cause.

@@ -9,9 +9,9 @@ ghost use Rattle.board_why.specs.Told.{missing_told};
 ghost use Rattle.report.specs.Found.{ended};
 ghost use Rattle.why_text.specs.Lines.{number_head, taker_lines, lines_of_missing};
 
-use audit_text::{push_bus, push_number, push_reached};
 use board_why::{Bdf, Missing};
 use bridge_forward::Path;
+use findings_told::{push_bus, push_number, push_reached};
 use report::push_path;
 use std::alloc::AllocError;
 

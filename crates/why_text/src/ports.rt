@@ -9,8 +9,8 @@ ghost use Rattle.board_why.specs.Told.{use_told};
 ghost use Rattle.report.specs.Found.{ended};
 ghost use Rattle.why_text.specs.Lines.{data_line, use_line};
 
-use audit_text::push_number;
 use board_why::{Bdf, PortUse};
+use findings_told::push_number;
 use paths::Latch;
 use std::alloc::AllocError;
 

@@ -1,6 +1,6 @@
 use Rattle.std.proofs.Common.{◌≡◌, ◌++◌, drop, map}
 use Rattle.serde_json.specs.View.{view}
-use Rattle.board_audit.specs.Told.{problem_of}
+use Rattle.findings.specs.Findings.{problem_of}
 use Rattle.audit_json.specs.AuditValue.{problem_value}
 use Rattle.audit_json.proofs.whole.problem_values.Given as goal
 

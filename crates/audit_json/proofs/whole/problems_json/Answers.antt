@@ -1,6 +1,6 @@
 use Rattle.std.proofs.Common.{◌++◌, [], ◌∷◌, ap, ◌∙◌, map, string_bytes, lit<}
 use Rattle.serde_json.specs.Written.{has_float, compact_text}
-use Rattle.board_audit.specs.Told.{problem_of}
+use Rattle.findings.specs.Findings.{problem_of}
 use Rattle.audit_json.proofs.NoFloats.{none_in_problems}
 use Rattle.audit_json.proofs.whole.problems_json.Goals as goal
 

@@ -1,5 +1,5 @@
 use Rattle.std.proofs.Common.{arith}
-use Rattle.board_audit.specs.Told.{problem_of}
+use Rattle.findings.specs.Findings.{problem_of}
 use Rattle.pciguest_c.specs.ProblemsTold.{problem_row}
 use Rattle.pciguest_c.proofs.Rows.{put_next}
 use Rattle.pciguest_c.proofs.problem_rows.put_problems.Goals as goal

@@ -1,7 +1,7 @@
 use Rattle.std.proofs.Common.{string_bytes, codes}
 use Rattle.std.proofs.lemmas.Result.{IfOk-equal}
 use Rattle.model_guests.specs.Replies.{hex_digits}
-use Rattle.audit_text.proofs.Chains.{onto}
+use Rattle.findings_told.proofs.Chains.{onto}
 use Rattle.why_text.proofs.parts.push_command.Goals as goal
 
 pub returns : goal.returns

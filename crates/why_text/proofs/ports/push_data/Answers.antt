@@ -7,7 +7,7 @@ use Rattle.model_why.specs.WhyPorts.{port_text, latch_text}
 use Rattle.model_why.specs.WhyText.{why_line}
 use Rattle.paths.specs.BusAddresses.{bus_address_of}
 use Rattle.report.specs.Found.{ended}
-use Rattle.audit_text.proofs.Chains.{onto, and_then}
+use Rattle.findings_told.proofs.Chains.{onto, and_then}
 use Rattle.why_text.proofs.AllLines.{data_regroup}
 use Rattle.why_text.proofs.ports.push_data.Goals as goal
 

@@ -1,4 +1,0 @@
-pub mod Least
-pub mod Numbers
-pub mod Walk
-pub mod Above

@@ -1,8 +1,0 @@
-use Rattle.std.proofs.Common.{◌≡◌, drop}
-use Rattle.lists.specs.Elements.{first_some}
-use Rattle.model_audit.specs.Problems.{blame}
-use Rattle.board_audit.specs.Bridges.{rows_nth}
-use Rattle.board_audit.proofs.forwarding.first_blame.Given as goal
-
-abbrev pub invariant-loop-index : goal.invariant-loop-index
-invariant-loop-index l = first_some (blame l.region) (rows_nth l.rows (drop l.index-index l.above)) ≡ first_some (blame l.region) (rows_nth l.rows l.above)

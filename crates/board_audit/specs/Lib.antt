@@ -1,4 +1,0 @@
-pub mod Extents
-pub mod Bridges
-pub mod Spans
-pub mod Told

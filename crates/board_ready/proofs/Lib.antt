@@ -1,2 +1,0 @@
-pub mod BridgesAbove
-pub mod Indexed

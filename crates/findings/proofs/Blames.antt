@@ -1,0 +1,55 @@
+-- What is told of blames is what the definitions say of all regions.
+use Rattle.std.proofs.Common.{◌≡◌, ℕ, Bool, true, false, cond, List, [], ◌∷◌, ◌++◌, map, Option, Some, None, refl, ap, ap₂, ◌∙◌}
+use Rattle.std.specs.Prelude.{flat_map}
+use Rattle.std.specs.Option.{option_map, option_to_list}
+use Rattle.std.proofs.lemmas.List.{map-append}
+use Rattle.lists.specs.Elements.{first_of_two, first_some}
+use Rattle.model_board.specs.Paths.{leads_to}
+use Rattle.model_board.specs.Routing.{RoutingRow}
+use Rattle.model_set_up.specs.PlacedRegions.{PlacedRegion}
+use Rattle.model_audit.specs.OpenRegions.{open_regions}
+use Rattle.model_audit.specs.Problems.{unforwarded, forwarding_problem}
+use Rattle.model_audit.specs.Problems as audit
+use Rattle.model_ready.specs.Lacks.{plain_regions, first_prefetched, prefetch_blame, prefetch_lack}
+use Rattle.findings.specs.Regions.{all_regions}
+use Rattle.findings.specs.Blames.{blame, blames_of, all_blames, unforwarded_problem, prefetched_lack}
+use Rattle.findings.specs.declared.regions.Sort.TheVariants.{Open, Plain}
+use Rattle.findings.specs.declared.blame.Blame.{Blame}
+use Rattle.findings.specs.declared.blame.Charge.{Charge}
+use Rattle.findings.specs.declared.blame.Charge.TheVariants.{NotForwarded, Prefetched}
+use Rattle.findings.proofs.Sorts.{all_open, all_plain}
+
+-- if a blame is told as g tells of its region and row, so is the first one, and so are all
+module _ {B : Type 0} (c : Charge) (to : Blame → B) (g : PlacedRegion → RoutingRow → Option B) (same : (q : PlacedRegion) (r : RoutingRow) → option_map to (blame c q r) ≡ g q r) where
+  first_told : (rows : List RoutingRow) (q : PlacedRegion) → option_map to (first_some (blame c q) rows) ≡ first_some (g q) rows
+  first_told [] q = refl
+  first_told (r ∷ rows) q = mapped (blame c q r) (first_some (blame c q) rows) ∙ ap₂ first_of_two (same q r) (first_told rows q)
+    where
+      mapped : (x y : Option Blame) → option_map to (first_of_two x y) ≡ first_of_two (option_map to x) (option_map to y)
+      mapped None y = refl
+      mapped (Some b) y = refl
+
+  listed : (o : Option Blame) → map to (option_to_list o) ≡ option_to_list (option_map to o)
+  listed None = refl
+  listed (Some b) = refl
+
+  all_told : (rows : List RoutingRow) (qs : List PlacedRegion) → map to (flat_map (blames_of c rows) qs) ≡ flat_map (λ q. option_to_list (first_some (g q) rows)) qs
+  all_told rows [] = refl
+  all_told rows (q ∷ qs) =
+      map-append to (blames_of c rows q) (flat_map (blames_of c rows) qs)
+      ∙ ap₂ ◌++◌ (listed (first_some (blame c q) rows) ∙ ap option_to_list (first_told rows q)) (all_told rows qs)
+
+one_told : {B : Type 0} (to : Blame → B) (above : Bool) (at : Option ℕ) (of : ℕ → Blame) → option_map to (cond above (option_map of at) None) ≡ cond above (option_map (λ n. to (of n)) at) None
+one_told to true None of = refl
+one_told to true (Some n) of = refl
+one_told to false at of = refl
+
+pub forwarding : (rows : List RoutingRow) → map unforwarded_problem (all_blames NotForwarded rows) ≡ flat_map (forwarding_problem rows) (open_regions rows)
+forwarding rows =
+    all_told NotForwarded unforwarded_problem audit.blame (λ q r. one_told unforwarded_problem (leads_to r.path q.path) (unforwarded r q) (λ n. record { region = q; bridge = r.path; address = n })) rows (all_regions Open rows)
+    ∙ ap (flat_map (forwarding_problem rows)) (all_open rows)
+
+pub prefetching : (rows : List RoutingRow) → map prefetched_lack (all_blames Prefetched rows) ≡ flat_map (prefetch_lack rows) (plain_regions rows)
+prefetching rows =
+    all_told Prefetched prefetched_lack prefetch_blame (λ q r. one_told prefetched_lack (leads_to r.path q.path) (first_prefetched r q) (λ n. record { region = q; bridge = r.path; address = n })) rows (all_regions Plain rows)
+    ∙ ap (flat_map (prefetch_lack rows)) (all_plain rows)

@@ -1,0 +1,36 @@
+-- What elements give, from an index on.
+use Rattle.std.proofs.Common.{◌≡◌, ℕ, zero, suc, ◌+◌, List, [], ◌∷◌, ◌++◌, map, drop, refl, sym, ap, ◌∙◌, append-nil, append_assoc, add-one}
+use Rattle.std.specs.Prelude.{flat_map, slice_get}
+use Rattle.std.specs.Option.{option_to_list}
+use Rattle.std.proofs.lemmas.List.{map-append}
+use Rattle.model_board.specs.State.{BoardFunction}
+use Rattle.model_ready.specs.Lacks.{primary_lack}
+use Rattle.findings.specs.Findings.{lack_of}
+use Rattle.findings.specs.declared.lack.Lack.{Lack}
+
+flat_next : {A B : Type 0} (f : A → List B) (xs : List A) (i : ℕ) → flat_map f (drop i xs) ≡ flat_map f (option_to_list (slice_get xs i)) ++ flat_map f (drop (suc i) xs)
+flat_next f [] zero = refl
+flat_next f [] (suc i) = refl
+flat_next f (x ∷ xs) zero = ap (λ ys. ys ++ flat_map f xs) (sym (append-nil (f x)))
+flat_next f (x ∷ xs) (suc i) = flat_next f xs i
+
+pub flat_step : {A B : Type 0} (f : A → List B) (xs : List A) (i : ℕ) → flat_map f (drop i xs) ≡ flat_map f (option_to_list (slice_get xs i)) ++ flat_map f (drop (i + 1) xs)
+flat_step f xs i = rw add-one (flat_next f xs i)
+
+-- ---- what is told of the bridge at an index
+
+pub told_step : (fs : List BoardFunction) (told now : List Lack) (l : Lack) (i : ℕ) → now ≡ told ++ l ∷ [] → lack_of l ∷ [] ≡ flat_map (primary_lack fs) (option_to_list (slice_get fs i))
+    → map lack_of now ++ flat_map (primary_lack fs) (drop (i + 1) fs) ≡ map lack_of told ++ flat_map (primary_lack fs) (drop i fs)
+told_step fs told now l i e told_is =
+    ap (λ xs. map lack_of xs ++ flat_map (primary_lack fs) (drop (i + 1) fs)) e
+    ∙ ap (λ xs. xs ++ flat_map (primary_lack fs) (drop (i + 1) fs)) (map-append lack_of told (l ∷ []))
+    ∙ append_assoc (map lack_of told) (lack_of l ∷ []) (flat_map (primary_lack fs) (drop (i + 1) fs))
+    ∙ ap (λ xs. map lack_of told ++ (xs ++ flat_map (primary_lack fs) (drop (i + 1) fs))) told_is
+    ∙ ap (λ xs. map lack_of told ++ xs) (sym (flat_step (primary_lack fs) fs i))
+
+pub none_step : (fs : List BoardFunction) (told now : List Lack) (i : ℕ) → now ≡ told → [] ≡ flat_map (primary_lack fs) (option_to_list (slice_get fs i))
+    → map lack_of now ++ flat_map (primary_lack fs) (drop (i + 1) fs) ≡ map lack_of told ++ flat_map (primary_lack fs) (drop i fs)
+none_step fs told now i e none =
+    ap (λ xs. map lack_of xs ++ flat_map (primary_lack fs) (drop (i + 1) fs)) e
+    ∙ ap (λ xs. map lack_of told ++ (xs ++ flat_map (primary_lack fs) (drop (i + 1) fs))) none
+    ∙ ap (λ xs. map lack_of told ++ xs) (sym (flat_step (primary_lack fs) fs i))

@@ -1,0 +1,8 @@
+pub mod Least
+pub mod Numbers
+pub mod Walk
+pub mod Sorts
+pub mod Blames
+pub mod Above
+pub mod PrefetchedAddresses
+pub mod Indexed

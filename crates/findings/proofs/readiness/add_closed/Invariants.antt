@@ -1,0 +1,7 @@
+use Rattle.std.proofs.Common.{◌≡◌, ◌++◌, map, drop}
+use Rattle.model_ready.specs.Lacks.{not_open}
+use Rattle.findings.specs.Findings.{lack_of}
+use Rattle.findings.proofs.readiness.add_closed.Given as goal
+
+abbrev pub invariant-loop-region : goal.invariant-loop-region
+invariant-loop-region l = map lack_of l.told.items ++ map not_open (drop l.region-index l.closed) ≡ map lack_of l.initial.told.items ++ map not_open l.closed

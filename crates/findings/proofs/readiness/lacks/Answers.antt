@@ -1,0 +1,8 @@
+use Rattle.std.proofs.Common.{arith}
+use Rattle.std.proofs.lemmas.Grind.{common_steps}
+use Rattle.findings.proofs.Blames.{prefetching}
+use Rattle.findings.proofs.Sorts.{all_open, all_closed}
+use Rattle.findings.proofs.readiness.lacks.Goals as goal
+
+pub returns : goal.returns
+returns c = grind (arith, common_steps, prefetching, all_open, all_closed)

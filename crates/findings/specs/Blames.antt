@@ -1,0 +1,46 @@
+-- Bridges that do what they mustn't with a region below them, in the program's words: they keep back a byte of an open
+-- region, or prefetch one of a region that isn't prefetchable.
+--     sort_blamed c      the sort of regions of which bridges are asked
+--     address_blamed c r q      the least address of a region for which the bridge of a row is to blame
+--     blame c q r      its blame, if it is above the region
+--     blames_of c rows q, all_blames c rows      that of the first to blame for a region; for all regions of the sort
+--     unforwarded_problem, prefetched_lack      what is told of a blame
+use Rattle.std.specs.Prelude.{List, ℕ, if◌then◌else◌, Option, None, flat_map}
+use Rattle.std.specs.Option.{option_map, option_to_list}
+use Rattle.lists.specs.Elements.{first_some}
+use Rattle.model_board.specs.Paths.{leads_to}
+use Rattle.model_board.specs.Routing.{RoutingRow}
+use Rattle.model_set_up.specs.PlacedRegions.{PlacedRegion}
+use Rattle.model_audit.specs.Problems.{Problem, not_forwarded, unforwarded}
+use Rattle.model_ready.specs.Lacks.{Lack, prefetched_by, first_prefetched}
+use Rattle.findings.specs.Regions.{all_regions}
+use Rattle.findings.specs.declared.regions.Sort.{Sort}
+use Rattle.findings.specs.declared.regions.Sort.TheVariants.{Open, Plain}
+use Rattle.findings.specs.declared.blame.Blame.{Blame}
+use Rattle.findings.specs.declared.blame.Charge.{Charge}
+use Rattle.findings.specs.declared.blame.Charge.TheVariants.{NotForwarded, Prefetched}
+
+abbrev pub sort_blamed : Charge → Sort
+sort_blamed NotForwarded = Open
+sort_blamed Prefetched = Plain
+
+abbrev pub address_blamed : Charge → RoutingRow → PlacedRegion → Option ℕ
+address_blamed NotForwarded r q = unforwarded r q
+address_blamed Prefetched r q = first_prefetched r q
+
+abbrev pub blame : Charge → PlacedRegion → RoutingRow → Option Blame
+blame c q r =
+    if leads_to r.path q.path
+    then option_map (λ n. record { region = q; bridge = r.path; address = n }) (address_blamed c r q) else None
+
+abbrev pub blames_of : Charge → List RoutingRow → PlacedRegion → List Blame
+blames_of c rows q = option_to_list (first_some (blame c q) rows)
+
+abbrev pub all_blames : Charge → List RoutingRow → List Blame
+all_blames c rows = flat_map (blames_of c rows) (all_regions (sort_blamed c) rows)
+
+abbrev pub unforwarded_problem : Blame → Problem
+unforwarded_problem b = not_forwarded b.region b.bridge b.address
+
+abbrev pub prefetched_lack : Blame → Lack
+prefetched_lack b = prefetched_by b.region b.bridge b.address

@@ -1,0 +1,107 @@
+//! What may answer addresses on a bus.
+ghost use Rattle.std.specs.Prelude.{◌≡◌};
+ghost use Rattle.std.specs.List.{list_any};
+ghost use Rattle.bars.specs.Kinds.{named_space};
+ghost use Rattle.model_board.specs.Paths.{path_eq};
+ghost use Rattle.model_audit.specs.Agents.{extent_holds, region_agent, bridge_agent, on_one_bus};
+
+use crate::region::{RegionNow, extent};
+use crate::row::{forwarded, holds_any};
+use bars::Space;
+use bridge_forward::{Part, Path, RoutingRow, Window};
+use std::marker::Model;
+
+/// An open region, told by its register, or a bridge in one of the spaces, with the addresses that it
+/// answers: up to two windows.
+#[derive(Debug, Drop)]
+pub struct Agent {
+    pub path: Path,
+    pub register: Option<u8>,
+    pub space: Space,
+    pub one: Option<Window>,
+    pub other: Option<Window>,
+}
+
+impl Model for Agent {
+    ghost use Rattle.model_audit.specs.Agents.{Agent as AgentValue};
+    ghost use Rattle.bars.specs.Kinds.{named_space};
+    ghost use Rattle.findings.specs.Extents.{extents_of};
+
+    ghost Value = { AgentValue };
+
+    ghost view = { λ a. record {
+      path = a.path;
+      register = a.register;
+      space = named_space a.space;
+      extents = extents_of a.one a.other;
+    } };
+}
+
+impl Agent {
+    /// The agent of an open region.
+    pub(crate) fn of_region(region: &RegionNow) -> Agent
+        ensures { result ≡ region_agent region.now }
+    {
+        Agent {
+            path: region.path.copied(),
+            register: Some(region.region.index),
+            space: region.region.kind.space(),
+            one: Some(extent(region.region)),
+            other: None,
+        }
+    }
+
+    /// The agent of a bridge in a space.
+    pub(crate) fn of_bridge(row: &RoutingRow, space: Space) -> Agent
+        ensures { result ≡ bridge_agent row.now (named_space space) }
+    {
+        let (one, other) = forwarded(row, space);
+        Agent {
+            path: row.path.copied(),
+            register: None,
+            space,
+            one,
+            other,
+        }
+    }
+
+    /// The same agent.
+    pub(crate) fn copied(&self) -> Agent
+        ensures { result ≡ self.now }
+    {
+        Agent {
+            path: self.path.copied(),
+            register: self.register,
+            space: self.space,
+            one: self.one,
+            other: self.other,
+        }
+    }
+
+    /// Whether the agent answers an address of its own space.
+    pub(crate) fn answers(&self, addr: u64) -> bool
+        ensures { result ≡ list_any (extent_holds addr) self.now.extents }
+    {
+        holds_any(self.one, self.other, addr)
+    }
+
+    /// Whether both agents stand on one bus.
+    pub(crate) fn is_beside(&self, other: &Agent) -> bool
+        ensures { result ≡ on_one_bus self.now other.now }
+    {
+        is_same(self.path.parent(), other.path.parent())
+    }
+}
+
+/// Whether two buses are one.
+pub(crate) fn is_same(xs: &[Part], ys: &[Part]) -> bool
+    ensures { result ≡ path_eq xs.now ys.now }
+{
+    match xs {
+        [] => ys.is_empty(),
+        [x, xs @ ..] => match ys {
+            [] => false,
+            [y, ys @ ..] => x == y && is_same(xs, ys),
+        },
+    }
+}

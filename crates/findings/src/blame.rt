@@ -1,0 +1,144 @@
+//! The first bridge above a region that does what it mustn't with one of its addresses.
+ghost use Rattle.std.specs.Prelude.{◌≡◌, ◌++◌, map, filter, flat_map, IfOk, OnOk};
+ghost use Rattle.lists.specs.Elements.{first_some};
+ghost use Rattle.model_board.specs.Paths.{leads_to};
+ghost use Rattle.findings.specs.Blames.{sort_blamed, address_blamed, blame, blames_of, all_blames};
+ghost use Rattle.findings.specs.Regions.{regions_of};
+
+use crate::forwarding::unforwarded;
+use crate::prefetching::first_prefetched;
+use crate::region::RegionNow;
+use crate::regions::{Sort, add_regions};
+use bridge_forward::{Path, RoutingRow};
+use std::alloc::{AllocError, Global};
+
+/// What a bridge mustn't do: keep back a byte of an open region, or prefetch one that isn't prefetchable.
+#[derive(Clone, Copy)]
+pub(crate) enum Charge {
+    NotForwarded,
+    Prefetched,
+}
+
+/// A region, the first bridge above it that is to blame, and the least address for which it is.
+#[derive(Drop)]
+pub(crate) struct Blame {
+    pub(crate) region: RegionNow,
+    pub(crate) bridge: Path,
+    pub(crate) address: u64,
+}
+
+/// The sort of regions of which bridges are asked.
+fn sort_blamed(charge: Charge) -> Sort
+    ensures { result ≡ sort_blamed charge }
+{
+    match charge {
+        Charge::NotForwarded => Sort::Open,
+        Charge::Prefetched => Sort::Plain,
+    }
+}
+
+/// The least address of a region for which a bridge is to blame.
+fn address_blamed(charge: Charge, row: &RoutingRow, region: &RegionNow) -> Option<u64>
+    ensures { result ≡ address_blamed charge row.now region.now }
+{
+    match charge {
+        Charge::NotForwarded => unforwarded(row, region),
+        Charge::Prefetched => first_prefetched(row, region),
+    }
+}
+
+/// The blame of a bridge, if it is above the region.
+fn blame_by(charge: Charge, row: &RoutingRow, region: &RegionNow) -> Option<Blame>
+    ensures { result ≡ blame charge region.now row.now }
+{
+    if !row.path.leads_to(&region.path) {
+        return None;
+    }
+    let address = address_blamed(charge, row, region)?;
+    Some(Blame {
+        region: region.copied(),
+        bridge: row.path.copied(),
+        address,
+    })
+}
+
+/// The blame of the first of these bridges that is to blame.
+fn first_blame(charge: Charge, above: &[&RoutingRow], region: &RegionNow) -> Option<Blame>
+    ensures { result ≡ first_some (blame charge region.now) (map (λ r. r.now) above.now) }
+{
+    for row in above {
+        if let Some(first) = blame_by(charge, *row, region) {
+            return Some(first);
+        }
+    }
+    None
+}
+
+/// Adds the blames for regions below these bridges.
+fn add_blames(
+    told: &mut Vec<Blame>,
+    charge: Charge,
+    above: &[&RoutingRow],
+    regions: &[RegionNow],
+) -> Result<(), AllocError>
+    ensures { OnOk result (told.new.items
+        ≡ told.old.items
+        ++ flat_map (blames_of charge (map (λ r. r.now) above.now)) regions.now) }
+{
+    for region in regions {
+        if let Some(first) = first_blame(charge, above, region) {
+            told.push(first)?;
+        }
+    }
+    Ok(())
+}
+
+/// The rows that lead to a path. They are asked once for all regions of a function.
+fn rows_above<'a>(
+    alloc: Global,
+    rows: &'a [RoutingRow],
+    path: &Path,
+) -> Result<Vec<&'a RoutingRow>, AllocError>
+    ensures { IfOk result (λ v.
+        map (λ r. r.now) v.items ≡ filter (λ r. leads_to r.path path.now) rows.now) }
+{
+    let mut above = Vec::new(alloc);
+    for row in rows {
+        if row.path.leads_to(path) {
+            above.push(row)?;
+        }
+    }
+    Ok(above)
+}
+
+/// Adds the blames for the regions of a function.
+fn add_function(
+    alloc: Global,
+    told: &mut Vec<Blame>,
+    charge: Charge,
+    rows: &[RoutingRow],
+    row: &RoutingRow,
+) -> Result<(), AllocError>
+    ensures { OnOk result (told.new.items ≡ told.old.items
+        ++ flat_map (blames_of charge rows.now) (regions_of (sort_blamed charge) row.now)) }
+{
+    let mut regions = Vec::new(alloc);
+    add_regions(&mut regions, sort_blamed(charge), row)?;
+    let above = rows_above(alloc, rows, &row.path)?;
+    add_blames(told, charge, &above, &regions)
+}
+
+/// The blames for all regions of the sort.
+pub(crate) fn all_blames(
+    alloc: Global,
+    charge: Charge,
+    rows: &[RoutingRow],
+) -> Result<Vec<Blame>, AllocError>
+    ensures { IfOk result (λ v. v.items ≡ all_blames charge rows.now) }
+{
+    let mut told = Vec::new(alloc);
+    for row in rows {
+        add_function(alloc, &mut told, charge, rows, row)?;
+    }
+    Ok(told)
+}

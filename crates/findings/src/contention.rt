@@ -1,0 +1,88 @@
+//! Agents of one bus that answer one address.
+ghost use Rattle.std.specs.Prelude.{◌≡◌, ◌++◌, ◌&&◌, map, filter, flat_map, OnOk, IsTrue};
+ghost use Rattle.std.specs.Option.{option_map, option_to_list};
+ghost use Rattle.model_registers.specs.Decoding.{same_space};
+ghost use Rattle.model_audit.specs.Agents.{answers};
+ghost use Rattle.model_audit.specs.Problems.{shared, contention, contentions};
+ghost use Rattle.findings.specs.Extents.{extent_of};
+ghost use Rattle.findings.specs.Findings.{problem_of};
+
+use crate::agent::Agent;
+use crate::missed::lesser;
+use crate::problem::Problem;
+use crate::row::is_same_space;
+use bridge_forward::Window;
+use std::alloc::AllocError;
+
+/// The first address of a window, if both agents answer it.
+fn if_shared(one: &Agent, other: &Agent, window: Option<Window>) -> Option<u64>
+    requires { IsTrue (same_space one.now.space other.now.space) }
+    ensures { option_to_list result
+        ≡ filter (λ n. answers one.now.space n one.now && answers one.now.space n other.now)
+        (map (λ e. e.first) (option_to_list (option_map extent_of window))) }
+{
+    let first = window?.first;
+    if one.answers(first) && other.answers(first) {
+        Some(first)
+    } else {
+        None
+    }
+}
+
+/// The least address that two agents both answer.
+fn shared(one: &Agent, other: &Agent) -> Option<u64>
+    ensures { result ≡ shared one.now other.now }
+{
+    if !is_same_space(one.space, other.space) {
+        return None;
+    }
+    let third = if_shared(one, other, other.one);
+    let fourth = if_shared(one, other, other.other);
+    let second = if_shared(one, other, one.other);
+    let first = if_shared(one, other, one.one);
+    lesser(first, lesser(second, lesser(third, fourth)))
+}
+
+/// What is wrong between two agents.
+fn contention(one: &Agent, other: &Agent) -> Option<Problem>
+    ensures { option_to_list (option_map problem_of result) ≡ contention one.now other.now }
+{
+    if !one.is_beside(other) {
+        return None;
+    }
+    let address = shared(one, other)?;
+    Some(Problem::Contended {
+        one: one.copied(),
+        other: other.copied(),
+        address,
+    })
+}
+
+/// Adds what is wrong between an agent and those after it.
+fn add_contentions(told: &mut Vec<Problem>, one: &Agent, others: &[Agent]) -> Result<(), AllocError>
+    ensures { OnOk result (map problem_of told.new.items
+        ≡ map problem_of told.old.items ++ flat_map (contention one.now) others.now) }
+{
+    for other in others {
+        if let Some(problem) = contention(one, other) {
+            told.push(problem)?;
+        }
+    }
+    Ok(())
+}
+
+/// Adds what is wrong between all agents.
+pub(crate) fn add_all_contentions(
+    told: &mut Vec<Problem>,
+    agents: &[Agent],
+) -> Result<(), AllocError>
+    ensures { OnOk result (map problem_of told.new.items
+        ≡ map problem_of told.old.items ++ contentions agents.now) }
+{
+    let mut left = agents;
+    while let Some((one, rest)) = left.split_first() {
+        add_contentions(told, one, rest)?;
+        left = rest;
+    }
+    Ok(())
+}

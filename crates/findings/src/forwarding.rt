@@ -1,0 +1,36 @@
+//! Open regions that a bridge above them doesn't forward.
+ghost use Rattle.std.specs.Prelude.{◌≡◌, ◌++◌, map, OnOk};
+ghost use Rattle.model_audit.specs.Problems.{unforwarded};
+ghost use Rattle.findings.specs.Blames.{unforwarded_problem};
+ghost use Rattle.findings.specs.Findings.{problem_of};
+
+use crate::blame::Blame;
+use crate::missed::first_missed;
+use crate::problem::Problem;
+use crate::region::RegionNow;
+use crate::row::forwarded;
+use bridge_forward::RoutingRow;
+use std::alloc::AllocError;
+
+/// The least byte of a region that a bridge doesn't forward.
+pub(crate) fn unforwarded(row: &RoutingRow, region: &RegionNow) -> Option<u64>
+    ensures { result ≡ unforwarded row.now region.now }
+{
+    let (one, other) = forwarded(row, region.region.kind.space());
+    first_missed(region, one, other)
+}
+
+/// Adds what is wrong with the forwarding to regions.
+pub(crate) fn add_forwarding(told: &mut Vec<Problem>, blames: &[Blame]) -> Result<(), AllocError>
+    ensures { OnOk result (map problem_of told.new.items
+        ≡ map problem_of told.old.items ++ map unforwarded_problem blames.now) }
+{
+    for blame in blames {
+        told.push(Problem::NotForwarded {
+            region: blame.region.copied(),
+            bridge: blame.bridge.copied(),
+            address: blame.address,
+        })?;
+    }
+    Ok(())
+}

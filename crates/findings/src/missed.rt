@@ -1,0 +1,75 @@
+//! The least address of a region that some windows leave out.
+ghost use Rattle.std.specs.Prelude.{◌≡◌, ◌&&◌, not, map, filter};
+ghost use Rattle.std.specs.Option.{option_map, option_to_list};
+ghost use Rattle.std.specs.List.{list_any};
+ghost use Rattle.model_set_up.specs.PlacedRegions.{holds};
+ghost use Rattle.model_audit.specs.Agents.{extent_holds};
+ghost use Rattle.findings.specs.Extents.{extent_of, extents_of, least_of, first_missed};
+
+use crate::region::RegionNow;
+use crate::row::holds_any;
+use bridge_forward::Window;
+
+/// The lesser of two addresses that may be there.
+pub(crate) fn lesser(one: Option<u64>, other: Option<u64>) -> Option<u64>
+    ensures { result ≡ least_of one other }
+{
+    match (one, other) {
+        (None, y) => y,
+        (x, None) => x,
+        (Some(x), Some(y)) => Some(x.min(y)),
+    }
+}
+
+/// An address, if the region holds it and none of two windows does.
+fn if_lost(
+    region: &RegionNow,
+    one: Option<Window>,
+    other: Option<Window>,
+    addr: Option<u64>,
+) -> Option<u64>
+    ensures { let q = region.now in option_to_list result
+        ≡ filter (λ n.
+        holds q.space n q && not (list_any (extent_holds n) (extents_of one other))) (option_to_list addr) }
+{
+    let addr = addr?;
+    if region.holds(addr) && !holds_any(one, other, addr) {
+        Some(addr)
+    } else {
+        None
+    }
+}
+
+/// The address after a window, if the region holds it and none of two windows does.
+fn if_end_lost(
+    region: &RegionNow,
+    one: Option<Window>,
+    other: Option<Window>,
+    window: Option<Window>,
+) -> Option<u64>
+    ensures { let q = region.now in option_to_list result
+        ≡ filter (λ n.
+        holds q.space n q && not (list_any (extent_holds n) (extents_of one other)))
+        (map (λ e. e.end) (option_to_list (option_map extent_of window))) }
+{
+    let end = region.end_held(window?)?;
+    if holds_any(one, other, end) {
+        None
+    } else {
+        Some(end)
+    }
+}
+
+/// The least address of a region that neither of two windows holds.
+pub(crate) fn first_missed(
+    region: &RegionNow,
+    one: Option<Window>,
+    other: Option<Window>,
+) -> Option<u64>
+    ensures { result ≡ first_missed (extents_of one other) region.now }
+{
+    let first = if_lost(region, one, other, Some(region.region.base));
+    let after_one = if_end_lost(region, one, other, one);
+    let after_other = if_end_lost(region, one, other, other);
+    lesser(first, lesser(after_one, after_other))
+}

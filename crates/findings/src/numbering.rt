@@ -1,0 +1,122 @@
+//! Which functions no configuration cycle finds (PCI-to-PCI Bridge Architecture 1.2, chapter 3).
+ghost use Rattle.std.specs.Prelude.{◌≡◌, ◌++◌, map, position, slice_get, OnOk, option_map};
+ghost use Rattle.std.specs.Option.{option_and_then, option_to_list};
+ghost use Rattle.model_board.specs.Routing.{routing, RoutingRow as RowValue};
+ghost use Rattle.model_audit.specs.Found.{bus_now, address_now};
+ghost use Rattle.model_audit.specs.Problems.{numbering_problems};
+ghost use Rattle.paths.specs.BusAddresses.{bus_address_of};
+ghost use Rattle.findings.specs.Bridges.{is_bridge_row, is_there, lost_function};
+ghost use Rattle.findings.specs.Findings.{problem_of};
+
+use crate::agent::is_same;
+use crate::problem::Problem;
+use bridge_forward::{Part, Path, Ranges, RoutingRow};
+use host_bridge::{Bdf, Host};
+use std::alloc::AllocError;
+
+/// Whether a bridge stands at these parts.
+fn is_bridge_at(row: &RoutingRow, bus: &[Part]) -> bool
+    ensures { result ≡ is_bridge_row bus.now row.now }
+{
+    match &row.ranges {
+        Ranges::Regions(_) => false,
+        Ranges::Windows { .. } => is_same(row.path.parts(), bus),
+    }
+}
+
+/// The index of the bridge above a bus.
+fn bridge_index(rows: &[RoutingRow], bus: &[Part]) -> Option<usize>
+    ensures { result ≡ position (is_bridge_row bus.now) rows.now }
+{
+    rows.iter().position(|row| is_bridge_at(row, bus))
+}
+
+/// The number of a bus: what the bridge above it holds, and 0 for bus 0.
+fn bus_now(host: &Host, rows: &[RoutingRow], bus: &[Part]) -> u8
+    requires { rows.now ≡ routing host.now.state.functions }
+    ensures { result ≡ bus_now host.now.state.functions bus.now }
+{
+    if bus.is_empty() {
+        return 0;
+    }
+    match bridge_index(rows, bus) {
+        Some(index) => host.secondary_nth(index).unwrap_or(0),
+        None => 0,
+    }
+}
+
+/// The number by which a function is looked for: that of its bus, as the bridge above it holds it, and its
+/// device and function. The rows are the host's.
+pub(crate) fn address_now(host: &Host, rows: &[RoutingRow], path: &Path) -> Bdf
+    requires { rows.now ≡ routing host.now.state.functions }
+    ensures { bus_address_of result ≡ address_now host.now.state.functions path.now }
+{
+    let part = path.last();
+    Bdf {
+        bus: bus_now(host, rows, path.parent()),
+        device: part.device(),
+        function: part.function(),
+    }
+}
+
+/// The path at an index, if there is one.
+fn path_at(rows: &[RoutingRow], index: Option<usize>) -> Option<Path>
+    ensures { result
+        ≡ option_map (λ (r : RowValue). r.path) (option_and_then (slice_get rows.now) index) }
+{
+    let index = index?;
+    if index >= rows.len() {
+        return None;
+    }
+    let row = &rows[index];
+    Some(row.path.copied())
+}
+
+/// Whether this is the path that was reached.
+fn is_there(instead: &Option<Path>, path: &Path) -> bool
+    ensures { result ≡ is_there path.now instead.now }
+{
+    match instead {
+        Some(other) => other == path,
+        None => false,
+    }
+}
+
+/// What is wrong with the numbers of the function at a path.
+fn numbering_problem(host: &mut Host, rows: &[RoutingRow], path: &Path) -> Option<Problem>
+    requires { rows.now ≡ routing host.old.state.functions }
+    ensures told { option_to_list (option_map problem_of result)
+        ≡ lost_function host.old.state.functions path.now }
+    ensures after { host.new ≡ host.old }
+{
+    let address = address_now(host, rows, path);
+    let reached = host.index_reached(address);
+    let instead = path_at(rows, reached);
+    if is_there(&instead, path) {
+        return None;
+    }
+    Some(Problem::NotFound {
+        path: path.copied(),
+        address,
+        instead,
+    })
+}
+
+/// Adds the functions that no cycle finds.
+pub(crate) fn add_numbering(
+    told: &mut Vec<Problem>,
+    host: &mut Host,
+    rows: &[RoutingRow],
+) -> Result<(), AllocError>
+    requires { rows.now ≡ routing host.old.state.functions }
+    ensures told { OnOk result (map problem_of told.new.items
+        ≡ map problem_of told.old.items ++ numbering_problems host.old.state.functions) }
+    ensures after { host.new ≡ host.old }
+{
+    for row in rows {
+        if let Some(problem) = numbering_problem(host, rows, &row.path) {
+            told.push(problem)?;
+        }
+    }
+    Ok(())
+}

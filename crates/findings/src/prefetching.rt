@@ -1,0 +1,103 @@
+//! What a bridge forwards of a region by its prefetchable window alone (PCI-to-PCI Bridge Architecture 1.2,
+//! chapter 4).
+ghost use Rattle.std.specs.Prelude.{◌≡◌, [], ◌∷◌, ◌++◌, ◌&&◌, map, filter, OnOk};
+ghost use Rattle.std.specs.Option.{option_map, option_to_list};
+ghost use Rattle.model_set_up.specs.PlacedRegions.{holds};
+ghost use Rattle.model_ready.specs.Lacks.{prefetches, prefetch_edges, first_prefetched};
+ghost use Rattle.findings.specs.Extents.{extent_of};
+ghost use Rattle.findings.specs.Blames.{prefetched_lack};
+ghost use Rattle.findings.specs.Findings.{lack_of};
+
+use crate::blame::Blame;
+use crate::lack::Lack;
+use crate::missed::lesser;
+use crate::region::RegionNow;
+use crate::row::{is_in, opens};
+use bars::Space;
+use bridge_forward::{Ranges, RoutingRow, Window};
+use std::alloc::AllocError;
+
+/// Whether a bridge forwards an address by its prefetchable window, and not by its memory window.
+fn prefetches(row: &RoutingRow, addr: u64) -> bool
+    ensures { result ≡ prefetches addr row.now }
+{
+    match &row.ranges {
+        Ranges::Regions(_) => false,
+        Ranges::Windows { io: _, mem, pref } => {
+            opens(row.command, Space::Mem) && is_in(*pref, addr) && !is_in(*mem, addr)
+        }
+    }
+}
+
+/// The memory window of a bridge, and its prefetchable one.
+fn memory_windows(row: &RoutingRow) -> (Option<Window>, Option<Window>)
+    ensures { prefetch_edges row.now
+        ≡ map (λ e. e.first) (option_to_list (option_map extent_of result.1))
+        ++ map (λ e. e.end) (option_to_list (option_map extent_of result.0)) }
+{
+    match &row.ranges {
+        Ranges::Regions(_) => (None, None),
+        Ranges::Windows { io: _, mem, pref } => (*mem, *pref),
+    }
+}
+
+/// An address, if the region holds it and the bridge prefetches it.
+fn if_prefetched(row: &RoutingRow, region: &RegionNow, addr: u64) -> Option<u64>
+    ensures { let q = region.now in option_to_list result
+        ≡ filter (λ n. holds q.space n q && prefetches n row.now) (addr ∷ []) }
+{
+    if region.holds(addr) && prefetches(row, addr) {
+        Some(addr)
+    } else {
+        None
+    }
+}
+
+/// The first address of a window, if the region holds it and the bridge prefetches it.
+fn if_first_prefetched(row: &RoutingRow, region: &RegionNow, window: Option<Window>) -> Option<u64>
+    ensures { let q = region.now in option_to_list result
+        ≡ filter (λ n. holds q.space n q && prefetches n row.now)
+        (map (λ e. e.first) (option_to_list (option_map extent_of window))) }
+{
+    if_prefetched(row, region, window?.first)
+}
+
+/// The address after a window, if the region holds it and the bridge prefetches it.
+fn if_end_prefetched(row: &RoutingRow, region: &RegionNow, window: Option<Window>) -> Option<u64>
+    ensures { let q = region.now in option_to_list result
+        ≡ filter (λ n. holds q.space n q && prefetches n row.now)
+        (map (λ e. e.end) (option_to_list (option_map extent_of window))) }
+{
+    let end = region.end_held(window?)?;
+    if prefetches(row, end) {
+        Some(end)
+    } else {
+        None
+    }
+}
+
+/// The least address of a region that a bridge prefetches.
+pub(crate) fn first_prefetched(row: &RoutingRow, region: &RegionNow) -> Option<u64>
+    ensures { result ≡ first_prefetched row.now region.now }
+{
+    let (mem, pref) = memory_windows(row);
+    let base = if_prefetched(row, region, region.region.base);
+    let first = if_first_prefetched(row, region, pref);
+    let end = if_end_prefetched(row, region, mem);
+    lesser(base, lesser(first, end))
+}
+
+/// Adds what is lacking of regions that bridges prefetch.
+pub(crate) fn add_prefetched(told: &mut Vec<Lack>, blames: &[Blame]) -> Result<(), AllocError>
+    ensures { OnOk result (map lack_of told.new.items
+        ≡ map lack_of told.old.items ++ map prefetched_lack blames.now) }
+{
+    for blame in blames {
+        told.push(Lack::Prefetched {
+            region: blame.region.copied(),
+            bridge: blame.bridge.copied(),
+            address: blame.address,
+        })?;
+    }
+    Ok(())
+}

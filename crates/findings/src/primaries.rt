@@ -1,0 +1,52 @@
+//! Bridges that don't hold the number of their bus (PCI-to-PCI Bridge Architecture 1.2, chapter 3.2.5.2).
+ghost use Rattle.std.specs.Prelude.{◌≡◌, ◌++◌, map, flat_map, slice_get, OnOk, option_map};
+ghost use Rattle.std.specs.Option.{option_to_list};
+ghost use Rattle.model_board.specs.Routing.{routing};
+ghost use Rattle.model_ready.specs.Lacks.{primary_lack};
+ghost use Rattle.findings.specs.Findings.{lack_of};
+
+use crate::lack::Lack;
+use crate::numbering::address_now;
+use bridge_forward::RoutingRow;
+use host_bridge::Host;
+use std::alloc::AllocError;
+
+/// What is lacking of the bridge at an index, if one stands there.
+fn primary_lack(host: &Host, rows: &[RoutingRow], index: usize) -> Option<Lack>
+    requires { rows.now ≡ routing host.now.state.functions }
+    ensures { let fs = host.now.state.functions in option_to_list (option_map lack_of result)
+        ≡ flat_map (primary_lack fs) (option_to_list (slice_get fs index)) }
+{
+    let held = host.primary_nth(index)?;
+    if index >= rows.len() {
+        return None;
+    }
+    let row = &rows[index];
+    let number = address_now(host, rows, &row.path).bus;
+    if held == number {
+        return None;
+    }
+    Some(Lack::OtherPrimary {
+        path: row.path.copied(),
+        held,
+        number,
+    })
+}
+
+/// Adds what is lacking of bridges' numbers.
+pub(crate) fn add_primaries(
+    told: &mut Vec<Lack>,
+    host: &Host,
+    rows: &[RoutingRow],
+) -> Result<(), AllocError>
+    requires { rows.now ≡ routing host.now.state.functions }
+    ensures { let fs = host.now.state.functions in OnOk result (map lack_of told.new.items
+        ≡ map lack_of told.old.items ++ flat_map (primary_lack fs) fs) }
+{
+    for index in 0..rows.len() {
+        if let Some(lack) = primary_lack(host, rows, index) {
+            told.push(lack)?;
+        }
+    }
+    Ok(())
+}

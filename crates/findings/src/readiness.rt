@@ -1,0 +1,59 @@
+//! Finding what is lacking.
+ghost use Rattle.std.specs.Prelude.{◌≡◌, ◌++◌, map, IfOk, OnOk};
+ghost use Rattle.model_ready.specs.Lacks.{not_open, lacks, is_ready};
+ghost use Rattle.findings.specs.Findings.{lack_of};
+
+use crate::audit::problems;
+use crate::blame::{Charge, all_blames};
+use crate::lack::Lack;
+use crate::outside::add_outside;
+use crate::prefetching::add_prefetched;
+use crate::primaries::add_primaries;
+use crate::region::RegionNow;
+use crate::regions::{Sort, all_regions};
+use headers::Apertures;
+use host_bridge::Host;
+use std::alloc::{AllocError, Global};
+
+/// Adds what is lacking of closed regions.
+fn add_closed(told: &mut Vec<Lack>, closed: &[RegionNow]) -> Result<(), AllocError>
+    ensures { OnOk result (map lack_of told.new.items
+        ≡ map lack_of told.old.items ++ map not_open closed.now) }
+{
+    for region in closed {
+        told.push(Lack::NotOpen {
+            region: region.copied(),
+        })?;
+    }
+    Ok(())
+}
+
+/// All that an operating system would still have to do about the registers of a board as they stand, beside
+/// the problems of an audit: regions that are closed, open ones that aren't inside these apertures, those that
+/// aren't prefetchable and are prefetched, and bridges that hold another Primary Bus Number.
+pub fn lacks(alloc: Global, host: &Host, apertures: &Apertures) -> Result<Vec<Lack>, AllocError>
+    ensures { let fs = host.now.state.functions in
+        IfOk result (λ v. map lack_of v.items ≡ lacks apertures.now fs) }
+{
+    let rows = host.routing(alloc)?;
+    let closed = all_regions(alloc, Sort::Closed, &rows)?;
+    let open = all_regions(alloc, Sort::Open, &rows)?;
+    let prefetched = all_blames(alloc, Charge::Prefetched, &rows)?;
+    let mut told = Vec::new(alloc);
+    add_closed(&mut told, &closed)?;
+    add_outside(&mut told, apertures, &open)?;
+    add_prefetched(&mut told, &prefetched)?;
+    add_primaries(&mut told, host, &rows)?;
+    Ok(told)
+}
+
+/// Whether there is neither a problem nor a lack, by these apertures. Nothing changes.
+pub fn is_ready(alloc: Global, host: &mut Host, apertures: &Apertures) -> Result<bool, AllocError>
+    ensures ready { let fs = host.old.state.functions in
+        IfOk result (λ b. b ≡ is_ready apertures.now fs) }
+    ensures after { host.new ≡ host.old }
+{
+    let wrong = problems(alloc, host)?;
+    let lacking = lacks(alloc, host, apertures)?;
+    Ok(wrong.is_empty() && lacking.is_empty())
+}

@@ -1,0 +1,65 @@
+//! A region where its register says now.
+ghost use Rattle.std.specs.Prelude.{◌≡◌, ◌+◌, [], ◌∷◌, filter};
+ghost use Rattle.std.specs.Option.{option_to_list};
+ghost use Rattle.model_set_up.specs.PlacedRegions.{holds};
+ghost use Rattle.findings.specs.Extents.{extent_of};
+
+use crate::row::holds;
+use bridge_forward::{Path, RoutingRegion, Window};
+use std::marker::Model;
+
+/// A region where its register says now, and the path of its endpoint.
+#[derive(Debug, Drop)]
+pub struct RegionNow {
+    pub path: Path,
+    pub region: RoutingRegion,
+}
+
+impl Model for RegionNow {
+    ghost use Rattle.model_set_up.specs.PlacedRegions.{PlacedRegion};
+    ghost use Rattle.model_audit.specs.OpenRegions.{region_now};
+    ghost use Rattle.bridge_forward.specs.RoutingRows.{base_of};
+
+    ghost Value = { PlacedRegion };
+
+    ghost view = { λ r. region_now r.path (base_of r.region) };
+}
+
+/// The addresses of a region.
+pub(crate) fn extent(region: RoutingRegion) -> Window
+    ensures { extent_of result ≡ record { first = region.base; end = region.base + region.size } }
+{
+    Window {
+        first: region.base,
+        last: region.base + (region.size - 1),
+    }
+}
+
+impl RegionNow {
+    /// Whether the region holds an address of its space.
+    pub fn holds(&self, addr: u64) -> bool
+        ensures { result ≡ holds self.now.space addr self.now }
+    {
+        holds(extent(self.region), addr)
+    }
+
+    /// The address after a window, if the region holds it.
+    pub fn end_held(&self, window: Window) -> Option<u64>
+        ensures { option_to_list result
+            ≡ filter (λ n. holds self.now.space n self.now) ((extent_of window).end ∷ []) }
+    {
+        let held = extent(self.region);
+        let end = window.last.checked_add(1)?;
+        if holds(held, end) { Some(end) } else { None }
+    }
+
+    /// The same region.
+    pub fn copied(&self) -> RegionNow
+        ensures { result ≡ self.now }
+    {
+        RegionNow {
+            path: self.path.copied(),
+            region: self.region,
+        }
+    }
+}

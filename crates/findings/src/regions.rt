@@ -1,0 +1,95 @@
+//! The regions of functions as their registers say, by what is asked of them (PCI Local Bus 3.0, chapters 6.2.2 and 6.2.5).
+ghost use Rattle.std.specs.Prelude.{◌≡◌, ◌++◌, map, IfOk, OnOk};
+ghost use Rattle.bars.specs.Kinds.{kind_of};
+ghost use Rattle.model_ready.specs.Lacks.{is_plain};
+ghost use Rattle.bridge_forward.specs.RoutingRows.{base_of};
+ghost use Rattle.findings.specs.Regions.{is_of_sort, regions_among, regions_of, all_regions};
+
+use crate::region::RegionNow;
+use crate::row::opens;
+use bars::Kind;
+use bridge_forward::{Path, Ranges, RoutingRegion, RoutingRow};
+use std::alloc::{AllocError, Global};
+
+/// Regions whose space Command opens, those whose space it doesn't, and open memory that isn't prefetchable.
+#[derive(Clone, Copy)]
+pub(crate) enum Sort {
+    Open,
+    Closed,
+    Plain,
+}
+
+/// Whether it is memory that isn't prefetchable.
+fn is_plain(kind: Kind) -> bool
+    ensures { result ≡ is_plain (kind_of kind) }
+{
+    match kind {
+        Kind::Io => false,
+        Kind::Mem32 { pref } => !pref,
+        Kind::Mem64 { pref } => !pref,
+    }
+}
+
+/// Whether a region is of a sort, by the word of its function's Command register.
+fn is_of_sort(sort: Sort, command: u16, region: RoutingRegion) -> bool
+    ensures { result ≡ is_of_sort sort command (base_of region) }
+{
+    let is_open = opens(command, region.kind.space());
+    match sort {
+        Sort::Open => is_open,
+        Sort::Closed => !is_open,
+        Sort::Plain => is_plain(region.kind) && is_open,
+    }
+}
+
+/// Adds those regions that are of a sort.
+fn add_among(
+    told: &mut Vec<RegionNow>,
+    sort: Sort,
+    path: &Path,
+    command: u16,
+    regions: &[RoutingRegion],
+) -> Result<(), AllocError>
+    ensures { OnOk result (told.new.items ≡ told.old.items
+        ++ regions_among sort path.now command (map base_of regions.now)) }
+{
+    for region in regions {
+        if is_of_sort(sort, command, *region) {
+            let one = RegionNow {
+                path: path.copied(),
+                region: *region,
+            };
+            told.push(one)?;
+        }
+    }
+    Ok(())
+}
+
+/// Adds the regions of a function that are of a sort.
+pub(crate) fn add_regions(
+    told: &mut Vec<RegionNow>,
+    sort: Sort,
+    row: &RoutingRow,
+) -> Result<(), AllocError>
+    ensures { OnOk result (told.new.items ≡ told.old.items ++ regions_of sort row.now) }
+{
+    match &row.ranges {
+        Ranges::Regions(regions) => add_among(told, sort, &row.path, row.command, regions),
+        Ranges::Windows { .. } => Ok(()),
+    }
+}
+
+/// The regions of all functions that are of a sort.
+pub(crate) fn all_regions(
+    alloc: Global,
+    sort: Sort,
+    rows: &[RoutingRow],
+) -> Result<Vec<RegionNow>, AllocError>
+    ensures { IfOk result (λ v. v.items ≡ all_regions sort rows.now) }
+{
+    let mut told = Vec::new(alloc);
+    for row in rows {
+        add_regions(&mut told, sort, row)?;
+    }
+    Ok(told)
+}

@@ -1,0 +1,167 @@
+//! Agents that may answer one address, found by a walk over what they answer in the order of addresses.
+ghost use Rattle.std.specs.Prelude.{◌≡◌, ℕ, ◌++◌, ◌^◌, ◌<◌, IfOk, OnOk, IsTrue, map, filter};
+ghost use Rattle.std.specs.Option.{option_to_list};
+ghost use Rattle.std.specs.List.Sorted.{IsNonDecreasingBy, IsPermutation};
+ghost use Rattle.model_audit.specs.Problems.{contentions};
+ghost use Rattle.findings.specs.Spans.{bus_key, group_of, key_of, window_span, agent_spans, spans_from, EndsBefore, crowds, AreApartBut, is_crowded};
+
+use crate::agent::Agent;
+use bars::Space;
+use bridge_forward::{Part, Window};
+use std::alloc::{AllocError, Global};
+
+/// Addresses that an agent answers: the agent's index, a number of its bus and space, and the first
+/// and last address.
+#[derive(Clone, Copy)]
+pub(crate) struct Span {
+    pub(crate) agent: usize,
+    pub(crate) group: u64,
+    pub(crate) first: u64,
+    pub(crate) last: u64,
+}
+
+/// A number of a bus. Two buses may have one number, and are then only looked at more closely.
+fn bus_key(bus: &[Part]) -> u64
+    ensures value { result ≡ bus_key bus.now }
+    ensures small { result < 2 ^ 32 }
+{
+    match bus {
+        [] => 0,
+        [part, bus @ ..] => {
+            (u64::from(part.device()) * 8 + u64::from(part.function()) + 1 + bus_key(bus) * 131)
+                % 0x1_0000_0000
+        }
+    }
+}
+
+/// A number of an agent's bus and space.
+fn group_of(agent: &Agent) -> u64
+    ensures { result ≡ group_of agent.now }
+{
+    let space = match agent.space {
+        Space::Io => 0,
+        Space::Mem => 1,
+    };
+    bus_key(agent.path.parent()) * 2 + space
+}
+
+/// Adds the addresses of a window.
+fn add_span(
+    spans: &mut Vec<Span>,
+    agent: usize,
+    group: u64,
+    window: Option<Window>,
+) -> Result<(), AllocError>
+    ensures { OnOk result (spans.new.items
+        ≡ spans.old.items ++ map (window_span agent group) (option_to_list window)) }
+{
+    if let Some(window) = window {
+        spans.push(Span {
+            agent,
+            group,
+            first: window.first,
+            last: window.last,
+        })?;
+    }
+    Ok(())
+}
+
+/// Adds what an agent answers.
+fn add_agent(spans: &mut Vec<Span>, index: usize, agent: &Agent) -> Result<(), AllocError>
+    ensures { OnOk result (spans.new.items ≡ spans.old.items ++ agent_spans index agent.now) }
+{
+    let group = group_of(agent);
+    add_span(spans, index, group, agent.one)?;
+    add_span(spans, index, group, agent.other)
+}
+
+/// What all agents answer.
+fn spans_of(alloc: Global, agents: &[Agent]) -> Result<Vec<Span>, AllocError>
+    ensures { IfOk result (λ v. v.items ≡ spans_from 0 agents.now) }
+{
+    let mut spans = Vec::new(alloc);
+    for (index, agent) in agents.iter().enumerate() {
+        add_agent(&mut spans, index, agent)?;
+    }
+    Ok(spans)
+}
+
+/// The order of spans: by bus and space, and then by first address.
+fn key_of(span: &Span) -> u128
+    ensures { result ≡ key_of span.now }
+{
+    u128::from(span.group) * 0x1_0000_0000_0000_0000 + u128::from(span.first)
+}
+
+/// What all agents answer, in order.
+fn sorted_spans(alloc: Global, agents: &[Agent]) -> Result<Vec<Span>, AllocError>
+    ensures all { IfOk result (λ v. IsPermutation (spans_from 0 agents.now) v.items) }
+    ensures rising { IfOk result (λ v. IsNonDecreasingBy key_of v.items) }
+{
+    let mut spans = spans_of(alloc, agents)?;
+    spans.sort_unstable_by_key(|span| key_of(span));
+    Ok(spans)
+}
+
+/// Whether a span ends before the next one begins, unless that is of another bus or space.
+fn is_before(before: Span, here: Span) -> bool
+    ensures { IsTrue result → EndsBefore before here }
+{
+    before.group != here.group || before.last < here.first
+}
+
+/// Adds a bus and space, unless it was the last one added.
+fn add_group(groups: &mut Vec<u64>, group: u64) -> Result<(), AllocError>
+    ensures added { OnOk result (IsTrue (crowds groups.new.items group)) }
+    ensures kept { OnOk result ((g : ℕ) → IsTrue (crowds groups.old.items g) →
+        IsTrue (crowds groups.new.items g)) }
+{
+    if groups.last() == Some(&group) {
+        return Ok(());
+    }
+    groups.push(group)?;
+    Ok(())
+}
+
+/// The buses and spaces in which a span doesn't end before the next one begins.
+fn crowded_groups(alloc: Global, spans: &[Span]) -> Result<Vec<u64>, AllocError>
+    ensures { IfOk result (λ v. AreApartBut v.items spans.now) }
+{
+    let mut groups = Vec::new(alloc);
+    for index in 1..spans.len() {
+        if !is_before(spans[index - 1], spans[index]) {
+            add_group(&mut groups, spans[index].group)?;
+        }
+    }
+    Ok(groups)
+}
+
+/// Whether this is one of the buses and spaces.
+fn crowds(groups: &[u64], group: u64) -> bool
+    ensures { result ≡ crowds groups.now group }
+{
+    groups.iter().any(|crowded| *crowded == group)
+}
+
+/// The agents of those buses and spaces in which a walk in the order of addresses sees that some may answer
+/// one address. No other agent shares an address with any.
+pub(crate) fn crowded(alloc: Global, agents: &[Agent]) -> Result<Vec<Agent>, AllocError>
+    ensures { IfOk result (λ v. contentions v.items ≡ contentions agents.now) }
+{
+    let spans = sorted_spans(alloc, agents)?;
+    let groups = crowded_groups(alloc, &spans)?;
+    crowded_agents(alloc, agents, &groups)
+}
+
+/// The agents of some buses and spaces.
+fn crowded_agents(alloc: Global, agents: &[Agent], groups: &[u64]) -> Result<Vec<Agent>, AllocError>
+    ensures { IfOk result (λ v. v.items ≡ filter (is_crowded groups.now) agents.now) }
+{
+    let mut crowded = Vec::new(alloc);
+    for agent in agents {
+        if crowds(groups, group_of(agent)) {
+            crowded.push(agent.copied())?;
+        }
+    }
+    Ok(crowded)
+}

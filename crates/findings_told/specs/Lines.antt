@@ -1,0 +1,14 @@
+-- The lines of some problems and of some lacks, in the program's words.
+use Rattle.std.specs.Prelude.{List, map}
+use Rattle.model_guests.specs.Text.{Text, text_of_lines}
+use Rattle.model_audit.specs.AuditText.{problem_text, audit_line}
+use Rattle.model_ready.specs.ReadyText.{lack_text, ready_line}
+use Rattle.findings.specs.Findings.{problem_of, lack_of}
+use Rattle.findings.specs.declared.problem.Problem.{Problem}
+use Rattle.findings.specs.declared.lack.Lack.{Lack}
+
+abbrev pub problem_lines : List Problem → Text
+problem_lines ps = text_of_lines (map (λ p. audit_line (problem_text p)) (map problem_of ps))
+
+abbrev pub lack_lines : List Lack → Text
+lack_lines ls = text_of_lines (map (λ l. ready_line (lack_text l)) (map lack_of ls))

@@ -1,0 +1,142 @@
+//! The lines of problems, and the line that counts them.
+ghost use Rattle.std.specs.Prelude.{OnOk};
+ghost use Rattle.lists.specs.Texts.{Adds};
+ghost use Rattle.paths.specs.BusAddresses.{bus_address_of};
+ghost use Rattle.model_audit.specs.AuditText.{agent_text, space_text, problem_text, total_text, audit_line};
+ghost use Rattle.model_audit.specs.Problems.{not_forwarded, contended, not_found};
+ghost use Rattle.findings.specs.Findings.{problem_of};
+ghost use Rattle.findings_told.specs.Lines.{problem_lines};
+ghost use Rattle.report.specs.Found.{ended};
+
+use crate::places::{push_address, push_number, push_reached, push_region, push_space};
+use findings::{Agent, Problem, RegionNow};
+use paths::{Bdf, Path};
+use report::push_path;
+use std::alloc::AllocError;
+
+/// Appends the path of an agent, and its register, if it has one.
+fn push_agent(text: &mut String, agent: &Agent) -> Result<(), AllocError>
+    ensures { OnOk result (Adds text.old text.new (agent_text agent.now)) }
+{
+    push_path(text, &agent.path)?;
+    match agent.register {
+        Some(index) => write!(text, " bar{index}"),
+        None => Ok(()),
+    }
+}
+
+/// Appends the name of the space whose addresses an agent answers.
+fn push_agent_space(text: &mut String, agent: &Agent) -> Result<(), AllocError>
+    ensures { OnOk result (Adds text.old text.new (space_text agent.now.space)) }
+{
+    push_space(text, agent.space)
+}
+
+/// Appends what is wrong with the forwarding to a region.
+fn push_not_forwarded(
+    text: &mut String,
+    region: &RegionNow,
+    bridge: &Path,
+    address: u64,
+) -> Result<(), AllocError>
+    ensures { OnOk result (Adds text.old text.new
+        (problem_text (not_forwarded region.now bridge.now address))) }
+{
+    push_region(text, region)?;
+    text.push_str(": ")?;
+    push_address(text, address)?;
+    text.push_str(" is not forwarded by ")?;
+    push_path(text, bridge)
+}
+
+/// Appends what is wrong between two agents.
+fn push_contended(
+    text: &mut String,
+    one: &Agent,
+    other: &Agent,
+    address: u64,
+) -> Result<(), AllocError>
+    ensures { OnOk result (Adds text.old text.new
+        (problem_text (contended one.now other.now address))) }
+{
+    push_agent(text, one)?;
+    text.push_str(" and ")?;
+    push_agent(text, other)?;
+    text.push_str(" both answer ")?;
+    push_agent_space(text, one)?;
+    text.push_str(" ")?;
+    push_address(text, address)
+}
+
+/// Appends what is wrong with the number of a function.
+fn push_not_found(
+    text: &mut String,
+    path: &Path,
+    address: Bdf,
+    instead: &Option<Path>,
+) -> Result<(), AllocError>
+    ensures { OnOk result (Adds text.old text.new
+        (problem_text (not_found path.now (bus_address_of address) instead.now))) }
+{
+    push_path(text, path)?;
+    text.push_str(": a cycle for ")?;
+    push_number(text, address)?;
+    text.push_str(" reaches ")?;
+    push_reached(text, instead)
+}
+
+/// Appends a problem.
+fn push_told(text: &mut String, problem: &Problem) -> Result<(), AllocError>
+    ensures { OnOk result (Adds text.old text.new (problem_text (problem_of problem.now))) }
+{
+    match problem {
+        Problem::NotForwarded {
+            region,
+            bridge,
+            address,
+        } => push_not_forwarded(text, region, bridge, *address),
+        Problem::Contended {
+            one,
+            other,
+            address,
+        } => push_contended(text, one, other, *address),
+        Problem::NotFound {
+            path,
+            address,
+            instead,
+        } => push_not_found(text, path, *address, instead),
+    }
+}
+
+/// Appends the line of a problem.
+pub fn push_problem(text: &mut String, problem: &Problem) -> Result<(), AllocError>
+    ensures { OnOk result (Adds text.old text.new
+        (ended (audit_line (problem_text (problem_of problem.now))))) }
+{
+    text.push_str("audit: ")?;
+    push_told(text, problem)?;
+    text.push('\n')
+}
+
+/// Appends the lines of all problems.
+pub(crate) fn push_problems(text: &mut String, problems: &[Problem]) -> Result<(), AllocError>
+    ensures { OnOk result (Adds text.old text.new (problem_lines problems.now)) }
+{
+    for problem in problems {
+        push_problem(text, problem)?;
+    }
+    Ok(())
+}
+
+/// Appends the line that counts the problems.
+pub(crate) fn push_problem_count(text: &mut String, count: usize) -> Result<(), AllocError>
+    ensures { OnOk result (Adds text.old text.new (ended (audit_line (total_text count)))) }
+{
+    if count == 0 {
+        return text.push_str("audit: ok\n");
+    }
+    if count == 1 {
+        return writeln!(text, "audit: {count} problem");
+    }
+    writeln!(text, "audit: {count} problems")
+}
