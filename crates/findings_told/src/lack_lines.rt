@@ -1,7 +1,7 @@
 //! The lines of lacks, and the line that counts them and problems.
 ghost use Rattle.std.specs.Prelude.{OnOk};
 ghost use Rattle.lists.specs.Texts.{Adds};
-ghost use Rattle.model_ready.specs.Lacks.{not_open, outside_apertures, prefetched_by, other_primary};
+ghost use Rattle.model_ready.specs.Lacks.{outside_apertures};
 ghost use Rattle.model_ready.specs.ReadyText.{lack_text, lack_total, ready_line};
 ghost use Rattle.findings.specs.Findings.{lack_of};
 ghost use Rattle.findings_told.specs.Lines.{lack_lines};
@@ -9,17 +9,8 @@ ghost use Rattle.report.specs.Found.{ended};
 
 use crate::places::{push_address, push_bus, push_region};
 use findings::{Lack, RegionNow};
-use paths::Path;
 use report::push_path;
 use std::alloc::AllocError;
-
-/// Appends what is lacking of a region that is closed.
-fn push_not_open(text: &mut String, region: &RegionNow) -> Result<(), AllocError>
-    ensures { OnOk result (Adds text.old text.new (lack_text (not_open region.now))) }
-{
-    push_region(text, region)?;
-    text.push_str(" is closed")
-}
 
 /// Appends what is lacking of a region that isn't inside the apertures.
 fn push_outside(text: &mut String, region: &RegionNow, address: u64) -> Result<(), AllocError>
@@ -32,54 +23,33 @@ fn push_outside(text: &mut String, region: &RegionNow, address: u64) -> Result<(
     text.push_str(" is outside the apertures")
 }
 
-/// Appends what is lacking of a region that a bridge prefetches.
-fn push_prefetched(
-    text: &mut String,
-    region: &RegionNow,
-    bridge: &Path,
-    address: u64,
-) -> Result<(), AllocError>
-    ensures { OnOk result (Adds text.old text.new
-        (lack_text (prefetched_by region.now bridge.now address))) }
-{
-    push_region(text, region)?;
-    text.push_str(": ")?;
-    push_path(text, bridge)?;
-    text.push_str(" prefetches ")?;
-    push_address(text, address)
-}
-
-/// Appends what is lacking of a bridge that holds the number of another bus.
-fn push_other_primary(
-    text: &mut String,
-    path: &Path,
-    held: u8,
-    number: u8,
-) -> Result<(), AllocError>
-    ensures { OnOk result (Adds text.old text.new
-        (lack_text (other_primary path.now held number))) }
-{
-    push_path(text, path)?;
-    text.push_str(": Primary is ")?;
-    push_bus(text, held)?;
-    text.push_str(" on bus ")?;
-    push_bus(text, number)
-}
-
-/// Appends a lack.
+/// Appends what is lacking.
 fn push_told(text: &mut String, lack: &Lack) -> Result<(), AllocError>
     ensures { OnOk result (Adds text.old text.new (lack_text (lack_of lack.now))) }
 {
     match lack {
-        Lack::NotOpen { region } => push_not_open(text, region),
+        Lack::NotOpen { region } => {
+            push_region(text, region)?;
+            text.push_str(" is closed")
+        }
         Lack::OutsideApertures { region, address } => push_outside(text, region, *address),
         Lack::Prefetched {
             region,
             bridge,
             address,
-        } => push_prefetched(text, region, bridge, *address),
+        } => {
+            push_region(text, region)?;
+            text.push_str(": ")?;
+            push_path(text, bridge)?;
+            text.push_str(" prefetches ")?;
+            push_address(text, *address)
+        }
         Lack::OtherPrimary { path, held, number } => {
-            push_other_primary(text, path, *held, *number)
+            push_path(text, path)?;
+            text.push_str(": Primary is ")?;
+            push_bus(text, *held)?;
+            text.push_str(" on bus ")?;
+            push_bus(text, *number)
         }
     }
 }

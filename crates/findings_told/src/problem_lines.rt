@@ -1,16 +1,13 @@
 //! The lines of problems, and the line that counts them.
 ghost use Rattle.std.specs.Prelude.{OnOk};
 ghost use Rattle.lists.specs.Texts.{Adds};
-ghost use Rattle.paths.specs.BusAddresses.{bus_address_of};
-ghost use Rattle.model_audit.specs.AuditText.{agent_text, space_text, problem_text, total_text, audit_line};
-ghost use Rattle.model_audit.specs.Problems.{not_forwarded, contended, not_found};
+ghost use Rattle.model_audit.specs.AuditText.{agent_text, problem_text, total_text, audit_line};
 ghost use Rattle.findings.specs.Findings.{problem_of};
 ghost use Rattle.findings_told.specs.Lines.{problem_lines};
 ghost use Rattle.report.specs.Found.{ended};
 
 use crate::places::{push_address, push_number, push_reached, push_region, push_space};
-use findings::{Agent, Problem, RegionNow};
-use paths::{Bdf, Path};
+use findings::{Agent, Problem};
 use report::push_path;
 use std::alloc::AllocError;
 
@@ -25,67 +22,7 @@ fn push_agent(text: &mut String, agent: &Agent) -> Result<(), AllocError>
     }
 }
 
-/// Appends the name of the space whose addresses an agent answers.
-fn push_agent_space(text: &mut String, agent: &Agent) -> Result<(), AllocError>
-    ensures { OnOk result (Adds text.old text.new (space_text agent.now.space)) }
-{
-    push_space(text, agent.space)
-}
-
-/// Appends what is wrong with the forwarding to a region.
-fn push_not_forwarded(
-    text: &mut String,
-    region: &RegionNow,
-    bridge: &Path,
-    address: u64,
-) -> Result<(), AllocError>
-    ensures { OnOk result (Adds text.old text.new
-        (problem_text (not_forwarded region.now bridge.now address))) }
-{
-    push_region(text, region)?;
-    text.push_str(": ")?;
-    push_address(text, address)?;
-    text.push_str(" is not forwarded by ")?;
-    push_path(text, bridge)
-}
-
-/// Appends what is wrong between two agents.
-fn push_contended(
-    text: &mut String,
-    one: &Agent,
-    other: &Agent,
-    address: u64,
-) -> Result<(), AllocError>
-    ensures { OnOk result (Adds text.old text.new
-        (problem_text (contended one.now other.now address))) }
-{
-    push_agent(text, one)?;
-    text.push_str(" and ")?;
-    push_agent(text, other)?;
-    text.push_str(" both answer ")?;
-    push_agent_space(text, one)?;
-    text.push_str(" ")?;
-    push_address(text, address)
-}
-
-/// Appends what is wrong with the number of a function.
-fn push_not_found(
-    text: &mut String,
-    path: &Path,
-    address: Bdf,
-    instead: &Option<Path>,
-) -> Result<(), AllocError>
-    ensures { OnOk result (Adds text.old text.new
-        (problem_text (not_found path.now (bus_address_of address) instead.now))) }
-{
-    push_path(text, path)?;
-    text.push_str(": a cycle for ")?;
-    push_number(text, address)?;
-    text.push_str(" reaches ")?;
-    push_reached(text, instead)
-}
-
-/// Appends a problem.
+/// Appends what is wrong.
 fn push_told(text: &mut String, problem: &Problem) -> Result<(), AllocError>
     ensures { OnOk result (Adds text.old text.new (problem_text (problem_of problem.now))) }
 {
@@ -94,17 +31,37 @@ fn push_told(text: &mut String, problem: &Problem) -> Result<(), AllocError>
             region,
             bridge,
             address,
-        } => push_not_forwarded(text, region, bridge, *address),
+        } => {
+            push_region(text, region)?;
+            text.push_str(": ")?;
+            push_address(text, *address)?;
+            text.push_str(" is not forwarded by ")?;
+            push_path(text, bridge)
+        }
         Problem::Contended {
             one,
             other,
             address,
-        } => push_contended(text, one, other, *address),
+        } => {
+            push_agent(text, one)?;
+            text.push_str(" and ")?;
+            push_agent(text, other)?;
+            text.push_str(" both answer ")?;
+            push_space(text, one.space)?;
+            text.push_str(" ")?;
+            push_address(text, *address)
+        }
         Problem::NotFound {
             path,
             address,
             instead,
-        } => push_not_found(text, path, *address, instead),
+        } => {
+            push_path(text, path)?;
+            text.push_str(": a cycle for ")?;
+            push_number(text, *address)?;
+            text.push_str(" reaches ")?;
+            push_reached(text, instead)
+        }
     }
 }
 
