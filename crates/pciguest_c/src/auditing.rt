@@ -39,9 +39,12 @@ pub extern "C" fn pciguest_raw_board_audit(
         (counter out.old needed.old count.old) (counter out.new needed.new count.new) }
 {
     match handle.ask_board(alloc, |board| audit_of(alloc, board)) {
-        Ok(CountedText { text, count: problems }) => {
-            tell_counted(text.as_bytes(), problems, out, needed, count)
-        }
+        Ok(
+            CountedText {
+                text,
+                count: problems,
+            },
+        ) => { tell_counted(text.as_bytes(), problems, out, needed, count) }
         Err(number) => number,
     }
 }

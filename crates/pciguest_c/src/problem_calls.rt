@@ -1,7 +1,7 @@
 //! What C is told of each problem in the registers of a board.
 ghost use Rattle.std.specs.Prelude.{◌≡◌, IfOk, IfErr, map};
 ghost use Rattle.model_lines.specs.Sessions.{driven};
-ghost use Rattle.board_audit.specs.Told.{problem_of};
+ghost use Rattle.findings.specs.Findings.{problem_of};
 ghost use Rattle.pciguest_c.specs.ProblemsTold.{problem_row};
 ghost use Rattle.pciguest_c.specs.Calls.{AnswersBoardOrRunsOut, board_problems, finding, rows, row_buffer};
 ghost use Rattle.pciguest_c.specs.Calls.{refusal, tells, unless_out};
@@ -9,7 +9,7 @@ ghost use Rattle.pciguest_c.specs.Calls.{refusal, tells, unless_out};
 use crate::handle::Handle;
 use crate::numbers::MEMORY;
 use crate::problem_rows::{ProblemRow, tell_problems};
-use board_audit::Problem;
+use findings::Problem;
 use session::Board;
 use std::alloc::Global;
 
