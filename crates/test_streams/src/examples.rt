@@ -68,7 +68,7 @@ fn a_bridge_is_numbered_by_hand(rt: HostRuntime) -> Result<(), Fail> {
     assert!(rt; more.is_none());
     assert_eq!(rt; text.as_slice(), b"host: 0x00031234\n".as_slice());
     assert_eq!(rt; audit.text.as_str(), "audit: ok\n");
-    assert_eq!(rt; audit.problems, 0);
+    assert_eq!(rt; audit.count, 0);
     Ok(())
 }
 
