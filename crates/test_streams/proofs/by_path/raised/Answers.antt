@@ -5,7 +5,7 @@ use Rattle.model_board.specs.Paths.{Path}
 use Rattle.model_board.specs.Claims.{Claim}
 use Rattle.bridge_forward.specs.Lending.{endpoint_at}
 use Rattle.host_bridge.proofs.Lent.{claimed_endpoint, distinct_paths}
-use Rattle.test_parts.proofs.by_path.raised.Goals as goal
+use Rattle.test_streams.proofs.by_path.raised.Goals as goal
 
 -- an endpoint stands at the path of a claim
 pub raise-requires : goal.raise-requires

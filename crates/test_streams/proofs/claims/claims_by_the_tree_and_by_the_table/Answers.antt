@@ -1,6 +1,6 @@
 use Rattle.std.proofs.Common.{ap}
 use Rattle.model_board.specs.Routing.{routing}
-use Rattle.test_parts.proofs.claims.claims_by_the_tree_and_by_the_table.Goals as goal
+use Rattle.test_streams.proofs.claims.claims_by_the_tree_and_by_the_table.Goals as goal
 
 -- the host is the one that the table was made for
 pub claimant-requires-in-loop-space : goal.claimant-requires-in-loop-space
