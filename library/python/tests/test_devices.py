@@ -153,7 +153,7 @@ class Acting(Case):
 
     def test_an_access_past_the_space_is_none(self):
         self.a.config[0][0x10:4] = 0
-        for call in (lambda: self.a.io.wide[0xFFFD:4], lambda: self.a.memory.wide[0x810000100:9]):
+        for call in (lambda: self.a.io.wide[0xFFFFFFFD:4], lambda: self.a.memory.wide[0x810000100:9]):
             with self.assertRaises(Refusal):
                 call()
         self.assertEqual(self.device.told, [])
