@@ -12,7 +12,7 @@ HEAD = re.compile(r"(?:(?:pub|abbrev|unfoldable|opaque) )*([^\s:(){}=]+) :(?=\s)
 WORD = re.compile(r"[^\s(){}.,;]+|[(){}.,;]")
 # what has fewer words is no more than an instance of another lemma
 LEAST = 20
-KNOWN = ["Follows InOrder InOrder IsBehind", "alone then_none", "changed_entry changed_entry", "found_is_bridge found_is_bridge", "known told",
+KNOWN = ["Follows InOrder InOrder IsBehind", "changed_entry changed_entry", "found_is_bridge found_is_bridge", "known told",
          "none_after none_after", "part_turn turned", "same_is same_is"]
 
 

@@ -10,7 +10,8 @@ const ANSWERS = /^(?:I\/O|memory) 0x[0-9a-f]+: (?:(\S+) (bar\d) offset 0x[0-9a-f
 const REACHES = /^[0-9a-f]{2}:[0-9a-f]{2}\.[0-7] reaches (?:nothing|(\S+))$/;
 const LATCH = /^I\/O 0x[0-9a-f]+: (?:4 bytes are|offset 0x[0-9a-f]+ of \S+ by|not enabled by) the latch, 0x[0-9a-f]+$/;
 const HOLDS = /^(\S+) (bar\d) at (0x[0-9a-f]+) size (0x[0-9a-f]+): (.*)$/;
-const KEPT_BY = /^(?:closed, Command 0x[0-9a-f]{4}|would answer too|(\S+) doesn't forward it, ((?:I\/O|memory|prefetchable|no window|Command 0x[0-9a-f]{4} closes).*))$/;
+const KEPT_BY = /^(?:closed, Command 0x[0-9a-f]{4}|would answer too|(\S+) doesn't forward it, ((?:I\/O|memory|prefetchable|no window|Command 0x[0-9a-f]{4} closes)[^;]*))$/;
+const AT_RESET = /^\d+ regions? at 0x0, closed as at reset$/;
 const WINDOWS = /(I\/O|memory|prefetchable) (0x[0-9a-f]+)\.\.(0x[0-9a-f]+)/g;
 const TAKES = /^(\S+) takes bus [0-9a-f]{2}$/;
 const MISSING = /^no (?:bridge|function \S+) (?:on bus 00|behind (\S+))(?: takes bus [0-9a-f]{2})?$/;
@@ -42,12 +43,13 @@ const named_if = path => (path === undefined ? [] : [named(path)]);
 const windows_told = (bridge, text) => [...text.matchAll(WINDOWS)].map(([, name, first, last]) => ({ ...named(bridge), space: name === 'I/O' ? 'io' : 'mem',
   first: BigInt(first), last: BigInt(last) }));
 
-// A region that something keeps from answering, with the bridge where one doesn't forward, and the places of both.
+// A region that something keeps from answering, with the bridges that don't forward, and the places of all.
 function kept_back([, path, register, base, size, why], space) {
-  const [is_told, bridge, lacks] = KEPT_BY.exec(why) ?? [], first = BigInt(base);
+  const causes = why.split('; ').map(cause => KEPT_BY.exec(cause)), first = BigInt(base);
   const region = { ...named(path, register), space, first, last: first + BigInt(size) - 1n };
-  if (is_told === undefined) return null;
-  return { of: [named(path, register), ...named_if(bridge)], places: [region, ...windows_told(bridge, lacks ?? '')] };
+  if (causes.includes(null)) return null;
+  return { of: [named(path, register), ...causes.flatMap(([, bridge]) => named_if(bridge))],
+    places: [region, ...causes.flatMap(([, bridge, lacks]) => windows_told(bridge, lacks ?? ''))] };
 }
 
 // A line without its head: the functions that it names, where they stand that it tells of, and whether it is a cause.
@@ -56,7 +58,7 @@ function line_of_why(text, space) {
   const [answers, reaches, holds, takes, missing] = [ANSWERS, REACHES, HOLDS, TAKES, MISSING].map(form => form.exec(text));
   if (answers) return { ...one, of: answers[1] === undefined ? [] : [named(answers[1], answers[2])] };
   if (reaches) return { ...one, of: named_if(reaches[1]) };
-  if (LATCH.test(text)) return one;
+  if (LATCH.test(text) || AT_RESET.test(text)) return one;
   const cause = holds ? kept_back(holds, space) : takes ? { of: [named(takes[1])] } : missing ? { of: named_if(missing[1]) } : null;
   return cause && { ...one, ...cause, is_cause: true };
 }

@@ -18,7 +18,7 @@ from pathlib import Path
 from audit import EDGES, random_state
 from board import board_file, path_text
 
-KINDS = ["would answer too", ": closed, ", "closes ", "no window", "shut", "nobody answers", " answers", "no bridge on bus 00",
+KINDS = ["would answer too", ": closed, ", "; ", "as at reset", "closes ", "no window", "shut", "nobody answers", " answers", "no bridge on bus 00",
          "no bridge behind", "no function", "takes bus", "4 bytes are", "not enabled", " by the latch", "reaches nothing"]
 
 
@@ -57,26 +57,30 @@ def hindrance(state, path, space):
     return ", ".join(window_text(name, *window) for name, window in windows_of(state, path, space)) or "no window"
 
 
-def cause(state, path, space, address):
-    """What keeps a region of the function at a path from answering."""
+def causes(state, path, space, address):
+    """All that keeps a region of the function at a path from answering, the nearest to the function first."""
     if not state.opens(path, space):
-        return f"closed, {command_text(state, path)}"
-    for length in range(1, len(path)):
+        yield f"closed, {command_text(state, path)}"
+    for length in range(len(path) - 1, 0, -1):
         bridge = path[:length]
         if not any(first <= address <= last for first, last in state.forwarded(bridge, space)):
-            return f"{path_text(bridge)} doesn't forward it, {hindrance(state, bridge, space)}"
-    return "would answer too"
+            yield f"{path_text(bridge)} doesn't forward it, {hindrance(state, bridge, space)}"
 
 
 def why(state, space, address):
     """The lines of an address."""
-    answer, lines = "nobody answers", []
+    answer, lines, left = "nobody answers", [], 0
     for path, bar, base in regions_at(state, space, address):
-        said = cause(state, path, space, address)
-        if said == "would answer too" and answer == "nobody answers":
+        found = [*causes(state, path, space, address)]
+        if base == 0 and not state.opens(path, space):
+            left += 1
+        elif not found and answer == "nobody answers":
             answer = f"{path_text(path)} bar{bar.index} offset {address - base:#x} answers"
         else:
+            said = "; ".join(found) or "would answer too"
             lines.append(f"{path_text(path)} bar{bar.index} at {base:#x} size {bar.size:#x}: {said}")
+    if left:
+        lines.append(f"{left} region{'s' * (left > 1)} at 0x0, closed as at reset")
     return [f"{space} {address:#x}: {answer}", *lines]
 
 

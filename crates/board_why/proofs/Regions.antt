@@ -10,7 +10,7 @@ use Rattle.model_board.specs.State.{BoardFunction}
 use Rattle.model_board.specs.Routing.{ranges_of, row_of, routing}
 use Rattle.model_set_up.specs.PlacedRegions.{PlacedRegion, holds}
 use Rattle.model_audit.specs.OpenRegions.{region_now, regions_of}
-use Rattle.model_why.specs.Why.{is_answer, cause_of, Told, told_of}
+use Rattle.model_why.specs.Why.{is_answer, causes_of, Told, told_of}
 use Rattle.board_why.specs.ByRows.{is_held, held_in, held_of, all_held, told_from}
 
 filter_both : {A : Type 0} (s t : A → Bool) (xs : List A) → filter (λ x. s x && t x) xs ≡ filter t (filter s xs)
@@ -24,7 +24,7 @@ filter_both s t (x ∷ xs) = by (s x) (t x) refl (filter_both s t xs)
 
 module _ (fs : List BoardFunction) (space : Space) (n : ℕ) where
   abbrev tell : BoardFunction → PlacedRegion → Told
-  tell f q = record { region = q; cause = cause_of fs space n f }
+  tell f q = record { region = q; causes = causes_of fs space n f }
 
   -- a region has its function's path
   with_path : (f : BoardFunction) (t : PlacedRegion → Bool) (bs : List BaseAddress)

@@ -1,15 +1,14 @@
 -- A row with what is declared of a bridge says of it what its registers say.
 use Rattle.std.proofs.Common.{◌≡◌, ℕ, Option, Some, None, refl, sym, ap, ◌∙◌}
-use Rattle.std.specs.Prelude.{List, slice_get, option_map}
+use Rattle.std.specs.Prelude.{List, ◌++◌, [], slice_get, option_map}
 use Rattle.std.specs.Option.{option_map_or, option_to_list}
 use Rattle.std.proofs.lemmas.Option.{slice_get-map}
-use Rattle.lists.specs.Elements.{first_of_two, first_some}
 use Rattle.model_registers.specs.Decoding.{Space, io, memory, command_word}
 use Rattle.model_board.specs.Paths.{Path}
 use Rattle.model_board.specs.Board.{Decl, endpoint, bridge}
 use Rattle.model_board.specs.State.{BoardFunction}
 use Rattle.model_board.specs.Routing.{ranges_of, RoutingRow, row_of, routing}
-use Rattle.model_why.specs.Why.{stop}
+use Rattle.model_why.specs.Why.{stop, stops}
 use Rattle.bridge_forward.specs.BridgeDecls.{declared_bridge, declared_bridge_nth}
 use Rattle.board_why.specs.ByRows.{row_stop}
 
@@ -22,16 +21,16 @@ stop_by_row space n p f = by space f.decl
     by io (bridge d) = refl
     by memory (bridge d) = refl
 
-alone : {B : Type 0} (o : Option B) → o ≡ first_of_two o None
+alone : {B : Type 0} (o : Option B) → option_to_list o ≡ option_to_list o ++ []
 alone None = refl
 alone (Some x) = refl
 
 pub stop_at : (fs : List BoardFunction) (rows : List RoutingRow) (space : Space) (n : ℕ) (p : Path) (i : ℕ) (r : RoutingRow) → rows ≡ routing fs → slice_get rows i ≡ Some r
-    → row_stop space n p (declared_bridge_nth fs i) r ≡ first_some (stop space n p) (option_to_list (slice_get fs i))
+    → option_to_list (row_stop space n p (declared_bridge_nth fs i) r) ≡ stops (option_to_list (slice_get fs i)) space n p
 stop_at fs rows space n p i r e there = by (slice_get fs i) (sym (slice_get-map row_of fs i) ∙ ap (λ (xs : List RoutingRow). slice_get xs i) (sym e) ∙ there)
   where
-    by : (o : Option BoardFunction) → option_map row_of o ≡ Some r → row_stop space n p (option_map_or (λ (f : BoardFunction). declared_bridge f.decl) o None) r ≡ first_some (stop space n p) (option_to_list o)
+    by : (o : Option BoardFunction) → option_map row_of o ≡ Some r → option_to_list (row_stop space n p (option_map_or (λ (f : BoardFunction). declared_bridge f.decl) o None) r) ≡ stops (option_to_list o) space n p
     by None h = cc
     by (Some f) h =
         let same : row_of f ≡ r = cc in
-        ap (row_stop space n p (declared_bridge f.decl)) (sym same) ∙ stop_by_row space n p f ∙ alone (stop space n p f)
+        ap (λ (x : RoutingRow). option_to_list (row_stop space n p (declared_bridge f.decl) x)) (sym same) ∙ ap option_to_list (stop_by_row space n p f) ∙ alone (stop space n p f)

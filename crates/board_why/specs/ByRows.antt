@@ -1,10 +1,9 @@
 -- What is told of an address, from routing registers and what is declared of bridges.
 --     row_windows, row_hindrance, row_stop      of a bridge, by its row
 --     Held, held_in, held_of, all_held      regions that hold an address and don't answer, each with its function's Command
---     cause_at, told_from      what keeps such a region from answering, by its path and Command; what is told of it
-use Rattle.std.specs.Prelude.{List, [], ◌∷◌, ℕ, Bool, ◌&&◌, not, if◌then◌else◌, Option, Some, None, map, filter, flat_map}
-use Rattle.std.specs.Option.{option_map_or}
-use Rattle.lists.specs.Elements.{first_some}
+--     causes_down, causes_at, told_from      all that keeps such a region from answering, by its path and Command; what is told of it
+use Rattle.std.specs.Prelude.{List, [], ◌∷◌, ◌++◌, ℕ, Bool, ◌&&◌, not, if◌then◌else◌, Option, Some, None, map, filter, flat_map}
+use Rattle.std.specs.Prelude.{reverse}
 use Rattle.model_registers.specs.Declarations.{Bridge}
 use Rattle.model_registers.specs.Decoding.{Space, io, memory, opens_space}
 use Rattle.model_board.specs.Paths.{Path, leads_to}
@@ -14,7 +13,7 @@ use Rattle.model_board.specs.Routing.{Ranges, regions, windows, RoutingRow, row_
 use Rattle.model_set_up.specs.PlacedRegions.{PlacedRegion, holds}
 use Rattle.model_audit.specs.OpenRegions.{regions_of}
 use Rattle.model_why.specs.Why.{NamedWindow, named, for_memory, io_windows, pref_windows, Hindrance, closes, misses}
-use Rattle.model_why.specs.Why.{Cause, answers_too, closed_by, stopped_at, stop, is_answer, Told}
+use Rattle.model_why.specs.Why.{Cause, closed_by, stopped_at, stops, is_answer, Told}
 use Rattle.board_why.specs.declared.holding.Held.{Held}
 
 abbrev pub row_windows : Space → Bridge → Ranges → List NamedWindow
@@ -48,10 +47,12 @@ all_held space n answer rows = flat_map (held_of space n answer) rows
 
 -- ---- what keeps them from answering
 
-abbrev pub cause_at : List BoardFunction → Space → ℕ → Path → ℕ → Cause
-cause_at fs space n p command =
-    if opens_space command space
-    then option_map_or (λ (c : Cause). c) (first_some (stop space n p) fs) answers_too else closed_by command
+-- from bus 0 down
+abbrev pub causes_down : List BoardFunction → Space → ℕ → Path → ℕ → List Cause
+causes_down fs space n p command = stops fs space n p ++ (if opens_space command space then [] else closed_by command ∷ [])
+
+abbrev pub causes_at : List BoardFunction → Space → ℕ → Path → ℕ → List Cause
+causes_at fs space n p command = reverse (causes_down fs space n p command)
 
 abbrev pub told_from : List BoardFunction → Space → ℕ → Held → Told
-told_from fs space n h = record { region = h.region; cause = cause_at fs space n h.region.path h.command }
+told_from fs space n h = record { region = h.region; causes = causes_at fs space n h.region.path h.command }

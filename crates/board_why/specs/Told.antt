@@ -16,7 +16,7 @@ use Rattle.board_why.specs.declared.causes.NamedWindow.{NamedWindow}
 use Rattle.board_why.specs.declared.causes.Hindrance.{Hindrance}
 use Rattle.board_why.specs.declared.causes.Hindrance.TheVariants.{Closes, Misses}
 use Rattle.board_why.specs.declared.causes.Cause.{Cause}
-use Rattle.board_why.specs.declared.causes.Cause.TheVariants.{AnswersToo, ClosedBy, StoppedAt}
+use Rattle.board_why.specs.declared.causes.Cause.TheVariants.{ClosedBy, StoppedAt}
 use Rattle.board_why.specs.declared.causes.Told.{Told}
 use Rattle.board_why.specs.declared.causes.Why.{Why}
 use Rattle.board_why.specs.declared.number.Missing.{Missing}
@@ -41,12 +41,11 @@ hindrance_told (Closes command) = model.closes command
 hindrance_told (Misses one other) = model.misses (windows_told one other)
 
 abbrev pub cause_told : Cause → model.Cause
-cause_told AnswersToo = model.answers_too
 cause_told (ClosedBy command) = model.closed_by command
 cause_told (StoppedAt bridge hindrance) = model.stopped_at bridge (hindrance_told hindrance)
 
 abbrev pub region_told : Told → model.Told
-region_told t = record { region = t.region; cause = cause_told t.cause }
+region_told t = record { region = t.region; causes = map cause_told t.causes.items }
 
 abbrev pub why_told : Why → model.Why
 why_told w = record { answer = w.answer; told = map region_told w.told.items }

@@ -34,19 +34,18 @@ pub enum Hindrance {
 /// What keeps a region that holds an address from answering.
 #[derive(Debug, Drop)]
 pub enum Cause {
-    /// Nothing but that another answers first.
-    AnswersToo,
     /// The Command of its function, which doesn't open its space.
     ClosedBy { command: u16 },
-    /// The first bridge above it that doesn't forward the address.
+    /// A bridge above it that doesn't forward the address.
     StoppedAt { bridge: Path, hindrance: Hindrance },
 }
 
-/// A region that holds an address and doesn't answer it.
+/// A region that holds an address and doesn't answer it, with all that keeps it from that, the nearest to its function
+/// first. A region without a cause would answer, if no other did.
 #[derive(Debug, Drop)]
 pub struct Told {
     pub region: RegionNow,
-    pub cause: Cause,
+    pub causes: Vec<Cause>,
 }
 
 /// Who answers an address, and all other regions that hold it, in path order, then by register.

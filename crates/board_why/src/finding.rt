@@ -8,7 +8,7 @@ ghost use Rattle.board_why.specs.Told.{region_told, why_told};
 
 use crate::causes::{Told, Why};
 use crate::holding::{Asked, Held, all_held};
-use crate::stopping::cause_of;
+use crate::stopping::causes_of;
 use bars::Space;
 use bridge_forward::RoutingRow;
 use host_bridge::Host;
@@ -31,14 +31,14 @@ fn all_told(
     for one in held {
         told.push(Told {
             region: one.region.copied(),
-            cause: cause_of(host, rows, asked, one),
+            causes: causes_of(alloc, host, rows, asked, one)?,
         })?;
     }
     Ok(told)
 }
 
 /// Who answers an address as the registers stand, and each other region that holds it, in path order, then by
-/// register, with what keeps it from answering.
+/// register, with all that keeps it from answering.
 pub fn why_address(alloc: Global, host: &Host, space: Space, addr: u64) -> Result<Why, AllocError>
     ensures { let fs = host.now.state.functions in
         IfOk result (λ w. why_told w ≡ why fs (named_space space) addr) }

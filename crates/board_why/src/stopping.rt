@@ -1,12 +1,11 @@
 //! What keeps a region that holds an address from answering it.
-ghost use Rattle.std.specs.Prelude.{◌≡◌, slice_get, option_map};
+ghost use Rattle.std.specs.Prelude.{◌≡◌, map, slice_get, option_map, IfOk};
 ghost use Rattle.std.specs.Option.{option_to_list};
-ghost use Rattle.lists.specs.Elements.{first_some};
 ghost use Rattle.bars.specs.Kinds.{named_space};
 ghost use Rattle.model_board.specs.Routing.{routing};
-ghost use Rattle.model_why.specs.Why.{stop};
+ghost use Rattle.model_why.specs.Why.{stops};
 ghost use Rattle.bridge_forward.specs.BridgeDecls.{declared_bridge_nth};
-ghost use Rattle.board_why.specs.ByRows.{row_stop, cause_at};
+ghost use Rattle.board_why.specs.ByRows.{row_stop, causes_down, causes_at};
 ghost use Rattle.board_why.specs.Told.{cause_told};
 
 use crate::causes::Cause;
@@ -15,6 +14,7 @@ use crate::holding::{Asked, Held};
 use bridge_forward::{Path, RoutingRow};
 use findings::opens;
 use host_bridge::Host;
+use std::alloc::{AllocError, Global};
 
 /// What keeps the address from a path at the function at an index, whose row is given, if that is above the path and
 /// doesn't forward it. Most functions are not above: what is declared of them isn't asked for.
@@ -44,7 +44,7 @@ fn stop_nth(
     requires { rows.now ≡ routing host.now.state.functions }
     ensures { let space = named_space asked.now.space in
         let one = option_to_list (slice_get host.now.state.functions index) in
-        option_map cause_told result ≡ first_some (stop space asked.now.addr path.now) one }
+        option_to_list (option_map cause_told result) ≡ stops one space asked.now.addr path.now }
 {
     if index >= rows.len() {
         return None;
@@ -52,35 +52,64 @@ fn stop_nth(
     stop(host, index, &rows[index], asked, path)
 }
 
-/// What keeps the address from a path at the first bridge above it that doesn't forward it.
-fn first_stop(host: &Host, rows: &[RoutingRow], asked: &Asked, path: &Path) -> Option<Cause>
-    requires { rows.now ≡ routing host.now.state.functions }
-    ensures { let space = named_space asked.now.space in
-        let fs = host.now.state.functions in option_map cause_told result
-        ≡ first_some (stop space asked.now.addr path.now) fs }
-{
-    for index in 0..rows.len() {
-        if let Some(cause) = stop_nth(host, rows, asked, path, index) {
-            return Some(cause);
-        }
-    }
-    None
-}
-
-/// What keeps a region that holds the address from answering it.
-pub(crate) fn cause_of(host: &Host, rows: &[RoutingRow], asked: &Asked, held: &Held) -> Cause
+/// What keeps the address from a path at each bridge above it that doesn't forward it, from bus 0 down.
+fn stops(
+    alloc: Global,
+    host: &Host,
+    rows: &[RoutingRow],
+    asked: &Asked,
+    path: &Path,
+) -> Result<Vec<Cause>, AllocError>
     requires { rows.now ≡ routing host.now.state.functions }
     ensures { let space = named_space asked.now.space in let fs = host.now.state.functions in
-        cause_told result
-        ≡ cause_at fs space asked.now.addr held.now.region.path held.now.command }
+        IfOk result (λ v.
+        map cause_told v.items ≡ stops fs space asked.now.addr path.now) }
 {
+    let mut causes = Vec::new(alloc);
+    for index in 0..rows.len() {
+        if let Some(cause) = stop_nth(host, rows, asked, path, index) {
+            causes.push(cause)?;
+        }
+    }
+    Ok(causes)
+}
+
+/// All that keeps a region that holds the address from answering it, from bus 0 down.
+fn causes_down(
+    alloc: Global,
+    host: &Host,
+    rows: &[RoutingRow],
+    asked: &Asked,
+    held: &Held,
+) -> Result<Vec<Cause>, AllocError>
+    requires { rows.now ≡ routing host.now.state.functions }
+    ensures { let space = named_space asked.now.space in let fs = host.now.state.functions in
+        IfOk result (λ v. map cause_told v.items
+        ≡ causes_down fs space asked.now.addr held.now.region.path held.now.command) }
+{
+    let mut causes = stops(alloc, host, rows, asked, &held.region.path)?;
     if !opens(held.command, asked.space) {
-        return Cause::ClosedBy {
+        causes.push(Cause::ClosedBy {
             command: held.command,
-        };
+        })?;
     }
-    match first_stop(host, rows, asked, &held.region.path) {
-        Some(cause) => cause,
-        None => Cause::AnswersToo,
-    }
+    Ok(causes)
+}
+
+/// The same, the nearest to its function first.
+pub(crate) fn causes_of(
+    alloc: Global,
+    host: &Host,
+    rows: &[RoutingRow],
+    asked: &Asked,
+    held: &Held,
+) -> Result<Vec<Cause>, AllocError>
+    requires { rows.now ≡ routing host.now.state.functions }
+    ensures { let space = named_space asked.now.space in let fs = host.now.state.functions in
+        IfOk result (λ v. map cause_told v.items
+        ≡ causes_at fs space asked.now.addr held.now.region.path held.now.command) }
+{
+    let mut causes = causes_down(alloc, host, rows, asked, held)?;
+    causes.reverse();
+    Ok(causes)
 }

@@ -1,5 +1,5 @@
 -- In an orderly state no other region would answer too; in a ready one each region that holds an address answers.
-use Rattle.std.proofs.Common.{◌≡◌, ℕ, true, false, ◌==◌, Option, Some, refl, sym, ap, ◌∙◌, subst, arith}
+use Rattle.std.proofs.Common.{◌≡◌, ℕ, true, false, ◌==◌, [], Option, Some, refl, sym, ap, ◌∙◌, subst, arith}
 use Rattle.std.specs.Prelude.{IsTrue}
 use Rattle.std.proofs.lemmas.Bool.{and_from}
 use Rattle.std.proofs.lemmas.Bool.Decides.{nat_tests}
@@ -18,9 +18,9 @@ use Rattle.model_audit.proofs.Claims.{orderly_claims}
 use Rattle.lists.proofs.Members.{from_option}
 use Rattle.lists.proofs.Members.{no_elements}
 use Rattle.model_audit.proofs.Witnesses.{problems_decide}
-use Rattle.model_why.specs.Why.{answers_too, Told, is_answer, told}
+use Rattle.model_why.specs.Why.{Told, is_answer, told}
 use Rattle.model_ready.specs.ReadyLaws.{LacksNothing}
-use Rattle.model_why.specs.WhyLaws.{claim_there, IsTrueCause, IsTrueTold, OrderlyAnswersAlone, ReadyTellsNothing}
+use Rattle.model_why.specs.WhyLaws.{claim_there, IsTrueTold, OrderlyAnswersAlone, ReadyTellsNothing}
 use Rattle.model_ready.proofs.Lacks.{lacking_nothing}
 use Rattle.model_why.proofs.Why.{told_true}
 
@@ -32,14 +32,14 @@ answering n q o e = ap (λ (x : Option Claim). is_answer x q) e ∙ and_from (pa
     same i = grind (arith, nat_tests)
 
 pub orderly_answers_alone : OrderlyAnswersAlone
-orderly_answers_alone fs state orderly space n = each_from (λ t. t.cause ≡ answers_too → ⊥) (told fs space n) (λ t m. alone t (told_true fs space n t m))
+orderly_answers_alone fs state orderly space n = each_from (λ t. t.causes ≡ [] → ⊥) (told fs space n) (λ t m. alone t (told_true fs space n t m))
   where
     own : HasClaimsOfRegions fs
     own = orderly_claims fs state orderly
 
-    alone : (t : Told) → IsTrueTold fs space n t → t.cause ≡ answers_too → ⊥
+    alone : (t : Told) → IsTrueTold fs space n t → t.causes ≡ [] → ⊥
     alone t is e =
-        let claimed : IsIn (claim_there n t.region) (claims fs space n) = subst (IsTrueCause fs space n is.function t.region) e is.cause in
+        let claimed : IsIn (claim_there n t.region) (claims fs space n) = is.too e in
         let first : first_claim fs space n ≡ Some (claim_there n t.region) = own.first space n ∙ from_option (open_claim (routing fs) space n) (claim_there n t.region) (subst (IsIn (claim_there n t.region)) (own.only space n) claimed) in
         let bad : true ≡ false = sym (answering n t.region (first_claim fs space n) first) ∙ is.other in cc
 

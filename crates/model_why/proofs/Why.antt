@@ -1,11 +1,12 @@
 -- What is told of an address is so, and each region that holds it is told.
-use Rattle.std.proofs.Common.{◌≡◌, ℕ, ◌+◌, ◌-◌, ◌⊎◌, inl, inr, Bool, true, false, ◌&&◌, ◌||◌, not, cond, List, [], ◌∷◌, Option, Some, None, refl, sym, ap, ◌∙◌, subst, arith, leb, ltb}
-use Rattle.std.specs.Prelude.{map, filter, flat_map, slice_get, IsTrue}
-use Rattle.std.specs.Option.{option_map_or, option_to_list}
+use Rattle.std.proofs.Common.{◌≡◌, ℕ, ◌+◌, ◌-◌, ◌==◌, ◌⊎◌, inl, inr, Bool, true, false, ◌&&◌, ◌||◌, not, cond, List, [], ◌∷◌, ◌++◌, Option, Some, None, refl, sym, ap, ◌∙◌, subst, arith, leb, ltb}
+use Rattle.std.specs.Prelude.{map, filter, flat_map, reverse, slice_get, IsFalse}
+use Rattle.std.specs.Option.{option_to_list}
+use Rattle.std.proofs.lemmas.List.{reverse-append, reverse-reverse}
+use Rattle.std.proofs.lemmas.Bool.Decides.{nat_tests}
 use Rattle.std.proofs.lemmas.Bool.{not-true, not_from_false, or_parts}
-use Rattle.lists.specs.Elements.{Each, IsIn, first_some}
-use Rattle.lists.proofs.EachLemmas.{each_map}
-use Rattle.lists.proofs.Members.{each_in, each_from, in_map, from_map, in_filter, from_filter, in_flat_map, from_flat_map, all_from}
+use Rattle.lists.specs.Elements.{Each, IsIn}
+use Rattle.lists.proofs.Members.{each_from, in_front, in_back, front_or_back, in_map, from_map, in_filter, from_filter, in_flat_map, from_flat_map, all_from}
 use Rattle.lists.proofs.Indices.{index_in}
 use Rattle.model_registers.specs.Declarations.{Bridge, IoDecode, no_io, io16, io32, PrefDecode, no_pref, pref32, pref64}
 use Rattle.model_registers.specs.Decoding.{Space, io, memory, opens_space, is_open, command_word, decodes, Hit, hit_at, same_space, space_of}
@@ -20,11 +21,9 @@ use Rattle.model_board.specs.Routing.{Ranges, regions, windows, RoutingRow, rang
 use Rattle.model_board.proofs.Routing.{forwarded_by_routing, claims_by_routing, first_of_claims}
 use Rattle.model_set_up.specs.PlacedRegions.{PlacedRegion, holds}
 use Rattle.model_audit.specs.OpenRegions.{region_now, regions_of}
-use Rattle.model_why.specs.Why.{io_windows, pref_windows, windows_now, Hindrance, closes, misses, hindrance, Cause, answers_too, closed_by, stopped_at, stop, cause_of, Told, is_answer, holders, told_of, told}
+use Rattle.model_why.specs.Why.{io_windows, pref_windows, windows_now, Hindrance, closes, misses, hindrance, Cause, closed_by, stopped_at, closing, stop, stops, causes_of, Told, is_answer, holders, told_of, told, is_closed}
 use Rattle.model_why.specs.WhyLaws.{IsAnswering, LiesOutside, IsTrueHindrance, claim_there, IsTrueCause, IsTrueTold, AddressesExplained}
 use Rattle.lists.proofs.Members.{from_option}
-use Rattle.lists.proofs.FirstFound.{IsFirstTold, first_from}
-use Rattle.model_ready.proofs.Told.{first_none}
 
 -- ---- an open region that is forwarded to has a claim
 
@@ -73,6 +72,9 @@ windows_outside : (space : Space) (n : ℕ) (d : Bridge) (file : File) → is_in
 windows_outside io n d file h = io_outside n d.io (io_window d.io file) h
 windows_outside memory n d file h = ((or_parts (is_in n (mem_window file)) (is_in n (pref_window d.pref file)) h).0, pref_outside n d.pref (pref_window d.pref file) (or_parts (is_in n (mem_window file)) (is_in n (pref_window d.pref file)) h).1)
 
+and_parts : (s t : Bool) → (s && t) ≡ true → (s ≡ true) × (t ≡ true)
+and_parts s t h = grind arith
+
 and_second : (s t : Bool) → s ≡ true → (s && t) ≡ false → t ≡ false
 and_second s t h k = grind arith
 
@@ -87,57 +89,101 @@ hindrance_by space n p (bridge d) file h = by (is_open file space) refl
 hindrance_true : (space : Space) (n : ℕ) (f : BoardFunction) → forwards space n f ≡ false → IsTrueHindrance space n f (hindrance space f)
 hindrance_true space n f h = hindrance_by space n f.path f.decl f.file h
 
--- ---- the cause for a region
+-- ---- the causes for a region
+
+in_reverse : {A : Type 0} (x : A) (xs : List A) → IsIn x xs → IsIn x (reverse xs)
+in_reverse x [] m = absurd m
+in_reverse x (y ∷ xs) (inl e) = subst (IsIn x) (sym (reverse-append (y ∷ []) xs)) (in_back x (reverse xs) (y ∷ []) (inl e))
+in_reverse x (y ∷ xs) (inr m) = subst (IsIn x) (sym (reverse-append (y ∷ []) xs)) (in_front x (reverse xs) (y ∷ []) (in_reverse x xs m))
+
+from_reverse : {A : Type 0} (x : A) (xs : List A) → IsIn x (reverse xs) → IsIn x xs
+from_reverse x xs m = subst (IsIn x) (reverse-reverse xs) (in_reverse x (reverse xs) m)
 
 stop_by : (p bridge : Path) (h : Hindrance) (s t : Bool) (c : Cause) → cond (s && not t) (Some (stopped_at bridge h)) None ≡ Some c → (s ≡ true) × (t ≡ false) × (c ≡ stopped_at bridge h)
 stop_by p g h s t c e = grind arith
 
-not_stopped : (c : Cause) (s t : Bool) → cond (s && not t) (Some c) None ≡ None → s ≡ true → t ≡ true
-not_stopped c s t h k = grind arith
+stops_if : (c : Cause) (s t : Bool) → s ≡ true → t ≡ false → cond (s && not t) (Some c) None ≡ Some c
+stops_if c s t h k = grind arith
 
-not_or : (s t : Bool) → (s ≡ true → t ≡ true) → (not s || t) ≡ true
-not_or s t h = grind arith
+not_or : (s t : Bool) → (s ≡ true → t ≡ false → ⊥) → (not s || t) ≡ true
+not_or true true h = refl
+not_or true false h = absurd (h refl refl)
+not_or false t h = refl
 
 module _ (fs : List BoardFunction) (space : Space) (n : ℕ) where
-  passes : (p : Path) (f : BoardFunction) → stop space n p f ≡ None → IsTrue (leads_to f.path p) → IsTrue (forwards space n f)
-  passes p f h over = not_stopped (stopped_at f.path (hindrance space f)) (leads_to f.path p) (forwards space n f) h over
+  -- the causes from bus 0 down
+  abbrev down : BoardFunction → List Cause
+  down f = stops fs space n f.path ++ closing space f
 
-  all_pass : (p : Path) → first_some (stop space n p) fs ≡ None → is_forwarded fs p space n ≡ true
-  all_pass p h = all_from (λ (f : BoardFunction). not (leads_to f.path p) || forwards space n f) fs
-      (λ f m. not_or (leads_to f.path p) (forwards space n f) (passes p f (each_in (λ (g : BoardFunction). stop space n p g ≡ None) f fs (first_none (stop space n p) fs h) m)))
+  bridge_told : (f g : BoardFunction) → IsIn g fs → leads_to g.path f.path ≡ true → forwards space n g ≡ false → IsIn (stopped_at g.path (hindrance space g)) (causes_of fs space n f)
+  bridge_told f g m over stopped =
+      let c = stopped_at g.path (hindrance space g) in
+      let told : stop space n f.path g ≡ Some c = stops_if c (leads_to g.path f.path) (forwards space n g) over stopped in
+      in_reverse c (down f) (in_front c (stops fs space n f.path) (closing space f)
+      (in_flat_map (λ (h : BoardFunction). option_to_list (stop space n f.path h)) g c fs m (subst (λ (o : Option Cause). IsIn c (option_to_list o)) (sym told) (inl refl))))
 
-  cause_true : (f : BoardFunction) (q : PlacedRegion) → IsIn f fs → IsIn q (regions_of (row_of f)) → holds space n q ≡ true → IsTrueCause fs space n f q (cause_of fs space n f)
-  cause_true f q m k h = by (is_open f.file space) (first_some (stop space n f.path) fs) refl refl
+  command_told : (f : BoardFunction) → is_open f.file space ≡ false → IsIn (closed_by (command_word f.file)) (causes_of fs space n f)
+  command_told f e =
+      let c = closed_by (command_word f.file) in
+      in_reverse c (down f) (in_back c (stops fs space n f.path) (closing space f) (subst (λ t. IsIn c (cond t [] (c ∷ []))) (sym e) (inl refl)))
+
+  stop_true : (f g : BoardFunction) → IsIn g fs → (c : Cause) → stop space n f.path g ≡ Some c → IsTrueCause fs space n f c
+  stop_true f g m c e =
+      let s = stop_by f.path g.path (hindrance space g) (leads_to g.path f.path) (forwards space n g) c e in
+      subst (IsTrueCause fs space n f) (sym s.2) (record {
+        function = g;
+        there = m;
+        bridge_is = refl;
+        above = s.0;
+        stops = s.1;
+        hindrance_is = hindrance_true space n g s.1;
+      })
+
+  closing_true : (f : BoardFunction) (c : Cause) → IsIn c (closing space f) → IsTrueCause fs space n f c
+  closing_true f c m = by (is_open f.file space) refl m
     where
-      of : is_open f.file space ≡ true → (c : Cause) → IsFirstTold (stop space n f.path) fs c → IsTrueCause fs space n f q c
-      of e c t =
-          let s = stop_by f.path t.element.path (hindrance space t.element) (leads_to t.element.path f.path) (forwards space n t.element) c t.told in
-          subst (IsTrueCause fs space n f q) (sym s.2) (
-            e,
-            record {
-              function = t.element;
-              before = t.before;
-              after = t.after;
-              functions_are = t.list_is;
-              bridge_is = refl;
-              above = s.0;
-              first = each_map (λ g. stop space n f.path g ≡ None) (λ g. IsTrue (leads_to g.path f.path) → IsTrue (forwards space n g)) t.before (passes f.path) t.none;
-              stops = s.1;
-              hindrance_is = hindrance_true space n t.element s.1;
-            },
-          )
+      by : (t : Bool) → is_open f.file space ≡ t → IsIn c (cond t [] (closed_by (command_word f.file) ∷ [])) → IsTrueCause fs space n f c
+      by true e i = absurd i
+      by false e (inl i) = subst (IsTrueCause fs space n f) (sym i) (refl, e)
+      by false e (inr i) = absurd i
 
-      by : (t : Bool) (o : Option Cause) → is_open f.file space ≡ t → first_some (stop space n f.path) fs ≡ o → IsTrueCause fs space n f q (cond t (option_map_or (λ (c : Cause). c) o answers_too) (closed_by (command_word f.file)))
-      by false o e i = (refl, e)
-      by true None e i = has_claim fs space n f q m k h e (all_pass f.path i)
-      by true (Some c) e i = of e c (first_from (stop space n f.path) fs c i)
+  causes_true : (f : BoardFunction) → Each (IsTrueCause fs space n f) (causes_of fs space n f)
+  causes_true f = each_from (IsTrueCause fs space n f) (causes_of fs space n f) one
+    where
+      of : (c : Cause) → IsIn c (stops fs space n f.path) ⊎ IsIn c (closing space f) → IsTrueCause fs space n f c
+      of c (inl m) =
+          let g = from_flat_map (λ (h : BoardFunction). option_to_list (stop space n f.path h)) c fs m in
+          stop_true f g.0 g.1 c (from_option (stop space n f.path g.0) c g.2)
+      of c (inr m) = closing_true f c m
+
+      one : (c : Cause) → IsIn c (causes_of fs space n f) → IsTrueCause fs space n f c
+      one c m = of c (front_or_back c (stops fs space n f.path) (closing space f) (from_reverse c (down f) m))
+
+  opened : (f : BoardFunction) → causes_of fs space n f ≡ [] → is_open f.file space ≡ true
+  opened f none = by (is_open f.file space) refl
+    where
+      by : (t : Bool) → is_open f.file space ≡ t → is_open f.file space ≡ true
+      by true e = e
+      by false e = absurd (subst (IsIn (closed_by (command_word f.file))) none (command_told f e))
+
+  all_pass : (f : BoardFunction) → causes_of fs space n f ≡ [] → is_forwarded fs f.path space n ≡ true
+  all_pass f none = all_from (λ (g : BoardFunction). not (leads_to g.path f.path) || forwards space n g) fs
+      (λ g m. not_or (leads_to g.path f.path) (forwards space n g) (λ over stopped. subst (IsIn (stopped_at g.path (hindrance space g))) none (bridge_told f g m over stopped)))
+
+  closed_here : (f : BoardFunction) (cs : List Cause) → Each (IsTrueCause fs space n f) cs → is_closed cs ≡ true → is_open f.file space ≡ false
+  closed_here f [] each h = cc
+  closed_here f (closed_by command ∷ cs) each h = each.0.1
+  closed_here f (stopped_at p g ∷ cs) each h = cc
 
   -- ---- what is told
 
   pub told_true : (t : Told) → IsIn t (told fs space n) → IsTrueTold fs space n t
   told_true t m = of_function (from_flat_map (told_of fs space n) t fs m)
     where
-      of_region : (f : BoardFunction) → IsIn f fs → (q : PlacedRegion) × IsIn q (filter (λ x. not (is_answer (first_claim fs space n) x)) (holders space n f)) × (t ≡ record { region = q; cause = cause_of fs space n f }) → IsTrueTold fs space n t
+      at_reset : (f : BoardFunction) (q : PlacedRegion) → ((q.first == 0) ≡ true) × (is_closed (causes_of fs space n f) ≡ true) → (q.first ≡ 0) × IsFalse (is_open f.file space)
+      at_reset f q (zero_is, closed) = (let z : q.first ≡ 0 = grind (arith, nat_tests) in z, closed_here f (causes_of fs space n f) (causes_true f) closed)
+
+      of_region : (f : BoardFunction) → IsIn f fs → (q : PlacedRegion) × IsIn q (filter (λ x. not (is_answer (first_claim fs space n) x)) (holders space n f)) × (t ≡ record { region = q; causes = causes_of fs space n f }) → IsTrueTold fs space n t
       of_region f k (q, l, e) =
           let g = from_filter (λ (x : PlacedRegion). not (is_answer (first_claim fs space n) x)) q (holders space n f) l in
           let i = from_filter (holds space n) q (regions_of (row_of f)) g.0 in
@@ -147,11 +193,15 @@ module _ (fs : List BoardFunction) (space : Space) (n : ℕ) where
             region = i.0;
             byte = i.1;
             other = not-true (is_answer (first_claim fs space n) q) g.1;
-            cause = cause_true f q k i.0 i.1;
+            causes = causes_true f;
+            command = command_told f;
+            bridges = bridge_told f;
+            too = λ none. has_claim fs space n f q k i.0 i.1 (opened f none) (all_pass f none);
+            at_reset = λ h. at_reset f q (and_parts (q.first == 0) (is_closed (causes_of fs space n f)) h);
           })
 
       of_function : (f : BoardFunction) × IsIn f fs × IsIn t (told_of fs space n f) → IsTrueTold fs space n t
-      of_function (f, k, l) = of_region f k (from_map (λ (q : PlacedRegion). record { region = q; cause = cause_of fs space n f }) t (filter (λ x. not (is_answer (first_claim fs space n) x)) (holders space n f)) l)
+      of_function (f, k, l) = of_region f k (from_map (λ (q : PlacedRegion). record { region = q; causes = causes_of fs space n f }) t (filter (λ x. not (is_answer (first_claim fs space n) x)) (holders space n f)) l)
 
   complete : (f : BoardFunction) → IsIn f fs → (q : PlacedRegion) → IsIn q (regions_of (row_of f)) → holds space n q ≡ true → (is_answer (first_claim fs space n) q ≡ true) ⊎ ((t : Told) × IsIn t (told fs space n) × (t.region ≡ q))
   complete f m q k h = by (is_answer (first_claim fs space n) q) refl
@@ -159,9 +209,9 @@ module _ (fs : List BoardFunction) (space : Space) (n : ℕ) where
       by : (u : Bool) → is_answer (first_claim fs space n) q ≡ u → (is_answer (first_claim fs space n) q ≡ true) ⊎ ((t : Told) × IsIn t (told fs space n) × (t.region ≡ q))
       by true e = inl e
       by false e = inr (
-        record { region = q; cause = cause_of fs space n f },
-        in_flat_map (told_of fs space n) f (record { region = q; cause = cause_of fs space n f }) fs m
-            (in_map (λ (x : PlacedRegion). record { region = x; cause = cause_of fs space n f }) q (filter (λ x. not (is_answer (first_claim fs space n) x)) (holders space n f))
+        record { region = q; causes = causes_of fs space n f },
+        in_flat_map (told_of fs space n) f (record { region = q; causes = causes_of fs space n f }) fs m
+            (in_map (λ (x : PlacedRegion). record { region = x; causes = causes_of fs space n f }) q (filter (λ x. not (is_answer (first_claim fs space n) x)) (holders space n f))
             (in_filter (λ (x : PlacedRegion). not (is_answer (first_claim fs space n) x)) q (holders space n f) (in_filter (holds space n) q (regions_of (row_of f)) k h) (not_from_false (is_answer (first_claim fs space n) q) e))),
         refl,
       )
@@ -170,9 +220,8 @@ module _ (fs : List BoardFunction) (space : Space) (n : ℕ) where
   no_first [] c h m = m
   no_first (d ∷ cs) c h m = cc
 
-  none_too : first_claim fs space n ≡ None → (t : Told) → IsTrueTold fs space n t → t.cause ≡ answers_too → ⊥
-  none_too none t told e =
-      no_first (claims fs space n) (claim_there n t.region) (sym (first_of_claims fs space n) ∙ none) (subst (IsTrueCause fs space n told.function t.region) e told.cause)
+  none_too : first_claim fs space n ≡ None → (t : Told) → IsTrueTold fs space n t → t.causes ≡ [] → ⊥
+  none_too none t told e = no_first (claims fs space n) (claim_there n t.region) (sym (first_of_claims fs space n) ∙ none) (told.too e)
 
 -- ---- who answers
 
@@ -244,5 +293,5 @@ addresses_explained fs space n = record {
   answering = answering fs space n;
   true_each = each_from (IsTrueTold fs space n) (told fs space n) (told_true fs space n);
   complete = complete fs space n;
-  nobody = λ none. each_from (λ t. t.cause ≡ answers_too → ⊥) (told fs space n) (λ t m. none_too fs space n none t (told_true fs space n t m));
+  nobody = λ none. each_from (λ t. t.causes ≡ [] → ⊥) (told fs space n) (λ t m. none_too fs space n none t (told_true fs space n t m));
 }

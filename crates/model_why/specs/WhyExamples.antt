@@ -7,7 +7,8 @@ use Rattle.model_registers.specs.ByteEnables.{lanes}
 use Rattle.model_registers.specs.Decoding.{io, memory}
 use Rattle.model_board.specs.Paths.{Path}
 use Rattle.model_board.specs.State.{BoardFunction, with_file}
-use Rattle.model_board.specs.Examples.{main_board_with, memory_bridge, main_apertures}
+use Rattle.model_board.specs.AtReset.{reset_state}
+use Rattle.model_board.specs.Examples.{main_board, main_board_with, memory_bridge, main_apertures}
 use Rattle.model_set_up.specs.SetUp.{set_up_state}
 use Rattle.model_guests.specs.Text.{text_of_lines}
 use Rattle.model_audit.specs.Examples.{between, card_at, on_root, behind, at_bus}
@@ -27,19 +28,19 @@ pub record WhyExamples : Type 0 where
   -- the endpoint's Command is clear
   pub closed :
       told (changed 4 0 (behind 2 0)) memory 0xc0000000
-      ≡ record { region = card_at (behind 2 0) 0xc0000000; cause = closed_by 0 } ∷ []
+      ≡ record { region = card_at (behind 2 0) 0xc0000000; causes = closed_by 0 ∷ [] } ∷ []
   -- the bridge opens I/O alone
   pub command :
       told (changed 4 1 (on_root 2)) memory 0xc0000000
-      ≡ record { region = card_at (behind 2 0) 0xc0000000; cause = stopped_at (on_root 2) (closes 1) } ∷ []
+      ≡ record { region = card_at (behind 2 0) 0xc0000000; causes = stopped_at (on_root 2) (closes 1) ∷ [] } ∷ []
   -- its memory window is shut
   pub window :
       told (changed 0x20 0xfff0 (on_root 2)) memory 0xc0000000
       ≡ record {
         region = card_at (behind 2 0) 0xc0000000;
-        cause =
+        causes =
             stopped_at (on_root 2)
-            (misses (named for_memory None ∷ named for_prefetchable (between 0x400000000 0x400ffffff) ∷ []));
+            (misses (named for_memory None ∷ named for_prefetchable (between 0x400000000 0x400ffffff) ∷ [])) ∷ [];
       } ∷ []
   -- what is said of them
   pub text_of_closed :
@@ -59,6 +60,27 @@ pub record WhyExamples : Type 0 where
       codes "why: memory 0xc0000000: nobody answers"
       ∷ (codes "why: 2.0/0.0 bar0 at 0xc0000000 size 0x100000: "
       ++ codes "2.0 doesn't forward it, memory shut, prefetchable 0x400000000..0x400ffffff") ∷ [])
+  -- both, the nearest to the function first
+  pub all_causes :
+      told (with_file (write (lanes 15) 1 (config 4)) (on_root 2) (changed 4 0 (behind 2 0))) memory 0xc0000000
+      ≡ record { region = card_at (behind 2 0) 0xc0000000; causes = closed_by 0 ∷ stopped_at (on_root 2) (closes 1) ∷ [] } ∷ []
+  pub text_of_all :
+      why_text (with_file (write (lanes 15) 1 (config 4)) (on_root 2) (changed 4 0 (behind 2 0))) memory 0xc0000000
+      ≡ text_of_lines (
+      codes "why: memory 0xc0000000: nobody answers"
+      ∷ (codes "why: 2.0/0.0 bar0 at 0xc0000000 size 0x100000: closed, Command 0x0000; "
+      ++ codes "2.0 doesn't forward it, Command 0x0001 closes memory") ∷ [])
+  -- regions where reset leaves them are counted
+  pub text_at_reset :
+      why_text (reset_state main_board).functions memory 0x10
+      ≡ text_of_lines (
+      codes "why: memory 0x10: nobody answers"
+      ∷ codes "why: 3 regions at 0x0, closed as at reset" ∷ [])
+  pub text_of_one_at_reset :
+      why_text (reset_state main_board).functions memory 0x100000
+      ≡ text_of_lines (
+      codes "why: memory 0x100000: nobody answers"
+      ∷ codes "why: 1 region at 0x0, closed as at reset" ∷ [])
   -- another region's register names its place
   pub text_of_two :
       why_text (changed 0x14 0xc0000000 (on_root 1)) memory 0xc0000010

@@ -1,7 +1,7 @@
 -- What is told of an address and of a configuration number is so, and nothing is left out: PCI Local Bus 3.0, chapter
 -- 6.2.5; PCI-to-PCI Bridge Architecture 1.2, chapters 3 and 4.
 --     IsTrueHindrance, IsStopped, IsTrueCause      what a cause says
---     IsTrueTold      a told region holds the address, is not the answering one, and has a true cause
+--     IsTrueTold      a told region holds the address, is not the answering one, and has these causes and no other
 --     IsAnswering      what it says of a claim that it answers
 --     IsExplained, AddressesExplained      who answers, and each region that holds the address
 --     OrderlyAnswersAlone      in an orderly state no other region would answer too
@@ -23,8 +23,8 @@ use Rattle.model_set_up.specs.PlacedRegions.{PlacedRegion, holds}
 use Rattle.model_audit.specs.OpenRegions.{regions_of}
 use Rattle.model_audit.specs.Orderly.{IsOrderly, IsStateOfBoard}
 use Rattle.model_ready.specs.Lacks.{IsReady}
-use Rattle.model_why.specs.Why.{NamedWindow, windows_now, Hindrance, closes, misses, Cause, answers_too}
-use Rattle.model_why.specs.Why.{closed_by, stopped_at, Told, is_answer, told, why}
+use Rattle.model_why.specs.Why.{NamedWindow, windows_now, Hindrance, closes, misses, hindrance, Cause}
+use Rattle.model_why.specs.Why.{closed_by, stopped_at, Told, is_answer, told, is_as_at_reset, why}
 use Rattle.model_why.specs.Ways.{bridges_on_way, end_of, reached_at, Missing, no_bridge}
 use Rattle.model_why.specs.Ways.{no_function, missing}
 
@@ -42,25 +42,21 @@ abbrev pub IsTrueHindrance : Space → ℕ → BoardFunction → Hindrance → T
 IsTrueHindrance space n f (closes command) = (command ≡ command_word f.file) × IsFalse (is_open f.file space)
 IsTrueHindrance space n f (misses ws) = (ws ≡ windows_at space f) × Each (LiesOutside n) ws
 
+-- a bridge above the path that doesn't forward the address
 pub record IsStopped (fs : List BoardFunction) (space : Space) (n : ℕ) (p bridge : Path) (h : Hindrance) : Type 0 where
-  -- the bridge among the functions, and those before it
   pub function : BoardFunction
-  pub before : List BoardFunction
-  pub after : List BoardFunction
-  pub functions_are : fs ≡ before ++ function ∷ after
+  pub there : IsIn function fs
   pub bridge_is : function.path ≡ bridge
   pub above : IsTrue (leads_to bridge p)
-  pub first : Each (λ f. IsTrue (leads_to f.path p) → IsTrue (forwards space n f)) before
   pub stops : IsFalse (forwards space n function)
   pub hindrance_is : IsTrueHindrance space n function h
 
 abbrev pub claim_there : ℕ → PlacedRegion → Claim
 claim_there n q = record { path = q.path; index = q.index; offset = n - q.first }
 
-abbrev pub IsTrueCause : List BoardFunction → Space → ℕ → BoardFunction → PlacedRegion → Cause → Type 0
-IsTrueCause fs space n f q answers_too = IsIn (claim_there n q) (claims fs space n)
-IsTrueCause fs space n f q (closed_by command) = (command ≡ command_word f.file) × IsFalse (is_open f.file space)
-IsTrueCause fs space n f q (stopped_at p h) = IsTrue (is_open f.file space) × IsStopped fs space n f.path p h
+abbrev pub IsTrueCause : List BoardFunction → Space → ℕ → BoardFunction → Cause → Type 0
+IsTrueCause fs space n f (closed_by command) = (command ≡ command_word f.file) × IsFalse (is_open f.file space)
+IsTrueCause fs space n f (stopped_at p h) = IsStopped fs space n f.path p h
 
 pub record IsTrueTold (fs : List BoardFunction) (space : Space) (n : ℕ) (t : Told) : Type 0 where
   pub function : BoardFunction
@@ -68,7 +64,14 @@ pub record IsTrueTold (fs : List BoardFunction) (space : Space) (n : ℕ) (t : T
   pub region : IsIn t.region (regions_of (row_of function))
   pub byte : IsTrue (holds space n t.region)
   pub other : IsFalse (is_answer (first_claim fs space n) t.region)
-  pub cause : IsTrueCause fs space n function t.region t.cause
+  pub causes : Each (IsTrueCause fs space n function) t.causes
+  -- all of them
+  pub command : IsFalse (is_open function.file space) → IsIn (closed_by (command_word function.file)) t.causes
+  pub bridges : (g : BoardFunction) → IsIn g fs → IsTrue (leads_to g.path function.path) → IsFalse (forwards space n g)
+      → IsIn (stopped_at g.path (hindrance space g)) t.causes
+  -- without a cause it would answer
+  pub too : t.causes ≡ [] → IsIn (claim_there n t.region) (claims fs space n)
+  pub at_reset : IsTrue (is_as_at_reset t) → (t.region.first ≡ 0) × IsFalse (is_open function.file space)
 
 -- the region of an open endpoint that holds the address, with each bridge above forwarding it
 pub record IsAnswering (fs : List BoardFunction) (space : Space) (n : ℕ) (c : Claim) : Type 0 where
@@ -89,15 +92,15 @@ pub record IsExplained (fs : List BoardFunction) (space : Space) (n : ℕ) : Typ
   pub complete : (f : BoardFunction) → IsIn f fs → (q : PlacedRegion) → IsIn q (regions_of (row_of f))
       → IsTrue (holds space n q)
       → IsTrue (is_answer (first_claim fs space n) q) ⊎ ((t : Told) × IsIn t (told fs space n) × (t.region ≡ q))
-  -- where nobody answers, each is closed or stopped
-  pub nobody : first_claim fs space n ≡ None → Each (λ t. t.cause ≡ answers_too → ⊥) (told fs space n)
+  -- where nobody answers, each has a cause
+  pub nobody : first_claim fs space n ≡ None → Each (λ t. t.causes ≡ [] → ⊥) (told fs space n)
 
 abbrev pub AddressesExplained : Type 0
 AddressesExplained = (fs : List BoardFunction) (space : Space) (n : ℕ) → IsExplained fs space n
 
 abbrev pub OrderlyAnswersAlone : Type 0
 OrderlyAnswersAlone = (fs : List BoardFunction) → IsStateOfBoard fs → IsOrderly (routing fs)
-    → (space : Space) (n : ℕ) → Each (λ t. t.cause ≡ answers_too → ⊥) (told fs space n)
+    → (space : Space) (n : ℕ) → Each (λ t. t.causes ≡ [] → ⊥) (told fs space n)
 
 abbrev pub ReadyTellsNothing : Type 0
 ReadyTellsNothing = (a : Apertures) (fs : List BoardFunction) → IsStateOfBoard fs → IsReady a fs

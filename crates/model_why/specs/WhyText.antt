@@ -1,8 +1,9 @@
 -- The text of why an address or a configuration number finds what it finds: who answers, and a line for each cause.
---     window_text, hindrance_text, cause_text      a window, what a bridge lacks, and a cause
+--     window_text, hindrance_text, cause_text, causes_text      a window, what a bridge lacks, a cause, and all of a region
+--     at_reset_lines      how many regions are as at reset, in one line
 --     why_text      the lines of an address
 --     why_number_text      the lines of a configuration number
-use Rattle.std.specs.Prelude.{List, [], ◌∷◌, ◌++◌, ℕ, map, codes}
+use Rattle.std.specs.Prelude.{List, [], ◌∷◌, ◌++◌, ℕ, ◌==◌, not, if◌then◌else◌, length, map, filter, flat_map, codes, decimal}
 use Rattle.std.specs.Option.{option_map_or}
 use Rattle.std.specs.Prelude.{Option, Some, None}
 use Rattle.model_registers.specs.Decoding.{Space}
@@ -15,8 +16,8 @@ use Rattle.model_guests.specs.Text.{Text, text_of_lines}
 use Rattle.model_guests.specs.Replies.{hex_digits}
 use Rattle.model_guests.specs.PathTexts.{hexadecimal, part_text, path_text}
 use Rattle.model_audit.specs.AuditText.{register_text, region_text, space_text, number_text}
-use Rattle.model_why.specs.Why.{WindowName, for_io, for_memory, for_prefetchable, NamedWindow, Hindrance, closes, misses, Cause, answers_too, closed_by}
-use Rattle.model_why.specs.Why.{stopped_at, Told, Why, why}
+use Rattle.model_why.specs.Why.{WindowName, for_io, for_memory, for_prefetchable, NamedWindow, Hindrance, closes, misses, Cause, closed_by}
+use Rattle.model_why.specs.Why.{stopped_at, Told, is_as_at_reset, Why, why}
 use Rattle.model_why.specs.Ways.{Missing, no_bridge, no_function, WhyNumber, why_number}
 
 abbrev pub command_text : ℕ → Text
@@ -44,12 +45,30 @@ hindrance_text space (closes command) = command_text command ++ codes " closes "
 hindrance_text space (misses ws) = windows_text ws
 
 abbrev pub cause_text : Space → Cause → Text
-cause_text space answers_too = codes "would answer too"
 cause_text space (closed_by command) = codes "closed, " ++ command_text command
 cause_text space (stopped_at p h) = path_text p ++ codes " doesn't forward it, " ++ hindrance_text space h
 
+abbrev pub more_text : Space → List Cause → Text
+more_text space cs = flat_map (λ c. codes "; " ++ cause_text space c) cs
+
+abbrev pub causes_text : Space → List Cause → Text
+causes_text space [] = codes "would answer too"
+causes_text space (c ∷ cs) = cause_text space c ++ more_text space cs
+
 abbrev pub told_text : Space → Told → Text
-told_text space t = region_text t.region ++ codes ": " ++ cause_text space t.cause
+told_text space t = region_text t.region ++ codes ": " ++ causes_text space t.causes
+
+-- those as at reset are told by their number alone
+abbrev pub apart : List Told → List Told
+apart ts = filter (λ t. not (is_as_at_reset t)) ts
+
+abbrev pub at_reset : List Told → ℕ
+at_reset ts = length (filter is_as_at_reset ts)
+
+abbrev pub at_reset_lines : ℕ → List Text
+at_reset_lines n =
+    if n == 0 then []
+    else (decimal n ++ (if n == 1 then codes " region" else codes " regions") ++ codes " at 0x0, closed as at reset") ∷ []
 
 abbrev pub claim_text : Claim → Text
 claim_text c = path_text c.path ++ register_text c.index ++ codes " offset " ++ hexadecimal c.offset ++ codes " answers"
@@ -60,7 +79,8 @@ why_line text = codes "why: " ++ text
 abbrev pub why_lines : Space → ℕ → Why → List Text
 why_lines space n w =
     (space_text space ++ codes " " ++ hexadecimal n ++ codes ": "
-    ++ option_map_or claim_text w.answer (codes "nobody answers")) ∷ map (told_text space) w.told
+    ++ option_map_or claim_text w.answer (codes "nobody answers"))
+    ∷ map (told_text space) (apart w.told) ++ at_reset_lines (at_reset w.told)
 
 abbrev pub why_text : List BoardFunction → Space → ℕ → Text
 why_text fs space n = text_of_lines (map why_line (why_lines space n (why fs space n)))

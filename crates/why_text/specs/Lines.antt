@@ -1,5 +1,6 @@
 -- Lines of an address, of a configuration number and of a port, in the program's words.
---     address_head, told_lines      who answers; all regions that hold the address and don't answer it
+--     address_head      who answers
+--     apart_lines, count_lines      regions that hold the address and don't answer it; how many are as at reset
 --     number_head, taker_lines, lines_of_missing      what a number reaches; bridges on the way; what is missing
 --     data_line, use_line      a byte of configuration space at a port; what the latch makes of a port, if it makes something of it
 use Rattle.std.specs.Prelude.{List, [], ◌++◌, ℕ, Option, map, option_map, codes}
@@ -11,7 +12,7 @@ use Rattle.model_board.specs.Cycles.{BusAddress}
 use Rattle.model_guests.specs.Text.{Text, text_of_lines}
 use Rattle.model_guests.specs.PathTexts.{hexadecimal, path_text}
 use Rattle.model_audit.specs.AuditText.{space_text, number_text}
-use Rattle.model_why.specs.WhyText.{claim_text, told_text, missing_lines, taker_text, why_line}
+use Rattle.model_why.specs.WhyText.{claim_text, told_text, apart, at_reset_lines, missing_lines, taker_text, why_line}
 use Rattle.model_why.specs.WhyPorts as ports
 use Rattle.report.specs.Found.{ended}
 use Rattle.board_why.specs.declared.causes.Told.{Told}
@@ -23,8 +24,11 @@ address_head space n answer =
     space_text space ++ codes " " ++ hexadecimal n ++ codes ": "
     ++ option_map_or claim_text answer (codes "nobody answers")
 
-abbrev pub told_lines : Space → List Told → Text
-told_lines space ts = text_of_lines (map why_line (map (told_text space) (map region_told ts)))
+abbrev pub apart_lines : Space → List Told → Text
+apart_lines space ts = text_of_lines (map why_line (map (told_text space) (apart (map region_told ts))))
+
+abbrev pub count_lines : ℕ → Text
+count_lines n = text_of_lines (map why_line (at_reset_lines n))
 
 abbrev pub number_head : BusAddress → Option Path → Text
 number_head at reached = number_text at ++ codes " reaches " ++ option_map_or path_text reached (codes "nothing")

@@ -1,13 +1,14 @@
 //! The lines of an address.
-ghost use Rattle.std.specs.Prelude.{◌++◌, codes, OnOk};
+ghost use Rattle.std.specs.Prelude.{◌++◌, codes, map, OnOk};
 ghost use Rattle.std.specs.Option.{option_map_or};
 ghost use Rattle.lists.specs.Texts.{Adds};
 ghost use Rattle.bars.specs.Kinds.{named_space};
 ghost use Rattle.model_why.specs.Why.{stopped_at};
-ghost use Rattle.model_why.specs.WhyText.{command_text, hindrance_text, cause_text, told_text, claim_text, why_line};
+ghost use Rattle.model_why.specs.WhyText.{command_text, hindrance_text, cause_text, more_text};
+ghost use Rattle.model_why.specs.WhyText.{causes_text, told_text, claim_text, why_line};
 ghost use Rattle.board_why.specs.Told.{hindrance_told, cause_told, region_told};
 ghost use Rattle.report.specs.Found.{ended};
-ghost use Rattle.why_text.specs.Lines.{address_head, told_lines};
+ghost use Rattle.why_text.specs.Lines.{address_head};
 
 use crate::parts::{push_command, push_windows};
 use bars::Space;
@@ -55,15 +56,48 @@ fn push_closed(text: &mut String, command: u16) -> Result<(), AllocError>
     push_command(text, command)
 }
 
-/// Appends what keeps a region from answering.
+/// Appends a cause that keeps a region from answering.
 fn push_cause(text: &mut String, space: Space, cause: &Cause) -> Result<(), AllocError>
     ensures { OnOk result (Adds text.old text.new
         (cause_text (named_space space) (cause_told cause.now))) }
 {
     match cause {
-        Cause::AnswersToo => text.push_str("would answer too"),
         Cause::ClosedBy { command } => push_closed(text, *command),
         Cause::StoppedAt { bridge, hindrance } => push_stopped(text, space, bridge, *hindrance),
+    }
+}
+
+/// Appends a cause after another one.
+fn push_next(text: &mut String, space: Space, cause: &Cause) -> Result<(), AllocError>
+    ensures { OnOk result (Adds text.old text.new
+        (codes "; " ++ cause_text (named_space space) (cause_told cause.now))) }
+{
+    text.push_str("; ")?;
+    push_cause(text, space, cause)
+}
+
+/// Appends causes after another one.
+fn push_more(text: &mut String, space: Space, causes: &[Cause]) -> Result<(), AllocError>
+    ensures { OnOk result (Adds text.old text.new
+        (more_text (named_space space) (map cause_told causes.now))) }
+{
+    for cause in causes {
+        push_next(text, space, cause)?;
+    }
+    Ok(())
+}
+
+/// Appends all that keeps a region from answering.
+fn push_causes(text: &mut String, space: Space, causes: &[Cause]) -> Result<(), AllocError>
+    ensures { OnOk result (Adds text.old text.new
+        (causes_text (named_space space) (map cause_told causes.now))) }
+{
+    match causes {
+        [] => text.push_str("would answer too"),
+        [cause, more @ ..] => {
+            push_cause(text, space, cause)?;
+            push_more(text, space, more)
+        }
     }
 }
 
@@ -74,11 +108,11 @@ fn push_told(text: &mut String, space: Space, told: &Told) -> Result<(), AllocEr
 {
     push_region(text, &told.region)?;
     text.push_str(": ")?;
-    push_cause(text, space, &told.cause)
+    push_causes(text, space, &told.causes)
 }
 
 /// Appends its line.
-fn push_told_line(text: &mut String, space: Space, told: &Told) -> Result<(), AllocError>
+pub(crate) fn push_told_line(text: &mut String, space: Space, told: &Told) -> Result<(), AllocError>
     ensures { OnOk result (Adds text.old text.new
         (ended (why_line (told_text (named_space space) (region_told told.now))))) }
 {
@@ -138,14 +172,4 @@ pub(crate) fn push_head(
     text.push_str("why: ")?;
     push_found(text, space, addr, answer)?;
     text.push('\n')
-}
-
-/// Appends the lines of all regions that hold the address and don't answer it.
-pub(crate) fn push_all_told(text: &mut String, space: Space, all: &[Told]) -> Result<(), AllocError>
-    ensures { OnOk result (Adds text.old text.new (told_lines (named_space space) all.now)) }
-{
-    for told in all {
-        push_told_line(text, space, told)?;
-    }
-    Ok(())
 }

@@ -8,6 +8,7 @@ mod addresses;
 mod numbers;
 mod parts;
 mod ports;
+mod regions;
 mod whole;
 
 pub use board_why::{Bdf, Host, Space};

@@ -7,7 +7,7 @@ ghost use Rattle.model_why.specs.WhyText.{why_text, why_number_text};
 ghost use Rattle.model_why.specs.WhyPorts.{why_port_text};
 
 use crate::ports::push_use;
-use crate::{addresses, numbers};
+use crate::{addresses, numbers, regions};
 use bars::Space;
 use board_why::{Bdf, PortUse, port_use, why_address, why_number};
 use host_bridge::Host;
@@ -26,7 +26,8 @@ fn push_why(
 {
     let why = why_address(alloc, host, space, addr)?;
     addresses::push_head(text, space, addr, &why.answer)?;
-    addresses::push_all_told(text, space, &why.told)
+    regions::push_apart(text, space, &why.told)?;
+    regions::push_at_reset(text, &why.told)
 }
 
 /// Appends why a configuration number reaches what it reaches, or nothing.
@@ -68,8 +69,8 @@ fn push_why_port(
     }
 }
 
-/// Why an address finds what it finds as the registers stand, or nobody: a line for who answers, and one for each
-/// other region that holds it.
+/// Why an address finds what it finds as the registers stand, or nobody: a line for who answers, one for each other
+/// region that holds it, with all that keeps it from answering, and one for how many stand where reset leaves them.
 pub fn why_text(alloc: Global, host: &Host, space: Space, addr: u64) -> Result<String, AllocError>
     ensures { let fs = host.now.state.functions in
         IfOk result (λ t. string_bytes t ≡ why_text fs (named_space space) addr) }
