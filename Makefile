@@ -35,19 +35,20 @@ pciguest:
 	@$(MAKE) --no-print-directory build
 
 # The gate: what the documents say of files and what runs tests and proofs, which takes a moment; the proofs of all that users
-# get, from nothing, their tests and the programs, and beside them the edits; then, beside the edits that are left, the proved
-# program as its user runs it, the commands that the documents print, and each growth of memory refused in turn on the main
-# board. Parts between brackets run side by side. At the end stands how long each took.
+# get, from nothing, and their tests; then the edits, and beside them the proved program as its user runs it, the commands that
+# the documents print, and each growth of memory refused in turn on the main board. Parts between brackets run side by side.
+# At the end stands how long each took.
 FIRST := [ tests/documents.sh tests/kit.sh tests/tools.sh ]
-PROGRAM := tests/program.sh tests/commands.sh "python3 tests/hostile/growths.py crates/pciguest/out/pciguest --quick --arrays crates/test_streams/out/test_streams"
+PROGRAM := 'tests/edits.py --gate' tests/program.sh tests/commands.sh \
+  'python3 tests/hostile/growths.py crates/pciguest/out/pciguest --quick --arrays crates/test_streams/out/test_streams'
 gate:
-	@tests/parts.py $(FIRST) '$(PROVE) --gate -- [ $(PROGRAM) ]'
+	@tests/parts.py $(FIRST) '$(PROVE) --gate' [ $(PROGRAM) ]
 
-# The gate with the library for C, which is built beside the proofs, as its user links it, and what is installed and packed.
+# The gate with the library for C as its user links it, and what is installed and packed.
 PLACE := cp -f crates/pciguest/out/pciguest pciguest
-USERS := tests/library.sh tests/install.sh "tests/schema.py ./pciguest"
+USERS := tests/library.sh tests/install.sh 'tests/schema.py ./pciguest'
 test:
-	@tests/parts.py $(FIRST) '$(PROVE) --gate --library -- "$(PLACE)" [ $(PROGRAM) $(USERS) ]'
+	@tests/parts.py $(FIRST) '$(PROVE) --gate --library' '$(PLACE)' [ $(PROGRAM) $(USERS) ]
 
 # All that stands outside the gate, whole. A part whose packages are missing here is skipped, and they are named.
 outside: pciguest library/libpciguest.a

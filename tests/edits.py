@@ -1,36 +1,28 @@
 #!/usr/bin/env python3
 """Tries edits: wrong bodies, each of which the check of its crate must refuse.
 
-    tests/edits.py [--jobs N] [--gate] [--alone] [CRATE..]
-    tests/edits.py --beside ROOM
+    tests/edits.py [--gate] [CRATE..]
 
-They are those beside the gate, tests/edits/CRATE/*.edit, and with --gate those of the gate too, CRATE/must-fail/*.edit;
-what the crates stand on is proved first, where no earlier run has kept that, and what is kept of a crate is used where all
-of it is checked. A file NAME.twin beside NAME.edit is its neutral twin, which has the edit's shape and changes nothing: the
-check must prove it. Where tests/named.txt has a line for an edit, the clause that stands there has to be among those that
-refuse it. With --beside they are those of the gate alone, tried while something proves a copy of the crates in ROOM:
-each line of standard input names a crate that is proved there, whose edits are tried from then on, a few at once, by what
-the proofs leave of the processors and of memory. Where standard input ends, all have to be proved.
+They are those beside the gate, tests/edits/CRATE/*.edit, or with --gate those of the gate, crates/CRATE/must-fail/*.edit, of
+all crates or of these. What they stand on is proved first, where no earlier run has kept that. A file NAME.twin beside
+NAME.edit is its neutral twin, which has the edit's shape and changes nothing: the check must prove it. Where tests/named.txt
+has a line for an edit, the clause that stands there has to be among those that refuse it.
 
 An edit of one function is put into a copy of that function, of another name, with its contract and its proofs; so one check
 of a crate tries many, also of one function, and of functions that call each other. It checks these copies alone, with what
 they call, and one copy more of each function as it stands. An edit is refused where the check names its copy, for a goal or
 an answer of that function itself, and proves the copy as it stands. Other edits, as of a struct, are put into the function
 where it stands, each in a check of its own of the functions that it changes. What gets no verdict so is tried alone in a
-check of the whole crate; with --alone all are. Each verdict is told once
-it is there; the last line is 'N passed, M failed'."""
-import contextlib
+check of the whole crate. Each verdict is told once it is there; the last line is 'N passed, M failed'."""
 import copy
 import itertools
 import os
 import pathlib
 import re
-import resource
 import shutil
 import subprocess
 import sys
 import tempfile
-import threading
 import time
 from concurrent.futures import ThreadPoolExecutor
 
@@ -41,8 +33,6 @@ import kit
 
 # the memory that a check takes at most, of most crates
 FOR_CHECK = 3_000_000_000
-# how many checks run beside proofs, and the memory that has to be free then for one more
-BESIDE, FREE_BESIDE = 2, 2 * FOR_CHECK
 # how many edits are tried in one check at most; each check proves anew what the edited functions call
 IN_ONE = 16
 # the goals that a check tells to be open
@@ -148,19 +138,13 @@ class Source:
 
 # ---- edits
 
-def named():
-    """The clause that has to refuse each edit of tests/named.txt, by the edit's file."""
-    rows = [it.split(" | ") for it in (TOP / "tests/named.txt").read_text(encoding="utf-8").split("\n")]
-    return {row[0]: row[1] for row in rows if row[0].endswith(".edit")}
-
-
 class Edit:
     """An edit, or a twin of one."""
 
     def __init__(self, file, source, clauses):
-        self.file, self.name, self.source = file, file.name, source
+        self.file, self.source = file, source
         self.is_twin, self.clause = file.suffix == ".twin", clauses.get(str(file.relative_to(TOP)))
-        path, old, self.pairs = "", "", []
+        path, old, self.pairs, self.verdict = "", "", [], None
         for line in file.read_text(encoding="utf-8").split("\n"):
             word, _, rest = line.partition(": ")
             if word == "file":
@@ -171,33 +155,52 @@ class Edit:
                 self.pairs.append((path, old, re.sub(r"\A ", "", line[len("new:"):])))
         places = {(path, source.at(path, old)) for path, old, _ in self.pairs}
         self.path, self.function = places.pop() if len(places) == 1 else ("", None)
-        self.verdict = None
+
+    def tell(self, verdict, how):
+        self.verdict = verdict
+        print(f"rt: must-fail {self.source.crate}/{self.file.name}: {how}", flush=True)
 
     def judge(self, is_refused, why):
         """Tells its verdict, where a check refused it for a reason, or proved it."""
         goals = [it for found in GOALS.findall(why) for it in re.findall(r"`([\w-]+)`", found)]
         is_elsewhere = bool(is_refused and self.clause and self.clause not in goals)
-        self.verdict = is_refused != self.is_twin and not is_elsewhere
+        verdict = is_refused != self.is_twin and not is_elsewhere
         how = f"REFUSED, but not for `{self.clause}`" if is_elsewhere else "refused" if is_refused else "proved"
-        say(f"must-fail {self.source.crate}/{self.name}: {how}{', as it must be' * self.verdict}: {why[:160]} ({' '.join(goals)})")
+        self.tell(verdict, f"{how}{', as it must be' * verdict}: {why[:160]} ({' '.join(goals)})")
 
-    def put(self, texts):
-        """Puts it into the texts of a crate; false, where a text doesn't stand there once."""
+    def in_place(self):
+        """The texts of a copy of the crate with the edit where it stands, and the functions that it changes there; of what stands in
+        no function, the file's. Nothing, where a text doesn't stand there once."""
+        texts, changed = {}, {}
         for path, old, new in self.pairs:
             text = texts.get(path) or self.source.text(path)
             if text.count(old) != 1:
-                return False
+                return {}, {}
             texts[path] = text.replace(old, new)
-        return True
-
-    def changes(self, texts):
-        """The functions that it changes in the texts into which it was put; of what stands in no function, the file's."""
-        found = []
         for path, _, new in self.pairs:
             functions = list(functions_of(self.source.crate, self.source.types, path, texts[path])) if path.startswith("src/") else []
             line = texts[path][:texts[path].index(new)].count("\n")
-            found += [it.path for it in functions if it.first <= line + new.count("\n") and line < it.last] or [it.path for it in functions]
-        return list(dict.fromkeys(found))
+            found = [it.path for it in functions if it.first <= line + new.count("\n") and line < it.last]
+            changed.update(dict.fromkeys(found or [it.path for it in functions], self))
+        return texts, changed
+
+
+def with_copies(source, batch):
+    """The texts of a copy of the crate, and by the path of each function that its check has to look at the edit of which it is a
+    copy; of one that stands as it is none."""
+    texts, looked_at = {}, {}
+    for function, edits in itertools.groupby(batch, lambda it: it.function):
+        edits = [*edits]
+        file, copies = edits[0].path, [function.text]
+        for edit in [None, *edits]:
+            number = len(looked_at)
+            made = function.copied(number, edit.pairs if edit else ())
+            if made is not None:
+                texts.update(source.proofs_for(function, number))
+                looked_at[f"{function.path}_copy_{number}"] = edit
+                copies.append(made)
+        texts[file] = texts.get(file, source.texts[file]).replace(function.text, "\n\n".join(copies))
+    return texts, looked_at
 
 
 def batches_of(edits):
@@ -218,56 +221,16 @@ def own_refusal(path, said):
     return "; ".join(errors) if status == "not proved" else None
 
 
-def say(told):
-    """Tells the verdict of an edit once there is one."""
-    print(f"rt: {told}", flush=True)
-
-
 class Tries:
     """The edits of one crate, and the checks that try them."""
 
-    def __init__(self, rt, crate, folders):
-        self.rt, self.crate, self.checks = rt, crate, 0
-        self.source = Source(crate.name, crate.folder)
-        files = [it for folder in folders for form in ("*.edit", "*.twin") for it in sorted(folder.glob(form))]
-        clauses = named()
+    def __init__(self, rt, crate, folder, clauses):
+        self.rt, self.crate, self.source = rt, crate, Source(crate.name, crate.folder)
+        files = [it for form in ("*.edit", "*.twin") for it in sorted(folder.glob(form))]
         self.edits = [Edit(it, self.source, clauses) for it in files]
 
-    def over_kept(self, work):
-        """Does a check over a copy of what is kept of the crate, if anything is."""
-        with tempfile.TemporaryDirectory(prefix="edits-", dir=f"{self.crate.folder}/out") as room:
-            if os.path.isdir(f"{self.crate.folder}/out/incremental"):
-                shutil.copytree(f"{self.crate.folder}/out/incremental", f"{room}/kept", copy_function=os.link)
-            return work(f"{room}/kept")
-
-    def with_copies(self, batch):
-        """The texts of a copy of the crate, and by the path of each function that its check has to look at the edit of which it is
-        a copy; of one that stands as it is none."""
-        texts, looked_at, number = {}, {}, 0
-        for function, edits in itertools.groupby(batch, lambda it: it.function):
-            file, copies = next(it.path for it in batch if it.function is function), []
-            for edit in [None, *edits]:
-                made = function.copied(number, edit.pairs if edit else ())
-                if made is None:
-                    continue
-                texts.update(self.source.proofs_for(function, number))
-                looked_at[f"{function.path}_copy_{number}"] = edit
-                copies.append(made)
-                number += 1
-            texts[file] = texts.get(file, self.source.texts[file]).replace(function.text, "\n\n".join([function.text, *copies]))
-        return texts, looked_at
-
-    def in_place(self, edit):
-        """The same where the edit is put into the crate's text."""
-        texts = {}
-        return (texts, dict.fromkeys(edit.changes(texts), edit)) if edit.put(texts) else ({}, {})
-
-    def try_batch(self, batch):
-        """One check of the functions of a batch. Those edits that it doesn't decide are left."""
-        texts, looked_at = self.with_copies(batch) if batch[0].function else self.in_place(batch[0])
-        if not looked_at:
-            return
-        self.checks += 1
+    def check(self, texts, *words):
+        """How a check of a copy of the crate with these texts ended, what it said, and whether it could read them."""
         with tempfile.TemporaryDirectory(prefix="edits-") as room:
             there = copy.copy(self.crate)
             there.folder = room
@@ -277,172 +240,74 @@ class Tries:
             for path, text in texts.items():
                 os.makedirs(os.path.dirname(f"{room}/{path}"), exist_ok=True)
                 pathlib.Path(room, path).write_text(text, encoding="utf-8")
-            only = [word for path in looked_at for word in ("--only", path.partition("::")[2])]
-            ran = self.rt.checked(there, {}, ["--jobs", "1", *only], None)
-        said = ran.stdout.rstrip("\n").split("\n")
-        sources = [it for it in texts if it.startswith("src/")]
-        is_read = not any(self.rt.unread(it, sources) for it in said)
-        if ran.returncode not in (0, 1) or not said[-1].startswith("only=") or not is_read:
+            ran = self.rt.checked(there, {}, ["--jobs", "1", *words], None)
+        said, sources = ran.stdout.rstrip("\n").split("\n"), [it for it in texts if it.startswith("src/")]
+        return ran.returncode, said, not any(self.rt.unread(it, sources) for it in said)
+
+    def try_batch(self, batch):
+        """One check of the functions of a batch. Those edits that it doesn't decide are left."""
+        texts, looked_at = with_copies(self.source, batch) if batch[0].function else batch[0].in_place()
+        only = [word for path in looked_at for word in ("--only", path.partition("::")[2])]
+        status, said, is_read = self.check(texts, *only) if only else (2, [], False)
+        if status not in (0, 1) or not said[-1].startswith("only=") or not is_read:
             return
         # (of a function whose copy is not proved as it stands nothing is known)
-        lost = {self.original(path) for path, edit in looked_at.items() if not edit and f"fn {path}: proved" not in said}
+        original = lambda path: re.sub(r"_copy_\d+$", "", path)
+        lost = {original(path) for path, edit in looked_at.items() if not edit and f"fn {path}: proved" not in said}
         for edit in batch:
-            paths = [path for path, it in looked_at.items() if it is edit and self.original(path) not in lost]
+            paths = [path for path, it in looked_at.items() if it is edit and original(path) not in lost]
             why = "; ".join(f"{path}: {found}" for path in paths if (found := own_refusal(path, said)))
             if why and not edit.is_twin:
                 edit.judge(True, why)
             elif edit.is_twin and paths and all(f"fn {path}: proved" in said for path in paths):
                 edit.judge(False, ", ".join(paths))
 
-    @staticmethod
-    def original(path):
-        return re.sub(r"_copy_\d+$", "", path)
-
     def try_alone(self, edit):
-        """One check of the whole crate, and another one from nothing where what is kept of it may have decided."""
-        has_kept = os.path.isdir(f"{self.crate.folder}/out/incremental")
-        texts, said = self.rt.read_edit(str(edit.file), self.crate.folder)
-        for work in [self.over_kept] * has_kept + [lambda work: work(None)]:
-            if not texts:
-                break
-            self.checks += 1
-            ran = work(lambda kept: self.rt.checked(self.crate, texts, ["--jobs", "1"], kept))
-            said, is_refused = ran.stdout.rstrip("\n").split("\n"), ran.returncode == 1
-            if is_refused or edit.is_twin:
-                break
-        errors = [it for it in said if re.match(r"\S+:\d+:\d+: error", it)] if texts else [said]
-        is_read = texts and not any(self.rt.unread(it, texts) for it in said)
-        if is_read and (ran.returncode == 0 or is_refused and said[-1].startswith("logic=not-proved")):
-            edit.judge(is_refused, "; ".join([it for it in errors if not NAMES.search(it)] or errors))
+        """One check of the whole crate."""
+        texts, why = self.rt.read_edit(str(edit.file), self.crate.folder)
+        status, said, is_read = self.check(texts) if texts else (2, [f"{edit.file}:0:0: error: {why}"], False)
+        errors = [it for it in said if re.match(r"\S+:\d+:\d+: error", it)]
+        if is_read and (status == 0 or status == 1 and said[-1].startswith("logic=not-proved")):
+            edit.judge(status == 1, "; ".join([it for it in errors if not NAMES.search(it)] or errors))
         else:
-            edit.verdict = False
-            say(f"must-fail {self.crate.name}/{edit.name}: BAD EDIT: {'; '.join(errors or said[-1:])[:400]}")
+            edit.tell(False, f"BAD EDIT: {'; '.join(errors or said[-1:])[:400]}")
 
 
-def try_left(tries, pool):
-    """Tries alone what no batch has decided."""
-    left = [(it, edit) for it in tries for edit in it.edits if edit.verdict is None]
-    list(pool.map(lambda it: it[0].try_alone(it[1]), left))
-
-
-def try_all(tries, alone, lanes):
+def try_all(tries):
     """Tries the edits of all crates, in batches and then alone, side by side; those of large crates first."""
     tries = sorted(tries, key=lambda it: -sum(map(len, it.source.texts.values())))
-    with ThreadPoolExecutor(lanes) as pool:
-        if not alone:
-            batches = [(it, batch) for it in tries for batch in batches_of(it.edits)]
-            list(pool.map(lambda it: it[0].try_batch(it[1]), batches))
-        try_left(tries, pool)
-
-
-def give_way():
-    """Has this thread and its checks take what others leave of the processors, also those of other sessions of the terminal."""
-    os.nice(19)
-    with contextlib.suppress(OSError):
-        os.sched_setscheduler(0, os.SCHED_IDLE, os.sched_param(0))
-        pathlib.Path("/proc/self/autogroup").write_text("19")
-
-
-def try_beside(tries, names):
-    """Tries the edits of each crate once its name comes, a few checks at once and where memory is free. Once no more names
-    come, nothing else is at work: then the rest is tried, and what no batch has decided."""
-    waiting, begun, is_over = {it.crate.name: it for it in tries}, [], threading.Event()
-
-    def work(it, batch):
-        while free_memory() < FREE_BESIDE and not is_over.wait(1):
-            pass
-        it.try_batch(batch)
-
-    with ThreadPoolExecutor(BESIDE, initializer=give_way) as pool:
-        for name in names:
-            it = waiting.pop(name.strip(), None)
-            begun += [(pool.submit(work, it, batch), it, batch) for batch in batches_of(it.edits)] if it else []
-        is_over.set()
-        with ThreadPoolExecutor(lanes_for(0)) as others:
-            left = [(it, batch) for run, it, batch in begun if run.cancel()]
-            list(others.map(lambda it: it[0].try_batch(it[1]), left))
-    with ThreadPoolExecutor(lanes_for(0)) as pool:
-        try_left([it for it in tries if it.crate.name not in waiting], pool)
-    for run in [it[0] for it in begun if not it[0].cancelled()]:
-        run.result()
-    for name in waiting:
-        print(f"{name} was not proved, so its edits were not tried", flush=True)
-
-
-def spent():
-    """The seconds of the processors in the checks so far."""
-    used = resource.getrusage(resource.RUSAGE_CHILDREN)
-    return used.ru_utime + used.ru_stime
-
-
-def free_memory():
-    return next(int(it.split()[1]) * 1024 for it in open("/proc/meminfo") if it.startswith("MemAvailable:"))
-
-
-def lanes_for(given):
-    return given or max(1, min(len(os.sched_getaffinity(0)), free_memory() // FOR_CHECK))
-
-
-def folders_of(forms):
-    """The folders of edits of each crate, by its name."""
-    folders = {}
-    for folder in sorted(it for form in forms for it in TOP.glob(form)):
-        folders.setdefault(folder.parent.name if folder.name == "must-fail" else folder.name, []).append(folder)
-    return folders
-
-
-def options(words):
-    """The flags, the number of checks side by side, and the folders of edits of each crate that is named."""
-    flags = [it for it in words if it in ("--gate", "--alone")]
-    names, jobs = [it for it in words if it not in flags], 0
-    if names[:1] == ["--jobs"] and names[1:] and names[1].isdigit():
-        jobs, names = int(names[1]), names[2:]
-    forms = ["tests/edits/*"] + ["crates/*/must-fail"] * ("--gate" in flags)
-    folders = folders_of(forms)
-    for name in names:
-        if name not in folders:
-            sys.exit(f"no edits of {name} in {' or '.join(forms)}")
-    return flags, lanes_for(jobs), {name: found for name, found in folders.items() if not names or name in names}
-
-
-def tries_below(top, folders):
-    """The edits in these folders, tried over what is proved of the crates below a folder."""
-    os.chdir(top)
-    rt = kit.load()
-    os.environ.pop(rt.rtlib.ALLOW_C, None)
-    rt.rtlib.guarded()
-    crates = {it.name: it for it in rt.rtlib.crates_below(os.getcwd())}
-    lost = [it for it in folders if it not in crates]
-    if lost:
-        sys.exit(f"there are edits of {' '.join(lost)}, and no such crate")
-    return [Tries(rt, it, folders[it.name]) for it in crates.values() if it.name in folders]
+    free = next(int(it.split()[1]) * 1024 for it in open("/proc/meminfo") if it.startswith("MemAvailable:"))
+    with ThreadPoolExecutor(max(1, min(len(os.sched_getaffinity(0)), free // FOR_CHECK))) as pool:
+        list(pool.map(lambda it: it[0].try_batch(it[1]), [(it, batch) for it in tries for batch in batches_of(it.edits)]))
+        list(pool.map(lambda it: it[0].try_alone(it[1]), [(it, edit) for it in tries for edit in it.edits if edit.verdict is None]))
 
 
 def main(words):
-    room = words[1] if words[:1] == ["--beside"] and len(words) == 2 else None
-    flags, lanes, folders = ([], 0, folders_of(["crates/*/must-fail"])) if room else options(words)
-    if not room and subprocess.run([TOP / "tools/prove", *folders]).returncode:
+    is_gate = words[:1] == ["--gate"]
+    form, began = "crates/*/must-fail" if is_gate else "tests/edits/*", time.monotonic()
+    folders = {it.parent.name if is_gate else it.name: it for it in sorted(TOP.glob(form))}
+    names = words[is_gate:] or [*folders]
+    if not {*names} <= {*folders}:
+        sys.exit(f"no edits of {' '.join({*names} - {*folders})} in {form}")
+    if subprocess.run([TOP / "tools/prove", *names]).returncode:
         print("0 passed, 1 failed")
         return 1
-    began, before = time.monotonic(), spent()
-    tries = tries_below(room or TOP, folders)
-    if room:
-        try_beside(tries, sys.stdin)
-    else:
-        held = tries[0].rt.rtlib.lock([below for it in tries for below in [*it.crate.below(), it.crate]])
-        try_all(tries, "--alone" in flags, lanes)
-        for it in held:
-            os.close(it)
-    for it in tries:
-        print(f"{it.crate.name}: {len(it.edits)} edits, {it.checks} checks", flush=True)
+    rt = kit.load()
+    os.chdir(TOP)
+    os.environ.pop(rt.rtlib.ALLOW_C, None)
+    rt.rtlib.guarded()
+    rows = [it.split(" | ") for it in (TOP / "tests/named.txt").read_text(encoding="utf-8").split("\n")]
+    clauses = {row[0]: row[1] for row in rows if row[0].endswith(".edit")}
+    tries = [Tries(rt, it, folders[it.name], clauses) for it in rt.rtlib.crates_below(str(TOP)) if it.name in names]
+    rt.rtlib.lock([below for it in tries for below in [*it.crate.below(), it.crate]])
+    try_all(tries)
     edits = [edit for it in tries for edit in it.edits]
-    print(f"{len(edits)} edits in {sum(it.checks for it in tries)} checks: {(time.monotonic() - began) / 60:.1f} minutes, "
-          f"{(spent() - before) / 60:.1f} of the processors")
-    failed = [f"{it.crate.name}/{edit.name}" for it in tries for edit in it.edits if not edit.verdict]
+    failed = [f"{edit.source.crate}/{edit.file.name}" for edit in edits if not edit.verdict]
+    print(f"{len(edits)} edits, in {(time.monotonic() - began) / 60:.1f} minutes")
     if failed:
         print(f"FAILED: {' '.join(failed)}")
     print(f"{len(edits) - len(failed)} passed, {len(failed)} failed")
-    return 1 if failed else 0
+    return int(bool(failed))
 
 
 if __name__ == "__main__":

@@ -16,6 +16,7 @@ import time
 from concurrent.futures import ThreadPoolExecutor
 
 COUNTS = re.compile(r"(?:.*: )?(\d+) passed, (\d+) failed")
+SHOWING = threading.Lock()
 
 
 def in_words(seconds):
@@ -23,86 +24,51 @@ def in_words(seconds):
     return f"{seconds // 60:3} min {seconds % 60:2} s"
 
 
-class Part:
-    showing = threading.Lock()
-
-    def __init__(self, name):
-        self.name, self.minutes, self.passed, self.failed, self.missing = name, "", 0, 0, ""
-
-    def run(self, command, is_beside=False):
-        """Runs it. What it writes is shown as it comes, or at the end where others run beside it."""
-        began, last, kept = time.monotonic(), "", []
-        show = kept.append if is_beside else lambda text: print(text, end="", flush=True)
-        show(f"== {self.name}\n")
-        how = {"stdout": subprocess.PIPE, "stderr": subprocess.STDOUT, "text": True, "errors": "replace"}
-        with subprocess.Popen(["bash", "-eu", "-o", "pipefail", "-c", command], **how) as run:
-            for line in run.stdout:
-                show(line)
-                last = line.strip() or last
-        with Part.showing:
-            print("".join(kept), end="", flush=True)
-        self.minutes = in_words(time.monotonic() - began)
-        counts = COUNTS.fullmatch(last)
-        self.passed, self.failed = map(int, counts.groups()) if counts else (int(not run.returncode), 0)
-        if run.returncode and not self.failed:
-            self.failed = 1
-        return self
-
-    def row(self):
-        told = f"skipped: {self.missing}" if self.missing else f"{self.passed} passed, {self.failed} failed"
-        return f"{self.minutes or '':12}  {self.name}: {told}"
+def run(name, command, is_beside=False):
+    """Runs a part, and returns what is told of it at the end, and how many passed and failed. What it writes is shown as it comes, or
+    once it has ended where others run beside it."""
+    began, last, kept = time.monotonic(), "", []
+    show = kept.append if is_beside else lambda text: print(text, end="", flush=True)
+    show(f"== {name}\n")
+    how = {"stdout": subprocess.PIPE, "stderr": subprocess.STDOUT, "text": True, "errors": "replace"}
+    with subprocess.Popen(["bash", "-eu", "-o", "pipefail", "-c", command], **how) as ran:
+        for line in ran.stdout:
+            show(line)
+            last = line.strip() or last
+    with SHOWING:
+        print("".join(kept), end="", flush=True)
+    counts = COUNTS.fullmatch(last)
+    passed, failed = map(int, counts.groups()) if counts else (int(not ran.returncode), 0)
+    failed = failed or int(ran.returncode != 0)
+    return f"{in_words(time.monotonic() - began)}  {name}: {passed} passed, {failed} failed", passed, failed
 
 
-def groups_of(words):
-    """The commands in groups that run side by side: those between brackets, and each other one alone."""
-    groups, is_open = [], False
-    for word in words:
-        if word == "]":
-            is_open = False
-        elif word == "[":
-            is_open = True
-            groups.append([])
-        elif is_open:
-            groups[-1].append(word)
-        else:
-            groups.append([word])
-    return groups
+def run_in_turn(words):
+    """Runs commands in turn up to the first that fails, those between brackets side by side."""
+    rows = []
+    while words and not any(failed for *_, failed in rows):
+        end = words.index("]") if words[0] == "[" else 0
+        group, words = words[1:end] or words[:1], words[end + 1:]
+        with ThreadPoolExecutor(len(group)) as pool:
+            rows += pool.map(lambda it: run(it, it, len(group) > 1), group)
+    return rows
 
 
-def run_group(commands):
-    """Runs these commands, side by side where there are several."""
-    if len(commands) == 1:
-        return [Part(commands[0]).run(commands[0])]
-    with ThreadPoolExecutor(len(commands)) as pool:
-        return list(pool.map(lambda it: Part(it).run(it, True), commands))
-
-
-def outside(target):
-    """A target of make that stands outside the gate."""
-    part = Part(f"make {target}")
+def run_outside(target):
+    """Makes a target that stands outside the gate."""
     needs = subprocess.run(["tests/needs", target], stdout=subprocess.PIPE, stderr=subprocess.STDOUT, text=True)
     if needs.returncode == 1:
-        part.missing = "; ".join(needs.stdout.strip().split("\n"))
-        return part
-    part.run(f"make --no-print-directory {target}")
-    part.passed, part.failed = int(not part.failed), int(bool(part.failed))
-    return part
+        return f"{'':12}  make {target}: skipped: {'; '.join(needs.stdout.strip().splitlines())}", 0, 0
+    return run(f"make {target}", f"make --no-print-directory {target}")
 
 
 def main(words):
-    began, parts = time.monotonic(), []
-    if words[:1] == ["--outside"]:
-        parts = [outside(word) for word in words[1:]]
-    else:
-        for commands in groups_of(words):
-            parts += run_group(commands)
-            if any(it.failed for it in parts):
-                break
-    print("\n".join(["== how long each part took", *(it.row() for it in parts)]))
-    print(f"{in_words(time.monotonic() - began)}  in all")
-    failed = sum(it.failed for it in parts)
-    print(f"{sum(it.passed for it in parts)} passed, {failed} failed")
-    return 1 if failed else 0
+    began = time.monotonic()
+    rows = [run_outside(it) for it in words[1:]] if words[:1] == ["--outside"] else run_in_turn(words)
+    print("== how long each part took", *(it[0] for it in rows), f"{in_words(time.monotonic() - began)}  in all", sep="\n")
+    passed, failed = (sum(it[at] for it in rows) for at in (1, 2))
+    print(f"{passed} passed, {failed} failed")
+    return int(failed > 0)
 
 
 if __name__ == "__main__":
