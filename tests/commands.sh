@@ -95,7 +95,7 @@ document() {
 }
 
 for name in "${documents[@]}"; do document "$name"; done
-[ ! -e Makefile ] || for target in $(grep -ohE '(^|`|\$ )make [a-z]+' README.md CONTRIBUTING.md docs/*.md docs/reports/*.md {boards,examples}/README.md | sed 's/.*make //' | sort -u); do
+[ ! -e Makefile ] || for target in $(grep -ohE '(^|`|\$ )make [a-z]+' README.md CONTRIBUTING.md docs/*.md {boards,examples}/README.md | sed 's/.*make //' | sort -u); do
   tell "make $target" "$target" "$(has_target "$target")"
 done
 

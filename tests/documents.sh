@@ -6,7 +6,7 @@ set -u
 cd "$(dirname "$0")/.."
 passed=0
 failed=0
-documents=(*.md docs/*.md docs/{reports,lessons}/*.md {boards,examples,examples/{audit,kvm,qemu},page,tests}/README.md)
+documents=(*.md docs/*.md docs/lessons/*.md {boards,examples,examples/{audit,kvm,qemu},page,tests}/README.md)
 index=docs/DEFINITIONS.md
 room=$(mktemp -d)
 trap 'rm -rf "$room"' EXIT
@@ -100,7 +100,7 @@ holds 'crates that do not say below that what they hold' untold
 # ---- the list of documents has each
 unlisted() {
   local file
-  for file in docs/*.md docs/reports/*.md docs/lessons/README.md; do
+  for file in docs/*.md docs/lessons/README.md; do
     [ "$file" = docs/README.md ] || grep -qF "](${file#docs/})" docs/README.md || echo "$file"
   done
 }
