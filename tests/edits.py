@@ -165,8 +165,9 @@ class Edit:
         goals = [it for found in GOALS.findall(why) for it in re.findall(r"`([\w-]+)`", found)]
         is_elsewhere = bool(is_refused and self.clause and self.clause not in goals)
         verdict = is_refused != self.is_twin and not is_elsewhere
-        how = f"REFUSED, but not for `{self.clause}`" if is_elsewhere else "refused" if is_refused else "proved"
-        self.tell(verdict, f"{how}{', as it must be' * verdict}: {why[:160]} ({' '.join(goals)})")
+        wrong = f"REFUSED, but not for `{self.clause}`" if is_elsewhere else "NOT PROVED" if is_refused else "NOT REFUSED"
+        how = f"{'refused' if is_refused else 'proved'}, as it must be" if verdict else wrong
+        self.tell(verdict, f"{how}: {why[:160]} ({' '.join(goals)})")
 
     def in_place(self):
         """The texts of a copy of the crate with the edit where it stands, and the functions that it changes there; of what stands in
@@ -266,7 +267,7 @@ class Tries:
         """One check of the whole crate."""
         texts, why = self.rt.read_edit(str(edit.file), self.crate.folder)
         status, said, is_read = self.check(texts) if texts else (2, [f"{edit.file}:0:0: error: {why}"], False)
-        errors = [it for it in said if re.match(r"\S+:\d+:\d+: error", it)]
+        errors = [it for it in said if re.match(r"\S+:\d+:\d+: error|fn \S+: no proof: ", it)]
         if is_read and (status == 0 or status == 1 and said[-1].startswith("logic=not-proved")):
             edit.judge(status == 1, "; ".join([it for it in errors if not NAMES.search(it)] or errors))
         else:
