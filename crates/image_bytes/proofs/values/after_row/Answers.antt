@@ -6,10 +6,10 @@ pub returns-in_default-clause-refused : goal.returns-in_default-clause-refused
 returns-in_default-clause-refused c = grind (arith, byte_missing)
 
 pub returns-then-not-can_hold-clause-refused : goal.returns-then-not-can_hold-clause-refused
-returns-then-not-can_hold-clause-refused c = sym c.loop-left.invariant.same ∙ byte_refused c.loop-left.off c.loop-left.left c.loop-left.value c.loop-left.writable c.loop-left.clearable c.in-Some.byte.now c.loop-left.tail.now c.in-Some.rest.now c.loop-left-test.true c.in-Some.ensures.cases.0 (sym c.can_hold.ensures ∙ c.if-not-can_hold.true)
+returns-then-not-can_hold-clause-refused c = sym c.loop-left.invariant.same ∙ byte_refused c.loop-left.left.off c.loop-left.left.width c.loop-left.left.value c.loop-left.left.writable c.loop-left.left.clearable c.in-Some.byte.now c.loop-left.tail.now c.in-Some.rest.now c.loop-left-test.true c.in-Some.ensures.cases.0 (sym c.can_hold.ensures ∙ c.if-not-can_hold.true)
 
 pub loop-left-preserved : goal.loop-left-preserved
-loop-left-preserved c = let some = c.loop-left-test.true in let room = c.loop-left.invariant.room in record { room = omega arith; same = byte_taken c.loop-left.off c.loop-left.left c.loop-left.value c.loop-left.writable c.loop-left.clearable c.in-Some.byte.now c.loop-left.tail.now c.in-Some.rest.now c.loop-left-test.true c.in-Some.ensures.cases.0 (sym c.can_hold.ensures ∙ c.if-not-can_hold.false) ∙ c.loop-left.invariant.same }
+loop-left-preserved c = record { row = grind arith; same = byte_taken c.loop-left.left.off c.loop-left.left.width c.loop-left.left.value c.loop-left.left.writable c.loop-left.left.clearable c.in-Some.byte.now c.loop-left.tail.now c.in-Some.rest.now c.loop-left-test.true c.in-Some.ensures.cases.0 (sym c.can_hold.ensures ∙ c.if-not-can_hold.false) ∙ c.loop-left.invariant.same }
 
 pub returns-clause-left : goal.returns-clause-left
 returns-clause-left c = grind (arith, all_taken)
