@@ -1,11 +1,11 @@
 -- Values that are taken one after the other.
-use Rattle.std.proofs.Common.{◌≡◌, ℕ, suc, ◌+◌, ◌-◌, ◌*◌, ◌/◌, ◌%◌, ◌^◌, ◌<◌, ◌≤◌, true, false, List, [], ◌∷◌, ◌++◌, length, drop, Ok, Err, refl, sym, ap, ap₂, ◌∙◌, arith}
+use Rattle.std.proofs.Common.{◌≡◌, ℕ, suc, ◌+◌, ◌-◌, ◌/◌, ◌%◌, ◌<◌, ◌≤◌, true, false, List, [], ◌∷◌, ◌++◌, length, drop, Ok, Err, refl, sym, ap, ap₂, ◌∙◌, arith}
 use Rattle.std.specs.Prelude.{flat_map}
 use Rattle.std.proofs.lemmas.Bool.Decides.{nat_tests}
 use Rattle.lists.specs.Elements.{Each}
 use Rattle.model_registers.specs.Cell.{Cell}
 use Rattle.model_registers.specs.Registers.{Place, config, block, after, PlacedCell, File, field, cells_from}
-use Rattle.model_registers.specs.Declarations.{Kind, registers_of, Region, ConfigBlock, Endpoint}
+use Rattle.model_registers.specs.Declarations.{Region, ConfigBlock, Endpoint}
 use Rattle.model_registers.specs.EndpointTable.{type_bits, base_width, base_cells, block_cells, header_cells, endpoint_reset}
 use Rattle.model_registers.specs.EndpointTable as table
 use Rattle.model_registers.specs.DeviceBytes.{is_device_byte}
