@@ -11,8 +11,8 @@ ghost use Rattle.function_images.specs.Shown.{block_values, bytes_from, header_v
 use crate::bytes::byte_at;
 use bridge_forward::EndpointFn;
 use guest_functions::VirtualFunction;
-use headers::{ConfigBlock, Place, Region};
-use image_bytes::{put, register_width};
+use headers::{ConfigBlock, Place, Region, register_width};
+use image_bytes::put;
 
 /// Puts so many bytes from one on, and gives the index behind them.
 fn put_run(

@@ -1,11 +1,12 @@
 -- Declared base address registers, put at their indices.
 use Rattle.std.proofs.lemmas.Grind.{common_steps}
-use Rattle.std.proofs.Common.{◌≡◌, ℕ, zero, suc, ◌+◌, ◌≤◌, ◌<◌, List, [], ◌∷◌, ◌++◌, Option, Some, None, length, map, get_or, set, take, drop, refl, sym, ap, subst, ◌∙◌, arith, add-one, drop-cons}
+use Rattle.std.proofs.Common.{◌≡◌, ℕ, zero, suc, ◌+◌, ◌-◌, ◌*◌, ◌^◌, ◌≤◌, ◌<◌, List, [], ◌∷◌, ◌++◌, Option, Some, None, length, map, get_or, set, take, drop, refl, sym, ap, subst, ◌∙◌, arith, add-one, drop-cons}
 use Rattle.std.proofs.lemmas.List.{get_or-set_other, take_more, map-append}
 use Rattle.lists.specs.Elements.{Each, EachPair}
 use Rattle.model_registers.proofs.Bases.{registers_positive}
-use Rattle.model_registers.specs.Declarations.{Bar, Region, registers_of, IsLawfulRegion, HasLawfulRegions}
-use Rattle.model_registers.specs.EndpointTable.{BaseAddress, opened, closed}
+use Rattle.model_registers.specs.Declarations.{Bar, Kind, Region, registers_of, IsLawfulRegion, HasLawfulRegions}
+use Rattle.model_registers.specs.Registers.{config, field}
+use Rattle.model_registers.specs.EndpointTable.{BaseAddress, base_cells, base_width, opened, closed, type_bits}
 use Rattle.bars.specs.Resets.{reset_from, at_reset}
 
 pub each_at : (P : Region → Type 0) (rs : List Region) (n : ℕ) (d : Region) → Each P rs → n < length rs → P (get_or rs n d)
@@ -83,3 +84,12 @@ opened_order (r ∷ rs) pairs = (opened_after r rs pairs.0, opened_order rs pair
 
 pub opened_lawful : (rs : List Region) → HasLawfulRegions rs → HasLawfulRegions (map opened (map closed rs))
 opened_lawful rs lawful = record { each = opened_each rs lawful.each; in_order = opened_order rs lawful.in_order }
+
+-- ---- a register as a row
+
+pub base_is : (n size : ℕ) (kind : Kind) (off width value writable : ℕ) → off ≡ 0x10 + 4 * n → width ≡ 4 * registers_of kind → value ≡ type_bits kind → writable ≡ 2 ^ base_width kind - size
+    → field (config off) width value writable 0 ≡ base_cells n kind size 0
+base_is n size kind off width value writable a b c d = grind arith
+
+pub mask_is : (whole size bits : ℕ) → 0 < size → bits ≡ whole - 1 → bits - (size - 1) ≡ whole - size
+mask_is whole size bits some is = omega arith

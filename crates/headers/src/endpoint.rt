@@ -4,11 +4,11 @@ ghost use Rattle.lists.specs.Elements.{Each};
 ghost use Rattle.model_registers.specs.DeclarationRules.{IsConfigBlock};
 ghost use Rattle.model_registers.specs.EndpointTable.{block_cells, header_cells, config_reset};
 ghost use Rattle.config_bytes.specs.CellFile.{file_of};
+ghost use Rattle.headers.specs.Rows.{IsRow, row_cells};
 
 use crate::config_block::ConfigBlock;
 use crate::endpoint_decl::EndpointDecl;
 use crate::registers::Command;
-use crate::row::Access::{Clear, ReadOnly, Write};
 use crate::row::Row;
 use crate::table::{header_type, push_block, push_rows};
 use config_bytes::{Cell, Cells};
@@ -31,35 +31,28 @@ fn push_blocks(cells: &mut Vec<(u16, Cell)>, blocks: &[ConfigBlock]) -> Result<(
     Ok(())
 }
 
-/// Appends the cells of the header, without base address registers.
-fn push_header(
-    cells: &mut Vec<(u16, Cell)>,
-    decl: &EndpointDecl,
-    multifunction: bool,
-) -> Result<(), AllocError>
-    ensures { OnOk result (file_of cells.new.items
-        ≡ file_of cells.old.items ++ header_cells decl.now multifunction 0) }
+/// The registers of an endpoint's header, without its base address registers.
+pub fn endpoint_rows(decl: &EndpointDecl, multifunction: bool) -> [Row; 14]
+    ensures cells { flat_map row_cells result ≡ header_cells decl.now multifunction 0 }
+    ensures rows { Each IsRow result }
 {
     let values = decl.values();
-    push_rows(
-        cells,
-        &[
-            Row(0x00, 2, u32::from(values.vendor), ReadOnly),
-            Row(0x02, 2, u32::from(values.device), ReadOnly),
-            Row(0x04, 2, 0, Write(u32::from(Command::of_endpoint().0))),
-            Row(0x06, 2, u32::from(values.status), Clear(0xf900)),
-            Row(0x08, 1, u32::from(values.revision), ReadOnly),
-            Row(0x09, 3, values.class, ReadOnly),
-            Row(0x0c, 2, 0, Write(0xffff)),
-            Row(0x0e, 1, header_type(0, multifunction), ReadOnly),
-            Row(0x2c, 2, u32::from(values.subvendor), ReadOnly),
-            Row(0x2e, 2, u32::from(values.subsystem), ReadOnly),
-            Row(0x3c, 1, 0, Write(0xff)),
-            Row(0x3d, 1, u32::from(values.pin), ReadOnly),
-            Row(0x3e, 1, u32::from(values.min_gnt), ReadOnly),
-            Row(0x3f, 1, u32::from(values.max_lat), ReadOnly),
-        ],
-    )
+    [
+        Row::new(0x00, 2, u64::from(values.vendor), 0, 0),
+        Row::new(0x02, 2, u64::from(values.device), 0, 0),
+        Row::new(0x04, 2, 0, u64::from(Command::of_endpoint().0), 0),
+        Row::new(0x06, 2, u64::from(values.status), 0, 0xf900),
+        Row::new(0x08, 1, u64::from(values.revision), 0, 0),
+        Row::new(0x09, 3, u64::from(values.class), 0, 0),
+        Row::new(0x0c, 2, 0, 0xffff, 0),
+        Row::new(0x0e, 1, header_type(0, multifunction), 0, 0),
+        Row::new(0x2c, 2, u64::from(values.subvendor), 0, 0),
+        Row::new(0x2e, 2, u64::from(values.subsystem), 0, 0),
+        Row::new(0x3c, 1, 0, 0xff, 0),
+        Row::new(0x3d, 1, u64::from(values.pin), 0, 0),
+        Row::new(0x3e, 1, u64::from(values.min_gnt), 0, 0),
+        Row::new(0x3f, 1, u64::from(values.max_lat), 0, 0),
+    ]
 }
 
 impl Endpoint {
@@ -77,7 +70,7 @@ impl Endpoint {
             }) }
     {
         let mut cells = Vec::with_capacity(alloc, 64)?;
-        push_header(&mut cells, decl, multifunction)?;
+        push_rows(&mut cells, &endpoint_rows(decl, multifunction))?;
         push_blocks(&mut cells, &decl.values().config)?;
         Cells::new(alloc, &cells)
     }

@@ -1,13 +1,16 @@
 //! Regions as a board declares them.
-ghost use Rattle.std.specs.Prelude.{◌≡◌, nat_le, length, map};
+ghost use Rattle.std.specs.Prelude.{◌≡◌, ◌*◌, nat_le, length, map};
 ghost use Rattle.std.specs.List.{list_all};
-ghost use Rattle.model_registers.specs.Declarations.{IsLawfulSize, HasLawfulRegions};
+ghost use Rattle.model_registers.specs.Declarations.{IsLawfulRegion, IsLawfulSize, HasLawfulRegions, registers_of};
 ghost use Rattle.lists.specs.Elements.{Each};
 ghost use Rattle.std.specs.Bool.{OnTrue};
-ghost use Rattle.model_registers.specs.EndpointTable.{opened, closed};
+ghost use Rattle.model_registers.specs.EndpointTable.{base_cells, opened, closed};
+ghost use Rattle.bars.specs.Kinds.{kind_of};
 ghost use Rattle.bars.specs.Resets.{at_reset};
+ghost use Rattle.headers.specs.Rows.{IsRow, row_cells};
 
 use crate::own_registers::TakesRegisters;
+use crate::row::Row;
 use bars::{BarDecl, Kind};
 use config_bytes::Cell;
 use std::marker::Model;
@@ -42,7 +45,36 @@ impl TakesRegisters for Region {
     }
 }
 
+/// How many bytes a base address register of this kind has.
+pub fn register_width(kind: Kind) -> u8
+    ensures { result ≡ 4 * registers_of (kind_of kind) }
+{
+    match kind {
+        Kind::Io | Kind::Mem32 { pref: _ } => 4,
+        Kind::Mem64 { pref: _ } => 8,
+    }
+}
+
 impl Region {
+    /// The base address register of the region.
+    pub fn base_row(&self) -> Row
+        requires { IsLawfulRegion self.now }
+        ensures cells { row_cells result
+            ≡ base_cells self.now.index self.now.kind self.now.size 0 }
+        ensures row { IsRow result }
+    {
+        let kind = self.bar.kind();
+        let off = 0x10 + 4 * u16::from(self.index);
+        let writable = kind.base_bits() - (self.bar.size() - 1);
+        Row::new(
+            off,
+            register_width(kind),
+            u64::from(kind.type_bits()),
+            writable,
+            0,
+        )
+    }
+
     fn block_fits(&self) -> bool
         ensures value { result ≡ nat_le (length self.now.cells) self.now.size }
         ensures size { IsLawfulSize self.now.kind self.now.size }

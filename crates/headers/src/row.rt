@@ -1,51 +1,79 @@
 //! A register of the tables: where it stands, its value at reset, and what writing does to it.
-ghost use Rattle.std.specs.Prelude.{◌≡◌, ◌/◌, ◌%◌};
-ghost use Rattle.headers.specs.Rows.{writable_of, clearable_of};
+ghost use Rattle.std.specs.Prelude.{◌≡◌, ◌+◌, ◌-◌, ◌/◌, ◌%◌, ◌<◌};
+ghost use Rattle.headers.specs.Rows.{IsRow};
 
 use config_bytes::Cell;
 
-/// What a write does to a register's bits.
+/// A register of configuration space: where it stands, how many bytes it has, its value at reset, and
+/// the bits that a write sets and that writing a one clears. All its bits are of one kind.
 #[derive(Clone, Copy)]
-pub(crate) enum Access {
-    /// All bits stay.
-    ReadOnly,
-    /// The bits of the mask are set.
-    Write(u32),
-    /// The bits of the mask fall where a one is written to them.
-    Clear(u32),
+pub struct Row {
+    pub off: u16,
+    pub width: u8,
+    pub value: u64,
+    pub writable: u64,
+    pub clearable: u64,
 }
 
-/// The offset of a register, how many bytes it has, its value at reset, and its access.
-#[derive(Clone, Copy)]
-pub(crate) struct Row(pub u8, pub u8, pub u32, pub Access);
-
-impl Access {
-    /// The cell of the lowest byte.
-    pub(crate) fn cell(self, value: u32) -> Cell
+impl Row {
+    /// A row of a table.
+    pub(crate) fn new(off: u16, width: u8, value: u64, writable: u64, clearable: u64) -> Row
         ensures { result
             ≡ record {
-              value = value % 256;
-              writable = writable_of self % 256;
-              clearable = clearable_of self % 256;
+              off = off;
+              width = width;
+              value = value;
+              writable = writable;
+              clearable = clearable;
             } }
     {
-        let value = (value % 256) as u8;
-        match self {
-            Access::ReadOnly => Cell::fixed(value),
-            Access::Write(mask) => Cell::settable(value, (mask % 256) as u8),
-            Access::Clear(mask) => Cell::clearable(value, (mask % 256) as u8),
+        Row {
+            off,
+            width,
+            value,
+            writable,
+            clearable,
         }
     }
 
-    /// The same without the lowest byte.
-    pub(crate) fn above(self) -> Access
-        ensures writable { writable_of result ≡ writable_of self / 256 }
-        ensures clearable { clearable_of result ≡ clearable_of self / 256 }
+    /// The cell of the lowest byte.
+    pub(crate) fn cell(self) -> Cell
+        requires { IsRow self }
+        ensures { result
+            ≡ record {
+              value = self.value % 256;
+              writable = self.writable % 256;
+              clearable = self.clearable % 256;
+            } }
     {
-        match self {
-            Access::ReadOnly => Access::ReadOnly,
-            Access::Write(mask) => Access::Write(mask / 256),
-            Access::Clear(mask) => Access::Clear(mask / 256),
+        let value = (self.value % 256) as u8;
+        if self.clearable == 0 {
+            Cell::settable(value, (self.writable % 256) as u8)
+        } else {
+            Cell::clearable(value, (self.clearable % 256) as u8)
+        }
+    }
+
+    /// The register without its lowest byte.
+    pub fn above(self) -> Row
+        requires some { 0 < self.width }
+        requires row { IsRow self }
+        ensures rest { result
+            ≡ record {
+              off = self.off + 1;
+              width = self.width - 1;
+              value = self.value / 256;
+              writable = self.writable / 256;
+              clearable = self.clearable / 256;
+            } }
+        ensures row { IsRow result }
+    {
+        Row {
+            off: self.off + 1,
+            width: self.width - 1,
+            value: self.value / 256,
+            writable: self.writable / 256,
+            clearable: self.clearable / 256,
         }
     }
 }

@@ -1,9 +1,10 @@
 //! Lists of cells from rows and blocks.
 ghost use Rattle.std.specs.Prelude.{◌≡◌, ◌+◌, ◌≤◌, ◌++◌, OnOk, length, flat_map};
+ghost use Rattle.lists.specs.Elements.{Each};
 ghost use Rattle.model_registers.specs.Registers.{config, cells_from};
 ghost use Rattle.model_registers.specs.EndpointTable.{header_type};
 ghost use Rattle.config_bytes.specs.CellFile.{file_of};
-ghost use Rattle.headers.specs.Rows.{row_cells};
+ghost use Rattle.headers.specs.Rows.{IsRow, row_cells};
 
 use crate::row::Row;
 use config_bytes::Cell;
@@ -11,27 +12,28 @@ use std::alloc::AllocError;
 
 /// The Header Type register: the layout, and in bit 7 whether the device has more functions (PCI
 /// Local Bus 3.0, chapter 6.2.1).
-pub(crate) fn header_type(layout: u8, multifunction: bool) -> u32
+pub(crate) fn header_type(layout: u8, multifunction: bool) -> u64
     ensures { result ≡ header_type layout multifunction }
 {
-    u32::from(layout) + if multifunction { 0x80 } else { 0 }
+    u64::from(layout) + if multifunction { 0x80 } else { 0 }
 }
 
 /// Appends the register's cells, lowest byte first.
 fn push_row(cells: &mut Vec<(u16, Cell)>, row: Row) -> Result<(), AllocError>
+    requires { IsRow row }
     ensures { OnOk result (file_of cells.new.items ≡ file_of cells.old.items ++ row_cells row) }
 {
-    let Row(off, width, mut value, mut access) = row;
-    for byte in 0..width {
-        cells.push((u16::from(off) + u16::from(byte), access.cell(value)))?;
-        value /= 256;
-        access = access.above();
+    let mut left = row;
+    while left.width > 0 {
+        cells.push((left.off, left.cell()))?;
+        left = left.above();
     }
     Ok(())
 }
 
 /// Appends the cells of registers.
 pub(crate) fn push_rows(cells: &mut Vec<(u16, Cell)>, rows: &[Row]) -> Result<(), AllocError>
+    requires { Each IsRow rows.now }
     ensures { OnOk result (file_of cells.new.items
         ≡ file_of cells.old.items ++ flat_map row_cells rows.now) }
 {

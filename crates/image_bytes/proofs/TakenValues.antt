@@ -1,11 +1,11 @@
 -- Values that are taken one after the other.
-use Rattle.std.proofs.Common.{◌≡◌, ℕ, suc, ◌+◌, ◌-◌, ◌*◌, ◌/◌, ◌%◌, ◌^◌, ◌<◌, ◌≤◌, true, false, List, [], ◌∷◌, ◌++◌, length, drop, Ok, Err, refl, sym, ap, ap₂, ◌∙◌, arith}
+use Rattle.std.proofs.Common.{◌≡◌, ℕ, suc, ◌+◌, ◌-◌, ◌/◌, ◌%◌, ◌<◌, ◌≤◌, true, false, List, [], ◌∷◌, ◌++◌, length, drop, Ok, Err, refl, sym, ap, ap₂, ◌∙◌, arith}
 use Rattle.std.specs.Prelude.{flat_map}
 use Rattle.std.proofs.lemmas.Bool.Decides.{nat_tests}
 use Rattle.lists.specs.Elements.{Each}
 use Rattle.model_registers.specs.Cell.{Cell}
 use Rattle.model_registers.specs.Registers.{Place, config, block, after, PlacedCell, File, field, cells_from}
-use Rattle.model_registers.specs.Declarations.{Kind, registers_of, Region, ConfigBlock, Endpoint}
+use Rattle.model_registers.specs.Declarations.{Region, ConfigBlock, Endpoint}
 use Rattle.model_registers.specs.EndpointTable.{type_bits, base_width, base_cells, block_cells, header_cells, endpoint_reset}
 use Rattle.model_registers.specs.EndpointTable as table
 use Rattle.model_registers.specs.DeviceBytes.{is_device_byte}
@@ -112,10 +112,6 @@ region_ends r bytes cells base room =
 pub base_ends : (r : Region) (n : ℕ) (bytes : List ℕ) → after_values (base_cells r.index r.kind r.size 0) bytes ≡ Err n → after_values (region_reset r) bytes ≡ Err n
 base_ends r n bytes h = values_end n (base_cells r.index r.kind r.size 0) (cells_from (block r.index 0) r.cells) bytes h
 
-pub base_is : (n size : ℕ) (kind : Kind) (off width value writable : ℕ) → off ≡ 0x10 + 4 * n → width ≡ 4 * registers_of kind → value ≡ type_bits kind → writable ≡ 2 ^ base_width kind - size
-    → field (config off) width value writable 0 ≡ base_cells n kind size 0
-base_is n size kind off width value writable a b c d = grind arith
-
 -- ---- an endpoint
 
 module _ (d : Endpoint) (bs : List ConfigBlock) (rs : List Region) (blocks : bs ≡ d.blocks) (regions : rs ≡ d.regions) (bytes : List ℕ) where
@@ -147,6 +143,3 @@ header_ends_of d bytes n h = header_ends d d.blocks d.regions refl refl bytes n 
 pub blocks_end_of : (d : Endpoint) (bs : List ConfigBlock) (bytes next : List ℕ) (n : ℕ) → bs ≡ d.blocks → after_values (header_cells d false 0) bytes ≡ Ok next
     → after_values (flat_map block_cells bs) next ≡ Err n → after_values (endpoint_reset d false) bytes ≡ Err n
 blocks_end_of d bs bytes next n blocks first h = blocks_end d bs d.regions blocks refl bytes next first n h
-
-pub mask_is : (whole size bits : ℕ) → 0 < size → bits ≡ whole - 1 → bits - (size - 1) ≡ whole - size
-mask_is whole size bits some is = omega arith

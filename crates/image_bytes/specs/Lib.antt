@@ -2,4 +2,3 @@ pub mod Cells
 pub mod Faults
 pub mod Parts
 pub mod Puts
-pub mod Rows

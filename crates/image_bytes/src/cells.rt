@@ -7,13 +7,14 @@ ghost use Rattle.model_registers.specs.EndpointTable.{block_cells, endpoint_rese
 ghost use Rattle.model_registers.specs.BridgeTable.{bridge_reset};
 ghost use Rattle.model_registers.specs.OwnCopies.{is_own};
 ghost use Rattle.model_registers.specs.Registers.{File, config};
+ghost use Rattle.headers.specs.Rows.{IsRow, row_cells};
 ghost use Rattle.image_bytes.specs.Cells.{IsCellAt, told, told_at};
-ghost use Rattle.image_bytes.specs.Rows.{IsShort, row_cells};
 
-use crate::bridge_rows::{bridge_head, io_rows, pref_rows};
 use crate::parts::eight;
-use crate::values::{Row, base_row, header_rows};
-use headers::{BridgeDecl, ConfigBlock, EndpointDecl, Region};
+use headers::{
+    BridgeDecl, ConfigBlock, EndpointDecl, Region, Row, bridge_rows, endpoint_rows, io_rows,
+    pref_rows,
+};
 
 /// Where a cell stands: at an offset of configuration space, or of the region of a base address register.
 #[derive(Clone, Copy, Debug, PartialEq, Eq)]
@@ -52,7 +53,7 @@ trait HasCells {
 impl HasCells for Row {
     ghost cells = { row_cells };
 
-    ghost is_lawful = { IsShort };
+    ghost is_lawful = { IsRow };
 
     fn cell(&self, index: usize) -> Result<DeclaredCell, usize> {
         let width = usize::from(self.width);
@@ -91,7 +92,7 @@ impl HasCells for Region {
     ghost is_lawful = { IsLawfulRegion };
 
     fn cell(&self, index: usize) -> Result<DeclaredCell, usize> {
-        let offset = match base_row(self).cell(index) {
+        let offset = match self.base_row().cell(index) {
             Ok(cell) => return Ok(cell),
             Err(offset) => offset,
         };
@@ -135,7 +136,7 @@ fn header_cell(decl: &EndpointDecl, index: usize) -> Result<DeclaredCell, usize>
     if index >= 23 {
         return Err(index - 23);
     }
-    cell_in(&header_rows(decl), index)
+    cell_in(&endpoint_rows(decl, false), index)
 }
 
 /// The cell of an endpoint at an index, in the order of the cells at reset; none past the last.
@@ -162,7 +163,7 @@ pub fn endpoint_cell(decl: &EndpointDecl, index: usize) -> Option<DeclaredCell>
 pub fn bridge_cell(decl: &BridgeDecl, index: usize) -> Option<DeclaredCell>
     ensures { option_map told result ≡ told_at (bridge_reset decl.now false) index }
 {
-    let index = match cell_in(&bridge_head(decl), index) {
+    let index = match cell_in(&bridge_rows(decl, false), index) {
         Ok(cell) => return Some(cell),
         Err(behind) => behind,
     };

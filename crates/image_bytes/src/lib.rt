@@ -4,7 +4,6 @@
 //! buffer, and bytes are compared with them. No call takes memory.
 #![tactic(auto)]
 
-mod bridge_rows;
 mod cells;
 mod comparing;
 mod fault;
@@ -14,11 +13,10 @@ mod sizes;
 mod values;
 mod writing;
 
-pub use bridge_rows::bridge_values_size;
 pub use cells::{CellPlace, DeclaredCell, bridge_cell, endpoint_cell, is_own};
 pub use comparing::{after, after_declaration};
 pub use fault::ImageFault;
 pub use heading::{after_header, after_latch, after_tag, at_end, header, latch_bytes};
-pub use sizes::{declaration_size, values_size};
-pub use values::{after_values, register_width};
+pub use sizes::{bridge_values_size, declaration_size, values_size};
+pub use values::after_values;
 pub use writing::{put, write_declaration};

@@ -19,8 +19,8 @@ use crate::config::{held_in, write_in};
 use crate::guest::Guest;
 use accesses::Place;
 use config_bytes::{enables_of, into_lanes};
+use headers::register_width;
 use host_bridge::Host;
-use image_bytes::register_width;
 
 /// The index among the functions of the host of the function in a slot of a guest.
 fn index_in(guests: &[Guest], guest: usize, slot: usize) -> usize

@@ -1,5 +1,5 @@
 use Rattle.std.proofs.Common.{◌∙◌, sym, refl, arith}
-use Rattle.image_bytes.specs.Rows.{row_cells}
+use Rattle.headers.specs.Rows.{row_cells}
 use Rattle.image_bytes.specs.Faults.{number_of}
 use Rattle.image_bytes.proofs.TakenValues.{values_end_of, values_go_on_of}
 use Rattle.image_bytes.proofs.values.after_rows.Goals as goal

@@ -1,14 +1,14 @@
-use Rattle.std.proofs.Common.{◌≡◌, ◌+◌, ◌<◌, ◌^◌, length}
+use Rattle.std.proofs.Common.{◌≡◌, length}
 use Rattle.std.specs.Prelude.{flat_map}
 use Rattle.lists.specs.Elements.{Each}
-use Rattle.image_bytes.specs.Rows.{row_cells}
+use Rattle.headers.specs.Rows.{IsRow, row_cells}
 use Rattle.model_image_bytes.specs.LoadedBytes.{after_values}
 use Rattle.image_bytes.proofs.values.after_rows.Given as goal
 
 -- what is left decides as all does
 abbrev pub invariant-loop-row : goal.invariant-loop-row
 invariant-loop-row l = record {
-  lawful : Each (λ row. row.off + row.width < 2 ^ 16) l.left;
+  lawful : Each IsRow l.left;
   same : after_values (flat_map row_cells l.left) l.bytes ≡ after_values (flat_map row_cells l.rows) l.fn.bytes;
 }
 

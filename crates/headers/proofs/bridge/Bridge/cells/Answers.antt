@@ -9,6 +9,5 @@ use Rattle.headers.proofs.bridge.Bridge.cells.Goals as goal
 pub new-requires : goal.new-requires
 new-requires c =
     let d = c.args.decl.now in
-    let third = c.push_io_window.new.cells.items in
     let is : file_of c.deref.result.now ≡ bridge_reset d c.args.multifunction = grind (arith, appended) in
     bridge_offsets d c.args.multifunction c.deref.result.now is
