@@ -136,9 +136,9 @@ hostile: pciguest library/libpciguest.a
 # and a thousand machines that the library saves and loads elsewhere. make fuzz SEED=.. begins with another board.
 SEED := 1
 fuzz: pciguest library/libpciguest.so.0
-	@$(PROVE) test_lone_guest test_landings
+	@$(PROVE) test_lone_guest bench_accesses
 	@tests/cases.py ./pciguest crates/test_lone_guest/out/test_lone_guest
-	@tests/landings.sh crates/test_landings/out/test_landings
+	@tests/landings.sh crates/bench_accesses/out/bench_accesses
 	@python3 tests/fuzz/fuzz.py ./pciguest --lone crates/test_lone_guest/out/test_lone_guest --boards 850 --seed $(SEED)
 	@python3 tests/fuzz/mistakes.py ./pciguest --files 3000 --seed $(SEED)
 	@python3 tests/fuzz/audit.py ./pciguest --states 2000 --seed $(SEED)

@@ -2,7 +2,7 @@
 # The regions of the guests of all boards, and of one with a region of each kind: each access through the monitor, and to
 # the place where set-up put the region.
 #     tests/landings.sh PROGRAM
-# PROGRAM is that of the crate test_landings. The last line is 'N passed, M failed'.
+# PROGRAM is that of the crate bench_accesses. The last line is 'N passed, M failed'.
 set -u
 program=$(readlink -f "$1")
 cd "$(dirname "$0")/../boards"
@@ -20,5 +20,5 @@ server.toml: 15 regions, 2219 accesses, 0 different
 largest.toml: 0 regions, 0 accesses, 0 different
 ../tests/landings.toml: 7 regions, 875 accesses, 0 different
 END
-while IFS=: read -r board _; do timeout 60 "$program" "$board"; done < "$room/wanted" > "$room/told"
+while IFS=: read -r board _; do timeout 60 "$program" landings "$board"; done < "$room/wanted" > "$room/told"
 if diff "$room/wanted" "$room/told"; then echo '1 passed, 0 failed'; else echo '0 passed, 1 failed'; exit 1; fi

@@ -1,4 +1,4 @@
-//! Layer: board. Below: paths, headers. Above: host_bridge, function_images.
+//! Layer: board. Below: paths, headers. Above: host_bridge.
 //!
 //! The functions of a board as a tree of buses: configuration cycles, forwarding and claims.
 #![tactic(auto)]

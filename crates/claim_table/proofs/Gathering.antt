@@ -19,9 +19,9 @@ use Rattle.model_board.specs.Lawful.{IsLawfulDecl, HasLawfulDecls}
 use Rattle.model_board.specs.State.{BoardFunction, row_at}
 use Rattle.model_board.specs.Routing.{Ranges, regions, windows, RoutingRow, row_of, routing}
 use Rattle.model_set_up.specs.PlacedRegions.{PlacedRegion}
-use Rattle.model_audit.specs.OpenRegions.{region_now, open_of, open_regions}
-use Rattle.model_audit.specs.Orderly.{IsStateOfBoard, IsOrderly, HasClaimsOfRegions}
-use Rattle.model_audit.proofs.Claims.{orderly_claims}
+use Rattle.model_findings.specs.OpenRegions.{region_now, open_of, open_regions}
+use Rattle.model_findings.specs.Orderly.{IsStateOfBoard, IsOrderly, HasClaimsOfRegions}
+use Rattle.model_findings.proofs.Claims.{orderly_claims}
 use Rattle.host_bridge.specs.HostState.{HostState}
 use Rattle.claim_table.specs.declared.region_entry.RegionEntry.{RegionEntry}
 use Rattle.claim_table.specs.Tables.{table_claim, FitsTable, IsOfFunction}

@@ -42,7 +42,7 @@ fn paths_in(alloc: Global, rows: &[RoutingRow]) -> Result<Vec<Path>, AllocError>
 
 impl Table {
     ghost use Rattle.model_board.specs.Routing.{routing};
-    ghost use Rattle.model_audit.specs.Orderly.{IsOrderly, IsStateOfBoard};
+    ghost use Rattle.model_findings.specs.Orderly.{IsOrderly, IsStateOfBoard};
     ghost use Rattle.host_bridge.specs.HostState.{HostState};
     ghost use Rattle.claim_table.specs.Tables.{FitsTable};
 

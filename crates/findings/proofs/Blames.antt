@@ -7,10 +7,10 @@ use Rattle.lists.specs.Elements.{first_of_two, first_some}
 use Rattle.model_board.specs.Paths.{leads_to}
 use Rattle.model_board.specs.Routing.{RoutingRow}
 use Rattle.model_set_up.specs.PlacedRegions.{PlacedRegion}
-use Rattle.model_audit.specs.OpenRegions.{open_regions}
-use Rattle.model_audit.specs.Problems.{unforwarded, forwarding_problem}
-use Rattle.model_audit.specs.Problems as audit
-use Rattle.model_ready.specs.Lacks.{plain_regions, first_prefetched, prefetch_blame, prefetch_lack}
+use Rattle.model_findings.specs.OpenRegions.{open_regions}
+use Rattle.model_findings.specs.Problems.{unforwarded, forwarding_problem}
+use Rattle.model_findings.specs.Problems as audit
+use Rattle.model_findings.specs.Lacks.{plain_regions, first_prefetched, prefetch_blame, prefetch_lack}
 use Rattle.findings.specs.Regions.{all_regions}
 use Rattle.findings.specs.Blames.{blame, blames_of, all_blames, unforwarded_problem, prefetched_lack}
 use Rattle.findings.specs.declared.regions.Sort.TheVariants.{Open, Plain}

@@ -4,7 +4,7 @@ use Rattle.std.specs.Prelude.{flat_map, slice_get}
 use Rattle.std.specs.Option.{option_to_list}
 use Rattle.std.proofs.lemmas.List.{map-append}
 use Rattle.model_board.specs.State.{BoardFunction}
-use Rattle.model_ready.specs.Lacks.{primary_lack}
+use Rattle.model_findings.specs.Lacks.{primary_lack}
 use Rattle.findings.specs.Findings.{lack_of}
 use Rattle.findings.specs.declared.lack.Lack.{Lack}
 

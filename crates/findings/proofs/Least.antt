@@ -10,9 +10,9 @@ use Rattle.model_registers.specs.Decoding.{same_space}
 use Rattle.model_board.specs.Routing.{RoutingRow, row_forwards}
 use Rattle.model_set_up.specs.PlacedRegions.{PlacedRegion, holds}
 use Rattle.lists.proofs.Members.{none_pass}
-use Rattle.model_audit.specs.Agents.{Extent, extent_holds, forwarded_extents, Agent, answers}
-use Rattle.model_audit.specs.Problems.{least, unforwarded, shared}
-use Rattle.model_audit.proofs.Answering.{forwards_extents}
+use Rattle.model_findings.specs.Agents.{Extent, extent_holds, forwarded_extents, Agent, answers}
+use Rattle.model_findings.specs.Problems.{least, unforwarded, shared}
+use Rattle.model_findings.proofs.Answering.{forwards_extents}
 use Rattle.findings.specs.Extents.{least_of, first_missed}
 
 filter_same : (t u : ℕ → Bool) (xs : List ℕ) → ((n : ℕ) → t n ≡ u n) → filter t xs ≡ filter u xs

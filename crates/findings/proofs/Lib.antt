@@ -6,3 +6,8 @@ pub mod Blames
 pub mod Above
 pub mod PrefetchedAddresses
 pub mod Indexed
+pub mod StoppedFrom
+pub mod WhyRows
+pub mod HeldRegions
+pub mod BridgesOnWay
+pub mod AddressBuses

@@ -10,8 +10,8 @@ use Rattle.model_board.specs.Paths.{Path}
 use Rattle.model_board.specs.State.{BoardFunction}
 use Rattle.model_board.specs.Cycles.{secondary_register, BusAddress, reached}
 use Rattle.model_board.specs.Routing.{RoutingRow, row_of, routing}
-use Rattle.model_audit.specs.Found.{is_bridge_at, bus_now, address_now, path_reached}
-use Rattle.model_audit.specs.Problems.{Problem, not_found, numbering_problem, numbering_problems}
+use Rattle.model_findings.specs.Found.{is_bridge_at, bus_now, address_now, path_reached}
+use Rattle.model_findings.specs.Problems.{Problem, not_found, numbering_problem, numbering_problems}
 use Rattle.bridge_forward.specs.RoutingRows.{secondary_nth}
 use Rattle.findings.specs.Bridges.{is_bridge_row, is_there, lost_function}
 

@@ -4,9 +4,9 @@ use Rattle.std.specs.Prelude.{map, filter}
 use Rattle.std.specs.Option.{option_to_list}
 use Rattle.model_board.specs.Routing.{RoutingRow}
 use Rattle.model_set_up.specs.PlacedRegions.{PlacedRegion, holds}
-use Rattle.model_audit.specs.Agents.{Extent}
-use Rattle.model_audit.specs.Problems.{least}
-use Rattle.model_ready.specs.Lacks.{prefetches, prefetch_edges, first_prefetched}
+use Rattle.model_findings.specs.Agents.{Extent}
+use Rattle.model_findings.specs.Problems.{least}
+use Rattle.model_findings.specs.Lacks.{prefetches, prefetch_edges, first_prefetched}
 use Rattle.findings.specs.Extents.{least_of}
 use Rattle.findings.proofs.Least.{least_piece, least_last}
 

@@ -8,9 +8,9 @@ use Rattle.model_registers.specs.Decoding.{opens_space, space_of}
 use Rattle.model_board.specs.Paths.{Path}
 use Rattle.model_board.specs.Routing.{Ranges, regions, windows, RoutingRow}
 use Rattle.model_set_up.specs.PlacedRegions.{PlacedRegion}
-use Rattle.model_audit.specs.OpenRegions.{region_now, open_of, closed_of, open_regions, closed_regions}
-use Rattle.model_audit.specs.Agents.{region_agent, agents_of}
-use Rattle.model_ready.specs.Lacks.{is_plain, plain_of, plain_regions}
+use Rattle.model_findings.specs.OpenRegions.{region_now, open_of, closed_of, open_regions, closed_regions}
+use Rattle.model_findings.specs.Agents.{region_agent, agents_of}
+use Rattle.model_findings.specs.Lacks.{is_plain, plain_of, plain_regions}
 use Rattle.findings.specs.Regions.{is_of_sort, regions_of, all_regions}
 use Rattle.findings.specs.declared.regions.Sort.{Sort}
 use Rattle.findings.specs.declared.regions.Sort.TheVariants.{Open, Closed, Plain}

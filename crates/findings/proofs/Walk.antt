@@ -12,10 +12,10 @@ use Rattle.model_registers.proofs.HitRegions.{space_same}
 use Rattle.model_board.specs.Paths.{Path, parent}
 use Rattle.lists.proofs.Members.{each_from, in_map, in_front, in_back}
 use Rattle.model_board.proofs.PathOrder.{path_same}
-use Rattle.model_audit.specs.Agents.{Extent, Agent, answers}
-use Rattle.model_audit.specs.Orderly.{AreAlone}
-use Rattle.model_audit.specs.Problems.{contention, contentions}
-use Rattle.model_audit.proofs.Problems.{Within, by_extent, no_contention}
+use Rattle.model_findings.specs.Agents.{Extent, Agent, answers}
+use Rattle.model_findings.specs.Orderly.{AreAlone}
+use Rattle.model_findings.specs.Problems.{contention, contentions}
+use Rattle.model_findings.proofs.Problems.{Within, by_extent, no_contention}
 use Rattle.lists.proofs.Members.{each_none}
 use Rattle.findings.specs.declared.span.Span.{Span}
 use Rattle.findings.specs.Spans.{bus_key, space_key, group_of, extent_span, agent_spans, spans_from, place_of, key_of, crowds, AreApartBut, is_crowded}

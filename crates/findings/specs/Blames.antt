@@ -11,8 +11,8 @@ use Rattle.lists.specs.Elements.{first_some}
 use Rattle.model_board.specs.Paths.{leads_to}
 use Rattle.model_board.specs.Routing.{RoutingRow}
 use Rattle.model_set_up.specs.PlacedRegions.{PlacedRegion}
-use Rattle.model_audit.specs.Problems.{Problem, not_forwarded, unforwarded}
-use Rattle.model_ready.specs.Lacks.{Lack, prefetched_by, first_prefetched}
+use Rattle.model_findings.specs.Problems.{Problem, not_forwarded, unforwarded}
+use Rattle.model_findings.specs.Lacks.{Lack, prefetched_by, first_prefetched}
 use Rattle.findings.specs.Regions.{all_regions}
 use Rattle.findings.specs.declared.regions.Sort.{Sort}
 use Rattle.findings.specs.declared.regions.Sort.TheVariants.{Open, Plain}

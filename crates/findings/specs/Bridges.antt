@@ -7,8 +7,8 @@ use Rattle.std.specs.Option.{option_map_or}
 use Rattle.model_board.specs.Paths.{Path, path_eq}
 use Rattle.model_board.specs.State.{BoardFunction}
 use Rattle.model_board.specs.Routing.{Ranges, regions, windows, RoutingRow}
-use Rattle.model_audit.specs.Found.{address_now, path_reached}
-use Rattle.model_audit.specs.Problems.{Problem, not_found}
+use Rattle.model_findings.specs.Found.{address_now, path_reached}
+use Rattle.model_findings.specs.Problems.{Problem, not_found}
 
 abbrev pub is_windows : Ranges → Bool
 is_windows (regions bs) = false

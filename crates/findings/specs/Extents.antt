@@ -6,8 +6,8 @@ use Rattle.std.specs.Prelude.{List, ◌∷◌, ◌++◌, ℕ, ◌+◌, ◌&&◌,
 use Rattle.std.specs.List.{list_any}
 use Rattle.std.specs.Option.{option_map, option_to_list}
 use Rattle.model_set_up.specs.PlacedRegions.{PlacedRegion, holds}
-use Rattle.model_audit.specs.Agents.{Extent, extent_holds}
-use Rattle.model_audit.specs.Problems.{least}
+use Rattle.model_findings.specs.Agents.{Extent, extent_holds}
+use Rattle.model_findings.specs.Problems.{least}
 use Rattle.bridge_forward.specs.declared.routing.Window.{Window}
 
 abbrev pub extent_of : Window → Extent

@@ -1,7 +1,7 @@
 -- Problems and lacks, in the words of the definitions.
 --     problem_of, lack_of      a problem and a lack as the definitions have them
-use Rattle.model_audit.specs.Problems as audit
-use Rattle.model_ready.specs.Lacks as ready
+use Rattle.model_findings.specs.Problems as audit
+use Rattle.model_findings.specs.Lacks as ready
 use Rattle.paths.specs.BusAddresses.{bus_address_of}
 use Rattle.findings.specs.declared.problem.Problem.{Problem}
 use Rattle.findings.specs.declared.problem.Problem.TheVariants.{NotForwarded, Contended, NotFound}

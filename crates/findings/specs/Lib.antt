@@ -4,3 +4,7 @@ pub mod Spans
 pub mod Regions
 pub mod Findings
 pub mod Blames
+pub mod WhyTold
+pub mod WhyByRows
+pub mod WhyOnWay
+pub mod Identities

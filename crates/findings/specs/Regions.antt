@@ -9,8 +9,8 @@ use Rattle.model_registers.specs.Decoding.{space_of, opens_space}
 use Rattle.model_board.specs.Paths.{Path}
 use Rattle.model_board.specs.Routing.{RoutingRow, regions, windows}
 use Rattle.model_set_up.specs.PlacedRegions.{PlacedRegion}
-use Rattle.model_audit.specs.OpenRegions.{region_now}
-use Rattle.model_ready.specs.Lacks.{is_plain}
+use Rattle.model_findings.specs.OpenRegions.{region_now}
+use Rattle.model_findings.specs.Lacks.{is_plain}
 use Rattle.findings.specs.declared.regions.Sort.{Sort}
 use Rattle.findings.specs.declared.regions.Sort.TheVariants.{Open, Closed, Plain}
 

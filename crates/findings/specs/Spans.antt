@@ -10,7 +10,7 @@ use Rattle.std.specs.Prelude.{List, [], ◌∷◌, ◌++◌, ◌≡◌, ℕ, ◌
 use Rattle.std.specs.List.{list_any}
 use Rattle.model_registers.specs.Decoding.{Space, io, memory}
 use Rattle.model_board.specs.Paths.{Path, parent}
-use Rattle.model_audit.specs.Agents.{Extent, Agent}
+use Rattle.model_findings.specs.Agents.{Extent, Agent}
 use Rattle.bridge_forward.specs.declared.routing.Window.{Window}
 use Rattle.findings.specs.declared.span.Span.{Span}
 

@@ -3,7 +3,7 @@ ghost use Rattle.std.specs.Prelude.{◌≡◌};
 ghost use Rattle.std.specs.List.{list_any};
 ghost use Rattle.bars.specs.Kinds.{named_space};
 ghost use Rattle.model_board.specs.Paths.{path_eq};
-ghost use Rattle.model_audit.specs.Agents.{extent_holds, region_agent, bridge_agent, on_one_bus};
+ghost use Rattle.model_findings.specs.Agents.{extent_holds, region_agent, bridge_agent, on_one_bus};
 
 use crate::region::{RegionNow, extent};
 use crate::row::{forwarded, holds_any};
@@ -23,7 +23,7 @@ pub struct Agent {
 }
 
 impl Model for Agent {
-    ghost use Rattle.model_audit.specs.Agents.{Agent as AgentValue};
+    ghost use Rattle.model_findings.specs.Agents.{Agent as AgentValue};
     ghost use Rattle.bars.specs.Kinds.{named_space};
     ghost use Rattle.findings.specs.Extents.{extents_of};
 

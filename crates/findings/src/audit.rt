@@ -1,6 +1,6 @@
 //! All that is wrong in the registers of a board.
 ghost use Rattle.std.specs.Prelude.{◌≡◌, map, IfOk};
-ghost use Rattle.model_audit.specs.Problems.{problems, routing_problems};
+ghost use Rattle.model_findings.specs.Problems.{problems, routing_problems};
 ghost use Rattle.findings.specs.Findings.{problem_of};
 
 use crate::blame::{Charge, all_blames};

@@ -1,6 +1,6 @@
 //! Open regions that a bridge above them doesn't forward.
 ghost use Rattle.std.specs.Prelude.{◌≡◌, ◌++◌, map, OnOk};
-ghost use Rattle.model_audit.specs.Problems.{unforwarded};
+ghost use Rattle.model_findings.specs.Problems.{unforwarded};
 ghost use Rattle.findings.specs.Blames.{unforwarded_problem};
 ghost use Rattle.findings.specs.Findings.{problem_of};
 

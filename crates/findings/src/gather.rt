@@ -1,6 +1,6 @@
 //! The agents of all rows.
 ghost use Rattle.std.specs.Prelude.{◌≡◌, ◌++◌, map, IfOk, OnOk};
-ghost use Rattle.model_audit.specs.Agents.{region_agent, agents_of, agents};
+ghost use Rattle.model_findings.specs.Agents.{region_agent, agents_of, agents};
 
 use crate::agent::Agent;
 use crate::region::RegionNow;

@@ -3,7 +3,7 @@ ghost use Rattle.std.specs.Prelude.{◌≡◌, ◌&&◌, not, map, filter};
 ghost use Rattle.std.specs.Option.{option_map, option_to_list};
 ghost use Rattle.std.specs.List.{list_any};
 ghost use Rattle.model_set_up.specs.PlacedRegions.{holds};
-ghost use Rattle.model_audit.specs.Agents.{extent_holds};
+ghost use Rattle.model_findings.specs.Agents.{extent_holds};
 ghost use Rattle.findings.specs.Extents.{extent_of, extents_of, least_of, first_missed};
 
 use crate::region::RegionNow;

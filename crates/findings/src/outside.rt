@@ -2,7 +2,7 @@
 ghost use Rattle.std.specs.Prelude.{◌≡◌, ◌++◌, flat_map, OnOk, map};
 ghost use Rattle.std.specs.Option.{option_map, option_to_list};
 ghost use Rattle.bars.specs.Kinds.{named_space};
-ghost use Rattle.model_ready.specs.Lacks.{aperture_extent, aperture_extents, outside_lack};
+ghost use Rattle.model_findings.specs.Lacks.{aperture_extent, aperture_extents, outside_lack};
 ghost use Rattle.findings.specs.Extents.{extent_of, extents_of};
 ghost use Rattle.findings.specs.Findings.{lack_of};
 

@@ -3,7 +3,7 @@
 ghost use Rattle.std.specs.Prelude.{◌≡◌, [], ◌∷◌, ◌++◌, ◌&&◌, map, filter, OnOk};
 ghost use Rattle.std.specs.Option.{option_map, option_to_list};
 ghost use Rattle.model_set_up.specs.PlacedRegions.{holds};
-ghost use Rattle.model_ready.specs.Lacks.{prefetches, prefetch_edges, first_prefetched};
+ghost use Rattle.model_findings.specs.Lacks.{prefetches, prefetch_edges, first_prefetched};
 ghost use Rattle.findings.specs.Extents.{extent_of};
 ghost use Rattle.findings.specs.Blames.{prefetched_lack};
 ghost use Rattle.findings.specs.Findings.{lack_of};

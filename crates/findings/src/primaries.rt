@@ -2,7 +2,7 @@
 ghost use Rattle.std.specs.Prelude.{◌≡◌, ◌++◌, map, flat_map, slice_get, OnOk, option_map};
 ghost use Rattle.std.specs.Option.{option_to_list};
 ghost use Rattle.model_board.specs.Routing.{routing};
-ghost use Rattle.model_ready.specs.Lacks.{primary_lack};
+ghost use Rattle.model_findings.specs.Lacks.{primary_lack};
 ghost use Rattle.findings.specs.Findings.{lack_of};
 
 use crate::lack::Lack;

@@ -1,6 +1,6 @@
 //! Finding what is lacking.
 ghost use Rattle.std.specs.Prelude.{◌≡◌, ◌++◌, map, IfOk, OnOk};
-ghost use Rattle.model_ready.specs.Lacks.{not_open, lacks, is_ready};
+ghost use Rattle.model_findings.specs.Lacks.{not_open, lacks, is_ready};
 ghost use Rattle.findings.specs.Findings.{lack_of};
 
 use crate::audit::problems;

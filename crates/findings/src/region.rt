@@ -17,7 +17,7 @@ pub struct RegionNow {
 
 impl Model for RegionNow {
     ghost use Rattle.model_set_up.specs.PlacedRegions.{PlacedRegion};
-    ghost use Rattle.model_audit.specs.OpenRegions.{region_now};
+    ghost use Rattle.model_findings.specs.OpenRegions.{region_now};
     ghost use Rattle.bridge_forward.specs.RoutingRows.{base_of};
 
     ghost Value = { PlacedRegion };

@@ -1,7 +1,7 @@
 //! The regions of functions as their registers say, by what is asked of them (PCI Local Bus 3.0, chapters 6.2.2 and 6.2.5).
 ghost use Rattle.std.specs.Prelude.{◌≡◌, ◌++◌, map, IfOk, OnOk};
 ghost use Rattle.bars.specs.Kinds.{kind_of};
-ghost use Rattle.model_ready.specs.Lacks.{is_plain};
+ghost use Rattle.model_findings.specs.Lacks.{is_plain};
 ghost use Rattle.bridge_forward.specs.RoutingRows.{base_of};
 ghost use Rattle.findings.specs.Regions.{is_of_sort, regions_among, regions_of, all_regions};
 

@@ -4,7 +4,7 @@ ghost use Rattle.std.specs.List.{list_any};
 ghost use Rattle.bars.specs.Kinds.{named_space};
 ghost use Rattle.model_registers.specs.Decoding.{opens_space, same_space};
 ghost use Rattle.model_board.specs.Windows.{is_in};
-ghost use Rattle.model_audit.specs.Agents.{extent_holds, forwarded_extents};
+ghost use Rattle.model_findings.specs.Agents.{extent_holds, forwarded_extents};
 ghost use Rattle.bridge_forward.specs.RoutingRows.{window_of};
 ghost use Rattle.findings.specs.Extents.{extent_of, extents_of};
 

@@ -2,7 +2,7 @@
 ghost use Rattle.std.specs.Prelude.{◌≡◌, ℕ, ◌++◌, ◌^◌, ◌<◌, IfOk, OnOk, IsTrue, map, filter};
 ghost use Rattle.std.specs.Option.{option_to_list};
 ghost use Rattle.std.specs.List.Sorted.{IsNonDecreasingBy, IsPermutation};
-ghost use Rattle.model_audit.specs.Problems.{contentions};
+ghost use Rattle.model_findings.specs.Problems.{contentions};
 ghost use Rattle.findings.specs.Spans.{bus_key, group_of, key_of, window_span, agent_spans, spans_from, EndsBefore, crowds, AreApartBut, is_crowded};
 
 use crate::agent::Agent;

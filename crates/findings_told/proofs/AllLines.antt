@@ -2,8 +2,8 @@
 use Rattle.std.proofs.Common.{◌≡◌, ◌++◌, ◌+◌, List, [], ◌∷◌, ℕ, map, length, ap, ap₂, sym, ◌∙◌, append-nil}
 use Rattle.std.proofs.lemmas.List.{length-map}
 use Rattle.model_guests.specs.Text.{Text, text_of_lines}
-use Rattle.model_audit.specs.AuditText.{problem_text, audit_line}
-use Rattle.model_ready.specs.ReadyText.{lack_text, lack_total, ready_line, ready_text}
+use Rattle.model_findings.specs.AuditText.{problem_text, audit_line}
+use Rattle.model_findings.specs.ReadyText.{lack_text, lack_total, ready_line, ready_text}
 use Rattle.report.specs.Found.{ended}
 use Rattle.model_guests.proofs.WrittenLines.{text_of_lines-append}
 use Rattle.findings.specs.Findings.{problem_of}

@@ -2,7 +2,7 @@
 use Rattle.std.proofs.Common.{◌≡◌, ◌++◌, List, ℕ, map, length, ap, ◌∙◌, append_assoc, append-nil, arith}
 use Rattle.std.proofs.lemmas.List.{length-map}
 use Rattle.model_guests.specs.Text.{Text}
-use Rattle.model_audit.specs.AuditText.{audit_line, total_text, audit_text}
+use Rattle.model_findings.specs.AuditText.{audit_line, total_text, audit_text}
 use Rattle.report.specs.Found.{ended}
 use Rattle.model_guests.proofs.WrittenLines.{text_of_lines-append}
 use Rattle.findings.specs.Findings.{problem_of}

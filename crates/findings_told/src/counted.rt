@@ -1,9 +1,9 @@
 //! The text of what is found, with its count.
 ghost use Rattle.std.specs.Prelude.{◌≡◌, ◌+◌, length, map, IfOk, string_bytes};
-ghost use Rattle.model_audit.specs.AuditText.{audit_text, audit};
-ghost use Rattle.model_audit.specs.Problems.{problems};
-ghost use Rattle.model_ready.specs.Lacks.{lack_count};
-ghost use Rattle.model_ready.specs.ReadyText.{ready_text, ready_report};
+ghost use Rattle.model_findings.specs.AuditText.{audit_text, audit};
+ghost use Rattle.model_findings.specs.Problems.{problems};
+ghost use Rattle.model_findings.specs.Lacks.{lack_count};
+ghost use Rattle.model_findings.specs.ReadyText.{ready_text, ready_report};
 ghost use Rattle.findings.specs.Findings.{problem_of, lack_of};
 
 use crate::lack_lines::{push_lack_count, push_lacks};

@@ -1,8 +1,8 @@
 //! The lines of lacks, and the line that counts them and problems.
 ghost use Rattle.std.specs.Prelude.{OnOk};
 ghost use Rattle.lists.specs.Texts.{Adds};
-ghost use Rattle.model_ready.specs.Lacks.{outside_apertures};
-ghost use Rattle.model_ready.specs.ReadyText.{lack_text, lack_total, ready_line};
+ghost use Rattle.model_findings.specs.Lacks.{outside_apertures};
+ghost use Rattle.model_findings.specs.ReadyText.{lack_text, lack_total, ready_line};
 ghost use Rattle.findings.specs.Findings.{lack_of};
 ghost use Rattle.findings_told.specs.Lines.{lack_lines};
 ghost use Rattle.report.specs.Found.{ended};

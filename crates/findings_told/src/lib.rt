@@ -1,17 +1,29 @@
-//! Layer: findings. Below: findings, report. Above: why_text.
+//! Layer: findings. Below: findings, report. Above: guest_why, session.
 //!
 //! The texts of an audit and of what a board lacks that is to be driven: a line for each problem of its registers as they
 //! stand and for each lack, and a last line that counts them.
+//!
+//! And those of why an address, an I/O port or a configuration number finds what it finds on a board: a line for who answers,
+//! and one for each cause.
 #![tactic(auto)]
 
 mod counted;
 mod lack_lines;
 mod places;
 mod problem_lines;
+mod why_address_lines;
+mod why_number_lines;
+mod why_parts;
+mod why_port_lines;
+mod why_region_lines;
+mod why_texts;
 
 pub use counted::{CountedText, audit_text, ready_text};
-pub use findings::{Lack, Problem};
+pub use findings::{Bdf, Lack, Problem, Space};
 pub use headers::Apertures;
 pub use host_bridge::Host;
 pub use places::{push_address, push_bus, push_number, push_reached, push_region, push_space};
 pub use problem_lines::push_problem;
+pub use why_parts::push_command;
+pub use why_port_lines::push_use;
+pub use why_texts::{why_number_text, why_port_text, why_text};

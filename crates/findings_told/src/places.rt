@@ -6,7 +6,7 @@ ghost use Rattle.bars.specs.Kinds.{named_space};
 ghost use Rattle.paths.specs.BusAddresses.{bus_address_of};
 ghost use Rattle.model_guests.specs.PathTexts.{hexadecimal, path_text};
 ghost use Rattle.model_guests.specs.Replies.{hex_digits};
-ghost use Rattle.model_audit.specs.AuditText.{region_text, space_text, number_text};
+ghost use Rattle.model_findings.specs.AuditText.{region_text, space_text, number_text};
 
 use bars::Space;
 use findings::RegionNow;

@@ -1,7 +1,7 @@
 //! The lines of problems, and the line that counts them.
 ghost use Rattle.std.specs.Prelude.{OnOk};
 ghost use Rattle.lists.specs.Texts.{Adds};
-ghost use Rattle.model_audit.specs.AuditText.{agent_text, problem_text, total_text, audit_line};
+ghost use Rattle.model_findings.specs.AuditText.{agent_text, problem_text, total_text, audit_line};
 ghost use Rattle.findings.specs.Findings.{problem_of};
 ghost use Rattle.findings_told.specs.Lines.{problem_lines};
 ghost use Rattle.report.specs.Found.{ended};

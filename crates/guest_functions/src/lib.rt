@@ -1,4 +1,4 @@
-//! Layer: guests. Below: paths, headers. Above: function_images.
+//! Layer: guests. Below: paths, headers. Above: images.
 //!
 //! A function as a guest sees it: the registers of which the guest has its own copies.
 #![tactic(auto)]

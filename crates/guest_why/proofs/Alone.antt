@@ -3,7 +3,7 @@ use Rattle.std.proofs.Common.{List, sym, ap, ap₂, ◌∙◌}
 use Rattle.model_guests.specs.Lone.{LoneGuest}
 use Rattle.model_images.specs.Requests.{OwnInput, after_all_own}
 use Rattle.model_images.proofs.Requests.{isolated_by_requests}
-use Rattle.model_why.specs.WhyGuests.{guest_why_text}
+use Rattle.model_lines.specs.WhyGuests.{guest_why_text}
 use Rattle.guest_why.specs.Alone.{EqualGuests, EqualAlong}
 
 pub equal_guests : EqualGuests

@@ -10,7 +10,7 @@ use Rattle.model_registers.specs.Declarations.{Region}
 use Rattle.model_registers.specs.OwnCopies.{OwnCopies}
 use Rattle.model_registers.specs.Decoding.{Space, Function, opens_space, is_open, command_word, base_address}
 use Rattle.model_guests.specs.Slots.{Slots, slot_at}
-use Rattle.model_why.specs.WhyGuests.{closed_region, region_holds, closed_from, ClosedRegion}
+use Rattle.model_lines.specs.WhyGuests.{closed_region, region_holds, closed_from, ClosedRegion}
 use Rattle.bars.specs.declared.region.BasedRegion.{BasedRegion}
 use Rattle.bars.specs.Slots.{placed}
 use Rattle.bars.specs.Hits.{offset_in}

@@ -3,12 +3,12 @@ use Rattle.std.proofs.Common.{◌≡◌, ◌++◌, ℕ, List, [], ◌∷◌, map
 use Rattle.std.specs.Prelude.{Result, Ok, Err, OnOk, is_ok, if◌then◌else◌}
 use Rattle.std.proofs.lemmas.List.{map-append}
 use Rattle.model_guests.specs.Text.{Text, text_of_lines}
-use Rattle.model_why.specs.WhyText.{why_line}
-use Rattle.model_why.specs.WhyPorts.{PortUse, holds_latch, shows_data, hides_data, like_others, use_lines}
+use Rattle.model_lines.specs.WhyText.{why_line}
+use Rattle.model_lines.specs.WhyPorts.{PortUse, holds_latch, shows_data, hides_data, like_others, use_lines}
 use Rattle.report.specs.Found.{ended}
 use Rattle.model_guests.proofs.WrittenLines.{text_of_lines-append}
 use Rattle.findings_told.proofs.Chains.{onto}
-use Rattle.why_text.specs.Lines.{use_line}
+use Rattle.findings_told.specs.WhyLines.{use_line}
 
 -- a line for what the latch makes of a port, or none
 pub use_alone : (latch n : ℕ) (u : PortUse) → use_line latch n u ≡ text_of_lines (map why_line (use_lines latch n u))

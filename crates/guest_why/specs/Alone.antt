@@ -8,7 +8,7 @@ use Rattle.model_guests.specs.Text.{Text}
 use Rattle.model_guests.specs.Guests.{guest_named, lone_of}
 use Rattle.model_guests.specs.WorldNow.{WorldNow}
 use Rattle.model_images.specs.Requests.{Request, after_requests, request_inputs}
-use Rattle.model_why.specs.WhyGuests.{guest_why_text}
+use Rattle.model_lines.specs.WhyGuests.{guest_why_text}
 use Rattle.guest_why.specs.Findings.{lone_asked}
 
 -- the guests at two indices of two worlds

@@ -17,7 +17,7 @@ use Rattle.model_guests.specs.Slots.{fault_of}
 use Rattle.model_guests.specs.Lone.{LoneGuest, Destination, own_latch, no_function, at_target}
 use Rattle.model_guests.specs.Guests.{lone_of}
 use Rattle.model_guests.specs.WorldNow.{WorldNow}
-use Rattle.model_why.specs.WhyGuests as model
+use Rattle.model_lines.specs.WhyGuests as model
 use Rattle.paths.specs.BusAddresses.{bus_address_of}
 use Rattle.accesses.specs.Refusals.{number_of}
 use Rattle.monitor.specs.ByIndex.{name_nth}

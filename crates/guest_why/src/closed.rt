@@ -1,7 +1,7 @@
 //! Regions of a guest's functions that hold an address and that Command doesn't open (PCI Local Bus 3.0, chapter 6.2.5).
 ghost use Rattle.std.specs.Prelude.{◌≡◌, ◌++◌, ◌<◌, map, length, IfOk, OnOk};
 ghost use Rattle.model_guests.specs.Slots.{slot_at};
-ghost use Rattle.model_why.specs.WhyGuests.{closed_from};
+ghost use Rattle.model_lines.specs.WhyGuests.{closed_from};
 ghost use Rattle.bars.specs.Kinds.{named_space};
 ghost use Rattle.bars.specs.Slots.{placed, bases_from};
 ghost use Rattle.guest_why.specs.Findings.{lone_asked, base_holds, closed_at, closed_in, closed_told};

@@ -2,7 +2,7 @@
 ghost use Rattle.std.specs.Prelude.{◌≡◌, ◌<◌, None, length, IfOk, IfErr};
 ghost use Rattle.model_guests.specs.Accesses.{port};
 ghost use Rattle.model_guests.specs.Lone.{destination};
-ghost use Rattle.model_why.specs.WhyGuests.{guest_finding, nobody, closed_from};
+ghost use Rattle.model_lines.specs.WhyGuests.{guest_finding, nobody, closed_from};
 ghost use Rattle.bars.specs.Kinds.{named_space};
 ghost use Rattle.accesses.specs.Accesses.{target_of};
 ghost use Rattle.guest_why.specs.Findings.{lone_asked, fault_at, lost_by, finding_told, fault_number, IsWhyFault};

@@ -1,4 +1,4 @@
-//! Layer: findings. Below: monitor, why_text. Above: pciguest_c.
+//! Layer: findings. Below: monitor, findings_told. Above: pciguest_c.
 //!
 //! Why an access of a guest finds what it finds, or nobody, and the text of that: told of the guest's own functions and
 //! address latch alone.

@@ -1,8 +1,8 @@
 //! Lines of what an access of a guest finds.
 ghost use Rattle.std.specs.Prelude.{OnOk};
 ghost use Rattle.lists.specs.Texts.{Adds};
-ghost use Rattle.model_why.specs.WhyText.{why_line};
-ghost use Rattle.model_why.specs.WhyGuests.{answers, no_slot, target_text, finding_text};
+ghost use Rattle.model_lines.specs.WhyText.{why_line};
+ghost use Rattle.model_lines.specs.WhyGuests.{answers, no_slot, target_text, finding_text};
 ghost use Rattle.paths.specs.BusAddresses.{bus_address_of};
 ghost use Rattle.accesses.specs.Accesses.{target_of};
 ghost use Rattle.report.specs.Found.{ended};
@@ -13,11 +13,10 @@ ghost use Rattle.guest_why.specs.Lines.{head_text, place_line, closed_line, told
 use crate::closed::ClosedInSlot;
 use crate::finding::Finding;
 use accesses::{At, Place};
-use findings_told::push_number;
+use findings_told::{push_command, push_number};
 use monitor::Hit;
 use paths::Bdf;
 use std::alloc::AllocError;
-use why_text::push_command;
 
 /// Appends a place that is asked about.
 fn push_target(text: &mut String, at: At) -> Result<(), AllocError>

@@ -2,8 +2,8 @@
 ghost use Rattle.std.specs.Prelude.{◌≡◌, ◌<◌, None, length, map, IfOk, IfErr, OnOk, string_bytes};
 ghost use Rattle.lists.specs.Texts.{Adds};
 ghost use Rattle.model_guests.specs.Text.{text_of_lines};
-ghost use Rattle.model_why.specs.WhyText.{why_line};
-ghost use Rattle.model_why.specs.WhyGuests.{target_lines, guest_why_text};
+ghost use Rattle.model_lines.specs.WhyText.{why_line};
+ghost use Rattle.model_lines.specs.WhyGuests.{target_lines, guest_why_text};
 ghost use Rattle.accesses.specs.Accesses.{target_of};
 ghost use Rattle.guest_why.specs.Findings.{lone_asked, fault_at, finding_told, IsWhyFault};
 ghost use Rattle.guest_why.specs.Lines.{text_told};
@@ -11,11 +11,11 @@ ghost use Rattle.guest_why.specs.Lines.{text_told};
 use crate::finding::{Finding, WhyFault, find};
 use crate::parts::{push_closed_of, push_head};
 use accesses::At;
-use board_why::port_use;
+use findings::port_use;
+use findings_told::push_use;
 use monitor::Monitor;
 use paths::Latch;
 use std::alloc::{AllocError, Global};
-use why_text::push_use;
 
 /// Appends the line of what a guest's address latch makes of a place, if that is a port and it makes something of it.
 fn push_use_at(text: &mut String, latch: Latch, at: At) -> Result<(), AllocError>

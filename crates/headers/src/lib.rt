@@ -1,4 +1,4 @@
-//! Layer: board. Below: config_bytes, bars. Above: bridge_forward, guest_functions, accesses, image_bytes.
+//! Layer: board. Below: config_bytes, bars. Above: bridge_forward, guest_functions, accesses.
 //!
 //! The headers of PCI functions: what a board declares of endpoints and bridges, their registers at
 //! reset, and what the registers say (PCI Local Bus 3.0, chapter 6; PCI-to-PCI Bridge Architecture

@@ -1,4 +1,4 @@
-//! Layer: board. Below: bridge_forward. Above: function_identity, bus_scan, findings, board_declared, board_images, board_file.
+//! Layer: board. Below: bridge_forward. Above: bus_scan, findings, images, board_file.
 //!
 //! The host bridge: configuration accesses by way of the address latch, I/O ports and memory (PCI
 //! Local Bus 3.0, chapter 3.2.2.3.2).

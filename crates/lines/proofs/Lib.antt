@@ -11,3 +11,11 @@ pub mod Tables
 pub mod WhyForms
 pub mod WriteCounts
 pub mod WriteForms
+pub mod Buffers
+pub mod Endings
+pub mod EndsInPieces
+pub mod LongLines
+pub mod Reaching
+pub mod Results
+pub mod Parts
+mod Watched

@@ -3,3 +3,7 @@ pub mod Forms
 pub mod Lines
 pub mod FirmwareLines
 pub mod WhyLines
+pub mod Faults
+pub mod Pieces
+pub mod Runs
+pub mod Refusals

@@ -1,21 +1,31 @@
-//! Layer: lines. Below: model_lines, accesses. Above: line_runs.
+//! Layer: lines. Below: model_lines, accesses, streams. Above: script.
 //!
 //! Lines of scripts and of firmware: what they mean, and the lines that answer them.
+//!
+//! And runs of lines over anything that answers them, piece by piece as they are read, and whether they refused one.
 #![tactic(auto)]
 
+mod answers;
 mod cursor;
 mod firmware_line;
 mod forms;
 mod host_line;
 mod line;
 mod numbers;
+mod pending;
+mod pieces;
 mod replies;
+mod runs;
+mod watching;
 mod why_line;
 mod words;
 
+pub use answers::{Answer, Answers};
 pub use firmware_line::{FirmwareWhat, firmware_meaning};
 pub use host_line::host_word;
 pub use line::{LONGEST_LINE, Line, What, Who, line_meaning, parse_line};
 pub use replies::{LONGEST_REPLY, LineText, line_text, push_line, push_named};
+pub use runs::{RunFault, run};
+pub use watching::run_watched;
 pub use why_line::{WhyAsked, why_form};
 pub use words::line_feed_in;

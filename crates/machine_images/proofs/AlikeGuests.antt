@@ -5,12 +5,12 @@ use Rattle.model_registers.specs.Decoding.{Function}
 use Rattle.model_guests.specs.Slots.{Slots}
 use Rattle.model_guests.specs.Lone.{LoneGuest}
 use Rattle.model_images.specs.Images.{SavedFunction, Image, Fits, FitsSlot, FitSlots}
-use Rattle.model_image_bytes.specs.ImageBytes.{declaration_bytes}
-use Rattle.model_image_bytes.specs.LoadedBytes.{Left, then_read, after_bytes, after_values, after_slot, after_slots, load_fault}
-use Rattle.model_image_bytes.specs.LoadedLaws.{IsFittingImage}
-use Rattle.model_image_bytes.specs.TakenBytes.{taken_image}
-use Rattle.model_image_bytes.proofs.ImageBytes.{read_are_bytes}
-use Rattle.model_image_bytes.proofs.TakenBytes.{taken_again}
+use Rattle.model_images.specs.ImageBytes.{declaration_bytes}
+use Rattle.model_images.specs.LoadedBytes.{Left, then_read, after_bytes, after_values, after_slot, after_slots, load_fault}
+use Rattle.model_images.specs.LoadedLaws.{IsFittingImage}
+use Rattle.model_images.specs.TakenBytes.{taken_image}
+use Rattle.model_images.proofs.ImageBytes.{read_are_bytes}
+use Rattle.model_images.proofs.TakenBytes.{taken_again}
 
 -- ---- guests of equal declarations
 

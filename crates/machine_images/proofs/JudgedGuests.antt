@@ -15,13 +15,13 @@ use Rattle.model_guests.specs.Lone.{LoneGuest}
 use Rattle.model_guests.specs.WorldNow.{WorldNow, names_now}
 use Rattle.model_handoff.proofs.Keeping.{keeps_board}
 use Rattle.model_images.specs.MachineImages.{SavedGuest}
-use Rattle.model_image_bytes.specs.Layouts.{Parsed, parsed}
-use Rattle.model_image_bytes.specs.LoadedBytes.{Left, after_bytes, after_image_front, load_fault}
-use Rattle.model_image_bytes.specs.MachineBytes.{name_layout}
-use Rattle.model_image_bytes.specs.TakenBytes.{taken_image}
-use Rattle.model_image_bytes.specs.LoadedMachines.{Read, and_then, with_path, with_paths, read_slot, read_slots, guest_at, read_image, read_guest, read_guests}
-use Rattle.model_image_bytes.proofs.FrontBytes.{run_there}
-use Rattle.model_image_bytes.proofs.TakenBytes.{front_fits}
+use Rattle.model_images.specs.Layouts.{Parsed, parsed}
+use Rattle.model_images.specs.LoadedBytes.{Left, after_bytes, after_image_front, load_fault}
+use Rattle.model_images.specs.MachineBytes.{name_layout}
+use Rattle.model_images.specs.TakenBytes.{taken_image}
+use Rattle.model_images.specs.LoadedMachines.{Read, and_then, with_path, with_paths, read_slot, read_slots, guest_at, read_image, read_guest, read_guests}
+use Rattle.model_images.proofs.FrontBytes.{run_there}
+use Rattle.model_images.proofs.TakenBytes.{front_fits}
 use Rattle.machine_images.specs.Judging.{AreRuns, AreSlotsRead, IsGuestRead, IsRunOf, functions_now, guest_seated, path_seated, paths_seated, taken_by}
 use Rattle.machine_images.proofs.JudgedReads.{behind, read_ends, reads_on, taken_both}
 

@@ -22,15 +22,15 @@ use Rattle.model_handoff.proofs.Views.{reset_shown}
 use Rattle.model_images.specs.Images.{values_of}
 use Rattle.model_images.specs.MachineImages.{SavedGuest, restored_guest}
 use Rattle.model_images.specs.MachineLaws.{IsSavableWorld}
-use Rattle.model_image_bytes.specs.ByteLaws.{AreBytes}
-use Rattle.model_image_bytes.specs.Layouts.{bytes_each, le_bytes}
-use Rattle.model_image_bytes.specs.MachineBytes.{board_layout, cells_layout, name_layout, row_layout}
-use Rattle.model_image_bytes.specs.LoadedMachines.{known_bytes, held_bytes, under_guests}
-use Rattle.board_images.specs.BoardBytes.{bytes_nth, held_file, row_bytes}
-use Rattle.board_images.specs.HeldLaws.{held_function}
-use Rattle.board_images.proofs.SeatedFunctions.{held_as_seated}
-use Rattle.board_images.specs.BoardBytes as own
-use Rattle.board_images.proofs.Indexed.{drop_next}
+use Rattle.model_images.specs.ByteLaws.{AreBytes}
+use Rattle.model_images.specs.Layouts.{bytes_each, le_bytes}
+use Rattle.model_images.specs.MachineBytes.{board_layout, cells_layout, name_layout, row_layout}
+use Rattle.model_images.specs.LoadedMachines.{known_bytes, held_bytes, under_guests}
+use Rattle.images.specs.BoardBytes.{bytes_nth, held_file, row_bytes}
+use Rattle.images.specs.HeldLaws.{held_function}
+use Rattle.images.proofs.SeatedFunctions.{held_as_seated}
+use Rattle.images.specs.BoardBytes as own
+use Rattle.images.proofs.IndexedBytes.{drop_next}
 use Rattle.monitor.specs.Views.{texts}
 use Rattle.machine_images.specs.Judging.{functions_now, has_seat, held_under, paths_seated}
 use Rattle.machine_images.proofs.JudgedReads.{restored_sit}

@@ -7,11 +7,11 @@ use Rattle.model_board.specs.State.{State}
 use Rattle.model_guests.specs.WorldNow.{WorldNow, names_now}
 use Rattle.model_images.specs.MachineImages.{SavedGuest, MachineImage, saved_handoff}
 use Rattle.model_images.specs.MachineLaws.{IsSavableWorld}
-use Rattle.model_image_bytes.specs.Layouts.{le_bytes, parsed}
-use Rattle.model_image_bytes.specs.LoadedBytes.{Left, after_bytes, at_end, then_read}
-use Rattle.model_image_bytes.specs.LoadedMachines.{Read, and_then, held_bytes, known_bytes, load_all_fault, machine_header, read_guests, read_held, read_machine, under_guests, with_paths}
-use Rattle.model_image_bytes.proofs.ReadMachines.{AreGoodGuests, guests_good}
-use Rattle.model_image_bytes.proofs.TakenMachines.{read_fits}
+use Rattle.model_images.specs.Layouts.{le_bytes, parsed}
+use Rattle.model_images.specs.LoadedBytes.{Left, after_bytes, at_end, then_read}
+use Rattle.model_images.specs.LoadedMachines.{Read, and_then, held_bytes, known_bytes, load_all_fault, machine_header, read_guests, read_held, read_machine, under_guests, with_paths}
+use Rattle.model_images.proofs.ReadMachines.{AreGoodGuests, guests_good}
+use Rattle.model_images.proofs.TakenMachines.{read_fits}
 use Rattle.machine_images.specs.Judging.{AreGuestsRead, IsPlanned, functions_now, held_under, paths_seated}
 use Rattle.machine_images.proofs.JudgedHandoffs.{held_is}
 

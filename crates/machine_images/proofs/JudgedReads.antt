@@ -6,8 +6,8 @@ use Rattle.std.proofs.lemmas.List.Folds.{list_any-append}
 use Rattle.model_board.specs.Paths.{Path, path_eq}
 use Rattle.model_handoff.specs.ViewLaws.{is_at, sits}
 use Rattle.model_images.specs.MachineImages.{SavedGuest, restored_guest}
-use Rattle.model_image_bytes.specs.Layouts.{Parsed, parsed}
-use Rattle.model_image_bytes.specs.LoadedMachines.{Read, and_then, preceded, with_path, with_paths}
+use Rattle.model_images.specs.Layouts.{Parsed, parsed}
+use Rattle.model_images.specs.LoadedMachines.{Read, and_then, preceded, with_path, with_paths}
 
 -- what is read, behind what was read before
 abbrev pub behind : {A : Type 0} → List A → Read (List A) → Read (List A)

@@ -17,7 +17,7 @@ use Rattle.model_board.specs.State.{BoardFunction, State}
 use Rattle.model_board.proofs.PathEnds.{path_self, path_eq-sym}
 use Rattle.model_board.proofs.PathOrder.{path_same}
 use Rattle.model_board.proofs.PlacesLaw.{before_apart}
-use Rattle.model_audit.specs.Orderly.{IsStateOfBoard}
+use Rattle.model_findings.specs.Orderly.{IsStateOfBoard}
 use Rattle.model_guests.specs.Slots.{Slots, reset_function}
 use Rattle.model_guests.specs.World.{declared, endpoint_of}
 use Rattle.model_guests.specs.Lone.{LoneGuest}
@@ -26,14 +26,14 @@ use Rattle.model_handoff.specs.Handoffs.{IsHandoff}
 use Rattle.model_handoff.specs.ViewLaws.{is_at}
 use Rattle.model_handoff.proofs.Functions.{Facts, facts}
 use Rattle.model_handoff.proofs.Keeping.{keeps_board}
-use Rattle.model_image_bytes.specs.LoadedBytes.{Left, after_bytes, after_image_front, after_latch, after_slot, after_slots_front, header, then_read}
-use Rattle.model_image_bytes.specs.Layouts.{Parsed, parsed}
-use Rattle.model_image_bytes.specs.LoadedMachines.{Read, can_have, is_open_there, read_slot}
+use Rattle.model_images.specs.LoadedBytes.{Left, after_bytes, after_image_front, after_latch, after_slot, after_slots_front, header, then_read}
+use Rattle.model_images.specs.Layouts.{Parsed, parsed}
+use Rattle.model_images.specs.LoadedMachines.{Read, can_have, is_open_there, read_slot}
 use Rattle.bridge_forward.specs.Lending.{as_endpoint, endpoint_nth}
-use Rattle.function_images.specs.Shown.{after_filled}
-use Rattle.function_images.proofs.Compared.{filled_is}
+use Rattle.images.specs.Shown.{after_filled}
+use Rattle.images.proofs.ComparedFunctions.{filled_is}
 use Rattle.monitor.proofs.TakenOver.{declared_there}
-use Rattle.board_images.specs.FoundPaths.{IsFoundPath}
+use Rattle.images.specs.FoundPaths.{IsFoundPath}
 use Rattle.machine_images.specs.Judging.{functions_now, guest_seated, is_index, path_seated, paths_seated, slot_seated, taken_by}
 use Rattle.machine_images.proofs.JudgedReads.{is_taken}
 use Rattle.machine_images.proofs.JudgedSlots.{path_read}

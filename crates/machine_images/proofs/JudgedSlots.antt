@@ -3,10 +3,10 @@ use Rattle.std.proofs.Common.{◌≡◌, ℕ, cond, List, ◌∷◌, ◌++◌, S
 use Rattle.std.specs.Prelude.{option_map}
 use Rattle.model_board.specs.Paths.{Path}
 use Rattle.model_board.specs.State.{State}
-use Rattle.model_image_bytes.specs.Layouts.{Parsed, parsed, seen, optional}
-use Rattle.model_image_bytes.specs.MachineBytes.{path_layout}
-use Rattle.model_image_bytes.specs.LoadedMachines.{Read, and_then, or_refused, can_have, if_free, read_slot}
-use Rattle.model_image_bytes.proofs.MachineBytes.{slot_path_is}
+use Rattle.model_images.specs.Layouts.{Parsed, parsed, seen, optional}
+use Rattle.model_images.specs.MachineBytes.{path_layout}
+use Rattle.model_images.specs.LoadedMachines.{Read, and_then, or_refused, can_have, if_free, read_slot}
+use Rattle.model_images.proofs.MachineBytes.{slot_path_is}
 
 abbrev parse : List ℕ → Option (Parsed (Option Path))
 parse bytes = (optional path_layout).parse bytes

@@ -21,11 +21,11 @@ use Rattle.model_images.specs.RequestLaws.{after_request_on_machine, after_all_r
 use Rattle.model_images.specs.FitLaws.{AreFittingRequests}
 use Rattle.model_images.specs.MachineImages.{SavedGuest}
 use Rattle.model_images.specs.MachineLaws.{gift, gifts, load_of, takings}
-use Rattle.model_image_bytes.specs.LoadedBytes.{load_fault}
-use Rattle.model_image_bytes.specs.LoadedMachines.{guest_at}
-use Rattle.model_image_bytes.specs.LoadedLaws.{IsFittingImage}
-use Rattle.image_bytes.specs.Faults.{number_of}
-use Rattle.image_bytes.specs.declared.fault.ImageFault.{ImageFault}
+use Rattle.model_images.specs.LoadedBytes.{load_fault}
+use Rattle.model_images.specs.LoadedMachines.{guest_at}
+use Rattle.model_images.specs.LoadedLaws.{IsFittingImage}
+use Rattle.images.specs.Faults.{number_of}
+use Rattle.images.specs.declared.fault.ImageFault.{ImageFault}
 use Rattle.monitor.specs.ByIndex.{name_nth}
 use Rattle.monitor.specs.Loads.{IsLoaded}
 use Rattle.machine_images.specs.Judging.{IsRunOf, AreRuns, functions_now, path_seated, paths_seated}

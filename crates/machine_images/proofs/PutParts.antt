@@ -11,9 +11,9 @@ use Rattle.std.specs.Prelude.{flat_map, slice_get, unwrap_or}
 use Rattle.std.specs.Option.{option_map_or}
 use Rattle.std.proofs.lemmas.List.{append-nil, drop_all}
 use Rattle.lists.proofs.Indices.{at_below}
-use Rattle.image_bytes.specs.Puts.{put}
-use Rattle.image_bytes.proofs.Puts.{next, put_none}
-use Rattle.board_images.proofs.Indexed.{drop_next}
+use Rattle.images.specs.Puts.{put}
+use Rattle.images.proofs.Puts.{next, put_none}
+use Rattle.images.proofs.IndexedBytes.{drop_next}
 use Rattle.machine_images.specs.SavedParts.{IsPut, capped, part_nth}
 
 pub record IsLeft (whole rest : List ℕ) (at n : ℕ) (before now : List ℕ) : Type 0 where

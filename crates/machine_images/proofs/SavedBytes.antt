@@ -19,10 +19,10 @@ use Rattle.model_handoff.proofs.Regions.{state_stays}
 use Rattle.model_handoff.proofs.Views.{reset_shown}
 use Rattle.model_images.specs.Images.{values_of}
 use Rattle.model_images.specs.MachineImages.{image_of_machine, saved_guest, saved_handoff, shown_handoff, values_in}
-use Rattle.model_image_bytes.specs.LoadedMachines.{machine_header}
-use Rattle.model_image_bytes.specs.Layouts.{bytes_each, le_bytes}
-use Rattle.model_image_bytes.specs.MachineBytes.{cells_layout, guest_layout, machine_bytes, row_layout}
-use Rattle.board_images.specs.BoardBytes.{held_cells, row_bytes}
+use Rattle.model_images.specs.LoadedMachines.{machine_header}
+use Rattle.model_images.specs.Layouts.{bytes_each, le_bytes}
+use Rattle.model_images.specs.MachineBytes.{cells_layout, guest_layout, machine_bytes, row_layout}
+use Rattle.images.specs.BoardBytes.{held_cells, row_bytes}
 use Rattle.machine_images.specs.SavedParts.{board_bytes, guest_bytes, guests_bytes, held_now, name_bytes, own_bytes, saved_bytes, seat_bytes}
 
 -- ---- what stands where

@@ -24,12 +24,12 @@ use Rattle.model_guests.proofs.Along.{by_index}
 use Rattle.model_handoff.specs.ViewLaws.{sits}
 use Rattle.model_handoff.specs.Kept.{IsLawfulOver}
 use Rattle.model_images.specs.Images.{image_of_guest, image_of_lone}
-use Rattle.model_image_bytes.specs.ImageBytes.{image_bytes}
-use Rattle.model_image_bytes.specs.Layouts.{le_bytes}
-use Rattle.image_bytes.specs.Puts.{put}
-use Rattle.board_images.specs.BoardBytes.{bytes_nth, held_cells, path_bytes}
-use Rattle.board_images.proofs.FoundParts.{AreBytes, are_bytes}
-use Rattle.board_images.proofs.Rows.{path_length}
+use Rattle.model_images.specs.ImageBytes.{image_bytes}
+use Rattle.model_images.specs.Layouts.{le_bytes}
+use Rattle.images.specs.Puts.{put}
+use Rattle.images.specs.BoardBytes.{bytes_nth, held_cells, path_bytes}
+use Rattle.images.proofs.FoundParts.{AreBytes, are_bytes}
+use Rattle.images.proofs.RowBytes.{path_length}
 use Rattle.monitor.specs.ByIndex.{guest_nth, name_nth}
 use Rattle.machine_images.specs.SavedParts.{IsPut, guest_bytes, held_now, name_bytes, own_bytes, part_nth, seat_bytes}
 use Rattle.machine_images.proofs.PutParts.{nth_is}

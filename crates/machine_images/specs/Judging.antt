@@ -29,11 +29,11 @@ use Rattle.model_handoff.specs.Kept.{IsLawfulOver}
 use Rattle.model_handoff.specs.ViewLaws.{is_at, sits}
 use Rattle.model_images.specs.Images.{Fits}
 use Rattle.model_images.specs.MachineImages.{SavedGuest, MachineImage, FitsMachine}
-use Rattle.model_image_bytes.specs.Layouts.{parsed}
-use Rattle.model_image_bytes.specs.LoadedBytes.{load_fault}
-use Rattle.model_image_bytes.specs.TakenBytes.{taken_image}
-use Rattle.model_image_bytes.specs.LoadedMachines.{with_paths, read_slots, guest_at, read_guest, read_guests, read_machine}
-use Rattle.board_images.specs.BoardBytes.{held_cells}
+use Rattle.model_images.specs.Layouts.{parsed}
+use Rattle.model_images.specs.LoadedBytes.{load_fault}
+use Rattle.model_images.specs.TakenBytes.{taken_image}
+use Rattle.model_images.specs.LoadedMachines.{with_paths, read_slots, guest_at, read_guest, read_guests, read_machine}
+use Rattle.images.specs.BoardBytes.{held_cells}
 
 abbrev pub functions_now : WorldNow → List BoardFunction
 functions_now w = (board_state w).functions

@@ -16,12 +16,12 @@ use Rattle.model_guests.specs.Text.{Text}
 use Rattle.model_guests.specs.Guests.{GuestNow, GuestsNow}
 use Rattle.model_handoff.specs.ViewLaws.{sits}
 use Rattle.model_images.specs.Images.{image_of_lone}
-use Rattle.model_image_bytes.specs.Layouts.{le_bytes, optional}
-use Rattle.model_image_bytes.specs.ImageBytes.{image_bytes}
-use Rattle.model_image_bytes.specs.LoadedMachines.{machine_header}
-use Rattle.model_image_bytes.specs.MachineBytes.{name_layout, path_layout}
-use Rattle.image_bytes.specs.Puts.{put}
-use Rattle.board_images.specs.BoardBytes.{held_cells, row_bytes}
+use Rattle.model_images.specs.Layouts.{le_bytes, optional}
+use Rattle.model_images.specs.ImageBytes.{image_bytes}
+use Rattle.model_images.specs.LoadedMachines.{machine_header}
+use Rattle.model_images.specs.MachineBytes.{name_layout, path_layout}
+use Rattle.images.specs.Puts.{put}
+use Rattle.images.specs.BoardBytes.{held_cells, row_bytes}
 
 abbrev pub board_bytes : List BoardFunction → List ℕ
 board_bytes fs = le_bytes 4 (length fs) ++ flat_map row_bytes fs

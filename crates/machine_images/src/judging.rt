@@ -3,22 +3,21 @@
 ghost use Rattle.std.specs.Prelude.{◌≡◌, ◌≤◌, ◌+◌, ◌++◌, [], Some, Ok, Err, IfErr, IfOk, length, map, option_map, slice_get, take};
 ghost use Rattle.model_board.specs.AtReset.{board_at};
 ghost use Rattle.model_board.specs.State.{BoardFunction};
-ghost use Rattle.model_audit.specs.Orderly.{IsStateOfBoard};
+ghost use Rattle.model_findings.specs.Orderly.{IsStateOfBoard};
 ghost use Rattle.model_guests.specs.WorldNow.{names_now};
-ghost use Rattle.model_image_bytes.specs.Layouts.{le_bytes};
-ghost use Rattle.model_image_bytes.specs.LoadedBytes.{after_bytes, at_end, then_read};
-ghost use Rattle.model_image_bytes.specs.LoadedMachines.{load_all_fault, machine_header, read_guest, read_guests};
-ghost use Rattle.model_image_bytes.specs.MachineBytes.{board_layout, name_layout};
-ghost use Rattle.image_bytes.specs.Faults as image;
-ghost use Rattle.board_images.specs.Faults.{number_of};
+ghost use Rattle.model_images.specs.Layouts.{le_bytes};
+ghost use Rattle.model_images.specs.LoadedBytes.{after_bytes, at_end, then_read};
+ghost use Rattle.model_images.specs.LoadedMachines.{load_all_fault, machine_header, read_guest, read_guests};
+ghost use Rattle.model_images.specs.MachineBytes.{board_layout, name_layout};
+ghost use Rattle.images.specs.Faults as image;
+ghost use Rattle.images.specs.MachineFaults.{number_of};
 ghost use Rattle.machine_images.specs.Judging.{AreGuestsRead, IsGuestRead, IsPlanned, functions_now, has_seat, held_under, taken_by};
 
 use crate::heading::{four, header, two};
 use crate::seats::{Seats, after_image, is_taken, read_slots};
 use arrayvec::{ArrayString, ArrayVec};
-use board_images::{MachineFault, after_held, after_own, after_row};
 use host_bridge::Host;
-use image_bytes::ImageFault;
+use images::{ImageFault, MachineFault, after_held, after_own, after_row};
 use monitor::Monitor;
 
 /// For each guest the bytes that hold its image.
@@ -55,7 +54,7 @@ fn after_header(bytes: &[u8]) -> Result<&[u8], MachineFault>
 }
 
 /// The bytes after the board: how many functions it has, and each of them.
-#[tactic(auto, using(board_images::proofs::Steps::ends, board_images::proofs::Steps::goes_on, crate::proofs::JudgedHandoffs::board_is, crate::proofs::JudgedHandoffs::bytes_next))]
+#[tactic(auto, using(images::proofs::Steps::ends, images::proofs::Steps::goes_on, crate::proofs::JudgedHandoffs::board_is, crate::proofs::JudgedHandoffs::bytes_next))]
 fn after_board<'a>(host: &Host, bytes: &'a [u8]) -> Result<&'a [u8], MachineFault>
     ensures left { let own = board_layout.bytes (board_at host.now.state.functions) in
         IfOk result (λ rest. after_bytes 907 own bytes.now ≡ Ok rest.now) }
@@ -72,7 +71,7 @@ fn after_board<'a>(host: &Host, bytes: &'a [u8]) -> Result<&'a [u8], MachineFaul
 
 /// The bytes after what is the same in all images of a machine: the board, and how many guests
 /// there are.
-#[tactic(auto, using(board_images::proofs::Steps::ends, board_images::proofs::Steps::goes_on))]
+#[tactic(auto, using(images::proofs::Steps::ends, images::proofs::Steps::goes_on))]
 fn after_known<'a>(host: &Host, guests: usize, bytes: &'a [u8]) -> Result<&'a [u8], MachineFault>
     ensures left { let own = board_layout.bytes (board_at host.now.state.functions)
         ++ le_bytes 2 guests in
@@ -85,7 +84,7 @@ fn after_known<'a>(host: &Host, guests: usize, bytes: &'a [u8]) -> Result<&'a [u
     after_own(&two(guests), bytes)
 }
 
-#[tactic(auto, using(board_images::proofs::FoundParts::are_bytes, board_images::proofs::Steps::goes_on, crate::proofs::JudgedHandoffs::name_is))]
+#[tactic(auto, using(images::proofs::FoundParts::are_bytes, images::proofs::Steps::goes_on, crate::proofs::JudgedHandoffs::name_is))]
 fn after_name<'a>(name: &[u8], bytes: &'a [u8]) -> Result<&'a [u8], MachineFault>
     ensures left { let own = name_layout.bytes name.now in
         IfOk result (λ rest. after_bytes 907 own bytes.now ≡ Ok rest.now) }
@@ -190,7 +189,7 @@ fn after_held_all<'a>(
 
 /// Refuses bytes that are not what the handoff holds then, with its address latch clear, and nothing
 /// else.
-#[tactic(auto, using(board_images::proofs::Steps::ends, board_images::proofs::Steps::goes_on))]
+#[tactic(auto, using(images::proofs::Steps::ends, images::proofs::Steps::goes_on))]
 fn after_handoff(
     monitor: &Monitor,
     seats: &[Option<usize>],

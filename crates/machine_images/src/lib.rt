@@ -1,4 +1,4 @@
-//! Layer: guests. Below: board_images, monitor. Above: pciguest_c.
+//! Layer: guests. Below: monitor. Above: pciguest_c.
 //!
 //! Images of whole machines: the board, who has which of its functions, and what they hold. They are written into a
 //! buffer, and bytes are compared with a machine where they lie. No call takes memory.
@@ -10,7 +10,7 @@ mod loading;
 mod saving;
 mod seats;
 
-pub use board_images::MachineFault;
+pub use images::MachineFault;
 pub use judging::machine_fault;
 pub use loading::load_machine;
 pub use saving::{machine_size, save_machine};

@@ -5,14 +5,14 @@ ghost use Rattle.model_guests.specs.WorldNow.{names_now};
 ghost use Rattle.model_images.specs.MachineImages.{SavedGuest};
 ghost use Rattle.model_images.specs.MachineLaws.{gift, gifts, load_of, takings};
 ghost use Rattle.model_images.specs.RequestLaws.{after_all_requests};
-ghost use Rattle.model_image_bytes.specs.LoadedMachines.{load_all_fault};
-ghost use Rattle.board_images.specs.Faults.{number_of};
+ghost use Rattle.model_images.specs.LoadedMachines.{load_all_fault};
+ghost use Rattle.images.specs.MachineFaults.{number_of};
 ghost use Rattle.monitor.specs.ByIndex.{name_nth};
 ghost use Rattle.machine_images.specs.Judging.{functions_now, path_seated, paths_seated};
 ghost use Rattle.machine_images.specs.Loading.{GivesSeats, LoadsAll, LoadsRuns};
 
 use crate::judging::judge;
-use board_images::MachineFault;
+use images::MachineFault;
 use monitor::Monitor;
 
 /// Takes all functions of a guest, that in the last slot first.

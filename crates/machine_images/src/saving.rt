@@ -3,16 +3,15 @@ ghost use Rattle.std.specs.Prelude.{◌≡◌, ◌≤◌, ◌<◌, ◌+◌, leng
 ghost use Rattle.model_guests.specs.WorldNow.{board_state};
 ghost use Rattle.model_images.specs.MachineImages.{image_of_machine};
 ghost use Rattle.model_images.specs.MachineLaws.{IsSavableWorld};
-ghost use Rattle.model_image_bytes.specs.MachineBytes.{machine_bytes};
-ghost use Rattle.image_bytes.specs.Puts.{put};
-ghost use Rattle.board_images.specs.BoardBytes.{row_bytes};
+ghost use Rattle.model_images.specs.MachineBytes.{machine_bytes};
+ghost use Rattle.images.specs.Puts.{put};
+ghost use Rattle.images.specs.BoardBytes.{row_bytes};
 ghost use Rattle.monitor.specs.ByIndex.{guest_nth};
 ghost use Rattle.machine_images.specs.SavedParts.{IsPut, board_bytes, capped, guest_bytes, guests_bytes, held_now, name_bytes, own_bytes, part_nth, saved_bytes, seat_bytes};
 
 use crate::heading::{four, header, two};
-use board_images::{held_size, path_bytes, row_size, write_held, write_row};
 use host_bridge::Host;
-use image_bytes::put;
+use images::{held_size, path_bytes, put, row_size, write_held, write_row};
 use monitor::Monitor;
 use paths::Path;
 

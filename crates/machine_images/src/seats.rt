@@ -3,22 +3,22 @@
 ghost use Rattle.std.specs.Prelude.{◌≡◌, ◌≤◌, ◌+◌, ◌∷◌, Ok, Err, Some, IfErr, IfOk, length, map, option_copied, slice_get};
 ghost use Rattle.std.specs.Prelude.{option_and_then};
 ghost use Rattle.std.specs.List.{list_any};
-ghost use Rattle.model_audit.specs.Orderly.{IsStateOfBoard};
+ghost use Rattle.model_findings.specs.Orderly.{IsStateOfBoard};
 ghost use Rattle.model_board.specs.State.{BoardFunction};
-ghost use Rattle.model_image_bytes.specs.Layouts.{parsed};
-ghost use Rattle.model_image_bytes.specs.LoadedBytes.{after_image_front, after_slot, after_slots_front};
-ghost use Rattle.model_image_bytes.specs.LoadedMachines.{can_have, read_slot, read_slots};
+ghost use Rattle.model_images.specs.Layouts.{parsed};
+ghost use Rattle.model_images.specs.LoadedBytes.{after_image_front, after_slot, after_slots_front};
+ghost use Rattle.model_images.specs.LoadedMachines.{can_have, read_slot, read_slots};
 ghost use Rattle.bridge_forward.specs.Lending.{endpoint_nth};
-ghost use Rattle.image_bytes.specs.Faults as image;
-ghost use Rattle.board_images.specs.Faults.{number_of};
+ghost use Rattle.images.specs.Faults as image;
+ghost use Rattle.images.specs.MachineFaults.{number_of};
 ghost use Rattle.machine_images.specs.Judging.{AreSlotsRead, functions_now, guest_seated, is_index, path_seated, slot_seated, taken_by};
 
 use arrayvec::ArrayVec;
-use board_images::{MachineFault, after_path};
 use bridge_forward::EndpointFn;
-use function_images::after_function;
 use host_bridge::Host;
-use image_bytes::{ImageFault, after_header, after_latch, after_tag};
+use images::{
+    ImageFault, MachineFault, after_function, after_header, after_latch, after_path, after_tag,
+};
 use monitor::Monitor;
 
 /// For each slot of 32 guests, in turn, the index that its function has on the board.

@@ -1,4 +1,4 @@
-//! Layer: definitions. Below: model_board. Above: model_audit, accesses.
+//! Layer: definitions. Below: model_board. Above: model_findings, accesses.
 //!
 //! What guests, their scripts and replies are, and what happens to their functions at the devices, as definitions, and
 //! laws about them.

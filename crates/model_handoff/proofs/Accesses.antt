@@ -16,8 +16,8 @@ use Rattle.model_board.specs.Claims.{Claim}
 use Rattle.model_board.specs.Cycles.{ends_in, is_route, reached, reached_type0, reached_type1}
 use Rattle.model_board.specs.Ports.{file_at, claim_reply, after_claim_write, target_reply, after_target_write}
 use Rattle.model_board.specs.State.{BoardFunction, State, with_file}
-use Rattle.model_audit.specs.Found.{address_now, IsNumbered, path_reached}
-use Rattle.model_audit.specs.Orderly.{IsStateOfBoard}
+use Rattle.model_findings.specs.Found.{address_now, IsNumbered, path_reached}
+use Rattle.model_findings.specs.Orderly.{IsStateOfBoard}
 use Rattle.lists.proofs.FirstFound.{found_in}
 use Rattle.model_guests.specs.Guests.{GuestsNow, file_of}
 use Rattle.model_guests.specs.AgreedBoard.{agreed_function, state_over}

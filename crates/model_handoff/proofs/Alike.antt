@@ -14,8 +14,8 @@ use Rattle.model_board.specs.Ports.{file_at}
 use Rattle.model_board.specs.Routing.{RoutingRow, routing}
 use Rattle.model_board.specs.State.{BoardFunction, State}
 use Rattle.model_set_up.specs.PlacedRegions.{PlacedRegion}
-use Rattle.model_audit.specs.OpenRegions.{closed_regions}
-use Rattle.model_audit.specs.Witnesses.{IsInOrder}
+use Rattle.model_findings.specs.OpenRegions.{closed_regions}
+use Rattle.model_findings.specs.Witnesses.{IsInOrder}
 use Rattle.model_guests.specs.World.{World, HasLawfulGuests}
 use Rattle.model_guests.specs.Guests.{GuestsNow, file_of, guests_at_first}
 use Rattle.model_guests.specs.AgreedBoard.{agreed_function, state_over}

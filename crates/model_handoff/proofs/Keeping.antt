@@ -22,9 +22,9 @@ use Rattle.model_board.specs.Routing.{routing}
 use Rattle.model_board.specs.RoutingLaws.{is_routing_register, HasSameRouting}
 use Rattle.model_board.specs.State.{BoardFunction, State, row_at}
 use Rattle.model_board.proofs.Routing.{routing_of_change}
-use Rattle.model_audit.specs.Found.{address_now, path_reached}
-use Rattle.model_audit.specs.Problems.{Problem, not_found, numbering_problems}
-use Rattle.model_audit.proofs.Witnesses.{problems_decide}
+use Rattle.model_findings.specs.Found.{address_now, path_reached}
+use Rattle.model_findings.specs.Problems.{Problem, not_found, numbering_problems}
+use Rattle.model_findings.proofs.Witnesses.{problems_decide}
 use Rattle.model_guests.specs.Guests.{GuestsNow, file_of}
 use Rattle.model_guests.specs.AgreedBoard.{agreed_function, state_over}
 use Rattle.model_guests.specs.Seated.{IsSeatedGuest}

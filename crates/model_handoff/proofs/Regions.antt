@@ -13,9 +13,9 @@ use Rattle.model_board.specs.AtReset.{board_at}
 use Rattle.model_board.specs.Routing.{row_of, routing}
 use Rattle.model_board.specs.State.{BoardFunction, State}
 use Rattle.model_set_up.specs.PlacedRegions.{PlacedRegion}
-use Rattle.model_audit.specs.OpenRegions.{region_now, open_of, open_regions}
-use Rattle.model_audit.specs.Orderly.{IsStateOfBoard}
-use Rattle.model_audit.proofs.Claims.{orderly_claims}
+use Rattle.model_findings.specs.OpenRegions.{region_now, open_of, open_regions}
+use Rattle.model_findings.specs.Orderly.{IsStateOfBoard}
+use Rattle.model_findings.proofs.Claims.{orderly_claims}
 use Rattle.model_guests.specs.Guests.{GuestsNow, path_in}
 use Rattle.model_guests.specs.Seated.{AreSeated, IsSeat, IsSeatedAt}
 use Rattle.model_guests.specs.Text.{Text}

@@ -13,8 +13,8 @@ use Rattle.model_board.specs.State.{State}
 use Rattle.model_board.specs.Routing.{row_of, routing}
 use Rattle.model_board.proofs.PathEnds.{path_self}
 use Rattle.model_set_up.specs.PlacedRegions.{PlacedRegion}
-use Rattle.model_audit.specs.OpenRegions.{region_now, closed_of, closed_regions}
-use Rattle.model_audit.proofs.Witnesses.{problems_decide}
+use Rattle.model_findings.specs.OpenRegions.{region_now, closed_of, closed_regions}
+use Rattle.model_findings.proofs.Witnesses.{problems_decide}
 use Rattle.model_guests.specs.Text.{Text}
 use Rattle.model_guests.specs.World.{Guest, World, given_paths}
 use Rattle.model_guests.specs.Guests.{GuestNow, GuestsNow, guest_at_first, guest_after, handed_over, move_fault, path_in, function_in, with_guest, with_slot_emptied, with_slot_filled}

@@ -26,12 +26,12 @@ use Rattle.model_set_up.proofs.LawfulPlacement.{layout_is_lawful}
 use Rattle.model_set_up.proofs.SetUpNumbers.{set_up_has_numbers}
 use Rattle.model_set_up.proofs.SetUpRegisters.{endpoint_opens}
 use Rattle.model_set_up.proofs.UniqueClaimant.{left}
-use Rattle.model_audit.specs.OpenRegions.{region_now, closed_of, closed_regions}
-use Rattle.model_audit.specs.Orderly.{IsStateOfBoard}
-use Rattle.model_audit.proofs.Found.{numbers_of_board}
-use Rattle.model_audit.proofs.Witnesses.{problems_decide}
-use Rattle.model_audit.proofs.Placing.{regions_placed}
-use Rattle.model_audit.proofs.SetUpPasses.{set_up_passes}
+use Rattle.model_findings.specs.OpenRegions.{region_now, closed_of, closed_regions}
+use Rattle.model_findings.specs.Orderly.{IsStateOfBoard}
+use Rattle.model_findings.proofs.Found.{numbers_of_board}
+use Rattle.model_findings.proofs.Witnesses.{problems_decide}
+use Rattle.model_findings.proofs.Placing.{regions_placed}
+use Rattle.model_findings.proofs.SetUpPasses.{set_up_passes}
 use Rattle.model_guests.proofs.TablePlaces.{Alike, alike_tables}
 use Rattle.lists.proofs.Members.{no_elements}
 use Rattle.model_handoff.specs.Handoffs.{declared_cells, is_given}

@@ -13,7 +13,7 @@ use Rattle.model_board.specs.Ports.{file_at}
 use Rattle.model_board.specs.State.{BoardFunction, row_at}
 use Rattle.model_board.proofs.PathEnds.{path_self}
 use Rattle.model_board.proofs.PlacesLaw.{before_apart}
-use Rattle.model_audit.specs.Orderly.{IsStateOfBoard}
+use Rattle.model_findings.specs.Orderly.{IsStateOfBoard}
 
 abbrev pub at_path : Path → BoardFunction → Bool
 at_path p f = path_eq f.path p

@@ -16,10 +16,10 @@ use Rattle.model_board.specs.State.{State}
 use Rattle.model_board.specs.Cycles.{BusAddress, reached}
 use Rattle.model_board.specs.Routing.{routing}
 use Rattle.model_set_up.specs.Reach.{HasNumbers}
-use Rattle.model_audit.specs.Found.{address_now}
-use Rattle.model_audit.specs.Orderly.{IsStateOfBoard}
-use Rattle.model_audit.specs.Problems.{problems}
-use Rattle.model_audit.specs.Witnesses.{IsInOrder}
+use Rattle.model_findings.specs.Found.{address_now}
+use Rattle.model_findings.specs.Orderly.{IsStateOfBoard}
+use Rattle.model_findings.specs.Problems.{problems}
+use Rattle.model_findings.specs.Witnesses.{IsInOrder}
 use Rattle.model_guests.specs.World.{World}
 use Rattle.model_guests.specs.Guests.{GuestsNow, guests_at_first, file_of}
 use Rattle.model_guests.specs.AgreedBoard.{agreed_function, state_over}

@@ -14,8 +14,8 @@ use Rattle.model_board.specs.State.{State}
 use Rattle.model_board.specs.Examples.{part, main_board, main_apertures}
 use Rattle.model_set_up.specs.PlacedRegions.{PlacedRegion}
 use Rattle.model_set_up.specs.SetUp.{set_up_state}
-use Rattle.model_audit.specs.Found.{address_now}
-use Rattle.model_audit.specs.Problems.{not_found, problems}
+use Rattle.model_findings.specs.Found.{address_now}
+use Rattle.model_findings.specs.Problems.{not_found, problems}
 use Rattle.model_guests.specs.Text.{text_of_lines}
 use Rattle.model_guests.specs.Examples.{main_world, on_bus_0, behind}
 use Rattle.model_guests.specs.Guests.{guests_at_first}

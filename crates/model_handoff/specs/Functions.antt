@@ -15,7 +15,7 @@ use Rattle.model_board.specs.Board.{Decl, endpoint, bridge}
 use Rattle.model_board.specs.State.{BoardFunction, State}
 use Rattle.model_board.specs.Cycles.{BusAddress}
 use Rattle.model_board.specs.Routing.{Ranges, ranges_of}
-use Rattle.model_audit.specs.Found.{address_now}
+use Rattle.model_findings.specs.Found.{address_now}
 use Rattle.model_guests.specs.Text.{Text}
 use Rattle.model_guests.specs.Guests.{GuestNow, GuestsNow, path_in}
 

@@ -20,7 +20,7 @@ use Rattle.model_registers.specs.CopiedFiles.{shape_of}
 use Rattle.model_board.specs.Paths.{Path, path_eq}
 use Rattle.model_board.specs.Board.{Decl, endpoint, bridge, Board}
 use Rattle.model_board.specs.State.{BoardFunction, State}
-use Rattle.model_audit.specs.Orderly.{IsStateOfBoard}
+use Rattle.model_findings.specs.Orderly.{IsStateOfBoard}
 use Rattle.model_guests.specs.World.{World, declared, given_paths}
 use Rattle.model_guests.specs.AgreedBoard.{with_files}
 

@@ -6,7 +6,7 @@
 use Rattle.std.specs.Prelude.{List, ◌≡◌}
 use Rattle.model_board.specs.AtReset.{board_at}
 use Rattle.model_board.specs.State.{State}
-use Rattle.model_audit.specs.Witnesses.{IsInOrder}
+use Rattle.model_findings.specs.Witnesses.{IsInOrder}
 use Rattle.model_guests.specs.Text.{Text}
 use Rattle.model_guests.specs.World.{World, HasLawfulGuests}
 use Rattle.model_guests.specs.WorldNow.{WorldNow, world_over, after_line, after_lines}

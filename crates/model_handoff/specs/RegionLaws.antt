@@ -25,8 +25,8 @@ use Rattle.model_board.specs.Claims.{Claim, claims, first_claim}
 use Rattle.model_board.specs.Ports.{claim_reply, after_claim_write, config_reply, after_config_write, port_target}
 use Rattle.model_board.specs.Ports.{ordinary, port_reply, after_port_write, memory_reply, after_memory_write}
 use Rattle.model_board.specs.Routing.{routing}
-use Rattle.model_audit.specs.Found.{address_now, IsNumbered}
-use Rattle.model_audit.specs.Orderly.{IsOrderly, IsStateOfBoard}
+use Rattle.model_findings.specs.Found.{address_now, IsNumbered}
+use Rattle.model_findings.specs.Orderly.{IsOrderly, IsStateOfBoard}
 use Rattle.model_guests.specs.Accesses.{Event}
 use Rattle.model_guests.specs.Text.{Text}
 use Rattle.model_guests.specs.World.{World}

@@ -16,9 +16,9 @@ use Rattle.model_board.specs.Ports.{file_at}
 use Rattle.model_board.specs.Routing.{routing}
 use Rattle.model_board.specs.State.{State}
 use Rattle.model_set_up.specs.PlacedRegions.{PlacedRegion}
-use Rattle.model_audit.specs.OpenRegions.{closed_regions}
-use Rattle.model_audit.specs.Problems.{Problem, problems}
-use Rattle.model_audit.specs.Witnesses.{IsInOrder}
+use Rattle.model_findings.specs.OpenRegions.{closed_regions}
+use Rattle.model_findings.specs.Problems.{Problem, problems}
+use Rattle.model_findings.specs.Witnesses.{IsInOrder}
 use Rattle.model_guests.specs.Text.{Text}
 use Rattle.model_guests.specs.World.{World, declared}
 use Rattle.model_guests.specs.Guests.{GuestsNow, path_in}

@@ -14,8 +14,8 @@ use Rattle.model_board.specs.AtReset.{board_at}
 use Rattle.model_set_up.specs.Reach.{address_of}
 use Rattle.model_set_up.specs.SetUp.{first_of, set_up_state}
 use Rattle.model_set_up.specs.UniqueClaimant.{CanBePlaced}
-use Rattle.model_audit.specs.Found.{address_now}
-use Rattle.model_audit.specs.Witnesses.{IsInOrder}
+use Rattle.model_findings.specs.Found.{address_now}
+use Rattle.model_findings.specs.Witnesses.{IsInOrder}
 use Rattle.model_guests.specs.World.{World}
 use Rattle.model_handoff.specs.Handoffs.{IsHandoff}
 use Rattle.model_handoff.specs.Regions.{base_in, opens_region, CanBeGiven}

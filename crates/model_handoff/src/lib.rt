@@ -1,4 +1,4 @@
-//! Layer: definitions. Below: model_audit. Above: model_why, model_images, function_identity, report.
+//! Layer: definitions. Below: model_findings. Above: model_images, model_lines, report.
 //!
 //! Guests over a board in the state in which any firmware hands it over, as definitions, and laws about them: what their
 //! accesses come to there, where the regions of their functions stand, what is told of each function of the board, and

@@ -12,4 +12,23 @@ pub mod Machines
 mod Emptying
 pub mod Filling
 pub mod MachineLoads
-mod Examples
+mod ImageExamples
+pub mod Options
+pub mod Numbers
+pub mod Layouts
+pub mod ImageLayouts
+pub mod ImageBytes
+pub mod Savable
+pub mod LoadedBytes
+pub mod TakenBytes
+pub mod FrontBytes
+pub mod MachineBytes
+pub mod ReadMachines
+pub mod SeatedPaths
+pub mod TakenMachines
+mod ByteCells
+mod FittingMachines
+mod SavableMachines
+mod SavedMachines
+mod SavedWorlds
+mod ByteExamples

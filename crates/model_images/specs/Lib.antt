@@ -8,3 +8,17 @@ pub mod MachineImages
 pub mod MachineLaws
 pub mod ImageExamples
 pub mod MachineExamples
+pub mod Layouts
+pub mod ImageBytes
+pub mod ByteLaws
+pub mod LoadedBytes
+pub mod LoadedLaws
+pub mod TakenBytes
+pub mod FrontBytes
+pub mod MachineBytes
+pub mod MachineByteLaws
+pub mod LoadedMachines
+pub mod LoadedMachineLaws
+pub mod ByteExamples
+pub mod MachineByteExamples
+pub mod SavedLaws

@@ -10,7 +10,7 @@ use Rattle.model_guests.specs.Isolation.{IsDecidedBy, AgreeOn}
 use Rattle.model_guests.specs.Lone.{reset_guest}
 use Rattle.model_handoff.proofs.AfterSetUp.{set_up_isolates}
 use Rattle.model_guests.proofs.Isolation.{isolated_over}
-use Rattle.model_audit.proofs.Witnesses.{problems_decide}
+use Rattle.model_findings.proofs.Witnesses.{problems_decide}
 use Rattle.model_handoff.specs.Handoffs.{taken_over}
 use Rattle.model_handoff.specs.Kept.{IsLawfulOver}
 use Rattle.model_handoff.proofs.Alike.{taken_lawful}

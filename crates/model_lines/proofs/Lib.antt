@@ -1,3 +1,9 @@
+pub mod WhyExamples
+pub mod Why
+pub mod Ways
+pub mod Answers
+pub mod Ports
+pub mod Guests
 pub mod HostLaws
 pub mod WhyLines
 pub mod SessionLines

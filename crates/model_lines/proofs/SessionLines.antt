@@ -14,8 +14,8 @@ use Rattle.model_handoff.specs.Regions.{first_fault}
 use Rattle.model_handoff.specs.Actions.{calls}
 use Rattle.model_handoff.specs.Changes.{MachineNow, after_on_machine, after_line_on_machine, counts_where, machine_protocol}
 use Rattle.model_handoff.proofs.Aside.{output_aside, after_aside}
-use Rattle.model_audit.specs.AuditText.{audit}
-use Rattle.model_ready.specs.ReadyText.{ready_report}
+use Rattle.model_findings.specs.AuditText.{audit}
+use Rattle.model_findings.specs.ReadyText.{ready_report}
 use Rattle.model_lines.specs.WhyLines.{why_asked, is_why_line}
 use Rattle.model_lines.specs.Sessions.{is_host_line, is_audit, is_ready_line, is_question, is_handover, DrivenNow, driven, given, after_handover}
 use Rattle.model_lines.specs.Sessions.{handover_output, told_output, driven_output, after_meant, after_board_line, after_session_line, session_protocol}

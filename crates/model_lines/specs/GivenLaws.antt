@@ -19,7 +19,7 @@ use Rattle.model_guests.specs.WorldNow.{WorldNow, world_over, board_state, outpu
 use Rattle.model_handoff.specs.AfterSetUp.{world_at_first}
 use Rattle.model_guests.specs.Inputs.{inputs}
 use Rattle.model_guests.specs.Isolation.{IsDecidedBy, AgreeOn}
-use Rattle.model_audit.specs.Problems.{problems}
+use Rattle.model_findings.specs.Problems.{problems}
 use Rattle.model_handoff.specs.Handoffs.{IsHandoff, taken_over}
 use Rattle.model_handoff.specs.Kept.{IsLawfulOver}
 use Rattle.model_handoff.specs.Regions.{CanBeGiven}

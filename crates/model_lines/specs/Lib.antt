@@ -1,3 +1,11 @@
+pub mod Why
+pub mod Ways
+pub mod WhyLaws
+pub mod WhyText
+pub mod WhyExamples
+pub mod WhyPorts
+pub mod WhyGuests
+pub mod GuestExamples
 pub mod HostAccesses
 pub mod FirmwareLines
 pub mod FirmwareLaws

@@ -35,8 +35,8 @@ use Rattle.model_guests.specs.LineRuns.{Protocol}
 use Rattle.model_lines.specs.HostAccesses.{HostAccess, answer, after_access}
 use Rattle.model_lines.specs.FirmwareLines.{Meaning, nothing, asked, bad, meaning, line_output}
 use Rattle.model_lines.specs.WhyLines.{why_asked, is_why_line, why_written}
-use Rattle.model_audit.specs.AuditText.{audit, audit_line, problem_text, register_text}
-use Rattle.model_ready.specs.ReadyText.{ready_report}
+use Rattle.model_findings.specs.AuditText.{audit, audit_line, problem_text, register_text}
+use Rattle.model_findings.specs.ReadyText.{ready_report}
 use Rattle.model_handoff.specs.Handoffs.{taken_over}
 use Rattle.model_handoff.specs.Regions.{HandoffFault, in_disorder, closed_region, first_fault}
 use Rattle.model_handoff.specs.Changes.{MachineNow, after_line_on_machine}

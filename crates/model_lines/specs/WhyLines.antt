@@ -12,8 +12,8 @@ use Rattle.model_board.specs.State.{State}
 use Rattle.model_guests.specs.Text.{Text, words}
 use Rattle.model_guests.specs.Numbers.{below, number_of}
 use Rattle.model_guests.specs.Grammar.{on_word, bus_address, is_long}
-use Rattle.model_why.specs.WhyText.{why_text, why_number_text}
-use Rattle.model_why.specs.WhyPorts.{why_port_text}
+use Rattle.model_lines.specs.WhyText.{why_text, why_number_text}
+use Rattle.model_lines.specs.WhyPorts.{why_port_text}
 
 pub data WhyAsked : Type 0 where
   of_address : ℕ → WhyAsked

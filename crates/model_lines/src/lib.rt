@@ -1,11 +1,18 @@
-//! Layer: definitions. Below: model_why. Above: lines.
+//! Layer: definitions. Below: model_handoff. Above: findings, lines.
 //!
-//! Lines over a board, as definitions: what firmware asks through the host bridge, and sessions, which are firmware's
-//! lines, among them those that ask for an audit of the registers as they stand there, for readiness or why something
-//! finds what it finds, and the one that hands the board to its guests. Laws about them, and about what guests see of a
-//! board that was given, whoever set it up.
+//! Questions and lines over a board, as definitions, and laws about them. Why an address or a configuration number finds
+//! what it finds, in any register state. What firmware asks through the host bridge by lines, and sessions, which are
+//! firmware's lines, among them those that ask for an audit of the registers as they stand there, for readiness or why
+//! something finds what it finds, and the one that hands the board to its guests; and what guests see of a board that was
+//! given, whoever set it up.
 #![tactic(auto)]
 
+ghost use Rattle.model_lines.specs.WhyExamples.{WhyExamples};
+ghost use Rattle.model_lines.specs.GuestExamples.{GuestExamples};
+ghost use Rattle.model_lines.specs.WhyGuests.{FoundAsLocated, ClosedAreAll, ClosedAreTrue};
+ghost use Rattle.model_lines.specs.WhyPorts.{PortsByLatch, PortExamples};
+ghost use Rattle.model_lines.specs.WhyLaws.{AddressesExplained, NumbersExplained};
+ghost use Rattle.model_lines.specs.WhyLaws.{OrderlyAnswersAlone, ReadyTellsNothing};
 ghost use Rattle.model_guests.specs.LineRuns.{AfterAlong, CutIsBeginning, OutputAlong, StoppedIsBeginning};
 ghost use Rattle.model_lines.specs.FirmwareLaws.{BadLinesChangeNothing, DataIsByNumber, LatchIsPort, LongLinesAlike, ReadsChangeNoRegister, RefusedChangesNothing};
 ghost use Rattle.model_lines.specs.FirmwareLines.{board_protocol};
@@ -16,6 +23,39 @@ ghost use Rattle.model_lines.specs.SessionLaws.{DrivenIsFirmware, GivenIsScript,
 ghost use Rattle.model_lines.specs.SessionLaws.{AccessesTellWritten, GivenBy, IsolatedSessions, LinesTellWritten};
 ghost use Rattle.model_lines.specs.FirmwareLeaves.{AccessLeaves, LinesLeave};
 ghost use Rattle.model_lines.specs.GivenLaws.{GivenAlike, GivenAsSetUp, GivenIsolated, GivenStays, OrderlyStays};
+
+/// What is told of an address is so, and each region that holds it answers or is told. In an orderly state no other
+/// region would answer too, and in a ready one nothing is told.
+pub fn addresses_explained()
+    ensures each { AddressesExplained }
+    ensures orderly { OrderlyAnswersAlone }
+    ensures ready { ReadyTellsNothing }
+{}
+
+/// A configuration cycle reaches the function at the end of its way, and what is told as missing isn't there.
+pub fn numbers_explained()
+    ensures { NumbersExplained }
+{}
+
+/// Each access at an I/O port goes where the address latch is said to make it go.
+pub fn ports_explained()
+    ensures { PortsByLatch }
+{}
+
+/// What a guest is told of a place is where its access lands; each closed region that is told holds the address, and no
+/// other does.
+pub fn guests_explained()
+    ensures located { FoundAsLocated }
+    ensures closed { ClosedAreTrue }
+    ensures all { ClosedAreAll }
+{}
+
+/// What is told of some addresses, numbers and ports, and to a guest.
+pub fn worked_why_examples()
+    ensures each { WhyExamples }
+    ensures ports { PortExamples }
+    ensures guests { GuestExamples }
+{}
 
 /// CF8h is the address latch, and while the latch is enabled CFCh to CFFh are the registers that it
 /// selects: what is done there is what is done by number, but that the latch is 0 after an access by number.

@@ -1,4 +1,4 @@
-//! Layer: definitions. Below: model_board. Above: model_audit, bus_scan.
+//! Layer: definitions. Below: model_board. Above: model_findings, bus_scan.
 //!
 //! What set-up makes of a board, as definitions, and laws about it: the scan, placement, the registers that it
 //! leaves, and who claims an address then.

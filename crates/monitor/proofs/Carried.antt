@@ -13,7 +13,7 @@ use Rattle.model_board.specs.AtReset.{board_at}
 use Rattle.model_board.specs.Ports.{file_at}
 use Rattle.model_board.specs.Routing.{Ranges, regions, windows, RoutingRow, ranges_of, row_of, routing}
 use Rattle.model_board.specs.State.{BoardFunction, State, row_at}
-use Rattle.model_audit.specs.Orderly.{IsStateOfBoard}
+use Rattle.model_findings.specs.Orderly.{IsStateOfBoard}
 use Rattle.model_guests.specs.Text.{Text}
 use Rattle.model_guests.specs.Slots.{Slots}
 use Rattle.model_guests.specs.Guests.{GuestsNow}

@@ -12,7 +12,7 @@ use Rattle.model_registers.specs.Decoding.{opens_space}
 use Rattle.model_board.specs.Paths.{Path, path_eq}
 use Rattle.model_board.specs.Routing.{Ranges, regions, windows, RoutingRow}
 use Rattle.model_set_up.specs.PlacedRegions.{PlacedRegion}
-use Rattle.model_audit.specs.OpenRegions.{region_now, closed_of, closed_regions}
+use Rattle.model_findings.specs.OpenRegions.{region_now, closed_of, closed_regions}
 use Rattle.model_guests.specs.World.{Guest}
 use Rattle.monitor.specs.Handovers.{closed_if_given, is_among, first_closed_at}
 

@@ -17,7 +17,7 @@ use Rattle.model_board.specs.Board.{endpoint}
 use Rattle.model_board.specs.AtReset.{board_at}
 use Rattle.model_board.specs.Ports.{file_at}
 use Rattle.model_board.specs.State.{BoardFunction, State}
-use Rattle.model_audit.specs.Orderly.{IsStateOfBoard}
+use Rattle.model_findings.specs.Orderly.{IsStateOfBoard}
 use Rattle.model_guests.specs.Slots.{reset_function}
 use Rattle.model_guests.specs.World.{declared}
 use Rattle.model_guests.proofs.CopiesNeverRise.{declared_lawful}

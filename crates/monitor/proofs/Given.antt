@@ -7,7 +7,7 @@ use Rattle.model_board.specs.Board.{endpoint, Board}
 use Rattle.model_board.specs.AtReset.{board_at}
 use Rattle.model_board.specs.Routing.{routing}
 use Rattle.model_board.specs.State.{State}
-use Rattle.model_audit.specs.Orderly.{IsStateOfBoard}
+use Rattle.model_findings.specs.Orderly.{IsStateOfBoard}
 use Rattle.model_guests.specs.Slots.{reset_function}
 use Rattle.model_guests.specs.Text.{Text}
 use Rattle.model_guests.specs.World.{declared}

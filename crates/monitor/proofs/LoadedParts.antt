@@ -30,8 +30,8 @@ use Rattle.model_registers.specs.EndpointTable.{block_cells, endpoint_reset, reg
 use Rattle.model_registers.specs.Decoding.{Function}
 use Rattle.model_images.specs.Images.{can_hold, fit_cells}
 use Rattle.model_images.specs.StepLaws.{base_size, blocks_size, blocks_steps, header_steps, put_run, region_steps, regions_steps, steps, written_run}
-use Rattle.image_bytes.proofs.Lengths.{cells_count, few_registers, region_cell_count}
-use Rattle.image_bytes.proofs.TakenValues.{many_cells}
+use Rattle.images.proofs.Lengths.{cells_count, few_registers, region_cell_count}
+use Rattle.images.proofs.TakenValues.{many_cells}
 use Rattle.headers.specs.declared.place.Place as headers
 use Rattle.headers.specs.declared.place.Place.TheVariants.{Cfg, Bar}
 use Rattle.headers.specs.Places.{place_of}

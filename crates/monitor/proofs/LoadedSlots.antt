@@ -11,11 +11,11 @@ use Rattle.model_registers.specs.Decoding.{Function}
 use Rattle.model_guests.specs.Slots.{Slots, slot_at}
 use Rattle.model_guests.specs.Lone.{LoneGuest}
 use Rattle.model_images.specs.Images.{SavedFunction, restored, function_at_reset, FitsSlot}
-use Rattle.model_image_bytes.specs.Layouts.{parsed, parse_number}
+use Rattle.model_images.specs.Layouts.{parsed, parse_number}
 use Rattle.model_registers.specs.ConfigAddress.{latched}
-use Rattle.model_image_bytes.specs.ByteLaws.{AreBytes}
-use Rattle.model_image_bytes.specs.LoadedBytes.{Left, after_latch, after_number, after_slot, after_slots, then_read}
-use Rattle.model_image_bytes.specs.TakenBytes.{SlotsAreTaken, slot_size, taken_slot, taken_slots}
+use Rattle.model_images.specs.ByteLaws.{AreBytes}
+use Rattle.model_images.specs.LoadedBytes.{Left, after_latch, after_number, after_slot, after_slots, then_read}
+use Rattle.model_images.specs.TakenBytes.{SlotsAreTaken, slot_size, taken_slot, taken_slots}
 use Rattle.monitor.specs.Loads.{AreLoadable, CanLoad, slot_loaded}
 
 -- ---- slot after slot

@@ -27,11 +27,11 @@ use Rattle.model_guests.specs.Guests.{GuestsNow, lone_of}
 use Rattle.model_guests.specs.WorldNow.{WorldNow}
 use Rattle.model_handoff.specs.Changes.{MachineNow}
 use Rattle.model_images.specs.Images.{Image, SavedFunction, restored, loaded, lone_of_image, after_load, at_reset, fits_declaration}
-use Rattle.model_image_bytes.specs.ByteLaws.{AreBytes}
-use Rattle.model_image_bytes.specs.LoadedBytes.{after_image, after_latch, fault_of, load_fault}
-use Rattle.model_image_bytes.specs.LoadedLaws.{IsFittingImage}
-use Rattle.model_image_bytes.specs.TakenBytes.{HoldsDeclared, IsDeclaredGuest, values_begin, slot_size, taken_function, taken_slot, taken_image, le_number}
-use Rattle.model_image_bytes.proofs.TakenBytes.{accepted_is_taken, image_is_taken, slots_are_taken}
+use Rattle.model_images.specs.ByteLaws.{AreBytes}
+use Rattle.model_images.specs.LoadedBytes.{after_image, after_latch, fault_of, load_fault}
+use Rattle.model_images.specs.LoadedLaws.{IsFittingImage}
+use Rattle.model_images.specs.TakenBytes.{HoldsDeclared, IsDeclaredGuest, values_begin, slot_size, taken_function, taken_slot, taken_image, le_number}
+use Rattle.model_images.proofs.TakenBytes.{accepted_is_taken, image_is_taken, slots_are_taken}
 use Rattle.host_bridge.specs.HostState.{HostState}
 use Rattle.monitor.specs.declared.guest.Held.{Held}
 use Rattle.monitor.specs.declared.guest.Guest.{Guest}

@@ -34,18 +34,18 @@ use Rattle.model_guests.specs.WorldNow.{WorldNow}
 use Rattle.model_guests.specs.Seated.{AreSeats}
 use Rattle.model_guests.proofs.FoundFiles.{same_places}
 use Rattle.model_images.specs.Images.{Image, image_of_lone, image_of_guest}
-use Rattle.model_image_bytes.specs.Layouts.{le_bytes}
-use Rattle.model_image_bytes.specs.ImageBytes.{image_bytes}
-use Rattle.model_image_bytes.specs.LoadedBytes.{Left, after_bytes, after_image, after_latch, after_slot, after_slots, at_end, fault_of, header, load_fault, then_read}
-use Rattle.model_image_bytes.specs.TakenBytes.{HoldsDeclared}
-use Rattle.image_bytes.specs.declared.fault.ImageFault.{ImageFault}
-use Rattle.image_bytes.specs.Faults.{number_of}
-use Rattle.image_bytes.specs.Puts.{put}
-use Rattle.image_bytes.proofs.Puts.{next}
+use Rattle.model_images.specs.Layouts.{le_bytes}
+use Rattle.model_images.specs.ImageBytes.{image_bytes}
+use Rattle.model_images.specs.LoadedBytes.{Left, after_bytes, after_image, after_latch, after_slot, after_slots, at_end, fault_of, header, load_fault, then_read}
+use Rattle.model_images.specs.TakenBytes.{HoldsDeclared}
+use Rattle.images.specs.declared.fault.ImageFault.{ImageFault}
+use Rattle.images.specs.Faults.{number_of}
+use Rattle.images.specs.Puts.{put}
+use Rattle.images.proofs.Puts.{next}
 use Rattle.host_bridge.specs.HostState.{HostState}
-use Rattle.function_images.specs.Shown.{HasDeclaredPlaces, after_filled, function_bytes, seen, slot_bytes}
-use Rattle.function_images.proofs.Compared.{filled_is}
-use Rattle.function_images.proofs.ShownValues.{guest_bytes}
+use Rattle.images.specs.Shown.{HasDeclaredPlaces, after_filled, function_bytes, seen, slot_bytes}
+use Rattle.images.proofs.ComparedFunctions.{filled_is}
+use Rattle.images.proofs.ShownValues.{guest_bytes}
 use Rattle.monitor.specs.declared.guest.Held.{Held}
 use Rattle.monitor.specs.declared.guest.Guest.{Guest}
 use Rattle.monitor.specs.Views.{guest_shown, guests_shown, slot_shown}

@@ -12,7 +12,7 @@ use Rattle.model_board.specs.Board.{Row, Decl, endpoint, bridge, is_bridge, Boar
 use Rattle.model_board.specs.AtReset.{board_at}
 use Rattle.model_board.specs.Ports.{file_at}
 use Rattle.model_board.specs.State.{BoardFunction, State, row_at}
-use Rattle.model_audit.specs.Orderly.{IsStateOfBoard}
+use Rattle.model_findings.specs.Orderly.{IsStateOfBoard}
 use Rattle.model_guests.specs.Slots.{Slots}
 use Rattle.model_guests.specs.Text.{Text}
 use Rattle.model_guests.specs.World.{declared, endpoint_of}
@@ -21,7 +21,7 @@ use Rattle.model_handoff.specs.ViewLaws.{sits}
 use Rattle.model_handoff.proofs.Functions.{Facts, facts}
 use Rattle.model_handoff.proofs.Regions.{state_stays}
 use Rattle.model_handoff.proofs.Standing.{at_path, found}
-use Rattle.model_image_bytes.specs.LoadedMachines.{is_open_there}
+use Rattle.model_images.specs.LoadedMachines.{is_open_there}
 use Rattle.bridge_forward.specs.BasesNow.{bases_of}
 use Rattle.host_bridge.specs.HostState.{HostState}
 use Rattle.monitor.specs.declared.guest.Guest.{Guest}

@@ -6,7 +6,7 @@ use Rattle.lists.specs.Elements.{first_of_two}
 use Rattle.model_handoff.specs.Functions as model
 use Rattle.paths.specs.BusAddresses.{bus_address_of}
 use Rattle.bridge_forward.specs.ByIndex.{ranges_told}
-use Rattle.function_identity.specs.Identities.{identity_told}
+use Rattle.findings.specs.Identities.{identity_told}
 use Rattle.monitor.specs.declared.guest.Guest.{Guest}
 use Rattle.monitor.specs.declared.seat.Seat.{Seat}
 use Rattle.monitor.specs.declared.functions.FunctionNow.{FunctionNow}

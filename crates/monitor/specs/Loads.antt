@@ -18,10 +18,10 @@ use Rattle.model_handoff.specs.Changes.{MachineNow}
 use Rattle.model_images.specs.Images.{Image, restored, function_at_reset, FitsSlot}
 use Rattle.model_images.specs.Requests.{loads}
 use Rattle.model_images.specs.RequestLaws.{after_request_on_machine}
-use Rattle.model_image_bytes.specs.ByteLaws.{AreBytes}
-use Rattle.model_image_bytes.specs.LoadedBytes.{after_slots, load_fault}
-use Rattle.model_image_bytes.specs.LoadedLaws.{IsFittingImage}
-use Rattle.model_image_bytes.specs.TakenBytes.{values_begin, taken_slot, taken_slots}
+use Rattle.model_images.specs.ByteLaws.{AreBytes}
+use Rattle.model_images.specs.LoadedBytes.{after_slots, load_fault}
+use Rattle.model_images.specs.LoadedLaws.{IsFittingImage}
+use Rattle.model_images.specs.TakenBytes.{values_begin, taken_slot, taken_slots}
 use Rattle.host_bridge.specs.HostState.{HostState}
 use Rattle.monitor.specs.declared.guest.Guest.{Guest}
 use Rattle.monitor.specs.Keeping.{IsKept}

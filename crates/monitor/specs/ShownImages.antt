@@ -8,7 +8,7 @@ use Rattle.lists.specs.Elements.{Each}
 use Rattle.model_registers.specs.Decoding.{Function}
 use Rattle.model_board.specs.State.{BoardFunction}
 use Rattle.model_guests.specs.Lone.{LoneGuest}
-use Rattle.function_images.specs.Shown.{HasDeclaredPlaces, slot_bytes}
+use Rattle.images.specs.Shown.{HasDeclaredPlaces, slot_bytes}
 use Rattle.monitor.specs.declared.guest.Held.{Held}
 use Rattle.monitor.specs.declared.guest.Guest.{Guest}
 use Rattle.monitor.specs.Views.{slot_shown}

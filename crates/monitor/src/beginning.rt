@@ -5,7 +5,7 @@ ghost use Rattle.model_registers.specs.Declarations.{HasLawfulRegions};
 ghost use Rattle.model_registers.specs.EndpointTable.{opened};
 ghost use Rattle.model_registers.specs.Decoding.{Function};
 ghost use Rattle.model_board.specs.Paths.{Path as PathValue};
-ghost use Rattle.model_audit.specs.Orderly.{IsStateOfBoard};
+ghost use Rattle.model_findings.specs.Orderly.{IsStateOfBoard};
 ghost use Rattle.model_guests.specs.World.{Guest as GuestValue, names, HasLawfulGuests, declared};
 ghost use Rattle.model_guests.specs.Slots.{reset_function};
 ghost use Rattle.model_guests.specs.Guests.{guests_at_first};

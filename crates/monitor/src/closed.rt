@@ -5,7 +5,7 @@ ghost use Rattle.model_registers.specs.Decoding.{opens_space};
 ghost use Rattle.model_board.specs.Paths.{path_eq};
 ghost use Rattle.model_board.specs.Routing.{routing};
 ghost use Rattle.model_guests.specs.World.{Guest as GuestValue};
-ghost use Rattle.model_audit.specs.OpenRegions.{region_now, closed_of};
+ghost use Rattle.model_findings.specs.OpenRegions.{region_now, closed_of};
 ghost use Rattle.bridge_forward.specs.RoutingRows.{base_of};
 ghost use Rattle.monitor.specs.Handovers.{closed_if_given, first_closed_at};
 

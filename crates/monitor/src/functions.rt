@@ -3,7 +3,7 @@ ghost use Rattle.std.specs.Prelude.{◌≡◌, ◌<◌, ◌^◌, Some, length, o
 ghost use Rattle.std.specs.Result.{result_map_both};
 ghost use Rattle.model_board.specs.Paths as board;
 ghost use Rattle.model_board.specs.State.{BoardFunction};
-ghost use Rattle.model_audit.specs.Orderly.{IsStateOfBoard};
+ghost use Rattle.model_findings.specs.Orderly.{IsStateOfBoard};
 ghost use Rattle.model_guests.specs.Guests.{GuestsNow};
 ghost use Rattle.model_guests.specs.WorldNow.{board_state};
 ghost use Rattle.model_handoff.specs.Functions.{seat_of, function_nth, slot_answer};
@@ -14,7 +14,7 @@ use crate::config::function_in;
 use crate::engine::Engine;
 use crate::guest::Guest;
 use crate::seat::{Seat, seat_from};
-use function_identity::{Identity, address_of, identity_nth};
+use findings::{Identity, address_of, identity_nth};
 use host_bridge::{Bdf, Host, RangesNow, Route};
 use paths::Path;
 

@@ -4,7 +4,7 @@ ghost use Rattle.std.specs.List.{list_any};
 ghost use Rattle.model_registers.specs.Decoding.{command_word, opens_space};
 ghost use Rattle.model_board.specs.AtReset.{board_at};
 ghost use Rattle.model_board.specs.State.{BoardFunction};
-ghost use Rattle.model_audit.specs.Orderly.{IsStateOfBoard};
+ghost use Rattle.model_findings.specs.Orderly.{IsStateOfBoard};
 ghost use Rattle.model_guests.specs.Text.{Text};
 ghost use Rattle.model_guests.specs.World.{declared};
 ghost use Rattle.model_guests.specs.WorldNow.{WorldNow};

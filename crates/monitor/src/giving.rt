@@ -6,16 +6,16 @@ ghost use Rattle.model_guests.specs.WorldNow.{world_over};
 ghost use Rattle.model_handoff.specs.Handoffs.{IsHandoff, taken_over};
 ghost use Rattle.model_handoff.specs.Regions.{CanBeGiven};
 ghost use Rattle.model_handoff.specs.Changes.{BeginsIn};
-ghost use Rattle.model_image_bytes.specs.MachineByteLaws.{CanBeSaved};
+ghost use Rattle.model_images.specs.MachineByteLaws.{CanBeSaved};
 ghost use Rattle.monitor.specs.Beginnings.{world_on, world_of};
 
 use crate::beginning::{guests_of, names_of};
 use crate::engine::Engine;
 use crate::taking::take_over;
 use accesses::GuestDecl;
-use board_declared::read_declarations;
 use host_bridge::{Host, Route};
-use model_image_bytes::saved_guests_are_taken;
+use images::read_declarations;
+use model_images::saved_guests_are_taken;
 use std::alloc::{AllocError, Global};
 use window_packing::Ready;
 

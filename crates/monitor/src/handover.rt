@@ -1,6 +1,6 @@
 //! Why a board is not handed over to guests, and what is looked at before it is.
 ghost use Rattle.std.specs.Prelude.{◌≡◌, None, IfOk, IfNone, IfSome, map, option_map, slice_get};
-ghost use Rattle.model_audit.specs.Problems.{problems};
+ghost use Rattle.model_findings.specs.Problems.{problems};
 ghost use Rattle.model_handoff.specs.Regions.{first_fault};
 ghost use Rattle.findings.specs.Findings.{problem_of};
 ghost use Rattle.monitor.specs.Beginnings.{world_on};

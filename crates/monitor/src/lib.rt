@@ -1,4 +1,4 @@
-//! Layer: guests. Below: function_identity, findings, claim_table, board_declared, function_images, accesses. Above: guest_why, machine_images, script.
+//! Layer: guests. Below: findings, claim_table, images, accesses. Above: guest_why, machine_images, script.
 //!
 //! The monitor, which gives functions of a board to guests.
 //!
@@ -55,7 +55,7 @@ pub use engine::Engine;
 pub use findings::{Lack, Problem};
 pub use functions::FunctionNow;
 pub use handover::{HandoverFault, Refused, handover_words};
-pub use image_bytes::ImageFault;
+pub use images::ImageFault;
 pub use locating::Hit;
 pub use monitor::Monitor;
 pub use own::OwnRegisters;

@@ -3,9 +3,9 @@ ghost use Rattle.std.specs.Prelude.{◌≡◌, ◌<◌, List, ℕ, None, Ok, IsS
 ghost use Rattle.model_guests.specs.Slots.{slot_at};
 ghost use Rattle.model_guests.specs.Guests.{lone_of};
 ghost use Rattle.model_images.specs.Images.{lone_of_image};
-ghost use Rattle.model_image_bytes.specs.LoadedBytes.{after_latch, load_fault};
-ghost use Rattle.model_image_bytes.specs.TakenBytes.{le_number, slot_size, taken_image};
-ghost use Rattle.image_bytes.specs.Faults.{number_of};
+ghost use Rattle.model_images.specs.LoadedBytes.{after_latch, load_fault};
+ghost use Rattle.model_images.specs.TakenBytes.{le_number, slot_size, taken_image};
+ghost use Rattle.images.specs.Faults.{number_of};
 ghost use Rattle.monitor.specs.ByIndex.{lone_nth, name_nth, with_lone_nth};
 ghost use Rattle.monitor.specs.Counts.{counts_of, counted_nth};
 ghost use Rattle.monitor.specs.Keeping.{IsKept};
@@ -20,7 +20,7 @@ use crate::loading::load_function;
 use crate::restarting::restart;
 use crate::saving::{compare_image, slot_shown};
 use host_bridge::{Host, Route};
-use image_bytes::{ImageFault, after_latch, declaration_size, values_size};
+use images::{ImageFault, after_latch, declaration_size, values_size};
 
 /// So many bytes at the front, or all where they are fewer.
 fn front(bytes: &[u8], count: usize) -> &[u8]

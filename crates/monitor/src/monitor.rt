@@ -6,7 +6,7 @@ ghost use Rattle.model_guests.specs.WorldNow.{world_over};
 ghost use Rattle.model_handoff.specs.Handoffs.{IsHandoff, taken_over};
 ghost use Rattle.model_handoff.specs.Regions.{CanBeGiven, first_fault};
 ghost use Rattle.model_handoff.specs.Changes.{BeginsIn};
-ghost use Rattle.model_image_bytes.specs.MachineByteLaws.{CanBeSaved};
+ghost use Rattle.model_images.specs.MachineByteLaws.{CanBeSaved};
 ghost use Rattle.bus_scan.specs.declared.fault.Fault.TheVariants.{Memory};
 ghost use Rattle.monitor.specs.Beginnings.{world_on, world_of};
 ghost use Rattle.monitor.specs.Handovers.{IsFaultOf};

@@ -4,13 +4,13 @@ ghost use Rattle.std.specs.Prelude.{◌≡◌, ◌≤◌, ◌<◌, ◌+◌, [], 
 ghost use Rattle.lists.specs.Elements.{Each};
 ghost use Rattle.model_guests.specs.Guests.{lone_of};
 ghost use Rattle.model_images.specs.Images.{image_of_guest, image_of_lone};
-ghost use Rattle.model_image_bytes.specs.ByteLaws.{AreBytes};
-ghost use Rattle.model_image_bytes.specs.ImageBytes.{image_bytes};
-ghost use Rattle.model_image_bytes.specs.LoadedBytes.{after_image, after_slot, after_slots, load_fault};
-ghost use Rattle.model_image_bytes.specs.TakenBytes.{HoldsDeclared};
-ghost use Rattle.image_bytes.specs.Faults.{number_of};
-ghost use Rattle.image_bytes.specs.Puts.{put};
-ghost use Rattle.function_images.specs.Shown.{seen};
+ghost use Rattle.model_images.specs.ByteLaws.{AreBytes};
+ghost use Rattle.model_images.specs.ImageBytes.{image_bytes};
+ghost use Rattle.model_images.specs.LoadedBytes.{after_image, after_slot, after_slots, load_fault};
+ghost use Rattle.model_images.specs.TakenBytes.{HoldsDeclared};
+ghost use Rattle.images.specs.Faults.{number_of};
+ghost use Rattle.images.specs.Puts.{put};
+ghost use Rattle.images.specs.Shown.{seen};
 ghost use Rattle.monitor.specs.ByIndex.{name_nth};
 ghost use Rattle.monitor.specs.Views.{slot_shown};
 ghost use Rattle.monitor.specs.ShownImages.{HasPlaces, HavePlaces, lone_shown, slot_image, slots_image};
@@ -18,11 +18,11 @@ ghost use Rattle.monitor.specs.ShownImages.{HasPlaces, HavePlaces, lone_shown, s
 use crate::engine::Engine;
 use crate::guest::{Guest, Held};
 use bridge_forward::EndpointFn;
-use function_images::{after_function, function_size, write_function};
 use guest_functions::VirtualFunction;
 use host_bridge::{Host, Route};
-use image_bytes::{
-    ImageFault, after_header, after_latch, after_tag, at_end, header, latch_bytes, put,
+use images::{
+    ImageFault, after_function, after_header, after_latch, after_tag, at_end, function_size,
+    header, latch_bytes, put, write_function,
 };
 
 /// The function in a slot, as its guest has it: the board's endpoint with the guest's own copies.

@@ -7,7 +7,7 @@ ghost use Rattle.model_guests.specs.WorldNow.{board_state};
 ghost use Rattle.model_handoff.specs.Handoffs.{IsHandoff};
 ghost use Rattle.model_handoff.specs.ViewLaws.{sits};
 ghost use Rattle.model_images.specs.MachineLaws.{IsSavableWorld};
-ghost use Rattle.model_image_bytes.specs.LoadedMachines.{is_open_there};
+ghost use Rattle.model_images.specs.LoadedMachines.{is_open_there};
 ghost use Rattle.monitor.specs.ByIndex.{guest_nth};
 
 use crate::config::held_in;

@@ -1,7 +1,7 @@
 -- Bytes that are put into a buffer from its beginning on.
 --     told_at_front      they stand at its front, which a call tells that answers 0
 use Rattle.std.proofs.Common.{◌≡◌, ◌+◌, ℕ, List, [], ◌∷◌, ◌++◌, length, drop, ap, ◌∙◌, refl, inl, arith}
-use Rattle.image_bytes.specs.Puts.{put}
+use Rattle.images.specs.Puts.{put}
 use Rattle.pciguest_c.specs.TextsTold.{at_front, IsTold}
 
 from_zero : (n : ℕ) → 0 + n ≡ n

@@ -26,10 +26,10 @@ use Rattle.model_guests.specs.Grammar.{HostTarget}
 use Rattle.model_guests.specs.Lines.{host_move}
 use Rattle.model_guests.specs.WorldNow.{move_reply, host_reply, board_state, line_output}
 use Rattle.model_guests.specs.Calls.{asks}
-use Rattle.model_audit.specs.AuditText.{audit}
-use Rattle.model_audit.specs.Problems.{problems}
-use Rattle.model_ready.specs.Lacks.{lack_count}
-use Rattle.model_ready.specs.ReadyText.{ready_report}
+use Rattle.model_findings.specs.AuditText.{audit}
+use Rattle.model_findings.specs.Problems.{problems}
+use Rattle.model_findings.specs.Lacks.{lack_count}
+use Rattle.model_findings.specs.ReadyText.{ready_report}
 use Rattle.model_handoff.specs.Actions.{calls}
 use Rattle.model_handoff.specs.Changes.{MachineNow, after_on_machine, after_line_on_machine}
 use Rattle.model_handoff.specs.Functions.{function_nth}

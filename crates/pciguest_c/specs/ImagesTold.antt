@@ -14,10 +14,10 @@ use Rattle.model_images.specs.Images.{image_of_guest}
 use Rattle.model_images.specs.MachineImages.{image_of_machine}
 use Rattle.model_images.specs.Requests.{restarts}
 use Rattle.model_images.specs.RequestLaws.{after_request_on_machine}
-use Rattle.model_image_bytes.specs.ImageBytes.{image_bytes}
-use Rattle.model_image_bytes.specs.LoadedBytes.{load_fault}
-use Rattle.model_image_bytes.specs.LoadedMachines.{load_all_fault}
-use Rattle.model_image_bytes.specs.MachineBytes.{machine_bytes}
+use Rattle.model_images.specs.ImageBytes.{image_bytes}
+use Rattle.model_images.specs.LoadedBytes.{load_fault}
+use Rattle.model_images.specs.LoadedMachines.{load_all_fault}
+use Rattle.model_images.specs.MachineBytes.{machine_bytes}
 use Rattle.monitor.specs.ByIndex.{name_nth}
 
 abbrev pub image_asked : WorldNow → ℕ → Text

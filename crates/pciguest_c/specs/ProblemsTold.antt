@@ -8,7 +8,7 @@ use Rattle.std.specs.Option.{option_map_or}
 use Rattle.model_board.specs.Paths.{Path}
 use Rattle.model_guests.specs.Text.{Text}
 use Rattle.model_guests.specs.PathTexts.{path_text}
-use Rattle.model_audit.specs.Problems.{Problem, not_forwarded, contended, not_found}
+use Rattle.model_findings.specs.Problems.{Problem, not_forwarded, contended, not_found}
 use Rattle.pciguest_c.specs.QueriesTold.{space_number}
 use Rattle.pciguest_c.specs.FunctionsTold.{text_row}
 use Rattle.pciguest_c.specs.declared.problem_rows.ProblemRow.{ProblemRow}

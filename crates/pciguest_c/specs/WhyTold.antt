@@ -5,7 +5,7 @@ use Rattle.std.specs.Option.{option_map_or}
 use Rattle.model_guests.specs.Accesses.{Target}
 use Rattle.model_guests.specs.Text.{Text}
 use Rattle.model_guests.specs.WorldNow.{WorldNow}
-use Rattle.model_why.specs.WhyGuests.{guest_why_text}
+use Rattle.model_lines.specs.WhyGuests.{guest_why_text}
 use Rattle.guest_why.specs.Findings.{lone_asked, fault_at}
 
 abbrev pub why_asked : WorldNow → ℕ → Target → Result Text ℕ

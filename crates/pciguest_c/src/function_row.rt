@@ -16,7 +16,7 @@ ghost use Rattle.pciguest_c.specs.FunctionsTold.{window_rows, bridge_number, tex
 use crate::text_calls::put;
 use bars::{BasedRegion, Kind, Space};
 use bridge_forward::Window;
-use function_identity::path_text;
+use findings::path_text;
 use host_bridge::RangesNow;
 use monitor::{FunctionNow, Seat};
 

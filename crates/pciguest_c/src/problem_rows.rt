@@ -1,7 +1,7 @@
 //! What C is told of a problem in the registers of a board, as one struct without pointers.
 ghost use Rattle.std.specs.Prelude.{◌≡◌, ◌++◌, ◌≤◌, drop, length, map};
 ghost use Rattle.std.specs.Option.{option_map_or};
-ghost use Rattle.model_audit.specs.Problems.{not_forwarded, contended, not_found};
+ghost use Rattle.model_findings.specs.Problems.{not_forwarded, contended, not_found};
 ghost use Rattle.model_guests.specs.PathTexts.{path_text};
 ghost use Rattle.bars.specs.Kinds.{named_space};
 ghost use Rattle.paths.specs.BusAddresses.{bus_address_of};
@@ -13,8 +13,7 @@ ghost use Rattle.pciguest_c.specs.TextsTold.{IsTold};
 use crate::function_row::text_row;
 use crate::numbers::ARGUMENT;
 use bars::Space;
-use findings::{Agent, Problem, RegionNow};
-use function_identity::{PathText, path_text};
+use findings::{Agent, PathText, Problem, RegionNow, path_text};
 use host_bridge::{Bdf, Path};
 
 /// A problem, as C is told of it: `kind` is 1 for a byte that a bridge doesn't forward, 2 for an address that two

@@ -1,4 +1,4 @@
-//! Layer: program. Below: model_handoff, window_packing, intx_swizzle, accesses. Above: findings_told, audit_json, report_json.
+//! Layer: program. Below: model_handoff, window_packing, intx_swizzle, accesses. Above: findings_told, json_texts.
 //!
 //! The report of a board that is set up: its functions with their regions, interrupts and windows, and
 //! its guests.

@@ -8,12 +8,11 @@ ghost use Rattle.model_handoff.specs.Actions.{calls};
 ghost use Rattle.model_handoff.specs.Changes.{after_on_machine, after_line_on_machine, machine_protocol};
 ghost use Rattle.accesses.specs.Accesses.{reply_of};
 ghost use Rattle.accesses.specs.Replies.{IsShown};
-ghost use Rattle.line_runs.specs.Pieces.{IsBefore};
+ghost use Rattle.lines.specs.Pieces.{IsBefore};
 ghost use Rattle.script.specs.Refusals.{refusal_of, reply_to, refusal_in, refusal_on_machine};
 ghost use Rattle.lines.specs.Lines.{who_of, meaning_of, GuestIs, GuestsAre};
 
-use line_runs::{Answer, Answers};
-use lines::{LineText, What, Who, line_meaning, push_line};
+use lines::{Answer, Answers, LineText, What, Who, line_meaning, push_line};
 use monitor::{Monitor, Refusal, Reply};
 use std::alloc::AllocError;
 

@@ -1,4 +1,4 @@
-//! Layer: lines. Below: monitor, line_runs. Above: session.
+//! Layer: lines. Below: monitor, lines. Above: session.
 //!
 //! Runs of scripts over the monitor, piece by piece.
 #![tactic(auto)]
@@ -7,7 +7,6 @@ mod answers;
 mod running;
 
 pub use answers::{Script, answer, answer_line, refusal_of, run_line};
-pub use line_runs::RunFault;
-pub use lines::{Line, LineText, What, Who, parse_line};
+pub use lines::{Line, LineText, RunFault, What, Who, parse_line};
 pub use monitor::Monitor;
 pub use running::run;

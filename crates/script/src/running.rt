@@ -1,11 +1,11 @@
 //! A run of a whole script.
 ghost use Rattle.std.specs.Prelude.{◌≡◌, ◌+◌, ◌-◌, ◌^◌, ◌<◌, IsErrOf};
 ghost use Rattle.model_handoff.specs.Changes.{machine_protocol};
-ghost use Rattle.line_runs.specs.Faults.{read_failures_of, write_failures_of};
-ghost use Rattle.line_runs.specs.Runs.{Runs, ends};
+ghost use Rattle.lines.specs.Faults.{read_failures_of, write_failures_of};
+ghost use Rattle.lines.specs.Runs.{Runs, ends};
 
 use crate::answers::Script;
-use line_runs::RunFault;
+use lines::RunFault;
 use monitor::Monitor;
 use streams::{Reader, Writer};
 
@@ -32,5 +32,5 @@ pub fn run<R: Reader, W: Writer>(
         (ends (R.rest reader.old) (R.rest reader.new)
         (W.written writer.old) (W.written writer.new) (W.flushed writer.new)) result }
 {
-    line_runs::run::<Script, Monitor, R, W>(monitor, reader, writer)
+    lines::run::<Script, Monitor, R, W>(monitor, reader, writer)
 }

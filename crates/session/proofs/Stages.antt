@@ -7,8 +7,8 @@ use Rattle.std.specs.Prelude.{IsTrue, IfSome, IsSome, Some}
 use Rattle.model_guests.specs.Text.{Text}
 use Rattle.model_guests.specs.Guests.{GuestNow}
 use Rattle.model_guests.specs.WorldNow.{WorldNow}
-use Rattle.model_audit.specs.AuditText.{audit}
-use Rattle.model_ready.specs.ReadyText.{ready_report}
+use Rattle.model_findings.specs.AuditText.{audit}
+use Rattle.model_findings.specs.ReadyText.{ready_report}
 use Rattle.model_handoff.specs.Changes.{MachineNow, BeginsIn}
 use Rattle.model_handoff.specs.Regions.{first_fault}
 use Rattle.model_handoff.proofs.Served.{fault_decides}

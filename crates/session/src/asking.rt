@@ -3,7 +3,7 @@ ghost use Rattle.std.specs.Prelude.{◌≡◌, ◌++◌};
 ghost use Rattle.model_guests.specs.Text.{Text};
 ghost use Rattle.model_lines.specs.WhyLines.{why_asked};
 ghost use Rattle.model_lines.specs.Sessions.{is_audit, is_ready_line, is_handover};
-ghost use Rattle.line_runs.specs.Pieces.{IsBefore};
+ghost use Rattle.lines.specs.Pieces.{IsBefore};
 ghost use Rattle.session.specs.Stages.{asks_audit, asks_ready, asks_why, asks_guests};
 
 use lines::{WhyAsked, host_word, why_form};

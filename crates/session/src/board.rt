@@ -6,10 +6,10 @@ ghost use Rattle.model_guests.specs.Accesses.{reads, writes};
 ghost use Rattle.model_guests.specs.Replies.{reply_text};
 ghost use Rattle.model_guests.specs.Text.{Text};
 ghost use Rattle.model_guests.specs.World.{IsLawfulWorld};
-ghost use Rattle.model_audit.specs.AuditText.{audit};
-ghost use Rattle.model_audit.specs.Problems.{problems};
-ghost use Rattle.model_ready.specs.Lacks.{lack_count};
-ghost use Rattle.model_ready.specs.ReadyText.{ready_report};
+ghost use Rattle.model_findings.specs.AuditText.{audit};
+ghost use Rattle.model_findings.specs.Problems.{problems};
+ghost use Rattle.model_findings.specs.Lacks.{lack_count};
+ghost use Rattle.model_findings.specs.ReadyText.{ready_report};
 ghost use Rattle.model_handoff.specs.Changes.{BeginsIn};
 ghost use Rattle.model_lines.specs.HostAccesses.{answer};
 ghost use Rattle.model_lines.specs.FirmwareLines.{line_output, meaning};
@@ -20,7 +20,7 @@ ghost use Rattle.accesses.specs.Accesses.{reply_of};
 ghost use Rattle.accesses.specs.Replies.{IsRefusal, IsShown};
 ghost use Rattle.lines.specs.FirmwareLines.{host_asked};
 ghost use Rattle.lines.specs.WhyLines.{why_asked_of};
-ghost use Rattle.line_runs.specs.Pieces.{IsBefore};
+ghost use Rattle.lines.specs.Pieces.{IsBefore};
 ghost use Rattle.board_file.specs.declared.fault.BoardFault.TheVariants.{Memory};
 ghost use Rattle.board_file.specs.Faults.{number_of as file_number};
 ghost use Rattle.session.specs.Boards.{IsRefusalOf};
@@ -34,7 +34,9 @@ use crate::opening::{self, OpenFault};
 use accesses::{GuestDecl, HostAccess, Refusal, Reply};
 use bars::Space;
 use board_file::{BoardFault, read_board};
-use findings_told::{CountedText, audit_text, ready_text};
+use findings_told::{
+    CountedText, audit_text, ready_text, why_number_text, why_port_text, why_text,
+};
 use headers::Apertures;
 use host_bridge::Host;
 use lines::{FirmwareWhat, LineText, WhyAsked, firmware_meaning, push_named};
@@ -42,7 +44,6 @@ use monitor::{Monitor, Refused};
 use script::refusal_of;
 use std::alloc::{AllocError, Global};
 use std::marker::Model;
-use why_text::{why_number_text, why_port_text, why_text};
 
 /// The board that a board file declares, from reset on, with the bytes and the guests of the file. Whether a
 /// write was done since reset is kept, so that our own set-up runs on a board at reset alone.

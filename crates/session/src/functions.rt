@@ -3,7 +3,7 @@ ghost use Rattle.std.specs.Prelude.{◌≡◌, length, option_map};
 ghost use Rattle.model_registers.specs.Decoding.{opens_space};
 ghost use Rattle.model_board.specs.Cycles.{reached};
 ghost use Rattle.model_board.specs.State.{BoardFunction};
-ghost use Rattle.model_audit.specs.Orderly.{IsStateOfBoard};
+ghost use Rattle.model_findings.specs.Orderly.{IsStateOfBoard};
 ghost use Rattle.model_handoff.specs.Functions.{is_there};
 ghost use Rattle.model_handoff.specs.DrivenFunctions.{driven_function_nth};
 ghost use Rattle.paths.specs.BusAddresses.{bus_address_of};
@@ -11,7 +11,7 @@ ghost use Rattle.bars.specs.Kinds.{named_space};
 ghost use Rattle.session.specs.DrivenFunctions.{driven_function_named};
 
 use crate::board::Board;
-use function_identity::{address_of, identity_nth};
+use findings::{address_of, identity_nth};
 use host_bridge::{Bdf, Host, Path, Space};
 use monitor::FunctionNow;
 

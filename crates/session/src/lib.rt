@@ -1,4 +1,4 @@
-//! Layer: program. Below: script, why_text, board_file. Above: simulation.
+//! Layer: program. Below: script, findings_told, board_file. Above: simulation.
 //!
 //! Sessions over a board: firmware's lines from reset on, among them those that ask for an audit, for readiness or why
 //! something finds what it finds, and the handover of the board to its guests, whose script the lines are from there on.
@@ -44,8 +44,7 @@ pub use findings_told::CountedText;
 pub use functions::DrivenFunction;
 pub use headers::Apertures;
 pub use host_bridge::Host;
-pub use line_runs::RunFault;
-pub use lines::{LineText, WhyAsked};
+pub use lines::{LineText, RunFault, WhyAsked};
 pub use monitor::{HandoverFault, Monitor, Problem, Refused};
 pub use opening::{OpenFault, open};
 pub use running::run;

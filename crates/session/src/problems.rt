@@ -1,6 +1,6 @@
 //! What an audit of a board that firmware drives finds, problem by problem.
 ghost use Rattle.std.specs.Prelude.{◌≡◌, IfOk, map};
-ghost use Rattle.model_audit.specs.Problems.{problems};
+ghost use Rattle.model_findings.specs.Problems.{problems};
 ghost use Rattle.findings.specs.Findings.{problem_of};
 
 use crate::board::Board;

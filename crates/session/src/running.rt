@@ -1,11 +1,11 @@
 //! A run of a session's lines.
 ghost use Rattle.std.specs.Prelude.{◌≡◌, ◌+◌, ◌-◌, ◌^◌, ◌<◌, ◌⊎◌, IsErrOf};
 ghost use Rattle.model_lines.specs.Sessions.{session_protocol};
-ghost use Rattle.line_runs.specs.Faults.{read_failures_of, write_failures_of};
-ghost use Rattle.line_runs.specs.Runs.{Runs, ends};
+ghost use Rattle.lines.specs.Faults.{read_failures_of, write_failures_of};
+ghost use Rattle.lines.specs.Runs.{Runs, ends};
 
 use crate::session::{Session, SessionLines};
-use line_runs::RunFault;
+use lines::RunFault;
 use streams::{Reader, Writer};
 
 /// Runs the lines of a session, in pieces as they are read. Each line is answered before the next is looked at,
@@ -32,5 +32,5 @@ pub fn run<R: Reader, W: Writer>(
     ensures lacking_flushed { IsErrOf result RunFault.Memory →
         (W.flushed writer.new ≡ W.written writer.new) ⊎ (writer.new ≡ writer.old) }
 {
-    line_runs::run::<SessionLines, Session, R, W>(session, reader, writer)
+    lines::run::<SessionLines, Session, R, W>(session, reader, writer)
 }

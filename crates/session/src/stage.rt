@@ -3,7 +3,7 @@ ghost use Rattle.std.specs.Prelude.{◌≡◌, [], option_map, string_bytes, IsT
 ghost use Rattle.std.specs.Prelude.{IfOk, IfErr, OnOk, OnErr, IfSome};
 ghost use Rattle.model_guests.specs.Text.{Text};
 ghost use Rattle.model_lines.specs.Sessions.{is_handover, session_output, after_session_line};
-ghost use Rattle.line_runs.specs.Pieces.{with_more};
+ghost use Rattle.lines.specs.Pieces.{with_more};
 ghost use Rattle.session.specs.Boards.{IsHandedOverAs, IsRefusalOf};
 ghost use Rattle.session.specs.Refusals.{refusal_in};
 ghost use Rattle.session.specs.Stages.{session_now, board_in, IsAtLine, IsDriven};
@@ -11,8 +11,7 @@ ghost use Rattle.session.specs.Stages.{session_now, board_in, IsAtLine, IsDriven
 use crate::board::Board;
 use crate::telling::handover_refusal;
 use accesses::Reply;
-use line_runs::Answer;
-use lines::{LineText, push_named};
+use lines::{Answer, LineText, push_named};
 use monitor::{HandoverFault, Monitor, Refused};
 use std::alloc::{AllocError, Global};
 use std::mem;

@@ -4,8 +4,8 @@ use Rattle.std.proofs.Common.{◌≡◌, Result, subst}
 use Rattle.model_guests.specs.Text.{Text}
 use Rattle.model_guests.specs.World.{World}
 use Rattle.model_guests.specs.LineRuns.{Protocol}
-use Rattle.line_runs.specs.declared.running.RunFault.{RunFault}
-use Rattle.line_runs.specs.Runs.{Ends, Runs}
+use Rattle.lines.specs.declared.runs.RunFault.{RunFault}
+use Rattle.lines.specs.Runs.{Ends, Runs}
 use Rattle.model_handoff.specs.AfterSetUp.{world_at_first}
 use Rattle.model_guests.specs.WorldNow.{world_protocol}
 use Rattle.model_handoff.specs.Changes.{MachineNow, BeginsIn, machine_protocol}

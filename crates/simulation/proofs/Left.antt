@@ -8,18 +8,18 @@ use Rattle.model_guests.specs.Text.{Text, lines}
 use Rattle.model_guests.specs.World.{World, IsLawfulWorld}
 use Rattle.model_lines.specs.Sessions.{SessionNow, driven, at_reset, session_protocol}
 use Rattle.model_lines.proofs.HandoverLines.{isolated_sessions}
-use Rattle.line_runs.specs.declared.running.RunFault.{RunFault}
-use Rattle.line_runs.specs.Runs.{Ends, Runs}
+use Rattle.lines.specs.declared.runs.RunFault.{RunFault}
+use Rattle.lines.specs.Runs.{Ends, Runs}
 use Rattle.bus_scan.specs.declared.fault.Fault.TheVariants as set_up
 use Rattle.session.specs.Files.{Declares}
 use Rattle.simulation.specs.declared.fault.Fault.{Fault}
 use Rattle.simulation.specs.declared.fault.Fault.TheVariants.{File, SetUp, Read, Write}
 use Rattle.simulation.specs.Faults.{IsOfSession, OnSession}
-use Rattle.line_runs.specs.Refusals.{refuses, IsWatched}
+use Rattle.lines.specs.Refusals.{refuses, IsWatched}
 use Rattle.session.specs.Refusals.{refusal_in}
 use Rattle.simulation.specs.Sessions.{at_first, Drives, HasAnswered, IsLeft, IsSession, Left}
 use Rattle.simulation.proofs.Begun.{runs_over}
-use Rattle.line_runs.proofs.Parts.{same_end, same_error}
+use Rattle.lines.proofs.Parts.{same_end, same_error}
 
 -- how a session was opened
 abbrev pub IsBegun : Text → SessionNow → Type 0

@@ -4,11 +4,11 @@ use Rattle.std.specs.Prelude.{IsErrOf, IfErr}
 use Rattle.std.specs.Result.{IsErrAnd}
 use Rattle.model_guests.specs.WorldNow.{world_protocol}
 use Rattle.model_handoff.specs.Changes.{MachineNow, machine_protocol}
-use Rattle.line_runs.specs.declared.running.RunFault.{RunFault}
-use Rattle.line_runs.specs.declared.running.RunFault.TheVariants as run
+use Rattle.lines.specs.declared.runs.RunFault.{RunFault}
+use Rattle.lines.specs.declared.runs.RunFault.TheVariants as run
 use Rattle.simulation.specs.declared.fault.Fault.{Fault}
-use Rattle.line_runs.specs.Faults.{read_failures_of, write_failures_of}
-use Rattle.line_runs.specs.Runs.{Ends, Runs}
+use Rattle.lines.specs.Faults.{read_failures_of, write_failures_of}
+use Rattle.lines.specs.Runs.{Ends, Runs}
 use Rattle.model_guests.specs.LineRuns.{Protocol}
 use Rattle.board_file.specs.declared.fault.BoardFault.{BoardFault}
 use Rattle.bus_scan.specs.declared.fault.Fault.TheVariants as set_up
@@ -16,7 +16,7 @@ use Rattle.simulation.specs.declared.fault.Fault.TheVariants.{File, SetUp}
 use Rattle.session.specs.declared.opening.OpenFault.{OpenFault}
 use Rattle.session.specs.declared.opening.OpenFault.TheVariants as opening
 use Rattle.session.specs.Faults as opened
-use Rattle.line_runs.proofs.Parts.{IsPart, runs_of_part}
+use Rattle.lines.proofs.Parts.{IsPart, runs_of_part}
 use Rattle.simulation.specs.Faults.{of_open, of_run, read_faults, write_faults, IsOfBoard, OnFile, OnRun, OnSetUp, OnSession}
 
 -- the run failed for memory as the call that it was part of

@@ -5,19 +5,19 @@ use Rattle.std.specs.Result.{IsErrAnd}
 use Rattle.model_guests.specs.Text.{Text, lines}
 use Rattle.model_guests.specs.WorldNow.{world_protocol}
 use Rattle.model_handoff.specs.Changes.{BeginsIn, MachineNow, machine_protocol}
-use Rattle.line_runs.specs.Runs.{Ends}
-use Rattle.line_runs.specs.declared.running.RunFault.{RunFault}
-use Rattle.line_runs.specs.declared.running.RunFault.TheVariants as run
+use Rattle.lines.specs.Runs.{Ends}
+use Rattle.lines.specs.declared.runs.RunFault.{RunFault}
+use Rattle.lines.specs.declared.runs.RunFault.TheVariants as run
 use Rattle.session.specs.Files.{IsOpened}
 use Rattle.session.specs.declared.opening.OpenFault.{OpenFault}
 use Rattle.session.specs.declared.opening.OpenFault.TheVariants as opening
 use Rattle.simulation.specs.declared.fault.Fault.{Fault}
 use Rattle.simulation.specs.Faults.{of_open, of_run}
-use Rattle.line_runs.specs.Refusals.{refuses, IsWatched}
+use Rattle.lines.specs.Refusals.{refuses, IsWatched}
 use Rattle.script.specs.Refusals.{refusal_in, refusal_on_machine}
 use Rattle.simulation.specs.Running.{HasRun, IsRun, RunsStrictly}
 use Rattle.simulation.proofs.Begun.{is_run}
-use Rattle.line_runs.proofs.Parts.{same_end, same_error, same_refusals}
+use Rattle.lines.proofs.Parts.{same_end, same_error, same_refusals}
 use Rattle.simulation.proofs.Ran.{world_part}
 
 pub none_ran : {T : Type 0} (board : Text) (at : Ends) (r : Result T Fault) (o : OpenFault) → IsErrAnd r (λ f. f ≡ of_open o) → RunsStrictly board at r

@@ -2,7 +2,7 @@
 use Rattle.std.proofs.Common.{◌≡◌, Result, Ok, Err, refl}
 use Rattle.std.specs.Prelude.{OnOk, IfErr, IsErrOf, None, Some}
 use Rattle.model_guests.specs.Text.{Text}
-use Rattle.line_runs.specs.Runs.{Ends}
+use Rattle.lines.specs.Runs.{Ends}
 use Rattle.diagnostics.specs.declared.style.Style.{Style}
 use Rattle.board_fit.specs.declared.warned.Warned.{Warned}
 use Rattle.simulation.specs.declared.fault.Fault.{Fault}

@@ -10,7 +10,7 @@ use Rattle.model_registers.specs.Apertures.{Apertures}
 use Rattle.model_guests.specs.Text.{Text, lines}
 use Rattle.model_guests.specs.World.{World}
 use Rattle.model_lines.specs.Sessions.{SessionNow, session_functions}
-use Rattle.line_runs.specs.Runs.{Ends, ends}
+use Rattle.lines.specs.Runs.{Ends, ends}
 use Rattle.bus_scan.specs.declared.fault.Fault.TheVariants as set_up
 use Rattle.simulation.specs.AfterLines.{counted_by, left_after, session_text, told_by, told_of, IsAnswer, IsToldInPart, Tells}
 use Rattle.simulation.specs.Auditing.{audit_of, Audits, IsAudited, IsJudged}

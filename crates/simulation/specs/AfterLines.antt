@@ -19,14 +19,14 @@ use Rattle.model_board.specs.State.{BoardFunction}
 use Rattle.model_guests.specs.Text.{Text, lines}
 use Rattle.model_guests.specs.World.{World}
 use Rattle.model_guests.specs.LineRuns.{output, after_lines}
-use Rattle.model_audit.specs.AuditText.{audit}
-use Rattle.model_audit.specs.Problems.{problems}
-use Rattle.audit_json.specs.AuditValue.{audit_json}
-use Rattle.model_ready.specs.Lacks.{lack_count}
-use Rattle.model_ready.specs.ReadyText.{ready_report}
+use Rattle.model_findings.specs.AuditText.{audit}
+use Rattle.model_findings.specs.Problems.{problems}
+use Rattle.json_texts.specs.AuditValue.{audit_json}
+use Rattle.model_findings.specs.Lacks.{lack_count}
+use Rattle.model_findings.specs.ReadyText.{ready_report}
 use Rattle.model_lines.specs.Sessions.{SessionNow, session_protocol, session_functions}
-use Rattle.line_runs.specs.declared.running.RunFault.TheVariants as run
-use Rattle.line_runs.specs.Runs.{Ends}
+use Rattle.lines.specs.declared.runs.RunFault.TheVariants as run
+use Rattle.lines.specs.Runs.{Ends}
 use Rattle.bus_scan.specs.declared.fault.Fault.TheVariants as set_up
 use Rattle.session.specs.Files.{Declares}
 use Rattle.simulation.specs.declared.fault.Fault.{Fault}
@@ -36,7 +36,7 @@ use Rattle.simulation.specs.declared.listing.ReportForm.TheVariants.{Lines, Json
 use Rattle.simulation.specs.declared.questions.Answer.{Answer}
 use Rattle.simulation.specs.declared.questions.Question.{Question}
 use Rattle.simulation.specs.declared.questions.Question.TheVariants as question
-use Rattle.line_runs.specs.Refusals.{refuses}
+use Rattle.lines.specs.Refusals.{refuses}
 use Rattle.session.specs.Refusals.{refusal_in}
 use Rattle.simulation.specs.Sessions.{at_first, HasEnded, IsSession}
 

@@ -10,15 +10,15 @@ use Rattle.std.specs.Prelude.{◌≡◌, ◌&&◌, Bool, true, false, List, leng
 use Rattle.std.specs.Option.{ForSome}
 use Rattle.model_guests.specs.Text.{Text, lines}
 use Rattle.model_guests.specs.World.{World}
-use Rattle.model_audit.specs.Problems.{problems}
+use Rattle.model_findings.specs.Problems.{problems}
 use Rattle.model_lines.specs.Sessions.{SessionNow, session_functions, session_protocol}
-use Rattle.line_runs.specs.Runs.{Ends}
+use Rattle.lines.specs.Runs.{Ends}
 use Rattle.simulation.specs.declared.fault.Fault.{Fault}
 use Rattle.simulation.specs.declared.fault.Fault.TheVariants.{NotInOrder, RefusedLine}
 use Rattle.simulation.specs.declared.listing.ReportForm.{ReportForm}
 use Rattle.simulation.specs.declared.questions.Question.TheVariants as question
 use Rattle.simulation.specs.AfterLines.{left_after, told_of, IsTold, Tells}
-use Rattle.line_runs.specs.Refusals.{refuses}
+use Rattle.lines.specs.Refusals.{refuses}
 use Rattle.session.specs.Refusals.{refusal_in}
 use Rattle.simulation.specs.Sessions.{at_first}
 

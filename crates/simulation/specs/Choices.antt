@@ -15,7 +15,7 @@ use Rattle.model_set_up.specs.SetUpWrites.{set_up_rules}
 use Rattle.model_guests.specs.Text.{Text}
 use Rattle.model_guests.specs.World.{World}
 use Rattle.streams.specs.Ends.{AppendsPart}
-use Rattle.line_runs.specs.Runs.{Ends}
+use Rattle.lines.specs.Runs.{Ends}
 use Rattle.command_line.specs.declared.choice.Choice.{Choice}
 use Rattle.command_line.specs.declared.choice.Choice.TheVariants.{Help, Demo, List, Check, Run, Firmware, Audit, Ready}
 use Rattle.bus_scan.specs.declared.fault.Fault.TheVariants as set_up

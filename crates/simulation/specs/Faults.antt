@@ -23,8 +23,8 @@ use Rattle.bus_scan.specs.Faults as bus_scan
 use Rattle.board_fit.specs.Shortages.{set_up_words}
 use Rattle.command_line.specs.declared.choice.WordsFault.{WordsFault}
 use Rattle.command_line.specs.declared.choice.WordsFault.TheVariants as words
-use Rattle.line_runs.specs.declared.running.RunFault.TheVariants as run
-use Rattle.line_runs.specs.declared.running.RunFault.{RunFault}
+use Rattle.lines.specs.declared.runs.RunFault.TheVariants as run
+use Rattle.lines.specs.declared.runs.RunFault.{RunFault}
 use Rattle.session.specs.declared.opening.OpenFault.TheVariants as opening
 use Rattle.session.specs.declared.opening.OpenFault.{OpenFault}
 use Rattle.simulation.specs.declared.fault.Fault.{Fault}

@@ -4,8 +4,8 @@ use Rattle.std.specs.Prelude.{Result}
 use Rattle.model_guests.specs.Text.{Text}
 use Rattle.model_guests.specs.World.{World}
 use Rattle.model_guests.specs.LineRuns.{Protocol}
-use Rattle.line_runs.specs.declared.running.RunFault.{RunFault}
-use Rattle.line_runs.specs.Runs.{Ends, Runs}
+use Rattle.lines.specs.declared.runs.RunFault.{RunFault}
+use Rattle.lines.specs.Runs.{Ends, Runs}
 use Rattle.session.specs.Files.{Declares}
 
 pub record RunsOver {S T : Type 0} (p : Protocol S) (first : World → S) (board : Text) (at : Ends)

@@ -14,7 +14,7 @@ use Rattle.window_packing.specs.Readies.{ReadyBoard, IsReady}
 use Rattle.report.specs.OfWorld.{IsOf}
 use Rattle.session.specs.Files.{Declares}
 use Rattle.model_handoff.specs.Report.{report}
-use Rattle.report_json.specs.ReportValue.{report_json_text}
+use Rattle.json_texts.specs.ReportValue.{report_json_text}
 use Rattle.simulation.specs.declared.listing.ReportForm.{ReportForm}
 use Rattle.simulation.specs.declared.listing.ReportForm.TheVariants.{Lines, Json}
 

@@ -8,9 +8,9 @@ use Rattle.std.specs.Prelude.{◌≡◌, Bool, true, false, List, Result, Ok, Er
 use Rattle.std.specs.Option.{ForSome}
 use Rattle.model_guests.specs.Text.{Text, lines}
 use Rattle.model_guests.specs.World.{World}
-use Rattle.model_ready.specs.Lacks.{is_ready}
+use Rattle.model_findings.specs.Lacks.{is_ready}
 use Rattle.model_lines.specs.Sessions.{SessionNow, session_functions}
-use Rattle.line_runs.specs.Runs.{Ends}
+use Rattle.lines.specs.Runs.{Ends}
 use Rattle.simulation.specs.declared.fault.Fault.{Fault}
 use Rattle.simulation.specs.declared.fault.Fault.TheVariants.{NotReady}
 use Rattle.simulation.specs.declared.questions.Question.TheVariants as question

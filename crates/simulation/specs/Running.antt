@@ -12,13 +12,13 @@ use Rattle.model_guests.specs.World.{World, names}
 use Rattle.model_guests.specs.WorldNow.{WorldNow, world_protocol}
 use Rattle.model_handoff.specs.AfterSetUp.{world_at_first}
 use Rattle.model_handoff.specs.AfterSetUp.{IsIsolated}
-use Rattle.line_runs.specs.declared.running.RunFault.{RunFault}
-use Rattle.line_runs.specs.Runs.{Ends, Runs}
+use Rattle.lines.specs.declared.runs.RunFault.{RunFault}
+use Rattle.lines.specs.Runs.{Ends, Runs}
 use Rattle.session.specs.Files.{IsSetUp}
 use Rattle.simulation.specs.declared.fault.Fault.{Fault}
 use Rattle.simulation.specs.declared.fault.Fault.TheVariants.{RefusedLine}
 use Rattle.simulation.specs.Faults.{OnRun}
-use Rattle.line_runs.specs.Refusals.{refuses}
+use Rattle.lines.specs.Refusals.{refuses}
 use Rattle.script.specs.Refusals.{refusal_in}
 
 -- the replies to each guest are those of its own functions, as lone register files, to its own lines and the moves that

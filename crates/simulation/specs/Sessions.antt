@@ -15,13 +15,13 @@ use Rattle.model_guests.specs.Text.{Text, lines}
 use Rattle.model_guests.specs.World.{World}
 use Rattle.model_lines.specs.Sessions.{SessionNow, driven, at_reset, session_protocol}
 use Rattle.model_lines.specs.SessionLaws.{IsolatedFrom}
-use Rattle.line_runs.specs.declared.running.RunFault.{RunFault}
-use Rattle.line_runs.specs.Runs.{Ends}
+use Rattle.lines.specs.declared.runs.RunFault.{RunFault}
+use Rattle.lines.specs.Runs.{Ends}
 use Rattle.simulation.specs.declared.fault.Fault.{Fault}
 use Rattle.simulation.specs.declared.fault.Fault.TheVariants.{RefusedLine}
 use Rattle.simulation.specs.Faults.{OnSession}
 use Rattle.simulation.specs.Lines.{RunsOver}
-use Rattle.line_runs.specs.Refusals.{refuses}
+use Rattle.lines.specs.Refusals.{refuses}
 use Rattle.session.specs.Refusals.{refusal_in}
 
 abbrev pub at_first : World → SessionNow

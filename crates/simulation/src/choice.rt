@@ -2,7 +2,7 @@
 ghost use Rattle.std.specs.Prelude.{◌≡◌, ◌≢◌, ◌+◌, ◌-◌, ◌^◌, ◌<◌, ◌⊎◌, OnOk, OnErr, IfErr};
 ghost use Rattle.std.specs.Io.KnownBytes.{Appends};
 ghost use Rattle.streams.specs.Ends.{AppendsPart};
-ghost use Rattle.line_runs.specs.Runs.{ends};
+ghost use Rattle.lines.specs.Runs.{ends};
 ghost use Rattle.simulation.specs.Choices.{form_of, style_of, warned_of, Does, IsTelling, IsLacking, IsOfChoice, IsOfRunAs};
 ghost use Rattle.simulation.specs.Faults.{read_faults, write_faults, IsOfBoard, IsToldLast};
 ghost use Rattle.simulation.specs.Running.{RunsAs};

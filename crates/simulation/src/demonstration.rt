@@ -1,6 +1,6 @@
 //! A script over the demo board.
 ghost use Rattle.std.specs.Prelude.{◌≡◌, ◌+◌, ◌-◌, ◌^◌, ◌<◌, IfErr};
-ghost use Rattle.line_runs.specs.Runs.{ends};
+ghost use Rattle.lines.specs.Runs.{ends};
 ghost use Rattle.simulation.specs.Demo.{demo_board};
 ghost use Rattle.simulation.specs.Faults.{read_faults, write_faults, OnFile, OnSetUp, OnRun, IsOfBoard, IsOfRun};
 ghost use Rattle.session.specs.Files.{Refuses, Breaks};

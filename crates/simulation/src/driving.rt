@@ -1,13 +1,13 @@
 //! A session over the board of a board file.
 ghost use Rattle.std.specs.Prelude.{◌≡◌, ◌+◌, ◌-◌, ◌^◌, ◌<◌, ◌⊎◌, IfOk, IfErr, IsErrOf};
-ghost use Rattle.line_runs.specs.Runs.{ends};
+ghost use Rattle.lines.specs.Runs.{ends};
 ghost use Rattle.bus_scan.specs.declared.fault.Fault.TheVariants.{Memory};
 ghost use Rattle.session.specs.Files.{Refuses};
 ghost use Rattle.simulation.specs.Faults.{read_faults, write_faults, OnFile, OnSession, IsOfFile, IsOfSession, IsOfStrictSession};
 ghost use Rattle.simulation.specs.Sessions.{Drives, IsLeft, IsSession};
 
 use crate::fault::Fault;
-use line_runs::run_watched;
+use lines::run_watched;
 use session::{Apertures, Board, Session, SessionLines};
 use std::alloc::Global;
 use streams::{Reader, Writer};

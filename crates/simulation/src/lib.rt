@@ -1,4 +1,4 @@
-//! Layer: program. Below: command_line, board_refusal, board_fit, report_json, audit_json, session. Above: pciguest, pciguest_c.
+//! Layer: program. Below: command_line, board_refusal, board_fit, json_texts, session. Above: pciguest, pciguest_c.
 //!
 //! What the program does, over bytes, a reader and a writer: the report of a board file, what is
 //! wrong with one, a script over its board, a session over it from reset on, the same with an audit or

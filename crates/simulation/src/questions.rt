@@ -1,8 +1,8 @@
 //! What is told of a board once the lines of a session ran.
 ghost use Rattle.std.specs.Prelude.{◌≡◌, ◌+◌, ◌-◌, ◌^◌, ◌<◌, ◌⊎◌, length, string_bytes, IfOk, IfErr, IsErrOf};
-ghost use Rattle.model_audit.specs.Problems.{problems};
+ghost use Rattle.model_findings.specs.Problems.{problems};
 ghost use Rattle.model_lines.specs.Sessions.{session_functions};
-ghost use Rattle.line_runs.specs.Runs.{ends};
+ghost use Rattle.lines.specs.Runs.{ends};
 ghost use Rattle.bus_scan.specs.declared.fault.Fault.TheVariants.{Memory};
 ghost use Rattle.session.specs.Files.{Refuses};
 ghost use Rattle.simulation.specs.AfterLines.{audit_in, told_by, counted_by, told_of, IsAnswer, Tells};
@@ -12,7 +12,7 @@ use crate::choice::print;
 use crate::driving::session_after;
 use crate::fault::Fault;
 use crate::listing::ReportForm;
-use audit_json::problems_json;
+use json_texts::problems_json;
 use session::{Apertures, CountedText, Session};
 use std::alloc::{AllocError, Global};
 use streams::{Reader, Writer};

@@ -1,6 +1,6 @@
 //! Whether the board of a board file is ready, after the lines of a session.
 ghost use Rattle.std.specs.Prelude.{◌≡◌, ◌+◌, ◌-◌, ◌^◌, ◌<◌, ◌⊎◌, IfErr, IsErrOf};
-ghost use Rattle.line_runs.specs.Runs.{ends};
+ghost use Rattle.lines.specs.Runs.{ends};
 ghost use Rattle.bus_scan.specs.declared.fault.Fault.TheVariants.{Memory};
 ghost use Rattle.session.specs.Files.{Refuses};
 ghost use Rattle.simulation.specs.Readiness.{Readies};

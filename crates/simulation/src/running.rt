@@ -1,12 +1,12 @@
 //! A script over the board of a board file.
 ghost use Rattle.std.specs.Prelude.{◌≡◌, ◌+◌, ◌-◌, ◌^◌, ◌<◌, IfErr};
-ghost use Rattle.line_runs.specs.Runs.{ends};
+ghost use Rattle.lines.specs.Runs.{ends};
 ghost use Rattle.simulation.specs.Faults.{read_faults, write_faults, OnFile, OnSetUp, OnRun, IsOfBoard, IsOfRun, IsOfStrictRun};
 ghost use Rattle.session.specs.Files.{Refuses, Breaks};
 ghost use Rattle.simulation.specs.Running.{IsRun, RunsStrictly};
 
 use crate::fault::Fault;
-use line_runs::run_watched;
+use lines::run_watched;
 use monitor::Monitor;
 use script::{Script, run};
 use session::open;

@@ -1,4 +1,4 @@
-//! Layer: lines. Above: line_runs.
+//! Layer: lines. Above: lines.
 //!
 //! Where bytes come from and where they go, with a count of the failures of both, and a writer that
 //! keeps bytes back.

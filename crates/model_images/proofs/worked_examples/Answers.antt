@@ -1,4 +1,4 @@
-use Rattle.model_images.proofs.Examples.{image_examples}
+use Rattle.model_images.proofs.ImageExamples.{image_examples}
 use Rattle.model_images.proofs.worked_examples.Goals as goal
 
 pub returns : goal.returns

@@ -1,4 +1,4 @@
-use Rattle.model_images.proofs.Examples.{machine_examples}
+use Rattle.model_images.proofs.ImageExamples.{machine_examples}
 use Rattle.model_images.proofs.worked_machine_examples.Goals as goal
 
 pub returns : goal.returns

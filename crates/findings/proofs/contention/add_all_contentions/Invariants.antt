@@ -1,5 +1,5 @@
 use Rattle.std.proofs.Common.{◌≡◌, ◌++◌, map, length}
-use Rattle.model_audit.specs.Problems.{contentions}
+use Rattle.model_findings.specs.Problems.{contentions}
 use Rattle.findings.specs.Findings.{problem_of}
 use Rattle.findings.proofs.contention.add_all_contentions.Given as goal
 

@@ -1,6 +1,6 @@
 use Rattle.std.proofs.Common.{◌≡◌, ◌++◌, map, drop}
 use Rattle.std.specs.Prelude.{flat_map}
-use Rattle.model_audit.specs.Problems.{contention}
+use Rattle.model_findings.specs.Problems.{contention}
 use Rattle.findings.specs.Findings.{problem_of}
 use Rattle.findings.proofs.contention.add_contentions.Given as goal
 

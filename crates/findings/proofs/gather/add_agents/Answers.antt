@@ -2,7 +2,7 @@ use Rattle.std.proofs.Common.{◌≡◌, ◌++◌, List, map, ap, sym, subst, �
 use Rattle.std.specs.Prelude.{OnOk}
 use Rattle.model_board.specs.Routing.{RoutingRow, regions}
 use Rattle.model_set_up.specs.PlacedRegions.{PlacedRegion}
-use Rattle.model_audit.specs.Agents.{Agent, region_agent}
+use Rattle.model_findings.specs.Agents.{Agent, region_agent}
 use Rattle.bridge_forward.specs.RoutingRows.{base_of, named_ranges}
 use Rattle.findings.specs.Regions.{regions_of}
 use Rattle.findings.specs.declared.regions.Sort.TheVariants.{Open}

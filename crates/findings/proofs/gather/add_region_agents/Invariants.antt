@@ -1,5 +1,5 @@
 use Rattle.std.proofs.Common.{◌≡◌, ◌++◌, map, drop}
-use Rattle.model_audit.specs.Agents.{region_agent}
+use Rattle.model_findings.specs.Agents.{region_agent}
 use Rattle.findings.proofs.gather.add_region_agents.Given as goal
 
 abbrev pub invariant-loop-region : goal.invariant-loop-region

@@ -1,6 +1,6 @@
 use Rattle.std.proofs.Common.{◌≡◌, ◌++◌, drop}
 use Rattle.std.specs.Prelude.{flat_map}
-use Rattle.model_audit.specs.Agents.{agents_of}
+use Rattle.model_findings.specs.Agents.{agents_of}
 use Rattle.findings.proofs.gather.agents.Given as goal
 
 abbrev pub invariant-loop-row : goal.invariant-loop-row

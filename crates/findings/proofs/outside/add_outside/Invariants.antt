@@ -1,6 +1,6 @@
 use Rattle.std.proofs.Common.{◌≡◌, ◌++◌, map, drop}
 use Rattle.std.specs.Prelude.{flat_map}
-use Rattle.model_ready.specs.Lacks.{outside_lack}
+use Rattle.model_findings.specs.Lacks.{outside_lack}
 use Rattle.findings.specs.Findings.{lack_of}
 use Rattle.findings.proofs.outside.add_outside.Given as goal
 

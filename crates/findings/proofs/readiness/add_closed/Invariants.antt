@@ -1,5 +1,5 @@
 use Rattle.std.proofs.Common.{◌≡◌, ◌++◌, map, drop}
-use Rattle.model_ready.specs.Lacks.{not_open}
+use Rattle.model_findings.specs.Lacks.{not_open}
 use Rattle.findings.specs.Findings.{lack_of}
 use Rattle.findings.proofs.readiness.add_closed.Given as goal
 

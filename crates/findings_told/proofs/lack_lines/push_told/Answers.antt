@@ -4,8 +4,8 @@ use Rattle.std.proofs.lemmas.Result.{IfOk-equal}
 use Rattle.lists.specs.Texts.{Adds}
 use Rattle.model_guests.specs.PathTexts.{hexadecimal, path_text}
 use Rattle.model_guests.specs.Replies.{hex_digits}
-use Rattle.model_audit.specs.AuditText.{region_text}
-use Rattle.model_ready.specs.ReadyText.{lack_text}
+use Rattle.model_findings.specs.AuditText.{region_text}
+use Rattle.model_findings.specs.ReadyText.{lack_text}
 use Rattle.findings.specs.Findings.{lack_of}
 use Rattle.findings.specs.declared.lack.Lack.{Lack}
 use Rattle.findings_told.proofs.Chains.{onto, and_then}

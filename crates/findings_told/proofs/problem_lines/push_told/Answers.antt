@@ -5,8 +5,8 @@ use Rattle.std.proofs.lemmas.Result.{IfOk-equal}
 use Rattle.lists.specs.Texts.{Adds}
 use Rattle.paths.specs.BusAddresses.{bus_address_of}
 use Rattle.model_guests.specs.PathTexts.{hexadecimal, path_text}
-use Rattle.model_audit.specs.Agents.{Agent}
-use Rattle.model_audit.specs.AuditText.{region_text, agent_text, space_text, number_text, problem_text}
+use Rattle.model_findings.specs.Agents.{Agent}
+use Rattle.model_findings.specs.AuditText.{region_text, agent_text, space_text, number_text, problem_text}
 use Rattle.findings.specs.Findings.{problem_of}
 use Rattle.findings.specs.declared.problem.Problem.{Problem}
 use Rattle.findings_told.proofs.Chains.{onto, and_then}

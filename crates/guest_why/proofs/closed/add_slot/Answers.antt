@@ -1,7 +1,7 @@
 use Rattle.std.proofs.Common.{List, map, sym, ap, ◌++◌, ◌∙◌}
 use Rattle.std.proofs.lemmas.Result.{IfOk-equal}
 use Rattle.model_guests.specs.Slots.{slot_at}
-use Rattle.model_why.specs.WhyGuests.{ClosedRegion}
+use Rattle.model_lines.specs.WhyGuests.{ClosedRegion}
 use Rattle.bars.specs.Kinds.{named_space}
 use Rattle.monitor.specs.OwnTold.{own_told}
 use Rattle.guest_why.specs.Findings.{lone_asked, closed_told}

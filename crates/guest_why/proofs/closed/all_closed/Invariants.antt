@@ -1,5 +1,5 @@
 use Rattle.std.proofs.Common.{◌≡◌, ◌++◌, map, drop}
-use Rattle.model_why.specs.WhyGuests.{closed_from}
+use Rattle.model_lines.specs.WhyGuests.{closed_from}
 use Rattle.bars.specs.Kinds.{named_space}
 use Rattle.guest_why.specs.Findings.{lone_asked, closed_told}
 use Rattle.guest_why.proofs.closed.all_closed.Given as goal

@@ -1,5 +1,5 @@
 use Rattle.std.proofs.Common.{string_bytes, codes}
-use Rattle.model_audit.specs.AuditText.{number_text}
+use Rattle.model_findings.specs.AuditText.{number_text}
 use Rattle.paths.specs.BusAddresses.{bus_address_of}
 use Rattle.guest_why.proofs.WholeTexts.{then_words}
 use Rattle.guest_why.proofs.parts.push_no_slot.Goals as goal

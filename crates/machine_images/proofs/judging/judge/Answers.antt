@@ -1,5 +1,5 @@
 use Rattle.std.proofs.Common.{◌∙◌, ℕ, List, ap, arith}
-use Rattle.model_image_bytes.specs.LoadedBytes.{after_bytes}
+use Rattle.model_images.specs.LoadedBytes.{after_bytes}
 use Rattle.machine_images.proofs.JudgedHandoffs.{known_is}
 use Rattle.machine_images.proofs.JudgedMachines.{held_refused, known_refused, planned}
 use Rattle.machine_images.proofs.judging.judge.Goals as goal

@@ -2,7 +2,7 @@ use Rattle.std.proofs.Common.{◌+◌, ◌∙◌, length, ap, sym, arith}
 use Rattle.std.specs.Prelude.{flat_map}
 use Rattle.model_board.specs.State.{State}
 use Rattle.model_guests.specs.WorldNow.{board_state}
-use Rattle.board_images.specs.BoardBytes.{row_bytes}
+use Rattle.images.specs.BoardBytes.{row_bytes}
 use Rattle.machine_images.specs.SavedParts.{capped, guest_bytes, held_now}
 use Rattle.machine_images.proofs.PutParts.{capped_sums}
 use Rattle.machine_images.proofs.SavedBytes.{saved_count}

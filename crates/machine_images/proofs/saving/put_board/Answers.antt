@@ -1,7 +1,7 @@
 use Rattle.std.proofs.Common.{length, arith}
 use Rattle.std.specs.Prelude.{flat_map}
-use Rattle.model_image_bytes.specs.Layouts.{le_bytes}
-use Rattle.board_images.specs.BoardBytes.{row_bytes}
+use Rattle.model_images.specs.Layouts.{le_bytes}
+use Rattle.images.specs.BoardBytes.{row_bytes}
 use Rattle.machine_images.proofs.PutParts.{both_put}
 use Rattle.machine_images.proofs.saving.put_board.Goals as goal
 

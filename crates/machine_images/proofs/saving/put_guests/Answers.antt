@@ -1,6 +1,6 @@
 use Rattle.std.proofs.Common.{length, arith}
 use Rattle.std.specs.Prelude.{flat_map}
-use Rattle.model_image_bytes.specs.Layouts.{le_bytes}
+use Rattle.model_images.specs.Layouts.{le_bytes}
 use Rattle.machine_images.specs.SavedParts.{guest_bytes}
 use Rattle.machine_images.proofs.PutParts.{both_put}
 use Rattle.machine_images.proofs.SavedGuests.{many_guests}

@@ -1,5 +1,5 @@
 use Rattle.std.proofs.Common.{refl, arith}
-use Rattle.board_images.specs.BoardBytes.{row_bytes}
+use Rattle.images.specs.BoardBytes.{row_bytes}
 use Rattle.machine_images.proofs.PutParts.{next_left}
 use Rattle.machine_images.proofs.saving.put_rows.Goals as goal
 

@@ -1,6 +1,6 @@
 use Rattle.std.proofs.Common.{◌≡◌, ◌≤◌, ◌+◌, [], ◌∷◌, ◌++◌, List, Option, Some, ℕ, length, ap, sym, ◌∙◌, subst, arith}
 use Rattle.model_board.specs.Paths.{Path}
-use Rattle.board_images.specs.BoardBytes.{path_bytes}
+use Rattle.images.specs.BoardBytes.{path_bytes}
 use Rattle.machine_images.specs.SavedParts.{IsPut, seat_bytes}
 use Rattle.machine_images.proofs.PutParts.{both_put, rest_fits}
 use Rattle.machine_images.proofs.SavedGuests.{seat_count, seat_path}

@@ -1,7 +1,7 @@
 use Rattle.std.proofs.Common.{◌+◌, ◌<◌, ◌∙◌, length, ap, arith}
 use Rattle.model_board.specs.State.{State}
 use Rattle.model_guests.specs.WorldNow.{board_state}
-use Rattle.board_images.specs.BoardBytes.{bytes_nth, held_cells}
+use Rattle.images.specs.BoardBytes.{bytes_nth, held_cells}
 use Rattle.machine_images.specs.SavedParts.{capped, held_now}
 use Rattle.machine_images.proofs.PutParts.{count_next}
 use Rattle.machine_images.proofs.SavedGuests.{held_count}

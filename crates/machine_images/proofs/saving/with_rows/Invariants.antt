@@ -1,4 +1,4 @@
-use Rattle.board_images.specs.BoardBytes.{row_bytes}
+use Rattle.images.specs.BoardBytes.{row_bytes}
 use Rattle.machine_images.proofs.PutParts.{IsCounted}
 use Rattle.machine_images.proofs.saving.with_rows.Given as goal
 

@@ -1,5 +1,5 @@
 use Rattle.std.proofs.Common.{arith}
-use Rattle.board_images.specs.Faults.{number_of}
+use Rattle.images.specs.MachineFaults.{number_of}
 use Rattle.machine_images.proofs.JudgedGuests.{slot_refused, slots_done}
 use Rattle.machine_images.proofs.seats.read_slots.Goals as goal
 

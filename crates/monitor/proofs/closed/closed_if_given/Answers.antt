@@ -3,7 +3,7 @@ use Rattle.std.specs.Prelude.{flat_map, slice_get}
 use Rattle.std.specs.List.{list_any}
 use Rattle.model_board.specs.Paths.{Path, path_eq}
 use Rattle.model_board.specs.Routing.{RoutingRow}
-use Rattle.model_audit.specs.OpenRegions.{closed_of}
+use Rattle.model_findings.specs.OpenRegions.{closed_of}
 use Rattle.model_guests.specs.World.{Guest}
 use Rattle.monitor.proofs.ClosedRows.{among_guests}
 use Rattle.monitor.proofs.closed.closed_if_given.Goals as goal

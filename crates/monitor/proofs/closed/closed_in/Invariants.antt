@@ -1,7 +1,7 @@
 use Rattle.std.proofs.Common.{◌≡◌, map, drop}
 use Rattle.std.specs.Prelude.{filter, not, slice_get}
 use Rattle.model_registers.specs.Decoding.{opens_space}
-use Rattle.model_audit.specs.OpenRegions.{region_now}
+use Rattle.model_findings.specs.OpenRegions.{region_now}
 use Rattle.bridge_forward.specs.RoutingRows.{base_of}
 use Rattle.monitor.proofs.closed.closed_in.Given as goal
 

@@ -4,8 +4,8 @@ use Rattle.lists.proofs.Indices.{at_below}
 use Rattle.model_registers.specs.ConfigAddress.{latched}
 use Rattle.model_guests.specs.Lone.{LoneGuest}
 use Rattle.model_guests.specs.WorldNow.{WorldNow}
-use Rattle.model_image_bytes.specs.TakenBytes.{taken_image}
-use Rattle.model_image_bytes.proofs.TakenBytes.{image_is_taken}
+use Rattle.model_images.specs.TakenBytes.{taken_image}
+use Rattle.model_images.proofs.TakenBytes.{image_is_taken}
 use Rattle.monitor.specs.declared.guest.Guest.{Guest}
 use Rattle.monitor.specs.ByIndex.{lone_nth}
 use Rattle.monitor.specs.Counts.{counts_of}

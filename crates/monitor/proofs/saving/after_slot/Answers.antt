@@ -1,9 +1,9 @@
 use Rattle.std.proofs.Common.{◌≡◌, Ok, Err, Option, subst}
 use Rattle.std.specs.Prelude.{IfErr, IfOk}
 use Rattle.model_registers.specs.Decoding.{Function}
-use Rattle.model_image_bytes.specs.LoadedBytes.{Left}
-use Rattle.model_image_bytes.specs.TakenBytes.{HoldsDeclared}
-use Rattle.image_bytes.specs.Faults.{number_of}
+use Rattle.model_images.specs.LoadedBytes.{Left}
+use Rattle.model_images.specs.TakenBytes.{HoldsDeclared}
+use Rattle.images.specs.Faults.{number_of}
 use Rattle.monitor.specs.Views.{slot_shown}
 use Rattle.monitor.proofs.SavedImages.{empty_after, filled_after, none_declared}
 use Rattle.monitor.proofs.saving.after_slot.Goals as goal

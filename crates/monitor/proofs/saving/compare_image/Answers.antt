@@ -1,9 +1,9 @@
 use Rattle.std.proofs.Common.{◌≡◌, ◌∙◌, Ok, Err, List, Option, [], ap, subst, arith}
 use Rattle.std.specs.Prelude.{IfErr, IfOk, map}
 use Rattle.lists.specs.Elements.{Each}
-use Rattle.model_image_bytes.specs.LoadedBytes.{Left, after_slots}
-use Rattle.model_image_bytes.specs.TakenBytes.{HoldsDeclared}
-use Rattle.image_bytes.specs.Faults.{number_of}
+use Rattle.model_images.specs.LoadedBytes.{Left, after_slots}
+use Rattle.model_images.specs.TakenBytes.{HoldsDeclared}
+use Rattle.images.specs.Faults.{number_of}
 use Rattle.monitor.specs.declared.guest.Held.{Held}
 use Rattle.monitor.specs.ShownImages.{lone_shown}
 use Rattle.monitor.specs.Views.{slot_shown}

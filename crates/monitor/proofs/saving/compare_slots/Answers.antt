@@ -1,5 +1,5 @@
 use Rattle.std.proofs.Common.{◌∙◌, sym, arith}
-use Rattle.image_bytes.specs.Faults.{number_of}
+use Rattle.images.specs.Faults.{number_of}
 use Rattle.monitor.proofs.SavedImages.{declared_goes_on, slots_end, slots_go_on}
 use Rattle.monitor.proofs.saving.compare_slots.Goals as goal
 

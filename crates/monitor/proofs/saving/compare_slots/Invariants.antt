@@ -1,8 +1,8 @@
 use Rattle.std.proofs.Common.{◌≡◌, length}
 use Rattle.std.specs.Prelude.{map}
 use Rattle.lists.specs.Elements.{Each}
-use Rattle.model_image_bytes.specs.LoadedBytes.{after_slots}
-use Rattle.model_image_bytes.specs.TakenBytes.{HoldsDeclared}
+use Rattle.model_images.specs.LoadedBytes.{after_slots}
+use Rattle.model_images.specs.TakenBytes.{HoldsDeclared}
 use Rattle.monitor.specs.Views.{slot_shown}
 use Rattle.monitor.proofs.saving.compare_slots.Given as goal
 

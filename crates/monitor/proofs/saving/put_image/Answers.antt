@@ -1,6 +1,6 @@
 use Rattle.std.proofs.Common.{◌+◌, ◌∙◌, List, Option, ℕ, length, ap, sym, subst, arith}
-use Rattle.image_bytes.specs.Puts.{put}
-use Rattle.model_image_bytes.specs.Layouts.{le_bytes}
+use Rattle.images.specs.Puts.{put}
+use Rattle.model_images.specs.Layouts.{le_bytes}
 use Rattle.monitor.specs.declared.guest.Held.{Held}
 use Rattle.monitor.specs.ShownImages.{HavePlaces, slots_image}
 use Rattle.monitor.proofs.SavedImages.{image_put, size_is}

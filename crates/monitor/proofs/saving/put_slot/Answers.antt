@@ -1,7 +1,7 @@
 use Rattle.std.proofs.Common.{◌≤◌, ◌+◌, ◌∙◌, [], ◌∷◌, List, ℕ, length, ap, subst, sym, arith}
-use Rattle.image_bytes.specs.Puts.{put}
-use Rattle.image_bytes.proofs.Puts.{next}
-use Rattle.function_images.specs.Shown.{function_bytes, seen}
+use Rattle.images.specs.Puts.{put}
+use Rattle.images.proofs.Puts.{next}
+use Rattle.images.specs.Shown.{function_bytes, seen}
 use Rattle.monitor.specs.ShownImages.{HasPlaces}
 use Rattle.monitor.specs.Views.{slot_shown}
 use Rattle.monitor.proofs.SavedImages.{empty_bytes, filled_bytes, places_seen}

@@ -1,5 +1,5 @@
 use Rattle.std.proofs.Common.{◌∙◌, refl, arith}
-use Rattle.image_bytes.proofs.Puts.{next_of}
+use Rattle.images.proofs.Puts.{next_of}
 use Rattle.monitor.specs.ShownImages.{slot_image}
 use Rattle.monitor.proofs.saving.put_slots.Goals as goal
 

@@ -1,5 +1,5 @@
 use Rattle.std.proofs.Common.{◌≡◌, ◌≤◌, ◌+◌, length}
-use Rattle.image_bytes.specs.Puts.{put}
+use Rattle.images.specs.Puts.{put}
 use Rattle.monitor.specs.ShownImages.{HavePlaces, slots_image}
 use Rattle.monitor.proofs.saving.put_slots.Given as goal
 

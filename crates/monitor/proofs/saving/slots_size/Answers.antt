@@ -1,5 +1,5 @@
 use Rattle.std.proofs.Common.{arith}
-use Rattle.image_bytes.proofs.Lengths.{first_length}
+use Rattle.images.proofs.Lengths.{first_length}
 use Rattle.monitor.specs.ShownImages.{slot_image}
 use Rattle.monitor.proofs.saving.slots_size.Goals as goal
 

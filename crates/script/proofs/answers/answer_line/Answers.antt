@@ -1,5 +1,5 @@
 use Rattle.std.proofs.Common.{◌++◌}
-use Rattle.line_runs.proofs.Buffers.{passes}
+use Rattle.lines.proofs.Buffers.{passes}
 use Rattle.script.proofs.LineAnswers.{long_done}
 use Rattle.script.proofs.answers.answer_line.Goals as goal
 

@@ -1,5 +1,5 @@
 use Rattle.std.proofs.Common.{sym, ◌∙◌}
-use Rattle.line_runs.specs.Runs.{ends}
+use Rattle.lines.specs.Runs.{ends}
 use Rattle.simulation.specs.declared.questions.Answer.{Answer}
 use Rattle.simulation.proofs.ToldAfter.{audit_early, is_audited, is_judged}
 use Rattle.simulation.proofs.auditing.audit.Goals as goal

@@ -1,7 +1,7 @@
 use Rattle.std.proofs.Common.{subst}
 use Rattle.diagnostics.specs.declared.style.Style.{Style}
 use Rattle.board_fit.specs.declared.warned.Warned.{Warned}
-use Rattle.line_runs.specs.Runs.{ends}
+use Rattle.lines.specs.Runs.{ends}
 use Rattle.simulation.specs.Choices.{Checks, warned_of}
 use Rattle.simulation.proofs.Told.{checks}
 use Rattle.simulation.proofs.choice.perform.Goals as goal

@@ -1,4 +1,4 @@
-use Rattle.line_runs.specs.Runs.{ends}
+use Rattle.lines.specs.Runs.{ends}
 use Rattle.simulation.proofs.Left.{answered, drives_early}
 use Rattle.simulation.proofs.driving.drive.Goals as goal
 

@@ -1,6 +1,6 @@
 use Rattle.std.proofs.Common.{Err, ap, ◌∙◌}
 use Rattle.model_lines.specs.Sessions.{driven}
-use Rattle.line_runs.specs.Runs.{ends}
+use Rattle.lines.specs.Runs.{ends}
 use Rattle.simulation.specs.Sessions.{IsSession}
 use Rattle.simulation.proofs.Left.{left_by, ran_early, ran_whole}
 use Rattle.simulation.proofs.Listed.{refused}

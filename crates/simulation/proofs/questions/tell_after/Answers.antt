@@ -1,5 +1,5 @@
 use Rattle.std.proofs.Common.{◌∙◌, inl, inr, refl}
-use Rattle.line_runs.specs.Runs.{ends}
+use Rattle.lines.specs.Runs.{ends}
 use Rattle.simulation.specs.AfterLines.{told_of}
 use Rattle.simulation.proofs.ToldAfter.{among_lines, in_text, is_answer, is_told_in_part}
 use Rattle.simulation.proofs.questions.tell_after.Goals as goal

@@ -1,4 +1,4 @@
-use Rattle.line_runs.specs.Runs.{ends}
+use Rattle.lines.specs.Runs.{ends}
 use Rattle.simulation.specs.declared.questions.Answer.{Answer}
 use Rattle.simulation.proofs.ToldAfter.{is_told_ready, nothing_counted, ready_early, some_counted}
 use Rattle.simulation.proofs.readiness.ready.Goals as goal

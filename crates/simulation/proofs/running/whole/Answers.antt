@@ -1,4 +1,4 @@
-use Rattle.line_runs.specs.Runs.{ends}
+use Rattle.lines.specs.Runs.{ends}
 use Rattle.session.specs.Files.{Refuses, Breaks}
 use Rattle.simulation.specs.Running.{IsRun}
 use Rattle.simulation.proofs.Begun.{is_run}

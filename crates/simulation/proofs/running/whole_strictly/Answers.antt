@@ -1,4 +1,4 @@
-use Rattle.line_runs.specs.Runs.{ends}
+use Rattle.lines.specs.Runs.{ends}
 use Rattle.session.specs.Files.{Refuses, Breaks}
 use Rattle.simulation.proofs.Ran.{opened_file, opened_set_up, read_again, written_again}
 use Rattle.simulation.proofs.Strict.{has_run, none_ran, strict_early}

@@ -1,8 +1,8 @@
 use Rattle.std.proofs.Common.{◌∙◌, List, Ok, Err, true, subst, sym, arith}
 use Rattle.std.specs.Prelude.{Result}
 use Rattle.model_images.specs.Images.{Image}
-use Rattle.model_image_bytes.specs.TakenBytes.{taken_image}
-use Rattle.image_bytes.specs.declared.fault.ImageFault.{ImageFault}
+use Rattle.model_images.specs.TakenBytes.{taken_image}
+use Rattle.images.specs.declared.fault.ImageFault.{ImageFault}
 use Rattle.monitor.specs.declared.guest.Guest.{Guest}
 use Rattle.monitor.specs.ByIndex.{lone_nth}
 use Rattle.monitor.specs.Counts.{counted_nth}

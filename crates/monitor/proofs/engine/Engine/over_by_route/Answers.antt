@@ -2,7 +2,7 @@ use Rattle.std.proofs.Common.{refl, rules, subst, sym}
 use Rattle.monitor.proofs.Machines.{begins_counted}
 use Rattle.model_handoff.specs.Handoffs.{taken_over}
 use Rattle.model_images.proofs.Machines.{savable_at_first}
-use Rattle.model_image_bytes.specs.MachineByteLaws.{CanBeSaved}
+use Rattle.model_images.specs.MachineByteLaws.{CanBeSaved}
 use Rattle.monitor.specs.Beginnings.{world_on}
 use Rattle.monitor.specs.Views.{texts}
 use Rattle.monitor.proofs.FirstWorlds.{routing_on, sound_at_first, shown_at_first}

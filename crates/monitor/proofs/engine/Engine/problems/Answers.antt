@@ -1,6 +1,6 @@
 use Rattle.std.proofs.Common.{◌≡◌, [], ◌∙◌, subst}
-use Rattle.model_audit.proofs.Witnesses.{problems_decide}
-use Rattle.model_audit.specs.Problems.{problems}
+use Rattle.model_findings.proofs.Witnesses.{problems_decide}
+use Rattle.model_findings.specs.Problems.{problems}
 use Rattle.model_guests.specs.WorldNow.{board_state}
 use Rattle.model_handoff.proofs.Keeping.{keeps_problems}
 use Rattle.model_handoff.specs.Changes.{MachineNow}

@@ -1,7 +1,7 @@
 use Rattle.std.proofs.Common.{◌≤◌, ◌∙◌, length, ap, sym, subst, arith}
 use Rattle.model_images.specs.Images.{Image}
-use Rattle.model_image_bytes.specs.ImageBytes.{image_bytes}
-use Rattle.image_bytes.specs.Puts.{put}
+use Rattle.model_images.specs.ImageBytes.{image_bytes}
+use Rattle.images.specs.Puts.{put}
 use Rattle.monitor.proofs.Calls.{guest_in, inside_guests}
 use Rattle.monitor.proofs.SavedImages.{image_is, places_kept}
 use Rattle.monitor.proofs.engine.Engine.save.Goals as goal

@@ -1,7 +1,7 @@
 use Rattle.std.proofs.Common.{◌≡◌, sym, subst}
 use Rattle.std.specs.Prelude.{IfOk, string_bytes}
 use Rattle.paths.specs.BusAddresses.{bus_address_of}
-use Rattle.model_why.specs.WhyText.{why_number_text}
+use Rattle.model_lines.specs.WhyText.{why_number_text}
 use Rattle.model_lines.specs.WhyLines.{why_written}
 use Rattle.model_lines.specs.Sessions.{DrivenNow}
 use Rattle.lines.specs.WhyLines.{why_asked_of}

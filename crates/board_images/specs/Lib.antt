@@ -1,4 +1,0 @@
-pub mod Faults
-pub mod BoardBytes
-pub mod FoundPaths
-pub mod HeldLaws

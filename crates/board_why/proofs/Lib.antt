@@ -1,4 +1,0 @@
-pub mod Indexed
-pub mod Rows
-pub mod Regions
-pub mod Bridges

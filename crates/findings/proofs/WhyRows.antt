@@ -1,0 +1,36 @@
+-- A row with what is declared of a bridge says of it what its registers say.
+use Rattle.std.proofs.Common.{◌≡◌, ℕ, Option, Some, None, refl, sym, ap, ◌∙◌}
+use Rattle.std.specs.Prelude.{List, ◌++◌, [], slice_get, option_map}
+use Rattle.std.specs.Option.{option_map_or, option_to_list}
+use Rattle.std.proofs.lemmas.Option.{slice_get-map}
+use Rattle.model_registers.specs.Decoding.{Space, io, memory, command_word}
+use Rattle.model_board.specs.Paths.{Path}
+use Rattle.model_board.specs.Board.{Decl, endpoint, bridge}
+use Rattle.model_board.specs.State.{BoardFunction}
+use Rattle.model_board.specs.Routing.{ranges_of, RoutingRow, row_of, routing}
+use Rattle.model_lines.specs.Why.{stop, stops}
+use Rattle.bridge_forward.specs.BridgeDecls.{declared_bridge, declared_bridge_nth}
+use Rattle.findings.specs.WhyByRows.{row_stop}
+
+stop_by_row : (space : Space) (n : ℕ) (p : Path) (f : BoardFunction) → row_stop space n p (declared_bridge f.decl) (row_of f) ≡ stop space n p f
+stop_by_row space n p f = by space f.decl
+  where
+    by : (s : Space) (d : Decl) → row_stop s n p (declared_bridge d) (record { path = f.path; command = command_word f.file; ranges = ranges_of f.file d }) ≡ stop s n p (record { path = f.path; decl = d; file = f.file })
+    by io (endpoint d) = refl
+    by memory (endpoint d) = refl
+    by io (bridge d) = refl
+    by memory (bridge d) = refl
+
+alone : {B : Type 0} (o : Option B) → option_to_list o ≡ option_to_list o ++ []
+alone None = refl
+alone (Some x) = refl
+
+pub stop_at : (fs : List BoardFunction) (rows : List RoutingRow) (space : Space) (n : ℕ) (p : Path) (i : ℕ) (r : RoutingRow) → rows ≡ routing fs → slice_get rows i ≡ Some r
+    → option_to_list (row_stop space n p (declared_bridge_nth fs i) r) ≡ stops (option_to_list (slice_get fs i)) space n p
+stop_at fs rows space n p i r e there = by (slice_get fs i) (sym (slice_get-map row_of fs i) ∙ ap (λ (xs : List RoutingRow). slice_get xs i) (sym e) ∙ there)
+  where
+    by : (o : Option BoardFunction) → option_map row_of o ≡ Some r → option_to_list (row_stop space n p (option_map_or (λ (f : BoardFunction). declared_bridge f.decl) o None) r) ≡ stops (option_to_list o) space n p
+    by None h = cc
+    by (Some f) h =
+        let same : row_of f ≡ r = cc in
+        ap (λ (x : RoutingRow). option_to_list (row_stop space n p (declared_bridge f.decl) x)) (sym same) ∙ ap option_to_list (stop_by_row space n p f) ∙ alone (stop space n p f)

@@ -1,0 +1,30 @@
+-- A configuration cycle on its way.
+--     end_told      where it ends, in the words of the definitions
+--     is_taker      the bridge that takes a cycle on a bus
+--     taken fs bus n      that bridge, and whether it is the last
+--     missing_by      what is missing at the end, unless a path is reached
+use Rattle.std.specs.Prelude.{List, [], ℕ, Bool, ◌&&◌, ◌==◌, Option, Some, None, option_map, unwrap_or}
+use Rattle.model_board.specs.Paths.{Path, path_eq, parent}
+use Rattle.model_board.specs.State.{BoardFunction}
+use Rattle.model_board.specs.Cycles.{secondary_register, covers, taker, BusAddress}
+use Rattle.model_lines.specs.Ways as ways
+use Rattle.findings.specs.declared.way.WayEnd.{WayEnd}
+use Rattle.findings.specs.declared.way.WayEnd.TheVariants.{OnBus, NoTaker}
+use Rattle.findings.specs.declared.way.Taken.{Taken}
+
+-- no path names bus 0
+abbrev pub end_told : WayEnd → ways.WayEnd
+end_told (OnBus behind) = ways.on_bus (unwrap_or behind [])
+end_told (NoTaker behind) = ways.no_taker (unwrap_or behind [])
+
+abbrev pub is_taker : Path → ℕ → BoardFunction → Bool
+is_taker bus n f = path_eq (parent f.path) bus && covers n f
+
+abbrev pub taken : List BoardFunction → Path → ℕ → Option Taken
+taken fs bus n =
+    option_map (λ (f : BoardFunction). record { path = f.path; is_last = secondary_register f.file == n })
+    (taker fs bus n)
+
+abbrev pub missing_by : Option Path → ways.WayEnd → BusAddress → Option ways.Missing
+missing_by None e at = Some (ways.missing_at e at)
+missing_by (Some p) e at = None

@@ -1,0 +1,58 @@
+//! Finding who answers an address, and why no other region does.
+ghost use Rattle.std.specs.Prelude.{◌≡◌, map, IfOk};
+ghost use Rattle.bars.specs.Kinds.{named_space};
+ghost use Rattle.model_board.specs.Routing.{routing};
+ghost use Rattle.model_lines.specs.Why.{why};
+ghost use Rattle.findings.specs.WhyByRows.{told_from};
+ghost use Rattle.findings.specs.WhyTold.{region_told, why_told};
+
+use crate::causes::{Told, Why};
+use crate::holding::{Asked, Held, all_held};
+use crate::stopping::causes_of;
+use bars::Space;
+use bridge_forward::RoutingRow;
+use host_bridge::Host;
+use std::alloc::{AllocError, Global};
+
+/// What is told of these regions.
+fn all_told(
+    alloc: Global,
+    host: &Host,
+    rows: &[RoutingRow],
+    asked: &Asked,
+    held: &[Held],
+) -> Result<Vec<Told>, AllocError>
+    requires { rows.now ≡ routing host.now.state.functions }
+    ensures { let space = named_space asked.now.space in let fs = host.now.state.functions in
+        IfOk result (λ v.
+        map region_told v.items ≡ map (told_from fs space asked.now.addr) held.now) }
+{
+    let mut told = Vec::new(alloc);
+    for one in held {
+        told.push(Told {
+            region: one.region.copied(),
+            causes: causes_of(alloc, host, rows, asked, one)?,
+        })?;
+    }
+    Ok(told)
+}
+
+/// Who answers an address as the registers stand, and each other region that holds it, in path order, then by
+/// register, with all that keeps it from answering.
+pub fn why_address(alloc: Global, host: &Host, space: Space, addr: u64) -> Result<Why, AllocError>
+    ensures { let fs = host.now.state.functions in
+        IfOk result (λ w. why_told w ≡ why fs (named_space space) addr) }
+{
+    let rows = host.routing(alloc)?;
+    let asked = Asked {
+        space,
+        addr,
+        answer: host.claimant(space, addr),
+    };
+    let held = all_held(alloc, &asked, &rows)?;
+    let told = all_told(alloc, host, &rows, &asked, &held)?;
+    Ok(Why {
+        answer: asked.answer,
+        told,
+    })
+}

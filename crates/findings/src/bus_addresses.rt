@@ -1,0 +1,63 @@
+//! The number by which a function is reached (PCI-to-PCI Bridge Architecture 1.2, chapter 3).
+ghost use Rattle.std.specs.Prelude.{◌≡◌, ◌≤◌, ◌<◌, ◌+◌, ◌++◌, length};
+ghost use Rattle.model_findings.specs.Orderly.{IsStateOfBoard};
+ghost use Rattle.model_findings.specs.Found.{bus_now, address_now};
+ghost use Rattle.paths.specs.BusAddresses.{bus_address_of};
+
+use host_bridge::{Bdf, Host};
+use paths::{Part, Path};
+
+/// A path that goes on by these parts.
+fn extended(path: Path, parts: &[Part]) -> Path
+    requires { length path + length parts.now ≤ 16 }
+    ensures { result ≡ path ++ parts.now }
+{
+    match parts {
+        [] => path,
+        [first, rest @ ..] => {
+            let mut longer = path;
+            longer.push(*first);
+            extended(longer, rest)
+        }
+    }
+}
+
+/// The path of these parts.
+fn path_of(parts: &[Part]) -> Path
+    requires some { 0 < length parts.now }
+    requires few { length parts.now ≤ 16 }
+    ensures { result ≡ parts.now }
+{
+    match parts {
+        [] => unreachable!(),
+        [first, rest @ ..] => extended(Path::on_root(*first), rest),
+    }
+}
+
+/// The number of a bus: what the bridge at these parts holds, and 0 for bus 0.
+fn bus_of(host: &Host, bus: &[Part]) -> u8
+    requires board { IsStateOfBoard host.now.state.functions }
+    requires short { length bus.now < 16 }
+    ensures { result ≡ bus_now host.now.state.functions bus.now }
+{
+    if bus.is_empty() {
+        return 0;
+    }
+    match host.index_of(&path_of(bus)) {
+        Some(index) => host.secondary_nth(index).unwrap_or(0),
+        None => 0,
+    }
+}
+
+/// The number of the function's bus, as the bridge above holds it, and its device and function.
+pub fn address_of(host: &Host, path: &Path) -> Bdf
+    requires { IsStateOfBoard host.now.state.functions }
+    ensures { bus_address_of result ≡ address_now host.now.state.functions path.now }
+{
+    let part = path.last();
+    Bdf {
+        bus: bus_of(host, path.parent()),
+        device: part.device(),
+        function: part.function(),
+    }
+}

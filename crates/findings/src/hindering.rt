@@ -1,0 +1,102 @@
+//! What keeps a bridge from forwarding an address (PCI-to-PCI Bridge Architecture 1.2, chapters 3.2.5 and 4).
+ghost use Rattle.std.specs.Prelude.{◌≡◌, map, option_map};
+ghost use Rattle.std.specs.Option.{option_to_list};
+ghost use Rattle.bars.specs.Kinds.{named_space};
+ghost use Rattle.model_board.specs.Routing.{row_forwards};
+ghost use Rattle.model_lines.specs.Why.{io_windows, pref_windows};
+ghost use Rattle.bridge_forward.specs.RoutingRows.{named_ranges, window_of};
+ghost use Rattle.findings.specs.WhyByRows.{row_windows, row_hindrance};
+ghost use Rattle.findings.specs.WhyTold.{window_told, windows_told, hindrance_told};
+
+use crate::causes::{Hindrance, NamedWindow, WindowName};
+use crate::row::{is_in, opens};
+use bars::Space;
+use bridge_forward::{Ranges, RoutingRow, Window};
+use headers::{BridgeDecl, IoDecode, PrefDecode};
+
+/// Whether a bridge forwards an address. Nothing else does.
+pub(crate) fn forwards(row: &RoutingRow, space: Space, addr: u64) -> bool
+    ensures { result ≡ row_forwards (named_space space) addr row.now }
+{
+    match &row.ranges {
+        Ranges::Regions(_) => false,
+        Ranges::Windows { io, mem, pref } => {
+            opens(row.command, space)
+                && match space {
+                    Space::Io => is_in(*io, addr),
+                    Space::Mem => is_in(*mem, addr) || is_in(*pref, addr),
+                }
+        }
+    }
+}
+
+/// The I/O window, if the bridge has one.
+fn io_window(decl: &BridgeDecl, window: Option<Window>) -> Option<NamedWindow>
+    ensures { map window_told (option_to_list result)
+        ≡ io_windows decl.now.io (option_map window_of window) }
+{
+    match decl.io() {
+        IoDecode::Unimplemented => None,
+        IoDecode::Bits16 | IoDecode::Bits32 => Some(NamedWindow {
+            name: WindowName::Io,
+            window,
+        }),
+    }
+}
+
+/// The prefetchable window, if the bridge has one.
+fn pref_window(decl: &BridgeDecl, window: Option<Window>) -> Option<NamedWindow>
+    ensures { map window_told (option_to_list result)
+        ≡ pref_windows decl.now.pref (option_map window_of window) }
+{
+    match decl.pref() {
+        PrefDecode::Unimplemented => None,
+        PrefDecode::Bits32 | PrefDecode::Bits64 => Some(NamedWindow {
+            name: WindowName::Prefetchable,
+            window,
+        }),
+    }
+}
+
+/// The windows that a bridge has for a space. Only that of memory is always there.
+fn windows(
+    decl: &BridgeDecl,
+    ranges: &Ranges,
+    space: Space,
+) -> (Option<NamedWindow>, Option<NamedWindow>)
+    ensures { windows_told result.0 result.1
+        ≡ row_windows (named_space space) decl.now (named_ranges ranges.now) }
+{
+    match ranges {
+        Ranges::Regions(_) => (None, None),
+        Ranges::Windows { io, mem, pref } => match space {
+            Space::Io => (None, io_window(decl, *io)),
+            Space::Mem => {
+                let memory = NamedWindow {
+                    name: WindowName::Memory,
+                    window: *mem,
+                };
+                (Some(memory), pref_window(decl, *pref))
+            }
+        },
+    }
+}
+
+/// What keeps a bridge from forwarding an address that it doesn't forward.
+pub(crate) fn hindrance_of(row: &RoutingRow, decl: Option<BridgeDecl>, space: Space) -> Hindrance
+    ensures { hindrance_told result ≡ row_hindrance (named_space space) decl row.now }
+{
+    let Some(decl) = decl else {
+        return Hindrance::Misses {
+            one: None,
+            other: None,
+        };
+    };
+    if !opens(row.command, space) {
+        return Hindrance::Closes {
+            command: row.command,
+        };
+    }
+    let (one, other) = windows(&decl, &row.ranges, space);
+    Hindrance::Misses { one, other }
+}

@@ -1,0 +1,102 @@
+//! Regions that hold an address and don't answer it.
+ghost use Rattle.std.specs.Prelude.{◌≡◌, ◌++◌, map, IfOk, OnOk};
+ghost use Rattle.bars.specs.Kinds.{named_space};
+ghost use Rattle.model_findings.specs.OpenRegions.{region_now};
+ghost use Rattle.model_lines.specs.Why.{is_answer};
+ghost use Rattle.bridge_forward.specs.RoutingRows.{base_of};
+ghost use Rattle.findings.specs.WhyByRows.{is_held, held_in, held_of, all_held};
+
+use crate::region::RegionNow;
+use bars::Space;
+use bridge_forward::{Claim, Path, Ranges, RoutingRegion, RoutingRow};
+use std::alloc::{AllocError, Global};
+
+/// An address that is asked about, and who answers it.
+#[derive(Drop)]
+pub(crate) struct Asked {
+    pub(crate) space: Space,
+    pub(crate) addr: u64,
+    pub(crate) answer: Option<Claim>,
+}
+
+/// A region, and the Command of its function.
+#[derive(Drop)]
+pub(crate) struct Held {
+    pub(crate) region: RegionNow,
+    pub(crate) command: u16,
+}
+
+/// Whether a region is the one that answers.
+fn is_answer(answer: &Option<Claim>, region: &RegionNow) -> bool
+    ensures { result ≡ is_answer answer.now region.now }
+{
+    match answer {
+        None => false,
+        Some(claim) => claim.path == region.path && claim.region == region.region.index,
+    }
+}
+
+/// Whether a region holds the address and doesn't answer it.
+fn is_held(asked: &Asked, region: &RegionNow) -> bool
+    ensures { let space = named_space asked.now.space in
+        result ≡ is_held space asked.now.addr asked.now.answer region.now }
+{
+    region.region.kind.space() == asked.space
+        && region.holds(asked.addr)
+        && !is_answer(&asked.answer, region)
+}
+
+/// Adds those regions of a function that hold the address and don't answer it.
+fn add_regions(
+    held: &mut Vec<Held>,
+    asked: &Asked,
+    path: &Path,
+    command: u16,
+    regions: &[RoutingRegion],
+) -> Result<(), AllocError>
+    ensures { let space = named_space asked.now.space in
+        let qs = map (region_now path.now) (map base_of regions.now) in
+        OnOk result (held.new.items
+        ≡ held.old.items ++ held_in space asked.now.addr asked.now.answer command qs) }
+{
+    for region in regions {
+        let here = RegionNow {
+            path: path.copied(),
+            region: *region,
+        };
+        if is_held(asked, &here) {
+            held.push(Held {
+                region: here,
+                command,
+            })?;
+        }
+    }
+    Ok(())
+}
+
+/// Adds the regions of a function that hold the address and don't answer it.
+fn add_function(held: &mut Vec<Held>, asked: &Asked, row: &RoutingRow) -> Result<(), AllocError>
+    ensures { let space = named_space asked.now.space in OnOk result (held.new.items
+        ≡ held.old.items ++ held_of space asked.now.addr asked.now.answer row.now) }
+{
+    match &row.ranges {
+        Ranges::Regions(regions) => add_regions(held, asked, &row.path, row.command, regions),
+        Ranges::Windows { .. } => Ok(()),
+    }
+}
+
+/// All regions that hold the address and don't answer it, in path order, then by register.
+pub(crate) fn all_held(
+    alloc: Global,
+    asked: &Asked,
+    rows: &[RoutingRow],
+) -> Result<Vec<Held>, AllocError>
+    ensures { let space = named_space asked.now.space in
+        IfOk result (λ v. v.items ≡ all_held space asked.now.addr asked.now.answer rows.now) }
+{
+    let mut held = Vec::new(alloc);
+    for row in rows {
+        add_function(&mut held, asked, row)?;
+    }
+    Ok(held)
+}

@@ -1,0 +1,45 @@
+//! Who made a function and what it is (PCI Local Bus 3.0, chapters 6.2.1 and 6.2.4).
+ghost use Rattle.std.specs.Prelude.{◌≡◌, ◌≤◌, ◌+◌, ◌%◌, option_map, slice_get};
+ghost use Rattle.model_board.specs.State.{BoardFunction};
+ghost use Rattle.model_handoff.specs.Functions.{subsystem_number};
+ghost use Rattle.findings.specs.Identities.{identity_told, identity_nth};
+
+use host_bridge::Host;
+
+/// The identity registers of a function. A bridge has no subsystem, and both numbers are 0.
+#[derive(Clone, Copy, Debug, PartialEq, Eq)]
+pub struct Identity {
+    pub vendor: u32,
+    pub device: u32,
+    pub revision: u32,
+    pub class: u32,
+    pub subvendor: u32,
+    pub subsystem: u32,
+}
+
+/// A number of the subsystem of the function at an index: 0 where it is a bridge.
+fn subsystem_number(host: &Host, index: usize, off: u8) -> Option<u32>
+    requires { off % 4 + 2 ≤ 4 }
+    ensures { let fs = host.now.state.functions in
+        result ≡ option_map (λ (f : BoardFunction). subsystem_number f.decl f.file off)
+        (slice_get fs index) }
+{
+    match host.secondary_nth(index) {
+        Some(_) => Some(0),
+        None => host.number_nth(index, off, 2),
+    }
+}
+
+/// The identity of the function at an index.
+pub fn identity_nth(host: &Host, index: usize) -> Option<Identity>
+    ensures { option_map identity_told result ≡ identity_nth host.now.state.functions index }
+{
+    Some(Identity {
+        vendor: host.number_nth(index, 0x00, 2)?,
+        device: host.number_nth(index, 0x02, 2)?,
+        revision: host.number_nth(index, 0x08, 1)?,
+        class: host.number_nth(index, 0x09, 3)?,
+        subvendor: subsystem_number(host, index, 0x2c)?,
+        subsystem: subsystem_number(host, index, 0x2e)?,
+    })
+}

@@ -1,0 +1,110 @@
+//! Why a configuration number reaches what it reaches (PCI-to-PCI Bridge Architecture 1.2, chapter 3).
+ghost use Rattle.std.specs.Prelude.{◌≡◌, map, option_map, IfOk};
+ghost use Rattle.model_board.specs.Cycles.{reached};
+ghost use Rattle.model_board.specs.State.{BoardFunction};
+ghost use Rattle.model_lines.specs.Ways.{bridges_on_way, end_of, missing_at, why_number};
+ghost use Rattle.paths.specs.BusAddresses.{bus_address_of};
+ghost use Rattle.findings.specs.WhyOnWay.{end_told, missing_by};
+ghost use Rattle.findings.specs.WhyTold.{missing_told, number_told};
+
+use crate::way::{Way, WayEnd, way_down};
+use bridge_forward::Path;
+use host_bridge::{Bdf, Host};
+use std::alloc::{AllocError, Global};
+
+/// What is missing where a cycle ends. A bus is told by the bridge above it; none is above bus 0.
+#[derive(Debug, Drop)]
+pub enum Missing {
+    /// No bridge of a bus takes cycles for another bus.
+    NoBridge {
+        behind: Option<Path>,
+        bus: u8,
+    },
+    /// No such function stands on a bus.
+    NoFunction {
+        behind: Option<Path>,
+        device: u8,
+        function: u8,
+    },
+}
+
+/// The function that a configuration number reaches, the bridges on the way to it, and what is missing where it
+/// reaches nothing.
+#[derive(Debug, Drop)]
+pub struct WhyNumber {
+    pub reached: Option<Path>,
+    pub bridges: Vec<Path>,
+    pub missing: Option<Missing>,
+}
+
+/// The way of a cycle from bus 0 down.
+fn way_of(alloc: Global, host: &Host, at: Bdf) -> Result<Way, AllocError>
+    ensures bridges { let fs = host.now.state.functions in
+        let bridges = bridges_on_way fs (bus_address_of at) in
+        IfOk result (λ w. w.bridges.items ≡ map (λ (f : BoardFunction). f.path) bridges) }
+    ensures end { let fs = host.now.state.functions in
+        IfOk result (λ w. end_told w.end ≡ end_of fs (bus_address_of at)) }
+{
+    if at.bus == 0 {
+        return Ok(Way {
+            bridges: Vec::new(alloc),
+            end: WayEnd::OnBus(None),
+        });
+    }
+    way_down(alloc, host, at.bus)
+}
+
+/// The path of the function that a number reaches.
+fn path_reached(host: &mut Host, at: Bdf) -> Option<Path>
+    ensures path { let fs = host.old.state.functions in result
+        ≡ option_map (λ (f : BoardFunction). f.path) (reached fs (bus_address_of at)) }
+    ensures after { host.new ≡ host.old }
+{
+    let index = host.index_reached(at)?;
+    host.path_nth(index)
+}
+
+/// What is missing at the end of a way.
+fn missing_at(end: WayEnd, at: Bdf) -> Missing
+    ensures { missing_told result ≡ missing_at (end_told end) (bus_address_of at) }
+{
+    match end {
+        WayEnd::OnBus(behind) => Missing::NoFunction {
+            behind,
+            device: at.device,
+            function: at.function,
+        },
+        WayEnd::NoTaker(path) => Missing::NoBridge {
+            behind: path,
+            bus: at.bus,
+        },
+    }
+}
+
+/// What is missing, unless something is reached.
+fn missing_if(reached: &Option<Path>, end: WayEnd, at: Bdf) -> Option<Missing>
+    ensures { option_map missing_told result
+        ≡ missing_by reached.now (end_told end) (bus_address_of at) }
+{
+    match reached {
+        Some(_) => None,
+        None => Some(missing_at(end, at)),
+    }
+}
+
+/// What a configuration number reaches as the registers stand, the bridges that take its cycle, from bus 0 down, and
+/// what is missing where it reaches nothing. Nothing changes, also where memory is out.
+pub fn why_number(alloc: Global, host: &mut Host, at: Bdf) -> Result<WhyNumber, AllocError>
+    ensures told { let fs = host.old.state.functions in
+        IfOk result (λ w. number_told w ≡ why_number fs (bus_address_of at)) }
+    ensures after { host.new ≡ host.old }
+{
+    let way = way_of(alloc, host, at)?;
+    let reached = path_reached(host, at);
+    let missing = missing_if(&reached, way.end, at);
+    Ok(WhyNumber {
+        reached,
+        bridges: way.bridges,
+        missing,
+    })
+}

@@ -1,0 +1,115 @@
+//! What keeps a region that holds an address from answering it.
+ghost use Rattle.std.specs.Prelude.{◌≡◌, map, slice_get, option_map, IfOk};
+ghost use Rattle.std.specs.Option.{option_to_list};
+ghost use Rattle.bars.specs.Kinds.{named_space};
+ghost use Rattle.model_board.specs.Routing.{routing};
+ghost use Rattle.model_lines.specs.Why.{stops};
+ghost use Rattle.bridge_forward.specs.BridgeDecls.{declared_bridge_nth};
+ghost use Rattle.findings.specs.WhyByRows.{row_stop, causes_down, causes_at};
+ghost use Rattle.findings.specs.WhyTold.{cause_told};
+
+use crate::causes::Cause;
+use crate::hindering::{forwards, hindrance_of};
+use crate::holding::{Asked, Held};
+use crate::row::opens;
+use bridge_forward::{Path, RoutingRow};
+use host_bridge::Host;
+use std::alloc::{AllocError, Global};
+
+/// What keeps the address from a path at the function at an index, whose row is given, if that is above the path and
+/// doesn't forward it. Most functions are not above: what is declared of them isn't asked for.
+fn stop(host: &Host, index: usize, row: &RoutingRow, asked: &Asked, path: &Path) -> Option<Cause>
+    ensures { let space = named_space asked.now.space in
+        let decl = declared_bridge_nth host.now.state.functions index in
+        option_map cause_told result ≡ row_stop space asked.now.addr path.now decl row.now }
+{
+    if !row.path.leads_to(path) || forwards(row, asked.space, asked.addr) {
+        return None;
+    }
+    let decl = host.bridge_decl_nth(index);
+    Some(Cause::StoppedAt {
+        bridge: row.path.copied(),
+        hindrance: hindrance_of(row, decl, asked.space),
+    })
+}
+
+/// The same of the function at an index.
+fn stop_nth(
+    host: &Host,
+    rows: &[RoutingRow],
+    asked: &Asked,
+    path: &Path,
+    index: usize,
+) -> Option<Cause>
+    requires { rows.now ≡ routing host.now.state.functions }
+    ensures { let space = named_space asked.now.space in
+        let one = option_to_list (slice_get host.now.state.functions index) in
+        option_to_list (option_map cause_told result) ≡ stops one space asked.now.addr path.now }
+{
+    if index >= rows.len() {
+        return None;
+    }
+    stop(host, index, &rows[index], asked, path)
+}
+
+/// What keeps the address from a path at each bridge above it that doesn't forward it, from bus 0 down.
+fn stops(
+    alloc: Global,
+    host: &Host,
+    rows: &[RoutingRow],
+    asked: &Asked,
+    path: &Path,
+) -> Result<Vec<Cause>, AllocError>
+    requires { rows.now ≡ routing host.now.state.functions }
+    ensures { let space = named_space asked.now.space in let fs = host.now.state.functions in
+        IfOk result (λ v.
+        map cause_told v.items ≡ stops fs space asked.now.addr path.now) }
+{
+    let mut causes = Vec::new(alloc);
+    for index in 0..rows.len() {
+        if let Some(cause) = stop_nth(host, rows, asked, path, index) {
+            causes.push(cause)?;
+        }
+    }
+    Ok(causes)
+}
+
+/// All that keeps a region that holds the address from answering it, from bus 0 down.
+fn causes_down(
+    alloc: Global,
+    host: &Host,
+    rows: &[RoutingRow],
+    asked: &Asked,
+    held: &Held,
+) -> Result<Vec<Cause>, AllocError>
+    requires { rows.now ≡ routing host.now.state.functions }
+    ensures { let space = named_space asked.now.space in let fs = host.now.state.functions in
+        IfOk result (λ v. map cause_told v.items
+        ≡ causes_down fs space asked.now.addr held.now.region.path held.now.command) }
+{
+    let mut causes = stops(alloc, host, rows, asked, &held.region.path)?;
+    if !opens(held.command, asked.space) {
+        causes.push(Cause::ClosedBy {
+            command: held.command,
+        })?;
+    }
+    Ok(causes)
+}
+
+/// The same, the nearest to its function first.
+pub(crate) fn causes_of(
+    alloc: Global,
+    host: &Host,
+    rows: &[RoutingRow],
+    asked: &Asked,
+    held: &Held,
+) -> Result<Vec<Cause>, AllocError>
+    requires { rows.now ≡ routing host.now.state.functions }
+    ensures { let space = named_space asked.now.space in let fs = host.now.state.functions in
+        IfOk result (λ v. map cause_told v.items
+        ≡ causes_at fs space asked.now.addr held.now.region.path held.now.command) }
+{
+    let mut causes = causes_down(alloc, host, rows, asked, held)?;
+    causes.reverse();
+    Ok(causes)
+}

@@ -1,0 +1,126 @@
+//! The way of a configuration cycle (PCI-to-PCI Bridge Architecture 1.2, chapter 3).
+ghost use Rattle.std.specs.Prelude.{◌≡◌, [], false, map, slice_get, unwrap_or, IfOk};
+ghost use Rattle.std.specs.Option.{option_and_then, option_map_or};
+ghost use Rattle.model_board.specs.Paths.{path_eq, parent};
+ghost use Rattle.model_board.specs.State.{BoardFunction};
+ghost use Rattle.model_board.specs.Cycles.{covers, taker};
+ghost use Rattle.model_lines.specs.Ways.{way, way_end};
+ghost use Rattle.findings.specs.WhyOnWay.{end_told, is_taker, taken};
+
+use bridge_forward::Path;
+use host_bridge::Host;
+use std::alloc::{AllocError, Global};
+
+/// Where a cycle for a bus ends: on the bus, or on one of which no bridge takes it. Each bus is told by the bridge
+/// above it; none is above bus 0.
+#[derive(Drop)]
+pub(crate) enum WayEnd {
+    OnBus(Option<Path>),
+    NoTaker(Option<Path>),
+}
+
+/// The bridges that take a cycle, from a bus down, and where it ends.
+#[derive(Drop)]
+pub(crate) struct Way {
+    pub(crate) bridges: Vec<Path>,
+    pub(crate) end: WayEnd,
+}
+
+/// A bridge that takes a cycle, and whether the bus behind it is the cycle's.
+#[derive(Drop)]
+pub(crate) struct Taken {
+    path: Path,
+    is_last: bool,
+}
+
+/// Whether a function stands on a bus.
+fn is_on(path: &Path, bus: &Option<Path>) -> bool
+    ensures { result ≡ path_eq (parent path.now) (unwrap_or bus.now []) }
+{
+    match bus {
+        Some(bus) => bus.has_parts(path.parent()),
+        None => path.parent().is_empty(),
+    }
+}
+
+/// Whether the function at an index is a bridge that takes cycles for a bus.
+fn covers_nth(host: &Host, index: usize, number: u8) -> bool
+    ensures { let fs = host.now.state.functions in
+        result ≡ option_map_or (covers number) (slice_get fs index) false }
+{
+    let Some(secondary) = host.secondary_nth(index) else {
+        return false;
+    };
+    let Some(subordinate) = host.number_nth(index, 0x1a, 1) else {
+        return false;
+    };
+    secondary <= number && u32::from(number) <= subordinate
+}
+
+/// Whether the function at an index takes cycles for a bus, put on the bus where it stands.
+fn takes_nth(host: &Host, index: usize, bus: &Option<Path>, number: u8) -> bool
+    ensures { let fs = host.now.state.functions in result
+        ≡ option_map_or (is_taker (unwrap_or bus.now []) number) (slice_get fs index) false }
+{
+    match host.path_nth(index) {
+        Some(path) => is_on(&path, bus) && covers_nth(host, index, number),
+        None => false,
+    }
+}
+
+/// The first bridge of a bus that takes cycles for another bus.
+fn taker(host: &Host, bus: &Option<Path>, number: u8) -> Option<usize>
+    ensures { let fs = host.now.state.functions in
+        option_and_then (slice_get fs) result ≡ taker fs (unwrap_or bus.now []) number }
+{
+    for index in 0..host.count() {
+        if takes_nth(host, index, bus, number) {
+            return Some(index);
+        }
+    }
+    None
+}
+
+/// The same with its path, and whether it is the last.
+fn next_bridge(host: &Host, bus: &Option<Path>, number: u8) -> Option<Taken>
+    ensures { result ≡ taken host.now.state.functions (unwrap_or bus.now []) number }
+{
+    let index = taker(host, bus, number)?;
+    let path = host.path_nth(index)?;
+    let secondary = host.number_nth(index, 0x19, 1)?;
+    Some(Taken {
+        path,
+        is_last: secondary == u32::from(number),
+    })
+}
+
+/// The way of a cycle for a bus that isn't bus 0, from bus 0 down. No function stands behind more than 15 bridges.
+pub(crate) fn way_down(alloc: Global, host: &Host, number: u8) -> Result<Way, AllocError>
+    ensures bridges { let fs = host.now.state.functions in IfOk result (λ w.
+        w.bridges.items ≡ map (λ (f : BoardFunction). f.path) (way fs number 16 [])) }
+    ensures end { let fs = host.now.state.functions in
+        IfOk result (λ w. end_told w.end ≡ way_end fs number 16 []) }
+{
+    let mut bridges = Vec::new(alloc);
+    let mut bus = None;
+    for _level in 0..16u8 {
+        let Some(Taken { path, is_last }) = next_bridge(host, &bus, number) else {
+            return Ok(Way {
+                bridges,
+                end: WayEnd::NoTaker(bus),
+            });
+        };
+        bridges.push(path.copied())?;
+        bus = Some(path);
+        if is_last {
+            return Ok(Way {
+                bridges,
+                end: WayEnd::OnBus(bus),
+            });
+        }
+    }
+    Ok(Way {
+        bridges,
+        end: WayEnd::NoTaker(bus),
+    })
+}

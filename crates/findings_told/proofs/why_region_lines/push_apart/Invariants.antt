@@ -1,0 +1,7 @@
+use Rattle.std.proofs.Common.{◌≡◌, ◌++◌, drop, string_bytes}
+use Rattle.bars.specs.Kinds.{named_space}
+use Rattle.findings_told.specs.WhyLines.{apart_lines}
+use Rattle.findings_told.proofs.why_region_lines.push_apart.Given as goal
+
+abbrev pub invariant-loop-told : goal.invariant-loop-told
+invariant-loop-told l = string_bytes l.text ++ apart_lines (named_space l.space) (drop l.told-index l.all) ≡ string_bytes l.fn.text ++ apart_lines (named_space l.space) l.all

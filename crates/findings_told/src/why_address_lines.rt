@@ -1,0 +1,175 @@
+//! The lines of an address.
+ghost use Rattle.std.specs.Prelude.{◌++◌, codes, map, OnOk};
+ghost use Rattle.std.specs.Option.{option_map_or};
+ghost use Rattle.lists.specs.Texts.{Adds};
+ghost use Rattle.bars.specs.Kinds.{named_space};
+ghost use Rattle.model_lines.specs.Why.{stopped_at};
+ghost use Rattle.model_lines.specs.WhyText.{command_text, hindrance_text, cause_text, more_text};
+ghost use Rattle.model_lines.specs.WhyText.{causes_text, told_text, claim_text, why_line};
+ghost use Rattle.findings.specs.WhyTold.{hindrance_told, cause_told, region_told};
+ghost use Rattle.report.specs.Found.{ended};
+ghost use Rattle.findings_told.specs.WhyLines.{address_head};
+
+use crate::places::{push_address, push_region, push_space};
+use crate::why_parts::{push_command, push_windows};
+use bars::Space;
+use bridge_forward::{Claim, Path};
+use findings::{Cause, Hindrance, Told};
+use report::push_path;
+use std::alloc::AllocError;
+
+/// Appends what keeps a bridge from forwarding an address.
+fn push_hindrance(text: &mut String, space: Space, hindrance: Hindrance) -> Result<(), AllocError>
+    ensures { OnOk result (Adds text.old text.new
+        (hindrance_text (named_space space) (hindrance_told hindrance))) }
+{
+    match hindrance {
+        Hindrance::Closes { command } => {
+            push_command(text, command)?;
+            text.push_str(" closes ")?;
+            push_space(text, space)
+        }
+        Hindrance::Misses { one, other } => push_windows(text, one, other),
+    }
+}
+
+/// Appends what is said of a bridge that doesn't forward an address.
+fn push_stopped(
+    text: &mut String,
+    space: Space,
+    bridge: &Path,
+    hindrance: Hindrance,
+) -> Result<(), AllocError>
+    ensures { OnOk result (Adds text.old text.new
+        (cause_text (named_space space) (stopped_at bridge.now (hindrance_told hindrance)))) }
+{
+    push_path(text, bridge)?;
+    text.push_str(" doesn't forward it, ")?;
+    push_hindrance(text, space, hindrance)
+}
+
+/// Appends what is said of a region that is closed.
+fn push_closed(text: &mut String, command: u16) -> Result<(), AllocError>
+    ensures { OnOk result (Adds text.old text.new (codes "closed, " ++ command_text command)) }
+{
+    text.push_str("closed, ")?;
+    push_command(text, command)
+}
+
+/// Appends a cause that keeps a region from answering.
+fn push_cause(text: &mut String, space: Space, cause: &Cause) -> Result<(), AllocError>
+    ensures { OnOk result (Adds text.old text.new
+        (cause_text (named_space space) (cause_told cause.now))) }
+{
+    match cause {
+        Cause::ClosedBy { command } => push_closed(text, *command),
+        Cause::StoppedAt { bridge, hindrance } => push_stopped(text, space, bridge, *hindrance),
+    }
+}
+
+/// Appends a cause after another one.
+fn push_next(text: &mut String, space: Space, cause: &Cause) -> Result<(), AllocError>
+    ensures { OnOk result (Adds text.old text.new
+        (codes "; " ++ cause_text (named_space space) (cause_told cause.now))) }
+{
+    text.push_str("; ")?;
+    push_cause(text, space, cause)
+}
+
+/// Appends causes after another one.
+fn push_more(text: &mut String, space: Space, causes: &[Cause]) -> Result<(), AllocError>
+    ensures { OnOk result (Adds text.old text.new
+        (more_text (named_space space) (map cause_told causes.now))) }
+{
+    for cause in causes {
+        push_next(text, space, cause)?;
+    }
+    Ok(())
+}
+
+/// Appends all that keeps a region from answering.
+fn push_causes(text: &mut String, space: Space, causes: &[Cause]) -> Result<(), AllocError>
+    ensures { OnOk result (Adds text.old text.new
+        (causes_text (named_space space) (map cause_told causes.now))) }
+{
+    match causes {
+        [] => text.push_str("would answer too"),
+        [cause, more @ ..] => {
+            push_cause(text, space, cause)?;
+            push_more(text, space, more)
+        }
+    }
+}
+
+/// Appends a region that holds the address, and what keeps it from answering.
+fn push_told(text: &mut String, space: Space, told: &Told) -> Result<(), AllocError>
+    ensures { OnOk result (Adds text.old text.new
+        (told_text (named_space space) (region_told told.now))) }
+{
+    push_region(text, &told.region)?;
+    text.push_str(": ")?;
+    push_causes(text, space, &told.causes)
+}
+
+/// Appends its line.
+pub(crate) fn push_told_line(text: &mut String, space: Space, told: &Told) -> Result<(), AllocError>
+    ensures { OnOk result (Adds text.old text.new
+        (ended (why_line (told_text (named_space space) (region_told told.now))))) }
+{
+    text.push_str("why: ")?;
+    push_told(text, space, told)?;
+    text.push('\n')
+}
+
+/// Appends where an address lands.
+fn push_claim(text: &mut String, claim: &Claim) -> Result<(), AllocError>
+    ensures { OnOk result (Adds text.old text.new (claim_text claim.now)) }
+{
+    push_path(text, &claim.path)?;
+    let region = claim.region;
+    let offset = claim.offset;
+    write!(text, " bar{region} offset 0x{offset:x} answers")
+}
+
+/// Appends who answers an address.
+fn push_answer(text: &mut String, answer: &Option<Claim>) -> Result<(), AllocError>
+    ensures { OnOk result (Adds text.old text.new
+        (option_map_or claim_text answer.now (codes "nobody answers"))) }
+{
+    match answer {
+        Some(claim) => push_claim(text, claim),
+        None => text.push_str("nobody answers"),
+    }
+}
+
+/// Appends an address, and who answers it.
+fn push_found(
+    text: &mut String,
+    space: Space,
+    addr: u64,
+    answer: &Option<Claim>,
+) -> Result<(), AllocError>
+    ensures { OnOk result (Adds text.old text.new
+        (address_head (named_space space) addr answer.now)) }
+{
+    push_space(text, space)?;
+    text.push_str(" ")?;
+    push_address(text, addr)?;
+    text.push_str(": ")?;
+    push_answer(text, answer)
+}
+
+/// Appends the line of who answers an address.
+pub(crate) fn push_head(
+    text: &mut String,
+    space: Space,
+    addr: u64,
+    answer: &Option<Claim>,
+) -> Result<(), AllocError>
+    ensures { OnOk result (Adds text.old text.new
+        (ended (why_line (address_head (named_space space) addr answer.now)))) }
+{
+    text.push_str("why: ")?;
+    push_found(text, space, addr, answer)?;
+    text.push('\n')
+}

@@ -1,4 +1,0 @@
-pub mod Cells
-pub mod Faults
-pub mod Parts
-pub mod Puts

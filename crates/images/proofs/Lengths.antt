@@ -1,0 +1,84 @@
+-- How long the parts of a declaration are.
+use Rattle.std.proofs.Common.{◌≡◌, ◌+◌, ◌*◌, ◌≤◌, ℕ, zero, suc, false, List, [], ◌∷◌, ◌++◌, ◌/◌, length, refl, ap, ◌∙◌, arith, length-append}
+use Rattle.std.specs.Prelude.{flat_map}
+use Rattle.model_registers.specs.Cell.{Cell}
+use Rattle.model_registers.specs.Declarations.{Kind, io_kind, mem32, mem64, registers_of, Region, ConfigBlock, Endpoint}
+use Rattle.model_registers.specs.EndpointTable.{block_cells, endpoint_reset, header_cells, region_cells}
+use Rattle.model_registers.specs.Registers.{Place, after, File, field}
+use Rattle.model_registers.specs.DeclarationRules.{IsLawfulEndpoint}
+use Rattle.model_images.proofs.Savable.{region_count, block_count}
+use Rattle.images.proofs.TakenValues.{many_cells}
+use Rattle.images.specs.Parts.{cell_bytes, endpoint_head, region_head, block_head, region_bytes, block_bytes, counted_blocks, rest_bytes, declared_bytes}
+
+cells_length : (cs : List Cell) → length (flat_map cell_bytes cs) ≡ 3 * length cs
+unfolding cell_bytes
+cells_length [] = refl
+cells_length (c ∷ cs) = let more = cells_length cs in omega arith
+
+head_length : (r : Region) → length (region_head r) ≡ 12
+unfolding region_head
+head_length r = refl
+
+block_head_length : (b : ConfigBlock) → length (block_head b) ≡ 2
+unfolding block_head
+block_head_length b = refl
+
+endpoint_head_length : (d : Endpoint) → length (endpoint_head d) ≡ 18
+unfolding endpoint_head
+endpoint_head_length d = refl
+
+pub region_length : (r : Region) → length (region_bytes r) ≡ 12 + 3 * length r.cells
+region_length r = let a = length-append (region_head r) (flat_map cell_bytes r.cells) in let b = head_length r in let c = cells_length r.cells in omega arith
+
+pub block_length : (b : ConfigBlock) → length (block_bytes b) ≡ 2 + 3 * length b.cells
+block_length b = let a = length-append (block_head b) (flat_map cell_bytes b.cells) in let h = block_head_length b in let c = cells_length b.cells in omega arith
+
+-- the first of a list
+pub first_length : {A : Type 0} (f : A → List ℕ) (x : A) (left rest : List A) → left ≡ x ∷ rest → length (flat_map f left) ≡ length (f x) + length (flat_map f rest)
+first_length f x left rest first = ap (λ (l : List _). length (flat_map f l)) first ∙ length-append (f x) (flat_map f rest)
+
+pub parts_length : (d : Endpoint) (rs : List Region) (bs : List ConfigBlock) → rs ≡ d.regions → bs ≡ d.blocks
+    → 19 + length (flat_map region_bytes rs) + length (flat_map block_bytes bs) ≡ length (declared_bytes d)
+parts_length d rs bs regions blocks =
+    let a = length-append (endpoint_head d) (rest_bytes d) in
+    let h = endpoint_head_length d in
+    let b = length-append (flat_map region_bytes d.regions) (counted_blocks d.blocks) in
+    let x = ap (λ (l : List Region). length (flat_map region_bytes l)) regions in
+    let y = ap (λ (l : List ConfigBlock). length (flat_map block_bytes l)) blocks in
+    omega arith
+
+-- how many there are
+
+pub few_regions : (d : Endpoint) (rs : List Region) → IsLawfulEndpoint d → rs ≡ d.regions → length rs ≤ 6
+few_regions d rs h same = let few = region_count d h in let as_many = ap (λ (l : List Region). length l) same in omega arith
+
+pub few_blocks : (d : Endpoint) (bs : List ConfigBlock) → IsLawfulEndpoint d → bs ≡ d.blocks → length bs ≤ 192
+few_blocks d bs h same = let few = block_count d h in let as_many = ap (λ (l : List ConfigBlock). length l) same in omega arith
+
+-- ---- how many cells
+
+pub first_cells : {A : Type 0} (f : A → File) (x : A) (left rest : List A) → left ≡ x ∷ rest → length (flat_map f left) ≡ length (f x) + length (flat_map f rest)
+first_cells f x left rest first = ap (λ (l : List _). length (flat_map f l)) first ∙ length-append (f x) (flat_map f rest)
+
+pub field_count : (p : Place) (w v rw w1c : ℕ) → length (field p w v rw w1c) ≡ w
+field_count p zero v rw w1c = refl
+field_count p (suc w) v rw w1c = ap suc (field_count (after p) w (v / 256) (rw / 256) (w1c / 256))
+
+pub few_registers : (k : Kind) → registers_of k ≤ 2
+few_registers io_kind = omega arith
+few_registers (mem32 pref) = omega arith
+few_registers (mem64 pref) = omega arith
+
+pub region_cell_count : (r : Region) → length (region_cells (λ x. 0) r) ≡ 4 * registers_of r.kind + length r.cells
+region_cell_count r = grind (arith, field_count, many_cells)
+
+pub cells_count : (d : Endpoint) (rs : List Region) (bs : List ConfigBlock) → rs ≡ d.regions → bs ≡ d.blocks
+    → 23 + length (flat_map block_cells bs) + length (flat_map (region_cells (λ r. 0)) rs) ≡ length (endpoint_reset d false)
+cells_count d rs bs regions blocks =
+    let header = header_cells d false 0 in
+    let h : length header ≡ 23 = refl in
+    let a = length-append header (flat_map block_cells d.blocks) in
+    let b = length-append (header ++ flat_map block_cells d.blocks) (flat_map (region_cells (λ r. 0)) d.regions) in
+    let x = ap (λ (l : List Region). length (flat_map (region_cells (λ r. 0)) l)) regions in
+    let y = ap (λ (l : List ConfigBlock). length (flat_map block_cells l)) blocks in
+    omega arith

@@ -1,0 +1,27 @@
+use Rattle.std.proofs.Common.{◌∙◌, sym, ap, arith}
+use Rattle.model_images.specs.LoadedBytes.{after_values}
+use Rattle.images.specs.Faults.{number_of}
+use Rattle.images.proofs.TakenValues.{blocks_end_of, header_ends_of, regions_decide}
+use Rattle.images.proofs.values.after_values.Goals as goal
+
+pub returns-in_err-bytes-clause-refused : goal.returns-in_err-bytes-clause-refused
+returns-in_err-bytes-clause-refused c =
+    let all = header_ends_of c.args.decl.now c.args.bytes.now (number_of c.in_err-bytes.field-0.0) (ap (λ file. after_values file c.args.bytes.now) (sym c.endpoint_rows.ensures.cells) ∙ c.in_err-bytes.ensures.refused) in grind arith
+
+pub returns-in_err-bytes-2-clause-refused : goal.returns-in_err-bytes-2-clause-refused
+returns-in_err-bytes-2-clause-refused c =
+    let first = ap (λ file. after_values file c.args.bytes.now) (sym c.endpoint_rows.ensures.cells) ∙ c.in_ok-bytes.ensures.left in
+    let all = blocks_end_of c.args.decl.now c.deref.result.now c.args.bytes.now c.in_ok-bytes.bytes.now (number_of c.in_err-bytes-2.field-0.0) (grind arith) first c.in_err-bytes-2.ensures.refused in
+    grind arith
+
+pub returns-clause-left : goal.returns-clause-left
+returns-clause-left c =
+    let first = ap (λ file. after_values file c.args.bytes.now) (sym c.endpoint_rows.ensures.cells) ∙ c.in_ok-bytes.ensures.left in
+    let all = regions_decide c.args.decl.now c.deref.result.now c.deref-2.result.now (grind arith) (grind arith) c.args.bytes.now c.in_ok-bytes.bytes.now first c.in_ok-bytes-2.bytes.now c.in_ok-bytes-2.ensures.left in
+    grind arith
+
+pub returns-clause-refused : goal.returns-clause-refused
+returns-clause-refused c =
+    let first = ap (λ file. after_values file c.args.bytes.now) (sym c.endpoint_rows.ensures.cells) ∙ c.in_ok-bytes.ensures.left in
+    let all = regions_decide c.args.decl.now c.deref.result.now c.deref-2.result.now (grind arith) (grind arith) c.args.bytes.now c.in_ok-bytes.bytes.now first c.in_ok-bytes-2.bytes.now c.in_ok-bytes-2.ensures.left in
+    grind arith

@@ -1,0 +1,46 @@
+//! A byte of a function as its guest has it: of the guest's own copies, or of the cells that the board holds.
+ghost use Rattle.std.specs.Prelude.{◌≡◌, ◌/◌, ◌*◌, ◌<◌, ◌%◌};
+ghost use Rattle.model_registers.specs.Registers.{config, read};
+ghost use Rattle.model_registers.specs.ByteEnables.{enables_of, lanes};
+ghost use Rattle.headers.specs.declared.place.Place.TheVariants.{Cfg};
+ghost use Rattle.headers.specs.Places.{place_of};
+ghost use Rattle.images.specs.Shown.{shown_byte, source};
+
+use crate::cells::is_own;
+use bridge_forward::EndpointFn;
+use config_bytes::{enables_of, lowered};
+use guest_functions::VirtualFunction;
+use headers::Place;
+
+/// A byte of configuration space in its word, whose other bytes are 0.
+fn word_of(endpoint: &EndpointFn, own: &VirtualFunction, off: u8) -> u32
+    ensures { let ons = lanes (enables_of off 1) in
+        result ≡ read (source endpoint.now own.now (config off)) (config (off / 4 * 4)) ons }
+{
+    let word = off / 4 * 4;
+    let enables = enables_of(u64::from(off), 1);
+    if is_own(off) {
+        own.config_read(u16::from(word), enables).0
+    } else {
+        endpoint.config_read(word, enables)
+    }
+}
+
+/// A byte of configuration space.
+fn config_byte(endpoint: &EndpointFn, own: &VirtualFunction, off: u8) -> u8
+    ensures { result ≡ shown_byte endpoint.now own.now (config off) }
+{
+    (lowered(u64::from(off), word_of(endpoint, own, off)) % 256) as u8
+}
+
+/// A byte of configuration space, or of a region.
+#[tactic(auto, unfolding(crate::specs::Shown::shown_byte))]
+pub(crate) fn byte_at(endpoint: &EndpointFn, own: &VirtualFunction, place: Place, off: u64) -> u8
+    requires { place ≡ Cfg → off < 256 }
+    ensures { result ≡ shown_byte endpoint.now own.now (place_of place off) }
+{
+    match place {
+        Place::Cfg => config_byte(endpoint, own, off as u8),
+        Place::Bar(region) => endpoint.value(Place::Bar(region), off),
+    }
+}

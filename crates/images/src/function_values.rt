@@ -1,0 +1,162 @@
+//! What the cells of a function hold as its guest has it, put into a buffer.
+ghost use Rattle.std.specs.Prelude.{◌≡◌, ◌≤◌, ◌<◌, ◌+◌, ◌^◌, flat_map, length};
+ghost use Rattle.lists.specs.Elements.{Each};
+ghost use Rattle.model_registers.specs.Declarations.{IsLawfulRegion};
+ghost use Rattle.model_registers.specs.DeclarationRules.{IsConfigBlock, IsLawfulEndpoint};
+ghost use Rattle.headers.specs.declared.place.Place.TheVariants.{Cfg};
+ghost use Rattle.headers.specs.Places.{place_of};
+ghost use Rattle.images.specs.Puts.{put};
+ghost use Rattle.images.specs.Shown.{block_values, bytes_from, header_values, region_values, shown_values};
+
+use crate::function_bytes::byte_at;
+use crate::writing::put;
+use bridge_forward::EndpointFn;
+use guest_functions::VirtualFunction;
+use headers::{ConfigBlock, Place, Region, register_width};
+
+/// Puts so many bytes from one on, and gives the index behind them.
+fn put_run(
+    endpoint: &EndpointFn,
+    own: &VirtualFunction,
+    place: Place,
+    first: u64,
+    count: usize,
+    out: &mut [u8],
+    at: usize,
+) -> usize
+    requires config { place ≡ Cfg → first + count ≤ 256 }
+    requires low { first + count < 2 ^ 63 }
+    requires room { at + count ≤ length out.old }
+    ensures bytes { out.new
+        ≡ put at (bytes_from endpoint.now own.now (place_of place first) count) out.old }
+    ensures end { result ≡ at + count }
+{
+    let mut next = at;
+    let mut off = first;
+    let mut left = count;
+    while left > 0 {
+        next = put(out, next, &[byte_at(endpoint, own, place, off)]);
+        off += 1;
+        left -= 1;
+    }
+    next
+}
+
+/// Puts the bytes of the header, without those of the base address registers.
+fn put_header(endpoint: &EndpointFn, own: &VirtualFunction, out: &mut [u8], at: usize) -> usize
+    requires { at + 23 ≤ length out.old }
+    ensures bytes { out.new ≡ put at (header_values endpoint.now own.now) out.old }
+    ensures end { result ≡ at + 23 }
+{
+    let next = put_run(endpoint, own, Place::Cfg, 0, 15, out, at);
+    let next = put_run(endpoint, own, Place::Cfg, 0x2c, 4, out, next);
+    put_run(endpoint, own, Place::Cfg, 0x3c, 4, out, next)
+}
+
+fn put_block(
+    endpoint: &EndpointFn,
+    own: &VirtualFunction,
+    block: &ConfigBlock,
+    out: &mut [u8],
+    at: usize,
+) -> usize
+    requires lawful { IsConfigBlock block.now }
+    requires room { at + length (block_values endpoint.now own.now block.now) ≤ length out.old }
+    ensures bytes { out.new ≡ put at (block_values endpoint.now own.now block.now) out.old }
+    ensures end { result ≡ at + length (block_values endpoint.now own.now block.now) }
+{
+    let first = u64::from(block.off);
+    put_run(endpoint, own, Place::Cfg, first, block.block.len(), out, at)
+}
+
+fn put_blocks(
+    endpoint: &EndpointFn,
+    own: &VirtualFunction,
+    blocks: &[ConfigBlock],
+    out: &mut [u8],
+    at: usize,
+) -> usize
+    requires lawful { Each IsConfigBlock blocks.now }
+    requires room { at + length (flat_map (block_values endpoint.now own.now) blocks.now)
+        ≤ length out.old }
+    ensures bytes { out.new
+        ≡ put at (flat_map (block_values endpoint.now own.now) blocks.now) out.old }
+    ensures end { result
+        ≡ at + length (flat_map (block_values endpoint.now own.now) blocks.now) }
+{
+    let mut left = blocks;
+    let mut next = at;
+    while let Some((block, rest)) = left.split_first() {
+        next = put_block(endpoint, own, block, out, next);
+        left = rest;
+    }
+    next
+}
+
+/// Puts the bytes of the base address register of a region, and those of its cells.
+fn put_region(
+    endpoint: &EndpointFn,
+    own: &VirtualFunction,
+    region: &Region,
+    out: &mut [u8],
+    at: usize,
+) -> usize
+    requires lawful { IsLawfulRegion region.now }
+    requires count { length region.now.cells ≤ 4096 }
+    requires room { at + length (region_values endpoint.now own.now region.now) ≤ length out.old }
+    ensures bytes { out.new ≡ put at (region_values endpoint.now own.now region.now) out.old }
+    ensures end { result ≡ at + length (region_values endpoint.now own.now region.now) }
+{
+    let first = 0x10 + 4 * u64::from(region.index);
+    let kind = region.bar.kind();
+    let width = usize::from(register_width(kind));
+    let next = put_run(endpoint, own, Place::Cfg, first, width, out, at);
+    let place = Place::Bar(region.index);
+    put_run(endpoint, own, place, 0, region.block.len(), out, next)
+}
+
+fn put_regions(
+    endpoint: &EndpointFn,
+    own: &VirtualFunction,
+    regions: &[Region],
+    out: &mut [u8],
+    at: usize,
+) -> usize
+    requires lawful { Each IsLawfulRegion regions.now }
+    requires counts { Each (λ r. length r.cells ≤ 4096) regions.now }
+    requires room { at + length (flat_map (region_values endpoint.now own.now) regions.now)
+        ≤ length out.old }
+    ensures bytes { out.new
+        ≡ put at (flat_map (region_values endpoint.now own.now) regions.now) out.old }
+    ensures end { result
+        ≡ at + length (flat_map (region_values endpoint.now own.now) regions.now) }
+{
+    let mut left = regions;
+    let mut next = at;
+    while let Some((region, rest)) = left.split_first() {
+        next = put_region(endpoint, own, region, out, next);
+        left = rest;
+    }
+    next
+}
+
+/// Puts a byte for each cell of an endpoint, in the order of the cells at reset.
+pub(crate) fn put_values(
+    endpoint: &EndpointFn,
+    own: &VirtualFunction,
+    out: &mut [u8],
+    at: usize,
+) -> usize
+    requires { let values = shown_values endpoint.now own.now endpoint.now.decl in
+        at + length values ≤ length out.old }
+    ensures bytes { let values = shown_values endpoint.now own.now endpoint.now.decl in
+        out.new ≡ put at values out.old }
+    ensures end { let values = shown_values endpoint.now own.now endpoint.now.decl in
+        result ≡ at + length values }
+    ensures lawful { IsLawfulEndpoint endpoint.now.decl }
+{
+    let values = endpoint.decl().values();
+    let next = put_header(endpoint, own, out, at);
+    let next = put_blocks(endpoint, own, &values.config, out, next);
+    put_regions(endpoint, own, &values.bar, out, next)
+}

@@ -1,0 +1,134 @@
+//! The parts of a declaration as bytes, least byte first.
+ghost use Rattle.std.specs.Prelude.{◌≡◌, ◌≤◌, ◌<◌, length};
+ghost use Rattle.model_registers.specs.Cell.{IsCell};
+ghost use Rattle.bars.specs.Kinds.{kind_of};
+ghost use Rattle.model_images.specs.Layouts.{le_bytes};
+ghost use Rattle.model_images.specs.ImageBytes.{kind_number};
+ghost use Rattle.images.specs.Parts.{block_head, cell_bytes, endpoint_head, region_head};
+
+use bars::Kind;
+use byteorder::{ByteOrder, LittleEndian};
+use config_bytes::Cell;
+use headers::{ConfigBlock, EndpointDecl, Region};
+
+/// A number of 16 bits.
+fn two(number: u16) -> [u8; 2]
+    ensures { result ≡ le_bytes 2 number }
+{
+    let mut bytes = [0; 2];
+    LittleEndian::write_u16(&mut bytes, number);
+    bytes
+}
+
+/// The low 24 bits of a number.
+fn three(number: u32) -> [u8; 3]
+    ensures { result ≡ le_bytes 3 number }
+{
+    let mut bytes = [0; 4];
+    LittleEndian::write_u32(&mut bytes, number);
+    let [first, second, third, _] = bytes;
+    [first, second, third]
+}
+
+/// A number of 64 bits.
+pub(crate) fn eight(number: u64) -> [u8; 8]
+    ensures { result ≡ le_bytes 8 number }
+{
+    let mut bytes = [0; 8];
+    LittleEndian::write_u64(&mut bytes, number);
+    bytes
+}
+
+/// The bits of a cell that a write sets.
+fn writable(cell: &Cell) -> u8
+    ensures { result ≡ cell.now.writable }
+{
+    cell.with_value(0).written(0xff).value()
+}
+
+/// The bits of a cell that writing a one clears.
+fn clearable(cell: &Cell) -> u8
+    ensures { result ≡ cell.now.clearable }
+{
+    cell.with_value(0).raised(0xff).value()
+}
+
+/// A cell: its value, the bits that a write sets, and those that writing a one clears.
+#[tactic(auto, unfolding(crate::specs::Parts::cell_bytes))]
+pub(crate) fn cell_bytes(cell: &Cell) -> [u8; 3]
+    ensures bytes { result ≡ cell_bytes cell.now }
+    ensures lawful { IsCell cell.now }
+{
+    [cell.value(), writable(cell), clearable(cell)]
+}
+
+/// The number by which an image names a kind of region.
+fn kind_number(kind: Kind) -> u8
+    ensures { result ≡ kind_number (kind_of kind) }
+{
+    match kind {
+        Kind::Io => 0,
+        Kind::Mem32 { pref } => if pref { 2 } else { 1 },
+        Kind::Mem64 { pref } => if pref { 4 } else { 3 },
+    }
+}
+
+/// What stands before the cells of a region: its first register, its kind, its size, and how many
+/// cells.
+pub(crate) fn region_head(region: &Region) -> [u8; 12]
+    requires index { region.now.index < 256 }
+    requires count { length region.now.cells ≤ 4096 }
+    ensures { result ≡ region_head region.now }
+{
+    let index = region.index;
+    let kind = kind_number(region.bar.kind());
+    let [a, b, c, d, e, f, g, h] = eight(region.bar.size());
+    let [low, high] = two(region.block.len() as u16);
+    [index, kind, a, b, c, d, e, f, g, h, low, high]
+}
+
+/// What stands before the cells of a block: the offset of the first, and how many there are.
+#[tactic(auto, unfolding(crate::specs::Parts::block_head))]
+pub(crate) fn block_head(block: &ConfigBlock) -> [u8; 2]
+    requires offset { block.now.offset < 256 }
+    requires count { length block.now.cells < 256 }
+    ensures { result ≡ block_head block.now }
+{
+    [block.off as u8, block.block.len() as u8]
+}
+
+/// What stands before the regions of an endpoint: its numbers, and how many regions there are.
+#[tactic(auto, unfolding(crate::specs::Parts::endpoint_head))]
+pub(crate) fn endpoint_head(decl: &EndpointDecl) -> [u8; 18]
+    requires { length decl.now.regions < 256 }
+    ensures { result ≡ endpoint_head decl.now }
+{
+    let values = decl.values();
+    let [v0, v1] = two(values.vendor);
+    let [d0, d1] = two(values.device);
+    let [c0, c1, c2] = three(values.class);
+    let [m0, m1] = two(values.subvendor);
+    let [n0, n1] = two(values.subsystem);
+    let [s0, s1] = two(values.status);
+    let count = values.bar.len() as u8;
+    [
+        v0,
+        v1,
+        d0,
+        d1,
+        values.revision,
+        c0,
+        c1,
+        c2,
+        m0,
+        m1,
+        n0,
+        n1,
+        values.pin,
+        values.min_gnt,
+        values.max_lat,
+        s0,
+        s1,
+        count,
+    ]
+}

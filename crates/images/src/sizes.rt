@@ -1,0 +1,118 @@
+//! How many bytes declarations and their values have in an image.
+ghost use Rattle.std.specs.Prelude.{◌≡◌, ◌≤◌, false, flat_map, length};
+ghost use Rattle.lists.specs.Elements.{Each};
+ghost use Rattle.model_registers.specs.DeclarationRules.{IsConfigBlock};
+ghost use Rattle.model_registers.specs.BridgeTable.{bridge_reset};
+ghost use Rattle.model_registers.specs.EndpointTable.{block_cells, endpoint_reset, region_cells};
+ghost use Rattle.model_images.specs.ImageBytes.{declaration_bytes};
+ghost use Rattle.images.specs.Parts.{block_bytes, declared_bytes, region_bytes};
+
+use headers::{
+    BridgeDecl, ConfigBlock, EndpointDecl, IoDecode, PrefDecode, Region, register_width,
+};
+
+fn regions_size(regions: &[Region]) -> usize
+    requires counts { Each (λ r. length r.cells ≤ 4096) regions.now }
+    requires few { length regions.now ≤ 6 }
+    ensures size { result ≡ length (flat_map region_bytes regions.now) }
+    ensures bound { result ≤ 73800 }
+{
+    let mut left = regions;
+    let mut size = 0;
+    while let Some((region, rest)) = left.split_first() {
+        size += 12 + 3 * region.block.len();
+        left = rest;
+    }
+    size
+}
+
+fn blocks_size(blocks: &[ConfigBlock]) -> usize
+    requires lawful { Each IsConfigBlock blocks.now }
+    requires few { length blocks.now ≤ 192 }
+    ensures size { result ≡ length (flat_map block_bytes blocks.now) }
+    ensures bound { result ≤ 110976 }
+{
+    let mut left = blocks;
+    let mut size = 0;
+    while let Some((block, rest)) = left.split_first() {
+        size += 2 + 3 * block.block.len();
+        left = rest;
+    }
+    size
+}
+
+/// How many bytes the parts of a declaration have.
+fn parts_size(decl: &EndpointDecl) -> usize
+    ensures size { result ≡ length (declared_bytes decl.now) }
+    ensures bound { result ≤ 184795 }
+{
+    let values = decl.values();
+    19 + regions_size(&values.bar) + blocks_size(&values.config)
+}
+
+/// How many bytes a declaration has in an image.
+#[tactic(auto, using(crate::proofs::DeclaredBytes::declared_is))]
+pub fn declaration_size(decl: &EndpointDecl) -> usize
+    ensures size { result ≡ length (declaration_bytes decl.now) }
+    ensures bound { result ≤ 184795 }
+{
+    parts_size(decl)
+}
+
+/// How many cells regions have, with their base address registers.
+fn regions_cells(regions: &[Region]) -> usize
+    requires counts { Each (λ r. length r.cells ≤ 4096) regions.now }
+    requires few { length regions.now ≤ 6 }
+    ensures size { result ≡ length (flat_map (region_cells (λ r. 0)) regions.now) }
+    ensures bound { result ≤ 24624 }
+{
+    let mut left = regions;
+    let mut size = 0;
+    while let Some((region, rest)) = left.split_first() {
+        size += usize::from(register_width(region.bar.kind())) + region.block.len();
+        left = rest;
+    }
+    size
+}
+
+fn blocks_cells(blocks: &[ConfigBlock]) -> usize
+    requires lawful { Each IsConfigBlock blocks.now }
+    requires few { length blocks.now ≤ 192 }
+    ensures size { result ≡ length (flat_map block_cells blocks.now) }
+    ensures bound { result ≤ 36864 }
+{
+    let mut left = blocks;
+    let mut size = 0;
+    while let Some((block, rest)) = left.split_first() {
+        size += block.block.len();
+        left = rest;
+    }
+    size
+}
+
+/// How many cells a declared endpoint has. In an image each has a byte.
+pub fn values_size(decl: &EndpointDecl) -> usize
+    ensures size { result ≡ length (endpoint_reset decl.now false) }
+    ensures bound { result ≤ 61511 }
+{
+    let values = decl.values();
+    23 + blocks_cells(&values.config) + regions_cells(&values.bar)
+}
+
+/// How many cells a declared bridge has.
+pub fn bridge_values_size(decl: &BridgeDecl) -> usize
+    ensures size { result ≡ length (bridge_reset decl.now false) }
+    ensures bound { result ≤ 44 }
+{
+    let io = match decl.io() {
+        IoDecode::Unimplemented => 0,
+        IoDecode::Bits16 => 2,
+        IoDecode::Bits32 => 6,
+    };
+    let pref = match decl.pref() {
+        PrefDecode::Unimplemented => 0,
+        PrefDecode::Bits32 => 4,
+        PrefDecode::Bits64 => 12,
+    };
+    26 + io + pref
+}

@@ -1,0 +1,133 @@
+//! Values of an image, as far as the cells of a declaration can hold them.
+ghost use Rattle.std.specs.Prelude.{◌≡◌, ◌%◌, ◌<◌, ◌≤◌, Ok, Err, IfErr, IfOk, false, drop, flat_map, length};
+ghost use Rattle.lists.specs.Elements.{Each};
+ghost use Rattle.model_registers.specs.DeclarationRules.{IsConfigBlock};
+ghost use Rattle.model_registers.specs.Declarations.{IsLawfulRegion};
+ghost use Rattle.model_registers.specs.EndpointTable.{block_cells, endpoint_reset, region_cells};
+ghost use Rattle.model_registers.specs.Registers.{config};
+ghost use Rattle.model_images.specs.Images.{can_hold};
+ghost use Rattle.model_images.specs.LoadedBytes.{after_values};
+ghost use Rattle.headers.specs.Rows.{IsRow, row_cells};
+ghost use Rattle.images.specs.Faults.{number_of};
+
+use crate::fault::ImageFault;
+use headers::{ConfigBlock, EndpointDecl, Region, Row, endpoint_rows};
+
+/// Whether the cell of a register's lowest byte can hold the byte.
+fn can_hold(row: &Row, byte: u8) -> bool
+    ensures { result ≡ can_hold (record {
+      place = config row.now.off;
+      cell = record {
+        value = row.now.value % 256;
+        writable = row.now.writable % 256;
+        clearable = row.now.clearable % 256;
+      };
+    }) byte }
+{
+    let off = row.off;
+    let value = (row.value % 256) as u8;
+    let writable = (row.writable % 256) as u8;
+    let clearable = (row.clearable % 256) as u8;
+    let is_device = off == 6 || off == 7 || off >= 0x40;
+    is_device || byte & !writable & !clearable == value & !writable & !clearable
+}
+
+/// The bytes after the values of a register.
+fn after_row(row: Row, bytes: &[u8]) -> Result<&[u8], ImageFault>
+    requires { IsRow row }
+    ensures left { IfOk result (λ rest. after_values (row_cells row) bytes.now ≡ Ok rest.now) }
+    ensures refused { IfErr result (λ why.
+        after_values (row_cells row) bytes.now ≡ Err (number_of why)) }
+{
+    let mut left = row;
+    let mut tail = bytes;
+    while left.width > 0 {
+        let Some((byte, rest)) = tail.split_first() else {
+            return Err(ImageFault::NoImage);
+        };
+        if !can_hold(&left, *byte) {
+            return Err(ImageFault::NoImage);
+        }
+        left = left.above();
+        tail = rest;
+    }
+    Ok(tail)
+}
+
+/// The bytes after those of so many cells that can hold any.
+fn after_any(count: usize, bytes: &[u8]) -> Result<&[u8], ImageFault>
+    ensures room { IfOk result (λ _. count ≤ length bytes.now) }
+    ensures left { IfOk result (λ rest. rest.now ≡ drop count bytes.now) }
+    ensures missing { IfErr result (λ why. (number_of why ≡ 905) × (length bytes.now < count)) }
+{
+    if bytes.len() < count {
+        return Err(ImageFault::NoImage);
+    }
+    Ok(&bytes[count..])
+}
+
+/// The bytes after the values of registers.
+fn after_rows<'a>(rows: &[Row], bytes: &'a [u8]) -> Result<&'a [u8], ImageFault>
+    requires { Each IsRow rows.now }
+    ensures left { IfOk result (λ rest.
+        after_values (flat_map row_cells rows.now) bytes.now ≡ Ok rest.now) }
+    ensures refused { IfErr result (λ why.
+        after_values (flat_map row_cells rows.now) bytes.now ≡ Err (number_of why)) }
+{
+    let mut left = rows;
+    let mut bytes = bytes;
+    while let Some((row, rest)) = left.split_first() {
+        bytes = after_row(*row, bytes)?;
+        left = rest;
+    }
+    Ok(bytes)
+}
+
+/// The bytes after the values of a device's own registers.
+fn after_blocks<'a>(blocks: &[ConfigBlock], bytes: &'a [u8]) -> Result<&'a [u8], ImageFault>
+    requires { Each IsConfigBlock blocks.now }
+    ensures left { IfOk result (λ rest.
+        after_values (flat_map block_cells blocks.now) bytes.now ≡ Ok rest.now) }
+    ensures refused { IfErr result (λ why.
+        after_values (flat_map block_cells blocks.now) bytes.now ≡ Err (number_of why)) }
+{
+    let mut left = blocks;
+    let mut bytes = bytes;
+    while let Some((block, rest)) = left.split_first() {
+        bytes = after_any(block.block.len(), bytes)?;
+        left = rest;
+    }
+    Ok(bytes)
+}
+
+/// The bytes after the values of regions: of each its base address register, and then its cells.
+fn after_regions<'a>(regions: &[Region], bytes: &'a [u8]) -> Result<&'a [u8], ImageFault>
+    requires { Each IsLawfulRegion regions.now }
+    ensures left { IfOk result (λ rest.
+        after_values (flat_map (region_cells (λ r. 0)) regions.now) bytes.now ≡ Ok rest.now) }
+    ensures refused { IfErr result (λ why.
+        after_values (flat_map (region_cells (λ r. 0)) regions.now) bytes.now
+        ≡ Err (number_of why)) }
+{
+    let mut left = regions;
+    let mut bytes = bytes;
+    while let Some((region, rest)) = left.split_first() {
+        let cells = after_row(region.base_row(), bytes)?;
+        bytes = after_any(region.block.len(), cells)?;
+        left = rest;
+    }
+    Ok(bytes)
+}
+
+/// The bytes after a value for each cell of an endpoint, all of which its cells can hold.
+pub fn after_values<'a>(decl: &EndpointDecl, bytes: &'a [u8]) -> Result<&'a [u8], ImageFault>
+    ensures left { IfOk result (λ rest.
+        after_values (endpoint_reset decl.now false) bytes.now ≡ Ok rest.now) }
+    ensures refused { IfErr result (λ why.
+        after_values (endpoint_reset decl.now false) bytes.now ≡ Err (number_of why)) }
+{
+    let values = decl.values();
+    let bytes = after_rows(&endpoint_rows(decl, false), bytes)?;
+    let bytes = after_blocks(&values.config, bytes)?;
+    after_regions(&values.bar, bytes)
+}

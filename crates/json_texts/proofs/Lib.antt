@@ -1,0 +1,5 @@
+pub mod NoFloatsInReports
+pub mod RowValues
+pub mod RowsOfJson
+pub mod SetUpValue
+pub mod NoFloatsInAudits

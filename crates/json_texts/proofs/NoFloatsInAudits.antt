@@ -1,0 +1,31 @@
+-- The value has no float, so what is written of it is its compact text.
+use Rattle.std.proofs.Common.{◌≡◌, ℕ, List, [], ◌∷◌, false, ◌||◌, map, Option, Some, None, refl, ap₂}
+use Rattle.serde_json.specs.View.{items_of}
+use Rattle.serde_json.specs.Written.{has_float, items_have_float}
+use Rattle.model_board.specs.Paths.{Path}
+use Rattle.model_findings.specs.Agents.{Agent}
+use Rattle.model_findings.specs.Problems.{Problem, not_forwarded, contended, not_found}
+use Rattle.json_texts.specs.AuditValue.{register_value, reached_value, agent_value, problem_value, problems_value}
+
+none_in_register : (o : Option ℕ) → has_float (register_value o) ≡ false
+none_in_register None = refl
+none_in_register (Some n) = refl
+
+none_in_reached : (o : Option Path) → has_float (reached_value o) ≡ false
+none_in_reached None = refl
+none_in_reached (Some p) = refl
+
+none_in_agent : (a : Agent) → has_float (agent_value a) ≡ false
+none_in_agent a = rw (none_in_register a.register) refl
+
+none_in_problem : (p : Problem) → has_float (problem_value p) ≡ false
+none_in_problem (not_forwarded q bridge n) = refl
+none_in_problem (contended a b n) = rw (none_in_agent a, none_in_agent b) refl
+none_in_problem (not_found p at instead) = rw (none_in_reached instead) refl
+
+none_in_each : (ps : List Problem) → items_have_float (items_of (map problem_value ps)) ≡ false
+none_in_each [] = refl
+none_in_each (p ∷ ps) = ap₂ (λ a b. a || b) (none_in_problem p) (none_in_each ps)
+
+pub none_in_problems : (ps : List Problem) → has_float (problems_value ps) ≡ false
+none_in_problems ps = rw (none_in_each ps) refl

@@ -1,0 +1,69 @@
+-- The value has no float, so what is written of it is its compact text.
+use Rattle.std.proofs.Common.{◌≡◌, ℕ, ◌+◌, List, [], ◌∷◌, Bool, true, false, ◌||◌, ◌==◌, map, Option, Some, None, refl, ap₂}
+use Rattle.std.specs.Prelude.{nat_lt, if◌then◌else◌}
+use Rattle.serde_json.specs.Data.{Data}
+use Rattle.serde_json.specs.View.{items_of}
+use Rattle.serde_json.specs.Written.{has_float, items_have_float}
+use Rattle.model_registers.specs.BridgeTable.{Window}
+use Rattle.model_board.specs.Paths.{Path}
+use Rattle.model_board.specs.Board.{Decl, endpoint, bridge}
+use Rattle.model_set_up.specs.FunctionTable.{BusRange, TableRow}
+use Rattle.model_set_up.specs.SetUpWrites.{Writes, to_endpoint, to_bridge, Setting}
+use Rattle.model_guests.specs.World.{Guest}
+use Rattle.json_texts.specs.ReportValue.{region_value, slot_values, guest_value}
+use Rattle.json_texts.specs.FoundValue.{known_interrupt, named_window, written_regions, written_windows, found_buses, decl_value, found_functions, found_report}
+
+-- ---- lists of values
+
+module _ {A : Type 0} (f : A → Data) (none : (x : A) → has_float (f x) ≡ false) where
+  none_mapped : (xs : List A) → items_have_float (items_of (map f xs)) ≡ false
+  none_mapped [] = refl
+  none_mapped (x ∷ xs) = ap₂ (λ a b. a || b) (none x) (none_mapped xs)
+
+none_in_slots : (n : ℕ) (ps : List Path) → items_have_float (items_of (slot_values n ps)) ≡ false
+none_in_slots n [] = refl
+none_in_slots n (p ∷ ps) = none_in_slots (n + 1) ps
+
+-- ---- parts of a function
+
+either : (b : Bool) (d e : Data) → has_float d ≡ false → has_float e ≡ false → has_float (if b then d else e) ≡ false
+either true d e h k = h
+either false d e h k = k
+
+none_in_interrupt : (p : Path) (pin : ℕ) → has_float (known_interrupt p pin) ≡ false
+none_in_interrupt p pin = either (pin == 0 || nat_lt 4 pin) _ _ refl refl
+
+none_in_window : (w : Window) → has_float (named_window w) ≡ false
+none_in_window w = either (nat_lt w.last w.first) _ _ refl refl
+
+none_in_regions : (w : Writes) → items_have_float (items_of (written_regions w)) ≡ false
+none_in_regions (to_endpoint command bases) = none_mapped region_value (λ r. refl) bases
+none_in_regions (to_bridge w) = refl
+
+none_in_windows : (w : Writes) → has_float (written_windows w) ≡ false
+none_in_windows (to_endpoint command bases) = refl
+none_in_windows (to_bridge w) = rw (none_in_window w.io, none_in_window w.mem, none_in_window w.pref) refl
+
+none_in_buses : (bus : ℕ) (behind : Option BusRange) → has_float (found_buses bus behind) ≡ false
+none_in_buses bus None = refl
+none_in_buses bus (Some behind) = refl
+
+-- ---- functions, guests, and the whole
+
+none_in_function : (bus : ℕ) (behind : Option BusRange) (p : Path) (d : Decl) (w : Writes) → has_float (decl_value bus behind p d w) ≡ false
+none_in_function bus behind p (endpoint d) w = rw (none_in_interrupt p d.pin, none_in_regions w) refl
+none_in_function bus behind p (bridge d) w = rw (none_in_buses bus behind, none_in_windows w) refl
+
+none_in_functions : (rs : List TableRow) (ss : List Setting) → items_have_float (items_of (found_functions rs ss)) ≡ false
+none_in_functions [] ss = refl
+none_in_functions (r ∷ rs) [] = refl
+none_in_functions (r ∷ rs) (s ∷ ss) = ap₂ (λ a b. a || b) (none_in_function r.bus r.behind r.path r.decl s.writes) (none_in_functions rs ss)
+
+none_in_guest : (g : Guest) → has_float (guest_value g) ≡ false
+none_in_guest g = rw (none_in_slots 0 g.slots) refl
+
+none_in_guests : (gs : List Guest) → items_have_float (items_of (map guest_value gs)) ≡ false
+none_in_guests gs = none_mapped guest_value none_in_guest gs
+
+pub none_in_report : (rs : List TableRow) (ss : List Setting) (guests : List Guest) → has_float (found_report rs ss guests) ≡ false
+none_in_report rs ss guests = rw (none_in_functions rs ss, none_in_guests guests) refl

@@ -1,0 +1,12 @@
+use Rattle.std.proofs.Common.{◌++◌, [], ◌∷◌, ap, ◌∙◌, map, string_bytes, lit<}
+use Rattle.serde_json.specs.Written.{has_float, compact_text}
+use Rattle.findings.specs.Findings.{problem_of}
+use Rattle.json_texts.proofs.NoFloatsInAudits.{none_in_problems}
+use Rattle.json_texts.proofs.problems_object.problems_json.Goals as goal
+
+pub returns : goal.returns
+returns c =
+    let value = c.in_ok-value.ensures in
+    let none = ap has_float value ∙ none_in_problems (map problem_of c.args.problems.now) in
+    let pushed = c.in_ok-push.ensures.bytes ∙ ap (λ t. string_bytes c.in_ok-text.text ++ t) (c.in_ok-push.ensures.ascii (lit< tt)) in
+    pushed ∙ ap (λ t. t ++ 10 ∷ []) (c.in_ok-text.ensures.text none ∙ ap compact_text value)

@@ -1,0 +1,85 @@
+-- What is wrong in a register state, as a JSON value: each problem with its witness, in their order. The members of an
+-- object stand in the order of their names.
+--     path_value, reached_value      a path; that of what is reached, null where nothing is
+--     space_text      the name of a space, as in lines
+--     region_value      a region, with the path of its endpoint
+--     agent_value      what answers an address, with its register, null of a bridge
+--     number_value      a bus, device and function number
+--     problem_value      a problem
+--     problems_value, problems_json      the whole value; its text, and a line feed
+--     audit_json fs      that of all that is wrong in a register state
+use Rattle.std.specs.Prelude.{List, [], ◌∷◌, ◌++◌, ℕ, Option, map, codes}
+use Rattle.std.specs.Option.{option_map_or}
+use Rattle.serde_json.specs.Data.{Data, null, number, unsigned, string, array, object, member, no_members}
+use Rattle.serde_json.specs.View.{items_of}
+use Rattle.serde_json.specs.Written.{compact_text}
+use Rattle.model_registers.specs.Decoding.{Space, io, memory}
+use Rattle.model_board.specs.Paths.{Path}
+use Rattle.model_board.specs.State.{BoardFunction}
+use Rattle.model_board.specs.Cycles.{BusAddress}
+use Rattle.model_set_up.specs.PlacedRegions.{PlacedRegion}
+use Rattle.model_guests.specs.Text.{Text}
+use Rattle.model_guests.specs.PathTexts.{path_text}
+use Rattle.model_findings.specs.Agents.{Agent}
+use Rattle.model_findings.specs.Problems.{Problem, not_forwarded, contended, not_found, problems}
+
+abbrev pub natural : ℕ → Data
+natural n = number (unsigned n)
+
+abbrev pub path_value : Path → Data
+path_value p = string (path_text p)
+
+abbrev pub reached_value : Option Path → Data
+reached_value o = option_map_or path_value o null
+
+abbrev pub space_text : Space → Text
+space_text io = codes "io"
+space_text memory = codes "mem"
+
+abbrev pub register_value : Option ℕ → Data
+register_value o = option_map_or natural o null
+
+abbrev pub region_value : PlacedRegion → Data
+region_value q = object (
+    member (codes "bar") (natural q.index) (
+    member (codes "base") (natural q.first) (
+    member (codes "path") (path_value q.path) (
+    member (codes "size") (natural q.size) (
+    member (codes "space") (string (space_text q.space)) no_members)))))
+
+abbrev pub agent_value : Agent → Data
+agent_value a = object (
+    member (codes "bar") (register_value a.register) (
+    member (codes "path") (path_value a.path) no_members))
+
+abbrev pub number_value : BusAddress → Data
+number_value at = object (
+    member (codes "bus") (natural at.bus) (
+    member (codes "device") (natural at.part.device) (
+    member (codes "function") (natural at.part.function) no_members)))
+
+abbrev pub problem_value : Problem → Data
+problem_value (not_forwarded q bridge n) = object (
+    member (codes "address") (natural n) (
+    member (codes "bridge") (path_value bridge) (
+    member (codes "region") (region_value q) (
+    member (codes "type") (string (codes "not forwarded")) no_members))))
+problem_value (contended a b n) = object (
+    member (codes "address") (natural n) (
+    member (codes "agents") (array (items_of (agent_value a ∷ agent_value b ∷ []))) (
+    member (codes "space") (string (space_text a.space)) (
+    member (codes "type") (string (codes "contended")) no_members))))
+problem_value (not_found p at instead) = object (
+    member (codes "number") (number_value at) (
+    member (codes "path") (path_value p) (
+    member (codes "reached") (reached_value instead) (
+    member (codes "type") (string (codes "not found")) no_members))))
+
+abbrev pub problems_value : List Problem → Data
+problems_value ps = object (member (codes "problems") (array (items_of (map problem_value ps))) no_members)
+
+abbrev pub problems_json : List Problem → Text
+problems_json ps = compact_text (problems_value ps) ++ 10 ∷ []
+
+abbrev pub audit_json : List BoardFunction → Text
+audit_json fs = problems_json (problems fs)

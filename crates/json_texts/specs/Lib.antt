@@ -1,0 +1,3 @@
+pub mod ReportValue
+pub mod FoundValue
+pub mod AuditValue

@@ -1,0 +1,119 @@
+//! The values of a region, an interrupt and a window, and the text of a path.
+ghost use Rattle.std.specs.Prelude.{◌≡◌, ◌≤◌, IfOk, map, string_bytes};
+ghost use Rattle.serde_json.specs.View.{view};
+ghost use Rattle.model_guests.specs.PathTexts.{path_text};
+ghost use Rattle.bars.specs.Slots.{placed, bases_from};
+ghost use Rattle.window_packing.specs.Plans.{writes_of};
+ghost use Rattle.json_texts.specs.ReportValue.{region_value, pin_value, windows_value};
+ghost use Rattle.json_texts.specs.FoundValue.{known_interrupt, named_window, written_regions, written_windows};
+
+use bars::BasedRegion;
+use intx_swizzle::at_root;
+use paths::Path;
+use report::{kind_text, pin_text, push_path};
+use serde_json::{Value, json};
+use std::alloc::{AllocError, Global};
+use window_packing::{Window, Writes};
+
+/// The text of a path.
+pub(crate) fn path_text(alloc: Global, path: &Path) -> Result<String, AllocError>
+    ensures { IfOk result (λ t. string_bytes t ≡ path_text path.now) }
+{
+    let mut text = String::new(alloc);
+    push_path(&mut text, path)?;
+    Ok(text)
+}
+
+/// A region, whose first register has this index.
+fn region_value(alloc: Global, index: usize, region: &BasedRegion) -> Result<Value, AllocError>
+    ensures { IfOk result (λ v. view v ≡ region_value (placed index region.now)) }
+{
+    let kind = kind_text(region.decl.kind());
+    let base = region.base;
+    let size = region.decl.size();
+    json!(in alloc; {"bar": index, "kind": kind, "base": base, "size": size})
+}
+
+/// Regions, each at the index of its first register.
+fn region_values(alloc: Global, bases: &[Option<BasedRegion>]) -> Result<Vec<Value>, AllocError>
+    ensures { IfOk result (λ v. map view v.items ≡ map region_value (bases_from 0 bases.now)) }
+{
+    let mut values = Vec::new(alloc);
+    for (index, slot) in bases.iter().enumerate() {
+        if let Some(region) = slot {
+            values.push(region_value(alloc, index, region)?)?;
+        }
+    }
+    Ok(values)
+}
+
+/// The regions that were written into an endpoint.
+pub(crate) fn written_regions(alloc: Global, writes: &Writes) -> Result<Vec<Value>, AllocError>
+    ensures { IfOk result (λ v. map view v.items ≡ written_regions (writes_of writes.now)) }
+{
+    match writes {
+        Writes::Endpoint { bases, .. } => region_values(alloc, bases),
+        Writes::Bridge { .. } => Ok(Vec::new(alloc)),
+    }
+}
+
+/// An interrupt pin, with the device on bus 0 that it reaches and the pin there.
+fn pin_value(alloc: Global, path: &Path, pin: u8) -> Result<Value, AllocError>
+    requires least { 1 ≤ pin }
+    requires most { pin ≤ 4 }
+    ensures { IfOk result (λ v. view v ≡ pin_value path.now pin) }
+{
+    let (device, root) = at_root(path, pin);
+    let pin = pin_text(pin);
+    let root = pin_text(root);
+    json!(in alloc; {"pin": pin, "root_device": device, "root_pin": root})
+}
+
+/// An interrupt pin, or `null` for pin 0, which says that the function has no pin, and above 4, which is
+/// no pin.
+pub(crate) fn known_interrupt(alloc: Global, path: &Path, pin: u8) -> Result<Value, AllocError>
+    ensures { IfOk result (λ v. view v ≡ known_interrupt path.now pin) }
+{
+    if pin == 0 || pin > 4 {
+        return Ok(Value::Null);
+    }
+    pin_value(alloc, path, pin)
+}
+
+/// A window, or `null` if it has no items.
+fn named_window(alloc: Global, window: &Window) -> Result<Value, AllocError>
+    ensures { IfOk result (λ v. view v ≡ named_window window.now) }
+{
+    let first = window.first;
+    let last = window.last;
+    if first > last {
+        return Ok(Value::Null);
+    }
+    json!(in alloc; {"first": first, "last": last})
+}
+
+/// The windows of a bridge.
+fn windows_value(
+    alloc: Global,
+    io: &Window,
+    mem: &Window,
+    pref: &Window,
+) -> Result<Value, AllocError>
+    ensures { IfOk result (λ v. view v
+        ≡ windows_value (named_window io.now) (named_window mem.now) (named_window pref.now)) }
+{
+    let io = named_window(alloc, io)?;
+    let mem = named_window(alloc, mem)?;
+    let pref = named_window(alloc, pref)?;
+    json!(in alloc; {"io": io, "mem": mem, "pref": pref})
+}
+
+/// The windows that were written into a bridge.
+pub(crate) fn written_windows(alloc: Global, writes: &Writes) -> Result<Value, AllocError>
+    ensures { IfOk result (λ v. view v ≡ written_windows (writes_of writes.now)) }
+{
+    match writes {
+        Writes::Endpoint { .. } => Ok(Value::Null),
+        Writes::Bridge { io, mem, pref } => windows_value(alloc, io, mem, pref),
+    }
+}

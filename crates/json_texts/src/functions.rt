@@ -1,0 +1,130 @@
+//! The values of functions. Their members are put together in parts, since no proof was found of nine at
+//! once.
+ghost use Rattle.std.specs.Prelude.{◌≡◌, IfOk, OnOk, map};
+ghost use Rattle.serde_json.specs.View.{view, members_view};
+ghost use Rattle.window_packing.specs.Plans.{writes_of};
+ghost use Rattle.json_texts.specs.ReportValue.{buses_value, endpoint_value, bridge_value};
+ghost use Rattle.json_texts.specs.FoundValue.{place_members, with_identity, vendor_of, device_id_of, known_interrupt, written_regions, written_windows, found_function, found_functions};
+
+use crate::function_parts::{known_interrupt, path_text, written_regions, written_windows};
+use bus_scan::{Found, FunctionRow};
+use serde_json::{Map, Value, json, put};
+use std::alloc::{AllocError, Global};
+use window_packing::{Setting, Writes};
+
+/// The members of a function's numbers and of its path.
+fn place_members(alloc: Global, row: &FunctionRow) -> Result<Map<String, Value>, AllocError>
+    ensures { IfOk result
+        (λ m. members_view m.entries ≡ place_members row.now.bus row.now.path) }
+{
+    let part = row.path.last();
+    let device = part.device();
+    let function = part.function();
+    let path = path_text(alloc, &row.path)?;
+    let mut members = Map::new(alloc);
+    put(&mut members, alloc, "bus", Value::from(row.bus))?;
+    put(&mut members, alloc, "device", Value::from(device))?;
+    put(&mut members, alloc, "function", Value::from(function))?;
+    put(&mut members, alloc, "path", Value::from(path))?;
+    Ok(members)
+}
+
+/// Puts a function's type, Vendor ID and Device ID beside other members.
+fn put_identity(
+    members: &mut Map<String, Value>,
+    alloc: Global,
+    row: &FunctionRow,
+    kind: &str,
+) -> Result<(), AllocError>
+    ensures { OnOk result (members_view members.new.entries
+        ≡ with_identity kind.now (vendor_of row.now.decl) (device_id_of row.now.decl)
+        (members_view members.old.entries)) }
+{
+    put(members, alloc, "type", Value::try_from_str(alloc, kind)?)?;
+    put(members, alloc, "vendor", Value::from(row.vendor))?;
+    put(members, alloc, "device_id", Value::from(row.device))
+}
+
+/// An endpoint with this interrupt pin.
+fn endpoint_value(
+    alloc: Global,
+    row: &FunctionRow,
+    pin: u8,
+    writes: &Writes,
+) -> Result<Value, AllocError>
+    ensures { IfOk result (λ v. view v
+        ≡ endpoint_value row.now.bus row.now.path (vendor_of row.now.decl)
+        (device_id_of row.now.decl) (known_interrupt row.now.path pin)
+        (written_regions (writes_of writes.now))) }
+{
+    let regions = written_regions(alloc, writes)?;
+    let interrupt = known_interrupt(alloc, &row.path, pin)?;
+    let mut members = place_members(alloc, row)?;
+    put_identity(&mut members, alloc, row, "endpoint")?;
+    put(&mut members, alloc, "regions", Value::from(regions))?;
+    put(&mut members, alloc, "interrupt", interrupt)?;
+    Ok(Value::Object(members))
+}
+
+/// Primary, Secondary and Subordinate Bus Number.
+fn buses_value(
+    alloc: Global,
+    primary: u8,
+    secondary: u8,
+    subordinate: u8,
+) -> Result<Value, AllocError>
+    ensures { IfOk result (λ v. view v ≡ buses_value primary secondary subordinate) }
+{
+    json!(in alloc; {"primary": primary, "secondary": secondary, "subordinate": subordinate})
+}
+
+/// A bridge with these numbers of the buses behind it, the first and the last.
+fn bridge_value(
+    alloc: Global,
+    row: &FunctionRow,
+    secondary: u8,
+    subordinate: u8,
+    writes: &Writes,
+) -> Result<Value, AllocError>
+    ensures { IfOk result (λ v. view v
+        ≡ bridge_value row.now.bus row.now.path (vendor_of row.now.decl)
+        (device_id_of row.now.decl) (buses_value row.now.bus secondary subordinate)
+        (written_windows (writes_of writes.now))) }
+{
+    let buses = buses_value(alloc, row.bus, secondary, subordinate)?;
+    let windows = written_windows(alloc, writes)?;
+    let mut members = place_members(alloc, row)?;
+    put_identity(&mut members, alloc, row, "bridge")?;
+    put(&mut members, alloc, "buses", buses)?;
+    put(&mut members, alloc, "windows", windows)?;
+    Ok(Value::Object(members))
+}
+
+/// A function with what was written into it.
+fn function_value(alloc: Global, row: &FunctionRow, writes: &Writes) -> Result<Value, AllocError>
+    ensures { IfOk result (λ v. view v ≡ found_function row.now (writes_of writes.now)) }
+{
+    match &row.found {
+        Found::Endpoint { pin, .. } => endpoint_value(alloc, row, *pin, writes),
+        Found::Bridge {
+            secondary,
+            subordinate,
+            ..
+        } => bridge_value(alloc, row, *secondary, *subordinate, writes),
+    }
+}
+
+/// All functions, each with what was written into it.
+pub(crate) fn function_values(
+    alloc: Global,
+    rows: &[FunctionRow],
+    settings: &[Setting],
+) -> Result<Vec<Value>, AllocError>
+    ensures { IfOk result (λ v. map view v.items ≡ found_functions rows.now settings.now) }
+{
+    let mut values = Vec::new(alloc);
+    for (row, setting) in rows.iter().zip(settings) {
+        values.push(function_value(alloc, row, &setting.writes)?)?;
+    }
+    Ok(values)
+}

@@ -1,0 +1,49 @@
+//! The values of guests.
+ghost use Rattle.std.specs.Prelude.{◌≡◌, IfOk, map};
+ghost use Rattle.serde_json.specs.View.{view};
+ghost use Rattle.json_texts.specs.ReportValue.{slot_value, slot_values, guest_value};
+
+use crate::function_parts::path_text;
+use accesses::GuestDecl;
+use paths::Path;
+use serde_json::{Value, json};
+use std::alloc::{AllocError, Global};
+
+/// A slot with the path of its endpoint.
+fn slot_value(alloc: Global, slot: usize, path: &Path) -> Result<Value, AllocError>
+    ensures { IfOk result (λ v. view v ≡ slot_value slot path.now) }
+{
+    let path = path_text(alloc, path)?;
+    json!(in alloc; {"slot": slot, "path": path})
+}
+
+/// A guest's slots, slot 0 first.
+fn slot_values(alloc: Global, paths: &[Path]) -> Result<Vec<Value>, AllocError>
+    ensures { IfOk result (λ v. map view v.items ≡ slot_values 0 paths.now) }
+{
+    let mut values = Vec::new(alloc);
+    for (slot, path) in paths.iter().enumerate() {
+        values.push(slot_value(alloc, slot, path)?)?;
+    }
+    Ok(values)
+}
+
+/// A guest with its slots.
+fn guest_value(alloc: Global, guest: &GuestDecl) -> Result<Value, AllocError>
+    ensures { IfOk result (λ v. view v ≡ guest_value guest.now) }
+{
+    let name = guest.name.as_str();
+    let slots = slot_values(alloc, guest.slots.as_slice())?;
+    json!(in alloc; {"name": name, "slots": slots})
+}
+
+/// All guests.
+pub(crate) fn guest_values(alloc: Global, guests: &[GuestDecl]) -> Result<Vec<Value>, AllocError>
+    ensures { IfOk result (λ v. map view v.items ≡ map guest_value guests.now) }
+{
+    let mut values = Vec::new(alloc);
+    for guest in guests {
+        values.push(guest_value(alloc, guest)?)?;
+    }
+    Ok(values)
+}

@@ -1,0 +1,86 @@
+//! The values of paths, spaces, regions and agents.
+ghost use Rattle.std.specs.Prelude.{◌≡◌, IfOk};
+ghost use Rattle.serde_json.specs.View.{view};
+ghost use Rattle.bars.specs.Kinds.{named_space};
+ghost use Rattle.paths.specs.BusAddresses.{bus_address_of};
+ghost use Rattle.json_texts.specs.AuditValue.{path_value, space_text, register_value, reached_value, region_value, agent_value, number_value};
+
+use bars::Space;
+use findings::{Agent, RegionNow};
+use paths::{Bdf, Path};
+use report::push_path;
+use serde_json::{Value, json};
+use std::alloc::{AllocError, Global};
+
+/// A path.
+pub(crate) fn path_value(alloc: Global, path: &Path) -> Result<Value, AllocError>
+    ensures { IfOk result (λ v. view v ≡ path_value path.now) }
+{
+    let mut text = String::new(alloc);
+    push_path(&mut text, path)?;
+    Ok(Value::from(text))
+}
+
+/// The path of what is reached, or `null` where nothing is.
+pub(crate) fn reached_value(alloc: Global, path: &Option<Path>) -> Result<Value, AllocError>
+    ensures { IfOk result (λ v. view v ≡ reached_value path.now) }
+{
+    match path {
+        Some(path) => path_value(alloc, path),
+        None => Ok(Value::Null),
+    }
+}
+
+/// The name of a space.
+pub(crate) fn space_text(space: Space) -> &'static str
+    ensures { result.now ≡ space_text (named_space space) }
+{
+    match space {
+        Space::Io => "io",
+        Space::Mem => "mem",
+    }
+}
+
+/// The register of a region, or `null` of a bridge.
+fn register_value(register: Option<u8>) -> Value
+    ensures { view result ≡ register_value register }
+{
+    match register {
+        Some(index) => Value::from(index),
+        None => Value::Null,
+    }
+}
+
+/// A region, with the path of its endpoint.
+pub(crate) fn region_value(alloc: Global, region: &RegionNow) -> Result<Value, AllocError>
+    ensures { IfOk result (λ v. view v ≡ region_value region.now) }
+{
+    let path = path_value(alloc, &region.path)?;
+    let bar = region.region.index;
+    let base = region.region.base;
+    let size = region.region.size;
+    let space = space_text(region.region.kind.space());
+    json!(in alloc; {"bar": bar, "base": base, "path": path, "size": size, "space": space})
+}
+
+/// What answers, with its register, if it has one.
+pub(crate) fn agent_value(alloc: Global, agent: &Agent) -> Result<Value, AllocError>
+    ensures { IfOk result (λ v. view v ≡ agent_value agent.now) }
+{
+    let path = path_value(alloc, &agent.path)?;
+    let bar = register_value(agent.register);
+    json!(in alloc; {"bar": bar, "path": path})
+}
+
+/// A bus, device and function number.
+pub(crate) fn number_value(alloc: Global, at: Bdf) -> Result<Value, AllocError>
+    ensures { IfOk result (λ v. view v ≡ number_value (bus_address_of at)) }
+{
+    let Bdf {
+        bus,
+        device,
+        function,
+        ..
+    } = at;
+    json!(in alloc; {"bus": bus, "device": device, "function": function})
+}

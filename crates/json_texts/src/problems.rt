@@ -1,0 +1,83 @@
+//! The values of problems.
+ghost use Rattle.std.specs.Prelude.{◌≡◌, IfOk};
+ghost use Rattle.serde_json.specs.View.{view};
+ghost use Rattle.paths.specs.BusAddresses.{bus_address_of};
+ghost use Rattle.model_findings.specs.Problems.{not_forwarded, contended, not_found};
+ghost use Rattle.findings.specs.Findings.{problem_of};
+ghost use Rattle.json_texts.specs.AuditValue.{problem_value};
+
+use crate::problem_parts::{
+    agent_value, number_value, path_value, reached_value, region_value, space_text,
+};
+use findings::{Agent, Problem, RegionNow};
+use paths::{Bdf, Path};
+use serde_json::{Value, json};
+use std::alloc::{AllocError, Global};
+
+/// What is wrong with the forwarding to a region.
+fn not_forwarded(
+    alloc: Global,
+    region: &RegionNow,
+    bridge: &Path,
+    address: u64,
+) -> Result<Value, AllocError>
+    ensures { IfOk result (λ v. view v
+        ≡ problem_value (not_forwarded region.now bridge.now address)) }
+{
+    let region = region_value(alloc, region)?;
+    let bridge = path_value(alloc, bridge)?;
+    let kind = "not forwarded";
+    json!(in alloc; {"address": address, "bridge": bridge, "region": region, "type": kind})
+}
+
+/// What is wrong between two agents.
+fn contended(alloc: Global, one: &Agent, other: &Agent, address: u64) -> Result<Value, AllocError>
+    ensures { IfOk result (λ v. view v ≡ problem_value (contended one.now other.now address)) }
+{
+    let space = space_text(one.space);
+    let one = agent_value(alloc, one)?;
+    let other = agent_value(alloc, other)?;
+    let agents = vec![in alloc; one, other]?;
+    let kind = "contended";
+    json!(in alloc; {"address": address, "agents": agents, "space": space, "type": kind})
+}
+
+/// What is wrong with the number of a function.
+fn not_found(
+    alloc: Global,
+    path: &Path,
+    at: Bdf,
+    instead: &Option<Path>,
+) -> Result<Value, AllocError>
+    ensures { IfOk result (λ v. view v
+        ≡ problem_value (not_found path.now (bus_address_of at) instead.now)) }
+{
+    let number = number_value(alloc, at)?;
+    let path = path_value(alloc, path)?;
+    let reached = reached_value(alloc, instead)?;
+    let kind = "not found";
+    json!(in alloc; {"number": number, "path": path, "reached": reached, "type": kind})
+}
+
+/// A problem.
+pub(crate) fn problem_value(alloc: Global, problem: &Problem) -> Result<Value, AllocError>
+    ensures { IfOk result (λ v. view v ≡ problem_value (problem_of problem.now)) }
+{
+    match problem {
+        Problem::NotForwarded {
+            region,
+            bridge,
+            address,
+        } => not_forwarded(alloc, region, bridge, *address),
+        Problem::Contended {
+            one,
+            other,
+            address,
+        } => contended(alloc, one, other, *address),
+        Problem::NotFound {
+            path,
+            address,
+            instead,
+        } => not_found(alloc, path, *address, instead),
+    }
+}

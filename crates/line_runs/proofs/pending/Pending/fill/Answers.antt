@@ -1,7 +1,0 @@
-use Rattle.std.proofs.Common.{arith}
-use Rattle.std.proofs.lemmas.Bool.Decides.{nat_tests}
-use Rattle.line_runs.proofs.Buffers.{nothing_more}
-use Rattle.line_runs.proofs.pending.Pending.fill.Goals as goal
-
-pub returns-clause-end : goal.returns-clause-end
-returns-clause-end g c = grind (arith, nat_tests, nothing_more)

@@ -1,8 +1,0 @@
-use Rattle.std.proofs.Common.{◌-◌, length, arith}
-use Rattle.line_runs.proofs.Buffers.{read_behind}
-use Rattle.line_runs.proofs.pending.read_from.Goals as goal
-
-pub returns-clause-bytes : goal.returns-clause-bytes
-returns-clause-bytes g c =
-    read_behind c.read.result (g.R.Reader.rest c.args.reader.now) (g.R.Reader.rest c.read.new.self) c.args.start (length c.args.buffer.now - c.args.start)
-    c.args.buffer.now c.read.new.buf (omega arith) c.read.ensures.bound c.read.ensures.bytes

@@ -1,0 +1,303 @@
+//! Runs over pieces of a text.
+ghost use Rattle.std.specs.Prelude.{◌≡◌, ℕ, ◌≤◌, ◌<◌, ◌+◌, ◌-◌, ◌^◌, ◌++◌, ◌∷◌, [], length};
+ghost use Rattle.std.specs.Prelude.{OnOk, OnErr, IfOk, IsErrOf, MatchOption, IsTrue, IsFalse};
+ghost use Rattle.std.specs.Prelude.{◌⊎◌, option_map, string_bytes};
+ghost use Rattle.std.specs.Io.KnownBytes.{Appends, Keeps};
+ghost use Rattle.streams.specs.Ends.{failures_of, AppendsPart};
+ghost use Rattle.model_guests.specs.Text.{Text, lines};
+ghost use Rattle.model_guests.specs.LineRuns.{output, after_lines, HasNoEnd, IsStopped};
+ghost use Rattle.lines.specs.Faults.{stop_failures_of};
+ghost use Rattle.lines.specs.Pieces.{IsBefore, rest_of, with_more, Reaches, StopsWithin, LacksWithin};
+
+use crate::answers::Answers;
+use crate::pending::Pending;
+use crate::replies::LineText;
+use crate::words::line_feed_in;
+use streams::{Failed, Writer, write_all};
+
+/// The first line that a line feed ends, without it, and what comes after it. It is compiled into the loop over
+/// lines.
+#[inline(always)]
+fn whole_line(text: &[u8]) -> Option<(&[u8], &[u8])>
+    ensures line { MatchOption result (HasNoEnd text.now) (λ p.
+        HasNoEnd p.0.now × (text.now ≡ p.0.now ++ 10 ∷ p.1.now)) }
+{
+    let end = line_feed_in(text)?;
+    Some((&text[..end], &text[end + 1..]))
+}
+
+/// What is left of a piece after its lines.
+#[derive(Clone, Copy)]
+struct Left {
+    /// The count of its last bytes, after the last line feed.
+    length: usize,
+    /// Whether they are of a long line of which bytes were passed over.
+    long: bool,
+    /// Whether the lines wrote anything.
+    wrote: bool,
+}
+
+/// Why the lines of a piece did not all run.
+#[derive(Clone, Copy)]
+pub(crate) enum Stop {
+    /// A write or a flush failed.
+    Failed,
+    /// Memory is out for a line.
+    Memory,
+}
+
+/// Writes what a line writes. It is compiled into the loop over lines, which takes a call away from each.
+#[inline(always)]
+fn write_answer<W: Writer>(writer: &mut W, text: &[u8], more: &Option<String>) -> Result<(), Failed>
+    requires { W.failures writer.old < 2 ^ 64 - 1 }
+    ensures ok { OnOk result (Appends (W.written writer.old) (W.written writer.new)
+        (with_more text.now (option_map string_bytes more.now))) }
+    ensures err { OnErr result (AppendsPart (W.written writer.old) (W.written writer.new)
+        (with_more text.now (option_map string_bytes more.now))) }
+    ensures failures { W.failures writer.new ≡ W.failures writer.old + failures_of result }
+{
+    write_all(writer, text)?;
+    match more {
+        Some(more) => write_all(writer, more.as_bytes()),
+        None => Ok(()),
+    }
+}
+
+/// Answers a line, writes what it writes, and says whether that is anything.
+#[inline(always)]
+fn answer_line<L, S: Answers<L>, W: Writer>(
+    server: &mut S,
+    line: &[u8],
+    long: bool,
+    writer: &mut W,
+) -> Result<bool, Stop>
+    requires { W.failures writer.old < 2 ^ 64 - 1 }
+    ensures output { OnOk result ((before : Text) → IsBefore long before →
+        Appends (W.written writer.old) (W.written writer.new) (S.protocol.writes server.old (before ++ line.now))) }
+    ensures after { OnOk result ((before : Text) → IsBefore long before →
+        server.new ≡ S.protocol.next server.old (before ++ line.now)) }
+    ensures silent { IfOk result (λ wrote. IsFalse wrote → writer.new ≡ writer.old) }
+    ensures failed { IsErrOf result Stop.Failed → (before : Text) → IsBefore long before →
+        AppendsPart (W.written writer.old) (W.written writer.new) (S.protocol.writes server.old (before ++ line.now)) }
+    ensures failed_after { IsErrOf result Stop.Failed → (before : Text) →
+        IsBefore long before →
+        server.new ≡ S.protocol.next server.old (before ++ line.now) }
+    ensures lacking { IsErrOf result Stop.Memory →
+        (server.new ≡ server.old) × (writer.new ≡ writer.old) }
+    ensures memory { IsErrOf result Stop.Memory → S.TakesMemory }
+    ensures failures { W.failures writer.new ≡ W.failures writer.old + stop_failures_of result }
+{
+    let mut reply = LineText::new();
+    let Ok(answer) = server.answer(line, long, &mut reply) else {
+        return Err(Stop::Memory);
+    };
+    let more = answer.more;
+    if reply.as_slice().is_empty() && more.is_none() {
+        return Ok(false);
+    }
+    if write_answer(writer, reply.as_slice(), &more).is_err() {
+        return Err(Stop::Failed);
+    }
+    Ok(true)
+}
+
+/// Flushes what was written, where anything was.
+fn flush_if<W: Writer>(writer: &mut W, wrote: bool) -> Result<(), Failed>
+    requires { W.failures writer.old < 2 ^ 64 - 1 }
+    ensures bytes { Keeps (W.written writer.old) (W.written writer.new) }
+    ensures wrote { OnErr result (IsTrue wrote) }
+    ensures flushed { OnOk result (IsTrue wrote → W.flushed writer.new ≡ W.written writer.new) }
+    ensures kept { IsFalse wrote → writer.new ≡ writer.old }
+    ensures failures { W.failures writer.new ≡ W.failures writer.old + failures_of result }
+{
+    if wrote {
+        return writer.flush();
+    }
+    Ok(())
+}
+
+/// What ends the lines where memory is out, once what was written is flushed.
+fn flushed<W: Writer>(writer: &mut W, wrote: bool) -> Stop
+    requires { W.failures writer.old < 2 ^ 64 - 1 }
+    ensures bytes { Keeps (W.written writer.old) (W.written writer.new) }
+    ensures wrote { result ≡ Stop.Failed → IsTrue wrote }
+    ensures flushed { result ≡ Stop.Memory → IsTrue wrote →
+        W.flushed writer.new ≡ W.written writer.new }
+    ensures kept { IsFalse wrote → writer.new ≡ writer.old }
+    ensures failures { W.failures writer.new
+        ≡ W.failures writer.old + stop_failures_of {T = Unit {0}} (Err result) }
+{
+    if flush_if(writer, wrote).is_err() {
+        return Stop::Failed;
+    }
+    Stop::Memory
+}
+
+/// Runs the lines of a piece that line feeds end, and writes what each writes before it looks at the
+/// next. If `long`, the first is a long line of which bytes were passed over. Where memory is out for a
+/// line, what those before it wrote is flushed.
+fn run_lines<L, S: Answers<L>, W: Writer>(
+    server: &mut S,
+    text: &[u8],
+    long: bool,
+    writer: &mut W,
+) -> Result<Left, Stop>
+    requires { W.failures writer.old < 2 ^ 64 - 1 }
+    ensures length { IfOk result (λ left. left.length ≤ length text.now) }
+    ensures rest { IfOk result (λ left. HasNoEnd (rest_of left.length text.now)) }
+    ensures runs { IfOk result (λ left.
+        (before : Text) → HasNoEnd before → IsBefore long before →
+        (run : Reaches S.protocol server.old (before ++ text.now) (rest_of left.length text.now) left.long
+        (W.written writer.old) (W.written writer.new) server.new)
+        × (IsTrue left.wrote → 0 < length run.whole)) }
+    ensures silent { IfOk result (λ left. IsFalse left.wrote → writer.new ≡ writer.old) }
+    ensures stops { IsErrOf result Stop.Failed → (before : Text) → HasNoEnd before →
+        IsBefore long before →
+        StopsWithin S.protocol server.old (before ++ text.now)
+        (W.written writer.old) (W.written writer.new) server.new }
+    ensures lacks { IsErrOf result Stop.Memory → (before : Text) → HasNoEnd before →
+        IsBefore long before →
+        LacksWithin S.protocol server.old (before ++ text.now)
+        (W.written writer.old) (W.written writer.new) server.new }
+    ensures memory { IsErrOf result Stop.Memory → S.TakesMemory }
+    ensures flushed { IsErrOf result Stop.Memory →
+        (W.flushed writer.new ≡ W.written writer.new) ⊎ (writer.new ≡ writer.old) }
+    ensures failures { W.failures writer.new ≡ W.failures writer.old + stop_failures_of result }
+{
+    let mut rest = text;
+    let mut long = long;
+    let mut wrote = false;
+    while let Some((line, after)) = whole_line(rest) {
+        let answered = match answer_line(server, line, long, writer) {
+            Ok(answered) => answered,
+            Err(Stop::Failed) => return Err(Stop::Failed),
+            Err(Stop::Memory) => return Err(flushed(writer, wrote)),
+        };
+        wrote = wrote || answered;
+        long = false;
+        rest = after;
+    }
+    Ok(Left {
+        length: rest.len(),
+        long,
+        wrote,
+    })
+}
+
+/// Runs the lines that line feeds end among what is pending, and keeps the rest. What was written is
+/// flushed, so that it can be read before more of the script is asked for.
+pub(crate) fn run_piece<L, S: Answers<L>, W: Writer>(
+    server: &mut S,
+    pending: &mut Pending,
+    writer: &mut W,
+) -> Result<(), Stop>
+    requires { W.failures writer.old < 2 ^ 64 - 1 }
+    ensures few { OnOk result (length pending.new.text ≤ 200) }
+    ensures rest { OnOk result (HasNoEnd pending.new.text) }
+    ensures runs { OnOk result ((before : Text) → HasNoEnd before →
+        IsBefore pending.old.long before →
+        Reaches S.protocol server.old (before ++ pending.old.text) pending.new.text pending.new.long
+        (W.written writer.old) (W.written writer.new) server.new) }
+    ensures stops { IsErrOf result Stop.Failed → (before : Text) → HasNoEnd before →
+        IsBefore pending.old.long before →
+        StopsWithin S.protocol server.old (before ++ pending.old.text)
+        (W.written writer.old) (W.written writer.new) server.new }
+    ensures lacks { IsErrOf result Stop.Memory → (before : Text) → HasNoEnd before →
+        IsBefore pending.old.long before →
+        LacksWithin S.protocol server.old (before ++ pending.old.text)
+        (W.written writer.old) (W.written writer.new) server.new }
+    ensures memory { IsErrOf result Stop.Memory → S.TakesMemory }
+    ensures flushed { OnOk result ((W.flushed writer.new ≡ W.written writer.new)
+        ⊎ (writer.new ≡ writer.old)) }
+    ensures lacking_flushed { IsErrOf result Stop.Memory →
+        (W.flushed writer.new ≡ W.written writer.new) ⊎ (writer.new ≡ writer.old) }
+    ensures failures { W.failures writer.new ≡ W.failures writer.old + stop_failures_of result }
+{
+    let left = run_lines(server, pending.text(), pending.is_long(), writer)?;
+    if flush_if(writer, left.wrote).is_err() {
+        return Err(Stop::Failed);
+    }
+    pending.keep(left.length, left.long);
+    Ok(())
+}
+
+/// Whether a last line is left at the end of a script.
+fn is_line_left(text: &[u8], long: bool) -> bool
+    ensures some { IsTrue result → (before : Text) → IsBefore long before →
+        0 < length (before ++ text.now) }
+    ensures none { IsFalse result → (before : Text) → IsBefore long before →
+        before ++ text.now ≡ [] }
+{
+    if long {
+        return true;
+    }
+    !text.is_empty()
+}
+
+/// Runs what is left at the end of a script as its last line, if there is any.
+fn answer_last<L, S: Answers<L>, W: Writer>(
+    server: &mut S,
+    text: &[u8],
+    long: bool,
+    writer: &mut W,
+) -> Result<(), Stop>
+    requires { W.failures writer.old < 2 ^ 64 - 1 }
+    ensures output { OnOk result ((before : Text) → IsBefore long before →
+        HasNoEnd (before ++ text.now) →
+        Appends (W.written writer.old) (W.written writer.new)
+        (output S.protocol server.old (lines (before ++ text.now)))) }
+    ensures after { OnOk result ((before : Text) → IsBefore long before →
+        HasNoEnd (before ++ text.now) →
+        server.new ≡ after_lines S.protocol server.old (lines (before ++ text.now))) }
+    ensures stopped { IsErrOf result Stop.Failed → (before : Text) → IsBefore long before →
+        HasNoEnd (before ++ text.now) →
+        IsStopped S.protocol server.old (lines (before ++ text.now))
+        (W.written writer.old) (W.written writer.new) server.new }
+    ensures lacking { IsErrOf result Stop.Memory →
+        (server.new ≡ server.old) × (writer.new ≡ writer.old) }
+    ensures some { IsErrOf result Stop.Memory → (before : Text) → IsBefore long before →
+        0 < length (before ++ text.now) }
+    ensures memory { IsErrOf result Stop.Memory → S.TakesMemory }
+    ensures failures { W.failures writer.new ≡ W.failures writer.old + stop_failures_of result }
+{
+    if !is_line_left(text, long) {
+        return Ok(());
+    }
+    answer_line(server, text, long, writer)?;
+    Ok(())
+}
+
+/// Runs what is left at the end of a script as its last line, and flushes.
+pub(crate) fn run_last<L, S: Answers<L>, W: Writer>(
+    server: &mut S,
+    pending: &Pending,
+    writer: &mut W,
+) -> Result<(), Stop>
+    requires { W.failures writer.old < 2 ^ 64 - 1 }
+    ensures output { OnOk result ((before : Text) → IsBefore pending.now.long before →
+        HasNoEnd (before ++ pending.now.text) →
+        Appends (W.written writer.old) (W.written writer.new)
+        (output S.protocol server.old (lines (before ++ pending.now.text)))) }
+    ensures after { OnOk result ((before : Text) → IsBefore pending.now.long before →
+        HasNoEnd (before ++ pending.now.text) →
+        server.new ≡ after_lines S.protocol server.old (lines (before ++ pending.now.text))) }
+    ensures flushed { OnOk result (W.flushed writer.new ≡ W.written writer.new) }
+    ensures stopped { IsErrOf result Stop.Failed → (before : Text) →
+        IsBefore pending.now.long before →
+        HasNoEnd (before ++ pending.now.text) →
+        IsStopped S.protocol server.old (lines (before ++ pending.now.text))
+        (W.written writer.old) (W.written writer.new) server.new }
+    ensures lacking { IsErrOf result Stop.Memory →
+        (server.new ≡ server.old) × (writer.new ≡ writer.old) }
+    ensures some { IsErrOf result Stop.Memory → (before : Text) →
+        IsBefore pending.now.long before →
+        0 < length (before ++ pending.now.text) }
+    ensures memory { IsErrOf result Stop.Memory → S.TakesMemory }
+    ensures failures { W.failures writer.new ≡ W.failures writer.old + stop_failures_of result }
+{
+    answer_last(server, pending.text(), pending.is_long(), writer)?;
+    if writer.flush().is_err() {
+        return Err(Stop::Failed);
+    }
+    Ok(())
+}

@@ -1,0 +1,121 @@
+//! A run of a whole script.
+ghost use Rattle.std.specs.Prelude.{◌≡◌, ◌+◌, ◌-◌, ◌^◌, ◌<◌, [], false, ◌⊎◌, OnOk, IfErr, IsErrOf, Err};
+ghost use Rattle.std.specs.Io.KnownBytes.{Consumes, IsAtEnd};
+ghost use Rattle.model_guests.specs.Text.{Text};
+ghost use Rattle.model_guests.specs.LineRuns.{HasNoEnd};
+ghost use Rattle.lines.specs.Faults.{read_failures_of, write_failures_of, number_of, of_stop};
+ghost use Rattle.lines.specs.Pieces.{Reaches};
+ghost use Rattle.lines.specs.Runs.{Runs, ends};
+
+use crate::answers::Answers;
+use crate::pending::Pending;
+use crate::pieces::{Stop, run_last, run_piece};
+use streams::{Reader, Writer};
+use thiserror::Error;
+
+/// Why a run ended early.
+#[derive(Clone, Copy, Debug, PartialEq, Eq, Error)]
+pub enum RunFault {
+    #[error("read failed")]
+    Read,
+    /// A write or a flush failed, or a write took no byte.
+    #[error("write failed")]
+    Write,
+    /// Out of memory for a line, in a language in which some line takes memory.
+    #[error("memory")]
+    Memory,
+}
+
+impl RunFault {
+    /// The number of the fault: 501, 502 or 299.
+    pub fn number(self) -> u16
+        ensures { result ≡ number_of self }
+    {
+        match self {
+            RunFault::Read => 501,
+            RunFault::Write => 502,
+            RunFault::Memory => 299,
+        }
+    }
+}
+
+impl From<Stop> for RunFault {
+    ghost from_gives = { λ s f. f ≡ of_stop s };
+
+    fn from(stop: Stop) -> RunFault {
+        match stop {
+            Stop::Failed => RunFault::Write,
+            Stop::Memory => RunFault::Memory,
+        }
+    }
+}
+
+/// Runs the lines of a script that line feeds end, as they are read, and holds what is left at its end.
+fn run_pieces<L, S: Answers<L>, R: Reader, W: Writer>(
+    server: &mut S,
+    pending: &mut Pending,
+    reader: &mut R,
+    writer: &mut W,
+) -> Result<(), RunFault>
+    requires empty { pending.old ≡ record { text = []; long = false } }
+    requires reader_has_room { R.failures reader.old < 2 ^ 64 - 1 }
+    requires writer_has_room { W.failures writer.old < 2 ^ 64 - 1 }
+    ensures reads { R.failures reader.new ≡ R.failures reader.old + read_failures_of result }
+    ensures writes { W.failures writer.new ≡ W.failures writer.old + write_failures_of result }
+    ensures end { OnOk result (IsAtEnd (R.rest reader.new)) }
+    ensures rest { OnOk result (HasNoEnd pending.new.text) }
+    ensures runs { OnOk result ((read : Text)
+        × Consumes (R.rest reader.old) (R.rest reader.new) read
+        × Reaches S.protocol server.old read pending.new.text pending.new.long
+        (W.written writer.old) (W.written writer.new) server.new) }
+    ensures failed { IfErr result (λ fault. Runs {T = Unit {0}} S.protocol server.old server.new
+        (ends (R.rest reader.old) (R.rest reader.new) (W.written writer.old) (W.written writer.new)
+        (W.flushed writer.new)) (Err fault)) }
+    ensures memory { IsErrOf result RunFault.Memory → S.TakesMemory }
+    ensures flushed { OnOk result ((W.flushed writer.new ≡ W.written writer.new)
+        ⊎ (writer.new ≡ writer.old)) }
+    ensures lacking_flushed { IsErrOf result RunFault.Memory →
+        (W.flushed writer.new ≡ W.written writer.new) ⊎ (writer.new ≡ writer.old) }
+{
+    loop {
+        let Ok(more) = pending.fill(reader) else {
+            return Err(RunFault::Read);
+        };
+        if !more {
+            return Ok(());
+        }
+        run_piece(server, pending, writer)?;
+    }
+}
+
+/// Runs the lines of a script, in pieces as they are read. Each line is answered before the next
+/// is looked at, and all answers are flushed before more is read, so that who writes the script can
+/// wait for them. Of a long line nothing is kept, and no memory is taken but by lines of a language in which
+/// some take it. No failure is tried again.
+pub fn run<L, S: Answers<L>, R: Reader, W: Writer>(
+    server: &mut S,
+    reader: &mut R,
+    writer: &mut W,
+) -> Result<(), RunFault>
+    requires reader_has_room { R.failures reader.old < 2 ^ 64 - 1 }
+    requires writer_has_room { W.failures writer.old < 2 ^ 64 - 1 }
+
+    // A fault is the reader's or the writer's exactly where that end failed during the call.
+    ensures reads { R.failures reader.new ≡ R.failures reader.old + read_failures_of result }
+    ensures writes { W.failures writer.new ≡ W.failures writer.old + write_failures_of result }
+
+    // What it did of the lines of the script.
+    ensures runs { Runs S.protocol server.old server.new
+        (ends (R.rest reader.old) (R.rest reader.new)
+        (W.written writer.old) (W.written writer.new) (W.flushed writer.new)) result }
+
+    // No memory for a line: all that those before it write was flushed.
+    ensures lacking_flushed { IsErrOf result RunFault.Memory →
+        (W.flushed writer.new ≡ W.written writer.new) ⊎ (writer.new ≡ writer.old) }
+    ensures memory { IsErrOf result RunFault.Memory → S.TakesMemory }
+{
+    let mut pending = Pending::new();
+    run_pieces(server, &mut pending, reader, writer)?;
+    run_last(server, &pending, writer)?;
+    Ok(())
+}

@@ -1,7 +1,0 @@
--- The worked examples, by computation.
-use Rattle.std.specs.Fmt.{digits}
-use Rattle.model_audit.specs.Examples.{WorkedExamples}
-
-pub worked_examples : WorkedExamples
-unfolding digits
-worked_examples = assumption

@@ -1,8 +1,0 @@
-use Rattle.std.proofs.Common.{arith}
-use Rattle.model_audit.proofs.Found.{numbering_decides}
-use Rattle.model_audit.proofs.Problems.{routing_decides}
-use Rattle.model_audit.proofs.Witnesses.{problems_are_real, problems_decide}
-use Rattle.model_audit.proofs.problems_decide.Goals as goal
-
-pub returns : goal.returns
-returns c = grind (arith, problems_are_real, problems_decide, routing_decides, numbering_decides)

@@ -1,0 +1,167 @@
+-- Where no function is told as not found, a state is numbered: each function is reached by its address alone. A board
+-- that holds its own numbers is numbered.
+use Rattle.std.proofs.Common.{◌≡◌, ℕ, ◌<◌, ◌⊎◌, inl, inr, Bool, true, false, ◌&&◌, List, [], ◌∷◌, ◌++◌, length, Option, Some, None, refl, sym, ap, ◌∙◌, subst, arith, append_assoc}
+use Rattle.std.specs.Prelude.{find, IsTrue}
+use Rattle.std.specs.Option.{option_map, option_map_or}
+use Rattle.std.proofs.lemmas.Bool.{eqb-true, and_from}
+use Rattle.lists.proofs.Tests.{left_true, right_true}
+use Rattle.lists.specs.Elements.{IsIn}
+use Rattle.model_board.specs.Paths.{Part, Path, path_eq, parent, last_part}
+use Rattle.model_board.specs.Board.{Board, Row, is_bridge, stands_at, IsBoard}
+use Rattle.model_board.specs.Board as board
+use Rattle.model_board.specs.BusNumbers.{secondary, subordinate, bus_behind}
+use Rattle.model_board.specs.State.{BoardFunction, row_at}
+use Rattle.model_board.specs.Cycles.{secondary_register, subordinate_register, takes, is_route, ends_in, reached_type0, reached_type1, BusAddress, reached}
+use Rattle.model_set_up.specs.Reach.{HasNumbers, address_of}
+use Rattle.lists.proofs.Members.{each_in, each_from, in_map, from_map, any_in}
+use Rattle.model_board.proofs.PathEnds.{path_self, not_before_itself, snoc_some}
+use Rattle.model_board.proofs.PathOrder.{path_same}
+use Rattle.model_set_up.proofs.Partings.{BridgeAt, bridge_at}
+use Rattle.lists.proofs.Members.{pair_in}
+use Rattle.lists.proofs.FirstFound.{found}
+use Rattle.model_set_up.proofs.Routes.{reached_by_numbers, ends_is_last, last_flag}
+use Rattle.model_findings.specs.Orderly.{IsStateOfBoard}
+use Rattle.model_findings.specs.Found.{is_bridge_at, bus_now, address_now, path_reached, FoundOnce, NumbersOfBoard}
+use Rattle.model_findings.specs.Problems.{Problem, not_found, numbering_problem}
+use Rattle.model_findings.specs.Witnesses.{IsNotFound, NumberingDecides}
+use Rattle.lists.proofs.Members.{none_each, each_none}
+use Rattle.lists.proofs.EachLemmas.{each_map, pairs_from_map}
+use Rattle.lists.proofs.FirstFound.{found_in}
+
+-- ---- what is told of one function
+
+module _ (fs : List BoardFunction) (f : BoardFunction) where
+  abbrev is_there : Option Path → Bool
+  is_there o = option_map_or (λ q. path_eq q f.path) o false
+
+  there_is : (o : Option Path) → is_there o ≡ true → o ≡ Some f.path
+  there_is None h = cc
+  there_is (Some q) h = ap Some (path_same q f.path h)
+
+  is_found : (o : Option Path) → o ≡ Some f.path → is_there o ≡ true
+  is_found o e = ap is_there e ∙ path_self f.path
+
+  reached_if_none : numbering_problem fs f ≡ [] → path_reached fs f.path ≡ Some f.path
+  reached_if_none h = grind (arith, there_is)
+
+  none_if_reached : path_reached fs f.path ≡ Some f.path → numbering_problem fs f ≡ []
+  none_if_reached h = let e : is_there (path_reached fs f.path) ≡ true = is_found (path_reached fs f.path) h in rw e
+
+  -- what a problem of the third kind says
+  pub lost_function : IsIn f fs → (p : Problem) → IsIn p (numbering_problem fs f) → (p ≡ not_found f.path (address_now fs f.path) (path_reached fs f.path)) × IsNotFound fs f.path (address_now fs f.path) (path_reached fs f.path)
+  lost_function there p m = grind (arith, is_found)
+
+-- ---- all functions
+
+pub numbering_decides : NumberingDecides
+numbering_decides fs = grind (arith, each_map, reached_if_none, none_each, each_none, none_if_reached)
+
+-- ---- the one address of a function
+
+module _ (fs : List BoardFunction) (state : IsStateOfBoard fs) where
+  -- one function stands at a path
+  one_function : (f g : BoardFunction) → IsIn f fs → IsIn g fs → f.path ≡ g.path → f ≡ g
+  one_function f g m k e = grind (arith, pair_in, pairs_from_map, not_before_itself)
+
+  -- so a search for the bridge at its path finds it
+  pub is_found_at : (f : BoardFunction) → IsIn f fs → is_bridge f.decl ≡ true → find (is_bridge_at f.path) fs ≡ Some f
+  is_found_at f m is = of (found (is_bridge_at f.path) fs (any_in (is_bridge_at f.path) f fs m (and_from (is_bridge f.decl) (path_eq f.path f.path) is (path_self f.path))))
+    where
+      of : (g : BoardFunction) × (find (is_bridge_at f.path) fs ≡ Some g) × IsIn g fs × (is_bridge_at f.path g ≡ true) → find (is_bridge_at f.path) fs ≡ Some f
+      of (g, e, k, at) = e ∙ ap Some (one_function g f k m (path_same g.path f.path (right_true (is_bridge g.decl) (path_eq g.path f.path) at)))
+
+  number_of : (f : BoardFunction) → IsIn f fs → is_bridge f.decl ≡ true → (bus : Path) (p : Part) → f.path ≡ bus ++ p ∷ [] → bus_now fs (bus ++ p ∷ []) ≡ secondary_register f.file
+  number_of f m is bus p e = at (bus ++ p ∷ []) e (snoc_some bus p)
+    where
+      at : (q : Path) → f.path ≡ q → 0 < length q → bus_now fs q ≡ secondary_register f.file
+      at [] k h = absurd (omega arith)
+      at (q ∷ qs) k h = ap (λ o. option_map_or (λ (x : BoardFunction). secondary_register x.file) o 0) (ap (λ (y : Path). find (is_bridge_at y) fs) (sym k) ∙ is_found_at f m is)
+
+  module _ (n : ℕ) where
+    -- a way that leads to bus n ends behind the bridge whose number is n
+    way_ends : (above p : Path) → is_route fs n above p ≡ true → bus_now fs (above ++ parent p) ≡ n
+    way_ends above [] h = cc
+    way_ends above (p ∷ []) h = cc
+    way_ends above (p ∷ q ∷ []) h = grind (arith, found_in, path_same, left_true, right_true, number_of, eqb-true, last_flag)
+    way_ends above (p ∷ q ∷ r ∷ ps) h =
+        ap (bus_now fs) (sym (append_assoc above (p ∷ []) (parent (q ∷ r ∷ ps)))) ∙ way_ends (above ++ p ∷ []) (q ∷ r ∷ ps) (right_true (takes fs above n p false) (is_route fs n (above ++ p ∷ []) (q ∷ r ∷ ps)) h)
+
+  by_type0 : (t : Part) (f : BoardFunction) → reached_type0 fs t ≡ Some f → (bus_now fs (parent f.path) ≡ 0) × (last_part f.path ≡ t)
+  by_type0 t f e =
+      let at : f.path ≡ t ∷ [] = path_same f.path (t ∷ []) (found_in (λ g. path_eq g.path (t ∷ [])) fs f e).1 in
+      (ap (λ (p : Path). bus_now fs (parent p)) at, ap last_part at)
+
+  by_type1 : (n : ℕ) (t : Part) (f : BoardFunction) → reached_type1 fs n t ≡ Some f → (bus_now fs (parent f.path) ≡ n) × (last_part f.path ≡ t)
+  by_type1 n t f e =
+      let got = (found_in (λ g. ends_in g.path t && is_route fs n [] g.path) fs f e).1 in (
+        way_ends n [] f.path (right_true (ends_in f.path t) (is_route fs n [] f.path) got),
+        ends_is_last f.path t (left_true (ends_in f.path t) (is_route fs n [] f.path) got),
+      )
+
+  pub reached_in : (at : BusAddress) (f : BoardFunction) → reached fs at ≡ Some f → IsIn f fs
+  reached_in at f e = grind (arith, found_in)
+
+  -- whatever the bridges hold, no other address reaches a function
+  pub only_address : (at : BusAddress) (f : BoardFunction) → reached fs at ≡ Some f → at ≡ address_now fs f.path
+  only_address at f e = grind (arith, eqb-true, by_type0, by_type1)
+
+  pub itself : (f : BoardFunction) → IsIn f fs → path_reached fs f.path ≡ Some f.path → reached fs (address_now fs f.path) ≡ Some f
+  itself f m e = by (reached fs (address_now fs f.path)) refl e
+    where
+      by : (o : Option BoardFunction) → reached fs (address_now fs f.path) ≡ o → option_map (λ (x : BoardFunction). x.path) o ≡ Some f.path → o ≡ Some f
+      by None k h = cc
+      by (Some g) k h =
+          let same : g.path ≡ f.path = some_same h in
+          ap Some (one_function g f (reached_in (address_now fs f.path) g k) m same)
+        where
+          some_same : Some g.path ≡ Some f.path → g.path ≡ f.path
+          some_same j = cc
+
+pub found_once : FoundOnce
+found_once fs state numbered = grind (arith, each_from, itself, each_in, only_address)
+
+-- ---- a board with its own numbers
+
+module _ (b : Board) (lawful : IsBoard b) (fs : List BoardFunction) (has : HasNumbers b fs) where
+  there : (f : BoardFunction) → IsIn f fs → IsIn (row_at f) b
+  there f m = subst (IsIn (row_at f)) has.rows (in_map row_at f fs m)
+
+  from_row : (r : Row) → IsIn r b → (f : BoardFunction) × IsIn f fs × (r ≡ row_at f)
+  from_row r m = from_map row_at r fs (subst (IsIn r) (sym has.rows) m)
+
+  -- the number behind a bridge is the board's
+  behind : (bus : Path) → (bus ≡ []) ⊎ IsTrue (board.is_bridge_at b bus) → bus_now fs bus ≡ bus_behind b bus
+  behind [] h = refl
+  behind (p ∷ ps) (inl e) = cc
+  behind (p ∷ ps) (inr h) = by_row d.0 d.1 d.2 d.3
+    where
+      d : BridgeAt b lawful (p ∷ ps)
+      d = bridge_at b lawful (p ∷ ps) h
+
+      by_found : (f : BoardFunction) × (find (is_bridge_at (p ∷ ps)) fs ≡ Some f) × IsIn f fs × (is_bridge_at (p ∷ ps) f ≡ true) → bus_now fs (p ∷ ps) ≡ secondary b (p ∷ ps)
+      by_found (f, e, k, at) =
+          let f_path : f.path ≡ p ∷ ps = path_same f.path (p ∷ ps) (right_true (is_bridge f.decl) (path_eq f.path (p ∷ ps)) at) in
+          let f_is : is_bridge f.decl ≡ true = left_true (is_bridge f.decl) (path_eq f.path (p ∷ ps)) at in
+          let number : secondary_register f.file ≡ secondary b f.path = (each_in (λ (x : BoardFunction). IsTrue (is_bridge x.decl) → (secondary_register x.file ≡ secondary b x.path) × (subordinate_register x.file ≡ subordinate b x.path)) f fs has.numbers k f_is).0 in
+          ap (λ o. option_map_or (λ (x : BoardFunction). secondary_register x.file) o 0) e ∙ number ∙ ap (secondary b) f_path
+
+      by_row : (r : Row) → IsIn r b → is_bridge r.decl ≡ true → r.path ≡ p ∷ ps → bus_now fs (p ∷ ps) ≡ secondary b (p ∷ ps)
+      by_row r m is path = of (from_row r m)
+        where
+          of : (g : BoardFunction) × IsIn g fs × (r ≡ row_at g) → bus_now fs (p ∷ ps) ≡ secondary b (p ∷ ps)
+          of (g, k, e) =
+              let g_path : g.path ≡ p ∷ ps = ap (λ (x : Row). x.path) (sym e) ∙ path in
+              by_found (found (is_bridge_at (p ∷ ps)) fs (any_in (is_bridge_at (p ∷ ps)) g fs k
+              (and_from (is_bridge g.decl) (path_eq g.path (p ∷ ps)) (ap (λ (x : Row). is_bridge x.decl) (sym e) ∙ is) (ap (λ x. path_eq x (p ∷ ps)) g_path ∙ path_self (p ∷ ps)))))
+
+  named : (f : BoardFunction) → IsIn f fs → address_now fs f.path ≡ address_of b f.path
+  named f m = grind (arith, behind, each_in, there)
+
+  is_reached : (f : BoardFunction) → IsIn f fs → path_reached fs f.path ≡ Some f.path
+  is_reached f m =
+      let stands : stands_at b f.path ≡ true = any_in (λ (r : Row). path_eq r.path f.path) (row_at f) b (there f m) (path_self f.path) in
+      let g = reached_by_numbers b lawful fs has f.path stands in
+      ap (λ at. option_map (λ (x : BoardFunction). x.path) (reached fs at)) (named f m) ∙ ap (option_map (λ (x : BoardFunction). x.path)) g.1 ∙ ap Some g.2
+
+pub numbers_of_board : NumbersOfBoard
+numbers_of_board b lawful fs has = grind (arith, each_from, is_reached, named)

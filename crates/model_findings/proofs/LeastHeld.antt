@@ -1,0 +1,111 @@
+-- The least address of a region that passes a test is found among its first one and the places where the test begins to
+-- hold.
+use Rattle.std.proofs.Common.{◌≡◌, ℕ, zero, suc, ◌+◌, ◌-◌, ◌≤◌, inl, inr, Bool, true, false, ◌&&◌, not, List, ◌∷◌, ◌++◌, Option, Some, None, refl, sym, ◌∙◌, subst, arith}
+use Rattle.std.specs.Prelude.{map, filter}
+use Rattle.std.specs.List.{list_any}
+use Rattle.std.proofs.lemmas.Bool.Decides.{nat_tests}
+use Rattle.std.proofs.lemmas.Bool.{and_from, not-true, not-false}
+use Rattle.lists.specs.Elements.{IsIn}
+use Rattle.lists.proofs.Tests.{left_true, right_true}
+use Rattle.lists.proofs.Members.{in_map, in_filter, from_filter, any_in, from_any}
+use Rattle.model_board.specs.Paths.{Path}
+use Rattle.model_board.specs.Windows.{Window, is_in}
+use Rattle.model_board.specs.Routing.{RoutingRow, Ranges, regions, windows}
+use Rattle.model_registers.specs.Apertures.{Apertures}
+use Rattle.model_registers.specs.Decoding.{Space}
+use Rattle.model_set_up.specs.PlacedRegions.{PlacedRegion, holds}
+use Rattle.model_set_up.proofs.Holders.{Holds, holds_is, is_held, self_space}
+use Rattle.model_findings.specs.Agents.{Extent, extent_holds, window_extent}
+use Rattle.model_findings.proofs.Problems.{IsLeast, found_least, finds}
+use Rattle.model_findings.specs.Lacks.{aperture_extents, is_in_apertures, prefetches, prefetch_edges, least_held}
+
+-- a test begins to hold at these numbers alone
+abbrev pub BeginsAt : (ℕ → Bool) → List ℕ → Type 0
+BeginsAt test edges = (n : ℕ) → test n ≡ false → test (n + 1) ≡ true → IsIn (n + 1) edges
+
+pub record IsLeastHeld (test : ℕ → Bool) (q : PlacedRegion) (n : ℕ) : Type 0 where
+  pub byte : holds q.space n q ≡ true
+  pub passes : test n ≡ true
+  pub least : (m : ℕ) → holds q.space m q ≡ true → test m ≡ true → n ≤ m
+
+module _ (test : ℕ → Bool) (edges : List ℕ) (q : PlacedRegion) (begins : BeginsAt test edges) where
+  abbrev passing : ℕ → Bool
+  passing n = holds q.space n q && test n
+
+  abbrev Start : ℕ → Type 0
+  Start m = (c : ℕ) × IsIn c (filter passing (q.first ∷ edges)) × (c ≤ m)
+
+  before_held : (m n : ℕ) → q.first ≤ n → n ≤ m → holds q.space m q ≡ true → holds q.space n q ≡ true
+  before_held m n from le h = is_held q.space n q (record { space_is = self_space q.space; from = from; below = omega (arith, (holds_is q.space m q h).below) })
+
+  start : (k m : ℕ) → q.first + k ≡ m → holds q.space m q ≡ true → test m ≡ true → Start m
+  start zero m e h t = (m, in_filter passing m (q.first ∷ edges) (inl (omega arith)) (and_from (holds q.space m q) (test m) h t), omega arith)
+  start (suc k) m e h t = by (test (q.first + k)) refl (λ g i. start k (q.first + k) refl g i)
+    where
+      held : holds q.space (q.first + k) q ≡ true
+      held = before_held m (q.first + k) (omega arith) (omega arith) h
+
+      next : q.first + k + 1 ≡ m
+      next = omega arith
+
+      by : (u : Bool) → test (q.first + k) ≡ u → (holds q.space (q.first + k) q ≡ true → test (q.first + k) ≡ true → Start (q.first + k)) → Start m
+      by true g more = let s : Start (q.first + k) = more held g in (s.0, s.1, omega (arith, s.2))
+      by false g more =
+          let there : IsIn (q.first + k + 1) edges = begins (q.first + k) g (subst (λ x. test x ≡ true) (sym next) t) in
+          (m, in_filter passing m (q.first ∷ edges) (inr (subst (λ x. IsIn x edges) next there)) (and_from (holds q.space m q) (test m) h t), omega arith)
+
+  starts : (m : ℕ) → holds q.space m q ≡ true → test m ≡ true → Start m
+  starts m h t = by (holds_is q.space m q h)
+    where
+      difference : (a b : ℕ) → a ≤ b → (k : ℕ) × (a + k ≡ b)
+      difference a b le = (b - a, omega arith)
+
+      by : Holds q.space m q → Start m
+      by held = let k = difference q.first m held.from in start k.0 m k.1 h t
+
+  pub least_is : (n : ℕ) → least_held test edges q ≡ Some n → IsLeastHeld test q n
+  least_is n e =
+      let l : IsLeast n (filter passing (q.first ∷ edges)) = found_least passing (q.first ∷ edges) n e in
+      let passes : passing n ≡ true = (from_filter passing n (q.first ∷ edges) l.there).1 in
+      record {
+        byte = left_true (holds q.space n q) (test n) passes;
+        passes = right_true (holds q.space n q) (test n) passes;
+        least = λ m h t. let s : Start m = starts m h t in omega (arith, l.below s.0 s.1, s.2);
+      }
+
+  pub least_finds : (m : ℕ) → holds q.space m q ≡ true → test m ≡ true → (n : ℕ) × (least_held test edges q ≡ Some n)
+  least_finds m h t = let s : Start m = starts m h t in finds passing (q.first ∷ edges) s.0 s.1
+
+-- ---- outside the apertures
+
+ends_here : (e : Extent) (n : ℕ) → extent_holds n e ≡ true → extent_holds (n + 1) e ≡ false → n + 1 ≡ e.end
+ends_here e n h k = grind (arith, nat_tests)
+
+past_extents : (es : List Extent) → BeginsAt (λ n. not (list_any (extent_holds n) es)) (map (λ (e : Extent). e.end) es)
+past_extents es n h k = of (from_any (extent_holds n) es (not-false (list_any (extent_holds n) es) h))
+  where
+    of : (e : Extent) × IsIn e es × (extent_holds n e ≡ true) → IsIn (n + 1) (map (λ (e : Extent). e.end) es)
+    of (e, m, o) = by (extent_holds (n + 1) e) refl
+      where
+        by : (t : Bool) → extent_holds (n + 1) e ≡ t → IsIn (n + 1) (map (λ (e : Extent). e.end) es)
+        by true g = let bad : true ≡ false = sym (any_in (extent_holds (n + 1)) e es m g) ∙ not-true (list_any (extent_holds (n + 1)) es) k in cc
+        by false g = subst (λ x. IsIn x (map (λ (e : Extent). e.end) es)) (sym (ends_here e n o g)) (in_map (λ (e : Extent). e.end) e es m)
+
+pub outside_begins : (a : Apertures) (space : Space) → BeginsAt (λ n. not (is_in_apertures a space n)) (map (λ (e : Extent). e.end) (aperture_extents a space))
+outside_begins a space n h k = past_extents (aperture_extents a space) n h k
+
+-- ---- prefetched
+
+window_begins : (o : Bool) (wmem wpref : Option Window) (n : ℕ) → (o && is_in n wpref && not (is_in n wmem)) ≡ false → (o && is_in (n + 1) wpref && not (is_in (n + 1) wmem)) ≡ true
+    → IsIn (n + 1) (map (λ (e : Extent). e.first) (window_extent wpref) ++ map (λ (e : Extent). e.end) (window_extent wmem))
+window_begins o None None n h k = grind (arith, nat_tests)
+window_begins o None (Some v) n h k = grind (arith, nat_tests)
+window_begins o (Some w) None n h k = grind (arith, nat_tests)
+window_begins o (Some w) (Some v) n h k = grind (arith, nat_tests)
+
+prefetch_by : (p : Path) (command : ℕ) (rs : Ranges) → BeginsAt (λ n. prefetches n (record { path = p; command = command; ranges = rs })) (prefetch_edges (record { path = p; command = command; ranges = rs }))
+prefetch_by p command (regions bs) n h k = cc
+prefetch_by p command (windows wio wmem wpref) n h k = window_begins _ wmem wpref n h k
+
+pub prefetch_begins : (r : RoutingRow) → BeginsAt (λ n. prefetches n r) (prefetch_edges r)
+prefetch_begins r = prefetch_by r.path r.command r.ranges

@@ -1,0 +1,17 @@
+pub mod Answering
+pub mod Apart
+pub mod Claims
+pub mod Problems
+pub mod Found
+pub mod Scan
+pub mod Witnesses
+pub mod AuditExamples
+pub mod Placing
+pub mod Holding
+pub mod SetUpPasses
+pub mod ReadyExamples
+pub mod Told
+pub mod LeastHeld
+pub mod Lacks
+pub mod Usable
+pub mod SetUpReady

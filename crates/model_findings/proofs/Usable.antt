@@ -1,0 +1,68 @@
+-- In a ready state each byte of each declared region is claimed where its register says, within the apertures.
+use Rattle.std.proofs.Common.{◌≡◌, ℕ, ◌<◌, true, sym, subst}
+use Rattle.std.specs.Prelude.{map, filter, IsTrue}
+use Rattle.lists.specs.Elements.{Each, IsIn}
+use Rattle.lists.proofs.Members.{each_in, in_map, in_filter, in_flat_map}
+use Rattle.model_registers.specs.Declarations.{Region, Endpoint}
+use Rattle.model_registers.specs.Decoding.{base_address, opens_space, command_word, space_of}
+use Rattle.model_registers.specs.EndpointTable.{BaseAddress}
+use Rattle.model_registers.specs.Registers.{File}
+use Rattle.model_board.specs.Board.{Decl, endpoint}
+use Rattle.model_board.specs.Paths.{Path}
+use Rattle.model_board.specs.Routing.{RoutingRow, row_of, routing}
+use Rattle.model_set_up.specs.PlacedRegions.{PlacedRegion}
+use Rattle.model_set_up.specs.UniqueClaimant.{IsClaimed}
+use Rattle.model_findings.specs.OpenRegions.{region_now, regions_of, open_of, open_regions}
+use Rattle.model_findings.proofs.Claims.{orderly_claims}
+use Rattle.model_findings.proofs.Found.{found_once}
+use Rattle.model_findings.proofs.Witnesses.{problems_decide}
+use Rattle.model_findings.specs.Lacks.{is_plain, plain_of, plain_regions}
+use Rattle.model_findings.specs.ReadyLaws.{IsWithinApertures, PrefetchesNone, LacksNothing, ReadyIsUsable, ReadyIsFound}
+use Rattle.model_findings.proofs.Lacks.{lacking_nothing}
+
+-- a declared region is one of its function's, where its register says
+pub region_here : (p : Path) (decl : Decl) (file : File) (d : Endpoint) (g : Region) → decl ≡ endpoint d → IsIn g d.regions
+    → IsIn (region_now p (base_address file g)) (regions_of (row_of (record { path = p; decl = decl; file = file })))
+region_here p decl file d g e k =
+    subst (λ (x : Decl). IsIn (region_now p (base_address file g)) (regions_of (row_of (record { path = p; decl = x; file = file })))) (sym e)
+    (in_map (region_now p) (base_address file g) (map (base_address file) d.regions) (in_map (base_address file) g d.regions k))
+
+plain_here : (p : Path) (decl : Decl) (file : File) (d : Endpoint) (g : Region) → decl ≡ endpoint d → IsIn g d.regions → is_plain g.kind ≡ true → opens_space (command_word file) (space_of g.kind) ≡ true
+    → IsIn (region_now p (base_address file g)) (plain_of (row_of (record { path = p; decl = decl; file = file })))
+plain_here p decl file d g e k plain opened =
+    subst (λ (x : Decl). IsIn (region_now p (base_address file g)) (plain_of (row_of (record { path = p; decl = x; file = file })))) (sym e)
+    (in_filter (λ (q : PlacedRegion). opens_space (command_word file) q.space) (region_now p (base_address file g)) (map (region_now p) (filter (λ (b : BaseAddress). is_plain b.kind) (map (base_address file) d.regions)))
+    (in_map (region_now p) (base_address file g) (filter (λ (b : BaseAddress). is_plain b.kind) (map (base_address file) d.regions))
+    (in_filter (λ (b : BaseAddress). is_plain b.kind) (base_address file g) (map (base_address file) d.regions) (in_map (base_address file) g d.regions k) plain)) opened)
+
+pub ready_is_usable : ReadyIsUsable
+ready_is_usable a fs state ready f m d e g k = record {
+  opened = opened;
+  each_byte = each_in (λ (r : PlacedRegion). (j : ℕ) → j < r.size → IsClaimed fs r j) q (open_regions (routing fs)) (orderly_claims fs state ((problems_decide fs).0 ready.no_problems).routes).each_byte there;
+  within = each_in (IsWithinApertures a) q (open_regions (routing fs)) nothing.within there;
+  unprefetched = λ plain. each_in (λ (x : PlacedRegion). Each (PrefetchesNone x) (routing fs)) (region_now f.path (base_address f.file g)) (plain_regions (routing fs)) nothing.unprefetched
+      (in_flat_map plain_of (row_of f) (region_now f.path (base_address f.file g)) (routing fs) row_there (plain_here f.path f.decl f.file d g e k plain opened));
+}
+  where
+    q : PlacedRegion
+    q = region_now f.path (base_address f.file g)
+
+    nothing : LacksNothing a fs
+    nothing = lacking_nothing a fs ready.no_lacks
+
+    row_there : IsIn (row_of f) (routing fs)
+    row_there = in_map row_of f fs m
+
+    here : IsIn (region_now f.path (base_address f.file g)) (regions_of (row_of f))
+    here = region_here f.path f.decl f.file d g e k
+
+    opened : opens_space (row_of f).command (space_of g.kind) ≡ true
+    opened = each_in (λ (x : PlacedRegion). IsTrue (opens_space (row_of f).command x.space)) (region_now f.path (base_address f.file g)) (regions_of (row_of f))
+        (each_in (λ (r : RoutingRow). Each (λ (x : PlacedRegion). IsTrue (opens_space r.command x.space)) (regions_of r)) (row_of f) (routing fs) nothing.open_all row_there) here
+
+    there : IsIn (region_now f.path (base_address f.file g)) (open_regions (routing fs))
+    there = in_flat_map open_of (row_of f) (region_now f.path (base_address f.file g)) (routing fs) row_there
+        (in_filter (λ (x : PlacedRegion). opens_space (row_of f).command x.space) (region_now f.path (base_address f.file g)) (regions_of (row_of f)) here opened)
+
+pub ready_is_found : ReadyIsFound
+ready_is_found a fs state ready = found_once fs state ((problems_decide fs).0 ready.no_problems).numbers

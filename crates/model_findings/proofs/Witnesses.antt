@@ -1,0 +1,23 @@
+-- Each problem is real, and there is none where and only where a state is in order.
+use Rattle.std.proofs.Common.{List, arith}
+use Rattle.lists.specs.Elements.{IsIn}
+use Rattle.model_board.specs.State.{BoardFunction}
+use Rattle.model_board.specs.Routing.{routing}
+use Rattle.lists.proofs.Members.{each_from, front_or_back, from_flat_map}
+use Rattle.model_findings.specs.Problems.{Problem, numbering_problems}
+use Rattle.model_findings.specs.Witnesses.{IsReal, ProblemsAreReal, ProblemsDecide}
+use Rattle.model_findings.proofs.Problems.{IsRouted, routing_is_real, routing_decides}
+use Rattle.lists.proofs.Members.{none_front, none_back}
+use Rattle.model_findings.proofs.Found.{lost_function, numbering_decides}
+
+of_routing : (fs : List BoardFunction) (p : Problem) → IsRouted (routing fs) p → IsReal fs p
+of_routing fs p h = grind arith
+
+of_numbering : (fs : List BoardFunction) (p : Problem) → IsIn p (numbering_problems fs) → IsReal fs p
+of_numbering fs p m = grind (arith, from_flat_map, lost_function)
+
+pub problems_are_real : ProblemsAreReal
+problems_are_real fs = grind (arith, each_from, front_or_back, of_routing, routing_is_real, of_numbering)
+
+pub problems_decide : ProblemsDecide
+problems_decide fs = grind (arith, routing_decides, none_front, numbering_decides, none_back)

@@ -1,0 +1,6 @@
+use Rattle.model_findings.proofs.Found.{found_once, numbers_of_board}
+use Rattle.model_findings.proofs.Scan.{scan_finds_all}
+use Rattle.model_findings.proofs.numbers_find_all.Goals as goal
+
+pub returns : goal.returns
+returns c = record { once = found_once; scan = scan_finds_all; board = numbers_of_board }

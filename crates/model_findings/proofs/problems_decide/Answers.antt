@@ -1,0 +1,8 @@
+use Rattle.std.proofs.Common.{arith}
+use Rattle.model_findings.proofs.Found.{numbering_decides}
+use Rattle.model_findings.proofs.Problems.{routing_decides}
+use Rattle.model_findings.proofs.Witnesses.{problems_are_real, problems_decide}
+use Rattle.model_findings.proofs.problems_decide.Goals as goal
+
+pub returns : goal.returns
+returns c = grind (arith, problems_are_real, problems_decide, routing_decides, numbering_decides)

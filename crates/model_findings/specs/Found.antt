@@ -1,0 +1,64 @@
+-- Whether configuration cycles find each function by the bus numbers that the bridges hold, in any register state:
+-- PCI-to-PCI Bridge Architecture 1.2, chapter 3.
+--     is_bridge_at bus f      the bridge above the bus
+--     bus_now fs bus      the number of a bus: the Secondary Bus Number of that bridge, and 0 for bus 0
+--     address_now fs p      the number of the function's bus, and its device and function
+--     path_reached fs p      what a cycle for that address reaches
+--     IsNumbered fs      each function is reached by its address
+--     IsFoundOnce fs f, FoundOnce      then it is reached by that address alone
+--     scanned fs, ScanFindsAll      what cycles for all addresses reach, in scan order: all functions
+--     NumbersOfBoard      a board that holds its own numbers is numbered, and its addresses are those of the board
+use Rattle.std.specs.Prelude.{List, [], ◌∷◌, ◌≡◌, ℕ, ◌<◌, ◌/◌, ◌%◌, Bool, ◌&&◌, Option, Some, find, flat_map, map}
+use Rattle.std.specs.Option.{option_map, option_map_or, option_to_list}
+use Rattle.std.specs.List.{range_with_len}
+use Rattle.lists.specs.Elements.{Each, IsIn}
+use Rattle.model_board.specs.Paths.{Path, path_eq, parent, last_part}
+use Rattle.model_board.specs.Board.{is_bridge, Board, IsBoard}
+use Rattle.model_board.specs.State.{BoardFunction}
+use Rattle.model_board.specs.Cycles.{secondary_register, BusAddress, reached}
+use Rattle.model_set_up.specs.Reach.{HasNumbers, address_of}
+use Rattle.model_findings.specs.Orderly.{IsStateOfBoard}
+
+abbrev pub is_bridge_at : Path → BoardFunction → Bool
+is_bridge_at bus f = is_bridge f.decl && path_eq f.path bus
+
+-- [] names bus 0
+abbrev pub bus_now : List BoardFunction → Path → ℕ
+bus_now fs [] = 0
+bus_now fs (p ∷ ps) =
+    option_map_or (λ (f : BoardFunction). secondary_register f.file) (find (is_bridge_at (p ∷ ps)) fs) 0
+
+abbrev pub address_now : List BoardFunction → Path → BusAddress
+address_now fs p = record { bus = bus_now fs (parent p); part = last_part p }
+
+abbrev pub path_reached : List BoardFunction → Path → Option Path
+path_reached fs p = option_map (λ (f : BoardFunction). f.path) (reached fs (address_now fs p))
+
+pub record IsNumbered (fs : List BoardFunction) : Type 0 where
+  pub each : Each (λ f. path_reached fs f.path ≡ Some f.path) fs
+
+pub record IsFoundOnce (fs : List BoardFunction) (f : BoardFunction) : Type 0 where
+  pub by_address : reached fs (address_now fs f.path) ≡ Some f
+  pub by_no_other : (at : BusAddress) → reached fs at ≡ Some f → at ≡ address_now fs f.path
+
+abbrev pub FoundOnce : Type 0
+FoundOnce = (fs : List BoardFunction) → IsStateOfBoard fs → IsNumbered fs → Each (IsFoundOnce fs) fs
+
+-- 256 buses of 16 devices of 8 functions
+abbrev pub address_at : ℕ → ℕ → BusAddress
+address_at bus n = record { bus = bus; part = record { device = n / 8; function = n % 8 } }
+
+abbrev pub scan_order : List BusAddress
+scan_order = flat_map (λ bus. map (address_at bus) (range_with_len 0 128)) (range_with_len 0 256)
+
+abbrev pub scanned : List BoardFunction → List BoardFunction
+scanned fs = flat_map (λ at. option_to_list (reached fs at)) scan_order
+
+-- bus numbers are bytes
+abbrev pub ScanFindsAll : Type 0
+ScanFindsAll = (fs : List BoardFunction) → IsStateOfBoard fs → IsNumbered fs
+    → Each (λ f. secondary_register f.file < 256) fs → Each (λ f. IsIn f (scanned fs)) fs
+
+abbrev pub NumbersOfBoard : Type 0
+NumbersOfBoard = (b : Board) → IsBoard b → (fs : List BoardFunction) → HasNumbers b fs
+    → IsNumbered fs × Each (λ f. address_now fs f.path ≡ address_of b f.path) fs

@@ -1,0 +1,14 @@
+pub mod OpenRegions
+pub mod Agents
+pub mod Orderly
+pub mod Found
+pub mod Problems
+pub mod Witnesses
+pub mod Notes
+pub mod AuditText
+pub mod AuditExamples
+pub mod SetUpPasses
+pub mod Lacks
+pub mod ReadyLaws
+pub mod ReadyText
+pub mod ReadyExamples

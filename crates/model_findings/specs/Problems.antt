@@ -1,0 +1,72 @@
+-- What is wrong in a register state, problem by problem: PCI Local Bus 3.0, chapter 6.2.5; PCI-to-PCI Bridge
+-- Architecture 1.2, chapters 3 and 4.
+--     least ns      the least of some numbers
+--     unforwarded r q      the least byte of a region that a bridge doesn't forward
+--     shared a b      the least address that two agents both answer
+--     Problem      not forwarded, contended or not found, each with a witness
+--     routing_problems rows      those of the first two kinds: region by region, then pair by pair of agents
+--     numbering_problems fs      those of the third, function by function
+--     problems fs      all of them
+use Rattle.std.specs.Prelude.{List, [], ◌∷◌, ◌++◌, ℕ, false, ◌&&◌, not, min, if◌then◌else◌, Option, Some, None}
+use Rattle.std.specs.Prelude.{map, filter, flat_map}
+use Rattle.std.specs.Option.{option_map, option_map_or, option_to_list}
+use Rattle.lists.specs.Elements.{first_some}
+use Rattle.model_board.specs.Paths.{Path, path_eq, leads_to}
+use Rattle.model_board.specs.State.{BoardFunction}
+use Rattle.model_board.specs.Cycles.{BusAddress}
+use Rattle.model_board.specs.Routing.{RoutingRow, routing, row_forwards}
+use Rattle.model_set_up.specs.PlacedRegions.{PlacedRegion, holds}
+use Rattle.model_findings.specs.OpenRegions.{open_regions}
+use Rattle.model_findings.specs.Agents.{forwarded_extents, Agent, agents, answers, on_one_bus}
+use Rattle.model_findings.specs.Found.{address_now, path_reached}
+
+abbrev pub least : List ℕ → Option ℕ
+least [] = None
+least (n ∷ ns) = Some (option_map_or (min n) (least ns) n)
+
+-- bytes that a bridge doesn't forward begin at the region's first byte, or where a window ends
+abbrev pub unforwarded : RoutingRow → PlacedRegion → Option ℕ
+unforwarded r q =
+    least (filter (λ n. holds q.space n q && not (row_forwards q.space n r))
+    (q.first ∷ map (λ e. e.end) (forwarded_extents q.space r)))
+
+-- addresses that two agents share begin where an extent of one of them begins
+abbrev pub shared : Agent → Agent → Option ℕ
+shared a b =
+    least (filter (λ n. answers a.space n a && answers a.space n b) (map (λ e. e.first) (a.extents ++ b.extents)))
+
+pub data Problem : Type 0 where
+  -- an open region, the first bridge above it that doesn't forward all of it, and the least byte that it doesn't
+  not_forwarded : PlacedRegion → Path → ℕ → Problem
+  -- two agents of one bus, and the least address that both answer
+  contended : Agent → Agent → ℕ → Problem
+  -- a function, its address, and what a cycle for that address reaches in its place
+  not_found : Path → BusAddress → Option Path → Problem
+
+abbrev pub blame : PlacedRegion → RoutingRow → Option Problem
+blame q r = if leads_to r.path q.path then option_map (not_forwarded q r.path) (unforwarded r q) else None
+
+abbrev pub forwarding_problem : List RoutingRow → PlacedRegion → List Problem
+forwarding_problem rows q = option_to_list (first_some (blame q) rows)
+
+abbrev pub contention : Agent → Agent → List Problem
+contention a b = if on_one_bus a b then option_to_list (option_map (contended a b) (shared a b)) else []
+
+-- each agent with each later one
+abbrev pub contentions : List Agent → List Problem
+contentions [] = []
+contentions (a ∷ bs) = flat_map (contention a) bs ++ contentions bs
+
+abbrev pub routing_problems : List RoutingRow → List Problem
+routing_problems rows = flat_map (forwarding_problem rows) (open_regions rows) ++ contentions (agents rows)
+
+abbrev pub numbering_problem : List BoardFunction → BoardFunction → List Problem
+numbering_problem fs f =
+    if option_map_or (λ q. path_eq q f.path) (path_reached fs f.path) false then []
+    else not_found f.path (address_now fs f.path) (path_reached fs f.path) ∷ []
+
+abbrev pub numbering_problems : List BoardFunction → List Problem
+numbering_problems fs = flat_map (numbering_problem fs) fs
+
+abbrev pub problems : List BoardFunction → List Problem
+problems fs = routing_problems (routing fs) ++ numbering_problems fs

@@ -1,0 +1,130 @@
+-- What it says of a register state that it is ready: PCI Local Bus 3.0, chapter 6.2.5; PCI-to-PCI Bridge Architecture
+-- 1.2, chapters 3.2.5 and 4.
+--     IsWithinApertures, PrefetchesNone      each address of a region lies in an aperture; a bridge prefetches none
+--     IsClosed, IsOutside, IsPrefetched, HasOtherPrimary      what a lack of each kind says
+--     IsRealLack, LacksAreReal      each lack of a state is so
+--     LacksNothing, LacksDecide      no lacks where and only where nothing is lacking
+--     ReadyDecides      ready, as a test and as a fact, is in order and without lacks
+--     IsUsable, ReadyIsUsable      each byte of each endpoint's regions is claimed, within the apertures
+--     ReadyIsFound      and each function is reached by its number alone
+--     SetUpIsReady      what set-up leaves is ready
+--     HasPrimaries, ReadyAsSetUp      and each state with its routing registers and bus numbers is
+use Rattle.std.specs.Prelude.{List, [], ◌∷◌, ◌++◌, ◌≡◌, ℕ, ◌≤◌, ◌<◌, IsTrue, IsFalse, ◌↔◌}
+use Rattle.lists.specs.Elements.{IsIn, Each}
+use Rattle.model_registers.specs.Apertures.{Apertures}
+use Rattle.model_registers.specs.Declarations.{Region, Endpoint}
+use Rattle.model_registers.specs.Decoding.{opens_space, is_open, space_of, base_address}
+use Rattle.model_board.specs.Paths.{Path, leads_to, parent}
+use Rattle.model_board.specs.Board.{Board, endpoint, is_bridge}
+use Rattle.model_board.specs.BusNumbers.{bus_of, Enumerates}
+use Rattle.model_board.specs.State.{BoardFunction}
+use Rattle.model_board.specs.Routing.{RoutingRow, routing}
+use Rattle.model_set_up.specs.PlacedRegions.{PlacedRegion, holds}
+use Rattle.model_set_up.specs.Reach.{HasNumbers}
+use Rattle.model_set_up.specs.SetUp.{set_up_state}
+use Rattle.model_set_up.specs.UniqueClaimant.{CanBePlaced, IsClaimed}
+use Rattle.model_findings.specs.OpenRegions.{region_now, regions_of, open_regions}
+use Rattle.model_findings.specs.Orderly.{IsStateOfBoard}
+use Rattle.model_findings.specs.Found.{bus_now, IsFoundOnce}
+use Rattle.model_findings.specs.Witnesses.{IsInOrder}
+use Rattle.model_findings.specs.Lacks.{is_in_apertures, is_plain, plain_regions, prefetches, Lack}
+use Rattle.model_findings.specs.Lacks.{primary_register, not_open, outside_apertures, prefetched_by, other_primary, lacks, is_ready, IsReady}
+
+abbrev pub IsWithinApertures : Apertures → PlacedRegion → Type 0
+IsWithinApertures a q = (n : ℕ) → IsTrue (holds q.space n q) → IsTrue (is_in_apertures a q.space n)
+
+abbrev pub PrefetchesNone : PlacedRegion → RoutingRow → Type 0
+PrefetchesNone q r = IsTrue (leads_to r.path q.path) → (n : ℕ) → IsTrue (holds q.space n q) → IsFalse (prefetches n r)
+
+-- ---- each lack is real
+
+pub record IsClosed (rows : List RoutingRow) (q : PlacedRegion) : Type 0 where
+  pub row : RoutingRow
+  pub there : IsIn row rows
+  pub region : IsIn q (regions_of row)
+  pub closed : IsFalse (opens_space row.command q.space)
+
+pub record IsOutside (a : Apertures) (rows : List RoutingRow) (q : PlacedRegion) (n : ℕ) : Type 0 where
+  pub region : IsIn q (open_regions rows)
+  pub byte : IsTrue (holds q.space n q)
+  pub outside : IsFalse (is_in_apertures a q.space n)
+  pub least : (m : ℕ) → IsTrue (holds q.space m q) → IsFalse (is_in_apertures a q.space m) → n ≤ m
+
+pub record IsPrefetched (rows : List RoutingRow) (q : PlacedRegion) (bridge : Path) (n : ℕ) : Type 0 where
+  pub region : IsIn q (plain_regions rows)
+  -- the bridge among the rows, and those before it
+  pub row : RoutingRow
+  pub before : List RoutingRow
+  pub after : List RoutingRow
+  pub rows_are : rows ≡ before ++ row ∷ after
+  pub bridge_is : row.path ≡ bridge
+  pub above : IsTrue (leads_to bridge q.path)
+  pub first : Each (PrefetchesNone q) before
+  pub byte : IsTrue (holds q.space n q)
+  pub prefetched : IsTrue (prefetches n row)
+  pub least : (m : ℕ) → IsTrue (holds q.space m q) → IsTrue (prefetches m row) → n ≤ m
+
+pub record HasOtherPrimary (fs : List BoardFunction) (p : Path) (held number : ℕ) : Type 0 where
+  pub bridge : BoardFunction
+  pub there : IsIn bridge fs
+  pub is_one : IsTrue (is_bridge bridge.decl)
+  pub path_is : bridge.path ≡ p
+  pub held_is : held ≡ primary_register bridge.file
+  pub number_is : number ≡ bus_now fs (parent p)
+  pub other : held ≡ number → ⊥
+
+abbrev pub IsRealLack : Apertures → List BoardFunction → Lack → Type 0
+IsRealLack a fs (not_open q) = IsClosed (routing fs) q
+IsRealLack a fs (outside_apertures q n) = IsOutside a (routing fs) q n
+IsRealLack a fs (prefetched_by q p n) = IsPrefetched (routing fs) q p n
+IsRealLack a fs (other_primary p held number) = HasOtherPrimary fs p held number
+
+abbrev pub LacksAreReal : Type 0
+LacksAreReal = (a : Apertures) (fs : List BoardFunction) → Each (IsRealLack a fs) (lacks a fs)
+
+-- ---- none is left out
+
+pub record LacksNothing (a : Apertures) (fs : List BoardFunction) : Type 0 where
+  pub open_all : Each (λ r. Each (λ q. IsTrue (opens_space r.command q.space)) (regions_of r)) (routing fs)
+  pub within : Each (IsWithinApertures a) (open_regions (routing fs))
+  pub unprefetched : Each (λ q. Each (PrefetchesNone q) (routing fs)) (plain_regions (routing fs))
+  pub primaries : Each (λ f. IsTrue (is_bridge f.decl) → primary_register f.file ≡ bus_now fs (parent f.path)) fs
+
+abbrev pub LacksDecide : Type 0
+LacksDecide = (a : Apertures) (fs : List BoardFunction) → (lacks a fs ≡ []) ↔ LacksNothing a fs
+
+abbrev pub ReadyDecides : Type 0
+ReadyDecides = (a : Apertures) (fs : List BoardFunction)
+    → (IsTrue (is_ready a fs) ↔ IsReady a fs) × (IsReady a fs ↔ (IsInOrder fs × LacksNothing a fs))
+
+-- ---- a ready state can be used
+
+-- a region that an endpoint declares, where its register says
+pub record IsUsable (a : Apertures) (fs : List BoardFunction) (f : BoardFunction) (g : Region) : Type 0 where
+  pub opened : IsTrue (is_open f.file (space_of g.kind))
+  pub each_byte : (k : ℕ) → k < g.size → IsClaimed fs (region_now f.path (base_address f.file g)) k
+  pub within : IsWithinApertures a (region_now f.path (base_address f.file g))
+  -- no bridge above prefetches what isn't prefetchable
+  pub unprefetched : IsTrue (is_plain g.kind)
+      → Each (PrefetchesNone (region_now f.path (base_address f.file g))) (routing fs)
+
+abbrev pub ReadyIsUsable : Type 0
+ReadyIsUsable = (a : Apertures) (fs : List BoardFunction) → IsStateOfBoard fs → IsReady a fs
+    → (f : BoardFunction) → IsIn f fs → (d : Endpoint) → f.decl ≡ endpoint d → (g : Region) → IsIn g d.regions
+    → IsUsable a fs f g
+
+abbrev pub ReadyIsFound : Type 0
+ReadyIsFound = (a : Apertures) (fs : List BoardFunction) → IsStateOfBoard fs → IsReady a fs → Each (IsFoundOnce fs) fs
+
+-- ---- after set-up
+
+abbrev pub SetUpIsReady : Type 0
+SetUpIsReady = (b : Board) (a : Apertures) → Enumerates b → CanBePlaced b a → IsReady a (set_up_state b a).functions
+
+-- each bridge holds the number of the bus that it stands on
+abbrev pub HasPrimaries : Board → List BoardFunction → Type 0
+HasPrimaries b fs = Each (λ f. IsTrue (is_bridge f.decl) → primary_register f.file ≡ bus_of b f.path) fs
+
+abbrev pub ReadyAsSetUp : Type 0
+ReadyAsSetUp = (b : Board) (a : Apertures) → Enumerates b → CanBePlaced b a → (fs : List BoardFunction)
+    → routing fs ≡ routing (set_up_state b a).functions → HasNumbers b fs → HasPrimaries b fs → IsReady a fs

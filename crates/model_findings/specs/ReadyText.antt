@@ -1,0 +1,35 @@
+-- The text of what a register state lacks: a line for each problem and each lack, and a last line that counts both.
+--     lack_text      a lack with its witness
+--     lack_total n      how many problems and lacks there are
+--     ready_text ps ls, ready_report a fs      the whole text of some problems and lacks, and of a register state
+use Rattle.std.specs.Prelude.{List, [], ◌∷◌, ◌++◌, ℕ, ◌+◌, ◌==◌, if◌then◌else◌, map, length, codes, decimal}
+use Rattle.model_registers.specs.Apertures.{Apertures}
+use Rattle.model_board.specs.State.{BoardFunction}
+use Rattle.model_guests.specs.Text.{Text, text_of_lines}
+use Rattle.model_guests.specs.Replies.{hex_digits}
+use Rattle.model_guests.specs.PathTexts.{hexadecimal, path_text}
+use Rattle.model_findings.specs.AuditText.{region_text, problem_text, audit_line}
+use Rattle.model_findings.specs.Problems.{Problem, problems}
+use Rattle.model_findings.specs.Lacks.{Lack, not_open, outside_apertures, prefetched_by, other_primary, lacks}
+
+abbrev pub lack_text : Lack → Text
+lack_text (not_open q) = region_text q ++ codes " is closed"
+lack_text (outside_apertures q n) = region_text q ++ codes ": " ++ hexadecimal n ++ codes " is outside the apertures"
+lack_text (prefetched_by q bridge n) =
+    region_text q ++ codes ": " ++ path_text bridge ++ codes " prefetches " ++ hexadecimal n
+lack_text (other_primary p held number) =
+    path_text p ++ codes ": Primary is " ++ hex_digits 2 held ++ codes " on bus " ++ hex_digits 2 number
+
+abbrev pub lack_total : ℕ → Text
+lack_total n = if n == 0 then codes "ok" else decimal n ++ (if n == 1 then codes " lack" else codes " lacks")
+
+abbrev pub ready_line : Text → Text
+ready_line text = codes "ready: " ++ text
+
+abbrev pub ready_text : List Problem → List Lack → Text
+ready_text ps ls =
+    text_of_lines (map (λ p. audit_line (problem_text p)) ps ++ map (λ l. ready_line (lack_text l)) ls
+    ++ ready_line (lack_total (length ps + length ls)) ∷ [])
+
+abbrev pub ready_report : Apertures → List BoardFunction → Text
+ready_report a fs = ready_text (problems fs) (lacks a fs)

@@ -1,9 +1,0 @@
--- The worked examples, by computation.
-use Rattle.model_image_bytes.specs.ByteExamples.{ByteExamples}
-use Rattle.model_image_bytes.specs.MachineByteExamples.{MachineByteExamples}
-
-pub byte_examples : ByteExamples
-byte_examples = assumption
-
-pub machine_byte_examples : MachineByteExamples
-machine_byte_examples = assumption

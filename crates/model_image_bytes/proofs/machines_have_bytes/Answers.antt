@@ -1,5 +1,0 @@
-use Rattle.model_image_bytes.proofs.SavableMachines.{machines_have_bytes}
-use Rattle.model_image_bytes.proofs.machines_have_bytes.Goals as goal
-
-pub returns : goal.returns
-returns c = machines_have_bytes

@@ -1,0 +1,9 @@
+-- The worked examples, by computation.
+use Rattle.model_images.specs.ByteExamples.{ByteExamples}
+use Rattle.model_images.specs.MachineByteExamples.{MachineByteExamples}
+
+pub byte_examples : ByteExamples
+byte_examples = assumption
+
+pub machine_byte_examples : MachineByteExamples
+machine_byte_examples = assumption

@@ -1,0 +1,171 @@
+-- Each layout reads what it writes, and nothing else.
+use Rattle.std.proofs.Common.{◌≡◌, ◌<◌, ℕ, zero, suc, Bool, true, List, [], ◌∷◌, ◌++◌, length, Some, Option, refl, sym, ap, ◌∙◌, subst, append_assoc, append-nil, arith}
+use Rattle.std.specs.Prelude.{flat_map, nat_le, option_map, option_and_then, IsTrue}
+use Rattle.std.proofs.lemmas.Bool.{and_from, eqb-true}
+use Rattle.std.proofs.lemmas.Option.{same_Some}
+use Rattle.lists.proofs.EachLemmas.{each_append}
+use Rattle.lists.proofs.Tests.{left_true, right_true}
+use Rattle.model_images.specs.Layouts.{Layout, Parsed, parsed, number, checked, through, paired, parse_next, followed, both, exactly, fit_times, before, parse_times, repeated, counted, fit_each, bytes_each, parse_each, for_each, first_of, at_most_one, optional, fits_either, bytes_either, parse_either, OneOf, either, if_no_rest, whole}
+use Rattle.model_images.specs.ByteLaws.{AreBytes, Spells, IsLayout}
+use Rattle.model_images.proofs.Options.{from_next, from_map}
+use Rattle.model_images.proofs.Numbers.{number_is}
+
+-- ---- values that pass, and values seen as others
+
+module _ {A : Type 0} (L : Layout A) (l : IsLayout L) where
+  pub checked_is : (test : A → Bool) → IsLayout (checked test L)
+  checked_is test = grind (arith, left_true, right_true, from_next, same_Some, and_from)
+
+  module _ {B : Type 0} (to : A → B) (from : B → A) where
+    pub through_is : ((y : B) → to (from y) ≡ y) → ((x : A) → IsTrue (L.fits x) → from (to x) ≡ x) → IsLayout (through to from L)
+    through_is back same = grind (arith, from_map)
+
+-- ---- one value after another
+
+module _ {A B : Type 0} (L : Layout A) (M : A → Layout B) (l : IsLayout L) (m : (x : A) → IsLayout (M x)) where
+  pub followed_spells : (bs : List ℕ) (q : Parsed A) (r : Parsed B) → Spells L bs q → Spells (M q.value) q.rest r → Spells (followed L M) bs (paired q.value r)
+  followed_spells bs q r s t = record {
+    fits = and_from (L.fits q.value) ((M q.value).fits r.value) s.fits t.fits;
+    bytes = s.bytes ∙ ap (λ (xs : List ℕ). L.bytes q.value ++ xs) t.bytes ∙ sym (append_assoc (L.bytes q.value) ((M q.value).bytes r.value) r.rest);
+  }
+
+  pub followed_is : IsLayout (followed L M)
+  followed_is = record {
+    are_bytes = λ x. each_append (λ b. b < 256) (L.bytes x.0) ((M x.0).bytes x.1) (l.are_bytes x.0) ((m x.0).are_bytes x.1);
+    again = λ x rest h.
+        ap (λ (bs : List ℕ). option_and_then (parse_next M) (L.parse bs)) (append_assoc (L.bytes x.0) ((M x.0).bytes x.1) rest)
+        ∙ ap (option_and_then (parse_next M)) (l.again x.0 ((M x.0).bytes x.1 ++ rest) (left_true (L.fits x.0) ((M x.0).fits x.1) h))
+        ∙ ap (option_map (paired x.0)) ((m x.0).again x.1 rest (right_true (L.fits x.0) ((M x.0).fits x.1) h));
+    spells = λ bs p h.
+        let q = from_next (parse_next M) (L.parse bs) p h in
+        let r = from_map (paired q.0.value) ((M q.0.value).parse q.0.rest) p q.2 in
+        subst (Spells (followed L M) bs) r.2 (followed_spells bs q.0 r.0 (l.spells bs q.0 q.1) ((m q.0.value).spells q.0.rest r.0 r.1));
+  }
+
+pub both_is : {A B : Type 0} (L : Layout A) (M : Layout B) → IsLayout L → IsLayout M → IsLayout (both L M)
+both_is L M l m = followed_is L (λ x. M) l (λ x. m)
+
+pub exactly_is : (k n : ℕ) → IsLayout (exactly k n)
+exactly_is k n = grind (arith, through_is, checked_is, number_is, eqb-true, right_true)
+
+-- ---- many values
+
+module _ {A : Type 0} (L : Layout A) (l : IsLayout L) where
+  times_bytes : (xs : List A) → AreBytes (flat_map L.bytes xs)
+  times_bytes [] = tt
+  times_bytes (x ∷ xs) = each_append (λ b. b < 256) (L.bytes x) (flat_map L.bytes xs) (l.are_bytes x) (times_bytes xs)
+
+  times_again : (n : ℕ) (xs : List A) (rest : List ℕ) → fit_times L.fits n xs ≡ true → parse_times L.parse n (flat_map L.bytes xs ++ rest) ≡ Some (parsed xs rest)
+  times_again zero [] rest h = refl
+  times_again (suc n) (x ∷ xs) rest h =
+      ap (parse_times L.parse (suc n)) (append_assoc (L.bytes x) (flat_map L.bytes xs) rest)
+      ∙ ap (option_and_then (λ (p : Parsed A). option_map (before p.value) (parse_times L.parse n p.rest))) (l.again x (flat_map L.bytes xs ++ rest) (left_true (L.fits x) (fit_times L.fits n xs) h))
+      ∙ ap (option_map (before x)) (times_again n xs rest (right_true (L.fits x) (fit_times L.fits n xs) h))
+  times_again n xs rest h = cc
+
+  pub times_more : (n : ℕ) (bs : List ℕ) (q : Parsed A) (r : Parsed (List A)) → Spells L bs q → Spells (repeated n L) q.rest r → Spells (repeated (suc n) L) bs (before q.value r)
+  times_more n bs q r s t = record {
+    fits = and_from (L.fits q.value) (fit_times L.fits n r.value) s.fits t.fits;
+    bytes = s.bytes ∙ ap (λ (xs : List ℕ). L.bytes q.value ++ xs) t.bytes ∙ sym (append_assoc (L.bytes q.value) (flat_map L.bytes r.value) r.rest);
+  }
+
+  times_spells : (n : ℕ) (bs : List ℕ) (p : Parsed (List A)) → parse_times L.parse n bs ≡ Some p → Spells (repeated n L) bs p
+  times_spells zero bs p h = subst (Spells (repeated 0 L) bs) (same_Some (parsed [] bs) p h) (record { fits = refl; bytes = refl })
+  times_spells (suc n) bs p h =
+      let q = from_next (λ (p : Parsed A). option_map (before p.value) (parse_times L.parse n p.rest)) (L.parse bs) p h in
+      let r = from_map (before q.0.value) (parse_times L.parse n q.0.rest) p q.2 in
+      subst (Spells (repeated (suc n) L) bs) r.2 (times_more n bs q.0 r.0 (l.spells bs q.0 q.1) (times_spells n q.0.rest r.0 r.1))
+
+  pub repeated_is : (n : ℕ) → IsLayout (repeated n L)
+  repeated_is n = record { are_bytes = times_bytes; again = times_again n; spells = times_spells n }
+
+  pub fit_count : (n : ℕ) (xs : List A) → fit_times L.fits n xs ≡ true → length xs ≡ n
+  fit_count zero [] h = refl
+  fit_count (suc n) (x ∷ xs) h = ap suc (fit_count n xs (right_true (L.fits x) (fit_times L.fits n xs) h))
+  fit_count n xs h = cc
+
+  pub counted_is : (k : ℕ) → IsLayout (counted k L)
+  counted_is k =
+      through_is (followed (number k) (λ n. repeated n L)) (followed_is (number k) (λ n. repeated n L) (number_is k) repeated_is) (λ x. x.1) (λ xs. (length xs, xs)) (λ xs. refl)
+      (λ x h. ap (λ n. (n, x.1)) (fit_count x.0 x.1 (right_true ((number k).fits x.0) (fit_times L.fits x.0 x.1) h)))
+
+  abbrev short : Layout (List A)
+  short = checked (λ xs. nat_le (length xs) 1) (counted 1 L)
+
+  one_back : (o : Option A) → first_of (at_most_one o) ≡ o
+  one_back o = grind arith
+
+  one_same : (xs : List A) → nat_le (length xs) 1 ≡ true → at_most_one (first_of xs) ≡ xs
+  one_same [] h = refl
+  one_same (x ∷ []) h = refl
+  one_same (x ∷ y ∷ zs) h = grind arith
+
+  pub optional_is : IsLayout (optional L)
+  optional_is =
+      through_is short (checked_is (counted 1 L) (counted_is 1) (λ xs. nat_le (length xs) 1)) first_of at_most_one one_back
+      (λ xs h. one_same xs (right_true ((counted 1 L).fits xs) (nat_le (length xs) 1) h))
+
+-- ---- a value for each of many
+
+module _ {A B : Type 0} (L : A → Layout B) (l : (x : A) → IsLayout (L x)) where
+  each_bytes : (xs : List A) (ys : List B) → AreBytes (bytes_each L xs ys)
+  each_bytes [] ys = tt
+  each_bytes (x ∷ xs) [] = tt
+  each_bytes (x ∷ xs) (y ∷ ys) = each_append (λ b. b < 256) ((L x).bytes y) (bytes_each L xs ys) ((l x).are_bytes y) (each_bytes xs ys)
+
+  each_again : (xs : List A) (ys : List B) (rest : List ℕ) → fit_each L xs ys ≡ true → parse_each L xs (bytes_each L xs ys ++ rest) ≡ Some (parsed ys rest)
+  each_again [] [] rest h = refl
+  each_again (x ∷ xs) (y ∷ ys) rest h =
+      ap (parse_each L (x ∷ xs)) (append_assoc ((L x).bytes y) (bytes_each L xs ys) rest)
+      ∙ ap (option_and_then (λ (p : Parsed B). option_map (before p.value) (parse_each L xs p.rest))) ((l x).again y (bytes_each L xs ys ++ rest) (left_true ((L x).fits y) (fit_each L xs ys) h))
+      ∙ ap (option_map (before y)) (each_again xs ys rest (right_true ((L x).fits y) (fit_each L xs ys) h))
+  each_again xs ys rest h = cc
+
+  each_more : (x : A) (xs : List A) (bs : List ℕ) (q : Parsed B) (r : Parsed (List B)) → Spells (L x) bs q → Spells (for_each L xs) q.rest r → Spells (for_each L (x ∷ xs)) bs (before q.value r)
+  each_more x xs bs q r s t = record {
+    fits = and_from ((L x).fits q.value) (fit_each L xs r.value) s.fits t.fits;
+    bytes = s.bytes ∙ ap (λ (ys : List ℕ). (L x).bytes q.value ++ ys) t.bytes ∙ sym (append_assoc ((L x).bytes q.value) (bytes_each L xs r.value) r.rest);
+  }
+
+  each_spells : (xs : List A) (bs : List ℕ) (p : Parsed (List B)) → parse_each L xs bs ≡ Some p → Spells (for_each L xs) bs p
+  each_spells [] bs p h = subst (Spells (for_each L []) bs) (same_Some (parsed [] bs) p h) (record { fits = refl; bytes = refl })
+  each_spells (x ∷ xs) bs p h =
+      let q = from_next (λ (p : Parsed B). option_map (before p.value) (parse_each L xs p.rest)) ((L x).parse bs) p h in
+      let r = from_map (before q.0.value) (parse_each L xs q.0.rest) p q.2 in
+      subst (Spells (for_each L (x ∷ xs)) bs) r.2 (each_more x xs bs q.0 r.0 ((l x).spells bs q.0 q.1) (each_spells xs q.0.rest r.0 r.1))
+
+  pub for_each_is : (xs : List A) → IsLayout (for_each L xs)
+  for_each_is xs = record { are_bytes = each_bytes xs; again = each_again xs; spells = each_spells xs }
+
+-- ---- a value of two kinds
+
+module _ {A B : Type 0} (L : Layout A) (M : Layout B) (l : IsLayout L) (m : IsLayout M) where
+  either_bytes : (x : OneOf A B) → AreBytes (bytes_either L M x)
+  either_bytes x = grind arith
+
+  either_again : (x : OneOf A B) (rest : List ℕ) → fits_either L M x ≡ true → parse_either L M (bytes_either L M x ++ rest) ≡ Some (parsed x rest)
+  either_again x rest h = grind arith
+
+  either_spells : (bs : List ℕ) (p : Parsed (OneOf A B)) → parse_either L M bs ≡ Some p → Spells (either L M) bs p
+  either_spells bs p h = grind (arith, from_map, eqb-true)
+
+  pub either_is : IsLayout (either L M)
+  either_is = record { are_bytes = either_bytes; again = either_again; spells = either_spells }
+
+-- ---- all the bytes
+
+module _ {A : Type 0} (L : Layout A) (l : IsLayout L) where
+  pub whole_again : (x : A) → IsTrue (L.fits x) → whole L (L.bytes x) ≡ Some x
+  whole_again x h =
+      ap (λ (bs : List ℕ). whole L bs) (sym (append-nil (L.bytes x))) ∙ ap (option_and_then (λ (p : Parsed A). if_no_rest p.value p.rest)) (l.again x [] h)
+
+  pub whole_spells : (bs : List ℕ) (x : A) → whole L bs ≡ Some x → (bs ≡ L.bytes x) × IsTrue (L.fits x)
+  whole_spells bs x h =
+      let p = from_next (λ (q : Parsed A). if_no_rest q.value q.rest) (L.parse bs) x h in
+      let s = l.spells bs p.0 p.1 in of p.0.value p.0.rest s.bytes s.fits p.2
+    where
+      of : (y : A) (rest : List ℕ) → bs ≡ L.bytes y ++ rest → IsTrue (L.fits y) → if_no_rest y rest ≡ Some x → (bs ≡ L.bytes x) × IsTrue (L.fits x)
+      of y (b ∷ rest) e f i = cc
+      of y [] e f i =
+          let same : y ≡ x = same_Some y x i in
+          (e ∙ append-nil (L.bytes y) ∙ ap (λ (z : A). L.bytes z) same, subst (λ (z : A). IsTrue (L.fits z)) same f)

@@ -1,0 +1,189 @@
+-- Bytes that are loaded into a guest.
+use Rattle.std.proofs.Common.{◌≡◌, ◌⊎◌, inl, inr, ℕ, zero, suc, ◌^◌, true, false, List, [], ◌∷◌, ◌++◌, length, Some, None, Option, Ok, Err, refl, sym, ap, ◌∙◌, append_assoc, append-nil, arith}
+use Rattle.std.specs.Prelude.{flat_map, IsTrue}
+use Rattle.std.proofs.lemmas.Bool.{eqb-true, ltb-true}
+use Rattle.std.proofs.lemmas.Option.{same_Some}
+use Rattle.lists.specs.Elements.{Each}
+use Rattle.lists.proofs.Tests.{left_true, right_true}
+use Rattle.model_registers.specs.Registers.{File}
+use Rattle.model_registers.specs.ConfigAddress.{latched}
+use Rattle.model_registers.specs.EndpointTable.{endpoint_reset}
+use Rattle.model_registers.specs.Decoding.{Function}
+use Rattle.model_guests.specs.Slots.{Slots}
+use Rattle.model_guests.specs.Lone.{LoneGuest}
+use Rattle.model_images.specs.Images.{SavedFunction, Image, image_of_lone, fit_cells, Fits, FitsSlot, FitSlots}
+use Rattle.model_images.specs.FitLaws.{HoldsFitting}
+use Rattle.model_images.proofs.Fitting.{saved_slots}
+use Rattle.model_images.specs.Layouts.{Layout, Parsed, parsed, le_bytes, number, fit_times, optional}
+use Rattle.model_images.specs.ImageBytes.{endpoint_layout, function_layout, declaration_bytes, image_bytes}
+use Rattle.model_images.specs.ByteLaws.{IsLayout, HasBytes, HoldsSavable}
+use Rattle.model_images.specs.LoadedBytes.{Left, then_read, after_bytes, after_values, after_slot, after_slots_front, at_end, after_slots, after_number, after_latch, after_image_front, after_image, fault_of, load_fault}
+use Rattle.model_images.specs.LoadedLaws.{ImagesDecided, OwnAccepted, IsOfOthers}
+use Rattle.model_images.proofs.Numbers.{number_again}
+use Rattle.model_images.proofs.ImageLayouts.{endpoint_is}
+use Rattle.model_images.proofs.ImageBytes.{read_are_bytes, HasParts, parts_of, FunctionParts, function_parts, slot_fits}
+use Rattle.model_images.proofs.Savable.{endpoint_fits, guests_have_bytes}
+
+-- ---- bytes that are compared
+
+-- the same, another byte, or too few
+pub record Follows (k : ℕ) (xs bytes rest : List ℕ) : Type 0 where
+  pub left : after_bytes k xs bytes ≡ Ok rest
+  pub are : bytes ≡ xs ++ rest
+
+pub record FallsShort (xs bytes : List ℕ) : Type 0 where
+  pub next : ℕ
+  pub rest : List ℕ
+  pub are : xs ≡ bytes ++ next ∷ rest
+
+pub compared : (k : ℕ) (xs bytes : List ℕ) → ((rest : List ℕ) × Follows k xs bytes rest) ⊎ ((after_bytes k xs bytes ≡ Err k) ⊎ FallsShort xs bytes)
+compared k [] bytes = inl (bytes, record { left = refl; are = refl })
+compared k (x ∷ xs) [] = inr (inr (record { next = x; rest = xs; are = refl }))
+compared k (x ∷ xs) (b ∷ bytes) = grind (arith, eqb-true, compared k xs bytes)
+
+pub same_left : (xs ys : List ℕ) → ◌≡◌ {A = Left} (Ok xs) (Ok ys) → xs ≡ ys
+same_left xs ys e = cc
+
+-- no other bytes are left after the same ones
+pub follows : (k : ℕ) (xs bytes rest : List ℕ) → after_bytes k xs bytes ≡ Ok rest → bytes ≡ xs ++ rest
+follows k [] bytes rest h = same_left bytes rest h
+follows k (x ∷ xs) [] rest h = cc
+follows k (x ∷ xs) (b ∷ bytes) rest h = grind (arith, follows k xs bytes rest, eqb-true)
+
+pub own_bytes : (k : ℕ) (xs rest : List ℕ) → after_bytes k xs (xs ++ rest) ≡ Ok rest
+own_bytes k [] rest = refl
+own_bytes k (x ∷ xs) rest = grind (arith, own_bytes k xs rest)
+
+none_left : (xs ys : List ℕ) (y : ℕ) → [] ≡ xs ++ y ∷ ys → ⊥
+none_left [] ys y h = cc
+none_left (x ∷ xs) ys y h = cc
+
+-- of two values that have bytes, those of one don't go on as those of the other
+prefix_decided : {A : Type 0} (L : Layout A) → IsLayout L → (x y : A) → IsTrue (L.fits x) → IsTrue (L.fits y) → (k : ℕ) (rest : List ℕ) → (x ≡ y) ⊎ (after_bytes k (L.bytes y) (L.bytes x ++ rest) ≡ Err k)
+prefix_decided {A} L l x y fits too k rest = of (compared k (L.bytes y) (L.bytes x ++ rest))
+  where
+    read : (a b : A) (r u : List ℕ) → IsTrue (L.fits a) → IsTrue (L.fits b) → L.bytes a ++ r ≡ L.bytes b ++ u → parsed a r ≡ parsed b u
+    read a b r u i j same = same_Some (parsed a r) (parsed b u) (sym (l.again a r i) ∙ ap L.parse same ∙ l.again b u j)
+
+    of : ((r : List ℕ) × Follows k (L.bytes y) (L.bytes x ++ rest) r) ⊎ ((after_bytes k (L.bytes y) (L.bytes x ++ rest) ≡ Err k) ⊎ FallsShort (L.bytes y) (L.bytes x ++ rest))
+        → (x ≡ y) ⊎ (after_bytes k (L.bytes y) (L.bytes x ++ rest) ≡ Err k)
+    of (inl m) = inl (ap (λ (p : Parsed A). p.value) (read x y rest m.0 fits too m.1.are))
+    of (inr (inl e)) = inr e
+    of (inr (inr m)) =
+        absurd (none_left rest m.rest m.next (ap (λ (p : Parsed A). p.rest)
+        (read y x [] (rest ++ m.next ∷ m.rest) too fits (append-nil (L.bytes y) ∙ m.are ∙ append_assoc (L.bytes x) rest (m.next ∷ m.rest)))))
+
+-- ---- values
+
+pub value_bytes : (n : ℕ) (vs : List ℕ) → fit_times (number 1).fits n vs ≡ true → flat_map (number 1).bytes vs ≡ vs
+value_bytes n [] h = refl
+value_bytes zero (v ∷ vs) h = cc
+value_bytes (suc n) (v ∷ vs) h = grind (arith, ltb-true, left_true, right_true, value_bytes n vs (right_true ((number 1).fits v) (fit_times (number 1).fits n vs) h))
+
+pub values_taken : (file : File) (vs rest : List ℕ) → fit_cells file vs ≡ true → after_values file (vs ++ rest) ≡ Ok rest
+values_taken [] [] rest h = refl
+values_taken (e ∷ es) (v ∷ vs) rest h = grind (arith, values_taken es vs rest)
+values_taken file vs rest h = cc
+
+-- ---- a slot
+
+abbrev pub slot_bytes : Option SavedFunction → List ℕ
+slot_bytes s = (optional function_layout).bytes s
+
+pub function_bytes : (s : SavedFunction) (rest : List ℕ) → FunctionParts s → slot_bytes (Some s) ++ rest ≡ 1 ∷ (declaration_bytes s.decl ++ (s.values ++ rest))
+function_bytes s rest parts =
+    ap (λ (xs : List ℕ). (1 ∷ xs) ++ rest) (append-nil (function_layout.bytes s) ∙ ap (λ (vs : List ℕ). declaration_bytes s.decl ++ vs) (value_bytes (length (endpoint_reset s.decl false)) s.values parts.count))
+    ∙ ap (λ (xs : List ℕ). 1 ∷ xs) (append_assoc (declaration_bytes s.decl) s.values rest)
+
+-- what doesn't fit is refused as another's
+slot_decided : (s : Option SavedFunction) (f : Option Function) (rest : List ℕ) → (optional function_layout).fits s ≡ true → HoldsSavable f → FitsSlot s f ⊎ (after_slot f (slot_bytes s ++ rest) ≡ Err 906)
+slot_decided None None rest h k = inl tt
+slot_decided None (Some f) rest h k = inr refl
+slot_decided (Some s) None rest h k = inr refl
+slot_decided (Some s) (Some f) rest h k = of (prefix_decided endpoint_layout endpoint_is s.decl f.decl parts.decl (endpoint_fits f.decl k.declared) 906 (s.values ++ rest))
+  where
+    parts : FunctionParts s
+    parts = function_parts s (slot_fits s h)
+
+    of : (s.decl ≡ f.decl) ⊎ (after_bytes 906 (declaration_bytes f.decl) (declaration_bytes s.decl ++ (s.values ++ rest)) ≡ Err 906) → FitsSlot (Some s) (Some f) ⊎ (after_slot (Some f) (slot_bytes (Some s) ++ rest) ≡ Err 906)
+    of (inl same) = inl (record { decl = same; values = parts.values })
+    of (inr e) = inr (ap (after_slot (Some f)) (function_bytes s rest parts) ∙ ap (then_read (after_values (endpoint_reset f.decl false))) e)
+
+-- slots that fit are taken, whatever follows
+pub fitting_slot : (s : Option SavedFunction) (f : Option Function) (rest : List ℕ) → (optional function_layout).fits s ≡ true → FitsSlot s f → after_slot f (slot_bytes s ++ rest) ≡ Ok rest
+fitting_slot None None rest h k = refl
+fitting_slot (Some s) (Some f) rest h k =
+    ap (after_slot (Some f)) (function_bytes s rest (function_parts s (slot_fits s h)))
+    ∙ ap (λ d. then_read (after_values (endpoint_reset d false)) (after_bytes 906 (declaration_bytes d) (declaration_bytes s.decl ++ (s.values ++ rest)))) (sym k.decl)
+    ∙ ap (then_read (after_values (endpoint_reset s.decl false))) (own_bytes 906 (declaration_bytes s.decl) (s.values ++ rest))
+    ∙ values_taken (endpoint_reset s.decl false) s.values rest k.values
+fitting_slot s f rest h k = absurd k
+
+-- ---- slots
+
+abbrev pub slots_bytes : List (Option SavedFunction) → List ℕ
+slots_bytes ss = flat_map slot_bytes ss
+
+slots_decided : (n : ℕ) (ss : List (Option SavedFunction)) (fs : Slots) → fit_times (optional function_layout).fits n ss ≡ true → length fs ≡ n → Each HoldsSavable fs
+    → FitSlots ss fs ⊎ (after_slots fs (slots_bytes ss) ≡ Err 906)
+slots_decided n [] [] h count all = inl tt
+slots_decided (suc n) (s ∷ ss) (f ∷ fs) h count all = grind (arith, slot_decided, left_true, right_true, fitting_slot, slots_decided n ss fs)
+slots_decided n ss fs h count all = grind arith
+
+fitting_slots : (n : ℕ) (ss : List (Option SavedFunction)) (fs : Slots) (rest : List ℕ) → fit_times (optional function_layout).fits n ss ≡ true → FitSlots ss fs
+    → after_slots_front fs (slots_bytes ss ++ rest) ≡ Ok rest
+fitting_slots n [] [] rest h k = refl
+fitting_slots (suc n) (s ∷ ss) (f ∷ fs) rest h k =
+    ap (after_slots_front (f ∷ fs)) (append_assoc (slot_bytes s) (slots_bytes ss) rest)
+    ∙ ap (then_read (after_slots_front fs)) (fitting_slot s f (slots_bytes ss ++ rest) (left_true ((optional function_layout).fits s) (fit_times (optional function_layout).fits n ss) h) k.0)
+    ∙ fitting_slots n ss fs rest (right_true ((optional function_layout).fits s) (fit_times (optional function_layout).fits n ss) h) k.1
+fitting_slots n ss fs rest h k = grind arith
+
+-- ---- an image
+
+pub latch_taken : (n : ℕ) (rest : List ℕ) → (number 4).fits n ≡ true → latched n ≡ n → after_latch (le_bytes 4 n ++ rest) ≡ Ok rest
+latch_taken n rest fits same = ap after_number (number_again 4 n rest (ltb-true n (256 ^ 4) fits)) ∙ grind arith
+
+pub fitting_front : (g : LoneGuest) (i : Image) → HasBytes i → Fits i g → (rest : List ℕ) → after_image_front g (image_bytes i ++ rest) ≡ Ok rest
+fitting_front g i has fits rest =
+    let parts = parts_of i has in
+    ap (then_read (after_slots_front g.slots)) (latch_taken i.latch (slots_bytes i.slots ++ rest) parts.latch_fits parts.latched) ∙ fitting_slots 32 i.slots g.slots rest parts.slots fits.slots
+
+-- nothing follows
+pub slots_end : (fs : Slots) (bytes : List ℕ) → after_slots fs bytes ≡ then_read at_end (after_slots_front fs bytes)
+slots_end [] bytes = refl
+slots_end (f ∷ fs) bytes = grind (arith, slots_end fs)
+
+pub image_ends : (g : LoneGuest) (bytes : List ℕ) → after_image g bytes ≡ then_read at_end (after_image_front g bytes)
+image_ends g bytes = grind (arith, slots_end)
+
+pub fitting_accepted : (g : LoneGuest) (i : Image) → HasBytes i → Fits i g → load_fault g (image_bytes i) ≡ None
+fitting_accepted g i has fits =
+    ap fault_of (image_ends g (image_bytes i) ∙ ap (λ (bs : List ℕ). then_read at_end (after_image_front g bs)) (sym (append-nil (image_bytes i))) ∙ ap (then_read at_end) (fitting_front g i has fits []))
+
+pub images_decided : ImagesDecided
+images_decided g savable bytes i h = of (slots_decided 32 i.slots g.slots parts.slots savable.count savable.functions)
+  where
+    spelled : (bytes ≡ image_bytes i) × HasBytes i
+    spelled = read_are_bytes bytes i h
+
+    parts : HasParts i
+    parts = parts_of i spelled.1
+
+    accepted : Fits i g → load_fault g bytes ≡ None
+    accepted k = ap (load_fault g) spelled.0 ∙ fitting_accepted g i spelled.1 k
+
+    of : FitSlots i.slots g.slots ⊎ (after_slots g.slots (slots_bytes i.slots) ≡ Err 906) → ((load_fault g bytes ≡ None) × Fits i g) ⊎ IsOfOthers g bytes i
+    of (inl m) = let fits : Fits i g = record { latch = parts.latched; slots = m } in inl (accepted fits, fits)
+    of (inr m) =
+        let refused : load_fault g bytes ≡ Some 906 =
+        ap (load_fault g) spelled.0 ∙ ap (λ l. fault_of (then_read (after_slots g.slots) l)) (latch_taken i.latch (slots_bytes i.slots) parts.latch_fits parts.latched) ∙ ap fault_of m in
+        inr (record { refused = refused; not_fitting = λ k. let none = accepted k in cc })
+
+pub savable_fits : (fs : Slots) → Each HoldsSavable fs → Each HoldsFitting fs
+savable_fits [] h = tt
+savable_fits (f ∷ fs) h = grind (arith, savable_fits fs)
+
+pub own_accepted : OwnAccepted
+own_accepted g savable =
+    fitting_accepted g (image_of_lone g) (guests_have_bytes g savable) (record { latch = savable.latch; slots = saved_slots g.slots g.slots (savable_fits g.slots savable.functions) refl })

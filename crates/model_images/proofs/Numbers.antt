@@ -1,0 +1,40 @@
+-- Numbers of so many bytes are read as they are written, and no other bytes are.
+use Rattle.std.proofs.Common.{◌≡◌, ℕ, zero, suc, ◌/◌, ◌^◌, ◌<◌, Bool, true, false, cond, List, [], ◌∷◌, ◌++◌, Some, None, refl, sym, ap, subst, arith}
+use Rattle.std.specs.Prelude.{nat_lt, option_map}
+use Rattle.std.proofs.Math.Nat.{pow-suc}
+use Rattle.std.proofs.lemmas.Bool.{lt-ltb, ltb-true}
+use Rattle.std.proofs.lemmas.Option.{same_Some}
+use Rattle.model_images.specs.Layouts.{Parsed, parsed, le_bytes, raised_number, parse_number, number}
+use Rattle.model_images.specs.ByteLaws.{AreBytes, Spells, IsLayout}
+use Rattle.model_images.proofs.Options.{from_map}
+
+pub number_bytes : (k n : ℕ) → AreBytes (le_bytes k n)
+number_bytes zero n = tt
+number_bytes (suc k) n = (omega arith, number_bytes k (n / 256))
+
+pub number_again : (k n : ℕ) (rest : List ℕ) → n < 256 ^ k → parse_number k (le_bytes k n ++ rest) ≡ Some (parsed n rest)
+number_again zero n rest h = let none : n ≡ 0 = omega arith in ap (λ m. Some (parsed m rest)) (sym none)
+number_again (suc k) n rest h = grind (arith, pow-suc, lt-ltb, number_again k (n / 256) rest)
+
+-- one byte more
+spells_more : (k b : ℕ) (bs : List ℕ) (q : Parsed ℕ) → b < 256 → Spells (number k) bs q → Spells (number (suc k)) (b ∷ bs) (raised_number b q)
+spells_more k b bs q low s = grind (arith, ltb-true, pow-suc, lt-ltb)
+
+pub number_spells : (k : ℕ) (bs : List ℕ) (p : Parsed ℕ) → parse_number k bs ≡ Some p → Spells (number k) bs p
+number_spells zero bs p h = subst (Spells (number 0) bs) (same_Some (parsed 0 bs) p h) (record { fits = refl; bytes = refl })
+number_spells (suc k) [] p h = cc
+number_spells (suc k) (b ∷ bs) p h = cases (nat_lt b 256) refl h (number_spells k bs)
+  where
+    cases : (t : Bool) → nat_lt b 256 ≡ t → cond t (option_map (raised_number b) (parse_number k bs)) None ≡ Some p → ((q : Parsed ℕ) → parse_number k bs ≡ Some q → Spells (number k) bs q)
+        → Spells (number (suc k)) (b ∷ bs) p
+    cases false e i more = cc
+    cases true e i more =
+        let q = from_map (raised_number b) (parse_number k bs) p i in
+        subst (Spells (number (suc k)) (b ∷ bs)) q.2 (spells_more k b bs q.0 (ltb-true b 256 e) (more q.0 q.1))
+
+pub number_is : (k : ℕ) → IsLayout (number k)
+number_is k = record {
+  are_bytes = number_bytes k;
+  again = λ n rest h. number_again k n rest (ltb-true n (256 ^ k) h);
+  spells = number_spells k;
+}

@@ -1,0 +1,161 @@
+-- The image of a guest of lawful functions, which hold what they can, has bytes.
+use Rattle.std.proofs.Common.{◌≡◌, ℕ, ◌+◌, ◌-◌, ◌^◌, ◌<◌, ◌≤◌, Bool, true, false, ◌&&◌, eqb, List, [], ◌∷◌, length, map, Some, None, refl, ap, ◌∙◌, subst, arith}
+use Rattle.std.specs.Prelude.{option_map, bit_and, IsTrue}
+use Rattle.std.specs.List.{list_any, AllByRecursion, IsDistinct}
+use Rattle.std.proofs.lemmas.Bool.{and_from, lt-ltb, eq-eqb, ne_eqb, eqb-true}
+use Rattle.std.proofs.lemmas.List.{length-map}
+use Rattle.std.proofs.lemmas.Nat.{and_le_r}
+use Rattle.std.proofs.lemmas.Map.Steps.{length-le_from_distinct_below}
+use Rattle.lists.specs.Elements.{Each, EachPair}
+use Rattle.lists.proofs.EachLemmas.{each_map}
+use Rattle.model_registers.specs.Cell.{Cell, IsCell}
+use Rattle.model_registers.specs.Registers.{File}
+use Rattle.model_registers.specs.AccessLaws.{HoldsBytes}
+use Rattle.model_registers.specs.ConfigAddress.{latched}
+use Rattle.model_registers.specs.CopiedFiles.{shape_of}
+use Rattle.model_registers.specs.Declarations.{Kind, registers_of, greatest_size, Region, IsLawfulRegion, ConfigBlock, Endpoint}
+use Rattle.model_registers.specs.DeclarationRules.{IsConfigBlock, blocks_apart, IsLawfulEndpoint}
+use Rattle.model_registers.specs.EndpointTable.{endpoint_reset}
+use Rattle.model_registers.specs.Decoding.{Function}
+use Rattle.model_registers.proofs.Bases.{registers_positive}
+use Rattle.model_guests.specs.Slots.{Slots}
+use Rattle.model_images.specs.Images.{values_of, saved, fit_cells}
+use Rattle.model_images.specs.Layouts.{Layout, number, fit_times, counted, optional}
+use Rattle.model_images.specs.ImageBytes.{cell_layout, kind_layout, region_layout, block_layout, endpoint_layout, function_layout, latch_layout}
+use Rattle.model_images.specs.ByteLaws.{IsDeclared, IsSavable, HoldsSavable, GuestsHaveBytes}
+
+-- ---- lists
+
+pub times_fit : {A : Type 0} (fits : A → Bool) (xs : List A) → Each (λ x. fits x ≡ true) xs → fit_times fits (length xs) xs ≡ true
+times_fit fits [] h = refl
+times_fit fits (x ∷ xs) h = and_from (fits x) (fit_times fits (length xs) xs) h.0 (times_fit fits xs h.1)
+
+pub counted_fit : {A : Type 0} (k : ℕ) (L : Layout A) (xs : List A) → length xs < 256 ^ k → Each (λ x. L.fits x ≡ true) xs → (counted k L).fits xs ≡ true
+counted_fit k L xs few h = and_from ((number k).fits (length xs)) (fit_times L.fits (length xs) xs) (lt-ltb (length xs) (256 ^ k) few) (times_fit L.fits xs h)
+
+-- ---- cells, regions and blocks
+
+cell_fits : (c : Cell) → IsCell c → cell_layout.fits c ≡ true
+cell_fits c h = let value = h.value_fits in let writable = h.writable_fits in let clearable = h.clearable_fits in grind (arith, lt-ltb, value, writable, clearable)
+
+kind_fits : (k : Kind) → kind_layout.fits k ≡ true
+kind_fits k = grind arith
+
+greatest_fits : (k : Kind) → greatest_size k < 256 ^ 8
+greatest_fits k = grind arith
+
+record IsWritten (r : Region) : Type 0 where
+  pub lawful : IsLawfulRegion r
+  pub short : length r.cells ≤ 4096
+  pub cells : Each IsCell r.cells
+
+region_fits : (r : Region) → IsWritten r → region_layout.fits r ≡ true
+region_fits r h =
+    let index : r.index < 256 = let a = h.lawful.registers in omega arith in
+    let size : r.size < 256 ^ 8 = let a = h.lawful.size_is_lawful.not_more in let b = greatest_fits r.kind in omega arith in
+    let few : length r.cells < 256 ^ 2 = let a = h.short in omega arith in
+    let cells = counted_fit 2 cell_layout r.cells few (each_map IsCell (λ c. cell_layout.fits c ≡ true) r.cells cell_fits h.cells) in
+    and_from ((number 1).fits r.index) (kind_layout.fits r.kind && ((number 8).fits r.size && (counted 2 cell_layout).fits r.cells)) (lt-ltb r.index 256 index)
+    (and_from (kind_layout.fits r.kind) ((number 8).fits r.size && (counted 2 cell_layout).fits r.cells) (kind_fits r.kind)
+    (and_from ((number 8).fits r.size) ((counted 2 cell_layout).fits r.cells) (lt-ltb r.size (256 ^ 8) size) cells))
+
+block_fits : (b : ConfigBlock) → IsConfigBlock b → Each IsCell b.cells → block_layout.fits b ≡ true
+block_fits b h k =
+    let offset : b.offset < 256 = let a = h.not_empty in let c = h.ends in omega arith in
+    let few : length b.cells < 256 ^ 1 = let a = h.begins in let c = h.ends in omega arith in
+    and_from ((number 1).fits b.offset) ((counted 1 cell_layout).fits b.cells) (lt-ltb b.offset 256 offset)
+    (counted_fit 1 cell_layout b.cells few (each_map IsCell (λ c. cell_layout.fits c ≡ true) b.cells cell_fits k))
+
+-- ---- how many there are
+
+few_regions : (rs : List Region) (n : ℕ) → n ≤ 6 → Each IsLawfulRegion rs → EachPair (λ r s. r.index + registers_of r.kind ≤ s.index) rs → Each (λ r. n ≤ r.index) rs → length rs + n ≤ 6
+few_regions [] n low all order above = omega arith
+few_regions (r ∷ rs) n low all order above = grind (arith, registers_positive, each_map, few_regions rs (r.index + 1))
+
+abbrev places : List ConfigBlock → List ℕ
+places bs = map (λ (b : ConfigBlock). b.offset - 0x40) bs
+
+other_places : (b : ConfigBlock) (cs : List ConfigBlock) → IsConfigBlock b → Each IsConfigBlock cs → Each (λ c. IsTrue (blocks_apart b c)) cs → AllByRecursion (λ n. eqb (b.offset - 0x40) n ≡ false) (places cs)
+other_places b [] h all apart = tt
+other_places b (c ∷ cs) h all apart = grind (arith, ne_eqb, other_places b cs h all.1 apart.1)
+
+distinct_places : (bs : List ConfigBlock) → Each IsConfigBlock bs → EachPair (λ b c. IsTrue (blocks_apart b c)) bs → IsDistinct eqb (places bs)
+unfolding IsDistinct
+distinct_places [] all apart = tt
+distinct_places (b ∷ bs) all apart = (other_places b bs all.0 all.1 apart.0, distinct_places bs all.1 apart.1)
+
+low_places : (bs : List ConfigBlock) → Each IsConfigBlock bs → (q : ℕ) → list_any (eqb q) (places bs) ≡ true → q < 192
+low_places [] all q h = cc
+low_places (b ∷ bs) all q h = grind (arith, low_places bs all.1 q, eqb-true)
+
+few_blocks : (bs : List ConfigBlock) → Each IsConfigBlock bs → EachPair (λ b c. IsTrue (blocks_apart b c)) bs → length bs ≤ 192
+few_blocks bs all apart =
+    let most = length-le_from_distinct_below (places bs) 192 (distinct_places bs all apart) (low_places bs all) in
+    let same = length-map bs (λ (b : ConfigBlock). b.offset - 0x40) in
+    omega arith
+
+all_above : (rs : List Region) → Each (λ r. 0 ≤ r.index) rs
+all_above [] = tt
+all_above (r ∷ rs) = (omega arith, all_above rs)
+
+pub region_count : (d : Endpoint) → IsLawfulEndpoint d → length d.regions ≤ 6
+region_count d h = let a = few_regions d.regions 0 (omega arith) h.regions.each h.regions.in_order (all_above d.regions) in omega arith
+
+pub block_count : (d : Endpoint) → IsLawfulEndpoint d → length d.blocks ≤ 192
+block_count d h = few_blocks d.blocks h.config_blocks h.blocks_apart
+
+-- ---- declarations
+
+-- what has bits of a mask alone is not greater
+masked : (n m : ℕ) → bit_and n m ≡ n → n < m + 1
+masked n m h = let a = and_le_r n m in let low : n ≤ m = subst (λ x. x ≤ m) h a in omega arith
+
+pub endpoint_fits : (d : Endpoint) → IsDeclared d → endpoint_layout.fits d ≡ true
+endpoint_fits d h =
+    let many_regions : length d.regions < 256 ^ 1 = let a = region_count d h.lawful in omega arith in
+    let many_blocks : length d.blocks < 256 ^ 1 = let a = block_count d h.lawful in omega arith in
+    let regions = counted_fit 1 region_layout d.regions many_regions (regions_fit d.regions h.lawful.regions.each h.lawful.region_blocks h.cells.regions) in
+    let blocks = counted_fit 1 block_layout d.blocks many_blocks (blocks_fit d.blocks h.lawful.config_blocks h.cells.blocks) in
+    numbers regions blocks
+  where
+    regions_fit : (rs : List Region) → Each IsLawfulRegion rs → Each (λ r. length r.cells ≤ 4096) rs → Each (λ (r : Region). Each IsCell r.cells) rs → Each (λ r. region_layout.fits r ≡ true) rs
+    regions_fit [] a b c = tt
+    regions_fit (r ∷ rs) a b c = (region_fits r (record { lawful = a.0; short = b.0; cells = c.0 }), regions_fit rs a.1 b.1 c.1)
+
+    blocks_fit : (bs : List ConfigBlock) → Each IsConfigBlock bs → Each (λ (b : ConfigBlock). Each IsCell b.cells) bs → Each (λ b. block_layout.fits b ≡ true) bs
+    blocks_fit [] a b = tt
+    blocks_fit (x ∷ xs) a b = (block_fits x a.0 b.0, blocks_fit xs a.1 b.1)
+
+    numbers : (counted 1 region_layout).fits d.regions ≡ true → (counted 1 block_layout).fits d.blocks ≡ true → endpoint_layout.fits d ≡ true
+    numbers r b = grind (arith, lt-ltb, masked)
+
+-- ---- guests
+
+pub values_fit : (file : File) → HoldsBytes file → Each (λ n. (number 1).fits n ≡ true) (values_of file)
+values_fit [] h = tt
+values_fit (e ∷ es) h = (lt-ltb e.cell.value 256 h.0, values_fit es h.1)
+
+pub as_long : (f g : File) → shape_of f ≡ shape_of g → length (values_of f) ≡ length g
+as_long f g same = grind (arith, length-map)
+
+pub function_fits : (f : Function) → IsSavable f → function_layout.fits (saved f) ≡ true
+function_fits f h =
+    let reset = endpoint_reset f.decl false in
+    let many = fit_times (number 1).fits (length reset) (values_of f.file) in
+    let values = subst (λ n. fit_times (number 1).fits n (values_of f.file) ≡ true) (as_long f.file reset h.fits.shape) (times_fit (number 1).fits (values_of f.file) (values_fit f.file h.bytes)) in
+    and_from (endpoint_layout.fits f.decl) (many && fit_cells reset (values_of f.file)) (endpoint_fits f.decl h.declared) (and_from many (fit_cells reset (values_of f.file)) values h.fits.values)
+
+slots_fit : (fs : Slots) → Each HoldsSavable fs → Each (λ s. (optional function_layout).fits s ≡ true) (map (option_map saved) fs)
+slots_fit [] h = tt
+slots_fit (None ∷ fs) h = (refl, slots_fit fs h.1)
+slots_fit (Some f ∷ fs) h = (ap (λ t. (t && true) && true) (function_fits f h.0), slots_fit fs h.1)
+
+pub latch_fits : (n : ℕ) → latched n ≡ n → latch_layout.fits n ≡ true
+latch_fits n h = grind (arith, masked, and_from, lt-ltb, eq-eqb)
+
+pub guests_have_bytes : GuestsHaveBytes
+guests_have_bytes g h =
+    let slots = map (option_map saved) g.slots in
+    let many : length slots ≡ 32 = length-map g.slots (option_map saved) ∙ h.count in
+    and_from (latch_layout.fits g.latch) (fit_times (optional function_layout).fits 32 slots) (latch_fits g.latch h.latch)
+    (subst (λ n. fit_times (optional function_layout).fits n slots ≡ true) many (times_fit (optional function_layout).fits slots (slots_fit g.slots h.functions)))

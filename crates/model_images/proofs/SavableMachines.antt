@@ -1,0 +1,179 @@
+-- The image of a machine whose functions hold bytes has bytes.
+use Rattle.std.proofs.Common.{◌≡◌, ℕ, ◌<◌, ◌^◌, Bool, true, false, ◌&&◌, cond, List, [], ◌∷◌, length, Some, None, Option, refl, sym, ap, subst, arith}
+use Rattle.std.specs.Prelude.{map}
+use Rattle.std.specs.Option.{option_map_or}
+use Rattle.std.proofs.lemmas.Bool.{and_from, lt-ltb}
+use Rattle.std.proofs.lemmas.List.{length-map}
+use Rattle.lists.specs.Elements.{Each}
+use Rattle.lists.proofs.EachLemmas.{each_map, each_of_map}
+use Rattle.lists.proofs.Members.{each_in}
+use Rattle.model_registers.specs.Registers.{PlacedCell, File, cell_at}
+use Rattle.model_registers.specs.AccessLaws.{HoldsBytes}
+use Rattle.model_registers.specs.CopiedFiles.{agreed_file}
+use Rattle.model_registers.specs.OwnCopies.{is_own}
+use Rattle.model_registers.specs.Declarations.{IoDecode, PrefDecode, Endpoint, Bridge}
+use Rattle.model_registers.specs.DeclarationRules.{IsLawfulBridge}
+use Rattle.model_registers.specs.EndpointTable.{endpoint_reset}
+use Rattle.model_registers.proofs.ByteAccesses.{number_fits}
+use Rattle.model_board.specs.Paths.{Part, Path, IsPart, IsPath}
+use Rattle.model_board.specs.Board.{Decl, endpoint, Row, Board}
+use Rattle.model_board.specs.Lawful.{IsLawfulDecl}
+use Rattle.model_board.specs.AtReset.{board_at}
+use Rattle.model_board.specs.State.{BoardFunction, State, row_at}
+use Rattle.model_guests.specs.Slots.{Slots}
+use Rattle.model_guests.specs.Text.{Text}
+use Rattle.model_guests.specs.World.{declared}
+use Rattle.model_guests.specs.Guests.{GuestNow, GuestsNow}
+use Rattle.model_guests.specs.AgreedBoard.{agreed_function}
+use Rattle.model_guests.specs.Seated.{AreSeats, IsSeatedGuest}
+use Rattle.model_guests.specs.WorldNow.{WorldNow, names_of}
+use Rattle.model_handoff.specs.Handoffs.{declared_cells, HasDeclaredShape, IsHandoff}
+use Rattle.model_handoff.specs.ViewLaws.{seated_files, with_seated_reset}
+use Rattle.model_images.specs.Images.{values_of, image_of_lone}
+use Rattle.model_images.specs.MachineImages.{SavedGuest, values_in, saved_handoff, saved_guest}
+use Rattle.model_images.specs.MachineLaws.{IsSavableWorld}
+use Rattle.model_guests.proofs.DeclaredRows.{declared_row}
+use Rattle.model_images.proofs.Machines.{handoff_stays}
+use Rattle.model_images.specs.Layouts.{number, both, through, fit_times, counted, fit_each, optional}
+use Rattle.model_images.specs.ImageBytes.{image_layout}
+use Rattle.model_images.specs.ByteLaws.{IsDeclared, IsSavableGuest}
+use Rattle.model_images.specs.MachineBytes.{path_layout, io_number, pref_number, third, bridge_layout, decl_layout, row_layout, board_layout, name_layout, paths_layout, guest_layout, cells_layout, on_board}
+use Rattle.model_images.specs.MachineByteLaws.{HasMachineBytes, CanBeDeclared, IsWritableName, IsWritableMachine, MachinesHaveBytes}
+use Rattle.model_images.proofs.ByteCells.{hold_bytes, reset_bytes}
+use Rattle.model_images.proofs.Savable.{times_fit, counted_fit, endpoint_fits, values_fit, as_long, guests_have_bytes}
+
+-- ---- the board
+
+path_fits : (p : Path) → IsPath p → path_layout.fits p ≡ true
+path_fits p h =
+    let few : length p < 256 ^ 1 = let a = h.few in omega arith in
+    counted_fit 1 (through (λ (x : ℕ × ℕ). record { device = x.0; function = x.1 }) (λ (q : Part). (q.device, q.function)) (both (number 1) (number 1))) p few
+    (each_map IsPart (λ (q : Part). ((number 1).fits q.device && (number 1).fits q.function) ≡ true) p part_fits h.parts)
+  where
+    part_fits : (q : Part) → IsPart q → ((number 1).fits q.device && (number 1).fits q.function) ≡ true
+    part_fits q k = grind (arith, and_from, lt-ltb)
+
+io_fits : (k : IoDecode) → third.fits (io_number k) ≡ true
+io_fits k = grind arith
+
+pref_fits : (k : PrefDecode) → third.fits (pref_number k) ≡ true
+pref_fits k = grind arith
+
+bridge_fits : (d : Bridge) → IsLawfulBridge d → bridge_layout.fits d ≡ true
+bridge_fits d h = grind (arith, lt-ltb, io_fits, pref_fits)
+
+decl_fits : (d : Decl) → IsLawfulDecl d → CanBeDeclared d → decl_layout.fits d ≡ true
+decl_fits d lawful can = grind (arith, endpoint_fits, bridge_fits)
+
+rows_fit : (fs : List BoardFunction) → Each (λ (r : Row). IsPath r.path) (board_at fs) → Each (λ (r : Row). IsLawfulDecl r.decl) (board_at fs) → Each (λ (f : BoardFunction). CanBeDeclared f.decl) fs
+    → Each (λ (r : Row). row_layout.fits r ≡ true) (board_at fs)
+rows_fit [] paths lawful can = tt
+rows_fit (f ∷ fs) paths lawful can = grind (arith, and_from, path_fits, decl_fits, rows_fit fs paths.1 lawful.1 can.1)
+
+cells_fit : (fs : List BoardFunction) → Each HasDeclaredShape fs → Each (λ (f : BoardFunction). HoldsBytes f.file) fs → fit_each cells_layout (board_at fs) (map (λ (f : BoardFunction). values_of f.file) fs) ≡ true
+cells_fit [] shapes can = refl
+cells_fit (f ∷ fs) shapes can =
+    let one : fit_times (number 1).fits (length (declared_cells f.decl)) (values_of f.file) ≡ true =
+    subst (λ n. fit_times (number 1).fits n (values_of f.file) ≡ true) (as_long f.file (declared_cells f.decl) shapes.0) (times_fit (number 1).fits (values_of f.file) (values_fit f.file can.0)) in
+    and_from (fit_times (number 1).fits (length (declared_cells f.decl)) (values_of f.file)) (fit_each cells_layout (board_at fs) (map (λ (f : BoardFunction). values_of f.file) fs)) one
+    (cells_fit fs shapes.1 can.1)
+
+-- ---- what a handoff holds
+
+pub record IsWritableState (s : State) : Type 0 where
+  pub handoff : IsHandoff s
+  pub declared : Each (λ (f : BoardFunction). CanBeDeclared f.decl) s.functions
+  pub bytes : Each (λ (f : BoardFunction). HoldsBytes f.file) s.functions
+  pub many : length s.functions < 2 ^ 32
+  pub latch : s.latch < 2 ^ 32
+
+pub writable_now : (w : WorldNow) → IsSavableWorld w → IsWritableMachine w → IsWritableState w.handoff
+writable_now w h can = record { handoff = h.lawful.handoff; declared = can.compared.declared; bytes = can.bytes; many = can.many; latch = can.latch }
+
+pub state_fits : (s : State) → IsWritableState s → (gs : List SavedGuest) → (counted 2 guest_layout).fits gs ≡ true → HasMachineBytes (record { handoff = saved_handoff s; guests = gs })
+state_fits s h gs guests =
+    let b = board_at s.functions in
+    let many : length b < 256 ^ 4 = let a = length-map s.functions row_at in let c = h.many in omega arith in
+    let board = counted_fit 4 row_layout b many (rows_fit s.functions h.handoff.board.places.paths h.handoff.board.declarations h.declared) in
+    let cells = cells_fit s.functions h.handoff.shapes h.bytes in
+    let latch = lt-ltb s.latch (256 ^ 4) h.latch in
+    and_from (board_layout.fits b) ((on_board b).fits (gs, (values_in s, s.latch))) board
+    (and_from ((counted 2 guest_layout).fits gs) (fit_each cells_layout b (values_in s) && (number 4).fits s.latch) guests
+    (and_from (fit_each cells_layout b (values_in s)) ((number 4).fits s.latch) cells latch))
+
+pub declared_written : (fs : List BoardFunction) → Each (λ (f : BoardFunction). CanBeDeclared f.decl) fs → (p : Path) (d : Endpoint) → declared (board_at fs) p ≡ Some d → IsDeclared d
+declared_written fs can p d h =
+    each_in (λ (r : Row). CanBeDeclared r.decl) (record { path = p; decl = endpoint d }) (board_at fs) (each_of_map (λ (r : Row). CanBeDeclared r.decl) row_at fs can) (declared_row (board_at fs) p d h)
+
+-- ---- with functions at reset
+
+abbrev IsByte : PlacedCell → Type 0
+IsByte e = e.cell.value < 256
+
+agreed_bytes : (left own : File) → HoldsBytes left → HoldsBytes own → HoldsBytes (agreed_file left own)
+agreed_bytes [] own h k = tt
+agreed_bytes (e ∷ es) own h k = (of (is_own e.place), agreed_bytes es own h.1 k)
+  where
+    of : (t : Bool) → IsByte (cond t e (record e { cell = cell_at own e.place }))
+    of true = h.0
+    of false = let one = number_fits own k e.place 1 in omega arith
+
+written_at_reset : (d : Endpoint) → IsDeclared d → HoldsBytes (endpoint_reset d false)
+written_at_reset d h = hold_bytes (endpoint_reset d false) (reset_bytes d h.cells)
+
+pub writable_under : (s : State) → IsWritableState s → (gs : GuestsNow) → IsWritableState (with_seated_reset s gs)
+writable_under s h gs = record {
+  handoff = handoff_stays s h.handoff gs;
+  declared = each_of_map (λ (f : BoardFunction). CanBeDeclared f.decl) (agreed_function (seated_files s gs)) s.functions
+      (each_map (λ (f : BoardFunction). CanBeDeclared f.decl) (λ (f : BoardFunction). CanBeDeclared (agreed_function (seated_files s gs) f).decl) s.functions (λ f k. subst CanBeDeclared (sym (decl_stays (seated_files s gs f.path) f)) k) h.declared);
+  bytes = each_of_map (λ (f : BoardFunction). HoldsBytes f.file) (agreed_function (seated_files s gs)) s.functions
+      (each_map (λ (f : BoardFunction). HoldsBytes f.file) (λ (f : BoardFunction). HoldsBytes (agreed_function (seated_files s gs) f).file) s.functions written h.bytes);
+  many = subst (λ n. n < 2 ^ 32) (sym (length-map s.functions (agreed_function (seated_files s gs)))) h.many;
+  latch = h.latch;
+}
+  where
+    decl_stays : (o : Option File) (f : BoardFunction) → (option_map_or (λ (own : File). record f { file = agreed_file f.file own }) o f).decl ≡ f.decl
+    decl_stays o f = grind arith
+
+    written : (f : BoardFunction) → HoldsBytes f.file → HoldsBytes (agreed_function (seated_files s gs) f).file
+    written f k = grind (arith, agreed_bytes, written_at_reset, declared_written)
+
+-- ---- guests
+
+pub name_fits : (name : Text) → IsWritableName name → name_layout.fits name ≡ true
+name_fits name h = counted_fit 1 (number 1) name h.short (each_map (λ c. c < 256) (λ c. (number 1).fits c ≡ true) name (λ c k. lt-ltb c 256 k) h.are_bytes)
+
+module _ (b : Board) (paths : Each (λ (r : Row). IsPath r.path) b) where
+  slots_fit : (qs : List (Option Path)) (os : Slots) → AreSeats b qs os → Each (λ q. (optional path_layout).fits q ≡ true) qs
+  slots_fit [] os are = tt
+  slots_fit (None ∷ qs) (o ∷ os) are = (refl, slots_fit qs os are.1)
+  slots_fit (Some p ∷ qs) (Some f ∷ os) are =
+      let path = each_in (λ (r : Row). IsPath r.path) (record { path = p; decl = endpoint f.decl }) b paths (declared_row b p f.decl are.0.decl) in
+      (ap (λ t. (t && true) && true) (path_fits p path), slots_fit qs os are.1)
+  slots_fit qs os are = grind arith
+
+  pub paths_fit : (g : GuestNow) → IsSeatedGuest b g → paths_layout.fits g.paths ≡ true
+  paths_fit g seated =
+      subst (λ n. fit_times (optional path_layout).fits n g.paths ≡ true) seated.count (times_fit (optional path_layout).fits g.paths (slots_fit g.paths g.lone.slots seated.seats))
+
+  guest_fits : (g : GuestNow) → IsSeatedGuest b g → IsWritableName g.name → IsSavableGuest g.lone → guest_layout.fits (saved_guest g) ≡ true
+  guest_fits g seated name can =
+      let slots = paths_fit g seated in
+      let image = guests_have_bytes g.lone can in
+      and_from (name_layout.fits g.name) (paths_layout.fits g.paths && image_layout.fits (image_of_lone g.lone)) (name_fits g.name name)
+      (and_from (paths_layout.fits g.paths) (image_layout.fits (image_of_lone g.lone)) slots image)
+
+  guests_fit : (gs : GuestsNow) → Each (IsSeatedGuest b) gs → Each IsWritableName (names_of gs) → Each (λ (g : GuestNow). IsSavableGuest g.lone) gs
+      → Each (λ (s : SavedGuest). guest_layout.fits s ≡ true) (map saved_guest gs)
+  guests_fit [] seated names can = tt
+  guests_fit (g ∷ gs) seated names can = (guest_fits g seated.0 names.0 can.0, guests_fit gs seated.1 names.1 can.1)
+
+-- ---- all of it
+
+pub machines_have_bytes : MachinesHaveBytes
+machines_have_bytes w h can =
+    let guests = map saved_guest w.guests in
+    let few : length guests < 256 ^ 2 = let a = length-map w.guests saved_guest in let c = length-map w.guests (λ (g : GuestNow). g.name) in let d = can.machine.few in omega arith in
+    let all = guests_fit (board_at w.handoff.functions) h.lawful.handoff.board.places.paths w.guests h.lawful.seated.guests can.machine.compared.names can.guests in
+    subst (λ (x : State). HasMachineBytes (record { handoff = saved_handoff x; guests = guests })) (sym h.shown)
+    (state_fits w.handoff (writable_now w h can.machine) guests (counted_fit 2 guest_layout guests few all))

@@ -1,0 +1,71 @@
+-- A machine that was saved is loaded.
+use Rattle.std.proofs.Common.{◌≡◌, List, [], ◌∷◌, ◌∙◌, refl, sym, ap, map}
+use Rattle.std.specs.Result.{result_err}
+use Rattle.lists.specs.Elements.{Each}
+use Rattle.model_board.specs.AtReset.{board_at}
+use Rattle.model_board.specs.Board.{Row, Board}
+use Rattle.model_board.specs.Paths.{IsPath}
+use Rattle.model_guests.specs.Calls.{asks, at_device}
+use Rattle.model_guests.specs.Guests.{GuestNow, GuestsNow, lone_of}
+use Rattle.model_guests.specs.Seated.{IsSeatedGuest}
+use Rattle.model_guests.specs.WorldNow.{WorldNow, names_now}
+use Rattle.model_handoff.specs.Actions.{calls, gives, takes}
+use Rattle.model_handoff.proofs.Counting.{names_after}
+use Rattle.model_images.specs.FitLaws.{AreFitting}
+use Rattle.model_images.specs.Images.{image_of_lone, at_reset}
+use Rattle.model_images.specs.Requests.{Request, acts, loads, restarts, after_request, after_requests}
+use Rattle.model_images.proofs.Loading.{names_after_load}
+use Rattle.model_images.specs.MachineImages.{image_of_machine, saved_guest}
+use Rattle.model_images.proofs.Machines.{load_after_save, saved_machine_fits, shown_alike}
+use Rattle.model_images.specs.ByteLaws.{IsSavableGuest}
+use Rattle.model_images.specs.LoadedMachines.{after_read}
+use Rattle.model_images.specs.LoadedMachineLaws.{TakesSavedMachine}
+use Rattle.model_images.specs.SavedLaws.{KeepsHandoff, TakesItsOwn}
+use Rattle.model_images.proofs.LoadedBytes.{savable_fits}
+use Rattle.model_images.proofs.FittingMachines.{IsWritten, read_written}
+use Rattle.model_images.proofs.Savable.{guests_have_bytes}
+use Rattle.model_images.proofs.SavableMachines.{paths_fit}
+
+pub guests_fit : (gs : GuestsNow) → Each (λ (g : GuestNow). IsSavableGuest g.lone) gs → AreFitting gs
+guests_fit [] h = tt
+guests_fit (g ∷ gs) h = (record { latch = h.0.latch; functions = savable_fits g.lone.slots h.0.functions }, guests_fit gs h.1)
+
+guests_written : (b : Board) → Each (λ (r : Row). IsPath r.path) b → (gs : GuestsNow) → Each (IsSeatedGuest b) gs → Each (λ (g : GuestNow). IsSavableGuest g.lone) gs → Each IsWritten (map saved_guest gs)
+guests_written b paths [] seated can = tt
+guests_written b paths (g ∷ gs) seated can = (record { paths = paths_fit b paths g seated.0; image = guests_have_bytes g.lone can.0 }, guests_written b paths gs seated.1 can.1)
+
+pub takes_saved_machine : TakesSavedMachine
+takes_saved_machine w v h can k like =
+    let written = guests_written (board_at w.handoff.functions) h.lawful.handoff.board.places.paths w.guests h.lawful.seated.guests can.guests in
+    let read = read_written v (image_of_machine w) written (saved_machine_fits w v h k (guests_fit w.guests can.guests) like) in
+    record { accepted = ap result_err read; world = ap (after_read v) read ∙ load_after_save w v h k like }
+
+-- ---- the same machine later
+
+handoff_kept : (w : WorldNow) (r : Request) → KeepsHandoff r → (after_request w r).handoff ≡ w.handoff
+handoff_kept w (acts (calls (asks m))) keeps = refl
+handoff_kept w (acts (calls (at_device n e))) keeps = refl
+handoff_kept w (acts (gives g)) keeps = absurd keeps
+handoff_kept w (acts (takes n k)) keeps = absurd keeps
+handoff_kept w (loads n i) keeps = refl
+handoff_kept w (restarts n) keeps = refl
+
+names_kept : (w : WorldNow) (r : Request) → names_now (after_request w r) ≡ names_now w
+names_kept w (acts a) = names_after w a
+names_kept w (loads n i) = names_after_load w n i
+names_kept w (restarts n) = names_after_load w n (image_of_lone (at_reset (lone_of w.guests n)))
+
+record IsLike (w v : WorldNow) : Type 0 where
+  pub handoff : v.handoff ≡ w.handoff
+  pub names : names_now v ≡ names_now w
+
+like_along : (w : WorldNow) (rs : List Request) → Each KeepsHandoff rs → IsLike w (after_requests w rs)
+like_along w [] keep = record { handoff = refl; names = refl }
+like_along w (r ∷ rs) keep =
+    let more = like_along (after_request w r) rs keep.1 in
+    record { handoff = more.handoff ∙ handoff_kept w r keep.0; names = more.names ∙ names_kept w r }
+
+pub takes_its_own : TakesItsOwn
+takes_its_own w h can rs keep k =
+    let like = like_along w rs keep in
+    takes_saved_machine w (after_requests w rs) h can k (shown_alike w (after_requests w rs) h.lawful (k.shown ∙ like.handoff ∙ sym h.shown) (sym like.names))

@@ -1,0 +1,241 @@
+-- Along any requests guests can be saved, and what was saved of one is taken.
+use Rattle.std.proofs.Common.{◌≡◌, ℕ, zero, suc, ◌<◌, Bool, true, false, cond, List, [], ◌∷◌, length, Some, None, Option, refl, sym, ap, ◌∙◌, subst, arith}
+use Rattle.std.specs.Prelude.{map, option_map, is_some, IsFalse, IsSome}
+use Rattle.std.specs.Option.{option_map_or}
+use Rattle.std.specs.Str.{bytes_eq}
+use Rattle.std.proofs.lemmas.Bool.{ltb-true}
+use Rattle.lists.specs.Elements.{Each}
+use Rattle.lists.proofs.EachLemmas.{each_map, each_of_map}
+use Rattle.lists.proofs.Tests.{left_true, right_true, some_there}
+use Rattle.model_registers.specs.CopiedFiles.{after_reset, agreed_file}
+use Rattle.model_registers.specs.Declarations.{Endpoint}
+use Rattle.model_registers.specs.EndpointTable.{endpoint_reset}
+use Rattle.model_registers.specs.Registers.{File}
+use Rattle.model_board.specs.Paths.{Path, path_eq}
+use Rattle.model_board.specs.AtReset.{board_at}
+use Rattle.model_board.specs.State.{BoardFunction, State, with_file}
+use Rattle.model_guests.specs.Text.{Text}
+use Rattle.model_guests.specs.Slots.{Slots}
+use Rattle.model_guests.specs.World.{World, declared}
+use Rattle.model_guests.specs.AgreedBoard.{agreed_function, with_change_at}
+use Rattle.model_guests.specs.Guests.{GuestNow, GuestsNow, guest_named, lone_of, path_in, guests_at_first}
+use Rattle.model_guests.specs.Lone.{LoneGuest}
+use Rattle.model_guests.specs.Seated.{AreSeats, IsSeatedGuest}
+use Rattle.model_guests.specs.WorldNow.{WorldNow, world_over}
+use Rattle.model_guests.proofs.GuestsByName.{found}
+use Rattle.model_guests.proofs.OneGuest.{lone_found, still}
+use Rattle.model_guests.proofs.Seats.{as_many}
+use Rattle.model_handoff.specs.Actions.{calls, gives, takes, after_action}
+use Rattle.model_handoff.specs.Giving.{Gift, give_fault, given, take_fault, taken, with_reset_at}
+use Rattle.model_handoff.specs.Handoffs.{reset_files, taken_over}
+use Rattle.model_handoff.specs.Kept.{IsLawfulOver}
+use Rattle.model_images.specs.Images.{SavedFunction, Image, image_of_guest, image_of_lone, lone_of_image, with_values, restored, after_load, loaded}
+use Rattle.model_images.specs.FitLaws.{HoldsFitting, AreFitting, IsFittingRequest}
+use Rattle.model_images.specs.LoadLaws.{AnswersAlike, IsCopy}
+use Rattle.model_images.specs.Requests.{Request, acts, loads, restarts, after_request, request_inputs}
+use Rattle.model_images.proofs.Counts.{lawful_along_requests}
+use Rattle.model_images.proofs.Fitting.{fitting_at_first, fitting_after, saved_fits}
+use Rattle.model_images.proofs.KeptFunctions.{Has, action_holds, load_holds, restart_holds, holds_at_first}
+use Rattle.model_images.proofs.Loading.{loaded_holds, others_after_load}
+use Rattle.model_images.proofs.Requests.{answers_as_saved, isolated_by_requests}
+use Rattle.model_images.specs.Layouts.{number, fit_times, optional}
+use Rattle.model_images.specs.ImageBytes.{function_layout, image_bytes, image_of}
+use Rattle.model_images.specs.ByteLaws.{HasBytes, HoldsSavable, IsSavableGuest}
+use Rattle.model_images.specs.MachineByteLaws.{CanBeDeclared, AreDeclared, CanBeSaved}
+use Rattle.model_images.specs.SavedLaws.{CanBeSavedAtFirst, IsWritableRequest, CanBeSavedAlong, TakesSavedGuest, SavesWhatWasTaken, NoImageIsRefused}
+use Rattle.model_images.proofs.ByteCells.{AreByteCells, HoldsByteCells, byte_cells_kept, hold_bytes, of_shape, reset_bytes}
+use Rattle.model_images.proofs.ImageBytes.{bytes_are_read, read_are_bytes, parts_of, function_parts, slot_fits, image_back}
+use Rattle.model_images.proofs.LoadedBytes.{fitting_accepted, images_decided}
+use Rattle.model_images.proofs.Savable.{guests_have_bytes}
+use Rattle.model_images.proofs.SavableMachines.{declared_written}
+use Rattle.model_images.proofs.SavedMachines.{guests_fit}
+use Rattle.model_images.proofs.TakenBytes.{taken_now}
+
+-- ---- declarations stay
+
+kept_declared : (change : BoardFunction → BoardFunction) → ((f : BoardFunction) → (change f).decl ≡ f.decl) → (fs : List BoardFunction) → AreDeclared fs → AreDeclared (map change fs)
+kept_declared change stays fs h =
+    each_of_map (λ (f : BoardFunction). CanBeDeclared f.decl) change fs
+    (each_map (λ (f : BoardFunction). CanBeDeclared f.decl) (λ (f : BoardFunction). CanBeDeclared (change f).decl) fs (λ f k. subst CanBeDeclared (sym (stays f)) k) h)
+
+agreed_declared : (files : Path → Option File) (fs : List BoardFunction) → AreDeclared fs → AreDeclared (map (agreed_function files) fs)
+agreed_declared files fs h = kept_declared (agreed_function files) (λ f. stays (files f.path) f) fs h
+  where
+    stays : (o : Option File) (f : BoardFunction) → (option_map_or (λ (own : File). record f { file = agreed_file f.file own }) o f).decl ≡ f.decl
+    stays o f = grind arith
+
+changed_declared : (change : File → File) (p : Path) (fs : List BoardFunction) → AreDeclared fs → AreDeclared (with_file change p fs)
+changed_declared change p fs h = kept_declared (λ (f : BoardFunction). cond (path_eq f.path p) (record f { file = change f.file }) f) (λ f. stays (path_eq f.path p) f) fs h
+  where
+    stays : (t : Bool) (f : BoardFunction) → (cond t (record f { file = change f.file }) f).decl ≡ f.decl
+    stays true f = refl
+    stays false f = refl
+
+abbrev OverDeclared : WorldNow → Type 0
+OverDeclared w = AreDeclared w.handoff.functions
+
+reset_declared : (s : State) (p : Path) (o : Option Endpoint) → AreDeclared s.functions → AreDeclared (option_map_or (λ (d : Endpoint). with_change_at (after_reset d) p s) o s).functions
+reset_declared s p None h = h
+reset_declared s p (Some d) h = changed_declared (after_reset d) p s.functions h
+
+either_declared : (t : Bool) (v w : WorldNow) → OverDeclared v → OverDeclared w → OverDeclared (cond t v w)
+either_declared true v w h k = h
+either_declared false v w h k = k
+
+given_declared : (w : WorldNow) (g : Gift) (o : Option Endpoint) → OverDeclared w → OverDeclared (given g o w)
+given_declared w g None h = h
+given_declared w g (Some d) h = reset_declared w.handoff g.path (declared (board_at w.handoff.functions) g.path) h
+
+taken_declared : (w : WorldNow) (o : Option Path) → OverDeclared w → AreDeclared (option_map_or (λ (p : Path). with_reset_at p w.handoff) o w.handoff).functions
+taken_declared w None h = h
+taken_declared w (Some p) h = reset_declared w.handoff p (declared (board_at w.handoff.functions) p) h
+
+declared_after : (w : WorldNow) → OverDeclared w → (r : Request) → OverDeclared (after_request w r)
+declared_after w h (acts (calls c)) = subst AreDeclared (handoff_stays c) h
+  where
+    handoff_stays : (c : _) → w.handoff.functions ≡ (after_action w (calls c)).handoff.functions
+    handoff_stays c = grind arith
+declared_after w h (acts (gives g)) =
+    either_declared (is_some (give_fault w g)) w (given g (declared (board_at w.handoff.functions) g.path) w) h (given_declared w g (declared (board_at w.handoff.functions) g.path) h)
+declared_after w h (acts (takes n k)) = either_declared (is_some (take_fault w n k)) w (taken n k w) h (taken_declared w (path_in w.guests n k) h)
+declared_after w h (loads n i) = h
+declared_after w h (restarts n) = h
+
+-- ---- guests that can be saved
+
+abbrev HaveBytes : GuestsNow → Type 0
+HaveBytes gs = Each (λ (t : GuestNow). Has HoldsByteCells t.lone) gs
+
+module _ (fs : List BoardFunction) (declared : AreDeclared fs) where
+  slots_savable : (qs : List (Option Path)) (os : Slots) → AreSeats (board_at fs) qs os → Each HoldsFitting os → Each HoldsByteCells os → Each HoldsSavable os
+  slots_savable [] [] seats fit bytes = tt
+  slots_savable (q ∷ qs) (None ∷ os) seats fit bytes = (tt, slots_savable qs os seats.1 fit.1 bytes.1)
+  slots_savable (Some p ∷ qs) (Some f ∷ os) seats fit bytes =
+      let is = declared_written fs declared p f.decl seats.0.decl in
+      (record { declared = is; fits = fit.0; bytes = hold_bytes f.file (bytes.0 is.cells) }, slots_savable qs os seats.1 fit.1 bytes.1)
+  slots_savable qs os seats fit bytes = grind arith
+
+  pub all_savable : (gs : GuestsNow) → Each (IsSeatedGuest (board_at fs)) gs → AreFitting gs → HaveBytes gs → Each (λ (g : GuestNow). IsSavableGuest g.lone) gs
+  all_savable [] seated fit bytes = tt
+  all_savable (g ∷ gs) seated fit bytes = (
+    record {
+      latch = fit.0.latch;
+      count = as_many (board_at fs) g.paths g.lone.slots seated.0.seats ∙ seated.0.count;
+      functions = slots_savable g.paths g.lone.slots seated.0.seats fit.0.functions bytes.0.functions;
+    },
+    all_savable gs seated.1 fit.1 bytes.1,
+  )
+
+slots_have : (os : Slots) → Each HoldsSavable os → Each HoldsByteCells os
+slots_have [] h = tt
+slots_have (None ∷ os) h = (tt, slots_have os h.1)
+slots_have (Some f ∷ os) h = (λ cells. of_shape f.file (endpoint_reset f.decl false) h.0.fits.shape (reset_bytes f.decl cells) h.0.bytes, slots_have os h.1)
+
+have_bytes : (gs : GuestsNow) → Each (λ (g : GuestNow). IsSavableGuest g.lone) gs → HaveBytes gs
+have_bytes gs h = each_map (λ (g : GuestNow). IsSavableGuest g.lone) (λ (t : GuestNow). Has HoldsByteCells t.lone) gs (λ t k. record { latch = k.latch; functions = slots_have t.lone.slots k.functions }) h
+
+saved_over : (w : World) (s : State) → AreDeclared s.functions → IsLawfulOver (world_over w s) → CanBeSaved (world_over w s)
+saved_over w s declared lawful = record {
+  declared = declared;
+  guests = all_savable s.functions declared (guests_at_first w) lawful.seated.guests (fitting_at_first w) (holds_at_first HoldsByteCells byte_cells_kept w);
+}
+
+pub can_be_saved_at_first : CanBeSavedAtFirst
+can_be_saved_at_first w s declared = record {
+  over = saved_over w s declared;
+  taken_over = saved_over w (taken_over w s) (agreed_declared (reset_files w) s.functions declared);
+}
+
+-- ---- requests
+
+with_bytes : (vs : List ℕ) (file : File) → Each (λ v. v < 256) vs → AreByteCells file → AreByteCells (with_values vs file)
+with_bytes vs [] low h = tt
+with_bytes [] (e ∷ es) low h = h
+with_bytes (v ∷ vs) (e ∷ es) low h = (record { value = low.0; clearable = h.0.clearable }, with_bytes vs es low.1 h.1)
+
+low_numbers : (n : ℕ) (vs : List ℕ) → fit_times (number 1).fits n vs ≡ true → Each (λ v. v < 256) vs
+low_numbers n [] h = tt
+low_numbers zero (v ∷ vs) h = cc
+low_numbers (suc n) (v ∷ vs) h = (ltb-true v 256 (left_true ((number 1).fits v) (fit_times (number 1).fits n vs) h), low_numbers n vs (right_true ((number 1).fits v) (fit_times (number 1).fits n vs) h))
+
+image_slots : (n : ℕ) (ss : List (Option SavedFunction)) → fit_times (optional function_layout).fits n ss ≡ true → Each HoldsByteCells (map (option_map restored) ss)
+image_slots n [] h = tt
+image_slots zero (s ∷ ss) h = cc
+image_slots (suc n) (None ∷ ss) h = (tt, image_slots n ss h)
+image_slots (suc n) (Some s ∷ ss) h =
+    let parts = function_parts s (slot_fits s (left_true ((optional function_layout).fits (Some s)) (fit_times (optional function_layout).fits n ss) h)) in (
+      λ cells. with_bytes s.values (endpoint_reset s.decl false) (low_numbers (length (endpoint_reset s.decl false)) s.values parts.count) (reset_bytes s.decl cells),
+      image_slots n ss (right_true ((optional function_layout).fits (Some s)) (fit_times (optional function_layout).fits n ss) h),
+    )
+
+image_has : (i : Image) → HasBytes i → Has HoldsByteCells (lone_of_image i)
+image_has i has = let parts = parts_of i has in record { latch = parts.latched; functions = image_slots 32 i.slots parts.slots }
+
+bytes_after : (w : WorldNow) → HaveBytes w.guests → (r : Request) → IsWritableRequest w r → HaveBytes (after_request w r).guests
+bytes_after w h (acts a) fits = action_holds HoldsByteCells byte_cells_kept w a h
+bytes_after w h (loads n i) fits = load_holds HoldsByteCells byte_cells_kept w n i (image_has i fits.bytes) h
+bytes_after w h (restarts n) fits = restart_holds HoldsByteCells byte_cells_kept w n h
+
+fits_after : (w : WorldNow) (r : Request) → IsWritableRequest w r → IsFittingRequest w r
+fits_after w (acts a) fits = tt
+fits_after w (loads n i) fits = fits.fits
+fits_after w (restarts n) fits = tt
+
+saved_after : (w : WorldNow) → IsLawfulOver w → CanBeSaved w → (r : Request) → IsWritableRequest w r → CanBeSaved (after_request w r)
+saved_after w h can r fits =
+    let declared = declared_after w can.declared r in
+    let lawful = lawful_along_requests w h (r ∷ []) (fits_after w r fits, tt) in
+    record {
+      declared = declared;
+      guests = all_savable (after_request w r).handoff.functions declared (after_request w r).guests lawful.seated.guests (fitting_after w (guests_fit w.guests can.guests) r (fits_after w r fits))
+          (bytes_after w (have_bytes w.guests can.guests) r fits);
+    }
+
+pub can_be_saved_along : CanBeSavedAlong
+can_be_saved_along w h can [] fits = can
+can_be_saved_along w h can (r ∷ rs) fits =
+    can_be_saved_along (after_request w r) (lawful_along_requests w h (r ∷ []) (fits_after w r fits.0, tt)) (saved_after w h can r fits.0) rs fits.1
+
+-- ---- what was saved of a guest
+
+others_alike : (v : WorldNow) (to name : Text) (i : Image) → IsFalse (bytes_eq to name) → IsSome (guest_named v.guests name) → (ones others : List Request)
+    → request_inputs name v ones ≡ request_inputs name (after_load to i v) others → AnswersAlike v name ones (after_load to i v) name others
+others_alike v to name i apart there ones others same =
+    let lone : lone_of (after_load to i v).guests name ≡ lone_of v.guests name = others_after_load v to name i apart in
+    let one = isolated_by_requests v name there ones in
+    let other = isolated_by_requests (after_load to i v) name (still (loaded i) (λ t. refl) to name v.guests there) others in
+    record { replies = cc (one.replies, other.replies); holds = cc (one.holds, other.holds) }
+
+pub takes_saved_guest : TakesSavedGuest
+takes_saved_guest w v from to h =
+    let i = image_of_guest from w in
+    let x = some_there (guest_named w.guests from) h.first in
+    let own : lone_of w.guests from ≡ x.0.lone = lone_found w.guests from x.0 x.1 in
+    let savable : IsSavableGuest (lone_of w.guests from) =
+    subst IsSavableGuest (sym own) (found (λ (t : GuestNow). IsSavableGuest t.lone) w.guests from x.0 h.savable.guests x.1).has in
+    let has : HasBytes i = guests_have_bytes (lone_of w.guests from) savable in
+    let fits = saved_fits w v from to (guests_fit w.guests h.savable.guests) h.first h.declarations in
+    let image = bytes_are_read i has in
+    let accepted = fitting_accepted (lone_of v.guests to) i has fits in
+    let copy : IsCopy w from v to = record { first = h.first; second = h.second; seated = (board_at w.handoff.functions, h.lawful.seated) } in
+    record {
+      image = image;
+      accepted = accepted;
+      world = taken_now v to (image_bytes i) i accepted image;
+      answers = answers_as_saved w v from to copy;
+      others = λ name apart there ones others same. others_alike v to name i apart there ones others same;
+    }
+
+-- ---- what was loaded
+
+pub saves_what_was_taken : SavesWhatWasTaken
+saves_what_was_taken w name there bytes i is =
+    let spelled = read_are_bytes bytes i is.image in
+    ap (λ (g : LoneGuest). image_bytes (image_of_lone g)) (loaded_holds w name there i) ∙ ap image_bytes (image_back i spelled.1) ∙ sym spelled.0
+
+pub no_image_is_refused : NoImageIsRefused
+no_image_is_refused g savable bytes refused = of (image_of bytes) refl
+  where
+    of : (o : Option Image) → image_of bytes ≡ o → o ≡ None
+    of None e = refl
+    of (Some i) e = let decided = images_decided g savable bytes i e in grind arith

@@ -1,0 +1,56 @@
+-- Laws of bytes that are loaded into a guest.
+--     AcceptedIsImage      bytes that are not refused are an image that fits the guest
+--     ImagesDecided      an image is taken where it fits, and else refused as one of other functions
+--     OwnAccepted      the bytes of a guest's own image are taken
+--     LoadsImage, RefusedStays      so the world after it is that after the load of an image that fits, or as it was
+--     KeepsSavedBytes      bytes that were saved change nothing
+use Rattle.std.specs.Prelude.{◌≡◌, ◌⊎◌, ℕ, List, Some, None}
+use Rattle.model_board.specs.Board.{Board}
+use Rattle.model_guests.specs.Text.{Text}
+use Rattle.model_guests.specs.Lone.{LoneGuest}
+use Rattle.model_guests.specs.Guests.{lone_of}
+use Rattle.model_guests.specs.Seated.{AreSeated}
+use Rattle.model_guests.specs.WorldNow.{WorldNow}
+use Rattle.model_images.specs.Images.{Image, image_of_lone, image_of_guest, after_load, Fits}
+use Rattle.model_images.specs.ImageBytes.{image_bytes, image_of}
+use Rattle.model_images.specs.ByteLaws.{AreBytes, IsSavableGuest}
+use Rattle.model_images.specs.LoadedBytes.{load_fault, after_load_bytes}
+
+pub record IsFittingImage (g : LoneGuest) (bytes : List ℕ) (i : Image) : Type 0 where
+  pub image : image_of bytes ≡ Some i
+  pub fits : Fits i g
+
+abbrev pub AcceptedIsImage : Type 0
+AcceptedIsImage = (g : LoneGuest) → IsSavableGuest g → (bytes : List ℕ) → AreBytes bytes → load_fault g bytes ≡ None
+    → (i : Image) × IsFittingImage g bytes i
+
+pub record IsOfOthers (g : LoneGuest) (bytes : List ℕ) (i : Image) : Type 0 where
+  pub refused : load_fault g bytes ≡ Some 906
+  pub not_fitting : Fits i g → ⊥
+
+-- so what is refused by 905 is no image
+abbrev pub ImagesDecided : Type 0
+ImagesDecided = (g : LoneGuest) → IsSavableGuest g → (bytes : List ℕ) (i : Image) → image_of bytes ≡ Some i
+    → ((load_fault g bytes ≡ None) × Fits i g) ⊎ IsOfOthers g bytes i
+
+abbrev pub OwnAccepted : Type 0
+OwnAccepted = (g : LoneGuest) → IsSavableGuest g → load_fault g (image_bytes (image_of_lone g)) ≡ None
+
+-- ---- in a world
+
+pub record IsLoad (w now : WorldNow) (name : Text) (bytes : List ℕ) : Type 0 where
+  pub image : Image
+  pub is_image : IsFittingImage (lone_of w.guests name) bytes image
+  pub world : now ≡ after_load name image w
+
+abbrev pub LoadsImage : Type 0
+LoadsImage = (w : WorldNow) (name : Text) → IsSavableGuest (lone_of w.guests name) → (bytes : List ℕ) → AreBytes bytes
+    → load_fault (lone_of w.guests name) bytes ≡ None → IsLoad w (after_load_bytes name bytes w) name bytes
+
+abbrev pub RefusedStays : Type 0
+RefusedStays = (w : WorldNow) (name : Text) (bytes : List ℕ) (k : ℕ) → load_fault (lone_of w.guests name) bytes ≡ Some k
+    → after_load_bytes name bytes w ≡ w
+
+abbrev pub KeepsSavedBytes : Type 0
+KeepsSavedBytes = (b : Board) (w : WorldNow) → AreSeated b w.guests → (name : Text)
+    → IsSavableGuest (lone_of w.guests name) → after_load_bytes name (image_bytes (image_of_guest name w)) w ≡ w

@@ -1,0 +1,109 @@
+-- Laws of what is saved, whenever it is saved: guests can be saved along any requests, and what was saved of a guest is
+-- taken by each guest of equal declarations.
+--     IsSavedAtFirst, CanBeSavedAtFirst      a lawful world can be saved at first, where the declarations of its board can
+--                                   be written
+--     IsWritableRequest, AreWritableRequests      requests whose images fit the guests that get them, and have bytes
+--     CanBeSavedAlong      along such requests it can be saved
+--     IsForAnother w from v to      a guest of a world that can be saved, and one of equal declarations, in this world or
+--                                   another
+--     IsTakenBy w from v to, TakesSavedGuest      the bytes that were saved of the first are taken by the second, which
+--                                   then answers as the first would have, and no one else answers otherwise
+--     SavesWhatWasTaken      what is saved of a guest after a load are the bytes that were loaded
+--     NoImageIsRefused      what is refused by 905 is no image
+--     KeepsHandoff r      a request that neither gives a function nor takes one
+--     TakesItsOwn      along such requests a machine takes what was saved of it, and is again what it was
+use Rattle.std.specs.Prelude.{◌≡◌, ℕ, List, [], ◌∷◌, Some, None, IsFalse, IsSome, ⊤}
+use Rattle.std.specs.Str.{bytes_eq}
+use Rattle.lists.specs.Elements.{Each}
+use Rattle.model_board.specs.State.{State}
+use Rattle.model_guests.specs.Text.{Text}
+use Rattle.model_guests.specs.World.{World}
+use Rattle.model_guests.specs.Lone.{LoneGuest}
+use Rattle.model_guests.specs.Guests.{guest_named, lone_of}
+use Rattle.model_guests.specs.WorldNow.{WorldNow, world_over}
+use Rattle.model_handoff.specs.Actions.{calls, gives, takes}
+use Rattle.model_handoff.specs.Handoffs.{taken_over}
+use Rattle.model_handoff.specs.Kept.{IsLawfulOver}
+use Rattle.model_images.specs.Images.{Image, image_of_guest, after_load, Fits}
+use Rattle.model_images.specs.Requests.{Request, acts, loads, restarts, after_request, after_requests, request_inputs}
+use Rattle.model_images.specs.LoadLaws.{copied, AnswersAlike}
+use Rattle.model_images.specs.FitLaws.{declarations_of}
+use Rattle.model_images.specs.MachineLaws.{IsSavableWorld}
+use Rattle.model_images.specs.ImageBytes.{image_bytes, image_of}
+use Rattle.model_images.specs.ByteLaws.{HasBytes, IsSavableGuest}
+use Rattle.model_images.specs.LoadedBytes.{load_fault, after_load_bytes}
+use Rattle.model_images.specs.LoadedLaws.{IsFittingImage}
+use Rattle.model_images.specs.LoadedMachineLaws.{IsTaken}
+use Rattle.model_images.specs.MachineByteLaws.{AreDeclared, CanBeSaved}
+
+-- over a handoff, and over what guests get of one
+pub record IsSavedAtFirst (w : World) (s : State) : Type 0 where
+  pub over : IsLawfulOver (world_over w s) → CanBeSaved (world_over w s)
+  pub taken_over : IsLawfulOver (world_over w (taken_over w s)) → CanBeSaved (world_over w (taken_over w s))
+
+abbrev pub CanBeSavedAtFirst : Type 0
+CanBeSavedAtFirst = (w : World) (s : State) → AreDeclared s.functions → IsSavedAtFirst w s
+
+-- bytes that are read as an image are of one that has bytes
+pub record IsWritableImage (i : Image) (g : LoneGuest) : Type 0 where
+  pub fits : Fits i g
+  pub bytes : HasBytes i
+
+abbrev pub IsWritableRequest : WorldNow → Request → Type 0
+IsWritableRequest w (acts a) = ⊤
+IsWritableRequest w (loads n i) = IsWritableImage i (lone_of w.guests n)
+IsWritableRequest w (restarts n) = ⊤
+
+abbrev pub AreWritableRequests : WorldNow → List Request → Type 0
+AreWritableRequests w [] = ⊤
+AreWritableRequests w (r ∷ more) = IsWritableRequest w r × AreWritableRequests (after_request w r) more
+
+abbrev pub CanBeSavedAlong : Type 0
+CanBeSavedAlong = (w : WorldNow) → IsLawfulOver w → CanBeSaved w → (requests : List Request)
+    → AreWritableRequests w requests → CanBeSaved (after_requests w requests)
+
+-- ---- what was saved of a guest
+
+pub record IsForAnother (w : WorldNow) (from : Text) (v : WorldNow) (to : Text) : Type 0 where
+  pub lawful : IsLawfulOver w
+  pub savable : CanBeSaved w
+  pub first : IsSome (guest_named w.guests from)
+  pub second : IsSome (guest_named v.guests to)
+  pub declarations : declarations_of (lone_of w.guests from) ≡ declarations_of (lone_of v.guests to)
+
+-- whatever others do, before and after
+pub record IsTakenBy (w : WorldNow) (from : Text) (v : WorldNow) (to : Text) : Type 0 where
+  pub image : image_of (image_bytes (image_of_guest from w)) ≡ Some (image_of_guest from w)
+  pub accepted : load_fault (lone_of v.guests to) (image_bytes (image_of_guest from w)) ≡ None
+  pub world : after_load_bytes to (image_bytes (image_of_guest from w)) v ≡ copied from w to v
+  pub answers : (ones others : List Request) → request_inputs from w ones ≡ request_inputs to (copied from w to v) others
+      → AnswersAlike w from ones (copied from w to v) to others
+  pub others : (name : Text) → IsFalse (bytes_eq to name) → IsSome (guest_named v.guests name)
+      → (ones others : List Request) → request_inputs name v ones ≡ request_inputs name (copied from w to v) others
+      → AnswersAlike v name ones (copied from w to v) name others
+
+abbrev pub TakesSavedGuest : Type 0
+TakesSavedGuest = (w v : WorldNow) (from to : Text) → IsForAnother w from v to → IsTakenBy w from v to
+
+-- ---- what was loaded
+
+abbrev pub SavesWhatWasTaken : Type 0
+SavesWhatWasTaken = (w : WorldNow) (name : Text) → IsSome (guest_named w.guests name) → (bytes : List ℕ) (i : Image)
+    → IsFittingImage (lone_of w.guests name) bytes i → image_bytes (image_of_guest name (after_load name i w)) ≡ bytes
+
+abbrev pub NoImageIsRefused : Type 0
+NoImageIsRefused = (g : LoneGuest) → IsSavableGuest g → (bytes : List ℕ) → load_fault g bytes ≡ Some 905
+    → image_of bytes ≡ None
+
+-- ---- a machine
+
+abbrev pub KeepsHandoff : Request → Type 0
+KeepsHandoff (acts (calls c)) = ⊤
+KeepsHandoff (acts (gives g)) = ⊥
+KeepsHandoff (acts (takes n k)) = ⊥
+KeepsHandoff (loads n i) = ⊤
+KeepsHandoff (restarts n) = ⊤
+
+abbrev pub TakesItsOwn : Type 0
+TakesItsOwn = (w : WorldNow) → IsSavableWorld w → CanBeSaved w → (requests : List Request)
+    → Each KeepsHandoff requests → IsSavableWorld (after_requests w requests) → IsTaken w (after_requests w requests)

@@ -1,0 +1,94 @@
+-- Bytes that a guest takes, slot by slot: where each function's values stand, and what the bytes are an image of.
+--     le_number bytes      the number whose bytes these are, the low one first
+--     values_begin d      how many bytes of a slot stand before the values of a function of this declaration
+--     slot_size f      how many bytes a slot has
+--     taken_function, taken_slot, taken_slots      what is saved in the bytes of a function, of a slot, and of slots
+--     taken_image g bytes      the image that the bytes are, if the guest takes them
+--     IsTakenSlot f fs bytes rest      what bytes are that were taken for a slot and those after it
+--     SlotsAreTaken      slots are taken one after the other: what a walk over them may take as so
+--     IsTakenImage, ImageIsTaken      what stands before the slots, and that the slots follow
+--     IsDeclaredGuest g      its declarations can be written, whatever its functions hold
+--     AcceptedIsTaken      bytes that are not refused are this image, which fits the guest
+use Rattle.std.specs.Prelude.{List, [], ◌∷◌, ◌≡◌, ◌≤◌, ℕ, ◌+◌, ◌*◌, false, length, take, drop, Option, Some, None, Ok, ⊤}
+use Rattle.lists.specs.Elements.{Each}
+use Rattle.model_registers.specs.ConfigAddress.{latched}
+use Rattle.model_registers.specs.Declarations.{Endpoint}
+use Rattle.model_registers.specs.EndpointTable.{endpoint_reset}
+use Rattle.model_registers.specs.Decoding.{Function}
+use Rattle.model_guests.specs.Slots.{Slots}
+use Rattle.model_guests.specs.Lone.{LoneGuest}
+use Rattle.model_images.specs.Images.{SavedFunction, Image, FitsSlot}
+use Rattle.model_images.specs.Layouts.{parsed, parse_number}
+use Rattle.model_images.specs.ImageBytes.{declaration_bytes}
+use Rattle.model_images.specs.ByteLaws.{AreBytes, IsDeclared}
+use Rattle.model_images.specs.LoadedBytes.{after_bytes, after_slot, after_slots, header, load_fault}
+use Rattle.model_images.specs.LoadedLaws.{IsFittingImage}
+
+abbrev pub le_number : List ℕ → ℕ
+le_number [] = 0
+le_number (b ∷ bytes) = b + 256 * le_number bytes
+
+-- ---- a slot
+
+-- that it is filled, and the declaration
+abbrev pub values_begin : Endpoint → ℕ
+values_begin d = 1 + length (declaration_bytes d)
+
+abbrev pub slot_size : Option Function → ℕ
+slot_size None = 1
+slot_size (Some f) = values_begin f.decl + length (endpoint_reset f.decl false)
+
+abbrev pub taken_function : Function → List ℕ → SavedFunction
+taken_function f bytes = record {
+  decl = f.decl;
+  values = take (length (endpoint_reset f.decl false)) (drop (values_begin f.decl) bytes);
+}
+
+abbrev pub taken_slot : Option Function → List ℕ → Option SavedFunction
+taken_slot None bytes = None
+taken_slot (Some f) bytes = Some (taken_function f bytes)
+
+-- ---- slots, and an image
+
+abbrev pub taken_slots : Slots → List ℕ → List (Option SavedFunction)
+taken_slots [] bytes = []
+taken_slots (f ∷ fs) bytes = taken_slot f bytes ∷ taken_slots fs (drop (slot_size f) bytes)
+
+-- four bytes say what an image begins with, four the version, four the latch
+abbrev pub taken_image : LoneGuest → List ℕ → Image
+taken_image g bytes = record { latch = le_number (take 4 (drop 8 bytes)); slots = taken_slots g.slots (drop 12 bytes) }
+
+-- ---- laws
+
+-- a byte for each cell of a function, which the cell can hold
+pub record IsTakenSlot (f : Option Function) (fs : Slots) (bytes rest : List ℕ) : Type 0 where
+  pub slot : after_slot f bytes ≡ Ok (drop (slot_size f) bytes)
+  pub enough : slot_size f ≤ length bytes
+  pub fits : FitsSlot (taken_slot f bytes) f
+  pub others : after_slots fs (drop (slot_size f) bytes) ≡ Ok rest
+
+abbrev pub SlotsAreTaken : Type 0
+SlotsAreTaken = (f : Option Function) (fs : Slots) (bytes rest : List ℕ) → after_slots (f ∷ fs) bytes ≡ Ok rest
+    → IsTakenSlot f fs bytes rest
+
+pub record IsTakenImage (g : LoneGuest) (bytes : List ℕ) : Type 0 where
+  pub enough : 12 ≤ length bytes
+  pub begins : after_bytes 905 header bytes ≡ Ok (drop 8 bytes)
+  pub read : parse_number 4 (drop 8 bytes) ≡ Some (parsed (taken_image g bytes).latch (drop 12 bytes))
+  pub latch : latched (taken_image g bytes).latch ≡ (taken_image g bytes).latch
+  pub slots : after_slots g.slots (drop 12 bytes) ≡ Ok []
+
+abbrev pub ImageIsTaken : Type 0
+ImageIsTaken = (g : LoneGuest) (bytes : List ℕ) → load_fault g bytes ≡ None → IsTakenImage g bytes
+
+abbrev pub HoldsDeclared : Option Function → Type 0
+HoldsDeclared None = ⊤
+HoldsDeclared (Some f) = IsDeclared f.decl
+
+pub record IsDeclaredGuest (g : LoneGuest) : Type 0 where
+  pub count : length g.slots ≡ 32
+  pub functions : Each HoldsDeclared g.slots
+
+abbrev pub AcceptedIsTaken : Type 0
+AcceptedIsTaken = (g : LoneGuest) → IsDeclaredGuest g → (bytes : List ℕ) → AreBytes bytes → load_fault g bytes ≡ None
+    → IsFittingImage g bytes (taken_image g bytes)

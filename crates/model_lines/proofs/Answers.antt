@@ -1,0 +1,65 @@
+-- In an orderly state no other region would answer too; in a ready one each region that holds an address answers.
+use Rattle.std.proofs.Common.{◌≡◌, ℕ, true, false, ◌==◌, [], Option, Some, refl, sym, ap, ◌∙◌, subst, arith}
+use Rattle.std.specs.Prelude.{IsTrue}
+use Rattle.std.proofs.lemmas.Bool.{and_from}
+use Rattle.std.proofs.lemmas.Bool.Decides.{nat_tests}
+use Rattle.lists.specs.Elements.{Each, IsIn}
+use Rattle.lists.proofs.Members.{each_in, each_from, in_map, in_filter, in_flat_map}
+use Rattle.model_registers.specs.Decoding.{opens_space}
+use Rattle.model_board.specs.Claims.{Claim, claims, first_claim}
+use Rattle.model_board.specs.Paths.{path_eq}
+use Rattle.model_board.specs.Routing.{RoutingRow, row_of, routing}
+use Rattle.model_board.proofs.PathEnds.{path_self}
+use Rattle.model_set_up.specs.PlacedRegions.{PlacedRegion, claim_in}
+use Rattle.model_set_up.proofs.Holders.{holds_is, holder_first}
+use Rattle.model_findings.specs.OpenRegions.{regions_of, open_of, open_regions, open_claim}
+use Rattle.model_findings.specs.Orderly.{HasClaimsOfRegions}
+use Rattle.model_findings.proofs.Claims.{orderly_claims}
+use Rattle.lists.proofs.Members.{from_option}
+use Rattle.lists.proofs.Members.{no_elements}
+use Rattle.model_findings.proofs.Witnesses.{problems_decide}
+use Rattle.model_lines.specs.Why.{Told, is_answer, told}
+use Rattle.model_findings.specs.ReadyLaws.{LacksNothing}
+use Rattle.model_lines.specs.WhyLaws.{claim_there, IsTrueTold, OrderlyAnswersAlone, ReadyTellsNothing}
+use Rattle.model_findings.proofs.Lacks.{lacking_nothing}
+use Rattle.model_lines.proofs.Why.{told_true}
+
+-- the region of the first claim is the answering one
+answering : (n : ℕ) (q : PlacedRegion) (o : Option Claim) → o ≡ Some (claim_there n q) → is_answer o q ≡ true
+answering n q o e = ap (λ (x : Option Claim). is_answer x q) e ∙ and_from (path_eq q.path q.path) (q.index == q.index) (path_self q.path) (same q.index)
+  where
+    same : (i : ℕ) → (i == i) ≡ true
+    same i = grind (arith, nat_tests)
+
+pub orderly_answers_alone : OrderlyAnswersAlone
+orderly_answers_alone fs state orderly space n = each_from (λ t. t.causes ≡ [] → ⊥) (told fs space n) (λ t m. alone t (told_true fs space n t m))
+  where
+    own : HasClaimsOfRegions fs
+    own = orderly_claims fs state orderly
+
+    alone : (t : Told) → IsTrueTold fs space n t → t.causes ≡ [] → ⊥
+    alone t is e =
+        let claimed : IsIn (claim_there n t.region) (claims fs space n) = is.too e in
+        let first : first_claim fs space n ≡ Some (claim_there n t.region) = own.first space n ∙ from_option (open_claim (routing fs) space n) (claim_there n t.region) (subst (IsIn (claim_there n t.region)) (own.only space n) claimed) in
+        let bad : true ≡ false = sym (answering n t.region (first_claim fs space n) first) ∙ is.other in cc
+
+pub ready_tells_nothing : ReadyTellsNothing
+ready_tells_nothing a fs state ready space n = no_elements (told fs space n) (λ t m. answers t (told_true fs space n t m))
+  where
+    own : HasClaimsOfRegions fs
+    own = orderly_claims fs state ((problems_decide fs).0 ready.no_problems).routes
+
+    nothing : LacksNothing a fs
+    nothing = lacking_nothing a fs ready.no_lacks
+
+    answers : (t : Told) → IsTrueTold fs space n t → ⊥
+    answers t is =
+        let row : IsIn (row_of is.function) (routing fs) = in_map row_of is.function fs is.there in
+        let opened : opens_space (row_of is.function).command t.region.space ≡ true =
+        each_in (λ (x : PlacedRegion). IsTrue (opens_space (row_of is.function).command x.space)) t.region (regions_of (row_of is.function))
+        (each_in (λ (r : RoutingRow). Each (λ (x : PlacedRegion). IsTrue (opens_space r.command x.space)) (regions_of r)) (row_of is.function) (routing fs) nothing.open_all row) is.region in
+        let there : IsIn t.region (open_regions (routing fs)) =
+        in_flat_map open_of (row_of is.function) t.region (routing fs) row (in_filter (λ (x : PlacedRegion). opens_space (row_of is.function).command x.space) t.region (regions_of (row_of is.function)) is.region opened) in
+        let claim : claim_in space n t.region ≡ Some (claim_there n t.region) = rw is.byte refl in
+        let first : first_claim fs space n ≡ Some (claim_there n t.region) = own.first space n ∙ holder_first space n t.region (open_regions (routing fs)) own.apart there (holds_is space n t.region is.byte) ∙ claim in
+        let bad : true ≡ false = sym (answering n t.region (first_claim fs space n) first) ∙ is.other in cc

@@ -1,0 +1,64 @@
+-- Worked examples: why a guest's accesses find what they find.
+--     first_guest, placed_guest      a guest with one function in slot 1, at reset; its memory region opened at C0000000h
+--     GuestExamples      what is told of some places
+use Rattle.std.specs.Prelude.{[], ◌∷◌, ◌≡◌, ℕ, Some, None, codes}
+use Rattle.model_board.specs.Examples.{first_endpoint}
+use Rattle.model_guests.specs.Accesses.{configuration, port, address, writes, access}
+use Rattle.model_guests.specs.Lone.{LoneGuest, reset_guest, after_event}
+use Rattle.model_guests.specs.Text.{text_of_lines}
+use Rattle.model_lines.specs.WhyGuests.{guest_why_text}
+
+abbrev pub first_guest : LoneGuest
+first_guest = reset_guest (None ∷ Some first_endpoint ∷ [])
+
+abbrev pub with_word : ℕ → ℕ → LoneGuest → LoneGuest
+with_word off v g = after_event g (access (record { target = configuration 1 off; width = 4; op = writes v }))
+
+abbrev pub based_guest : LoneGuest
+based_guest = with_word 0x14 0xc0000000 first_guest
+
+abbrev pub placed_guest : LoneGuest
+placed_guest = with_word 4 2 based_guest
+
+abbrev pub with_latch : ℕ → LoneGuest
+with_latch latch = record placed_guest { latch = latch }
+
+pub record GuestExamples : Type 0 where
+  pub answers :
+      guest_why_text placed_guest (address 0xc0000010)
+      ≡ text_of_lines (codes "why: memory 0xc0000010: slot 1 bar1 offset 0x10 answers" ∷ [])
+  pub nowhere :
+      guest_why_text placed_guest (address 0xd0000000)
+      ≡ text_of_lines (codes "why: memory 0xd0000000: nobody answers" ∷ [])
+  pub closed :
+      guest_why_text based_guest (address 0xc0000010)
+      ≡ text_of_lines (
+      codes "why: memory 0xc0000010: nobody answers"
+      ∷ codes "why: slot 1 bar1 at 0xc0000000 size 0x1000: closed, Command 0x0000" ∷ [])
+  pub slot :
+      guest_why_text placed_guest (configuration 1 0x10)
+      ≡ text_of_lines (codes "why: slot 1 offset 0x10: slot 1 configuration offset 0x10 answers" ∷ [])
+  pub empty_slot :
+      guest_why_text placed_guest (configuration 2 0)
+      ≡ text_of_lines (codes "why: slot 2 offset 0x0: slot 2 is empty" ∷ [])
+  pub latch :
+      guest_why_text (with_latch 0x80000804) (port 0xcfe)
+      ≡ text_of_lines (
+      codes "why: I/O 0xcfe: offset 0x6 of 00:01.0 by the latch, 0x80000804"
+      ∷ codes "why: I/O 0xcfe: slot 1 configuration offset 0x6 answers" ∷ [])
+  pub empty_by_latch :
+      guest_why_text (with_latch 0x80001000) (port 0xcfc)
+      ≡ text_of_lines (
+      codes "why: I/O 0xcfc: offset 0x0 of 00:02.0 by the latch, 0x80001000"
+      ∷ codes "why: I/O 0xcfc: slot 2 is empty" ∷ [])
+  pub beyond :
+      guest_why_text (with_latch 0x80010000) (port 0xcfc)
+      ≡ text_of_lines (
+      codes "why: I/O 0xcfc: offset 0x0 of 01:00.0 by the latch, 0x80010000"
+      ∷ codes "why: I/O 0xcfc: 01:00.0 is no slot" ∷ [])
+  pub hidden :
+      guest_why_text (with_latch 0x800) (port 0xcfc)
+      ≡ text_of_lines (
+      codes "why: I/O 0xcfc: not enabled by the latch, 0x800"
+      ∷ codes "why: I/O 0xcfc: nobody answers"
+      ∷ [])

@@ -1,0 +1,129 @@
+-- Why an address finds what it finds, or nobody, in any register state: PCI Local Bus 3.0, chapter 6.2.5; PCI-to-PCI
+-- Bridge Architecture 1.2, chapters 3.2.5 and 4.
+--     NamedWindow, windows_now      the windows that a bridge has for a space, each with its addresses or shut
+--     Hindrance, hindrance      what keeps a bridge from forwarding
+--     Cause      a region is closed, or is behind a bridge that doesn't forward
+--     closing, stops, causes_of      its Command, all such bridges, and both: the causes for the regions of a function
+--     Told, told fs space n      each region that holds an address, but for the one that answers, with all its causes
+--     is_as_at_reset      one that was never placed, so far as registers tell
+--     Why, why fs space n      who answers, and what is told
+use Rattle.std.specs.Prelude.{List, [], ◌∷◌, ◌++◌, ℕ, Bool, true, false, ◌&&◌, ◌==◌, not, if◌then◌else◌, Option, Some, None}
+use Rattle.std.specs.Prelude.{map, filter, flat_map, reverse}
+use Rattle.std.specs.Option.{option_to_list}
+use Rattle.model_registers.specs.Registers.{File}
+use Rattle.model_registers.specs.Declarations.{Bridge, IoDecode, no_io, io16, io32, PrefDecode, no_pref, pref32, pref64}
+use Rattle.model_registers.specs.Decoding.{Space, io, memory, command_word, is_open}
+use Rattle.model_board.specs.Paths.{Path, path_eq, leads_to}
+use Rattle.model_board.specs.Board.{endpoint, bridge}
+use Rattle.model_board.specs.State.{BoardFunction}
+use Rattle.model_board.specs.Windows.{Window, io_window, mem_window, pref_window, forwards}
+use Rattle.model_board.specs.Claims.{Claim, first_claim}
+use Rattle.model_board.specs.Routing.{row_of}
+use Rattle.model_set_up.specs.PlacedRegions.{PlacedRegion, holds}
+use Rattle.model_findings.specs.OpenRegions.{regions_of}
+
+-- ---- what a bridge has
+
+pub data WindowName : Type 0 where
+  for_io : WindowName
+  for_memory : WindowName
+  for_prefetchable : WindowName
+
+-- none where it is shut, as its base is above its limit
+pub record NamedWindow : Type 0 where
+  pub name : WindowName
+  pub window : Option Window
+
+abbrev pub named : WindowName → Option Window → NamedWindow
+named name w = record { name = name; window = w }
+
+-- none without the decode
+abbrev pub io_windows : IoDecode → Option Window → List NamedWindow
+io_windows no_io w = []
+io_windows io16 w = named for_io w ∷ []
+io_windows io32 w = named for_io w ∷ []
+
+abbrev pub pref_windows : PrefDecode → Option Window → List NamedWindow
+pref_windows no_pref w = []
+pref_windows pref32 w = named for_prefetchable w ∷ []
+pref_windows pref64 w = named for_prefetchable w ∷ []
+
+abbrev pub windows_now : Bridge → File → Space → List NamedWindow
+windows_now d file io = io_windows d.io (io_window d.io file)
+windows_now d file memory = named for_memory (mem_window file) ∷ pref_windows d.pref (pref_window d.pref file)
+
+-- ---- what keeps a region from answering
+
+pub data Hindrance : Type 0 where
+  -- Command doesn't open the space
+  closes : ℕ → Hindrance
+  -- no window of the space holds the address
+  misses : List NamedWindow → Hindrance
+
+abbrev pub hindrance : Space → BoardFunction → Hindrance
+hindrance space f = elim f.decl [
+  | endpoint d ↦ misses []
+  | bridge d ↦
+      if is_open f.file space then misses (windows_now d f.file space) else closes (command_word f.file)
+]
+
+pub data Cause : Type 0 where
+  -- this Command doesn't open its space
+  closed_by : ℕ → Cause
+  -- a bridge above it that doesn't forward the address
+  stopped_at : Path → Hindrance → Cause
+
+abbrev pub closing : Space → BoardFunction → List Cause
+closing space f = if is_open f.file space then [] else closed_by (command_word f.file) ∷ []
+
+abbrev pub stop : Space → ℕ → Path → BoardFunction → Option Cause
+stop space n p f =
+    if leads_to f.path p && not (forwards space n f) then Some (stopped_at f.path (hindrance space f)) else None
+
+-- those of the bridges above, from bus 0 down
+abbrev pub stops : List BoardFunction → Space → ℕ → Path → List Cause
+stops fs space n p = flat_map (λ f. option_to_list (stop space n p f)) fs
+
+-- the nearest to the function first; a region without a cause would answer, if no other did
+abbrev pub causes_of : List BoardFunction → Space → ℕ → BoardFunction → List Cause
+causes_of fs space n f = reverse (stops fs space n f.path ++ closing space f)
+
+-- ---- what is told
+
+pub record Told : Type 0 where
+  pub region : PlacedRegion
+  pub causes : List Cause
+
+abbrev pub is_answer : Option Claim → PlacedRegion → Bool
+is_answer None q = false
+is_answer (Some c) q = path_eq c.path q.path && c.index == q.index
+
+-- open or closed
+abbrev pub holders : Space → ℕ → BoardFunction → List PlacedRegion
+holders space n f = filter (holds space n) (regions_of (row_of f))
+
+abbrev pub told_of : List BoardFunction → Space → ℕ → BoardFunction → List Told
+told_of fs space n f =
+    map (λ q. record { region = q; causes = causes_of fs space n f })
+    (filter (λ q. not (is_answer (first_claim fs space n) q)) (holders space n f))
+
+-- in path order, then by register
+abbrev pub told : List BoardFunction → Space → ℕ → List Told
+told fs space n = flat_map (told_of fs space n) fs
+
+-- a Command is the nearest cause
+abbrev pub is_closed : List Cause → Bool
+is_closed [] = false
+is_closed (closed_by command ∷ cs) = true
+is_closed (stopped_at p h ∷ cs) = false
+
+-- as at reset its base is 0 and its function's Command doesn't open its space
+abbrev pub is_as_at_reset : Told → Bool
+is_as_at_reset t = t.region.first == 0 && is_closed t.causes
+
+pub record Why : Type 0 where
+  pub answer : Option Claim
+  pub told : List Told
+
+abbrev pub why : List BoardFunction → Space → ℕ → Why
+why fs space n = record { answer = first_claim fs space n; told = told fs space n }

@@ -1,0 +1,133 @@
+-- What is told of an address and of a configuration number is so, and nothing is left out: PCI Local Bus 3.0, chapter
+-- 6.2.5; PCI-to-PCI Bridge Architecture 1.2, chapters 3 and 4.
+--     IsTrueHindrance, IsStopped, IsTrueCause      what a cause says
+--     IsTrueTold      a told region holds the address, is not the answering one, and has these causes and no other
+--     IsAnswering      what it says of a claim that it answers
+--     IsExplained, AddressesExplained      who answers, and each region that holds the address
+--     OrderlyAnswersAlone      in an orderly state no other region would answer too
+--     ReadyTellsNothing      in a ready state nothing is told: a region that holds an address answers
+--     IsWay      each bridge takes the cycle on the bus behind the one before
+--     IsMissing, IsNumberExplained, NumbersExplained      where a cycle ends, and what is missing there
+use Rattle.std.specs.Prelude.{List, [], ◌∷◌, ◌++◌, ◌≡◌, ℕ, ◌-◌, Some, None, IsTrue, IsFalse, ◌⊎◌, ⊤}
+use Rattle.model_registers.specs.Apertures.{Apertures}
+use Rattle.lists.specs.Elements.{IsIn, Each}
+use Rattle.model_registers.specs.Decoding.{Space, command_word, is_open}
+use Rattle.model_board.specs.Board.{endpoint, bridge}
+use Rattle.model_board.specs.Paths.{Path, leads_to, parent}
+use Rattle.model_board.specs.State.{BoardFunction}
+use Rattle.model_board.specs.Windows.{is_in, forwards}
+use Rattle.model_board.specs.Claims.{Claim, is_forwarded, claims, first_claim}
+use Rattle.model_board.specs.Cycles.{covers, taker, BusAddress, reached}
+use Rattle.model_board.specs.Routing.{row_of, routing}
+use Rattle.model_set_up.specs.PlacedRegions.{PlacedRegion, holds}
+use Rattle.model_findings.specs.OpenRegions.{regions_of}
+use Rattle.model_findings.specs.Orderly.{IsOrderly, IsStateOfBoard}
+use Rattle.model_findings.specs.Lacks.{IsReady}
+use Rattle.model_lines.specs.Why.{NamedWindow, windows_now, Hindrance, closes, misses, hindrance, Cause}
+use Rattle.model_lines.specs.Why.{closed_by, stopped_at, Told, is_answer, told, is_as_at_reset, why}
+use Rattle.model_lines.specs.Ways.{bridges_on_way, end_of, reached_at, Missing, no_bridge}
+use Rattle.model_lines.specs.Ways.{no_function, missing}
+
+-- ---- an address
+
+-- a window that is shut holds nothing
+abbrev pub LiesOutside : ℕ → NamedWindow → Type 0
+LiesOutside n w = IsFalse (is_in n w.window)
+
+-- the windows that a bridge has for the space; an endpoint has none
+abbrev pub windows_at : Space → BoardFunction → List NamedWindow
+windows_at space f = elim f.decl [ endpoint d ↦ [] | bridge d ↦ windows_now d f.file space ]
+
+abbrev pub IsTrueHindrance : Space → ℕ → BoardFunction → Hindrance → Type 0
+IsTrueHindrance space n f (closes command) = (command ≡ command_word f.file) × IsFalse (is_open f.file space)
+IsTrueHindrance space n f (misses ws) = (ws ≡ windows_at space f) × Each (LiesOutside n) ws
+
+-- a bridge above the path that doesn't forward the address
+pub record IsStopped (fs : List BoardFunction) (space : Space) (n : ℕ) (p bridge : Path) (h : Hindrance) : Type 0 where
+  pub function : BoardFunction
+  pub there : IsIn function fs
+  pub bridge_is : function.path ≡ bridge
+  pub above : IsTrue (leads_to bridge p)
+  pub stops : IsFalse (forwards space n function)
+  pub hindrance_is : IsTrueHindrance space n function h
+
+abbrev pub claim_there : ℕ → PlacedRegion → Claim
+claim_there n q = record { path = q.path; index = q.index; offset = n - q.first }
+
+abbrev pub IsTrueCause : List BoardFunction → Space → ℕ → BoardFunction → Cause → Type 0
+IsTrueCause fs space n f (closed_by command) = (command ≡ command_word f.file) × IsFalse (is_open f.file space)
+IsTrueCause fs space n f (stopped_at p h) = IsStopped fs space n f.path p h
+
+pub record IsTrueTold (fs : List BoardFunction) (space : Space) (n : ℕ) (t : Told) : Type 0 where
+  pub function : BoardFunction
+  pub there : IsIn function fs
+  pub region : IsIn t.region (regions_of (row_of function))
+  pub byte : IsTrue (holds space n t.region)
+  pub other : IsFalse (is_answer (first_claim fs space n) t.region)
+  pub causes : Each (IsTrueCause fs space n function) t.causes
+  -- all of them
+  pub command : IsFalse (is_open function.file space) → IsIn (closed_by (command_word function.file)) t.causes
+  pub bridges : (g : BoardFunction) → IsIn g fs → IsTrue (leads_to g.path function.path) → IsFalse (forwards space n g)
+      → IsIn (stopped_at g.path (hindrance space g)) t.causes
+  -- without a cause it would answer
+  pub too : t.causes ≡ [] → IsIn (claim_there n t.region) (claims fs space n)
+  pub at_reset : IsTrue (is_as_at_reset t) → (t.region.first ≡ 0) × IsFalse (is_open function.file space)
+
+-- the region of an open endpoint that holds the address, with each bridge above forwarding it
+pub record IsAnswering (fs : List BoardFunction) (space : Space) (n : ℕ) (c : Claim) : Type 0 where
+  pub function : BoardFunction
+  pub there : IsIn function fs
+  pub region : PlacedRegion
+  pub declared : IsIn region (regions_of (row_of function))
+  pub byte : IsTrue (holds space n region)
+  pub opened : IsTrue (is_open function.file space)
+  pub forwarded : IsTrue (is_forwarded fs function.path space n)
+  pub claim_is : c ≡ claim_there n region
+
+pub record IsExplained (fs : List BoardFunction) (space : Space) (n : ℕ) : Type 0 where
+  pub answer : (why fs space n).answer ≡ first_claim fs space n
+  pub answering : (c : Claim) → (why fs space n).answer ≡ Some c → IsAnswering fs space n c
+  pub true_each : Each (IsTrueTold fs space n) (why fs space n).told
+  -- a region that holds the address answers, or is told
+  pub complete : (f : BoardFunction) → IsIn f fs → (q : PlacedRegion) → IsIn q (regions_of (row_of f))
+      → IsTrue (holds space n q)
+      → IsTrue (is_answer (first_claim fs space n) q) ⊎ ((t : Told) × IsIn t (told fs space n) × (t.region ≡ q))
+  -- where nobody answers, each has a cause
+  pub nobody : first_claim fs space n ≡ None → Each (λ t. t.causes ≡ [] → ⊥) (told fs space n)
+
+abbrev pub AddressesExplained : Type 0
+AddressesExplained = (fs : List BoardFunction) (space : Space) (n : ℕ) → IsExplained fs space n
+
+abbrev pub OrderlyAnswersAlone : Type 0
+OrderlyAnswersAlone = (fs : List BoardFunction) → IsStateOfBoard fs → IsOrderly (routing fs)
+    → (space : Space) (n : ℕ) → Each (λ t. t.causes ≡ [] → ⊥) (told fs space n)
+
+abbrev pub ReadyTellsNothing : Type 0
+ReadyTellsNothing = (a : Apertures) (fs : List BoardFunction) → IsStateOfBoard fs → IsReady a fs
+    → (space : Space) (n : ℕ) → told fs space n ≡ []
+
+-- ---- a configuration number
+
+-- from a bus down, each is the first on its bus that takes the cycle
+abbrev pub IsWay : List BoardFunction → ℕ → Path → List BoardFunction → Type 0
+IsWay fs n bus [] = ⊤
+IsWay fs n bus (f ∷ gs) = (taker fs bus n ≡ Some f) × IsWay fs n f.path gs
+
+-- the bus behind the last of some bridges
+abbrev pub bus_after : Path → List BoardFunction → Path
+bus_after bus [] = bus
+bus_after bus (f ∷ fs) = bus_after f.path fs
+
+abbrev pub IsMissing : List BoardFunction → BusAddress → Missing → Type 0
+IsMissing fs at (no_bridge p n) =
+    (n ≡ at.bus) × (p ≡ bus_after [] (bridges_on_way fs at)) × Each (λ f. parent f.path ≡ p → IsFalse (covers n f)) fs
+IsMissing fs at (no_function p t) =
+    (t ≡ at.part) × (p ≡ bus_after [] (bridges_on_way fs at)) × Each (λ f. f.path ≡ p ++ t ∷ [] → ⊥) fs
+
+pub record IsNumberExplained (fs : List BoardFunction) (at : BusAddress) : Type 0 where
+  pub way : IsWay fs at.bus [] (bridges_on_way fs at)
+  pub reached_is : reached fs at ≡ reached_at fs (end_of fs at) at.part
+  pub missing_is : (m : Missing) → missing fs at (reached fs at) ≡ Some m → (reached fs at ≡ None) × IsMissing fs at m
+
+abbrev pub NumbersExplained : Type 0
+NumbersExplained = (fs : List BoardFunction) → IsStateOfBoard fs → (at : BusAddress) → IsNumberExplained fs at

@@ -1,0 +1,98 @@
+-- Why an I/O port finds what it finds, beside the address latch: PCI Local Bus 3.0, chapter 3.2.2.3.2.
+--     PortUse, port_use latch n      what the latch makes of a port
+--     target_by w u      where an access of w bytes goes then
+--     use_lines, found_lines      the line of what the latch makes of a port, and those of what is found there
+--     why_port_text s n      both
+--     PortsByLatch      each access at a port goes there
+--     PortExamples      what is told of some ports
+use Rattle.std.specs.Prelude.{List, [], ◌∷◌, ◌++◌, ◌≡◌, ℕ, ◌==◌, if◌then◌else◌, map, codes}
+use Rattle.model_registers.specs.Decoding.{io}
+use Rattle.model_board.specs.State.{State}
+use Rattle.model_board.specs.Cycles.{BusAddress}
+use Rattle.model_board.specs.Ports.{is_enabled, selected, PortTarget, config_address, config_data, ordinary, port_target}
+use Rattle.model_registers.specs.ConfigAddress.{is_data_port, selected_offset}
+use Rattle.model_guests.specs.Text.{Text, text_of_lines}
+use Rattle.model_guests.specs.PathTexts.{hexadecimal}
+use Rattle.model_findings.specs.AuditText.{space_text, number_text}
+use Rattle.model_lines.specs.Why.{why}
+use Rattle.model_lines.specs.Ways.{why_number}
+use Rattle.model_lines.specs.WhyText.{why_line, why_lines, number_lines}
+use Rattle.model_findings.specs.ReadyExamples.{left}
+
+pub data PortUse : Type 0 where
+  -- 4 bytes are the latch; fewer are those of a port like others
+  holds_latch : PortUse
+  -- a byte of configuration space, which the latch selects
+  shows_data : BusAddress → ℕ → PortUse
+  -- a port like others, as the latch isn't enabled
+  hides_data : PortUse
+  like_others : PortUse
+
+abbrev pub port_use : ℕ → ℕ → PortUse
+port_use latch n =
+    if n == 0xcf8 then holds_latch
+    else (if is_data_port n
+    then (if is_enabled latch then shows_data (selected latch) (selected_offset latch n) else hides_data)
+    else like_others)
+
+abbrev pub target_by : ℕ → PortUse → PortTarget
+target_by w holds_latch = if w == 4 then config_address else ordinary
+target_by w (shows_data at off) = config_data at off
+target_by w hides_data = ordinary
+target_by w like_others = ordinary
+
+abbrev pub PortsByLatch : Type 0
+PortsByLatch = (latch n w : ℕ) → port_target latch n w ≡ target_by w (port_use latch n)
+
+-- ---- text
+
+abbrev pub port_text : ℕ → Text
+port_text n = space_text io ++ codes " " ++ hexadecimal n ++ codes ": "
+
+abbrev pub latch_text : ℕ → Text
+latch_text latch = codes "the latch, " ++ hexadecimal latch
+
+abbrev pub use_lines : ℕ → ℕ → PortUse → List Text
+use_lines latch n holds_latch = (port_text n ++ codes "4 bytes are " ++ latch_text latch) ∷ []
+use_lines latch n (shows_data at off) =
+    (port_text n ++ codes "offset " ++ hexadecimal off ++ codes " of " ++ number_text at ++ codes " by "
+    ++ latch_text latch) ∷ []
+use_lines latch n hides_data = (port_text n ++ codes "not enabled by " ++ latch_text latch) ∷ []
+use_lines latch n like_others = []
+
+abbrev pub found_lines : State → ℕ → PortUse → List Text
+found_lines s n holds_latch = why_lines io n (why s.functions io n)
+found_lines s n (shows_data at off) = number_lines at (why_number s.functions at)
+found_lines s n hides_data = why_lines io n (why s.functions io n)
+found_lines s n like_others = why_lines io n (why s.functions io n)
+
+abbrev pub port_lines : State → ℕ → PortUse → List Text
+port_lines s n u = use_lines s.latch n u ++ found_lines s n u
+
+abbrev pub why_port_text : State → ℕ → Text
+why_port_text s n = text_of_lines (map why_line (port_lines s n (port_use s.latch n)))
+
+-- ---- worked examples
+
+abbrev pub latched_at : ℕ → State
+latched_at latch = record { functions = left; latch = latch }
+
+pub record PortExamples : Type 0 where
+  pub latch :
+      why_port_text (latched_at 0x80000800) 0xcf8
+      ≡ text_of_lines (
+      codes "why: I/O 0xcf8: 4 bytes are the latch, 0x80000800"
+      ∷ codes "why: I/O 0xcf8: nobody answers" ∷ [])
+  pub shown :
+      why_port_text (latched_at 0x80000804) 0xcfe
+      ≡ text_of_lines (
+      codes "why: I/O 0xcfe: offset 0x6 of 00:01.0 by the latch, 0x80000804"
+      ∷ codes "why: 00:01.0 reaches 1.0" ∷ [])
+  pub hidden :
+      why_port_text (latched_at 0x800) 0xcfc
+      ≡ text_of_lines (
+      codes "why: I/O 0xcfc: not enabled by the latch, 0x800"
+      ∷ codes "why: I/O 0xcfc: nobody answers" ∷ [])
+  pub beside :
+      why_port_text (latched_at 0x80000800) 0xcf9
+      ≡ text_of_lines (codes "why: I/O 0xcf9: nobody answers" ∷ [])

@@ -1,0 +1,112 @@
+-- The text of why an address or a configuration number finds what it finds: who answers, and a line for each cause.
+--     window_text, hindrance_text, cause_text, causes_text      a window, what a bridge lacks, a cause, and all of a region
+--     at_reset_lines      how many regions are as at reset, in one line
+--     why_text      the lines of an address
+--     why_number_text      the lines of a configuration number
+use Rattle.std.specs.Prelude.{List, [], ◌∷◌, ◌++◌, ℕ, ◌==◌, not, if◌then◌else◌, length, map, filter, flat_map, codes, decimal}
+use Rattle.std.specs.Option.{option_map_or}
+use Rattle.std.specs.Prelude.{Option, Some, None}
+use Rattle.model_registers.specs.Decoding.{Space}
+use Rattle.model_board.specs.Paths.{Path}
+use Rattle.model_board.specs.State.{BoardFunction}
+use Rattle.model_board.specs.Windows.{Window}
+use Rattle.model_board.specs.Claims.{Claim}
+use Rattle.model_board.specs.Cycles.{BusAddress}
+use Rattle.model_guests.specs.Text.{Text, text_of_lines}
+use Rattle.model_guests.specs.Replies.{hex_digits}
+use Rattle.model_guests.specs.PathTexts.{hexadecimal, part_text, path_text}
+use Rattle.model_findings.specs.AuditText.{register_text, region_text, space_text, number_text}
+use Rattle.model_lines.specs.Why.{WindowName, for_io, for_memory, for_prefetchable, NamedWindow, Hindrance, closes, misses, Cause, closed_by}
+use Rattle.model_lines.specs.Why.{stopped_at, Told, is_as_at_reset, Why, why}
+use Rattle.model_lines.specs.Ways.{Missing, no_bridge, no_function, WhyNumber, why_number}
+
+abbrev pub command_text : ℕ → Text
+command_text command = codes "Command 0x" ++ hex_digits 4 command
+
+abbrev pub name_text : WindowName → Text
+name_text for_io = codes "I/O"
+name_text for_memory = codes "memory"
+name_text for_prefetchable = codes "prefetchable"
+
+abbrev pub range_text : Window → Text
+range_text w = hexadecimal w.first ++ codes ".." ++ hexadecimal w.last
+
+abbrev pub window_text : NamedWindow → Text
+window_text w = name_text w.name ++ codes " " ++ option_map_or range_text w.window (codes "shut")
+
+-- a bridge has two at most
+abbrev pub windows_text : List NamedWindow → Text
+windows_text [] = codes "no window"
+windows_text (w ∷ []) = window_text w
+windows_text (w ∷ v ∷ ws) = window_text w ++ codes ", " ++ window_text v
+
+abbrev pub hindrance_text : Space → Hindrance → Text
+hindrance_text space (closes command) = command_text command ++ codes " closes " ++ space_text space
+hindrance_text space (misses ws) = windows_text ws
+
+abbrev pub cause_text : Space → Cause → Text
+cause_text space (closed_by command) = codes "closed, " ++ command_text command
+cause_text space (stopped_at p h) = path_text p ++ codes " doesn't forward it, " ++ hindrance_text space h
+
+abbrev pub more_text : Space → List Cause → Text
+more_text space cs = flat_map (λ c. codes "; " ++ cause_text space c) cs
+
+abbrev pub causes_text : Space → List Cause → Text
+causes_text space [] = codes "would answer too"
+causes_text space (c ∷ cs) = cause_text space c ++ more_text space cs
+
+abbrev pub told_text : Space → Told → Text
+told_text space t = region_text t.region ++ codes ": " ++ causes_text space t.causes
+
+-- those as at reset are told by their number alone
+abbrev pub apart : List Told → List Told
+apart ts = filter (λ t. not (is_as_at_reset t)) ts
+
+abbrev pub at_reset : List Told → ℕ
+at_reset ts = length (filter is_as_at_reset ts)
+
+abbrev pub at_reset_lines : ℕ → List Text
+at_reset_lines n =
+    if n == 0 then []
+    else (decimal n ++ (if n == 1 then codes " region" else codes " regions") ++ codes " at 0x0, closed as at reset") ∷ []
+
+abbrev pub claim_text : Claim → Text
+claim_text c = path_text c.path ++ register_text c.index ++ codes " offset " ++ hexadecimal c.offset ++ codes " answers"
+
+abbrev pub why_line : Text → Text
+why_line text = codes "why: " ++ text
+
+abbrev pub why_lines : Space → ℕ → Why → List Text
+why_lines space n w =
+    (space_text space ++ codes " " ++ hexadecimal n ++ codes ": "
+    ++ option_map_or claim_text w.answer (codes "nobody answers"))
+    ∷ map (told_text space) (apart w.told) ++ at_reset_lines (at_reset w.told)
+
+abbrev pub why_text : List BoardFunction → Space → ℕ → Text
+why_text fs space n = text_of_lines (map why_line (why_lines space n (why fs space n)))
+
+-- ---- a configuration number
+
+-- [] names bus 0
+abbrev pub bus_text : Path → Text
+bus_text [] = codes "on bus 00"
+bus_text (p ∷ ps) = codes "behind " ++ path_text (p ∷ ps)
+
+abbrev pub missing_text : Missing → Text
+missing_text (no_bridge p n) = codes "no bridge " ++ bus_text p ++ codes " takes bus " ++ hex_digits 2 n
+missing_text (no_function p t) = codes "no function " ++ part_text t ++ codes " " ++ bus_text p
+
+abbrev pub taker_text : BusAddress → Path → Text
+taker_text at p = path_text p ++ codes " takes bus " ++ hex_digits 2 at.bus
+
+abbrev pub missing_lines : Option Missing → List Text
+missing_lines None = []
+missing_lines (Some m) = missing_text m ∷ []
+
+abbrev pub number_lines : BusAddress → WhyNumber → List Text
+number_lines at w =
+    (number_text at ++ codes " reaches " ++ option_map_or path_text w.reached (codes "nothing"))
+    ∷ map (taker_text at) w.bridges ++ missing_lines w.missing
+
+abbrev pub why_number_text : List BoardFunction → BusAddress → Text
+why_number_text fs at = text_of_lines (map why_line (number_lines at (why_number fs at)))

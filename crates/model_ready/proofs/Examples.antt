@@ -1,7 +1,0 @@
--- The worked examples, by computation.
-use Rattle.std.specs.Fmt.{digits}
-use Rattle.model_ready.specs.ReadyExamples.{ReadyExamples}
-
-pub ready_examples : ReadyExamples
-unfolding digits
-ready_examples = assumption

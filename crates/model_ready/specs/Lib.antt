@@ -1,4 +1,0 @@
-pub mod Lacks
-pub mod ReadyLaws
-pub mod ReadyText
-pub mod ReadyExamples

@@ -1,7 +1,0 @@
--- The worked examples, by computation.
-use Rattle.std.specs.Fmt.{digits}
-use Rattle.model_why.specs.WhyExamples.{WhyExamples}
-
-pub why_examples : WhyExamples
-unfolding digits
-why_examples = assumption

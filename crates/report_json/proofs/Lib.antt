@@ -1,4 +1,0 @@
-pub mod NoFloats
-pub mod RowValues
-pub mod RowsOfJson
-pub mod SetUpValue

@@ -1,9 +1,0 @@
-use Rattle.std.proofs.Common.{◌≡◌, ◌++◌, drop, length, map}
-use Rattle.serde_json.specs.View.{view}
-use Rattle.report_json.specs.Found.{found_functions}
-use Rattle.report_json.proofs.functions.function_values.Given as goal
-
-abbrev pub invariant-loop-row : goal.invariant-loop-row
-invariant-loop-row l =
-    map view l.values.items ++ found_functions (drop (length l.yielded) l.rows) (drop (length l.yielded) l.settings)
-    ≡ found_functions l.rows l.settings

@@ -1,2 +1,0 @@
-pub mod ReportValue
-pub mod Found
