@@ -5,6 +5,7 @@ pub mod DeclaredBytes
 pub mod ComparedBytes
 pub mod Lengths
 pub mod TakenValues
+pub mod Feeding
 pub mod Runs
 pub mod ShownValues
 pub mod ComparedFunctions

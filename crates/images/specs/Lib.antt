@@ -2,6 +2,8 @@ pub mod Cells
 pub mod Faults
 pub mod Parts
 pub mod Puts
+pub mod SinkLaws
+pub mod Sinks
 pub mod Shown
 pub mod MachineFaults
 pub mod BoardBytes
