@@ -89,41 +89,39 @@ static inline void pg_store(uint64_t address, int width, uint32_t value)
 
 /* ---- questions */
 
-/* A reply's last line counts what is told in the lines above it. Whether this one does: as `audit: ok`, or `ready: 2 lacks`. */
+/* A reply's last line counts what is told in the lines above it. Whether this one does: as `audit: ok`, `ready: 2 lacks`, or
+ * `why: 3 lines`. */
 static inline int pg_is_count(const char *line, unsigned long *count)
 {
-    int audit = 0, ready = 0;
+    int audit = 0, ready = 0, why = 0;
 
     if (sscanf(line, "audit: %lu problem%n", count, &audit) == 1 && audit > 0)
         return 1;
     if (sscanf(line, "ready: %lu lack%n", count, &ready) == 1 && ready > 0)
+        return 1;
+    if (sscanf(line, "why: %lu line%n", count, &why) == 1 && why > 0)
         return 1;
     *count = 0;
     return strcmp(line, "audit: ok\n") == 0 || strcmp(line, "ready: ok\n") == 0;
 }
 
 /* Asks `host audit`, `host ready` or `host why ..`, and writes the lines of the reply to a stream, as stderr, or nowhere for
- * NULL. It gives how many problems and lacks are counted, and of `host why ..` how many lines tell why: as that reply has no
- * last line of its own, the address latch is read behind it, which changes nothing. */
+ * NULL. It gives how many problems and lacks are counted, and of `host why ..` how many lines tell why. */
 static inline unsigned long pg_question(const char *question, FILE *out)
 {
-    int asks_why = strncmp(question, "host why ", 9) == 0;
-    unsigned long told = 0, count = 0;
+    unsigned long count = 0;
     char line[1024] = "";
 
-    if (printf("%s\n%s", question, asks_why ? "host ir 0xcf8 4\n" : "") < 0 || fflush(stdout) != 0) {
+    if (printf("%s\n", question) < 0 || fflush(stdout) != 0) {
         fprintf(stderr, "nobody takes: %s\n", question);
         exit(3);
     }
     while (fgets(line, sizeof line, stdin) != NULL && strncmp(line, "host: ", 6) != 0) {
         if (out != NULL)
             fputs(line, out);
-        told++;
-        if (!asks_why && pg_is_count(line, &count))
+        if (pg_is_count(line, &count))
             return count;
     }
-    if (asks_why && strncmp(line, "host: 0x", 8) == 0)
-        return told;
     fprintf(stderr, "%s: %s", question, line[0] ? line : "no reply\n");
     exit(3);
 }

@@ -6,7 +6,8 @@ const HEAD = 'why: ';
 const ALL_ONES = /^(\S+): 0x(?:ff){1,4}$/;
 export const SPACE_READ = { cr: 'cfg', ir: 'io', mr: 'mem' };
 
-const ANSWERS = /^(?:I\/O|memory) 0x[0-9a-f]+: (?:(\S+) (bar\d) offset 0x[0-9a-f]+ answers|nobody answers)$/;
+const ANSWERS = /^(?:I\/O|memory) 0x[0-9a-f]+: (?:(\S+) (bar\d) offset 0x[0-9a-f]+ answers|(?:nobody|no region) answers)$/;
+const FORWARDS = /^(\S+) forwards it to bus [0-9a-f]{2}$/;
 const REACHES = /^[0-9a-f]{2}:[0-9a-f]{2}\.[0-7] reaches (?:nothing|(\S+))$/;
 const LATCH = /^I\/O 0x[0-9a-f]+: (?:4 bytes are|offset 0x[0-9a-f]+ of \S+ by|not enabled by) the latch, 0x[0-9a-f]+$/;
 const HOLDS = /^(\S+) (bar\d) at (0x[0-9a-f]+) size (0x[0-9a-f]+): (.*)$/;
@@ -14,6 +15,8 @@ const KEPT_BY = /^(?:closed, Command 0x[0-9a-f]{4}|would answer too|(\S+) doesn'
 const AT_RESET = /^\d+ regions? at 0x0, closed as at reset$/;
 const WINDOWS = /(I\/O|memory|prefetchable) (0x[0-9a-f]+)\.\.(0x[0-9a-f]+)/g;
 const TAKES = /^(\S+) takes bus [0-9a-f]{2}$/;
+const HAS_NUMBER = /^(\S+) has this number (?:on bus 00|behind \S+)$/;
+const TOTAL = /^\d+ lines?$/;
 const MISSING = /^no (?:bridge|function \S+) (?:on bus 00|behind (\S+))(?: takes bus [0-9a-f]{2})?$/;
 
 const GUEST_FINDS = /^(?:I\/O|memory|slot \d+ offset) 0x[0-9a-f]+: (?:slot (\d+) (?:(bar\d)|configuration) offset 0x[0-9a-f]+ answers|nobody answers|slot \d+ is empty|[0-9a-f]{2}:[0-9a-f]{2}\.[0-7] is no slot)$/;
@@ -55,8 +58,9 @@ function kept_back([, path, register, base, size, why], space) {
 // A line without its head: the functions that it names, where they stand that it tells of, and whether it is a cause.
 function line_of_why(text, space) {
   const one = { text, of: [], places: [], number: null, is_cause: false };
-  const [answers, reaches, holds, takes, missing] = [ANSWERS, REACHES, HOLDS, TAKES, MISSING].map(form => form.exec(text));
+  const [answers, forwards, reaches, has_number, holds, takes, missing] = [ANSWERS, FORWARDS, REACHES, HAS_NUMBER, HOLDS, TAKES, MISSING].map(form => form.exec(text));
   if (answers) return { ...one, of: answers[1] === undefined ? [] : [named(answers[1], answers[2])] };
+  if (forwards ?? has_number) return { ...one, of: [named((forwards ?? has_number)[1])] };
   if (reaches) return { ...one, of: named_if(reaches[1]) };
   if (LATCH.test(text) || AT_RESET.test(text)) return one;
   const cause = holds ? kept_back(holds, space) : takes ? { of: [named(takes[1])] } : missing ? { of: named_if(missing[1]) } : null;
@@ -78,6 +82,9 @@ function read_lines(text, read) {
   return lines.includes(null) ? null : lines;
 }
 
-// The lines of firmware's reply, and those of what a guest is told; null where the text is none.
-export const read_why = text => read_lines(text, line_of_why);
+// The lines of firmware's reply, without the last one, which counts them, and those of what a guest is told; null where the text is none.
+export function read_why(text) {
+  const lines = text.split('\n'), last = lines.pop();
+  return last.startsWith(HEAD) && TOTAL.test(last.slice(HEAD.length)) ? read_lines(lines.join('\n'), line_of_why) : null;
+}
 export const read_why_of_guest = (text, path_of) => read_lines(text, line => line_for_guest(line, path_of));

@@ -45,7 +45,7 @@ def a_reply_is_asked(browser, page):
     count = browser.run("document.querySelectorAll('#transcript .row').length")
     for line in ['host cw 00:02.0 0x20 4 0xc000c000', 'host cw 00:02.0 4 2 3']:
         type_line(browser, line)
-    holds('it follows what is written', browser.run(LINES) == ['memory 0xc0000000: 2.0/0.0 bar0 offset 0x0 answers'], browser.run(LINES))
+    holds('it follows what is written', browser.run(LINES) == ['memory 0xc0000000: 2.0/0.0 bar0 offset 0x0 answers', '2.0 forwards it to bus 01'], browser.run(LINES))
     holds('and what is marked with it', [browser.run(SIGNS), browser.run(BARS)] == [[], [0, 1, 1]], browser.run(BARS))
     holds('what is asked is none of the lines', browser.run("document.querySelectorAll('#transcript .row').length") == count + 2)
     browser.run(f'{LAST}.focus()')
@@ -87,12 +87,13 @@ def a_lost_function_is_asked(browser, page):
     browser.run(f'{chip}.focus()')
     holds('a function that is not found says that it can be asked', 'a click or Enter asks why' in text_of(browser, 'told'), text_of(browser, 'told'))
     browser.press('Enter')
-    holds('it tells what its number reaches', browser.run(LINES) == ['01:00.0 reaches 2.0/0.0', '2.0 takes bus 01'], browser.run(LINES))
+    wanted = ['01:00.0 reaches 2.0/0.0', '2.0 takes bus 01', '3.0 takes bus 01', '3.0/0.0 has this number behind 3.0']
+    holds('it tells what its number reaches', browser.run(LINES) == wanted, browser.run(LINES))
     holds('below the tree', browser.run(IN % '#asked'))
     about = '3.0/0.0 is looked for at %s: the bridge above it, 3.0, has Secondary %s'
     holds('with the bridge that gives it that number', browser.run(ABOUT) == about % ('01:00.0', '01'), browser.run(ABOUT))
     holds('which is heard', text_of(browser, 'heard').startswith(about % ('01:00.0', '01')), text_of(browser, 'heard'))
-    holds('what is on the way is marked', browser.run(SIGNS) == ['2.0 ?'], browser.run(SIGNS))
+    holds('what takes the cycle is marked', browser.run(SIGNS) == ['2.0 ?', '3.0 ?'], browser.run(SIGNS))
     holds('the function is selected, and has the keys', browser.run(f"document.getElementById('chosen').value === '3.0/0.0' && {chip} === document.activeElement"))
     browser.press('Enter')
     holds('Enter closes what it asked', browser.run(ASKED) is None and browser.run(SIGNS) == [] and browser.run(f'{chip} === document.activeElement'))
@@ -122,12 +123,14 @@ def an_address_is_asked(browser, page):
     holds('below the bar', browser.run(IN % '[data-space=mem]'))
     holds('the region and the windows are drawn', browser.run(BARS) == [3, 1, 1], browser.run(BARS))
     type_line(browser, 'host cw 00:02.0 0x22 2 0xc030')
-    holds('the reply follows', browser.run(LINES) == [f'memory {place:#x}: 2.0/0.0 bar0 offset {place - 0xc0200000:#x} answers'], browser.run(LINES))
+    wanted = [f'memory {place:#x}: 2.0/0.0 bar0 offset {place - 0xc0200000:#x} answers', '2.0 forwards it to bus 01']
+    holds('the reply follows', browser.run(LINES) == wanted, browser.run(LINES))
     holds('and stays below the bar', browser.run(IN % '[data-space=mem]'))
     browser.run("document.querySelector('[data-space=mem] .bars').focus()")
     for key in ['ArrowRight', 'Enter']:
         browser.press(key)
-    holds('Enter asks where something begins', browser.run(LINES) == ['memory 0xc0400000: 3.0/0.0 bar0 offset 0x0 answers'], browser.run(LINES))
+    wanted = ['memory 0xc0400000: 3.0/0.0 bar0 offset 0x0 answers', '3.0 forwards it to bus 03']
+    holds('Enter asks where something begins', browser.run(LINES) == wanted, browser.run(LINES))
     holds('the bar keeps the keys', browser.run(AT_BAR))
     browser.press('+')
     holds('a key zooms in', browser.run(RANGE) != whole and browser.run(AT_BAR), browser.run(RANGE))

@@ -19,7 +19,7 @@ from audit import EDGES, random_state
 from board import board_file, path_text
 
 KINDS = ["would answer too", ": closed, ", "; ", "as at reset", "closes ", "no window", "shut", "nobody answers", " answers", "no bridge on bus 00",
-         "no bridge behind", "no function", "takes bus", "4 bytes are", "not enabled", " by the latch", "reaches nothing"]
+         "no bridge behind", "no function", "takes bus", "forwards it", "no region answers", "has this number", "4 bytes are", "not enabled", " by the latch", "reaches nothing"]
 
 
 def regions_at(state, space, address):
@@ -63,18 +63,35 @@ def causes(state, path, space, address):
         yield f"closed, {command_text(state, path)}"
     for length in range(len(path) - 1, 0, -1):
         bridge = path[:length]
-        if not any(first <= address <= last for first, last in state.forwarded(bridge, space)):
+        if not forwards(state, bridge, space, address):
             yield f"{path_text(bridge)} doesn't forward it, {hindrance(state, bridge, space)}"
+
+
+def forwards(state, bridge, space, address):
+    return any(first <= address <= last for first, last in state.forwarded(bridge, space))
+
+
+def forwarders(state, space, address):
+    """The bridges that forward an address which each bridge above them forwards."""
+    return [path for path in state.functions if state.is_bridge(path)
+            and all(forwards(state, path[:length], space, address) for length in range(1, len(path) + 1))]
+
+
+def counted(lines):
+    """The lines of a reply with the last one."""
+    return [*lines, f"{len(lines)} line{'s' * (len(lines) > 1)}"]
 
 
 def why(state, space, address):
     """The lines of an address."""
-    answer, lines, left = "nobody answers", [], 0
+    bridges = forwarders(state, space, address)
+    nobody = "no region answers" if bridges else "nobody answers"
+    answer, lines, left = nobody, [f"{path_text(path)} forwards it to bus {state.byte(path, 0x19):02x}" for path in bridges], 0
     for path, bar, base in regions_at(state, space, address):
         found = [*causes(state, path, space, address)]
         if base == 0 and not state.opens(path, space):
             left += 1
-        elif not found and answer == "nobody answers":
+        elif not found and answer == nobody:
             answer = f"{path_text(path)} bar{bar.index} offset {address - base:#x} answers"
         else:
             said = "; ".join(found) or "would answer too"
@@ -84,24 +101,31 @@ def why(state, space, address):
     return [f"{space} {address:#x}: {answer}", *lines]
 
 
+def place_text(bridge):
+    return "behind " + path_text(bridge) if bridge else "on bus 00"
+
+
 def why_number(state, at):
     """The lines of a configuration number."""
     bus, device, function = at
     takers, on, missing = [], (), None
-    while bus != 0 and (not takers or state.byte(takers[-1], 0x19) != bus):
-        taker = next((path for path in state.functions if path[:-1] == on and state.is_bridge(path)
-                      and state.byte(path, 0x19) <= bus <= state.byte(path, 0x1A)), None)
-        if taker is None:
-            missing = f"no bridge {'behind ' + path_text(on) if on else 'on bus 00'} takes bus {bus:02x}"
+    while bus != 0 and (not on or state.byte(on, 0x19) != bus):
+        here = [path for path in state.functions if path[:-1] == on and state.is_bridge(path)
+                and state.byte(path, 0x19) <= bus <= state.byte(path, 0x1A)]
+        if not here:
+            missing = f"no bridge {place_text(on)} takes bus {bus:02x}"
             break
-        takers, on = [*takers, taker], taker
+        takers, on = [*takers, *here], here[0]
     found = None if missing else on + ((device, function),)
     if found not in state.functions:
-        missing = missing or f"no function {device}.{function} {'behind ' + path_text(on) if on else 'on bus 00'}"
+        missing = missing or f"no function {device}.{function} {place_text(on)}"
         found = None
+    others = [path for path in state.functions if path != found and path[-1] == (device, function)
+              and bus == (state.byte(path[:-1], 0x19) if path[:-1] else 0)]
     number = f"{bus:02x}:{device:02x}.{function}"
     return [f"{number} reaches {path_text(found) if found else 'nothing'}",
-            *(f"{path_text(path)} takes bus {bus:02x}" for path in takers), *([missing] if missing else [])]
+            *(f"{path_text(path)} takes bus {bus:02x}" for path in takers), *([missing] if missing else []),
+            *(f"{path_text(path)} has this number {place_text(path[:-1])}" for path in others)]
 
 
 def why_port(state, latch, port):
@@ -161,11 +185,11 @@ def questions(rng, state, latch):
     """Each question's line with the lines that answer it."""
     for what, place in asked(rng, state):
         if what == "number":
-            yield f"host why cfg {place[0]:02x}:{place[1]:02x}.{place[2]}", why_number(state, place)
+            yield f"host why cfg {place[0]:02x}:{place[1]:02x}.{place[2]}", counted(why_number(state, place))
         elif what == "memory":
-            yield f"host why mem {place:#x}", why(state, what, place)
+            yield f"host why mem {place:#x}", counted(why(state, what, place))
         else:
-            yield f"host why io {place:#x}", why_port(state, latch, place)
+            yield f"host why io {place:#x}", counted(why_port(state, latch, place))
 
 
 def state_asked(seed):

@@ -49,7 +49,7 @@ class SecondHandBoard:
         if line == "host ready":
             return self.ready_text()[:-1]
         if found := WHY.fullmatch(line):
-            return "\n".join(f"why: {each}" for each in self.why(found))
+            return "\n".join(f"why: {each}" for each in why.counted(self.why(found)))
         if found := ACCESS.fullmatch(line):
             self.latch = 0
             at = int(found[2], 16), int(found[3], 16), int(found[4])

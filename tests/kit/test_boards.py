@@ -222,8 +222,10 @@ class Reasons(unittest.TestCase):
         board = after("host cw 01:01.0 4 2 0")
         self.assertEqual(reasons(board, AUDITED, findings(board)[0]), [
             "host why io 0x1000",
-            "why: I/O 0x1000: nobody answers",
+            "why: I/O 0x1000: no region answers",
+            "why: 2.0 forwards it to bus 01",
             "why: 2.0/1.0 bar0 at 0x1000 size 0x20: closed, Command 0x0000",
+            "why: 3 lines",
         ])
         both = "audit: 1.0 bar1 and 2.0 both answer I/O 0x1000"
         self.assertEqual(reasons(board, AUDITED, both)[0], "host why io 0x1000")
@@ -269,7 +271,7 @@ class WhoWrote(unittest.TestCase):
         told = why_unfound(SecondHand(), text_of(AUDITED), lines, "2.0/0.0", story.asked["2.0/0.0"])
         self.assertEqual(told, [
             "the firmware never finds 2.0/0.0: line 3 of 4 asks for it last: host cr 01:00.0 0 4", "host why cfg 01:00.0",
-            "why: 01:00.0 reaches nothing", "why: no bridge on bus 00 takes bus 01"])
+            "why: 01:00.0 reaches nothing", "why: no bridge on bus 00 takes bus 01", "why: 2 lines"])
         self.assertNotIn("3.0", story.asked)
         self.assertIn("never asks for it", why_unfound(SecondHand(), "", lines, "3.0", None)[0])
 

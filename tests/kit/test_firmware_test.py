@@ -134,7 +134,7 @@ class FirmwareTest(unittest.TestCase):
         self.assertIn("so since line 5 of 5: host cw 00:01.0 0x10 4 0xe0000000\n"
                       "1.0 bar0: written last by line 5 of 5: host cw 00:01.0 0x10 4 0xe0000000\n"
                       "1.0 Command: written last by line 3 of 5: host cw 00:01.0 4 2 3\n"
-                      "host why mem 0xe0000000\nwhy: memory 0xe0000000: 1.0 bar0 offset 0x0 answers\n\n", told)
+                      "host why mem 0xe0000000\nwhy: memory 0xe0000000: 1.0 bar0 offset 0x0 answers\nwhy: 1 line\n\n", told)
 
     def test_sizing(self):
         sizing = "ask('host cw 00:01.0 4 2 2'); ask('host cw 00:01.0 0x10 4 0xffffffff');"

@@ -1,23 +1,25 @@
--- What each function stops, and what is found first, from an index on.
-use Rattle.std.proofs.Common.{◌≡◌, ℕ, zero, suc, ◌+◌, Bool, false, cond, List, [], ◌∷◌, drop, ◌++◌, refl, sym, ap, ◌∙◌, add-one, append_assoc}
-use Rattle.std.specs.Prelude.{find, slice_get, map, reverse}
+-- What each function adds, and what is found first, from an index on.
+use Rattle.std.proofs.Common.{◌≡◌, ℕ, zero, suc, ◌+◌, Bool, true, false, cond, List, [], ◌∷◌, drop, ◌++◌, refl, sym, ap, ◌∙◌, add-one, append_assoc}
+use Rattle.std.specs.Prelude.{find, slice_get, map, filter, flat_map, reverse}
 use Rattle.std.proofs.lemmas.List.{map-append, reverse-append}
-use Rattle.model_registers.specs.Decoding.{Space}
-use Rattle.model_board.specs.Paths.{Path}
-use Rattle.model_board.specs.State.{BoardFunction}
-use Rattle.model_lines.specs.Why.{Cause, stop, stops}
 use Rattle.std.specs.Option.{option_map_or, option_to_list}
 use Rattle.findings.proofs.Indexed.{flat_step}
-
-pub stops_step : (fs : List BoardFunction) (space : Space) (n : ℕ) (p : Path) (i : ℕ)
-    → stops (drop i fs) space n p ≡ stops (option_to_list (slice_get fs i)) space n p ++ stops (drop (i + 1) fs) space n p
-stops_step fs space n p i = flat_step (λ f. option_to_list (stop space n p f)) fs i
+use Rattle.findings.specs.WhyByRows.{selected}
 
 -- what an index adds to what those before it gave
-pub next_stop : (fs : List BoardFunction) (space : Space) (n : ℕ) (p : Path) (i : ℕ) (xs ys one : List Cause) → xs ++ stops (drop i fs) space n p ≡ stops fs space n p → one ≡ stops (option_to_list (slice_get fs i)) space n p → ys ≡ xs ++ one
-    → ys ++ stops (drop (i + 1) fs) space n p ≡ stops fs space n p
-next_stop fs space n p i xs ys one before e is =
-    rw (is, e, append_assoc, ← stops_step) before
+pub next_one : {A B : Type 0} (h : A → List B) (xs : List A) (i : ℕ) (whole before after one : List B) → before ++ flat_map h (drop i xs) ≡ whole → one ≡ flat_map h (option_to_list (slice_get xs i)) → after ≡ before ++ one
+    → after ++ flat_map h (drop (i + 1) xs) ≡ whole
+next_one h xs i whole before after one so_far e is =
+    ap (λ ys. ys ++ flat_map h (drop (i + 1) xs)) is ∙ append_assoc before one (flat_map h (drop (i + 1) xs))
+    ∙ ap (λ ys. before ++ (ys ++ flat_map h (drop (i + 1) xs))) e ∙ ap (λ ys. before ++ ys) (sym (flat_step h xs i)) ∙ so_far
+
+pub selected_is : {A B : Type 0} (t : A → Bool) (g : A → B) (xs : List A) → selected t g xs ≡ map g (filter t xs)
+selected_is t g [] = refl
+selected_is t g (x ∷ xs) = by (t x) (selected_is t g xs)
+  where
+    by : (u : Bool) → selected t g xs ≡ map g (filter t xs) → cond u (g x ∷ []) [] ++ selected t g xs ≡ map g (cond u (x ∷ filter t xs) (filter t xs))
+    by false more = more
+    by true more = ap (λ ys. g x ∷ ys) more
 
 pub map_reverse : {A B : Type 0} (f : A → B) (xs : List A) → map f (reverse xs) ≡ reverse (map f xs)
 map_reverse f [] = refl

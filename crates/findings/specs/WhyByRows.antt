@@ -2,18 +2,20 @@
 --     row_windows, row_hindrance, row_stop      of a bridge, by its row
 --     Held, held_in, held_of, all_held      regions that hold an address and don't answer, each with its function's Command
 --     causes_down, causes_at, told_from      all that keeps such a region from answering, by its path and Command; what is told of it
+--     selected t g xs      of the elements that pass a test
+--     row_forwarder, forwarders_among      a bridge that forwards the address, by its row; those among some functions
 use Rattle.std.specs.Prelude.{List, [], ◌∷◌, ◌++◌, ℕ, Bool, ◌&&◌, not, if◌then◌else◌, Option, Some, None, map, filter, flat_map}
-use Rattle.std.specs.Prelude.{reverse}
+use Rattle.std.specs.Prelude.{reverse, unwrap_or}
 use Rattle.model_registers.specs.Declarations.{Bridge}
 use Rattle.model_registers.specs.Decoding.{Space, io, memory, opens_space}
 use Rattle.model_board.specs.Paths.{Path, leads_to}
 use Rattle.model_board.specs.Claims.{Claim}
 use Rattle.model_board.specs.State.{BoardFunction}
-use Rattle.model_board.specs.Routing.{Ranges, regions, windows, RoutingRow, row_forwards}
+use Rattle.model_board.specs.Routing.{Ranges, regions, windows, RoutingRow, row_forwards, is_routed}
 use Rattle.model_set_up.specs.PlacedRegions.{PlacedRegion, holds}
 use Rattle.model_findings.specs.OpenRegions.{regions_of}
 use Rattle.model_lines.specs.Why.{NamedWindow, named, for_memory, io_windows, pref_windows, Hindrance, closes, misses}
-use Rattle.model_lines.specs.Why.{Cause, closed_by, stopped_at, stops, is_answer, Told}
+use Rattle.model_lines.specs.Why.{Cause, closed_by, stopped_at, stops, is_answer, Told, Forwarder, forwarder, passes_on}
 use Rattle.findings.specs.declared.holding.Held.{Held}
 
 abbrev pub row_windows : Space → Bridge → Ranges → List NamedWindow
@@ -56,3 +58,16 @@ causes_at fs space n p command = reverse (causes_down fs space n p command)
 
 abbrev pub told_from : List BoardFunction → Space → ℕ → Held → Told
 told_from fs space n h = record { region = h.region; causes = causes_at fs space n h.region.path h.command }
+
+-- ---- one by one
+
+abbrev pub selected : {A B : Type 0} → (A → Bool) → (A → B) → List A → List B
+selected t g xs = flat_map (λ x. if t x then g x ∷ [] else []) xs
+
+abbrev pub row_forwarder : Space → ℕ → List RoutingRow → Option ℕ → RoutingRow → List Forwarder
+row_forwarder space n rows bus r =
+    if row_forwards space n r && is_routed rows r.path space n
+    then record { path = r.path; bus = unwrap_or bus 0 } ∷ [] else []
+
+abbrev pub forwarders_among : List BoardFunction → Space → ℕ → List BoardFunction → List Forwarder
+forwarders_among fs space n gs = selected (passes_on fs space n) forwarder gs

@@ -1,13 +1,18 @@
 -- A configuration cycle on its way.
 --     end_told      where it ends, in the words of the definitions
---     is_taker      the bridge that takes a cycle on a bus
+--     is_taker, paths_taking      a bridge that takes a cycle on a bus; those among some functions
 --     taken fs bus n      that bridge, and whether it is the last
 --     missing_by      what is missing at the end, unless a path is reached
-use Rattle.std.specs.Prelude.{List, [], ℕ, Bool, ◌&&◌, ◌==◌, Option, Some, None, option_map, unwrap_or}
+--     is_unfound, unfound      a function, by its path, that has a number and isn't reached; those among some rows
+use Rattle.std.specs.Prelude.{List, [], ℕ, Bool, ◌&&◌, ◌==◌, not, Option, Some, None, option_map, unwrap_or, map, filter}
 use Rattle.model_board.specs.Paths.{Path, path_eq, parent}
 use Rattle.model_board.specs.State.{BoardFunction}
 use Rattle.model_board.specs.Cycles.{secondary_register, covers, taker, BusAddress}
+use Rattle.model_board.specs.Routing.{RoutingRow}
+use Rattle.model_findings.specs.Found.{address_now}
 use Rattle.model_lines.specs.Ways as ways
+use Rattle.findings.specs.Bridges.{is_there}
+use Rattle.findings.specs.WhyByRows.{selected}
 use Rattle.findings.specs.declared.way.WayEnd.{WayEnd}
 use Rattle.findings.specs.declared.way.WayEnd.TheVariants.{OnBus, NoTaker}
 use Rattle.findings.specs.declared.way.Taken.{Taken}
@@ -20,6 +25,9 @@ end_told (NoTaker behind) = ways.no_taker (unwrap_or behind [])
 abbrev pub is_taker : Path → ℕ → BoardFunction → Bool
 is_taker bus n f = path_eq (parent f.path) bus && covers n f
 
+abbrev pub paths_taking : Path → ℕ → List BoardFunction → List Path
+paths_taking bus n gs = selected (is_taker bus n) (λ f. f.path) gs
+
 abbrev pub taken : List BoardFunction → Path → ℕ → Option Taken
 taken fs bus n =
     option_map (λ (f : BoardFunction). record { path = f.path; is_last = secondary_register f.file == n })
@@ -28,3 +36,10 @@ taken fs bus n =
 abbrev pub missing_by : Option Path → ways.WayEnd → BusAddress → Option ways.Missing
 missing_by None e at = Some (ways.missing_at e at)
 missing_by (Some p) e at = None
+
+abbrev pub is_unfound : List BoardFunction → BusAddress → Option Path → Path → Bool
+is_unfound fs at reached p = ways.address_eq (address_now fs p) at && not (is_there p reached)
+
+abbrev pub unfound : List BoardFunction → BusAddress → Option Path → List RoutingRow → List Path
+unfound fs at reached rows =
+    map (λ (r : RoutingRow). r.path) (filter (λ (r : RoutingRow). is_unfound fs at reached r.path) rows)

@@ -1,6 +1,6 @@
 -- What is told, in the words of the definitions.
 --     window_told, windows_told, hindrance_told, cause_told      what keeps a region from answering
---     region_told, why_told      of a region, and of an address
+--     forwarder_told, region_told, why_told      of a bridge, of a region, and of an address
 --     missing_told, number_told      of a configuration number
 --     use_told      what the latch makes of a port
 use Rattle.std.specs.Prelude.{List, [], ◌++◌, map, unwrap_or, Option, option_map}
@@ -18,6 +18,7 @@ use Rattle.findings.specs.declared.causes.Hindrance.TheVariants.{Closes, Misses}
 use Rattle.findings.specs.declared.causes.Cause.{Cause}
 use Rattle.findings.specs.declared.causes.Cause.TheVariants.{ClosedBy, StoppedAt}
 use Rattle.findings.specs.declared.causes.Told.{Told}
+use Rattle.findings.specs.declared.causes.Forwarder.{Forwarder}
 use Rattle.findings.specs.declared.causes.Why.{Why}
 use Rattle.findings.specs.declared.number_why.Missing.{Missing}
 use Rattle.findings.specs.declared.number_why.Missing.TheVariants.{NoBridge, NoFunction}
@@ -47,8 +48,15 @@ cause_told (StoppedAt bridge hindrance) = model.stopped_at bridge (hindrance_tol
 abbrev pub region_told : Told → model.Told
 region_told t = record { region = t.region; causes = map cause_told t.causes.items }
 
+abbrev pub forwarder_told : Forwarder → model.Forwarder
+forwarder_told g = record { path = g.path; bus = g.bus }
+
 abbrev pub why_told : Why → model.Why
-why_told w = record { answer = w.answer; told = map region_told w.told.items }
+why_told w = record {
+  answer = w.answer;
+  forwarders = map forwarder_told w.forwarders.items;
+  told = map region_told w.told.items;
+}
 
 -- no path names bus 0
 abbrev pub missing_told : Missing → ways.Missing
@@ -61,6 +69,7 @@ number_told w = record {
   reached = w.reached;
   bridges = w.bridges.items;
   missing = option_map missing_told w.missing;
+  not_found = w.not_found.items;
 }
 
 abbrev pub use_told : PortUse → ports.PortUse

@@ -9,6 +9,7 @@ ghost use Rattle.findings.specs.WhyTold.{region_told, why_told};
 use crate::causes::{Told, Why};
 use crate::holding::{Asked, Held, all_held};
 use crate::stopping::causes_of;
+use crate::why_forwarding::forwarders;
 use bars::Space;
 use bridge_forward::RoutingRow;
 use host_bridge::Host;
@@ -37,8 +38,8 @@ fn all_told(
     Ok(told)
 }
 
-/// Who answers an address as the registers stand, and each other region that holds it, in path order, then by
-/// register, with all that keeps it from answering.
+/// Who answers an address as the registers stand, each bridge that forwards it, and each other region that holds it, in
+/// path order, then by register, with all that keeps it from answering.
 pub fn why_address(alloc: Global, host: &Host, space: Space, addr: u64) -> Result<Why, AllocError>
     ensures { let fs = host.now.state.functions in
         IfOk result (λ w. why_told w ≡ why fs (named_space space) addr) }
@@ -52,6 +53,7 @@ pub fn why_address(alloc: Global, host: &Host, space: Space, addr: u64) -> Resul
     let held = all_held(alloc, &asked, &rows)?;
     let told = all_told(alloc, host, &rows, &asked, &held)?;
     Ok(Why {
+        forwarders: forwarders(alloc, host, &rows, &asked)?,
         answer: asked.answer,
         told,
     })

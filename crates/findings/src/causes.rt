@@ -1,4 +1,4 @@
-//! Who answers an address, and what keeps other regions that hold it from answering.
+//! Who answers an address, which bridges forward it, and what keeps other regions that hold it from answering.
 use crate::region::RegionNow;
 use bridge_forward::{Claim, Path, Window};
 
@@ -48,9 +48,18 @@ pub struct Told {
     pub causes: Vec<Cause>,
 }
 
-/// Who answers an address, and all other regions that hold it, in path order, then by register.
+/// A bridge that forwards an address, and the number that it holds for the bus behind it.
+#[derive(Debug, Drop)]
+pub struct Forwarder {
+    pub path: Path,
+    pub bus: u8,
+}
+
+/// Who answers an address, each bridge that forwards it, down to where its way ends, and all other regions that hold it,
+/// in path order, then by register.
 #[derive(Debug, Drop)]
 pub struct Why {
     pub answer: Option<Claim>,
+    pub forwarders: Vec<Forwarder>,
     pub told: Vec<Told>,
 }

@@ -40,12 +40,13 @@ mod row;
 mod span;
 mod stopping;
 mod way;
+mod why_forwarding;
 
 pub use address_why::why_address;
 pub use agent::Agent;
 pub use audit::problems;
 pub use bus_addresses::address_of;
-pub use causes::{Cause, Hindrance, NamedWindow, Told, Why, WindowName};
+pub use causes::{Cause, Forwarder, Hindrance, NamedWindow, Told, Why, WindowName};
 pub use host_bridge::{Bdf, Host, Space};
 pub use identities::{Identity, identity_nth};
 pub use lack::Lack;

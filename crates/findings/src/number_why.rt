@@ -1,14 +1,17 @@
 //! Why a configuration number reaches what it reaches (PCI-to-PCI Bridge Architecture 1.2, chapter 3).
-ghost use Rattle.std.specs.Prelude.{◌≡◌, map, option_map, IfOk};
+ghost use Rattle.std.specs.Prelude.{◌≡◌, map, option_map, position, IfOk};
 ghost use Rattle.model_board.specs.Cycles.{reached};
 ghost use Rattle.model_board.specs.State.{BoardFunction};
-ghost use Rattle.model_lines.specs.Ways.{bridges_on_way, end_of, missing_at, why_number};
+ghost use Rattle.model_board.specs.Routing.{routing};
+ghost use Rattle.model_lines.specs.Ways.{takers_on_way, end_of, missing_at, why_number};
 ghost use Rattle.paths.specs.BusAddresses.{bus_address_of};
-ghost use Rattle.findings.specs.WhyOnWay.{end_told, missing_by};
+ghost use Rattle.findings.specs.Bridges.{is_bridge_row, is_there};
+ghost use Rattle.model_findings.specs.Found.{bus_now};
+ghost use Rattle.findings.specs.WhyOnWay.{end_told, missing_by, is_unfound, unfound};
 ghost use Rattle.findings.specs.WhyTold.{missing_told, number_told};
 
 use crate::way::{Way, WayEnd, way_down};
-use bridge_forward::Path;
+use bridge_forward::{Part, Path, Ranges, RoutingRow};
 use host_bridge::{Bdf, Host};
 use std::alloc::{AllocError, Global};
 
@@ -28,19 +31,20 @@ pub enum Missing {
     },
 }
 
-/// The function that a configuration number reaches, the bridges on the way to it, and what is missing where it
-/// reaches nothing.
+/// The function that a configuration number reaches, all bridges that take its cycle, what is missing where it reaches
+/// nothing, and the functions that have the number by the bridge above them and aren't found by it.
 #[derive(Debug, Drop)]
 pub struct WhyNumber {
     pub reached: Option<Path>,
     pub bridges: Vec<Path>,
     pub missing: Option<Missing>,
+    pub not_found: Vec<Path>,
 }
 
 /// The way of a cycle from bus 0 down.
 fn way_of(alloc: Global, host: &Host, at: Bdf) -> Result<Way, AllocError>
     ensures bridges { let fs = host.now.state.functions in
-        let bridges = bridges_on_way fs (bus_address_of at) in
+        let bridges = takers_on_way fs (bus_address_of at) in
         IfOk result (λ w. w.bridges.items ≡ map (λ (f : BoardFunction). f.path) bridges) }
     ensures end { let fs = host.now.state.functions in
         IfOk result (λ w. end_told w.end ≡ end_of fs (bus_address_of at)) }
@@ -92,8 +96,89 @@ fn missing_if(reached: &Option<Path>, end: WayEnd, at: Bdf) -> Option<Missing>
     }
 }
 
-/// What a configuration number reaches as the registers stand, the bridges that take its cycle, from bus 0 down, and
-/// what is missing where it reaches nothing. Nothing changes, also where memory is out.
+/// Whether a bridge stands at these parts.
+fn is_bridge_at(row: &RoutingRow, bus: &[Part]) -> bool
+    ensures { result ≡ is_bridge_row bus.now row.now }
+{
+    match &row.ranges {
+        Ranges::Regions(_) => false,
+        Ranges::Windows { .. } => row.path.has_parts(bus),
+    }
+}
+
+/// The index of the bridge above a bus.
+fn bridge_index(rows: &[RoutingRow], bus: &[Part]) -> Option<usize>
+    ensures { result ≡ position (is_bridge_row bus.now) rows.now }
+{
+    rows.iter().position(|row| is_bridge_at(row, bus))
+}
+
+/// The number of a bus: what the bridge above it holds, and 0 for bus 0.
+fn bus_now(host: &Host, rows: &[RoutingRow], bus: &[Part]) -> u8
+    requires { rows.now ≡ routing host.now.state.functions }
+    ensures { result ≡ bus_now host.now.state.functions bus.now }
+{
+    if bus.is_empty() {
+        return 0;
+    }
+    match bridge_index(rows, bus) {
+        Some(index) => host.secondary_nth(index).unwrap_or(0),
+        None => 0,
+    }
+}
+
+/// Whether it is the path of the function that is reached.
+fn is_there(reached: &Option<Path>, path: &Path) -> bool
+    ensures { result ≡ is_there path.now reached.now }
+{
+    match reached {
+        Some(other) => other == path,
+        None => false,
+    }
+}
+
+/// Whether a function has this number by the bridge above it, and isn't the one that is reached.
+fn is_unfound(
+    host: &Host,
+    rows: &[RoutingRow],
+    at: Bdf,
+    reached: &Option<Path>,
+    path: &Path,
+) -> bool
+    requires { rows.now ≡ routing host.now.state.functions }
+    ensures { let fs = host.now.state.functions in
+        result ≡ is_unfound fs (bus_address_of at) reached.now path.now }
+{
+    let part = path.last();
+    bus_now(host, rows, path.parent()) == at.bus
+        && part.device() == at.device
+        && part.function() == at.function
+        && !is_there(reached, path)
+}
+
+/// The functions that have this number by the bridge above them and aren't reached.
+fn unfound(
+    alloc: Global,
+    host: &Host,
+    at: Bdf,
+    reached: &Option<Path>,
+) -> Result<Vec<Path>, AllocError>
+    ensures { let fs = host.now.state.functions in
+        IfOk result (λ v. v.items ≡ unfound fs (bus_address_of at) reached.now (routing fs)) }
+{
+    let rows = host.routing(alloc)?;
+    let mut told = Vec::new(alloc);
+    for row in &rows {
+        if is_unfound(host, &rows, at, reached, &row.path) {
+            told.push(row.path.copied())?;
+        }
+    }
+    Ok(told)
+}
+
+/// What a configuration number reaches as the registers stand, all bridges that take its cycle, from bus 0 down, what is
+/// missing where it reaches nothing, and which functions have the number and aren't found by it. Nothing changes, also
+/// where memory is out.
 pub fn why_number(alloc: Global, host: &mut Host, at: Bdf) -> Result<WhyNumber, AllocError>
     ensures told { let fs = host.old.state.functions in
         IfOk result (λ w. number_told w ≡ why_number fs (bus_address_of at)) }
@@ -101,10 +186,12 @@ pub fn why_number(alloc: Global, host: &mut Host, at: Bdf) -> Result<WhyNumber, 
 {
     let way = way_of(alloc, host, at)?;
     let reached = path_reached(host, at);
+    let not_found = unfound(alloc, host, at, &reached)?;
     let missing = missing_if(&reached, way.end, at);
     Ok(WhyNumber {
         reached,
         bridges: way.bridges,
         missing,
+        not_found,
     })
 }

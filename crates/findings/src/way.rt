@@ -1,11 +1,11 @@
 //! The way of a configuration cycle (PCI-to-PCI Bridge Architecture 1.2, chapter 3).
-ghost use Rattle.std.specs.Prelude.{◌≡◌, [], false, map, slice_get, unwrap_or, IfOk};
-ghost use Rattle.std.specs.Option.{option_and_then, option_map_or};
+ghost use Rattle.std.specs.Prelude.{◌≡◌, ◌++◌, [], false, map, slice_get, unwrap_or, IfOk, OnOk};
+ghost use Rattle.std.specs.Option.{option_and_then, option_map_or, option_to_list};
 ghost use Rattle.model_board.specs.Paths.{path_eq, parent};
 ghost use Rattle.model_board.specs.State.{BoardFunction};
 ghost use Rattle.model_board.specs.Cycles.{covers, taker};
-ghost use Rattle.model_lines.specs.Ways.{way, way_end};
-ghost use Rattle.findings.specs.WhyOnWay.{end_told, is_taker, taken};
+ghost use Rattle.model_lines.specs.Ways.{takers, takers_down, way_end};
+ghost use Rattle.findings.specs.WhyOnWay.{end_told, is_taker, paths_taking, taken};
 
 use bridge_forward::Path;
 use host_bridge::Host;
@@ -19,7 +19,7 @@ pub(crate) enum WayEnd {
     NoTaker(Option<Path>),
 }
 
-/// The bridges that take a cycle, from a bus down, and where it ends.
+/// The bridges that take a cycle on each bus of its way, from a bus down, and where it ends.
 #[derive(Drop)]
 pub(crate) struct Way {
     pub(crate) bridges: Vec<Path>,
@@ -94,23 +94,53 @@ fn next_bridge(host: &Host, bus: &Option<Path>, number: u8) -> Option<Taken>
     })
 }
 
+/// The path of the function at an index, if that takes cycles for a bus, put on the bus where it stands.
+fn taking_nth(host: &Host, index: usize, bus: &Option<Path>, number: u8) -> Option<Path>
+    ensures { let one = option_to_list (slice_get host.now.state.functions index) in
+        option_to_list result ≡ paths_taking (unwrap_or bus.now []) number one }
+{
+    if !takes_nth(host, index, bus, number) {
+        return None;
+    }
+    host.path_nth(index)
+}
+
+/// Adds all bridges of a bus that take cycles for another bus. The cycle goes through the first.
+fn add_takers(
+    told: &mut Vec<Path>,
+    host: &Host,
+    bus: &Option<Path>,
+    number: u8,
+) -> Result<(), AllocError>
+    ensures { let fs = host.now.state.functions in
+        OnOk result (told.new.items ≡ told.old.items
+        ++ map (λ (f : BoardFunction). f.path) (takers fs number (unwrap_or bus.now []))) }
+{
+    for index in 0..host.count() {
+        if let Some(path) = taking_nth(host, index, bus, number) {
+            told.push(path)?;
+        }
+    }
+    Ok(())
+}
+
 /// The way of a cycle for a bus that isn't bus 0, from bus 0 down. No function stands behind more than 15 bridges.
 pub(crate) fn way_down(alloc: Global, host: &Host, number: u8) -> Result<Way, AllocError>
     ensures bridges { let fs = host.now.state.functions in IfOk result (λ w.
-        w.bridges.items ≡ map (λ (f : BoardFunction). f.path) (way fs number 16 [])) }
+        w.bridges.items ≡ map (λ (f : BoardFunction). f.path) (takers_down fs number 16 [])) }
     ensures end { let fs = host.now.state.functions in
         IfOk result (λ w. end_told w.end ≡ way_end fs number 16 []) }
 {
     let mut bridges = Vec::new(alloc);
     let mut bus = None;
     for _level in 0..16u8 {
+        add_takers(&mut bridges, host, &bus, number)?;
         let Some(Taken { path, is_last }) = next_bridge(host, &bus, number) else {
             return Ok(Way {
                 bridges,
                 end: WayEnd::NoTaker(bus),
             });
         };
-        bridges.push(path.copied())?;
         bus = Some(path);
         if is_last {
             return Ok(Way {

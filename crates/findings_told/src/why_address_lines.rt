@@ -5,16 +5,17 @@ ghost use Rattle.lists.specs.Texts.{Adds};
 ghost use Rattle.bars.specs.Kinds.{named_space};
 ghost use Rattle.model_lines.specs.Why.{stopped_at};
 ghost use Rattle.model_lines.specs.WhyText.{command_text, hindrance_text, cause_text, more_text};
-ghost use Rattle.model_lines.specs.WhyText.{causes_text, told_text, claim_text, why_line};
-ghost use Rattle.findings.specs.WhyTold.{hindrance_told, cause_told, region_told};
+ghost use Rattle.model_lines.specs.WhyText.{causes_text, told_text, forwarder_text, claim_text};
+ghost use Rattle.model_lines.specs.WhyText.{no_claim_text, why_line};
+ghost use Rattle.findings.specs.WhyTold.{hindrance_told, cause_told, forwarder_told, region_told};
 ghost use Rattle.report.specs.Found.{ended};
-ghost use Rattle.findings_told.specs.WhyLines.{address_head};
+ghost use Rattle.findings_told.specs.WhyLines.{address_head, forwarder_lines};
 
-use crate::places::{push_address, push_region, push_space};
+use crate::places::{push_address, push_bus, push_region, push_space};
 use crate::why_parts::{push_command, push_windows};
 use bars::Space;
 use bridge_forward::{Claim, Path};
-use findings::{Cause, Hindrance, Told};
+use findings::{Cause, Forwarder, Hindrance, Told};
 use report::push_path;
 use std::alloc::AllocError;
 
@@ -131,14 +132,30 @@ fn push_claim(text: &mut String, claim: &Claim) -> Result<(), AllocError>
     write!(text, " bar{region} offset 0x{offset:x} answers")
 }
 
-/// Appends who answers an address.
-fn push_answer(text: &mut String, answer: &Option<Claim>) -> Result<(), AllocError>
+/// Appends that no region answers, or nobody, if no bridge forwards the address either.
+fn push_no_claim(text: &mut String, forwarders: &[Forwarder]) -> Result<(), AllocError>
     ensures { OnOk result (Adds text.old text.new
-        (option_map_or claim_text answer.now (codes "nobody answers"))) }
+        (no_claim_text (map forwarder_told forwarders.now))) }
+{
+    match forwarders {
+        [] => text.push_str("nobody answers"),
+        [_, ..] => text.push_str("no region answers"),
+    }
+}
+
+/// Appends who answers an address.
+fn push_answer(
+    text: &mut String,
+    answer: &Option<Claim>,
+    forwarders: &[Forwarder],
+) -> Result<(), AllocError>
+    ensures { let gs = map forwarder_told forwarders.now in
+        OnOk result (Adds text.old text.new
+        (option_map_or claim_text answer.now (no_claim_text gs))) }
 {
     match answer {
         Some(claim) => push_claim(text, claim),
-        None => text.push_str("nobody answers"),
+        None => push_no_claim(text, forwarders),
     }
 }
 
@@ -148,15 +165,16 @@ fn push_found(
     space: Space,
     addr: u64,
     answer: &Option<Claim>,
+    forwarders: &[Forwarder],
 ) -> Result<(), AllocError>
-    ensures { OnOk result (Adds text.old text.new
-        (address_head (named_space space) addr answer.now)) }
+    ensures { let gs = map forwarder_told forwarders.now in OnOk result (Adds text.old text.new
+        (address_head (named_space space) addr answer.now gs)) }
 {
     push_space(text, space)?;
     text.push_str(" ")?;
     push_address(text, addr)?;
     text.push_str(": ")?;
-    push_answer(text, answer)
+    push_answer(text, answer, forwarders)
 }
 
 /// Appends the line of who answers an address.
@@ -165,11 +183,42 @@ pub(crate) fn push_head(
     space: Space,
     addr: u64,
     answer: &Option<Claim>,
+    forwarders: &[Forwarder],
 ) -> Result<(), AllocError>
-    ensures { OnOk result (Adds text.old text.new
-        (ended (why_line (address_head (named_space space) addr answer.now)))) }
+    ensures { let gs = map forwarder_told forwarders.now in OnOk result (Adds text.old text.new
+        (ended (why_line (address_head (named_space space) addr answer.now gs)))) }
 {
     text.push_str("why: ")?;
-    push_found(text, space, addr, answer)?;
+    push_found(text, space, addr, answer, forwarders)?;
     text.push('\n')
+}
+
+/// Appends a bridge that forwards an address.
+fn push_forwarder(text: &mut String, forwarder: &Forwarder) -> Result<(), AllocError>
+    ensures { OnOk result (Adds text.old text.new
+        (forwarder_text (forwarder_told forwarder.now))) }
+{
+    push_path(text, &forwarder.path)?;
+    text.push_str(" forwards it to bus ")?;
+    push_bus(text, forwarder.bus)
+}
+
+/// Appends its line.
+fn push_forwarder_line(text: &mut String, forwarder: &Forwarder) -> Result<(), AllocError>
+    ensures { OnOk result (Adds text.old text.new
+        (ended (why_line (forwarder_text (forwarder_told forwarder.now))))) }
+{
+    text.push_str("why: ")?;
+    push_forwarder(text, forwarder)?;
+    text.push('\n')
+}
+
+/// Appends the lines of all bridges that forward an address.
+pub(crate) fn push_forwarders(text: &mut String, all: &[Forwarder]) -> Result<(), AllocError>
+    ensures { OnOk result (Adds text.old text.new (forwarder_lines all.now)) }
+{
+    for forwarder in all {
+        push_forwarder_line(text, forwarder)?;
+    }
+    Ok(())
 }

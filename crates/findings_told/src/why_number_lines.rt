@@ -1,13 +1,14 @@
 //! The lines of a configuration number.
-ghost use Rattle.std.specs.Prelude.{[], unwrap_or, OnOk};
+ghost use Rattle.std.specs.Prelude.{◌≡◌, [], unwrap_or, OnOk};
 ghost use Rattle.lists.specs.Texts.{Adds};
-ghost use Rattle.model_board.specs.Paths.{Part};
+ghost use Rattle.model_board.specs.Paths.{Part, parent};
 ghost use Rattle.model_lines.specs.Ways.{no_bridge, no_function};
-ghost use Rattle.model_lines.specs.WhyText.{bus_text, missing_text, taker_text, why_line};
+ghost use Rattle.model_lines.specs.WhyText.{bus_text, missing_text, not_found_text, taker_text};
+ghost use Rattle.model_lines.specs.WhyText.{why_line};
 ghost use Rattle.paths.specs.BusAddresses.{bus_address_of};
 ghost use Rattle.findings.specs.WhyTold.{missing_told};
 ghost use Rattle.report.specs.Found.{ended};
-ghost use Rattle.findings_told.specs.WhyLines.{number_head, taker_lines, lines_of_missing};
+ghost use Rattle.findings_told.specs.WhyLines.{number_head, taker_lines, lines_of_missing, not_found_lines};
 
 use crate::places::{push_bus, push_number, push_reached};
 use bridge_forward::Path;
@@ -135,4 +136,47 @@ pub(crate) fn push_head(
     text.push_str("why: ")?;
     push_found(text, at, reached)?;
     text.push('\n')
+}
+
+/// The path of the bridge above a function. None is above bus 0.
+fn bridge_above(path: &Path) -> Option<Path>
+    ensures { unwrap_or result [] ≡ parent path.now }
+{
+    let parts = path.parent();
+    if parts.is_empty() {
+        return None;
+    }
+    let mut above = Path::on_root(parts[0]);
+    for index in 1..parts.len() {
+        above.push(parts[index]);
+    }
+    Some(above)
+}
+
+/// Appends a function that has a number by the bridge above it.
+fn push_not_found(text: &mut String, path: &Path) -> Result<(), AllocError>
+    ensures { OnOk result (Adds text.old text.new (not_found_text path.now)) }
+{
+    push_path(text, path)?;
+    text.push_str(" has this number ")?;
+    push_behind(text, &bridge_above(path))
+}
+
+/// Appends its line.
+fn push_not_found_line(text: &mut String, path: &Path) -> Result<(), AllocError>
+    ensures { OnOk result (Adds text.old text.new (ended (why_line (not_found_text path.now)))) }
+{
+    text.push_str("why: ")?;
+    push_not_found(text, path)?;
+    text.push('\n')
+}
+
+/// Appends the lines of all functions that have a number and aren't found by it.
+pub(crate) fn push_all_not_found(text: &mut String, paths: &[Path]) -> Result<(), AllocError>
+    ensures { OnOk result (Adds text.old text.new (not_found_lines paths.now)) }
+{
+    for path in paths {
+        push_not_found_line(text, path)?;
+    }
+    Ok(())
 }

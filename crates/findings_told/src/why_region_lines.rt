@@ -1,9 +1,9 @@
 //! The lines of the regions that hold an address and don't answer it.
-ghost use Rattle.std.specs.Prelude.{◌≡◌, map, OnOk};
+ghost use Rattle.std.specs.Prelude.{◌≡◌, ◌≤◌, length, map, IfOk, OnOk};
 ghost use Rattle.lists.specs.Texts.{Adds};
 ghost use Rattle.bars.specs.Kinds.{named_space};
 ghost use Rattle.model_lines.specs.Why.{is_closed, is_as_at_reset};
-ghost use Rattle.model_lines.specs.WhyText.{at_reset};
+ghost use Rattle.model_lines.specs.WhyText.{apart};
 ghost use Rattle.findings.specs.WhyTold.{cause_told, region_told};
 ghost use Rattle.findings_told.specs.WhyLines.{apart_lines, count_lines};
 
@@ -32,37 +32,26 @@ fn is_as_at_reset(told: &Told) -> bool
     told.region.region.base == 0 && is_closed(&told.causes)
 }
 
-/// Appends the lines of those that aren't as at reset.
-pub(crate) fn push_apart(text: &mut String, space: Space, all: &[Told]) -> Result<(), AllocError>
-    ensures { OnOk result (Adds text.old text.new (apart_lines (named_space space) all.now)) }
-{
-    for told in all {
-        if !is_as_at_reset(told) {
-            push_told_line(text, space, told)?;
-        }
-    }
-    Ok(())
-}
-
-/// How many are as at reset.
-fn count_at_reset(all: &[Told]) -> usize
-    ensures { result ≡ at_reset (map region_told all.now) }
+/// Appends the lines of those that aren't as at reset, and tells how many there are.
+pub(crate) fn push_apart(text: &mut String, space: Space, all: &[Told]) -> Result<usize, AllocError>
+    ensures text { OnOk result (Adds text.old text.new (apart_lines (named_space space) all.now)) }
+    ensures count { IfOk result (λ n. n ≡ length (apart (map region_told all.now))) }
+    ensures few { IfOk result (λ n. n ≤ length all.now) }
 {
     let mut count = 0;
     for told in all {
-        if is_as_at_reset(told) {
+        if !is_as_at_reset(told) {
+            push_told_line(text, space, told)?;
             count += 1;
         }
     }
-    count
+    Ok(count)
 }
 
 /// Appends the line of how many are as at reset, if one is.
-pub(crate) fn push_at_reset(text: &mut String, all: &[Told]) -> Result<(), AllocError>
-    ensures { OnOk result (Adds text.old text.new
-        (count_lines (at_reset (map region_told all.now)))) }
+pub(crate) fn push_at_reset(text: &mut String, count: usize) -> Result<(), AllocError>
+    ensures { OnOk result (Adds text.old text.new (count_lines count)) }
 {
-    let count = count_at_reset(all);
     if count == 0 {
         return Ok(());
     }

@@ -1,5 +1,6 @@
 pub mod WhyExamples
 pub mod Why
+pub mod Unfound
 pub mod Ways
 pub mod Answers
 pub mod Ports

@@ -1,11 +1,11 @@
 -- A cycle reaches the function at the end of its way, and where it reaches nothing, what is told as missing isn't there.
-use Rattle.std.proofs.Common.{◌≡◌, ℕ, zero, suc, ◌+◌, ◌≤◌, inl, inr, Bool, true, false, ◌&&◌, ◌==◌, not, cond, List, [], ◌∷◌, ◌++◌, length, Option, Some, None, refl, sym, ap, ap₂, ◌∙◌, subst, arith, append_assoc}
+use Rattle.std.proofs.Common.{◌≡◌, ℕ, zero, suc, ◌+◌, ◌≤◌, inl, inr, ◌⊎◌, Bool, true, false, ◌&&◌, ◌==◌, not, cond, List, [], ◌∷◌, ◌++◌, length, Option, Some, None, refl, sym, ap, ap₂, ◌∙◌, subst, arith, append_assoc}
 use Rattle.std.specs.Prelude.{map, find}
 use Rattle.std.specs.Option.{option_map_or}
 use Rattle.std.proofs.lemmas.Bool.{and_from}
 use Rattle.lists.specs.Elements.{Each, IsIn}
-use Rattle.lists.proofs.EachLemmas.{each_map}
-use Rattle.lists.proofs.Members.{each_in, each_from, in_map}
+use Rattle.lists.proofs.EachLemmas.{each_map, each_of_map}
+use Rattle.lists.proofs.Members.{each_in, each_from, in_front, in_back, front_or_back, in_map, in_filter, from_filter}
 use Rattle.lists.proofs.Tests.{left_true, right_true, same_test}
 use Rattle.model_board.specs.Board.{Row}
 use Rattle.model_board.specs.Cycles.{secondary_register, covers, taker, takes, is_route, ends_in, reached_type1, BusAddress, reached}
@@ -16,8 +16,9 @@ use Rattle.model_board.proofs.PathOrder.{path_same, part_self}
 use Rattle.model_set_up.proofs.Routes.{ends_is_last}
 use Rattle.model_findings.specs.Orderly.{IsStateOfBoard}
 use Rattle.lists.proofs.FirstFound.{found_in}
-use Rattle.model_lines.specs.Ways.{way_by, way, WayEnd, on_bus, no_taker, end_by, way_end, bridges_on_way, end_of, reached_at, Missing, missing_at, missing}
-use Rattle.model_lines.specs.WhyLaws.{IsWay, bus_after, IsMissing, NumbersExplained}
+use Rattle.model_lines.specs.Ways.{way_by, way, takers, takers_by, takers_down, WayEnd, on_bus, no_taker, end_by, way_end, bridges_on_way, takers_on_way, end_of, reached_at, Missing, missing_at, missing, not_found, why_number}
+use Rattle.model_lines.specs.WhyLaws.{IsWay, bus_after, IsPassed, IsTaking, IsUnfound, IsMissing, NumbersExplained}
+use Rattle.model_lines.proofs.Unfound.{unfound, all_unfound}
 
 -- ---- what find finds
 
@@ -255,6 +256,76 @@ module _ (fs : List BoardFunction) (state : IsStateOfBoard fs) (n : ℕ) where
           on true l = absurd (differ f.path p l)
           on false l = more f.path p (omega (arith, long, size)) l
 
+  -- ---- who takes the cycle
+
+  taking_below : (k : ℕ) (bus : Path) (f : BoardFunction) → IsIn f (takers_down fs n k bus) → IsTaking fs n bus (way fs n k bus) f
+  taking_below zero bus f m = absurd m
+  taking_below (suc k) bus f m = of (front_or_back f (takers fs n bus) (takers_by n (takers_down fs n k) (taker fs bus n)) m) (taking_below k)
+    where
+      here : IsIn f (takers fs n bus) → IsTaking fs n bus (way fs n (suc k) bus) f
+      here i =
+          let g = from_filter (λ (x : BoardFunction). path_eq (parent x.path) bus && covers n x) f fs i in
+          record {
+            there = g.0;
+            takes = right_true (path_eq (parent f.path) bus) (covers n f) g.1;
+            passed = inl (path_same (parent f.path) bus (left_true (path_eq (parent f.path) bus) (covers n f) g.1));
+          }
+
+      further : (w : BoardFunction) (ws : List BoardFunction) → (secondary_register w.file == n) ≡ false → IsPassed n w.path ws (parent f.path) → IsPassed n bus (w ∷ ws) (parent f.path)
+      further w ws e (inl is) = inr (w, inl refl, sym is, e)
+      further w ws e (inr (v, i, is, more)) = inr (v, inr i, is, more)
+
+      by : (o : Option BoardFunction) → ((p : Path) (g : BoardFunction) → IsIn g (takers_down fs n k p) → IsTaking fs n p (way fs n k p) g) → IsIn f (takers_by n (takers_down fs n k) o) → IsTaking fs n bus (way_by n (way fs n k) o) f
+      by None more i = absurd i
+      by (Some w) more i = on (secondary_register w.file == n) refl i
+        where
+          on : (t : Bool) → (secondary_register w.file == n) ≡ t → IsIn f (cond t [] (takers_down fs n k w.path)) → IsTaking fs n bus (w ∷ cond t [] (way fs n k w.path)) f
+          on true e j = absurd j
+          on false e j =
+              let g : IsTaking fs n w.path (way fs n k w.path) f = more w.path f j in
+              record { there = g.there; takes = g.takes; passed = further w (way fs n k w.path) e g.passed }
+
+      of : IsIn f (takers fs n bus) ⊎ IsIn f (takers_by n (takers_down fs n k) (taker fs bus n)) → ((p : Path) (g : BoardFunction) → IsIn g (takers_down fs n k p) → IsTaking fs n p (way fs n k p) g) → IsTaking fs n bus (way fs n (suc k) bus) f
+      of (inl i) more = here i
+      of (inr i) more = by (taker fs bus n) more i
+
+  taken_below : (k : ℕ) (bus : Path) → length bus + k ≡ 16 → (f : BoardFunction) → IsTaking fs n bus (way fs n k bus) f → IsIn f (takers_down fs n k bus)
+  taken_below zero bus size f t = by t.passed
+    where
+      by : IsPassed n bus [] (parent f.path) → IsIn f []
+      by (inl e) =
+          let path : IsPath f.path = lawful_path f t.there in
+          let at : f.path ≡ bus ++ last_part f.path ∷ [] = snoc f.path path.some ∙ ap (λ (q : Path). q ++ last_part f.path ∷ []) e in
+          let long : length f.path ≡ length bus + 1 = ap length at ∙ length_snoc bus (last_part f.path) in
+          absurd (omega (arith, path.few, long, size))
+      by (inr (w, m, is, more)) = absurd m
+  taken_below (suc k) bus size f t = by t.passed (taken_below k)
+    where
+      here : parent f.path ≡ bus → IsIn f (takers fs n bus)
+      here e =
+          in_filter (λ (x : BoardFunction). path_eq (parent x.path) bus && covers n x) f fs t.there
+          (and_from (path_eq (parent f.path) bus) (covers n f) (subst (λ (p : Path). path_eq (parent f.path) p ≡ true) e (path_self (parent f.path))) t.takes)
+
+      below : (w : BoardFunction) → IsIn w (way fs n (suc k) bus) → w.path ≡ parent f.path → (secondary_register w.file == n) ≡ false → ((p : Path) → length p + k ≡ 16 → (g : BoardFunction) → IsTaking fs n p (way fs n k p) g → IsIn g (takers_down fs n k p)) → IsIn f (takers_by n (takers_down fs n k) (taker fs bus n))
+      below w m is e more = of (taker fs bus n) refl m
+        where
+          of : (o : Option BoardFunction) → taker fs bus n ≡ o → IsIn w (way_by n (way fs n k) o) → IsIn f (takers_by n (takers_down fs n k) o)
+          of None h i = absurd i
+          of (Some g) h i = at (secondary_register g.file == n) refl i
+            where
+              long : length g.path + k ≡ 16
+              long = let one : length g.path ≡ length bus + 1 = ap length (taker_path bus g h) ∙ length_snoc bus (last_part g.path) in omega (arith, one, size)
+
+              at : (u : Bool) → (secondary_register g.file == n) ≡ u → (w ≡ g) ⊎ IsIn w (cond u [] (way fs n k g.path)) → IsIn f (cond u [] (takers_down fs n k g.path))
+              at true l (inl s) = let bad : true ≡ false = sym l ∙ ap (λ (x : BoardFunction). secondary_register x.file == n) (sym s) ∙ e in cc
+              at true l (inr j) = absurd j
+              at false l (inl s) = more g.path long f (record { there = t.there; takes = t.takes; passed = inl (sym is ∙ ap (λ (x : BoardFunction). x.path) s) })
+              at false l (inr j) = more g.path long f (record { there = t.there; takes = t.takes; passed = inr (w, j, is, e) })
+
+      by : IsPassed n bus (way fs n (suc k) bus) (parent f.path) → ((p : Path) → length p + k ≡ 16 → (g : BoardFunction) → IsTaking fs n p (way fs n k p) g → IsIn g (takers_down fs n k p)) → IsIn f (takers_down fs n (suc k) bus)
+      by (inl e) more = in_front f (takers fs n bus) (takers_by n (takers_down fs n k) (taker fs bus n)) (here e)
+      by (inr (w, m, is, e)) more = in_back f (takers fs n bus) (takers_by n (takers_down fs n k) (taker fs bus n)) (below w m is e more)
+
 -- ---- a configuration number
 
 not_at : (fs : List BoardFunction) (p : Path) (t : Part) → reached_at fs (on_bus p) t ≡ None → Each (λ f. f.path ≡ p ++ t ∷ [] → ⊥) fs
@@ -264,31 +335,40 @@ not_at fs p t h = each_map (λ (f : BoardFunction). path_eq f.path (p ++ t ∷ [
     differs f k e = let bad : true ≡ false = sym (subst (λ (q : Path). path_eq f.path q ≡ true) e (path_self f.path)) ∙ k in cc
 
 -- what is said of a number whose cycle goes through these bridges to this end
-record Explains (fs : List BoardFunction) (at : BusAddress) (bridges : List BoardFunction) (end : WayEnd) : Type 0 where
+record Explains (fs : List BoardFunction) (at : BusAddress) (bridges told : List BoardFunction) (end : WayEnd) : Type 0 where
   way : IsWay fs at.bus [] bridges
+  taking : Each (IsTaking fs at.bus [] bridges) told
+  all_taking : (f : BoardFunction) → (at.bus == 0) ≡ false → IsTaking fs at.bus [] bridges f → IsIn f told
   end_is : end_path end ≡ bus_after [] bridges
   reached_is : reached fs at ≡ reached_at fs end at.part
   none_takes : (p : Path) → end ≡ no_taker p → Each (λ f. parent f.path ≡ p → covers at.bus f ≡ false) fs
 
-explains : (fs : List BoardFunction) → IsStateOfBoard fs → (at : BusAddress) → Explains fs at (bridges_on_way fs at) (end_of fs at)
+explains : (fs : List BoardFunction) → IsStateOfBoard fs → (at : BusAddress) → Explains fs at (bridges_on_way fs at) (takers_on_way fs at) (end_of fs at)
 unfolding end_path
 explains fs state at = by (at.bus == 0) refl
   where
-    by : (t : Bool) → (at.bus == 0) ≡ t → Explains fs at (cond t [] (way fs at.bus 16 [])) (cond t (on_bus []) (way_end fs at.bus 16 []))
+    different : (at.bus == 0) ≡ true → (at.bus == 0) ≡ false → ⊥
+    different e other = cc
+
+    by : (t : Bool) → (at.bus == 0) ≡ t → Explains fs at (cond t [] (way fs at.bus 16 [])) (cond t [] (takers_down fs at.bus 16 [])) (cond t (on_bus []) (way_end fs at.bus 16 []))
     by true e = record {
       way = tt;
+      taking = tt;
+      all_taking = λ f other t. absurd (different e other);
       end_is = refl;
       reached_is = rw e refl;
       none_takes = λ p h. absurd (differ [] p h);
     }
     by false e = record {
       way = way_is fs state at.bus 16 [];
+      taking = each_from (IsTaking fs at.bus [] (way fs at.bus 16 [])) (takers_down fs at.bus 16 []) (taking_below fs state at.bus 16 []);
+      all_taking = λ f other t. taken_below fs state at.bus 16 [] refl f t;
       end_is = end_after fs state at.bus 16 [];
       reached_is = rw e (reached_by fs state at.bus at.part (way_end fs at.bus 16 []) refl);
       none_takes = λ p h. none_takes fs state at.bus 16 [] p refl h;
     }
 
-missing_by : (fs : List BoardFunction) (at : BusAddress) (end : WayEnd) → Explains fs at (bridges_on_way fs at) end → reached_at fs end at.part ≡ None → IsMissing fs at (missing_at end at)
+missing_by : (fs : List BoardFunction) (at : BusAddress) (end : WayEnd) → Explains fs at (bridges_on_way fs at) (takers_on_way fs at) end → reached_at fs end at.part ≡ None → IsMissing fs at (missing_at end at)
 unfolding end_path
 missing_by fs at (on_bus p) x none = (refl, x.end_is, not_at fs p at.part none)
 missing_by fs at (no_taker p) x none = (refl, x.end_is, x.none_takes p refl)
@@ -296,11 +376,16 @@ missing_by fs at (no_taker p) x none = (refl, x.end_is, x.none_takes p refl)
 pub numbers_explained : NumbersExplained
 numbers_explained fs state at = record {
   way = x.way;
+  taking = x.taking;
+  all_taking = x.all_taking;
   reached_is = x.reached_is;
   missing_is = λ m h. by m (reached fs at) refl h;
+  unfound = each_of_map (IsUnfound fs at (why_number fs at)) (λ (f : BoardFunction). f.path) (not_found fs at (reached fs at))
+      (each_from (λ (f : BoardFunction). IsUnfound fs at (why_number fs at) f.path) (not_found fs at (reached fs at)) (unfound fs at));
+  all_unfound = all_unfound fs at;
 }
   where
-    x : Explains fs at (bridges_on_way fs at) (end_of fs at)
+    x : Explains fs at (bridges_on_way fs at) (takers_on_way fs at) (end_of fs at)
     x = explains fs state at
 
     by : (m : Missing) (o : Option BoardFunction) → reached fs at ≡ o → missing fs at o ≡ Some m → (reached fs at ≡ None) × IsMissing fs at m

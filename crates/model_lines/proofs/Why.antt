@@ -4,7 +4,7 @@ use Rattle.std.specs.Prelude.{map, filter, flat_map, reverse, slice_get, IsFalse
 use Rattle.std.specs.Option.{option_to_list}
 use Rattle.std.proofs.lemmas.List.{reverse-append, reverse-reverse}
 use Rattle.std.proofs.lemmas.Bool.Decides.{nat_tests}
-use Rattle.std.proofs.lemmas.Bool.{not-true, not_from_false, or_parts}
+use Rattle.std.proofs.lemmas.Bool.{and_from, not-true, not_from_false, or_parts}
 use Rattle.lists.specs.Elements.{Each, IsIn}
 use Rattle.lists.proofs.Members.{each_from, in_front, in_back, front_or_back, in_map, from_map, in_filter, from_filter, in_flat_map, from_flat_map, all_from}
 use Rattle.lists.proofs.Indices.{index_in}
@@ -17,12 +17,14 @@ use Rattle.model_board.specs.Paths.{Path, leads_to}
 use Rattle.model_board.specs.State.{BoardFunction}
 use Rattle.model_board.specs.Windows.{Window, is_in, io_window, mem_window, pref_window, is_in_window, forwards}
 use Rattle.model_board.specs.Claims.{Claim, claim_at, is_forwarded, claims, first_claim}
-use Rattle.model_board.specs.Routing.{Ranges, regions, windows, RoutingRow, ranges_of, row_of, routing, is_routed, row_claims}
+use Rattle.model_board.specs.Routing.{Ranges, regions, windows, RoutingRow, ranges_of, row_of, routing, row_forwards, is_routed, row_claims}
 use Rattle.model_board.proofs.Routing.{forwarded_by_routing, claims_by_routing, first_of_claims}
 use Rattle.model_set_up.specs.PlacedRegions.{PlacedRegion, holds}
 use Rattle.model_findings.specs.OpenRegions.{region_now, regions_of}
-use Rattle.model_lines.specs.Why.{io_windows, pref_windows, windows_now, Hindrance, closes, misses, hindrance, Cause, closed_by, stopped_at, closing, stop, stops, causes_of, Told, is_answer, holders, told_of, told, is_closed}
-use Rattle.model_lines.specs.WhyLaws.{IsAnswering, LiesOutside, IsTrueHindrance, claim_there, IsTrueCause, IsTrueTold, AddressesExplained}
+use Rattle.model_findings.specs.Agents.{bridge_agent, answers}
+use Rattle.model_findings.proofs.Answering.{bridge_answers}
+use Rattle.model_lines.specs.Why.{io_windows, pref_windows, windows_now, Hindrance, closes, misses, hindrance, Cause, closed_by, stopped_at, closing, stop, stops, causes_of, Told, is_answer, holders, told_of, told, is_closed, Forwarder, forwarder, passes_on, forwarders}
+use Rattle.model_lines.specs.WhyLaws.{IsAnswering, IsForwarding, LiesOutside, IsTrueHindrance, claim_there, IsTrueCause, IsTrueTold, AddressesExplained}
 use Rattle.lists.proofs.Members.{from_option}
 
 -- ---- an open region that is forwarded to has a claim
@@ -223,6 +225,32 @@ module _ (fs : List BoardFunction) (space : Space) (n : ℕ) where
   none_too : first_claim fs space n ≡ None → (t : Told) → IsTrueTold fs space n t → t.causes ≡ [] → ⊥
   none_too none t told e = no_first (claims fs space n) (claim_there n t.region) (sym (first_of_claims fs space n) ∙ none) (told.too e)
 
+-- ---- what forwards it
+
+pub by_row : (space : Space) (n : ℕ) (f : BoardFunction) → row_forwards space n (row_of f) ≡ forwards space n f
+by_row space n f = by space f.decl
+  where
+    by : (s : Space) (d : Decl) → row_forwards s n (record { path = f.path; command = command_word f.file; ranges = ranges_of f.file d }) ≡ forwards s n (record { path = f.path; decl = d; file = f.file })
+    by s (endpoint d) = refl
+    by io (bridge d) = refl
+    by memory (bridge d) = refl
+
+module _ (fs : List BoardFunction) (space : Space) (n : ℕ) where
+  forwarding : Each (IsForwarding fs space n) (forwarders fs space n)
+  forwarding = each_from (IsForwarding fs space n) (forwarders fs space n) one
+    where
+      one : (g : Forwarder) → IsIn g (forwarders fs space n) → IsForwarding fs space n g
+      one g m =
+          let i = from_map forwarder g (filter (passes_on fs space n) fs) m in
+          let t = from_filter (passes_on fs space n) i.0 fs i.1 in
+          let both = and_parts (forwards space n i.0) (is_forwarded fs i.0.path space n) t.1 in
+          record { function = i.0; there = t.0; forwarder_is = i.2; forwards_it = both.0; forwarded = both.1 }
+
+  all_forwarding : (f : BoardFunction) → IsIn f fs → answers space n (bridge_agent (row_of f) space) ≡ true → is_forwarded fs f.path space n ≡ true → IsIn (forwarder f) (forwarders fs space n)
+  all_forwarding f m a way =
+      in_map forwarder f (filter (passes_on fs space n) fs) (in_filter (passes_on fs space n) f fs m
+      (and_from (forwards space n f) (is_forwarded fs f.path space n) (sym (bridge_answers space n (row_of f) ∙ by_row space n f) ∙ a) way))
+
 -- ---- who answers
 
 -- the region of a row that has a claim
@@ -291,6 +319,8 @@ pub addresses_explained : AddressesExplained
 addresses_explained fs space n = record {
   answer = refl;
   answering = answering fs space n;
+  forwarding = forwarding fs space n;
+  all_forwarding = all_forwarding fs space n;
   true_each = each_from (IsTrueTold fs space n) (told fs space n) (told_true fs space n);
   complete = complete fs space n;
   nobody = λ none. each_from (λ t. t.causes ≡ [] → ⊥) (told fs space n) (λ t m. none_too fs space n none t (told_true fs space n t m));

@@ -6,7 +6,8 @@
 --     closing, stops, causes_of      its Command, all such bridges, and both: the causes for the regions of a function
 --     Told, told fs space n      each region that holds an address, but for the one that answers, with all its causes
 --     is_as_at_reset      one that was never placed, so far as registers tell
---     Why, why fs space n      who answers, and what is told
+--     Forwarder, forwarders fs space n      each bridge that forwards an address to the bus behind it, down to where its way ends
+--     Why, why fs space n      who answers, what forwards it, and what is told
 use Rattle.std.specs.Prelude.{List, [], ◌∷◌, ◌++◌, ℕ, Bool, true, false, ◌&&◌, ◌==◌, not, if◌then◌else◌, Option, Some, None}
 use Rattle.std.specs.Prelude.{map, filter, flat_map, reverse}
 use Rattle.std.specs.Option.{option_to_list}
@@ -17,7 +18,8 @@ use Rattle.model_board.specs.Paths.{Path, path_eq, leads_to}
 use Rattle.model_board.specs.Board.{endpoint, bridge}
 use Rattle.model_board.specs.State.{BoardFunction}
 use Rattle.model_board.specs.Windows.{Window, io_window, mem_window, pref_window, forwards}
-use Rattle.model_board.specs.Claims.{Claim, first_claim}
+use Rattle.model_board.specs.Claims.{Claim, is_forwarded, first_claim}
+use Rattle.model_board.specs.Cycles.{secondary_register}
 use Rattle.model_board.specs.Routing.{row_of}
 use Rattle.model_set_up.specs.PlacedRegions.{PlacedRegion, holds}
 use Rattle.model_findings.specs.OpenRegions.{regions_of}
@@ -121,9 +123,29 @@ is_closed (stopped_at p h ∷ cs) = false
 abbrev pub is_as_at_reset : Told → Bool
 is_as_at_reset t = t.region.first == 0 && is_closed t.causes
 
+-- ---- where an address goes
+
+-- a bridge, and the number that it holds for the bus behind it
+pub record Forwarder : Type 0 where
+  pub path : Path
+  pub bus : ℕ
+
+abbrev pub forwarder : BoardFunction → Forwarder
+forwarder f = record { path = f.path; bus = secondary_register f.file }
+
+-- the bridges above it forward it too
+abbrev pub passes_on : List BoardFunction → Space → ℕ → BoardFunction → Bool
+passes_on fs space n f = forwards space n f && is_forwarded fs f.path space n
+
+-- in path order
+abbrev pub forwarders : List BoardFunction → Space → ℕ → List Forwarder
+forwarders fs space n = map forwarder (filter (passes_on fs space n) fs)
+
 pub record Why : Type 0 where
   pub answer : Option Claim
+  pub forwarders : List Forwarder
   pub told : List Told
 
 abbrev pub why : List BoardFunction → Space → ℕ → Why
-why fs space n = record { answer = first_claim fs space n; told = told fs space n }
+why fs space n =
+    record { answer = first_claim fs space n; forwarders = forwarders fs space n; told = told fs space n }

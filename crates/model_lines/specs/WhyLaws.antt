@@ -3,12 +3,13 @@
 --     IsTrueHindrance, IsStopped, IsTrueCause      what a cause says
 --     IsTrueTold      a told region holds the address, is not the answering one, and has these causes and no other
 --     IsAnswering      what it says of a claim that it answers
---     IsExplained, AddressesExplained      who answers, and each region that holds the address
+--     IsForwarding      what it says of a bridge that it forwards the address
+--     IsExplained, AddressesExplained      who answers, each bridge that forwards, and each region that holds the address
 --     OrderlyAnswersAlone      in an orderly state no other region would answer too
 --     ReadyTellsNothing      in a ready state nothing is told: a region that holds an address answers
---     IsWay      each bridge takes the cycle on the bus behind the one before
---     IsMissing, IsNumberExplained, NumbersExplained      where a cycle ends, and what is missing there
-use Rattle.std.specs.Prelude.{List, [], ◌∷◌, ◌++◌, ◌≡◌, ℕ, ◌-◌, Some, None, IsTrue, IsFalse, ◌⊎◌, ⊤}
+--     IsWay, IsPassed      each bridge takes the cycle on the bus behind the one before; a bus on which it is taken
+--     IsMissing, IsNumberExplained, NumbersExplained      where a cycle ends, who takes it, and what is missing there
+use Rattle.std.specs.Prelude.{List, [], ◌∷◌, ◌++◌, ◌≡◌, ℕ, ◌-◌, Option, Some, None, IsTrue, IsFalse, ◌⊎◌, ◌==◌, ⊤}
 use Rattle.model_registers.specs.Apertures.{Apertures}
 use Rattle.lists.specs.Elements.{IsIn, Each}
 use Rattle.model_registers.specs.Decoding.{Space, command_word, is_open}
@@ -17,16 +18,18 @@ use Rattle.model_board.specs.Paths.{Path, leads_to, parent}
 use Rattle.model_board.specs.State.{BoardFunction}
 use Rattle.model_board.specs.Windows.{is_in, forwards}
 use Rattle.model_board.specs.Claims.{Claim, is_forwarded, claims, first_claim}
-use Rattle.model_board.specs.Cycles.{covers, taker, BusAddress, reached}
+use Rattle.model_board.specs.Cycles.{secondary_register, covers, taker, BusAddress, reached}
 use Rattle.model_board.specs.Routing.{row_of, routing}
 use Rattle.model_set_up.specs.PlacedRegions.{PlacedRegion, holds}
 use Rattle.model_findings.specs.OpenRegions.{regions_of}
+use Rattle.model_findings.specs.Agents.{bridge_agent, answers}
+use Rattle.model_findings.specs.Problems as audit
 use Rattle.model_findings.specs.Orderly.{IsOrderly, IsStateOfBoard}
 use Rattle.model_findings.specs.Lacks.{IsReady}
 use Rattle.model_lines.specs.Why.{NamedWindow, windows_now, Hindrance, closes, misses, hindrance, Cause}
-use Rattle.model_lines.specs.Why.{closed_by, stopped_at, Told, is_answer, told, is_as_at_reset, why}
-use Rattle.model_lines.specs.Ways.{bridges_on_way, end_of, reached_at, Missing, no_bridge}
-use Rattle.model_lines.specs.Ways.{no_function, missing}
+use Rattle.model_lines.specs.Why.{closed_by, stopped_at, Told, is_answer, told, is_as_at_reset, Forwarder, forwarder, why}
+use Rattle.model_lines.specs.Ways.{bridges_on_way, takers_on_way, end_of, reached_at, Missing, no_bridge}
+use Rattle.model_lines.specs.Ways.{no_function, missing, WhyNumber, why_number}
 
 -- ---- an address
 
@@ -84,9 +87,21 @@ pub record IsAnswering (fs : List BoardFunction) (space : Space) (n : ℕ) (c : 
   pub forwarded : IsTrue (is_forwarded fs function.path space n)
   pub claim_is : c ≡ claim_there n region
 
+-- a bridge that forwards the address, as each bridge above it does
+pub record IsForwarding (fs : List BoardFunction) (space : Space) (n : ℕ) (g : Forwarder) : Type 0 where
+  pub function : BoardFunction
+  pub there : IsIn function fs
+  pub forwarder_is : g ≡ forwarder function
+  pub forwards_it : IsTrue (forwards space n function)
+  pub forwarded : IsTrue (is_forwarded fs function.path space n)
+
 pub record IsExplained (fs : List BoardFunction) (space : Space) (n : ℕ) : Type 0 where
   pub answer : (why fs space n).answer ≡ first_claim fs space n
   pub answering : (c : Claim) → (why fs space n).answer ≡ Some c → IsAnswering fs space n c
+  pub forwarding : Each (IsForwarding fs space n) (why fs space n).forwarders
+  -- an agent that an audit says answers the address is told where bridges forward it there: 'answers' means one thing
+  pub all_forwarding : (f : BoardFunction) → IsIn f fs → IsTrue (answers space n (bridge_agent (row_of f) space))
+      → IsTrue (is_forwarded fs f.path space n) → IsIn (forwarder f) (why fs space n).forwarders
   pub true_each : Each (IsTrueTold fs space n) (why fs space n).told
   -- a region that holds the address answers, or is told
   pub complete : (f : BoardFunction) → IsIn f fs → (q : PlacedRegion) → IsIn q (regions_of (row_of f))
@@ -118,6 +133,21 @@ abbrev pub bus_after : Path → List BoardFunction → Path
 bus_after bus [] = bus
 bus_after bus (f ∷ fs) = bus_after f.path fs
 
+-- bus 0, and each bus behind a bridge that takes it on
+abbrev pub IsPassed : ℕ → Path → List BoardFunction → Path → Type 0
+IsPassed n bus ws p =
+    (p ≡ bus) ⊎ ((w : BoardFunction) × IsIn w ws × (w.path ≡ p) × IsFalse (secondary_register w.file == n))
+
+-- a bridge that takes the cycle on a bus of its way
+pub record IsTaking (fs : List BoardFunction) (n : ℕ) (bus : Path) (ws : List BoardFunction) (f : BoardFunction) : Type 0 where
+  pub there : IsIn f fs
+  pub takes : IsTrue (covers n f)
+  pub passed : IsPassed n bus ws (parent f.path)
+
+-- what an audit doesn't find by a number
+abbrev pub IsUnfound : List BoardFunction → BusAddress → WhyNumber → Path → Type 0
+IsUnfound fs at w p = IsIn (audit.not_found p at w.reached) (audit.numbering_problems fs)
+
 abbrev pub IsMissing : List BoardFunction → BusAddress → Missing → Type 0
 IsMissing fs at (no_bridge p n) =
     (n ≡ at.bus) × (p ≡ bus_after [] (bridges_on_way fs at)) × Each (λ f. parent f.path ≡ p → IsFalse (covers n f)) fs
@@ -126,8 +156,16 @@ IsMissing fs at (no_function p t) =
 
 pub record IsNumberExplained (fs : List BoardFunction) (at : BusAddress) : Type 0 where
   pub way : IsWay fs at.bus [] (bridges_on_way fs at)
+  -- all that take the cycle, and no other
+  pub taking : Each (IsTaking fs at.bus [] (bridges_on_way fs at)) (takers_on_way fs at)
+  pub all_taking : (f : BoardFunction) → IsFalse (at.bus == 0) → IsTaking fs at.bus [] (bridges_on_way fs at) f
+      → IsIn f (takers_on_way fs at)
   pub reached_is : reached fs at ≡ reached_at fs (end_of fs at) at.part
   pub missing_is : (m : Missing) → missing fs at (reached fs at) ≡ Some m → (reached fs at ≡ None) × IsMissing fs at m
+  -- what an audit says isn't found by the number, and nothing else
+  pub unfound : Each (IsUnfound fs at (why_number fs at)) (why_number fs at).not_found
+  pub all_unfound : (p : Path) (instead : Option Path) → IsIn (audit.not_found p at instead) (audit.numbering_problems fs)
+      → IsIn p (why_number fs at).not_found
 
 abbrev pub NumbersExplained : Type 0
 NumbersExplained = (fs : List BoardFunction) → IsStateOfBoard fs → (at : BusAddress) → IsNumberExplained fs at

@@ -5,7 +5,7 @@
 --     why_port_text s n      both
 --     PortsByLatch      each access at a port goes there
 --     PortExamples      what is told of some ports
-use Rattle.std.specs.Prelude.{List, [], ◌∷◌, ◌++◌, ◌≡◌, ℕ, ◌==◌, if◌then◌else◌, map, codes}
+use Rattle.std.specs.Prelude.{List, [], ◌∷◌, ◌++◌, ◌≡◌, ℕ, ◌==◌, if◌then◌else◌, codes}
 use Rattle.model_registers.specs.Decoding.{io}
 use Rattle.model_board.specs.State.{State}
 use Rattle.model_board.specs.Cycles.{BusAddress}
@@ -16,7 +16,7 @@ use Rattle.model_guests.specs.PathTexts.{hexadecimal}
 use Rattle.model_findings.specs.AuditText.{space_text, number_text}
 use Rattle.model_lines.specs.Why.{why}
 use Rattle.model_lines.specs.Ways.{why_number}
-use Rattle.model_lines.specs.WhyText.{why_line, why_lines, number_lines}
+use Rattle.model_lines.specs.WhyText.{why_lines, number_lines, whole_text}
 use Rattle.model_findings.specs.ReadyExamples.{left}
 
 pub data PortUse : Type 0 where
@@ -70,7 +70,7 @@ abbrev pub port_lines : State → ℕ → PortUse → List Text
 port_lines s n u = use_lines s.latch n u ++ found_lines s n u
 
 abbrev pub why_port_text : State → ℕ → Text
-why_port_text s n = text_of_lines (map why_line (port_lines s n (port_use s.latch n)))
+why_port_text s n = whole_text (port_lines s n (port_use s.latch n))
 
 -- ---- worked examples
 
@@ -82,17 +82,20 @@ pub record PortExamples : Type 0 where
       why_port_text (latched_at 0x80000800) 0xcf8
       ≡ text_of_lines (
       codes "why: I/O 0xcf8: 4 bytes are the latch, 0x80000800"
-      ∷ codes "why: I/O 0xcf8: nobody answers" ∷ [])
+      ∷ codes "why: I/O 0xcf8: nobody answers"
+      ∷ codes "why: 2 lines" ∷ [])
   pub shown :
       why_port_text (latched_at 0x80000804) 0xcfe
       ≡ text_of_lines (
       codes "why: I/O 0xcfe: offset 0x6 of 00:01.0 by the latch, 0x80000804"
-      ∷ codes "why: 00:01.0 reaches 1.0" ∷ [])
+      ∷ codes "why: 00:01.0 reaches 1.0"
+      ∷ codes "why: 2 lines" ∷ [])
   pub hidden :
       why_port_text (latched_at 0x800) 0xcfc
       ≡ text_of_lines (
       codes "why: I/O 0xcfc: not enabled by the latch, 0x800"
-      ∷ codes "why: I/O 0xcfc: nobody answers" ∷ [])
+      ∷ codes "why: I/O 0xcfc: nobody answers"
+      ∷ codes "why: 2 lines" ∷ [])
   pub beside :
       why_port_text (latched_at 0x80000800) 0xcf9
-      ≡ text_of_lines (codes "why: I/O 0xcf9: nobody answers" ∷ [])
+      ≡ text_of_lines (codes "why: I/O 0xcf9: nobody answers" ∷ codes "why: 1 line" ∷ [])

@@ -1,13 +1,14 @@
 -- The text of why an address or a configuration number finds what it finds: who answers, and a line for each cause.
 --     window_text, hindrance_text, cause_text, causes_text      a window, what a bridge lacks, a cause, and all of a region
 --     at_reset_lines      how many regions are as at reset, in one line
+--     counted, whole_text ls      some lines, with a last one that counts them
 --     why_text      the lines of an address
 --     why_number_text      the lines of a configuration number
 use Rattle.std.specs.Prelude.{List, [], ◌∷◌, ◌++◌, ℕ, ◌==◌, not, if◌then◌else◌, length, map, filter, flat_map, codes, decimal}
 use Rattle.std.specs.Option.{option_map_or}
 use Rattle.std.specs.Prelude.{Option, Some, None}
 use Rattle.model_registers.specs.Decoding.{Space}
-use Rattle.model_board.specs.Paths.{Path}
+use Rattle.model_board.specs.Paths.{Path, parent}
 use Rattle.model_board.specs.State.{BoardFunction}
 use Rattle.model_board.specs.Windows.{Window}
 use Rattle.model_board.specs.Claims.{Claim}
@@ -17,7 +18,7 @@ use Rattle.model_guests.specs.Replies.{hex_digits}
 use Rattle.model_guests.specs.PathTexts.{hexadecimal, part_text, path_text}
 use Rattle.model_findings.specs.AuditText.{register_text, region_text, space_text, number_text}
 use Rattle.model_lines.specs.Why.{WindowName, for_io, for_memory, for_prefetchable, NamedWindow, Hindrance, closes, misses, Cause, closed_by}
-use Rattle.model_lines.specs.Why.{stopped_at, Told, is_as_at_reset, Why, why}
+use Rattle.model_lines.specs.Why.{stopped_at, Told, is_as_at_reset, Forwarder, Why, why}
 use Rattle.model_lines.specs.Ways.{Missing, no_bridge, no_function, WhyNumber, why_number}
 
 abbrev pub command_text : ℕ → Text
@@ -73,17 +74,35 @@ at_reset_lines n =
 abbrev pub claim_text : Claim → Text
 claim_text c = path_text c.path ++ register_text c.index ++ codes " offset " ++ hexadecimal c.offset ++ codes " answers"
 
+abbrev pub forwarder_text : Forwarder → Text
+forwarder_text g = path_text g.path ++ codes " forwards it to bus " ++ hex_digits 2 g.bus
+
+-- a bridge that forwards it answers on its own bus
+abbrev pub no_claim_text : List Forwarder → Text
+no_claim_text [] = codes "nobody answers"
+no_claim_text (g ∷ gs) = codes "no region answers"
+
 abbrev pub why_line : Text → Text
 why_line text = codes "why: " ++ text
+
+-- at its end a script sees the end of the reply
+abbrev pub total_text : ℕ → Text
+total_text n = decimal n ++ (if n == 1 then codes " line" else codes " lines")
+
+abbrev pub counted : List Text → List Text
+counted ls = ls ++ total_text (length ls) ∷ []
+
+abbrev pub whole_text : List Text → Text
+whole_text ls = text_of_lines (map why_line (counted ls))
 
 abbrev pub why_lines : Space → ℕ → Why → List Text
 why_lines space n w =
     (space_text space ++ codes " " ++ hexadecimal n ++ codes ": "
-    ++ option_map_or claim_text w.answer (codes "nobody answers"))
-    ∷ map (told_text space) (apart w.told) ++ at_reset_lines (at_reset w.told)
+    ++ option_map_or claim_text w.answer (no_claim_text w.forwarders))
+    ∷ map forwarder_text w.forwarders ++ map (told_text space) (apart w.told) ++ at_reset_lines (at_reset w.told)
 
 abbrev pub why_text : List BoardFunction → Space → ℕ → Text
-why_text fs space n = text_of_lines (map why_line (why_lines space n (why fs space n)))
+why_text fs space n = whole_text (why_lines space n (why fs space n))
 
 -- ---- a configuration number
 
@@ -103,10 +122,13 @@ abbrev pub missing_lines : Option Missing → List Text
 missing_lines None = []
 missing_lines (Some m) = missing_text m ∷ []
 
+abbrev pub not_found_text : Path → Text
+not_found_text p = path_text p ++ codes " has this number " ++ bus_text (parent p)
+
 abbrev pub number_lines : BusAddress → WhyNumber → List Text
 number_lines at w =
     (number_text at ++ codes " reaches " ++ option_map_or path_text w.reached (codes "nothing"))
-    ∷ map (taker_text at) w.bridges ++ missing_lines w.missing
+    ∷ map (taker_text at) w.bridges ++ missing_lines w.missing ++ map not_found_text w.not_found
 
 abbrev pub why_number_text : List BoardFunction → BusAddress → Text
-why_number_text fs at = text_of_lines (map why_line (number_lines at (why_number fs at)))
+why_number_text fs at = whole_text (number_lines at (why_number fs at))

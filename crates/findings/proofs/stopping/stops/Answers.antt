@@ -3,8 +3,10 @@ use Rattle.std.specs.Prelude.{option_map}
 use Rattle.std.specs.Option.{option_to_list}
 use Rattle.std.proofs.lemmas.List.{map-append}
 use Rattle.bars.specs.Kinds.{named_space}
+use Rattle.model_board.specs.State.{BoardFunction}
+use Rattle.model_lines.specs.Why.{stop}
 use Rattle.findings.specs.WhyTold.{cause_told}
-use Rattle.findings.proofs.StoppedFrom.{next_stop}
+use Rattle.findings.proofs.StoppedFrom.{next_one}
 use Rattle.findings.proofs.stopping.stops.Goals as goal
 use Rattle.findings.proofs.stopping.stops.Goals.{in-Some+in_ok-push, in_default}
 
@@ -12,4 +14,4 @@ pub loop-index-preserved : goal.loop-index-preserved
 loop-index-preserved c =
     let told : map cause_told c.match-stop_nth.causes.items ≡ map cause_told c.loop-index.causes.items ++ option_to_list (option_map cause_told c.stop_nth.result) =
     elim c.match-stop_nth.branch [ in-Some+in_ok-push w ↦ grind (arith, map-append) | in_default w ↦ grind (arith, append-nil) ] in
-    next_stop c.args.host.now.state.functions (named_space c.args.asked.now.space) c.args.asked.now.addr c.args.path.now c.loop-index.index _ _ _ c.loop-index.invariant c.stop_nth.ensures told
+    next_one (λ (f : BoardFunction). option_to_list (stop (named_space c.args.asked.now.space) c.args.asked.now.addr c.args.path.now f)) c.args.host.now.state.functions c.loop-index.index _ _ _ _ c.loop-index.invariant c.stop_nth.ensures told

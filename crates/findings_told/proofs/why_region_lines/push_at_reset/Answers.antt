@@ -1,4 +1,4 @@
-use Rattle.std.proofs.Common.{◌≡◌, ◌++◌, [], ℕ, ◌==◌, true, false, ◌∙◌, append_assoc, append-nil, ap, arith, string_bytes}
+use Rattle.std.proofs.Common.{◌≡◌, ◌++◌, [], ℕ, ◌==◌, true, false, append_assoc, append-nil, ap, arith, string_bytes}
 use Rattle.std.specs.Prelude.{codes, decimal}
 use Rattle.std.proofs.lemmas.Result.{IfOk-equal}
 use Rattle.model_guests.specs.Text.{Text}
@@ -23,9 +23,9 @@ more_counted n some more =
 pub returns-then-count-eq1 : goal.returns-then-count-eq1
 returns-then-count-eq1 c =
     IfOk-equal c.writeln.result _ _ _ c.writeln.ensures.bytes
-    (ap (λ (x : Text). string_bytes c.args.text.now ++ x) (one_counted _ c.if-count-eq1.true ∙ ap count_lines c.count_at_reset-count.ensures))
+    (ap (λ (x : Text). string_bytes c.args.text.now ++ x) (one_counted _ c.if-count-eq1.true))
 
 pub returns : goal.returns
 returns c =
     IfOk-equal c.writeln-2.result _ _ _ c.writeln-2.ensures.bytes
-    (ap (λ (x : Text). string_bytes c.args.text.now ++ x) (more_counted _ c.if-count-eq0.false c.if-count-eq1.false ∙ ap count_lines c.count_at_reset-count.ensures))
+    (ap (λ (x : Text). string_bytes c.args.text.now ++ x) (more_counted _ c.if-count-eq0.false c.if-count-eq1.false))

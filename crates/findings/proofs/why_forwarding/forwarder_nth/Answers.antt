@@ -1,0 +1,7 @@
+use Rattle.std.proofs.Common.{arith}
+use Rattle.std.proofs.lemmas.Option.{slice_get-get_or}
+use Rattle.findings.proofs.WhyRows.{forwarder_at}
+use Rattle.findings.proofs.why_forwarding.forwarder_nth.Goals as goal
+
+pub returns : goal.returns
+returns c = grind (arith, forwarder_at, slice_get-get_or)

@@ -1,0 +1,88 @@
+//! The bridges that forward an address, down to where its way ends (PCI-to-PCI Bridge Architecture 1.2, chapter 4).
+ghost use Rattle.std.specs.Prelude.{◌≡◌, ◌&&◌, map, slice_get, option_map, IfOk};
+ghost use Rattle.std.specs.Option.{option_to_list};
+ghost use Rattle.bars.specs.Kinds.{named_space};
+ghost use Rattle.model_board.specs.Routing.{routing, row_forwards, is_routed};
+ghost use Rattle.model_lines.specs.Why.{forwarders};
+ghost use Rattle.findings.specs.WhyByRows.{row_forwarder, forwarders_among};
+ghost use Rattle.bridge_forward.specs.RoutingRows.{secondary_nth};
+ghost use Rattle.findings.specs.WhyTold.{forwarder_told};
+
+use crate::causes::Forwarder;
+use crate::hindering::forwards;
+use crate::holding::Asked;
+use bridge_forward::{Path, RoutingRow};
+use host_bridge::Host;
+use std::alloc::{AllocError, Global};
+
+/// Whether each bridge above a path forwards the address.
+fn is_routed(rows: &[RoutingRow], asked: &Asked, path: &Path) -> bool
+    ensures { let space = named_space asked.now.space in
+        result ≡ is_routed rows.now path.now space asked.now.addr }
+{
+    rows.iter().all(|row| !row.path.leads_to(path) || forwards(row, asked.space, asked.addr))
+}
+
+/// Whether it is a bridge that forwards the address, as each bridge above it does.
+fn passes_on(rows: &[RoutingRow], asked: &Asked, row: &RoutingRow) -> bool
+    ensures { let space = named_space asked.now.space in let addr = asked.now.addr in result
+        ≡ (row_forwards space addr row.now && is_routed rows.now row.now.path space addr) }
+{
+    forwards(row, asked.space, asked.addr) && is_routed(rows, asked, &row.path)
+}
+
+/// The function at an index, whose row is given, if it is such a bridge.
+fn forwarder(
+    host: &Host,
+    rows: &[RoutingRow],
+    asked: &Asked,
+    index: usize,
+    row: &RoutingRow,
+) -> Option<Forwarder>
+    ensures { let space = named_space asked.now.space in
+        let bus = secondary_nth host.now.state.functions index in
+        option_to_list (option_map forwarder_told result)
+        ≡ row_forwarder space asked.now.addr rows.now bus row.now }
+{
+    if !passes_on(rows, asked, row) {
+        return None;
+    }
+    Some(Forwarder {
+        path: row.path.copied(),
+        bus: host.secondary_nth(index).unwrap_or(0),
+    })
+}
+
+/// The same of the function at an index.
+fn forwarder_nth(host: &Host, rows: &[RoutingRow], asked: &Asked, index: usize) -> Option<Forwarder>
+    requires { rows.now ≡ routing host.now.state.functions }
+    ensures { let space = named_space asked.now.space in let fs = host.now.state.functions in
+        let one = option_to_list (slice_get fs index) in
+        option_to_list (option_map forwarder_told result)
+        ≡ forwarders_among fs space asked.now.addr one }
+{
+    if index >= rows.len() {
+        return None;
+    }
+    forwarder(host, rows, asked, index, &rows[index])
+}
+
+/// All such bridges, in path order.
+pub(crate) fn forwarders(
+    alloc: Global,
+    host: &Host,
+    rows: &[RoutingRow],
+    asked: &Asked,
+) -> Result<Vec<Forwarder>, AllocError>
+    requires { rows.now ≡ routing host.now.state.functions }
+    ensures { let space = named_space asked.now.space in let fs = host.now.state.functions in
+        IfOk result (λ v. map forwarder_told v.items ≡ forwarders fs space asked.now.addr) }
+{
+    let mut told = Vec::new(alloc);
+    for index in 0..rows.len() {
+        if let Some(forwarder) = forwarder_nth(host, rows, asked, index) {
+            told.push(forwarder)?;
+        }
+    }
+    Ok(told)
+}
