@@ -1,6 +1,6 @@
 -- The rules that the entries of a board file are asked, by the fault of a file in which one is broken: each with
 -- whether it is kept.
---     file_rules, host_rules, place_rules, slot_rules, endpoint_rules, bar_rules, config_rules, bridge_rules, guest_rules
+--     file_rules, host_rules, path_rules, endpoint_rules, bar_rules, config_rules, bridge_rules, guest_rules
 use Rattle.std.specs.Prelude.{ℕ, ℤ, ◌+◌, nat_abs, pos, int_le, ◌+ℤ◌, Bool, not, ◌&&◌, ◌||◌, length, nat_le, take, map, List, [], ◌∷◌, ◌++◌, option_map}
 use Rattle.std.specs.List.{list_all}
 use Rattle.std.specs.Str.{bytes_eq}
@@ -46,17 +46,15 @@ are_same_place a b = is_path_text a && is_path_text b && path_eq (path_at a) (pa
 abbrev pub is_behind_bridge : List Standing → Path → Bool
 is_behind_bridge ss bus = is_root bus || has_bridge ss bus
 
--- of a function among those that stand so, and whether it has its own path
-abbrev pub place_rules : List Standing → List ℕ → Bool → List (Rule × Bool)
-place_rules ss at is_own =
+-- of a function or a slot, by the functions that stand so, and whether it has its own path
+abbrev pub path_rules : BoardFault → List Standing → List ℕ → Bool → List (Rule × Bool)
+path_rules fault.Place ss at is_own =
     (rule.Path, is_path_text at)
     ∷ (rule.OwnPlace, is_own)
     ∷ (rule.BehindBridge, is_behind_bridge ss (parent (path_at at)))
     ∷ (rule.FunctionZero, has_path ss (function_zero (path_at at))) ∷ []
-
--- of a slot, the same
-abbrev pub slot_rules : List Standing → List ℕ → Bool → List (Rule × Bool)
-slot_rules ss t is_own = (rule.NamesEndpoint, names_endpoint ss t) ∷ (rule.OwnSlot, is_own) ∷ []
+path_rules fault.Slot ss at is_own = (rule.NamesEndpoint, names_endpoint ss at) ∷ (rule.OwnSlot, is_own) ∷ []
+path_rules _ ss at is_own = []
 
 -- ---- functions
 

@@ -1,13 +1,16 @@
 -- Entries with the texts of paths: functions, each with its `at`, and slots.
 --     PathEntry      an entry, its text, and whether no entry before it has the same path
 --     place_texts, slot_texts      the texts of all functions, endpoints first, and of all slots, guest after guest
+--     path_texts      those that a check asks
 --     path_entries      the same of some texts
-use Rattle.std.specs.Prelude.{ℕ, Bool, not, ◌&&◌, List, ◌++◌, map, flat_map, take}
+use Rattle.std.specs.Prelude.{ℕ, Bool, not, ◌&&◌, List, [], ◌++◌, map, flat_map, take}
 use Rattle.std.specs.List.{enumerate_from, list_all}
 use Rattle.model_board.specs.Paths.{Path, path_eq}
 use Rattle.board_file.specs.PathTexts.{is_path_text, path_at}
 use Rattle.board_file.specs.Entries.{Endpoint, Bridge, Guest, File}
 use Rattle.board_file.specs.EntryRules.{are_same_place}
+use Rattle.board_file.specs.declared.fault.BoardFault.{BoardFault}
+use Rattle.board_file.specs.declared.fault.BoardFault.TheVariants as fault
 use Rattle.board_file.specs.declared.entry.Entry.{Entry}
 use Rattle.board_file.specs.declared.entry.Entry.TheVariants as entry
 
@@ -35,6 +38,12 @@ place_texts f = map endpoint_text (enumerate_from 0 f.endpoints) ++ map bridge_t
 
 abbrev pub slot_texts : File → List (Entry × List ℕ)
 slot_texts f = flat_map guest_texts (enumerate_from 0 f.guests)
+
+-- those that a check asks
+abbrev pub path_texts : BoardFault → File → List (Entry × List ℕ)
+path_texts fault.Place f = place_texts f
+path_texts fault.Slot f = slot_texts f
+path_texts _ f = []
 
 -- ---- entries
 

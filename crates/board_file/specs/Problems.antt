@@ -1,6 +1,7 @@
 -- The entries of a file that break a rule.
 --     Found, found_of p      an entry, a rule, and the key at which the entry breaks it; the same of a problem
 --     of_values fault f      those that break a rule of this fault beside paths, each before those inside it
+--     of_paths fault f      those whose paths break one
 --     problems_in f fault      all entries that break a rule of this fault, in the order of the file
 --     Adds these old new      the problems, and then these
 --     none ps      there are none
@@ -9,9 +10,9 @@ use Rattle.std.specs.List.{enumerate_from}
 use Rattle.board_file.specs.Entries.{Bar, Config, Endpoint, Bridge, Guest, File}
 use Rattle.model_board.specs.Places.{Standing}
 use Rattle.board_file.specs.Functions.{standings}
-use Rattle.board_file.specs.PathEntries.{PathEntry, place_texts, slot_texts, path_entries}
+use Rattle.board_file.specs.PathEntries.{PathEntry, path_texts, path_entries}
 use Rattle.board_file.specs.RuleFaults.{key_of}
-use Rattle.board_file.specs.EntryRules.{file_rules, host_rules, place_rules, slot_rules, endpoint_rules, bar_rules, config_rules, bridge_rules, guest_rules}
+use Rattle.board_file.specs.EntryRules.{file_rules, host_rules, path_rules, endpoint_rules, bar_rules, config_rules, bridge_rules, guest_rules}
 use Rattle.board_file.specs.declared.fault.BoardFault.{BoardFault}
 use Rattle.board_file.specs.declared.fault.BoardFault.TheVariants as fault
 use Rattle.board_file.specs.declared.entry.Entry.{Entry}
@@ -73,13 +74,13 @@ of_values fault f =
 
 -- ---- path by path
 
-abbrev pub of_place : List Standing → PathEntry → List Found
-of_place ss p = broken p.entry (place_rules ss p.text p.is_own)
+abbrev pub of_path : BoardFault → List Standing → PathEntry → List Found
+of_path fault ss p = broken p.entry (path_rules fault ss p.text p.is_own)
 
-abbrev pub of_slot : List Standing → PathEntry → List Found
-of_slot ss p = broken p.entry (slot_rules ss p.text p.is_own)
+abbrev pub of_paths : BoardFault → File → List Found
+of_paths fault f = flat_map (of_path fault (standings f)) (path_entries (path_texts fault f))
 
 abbrev pub problems_in : File → BoardFault → List Found
-problems_in f fault.Place = flat_map (of_place (standings f)) (path_entries (place_texts f))
-problems_in f fault.Slot = flat_map (of_slot (standings f)) (path_entries (slot_texts f))
+problems_in f fault.Place = of_paths fault.Place f
+problems_in f fault.Slot = of_paths fault.Slot f
 problems_in f fault = of_values fault f

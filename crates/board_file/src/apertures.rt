@@ -22,10 +22,7 @@ fn aperture(bounds: Bounds) -> Aperture
 fn pref_aperture(bounds: Option<Bounds>) -> Option<Aperture>
     ensures { result ≡ option_map aperture bounds }
 {
-    match bounds {
-        Some(bounds) => Some(aperture(bounds)),
-        None => None,
-    }
+    Some(aperture(bounds?))
 }
 
 /// The apertures, where they are lawful.

@@ -1,7 +1,6 @@
 //! The board of a table.
-ghost use Rattle.std.specs.Prelude.{◌≡◌, ◌≢◌, ◌++◌, ◌⊎◌, IsTrue, IfOk, IfErr, map, Ok, Err, true, false};
+ghost use Rattle.std.specs.Prelude.{◌≡◌, ◌++◌, ◌⊎◌, IsTrue, IfOk, IfErr, map, true, false};
 ghost use Rattle.std.specs.List.{list_all};
-ghost use Rattle.toml.specs.View.{table_view};
 ghost use Rattle.lists.specs.Elements.{Each};
 ghost use Rattle.model_board.specs.AtReset.{IsAtReset, reset_state};
 ghost use Rattle.model_board.specs.Board.{IsBoard};
@@ -9,27 +8,21 @@ ghost use Rattle.model_board.specs.Lawful.{HasLawfulDecls};
 ghost use Rattle.model_board.specs.Places.{board_of};
 ghost use Rattle.model_guests.specs.World.{IsLawfulWorld};
 ghost use Rattle.board_file.specs.Blocks.{Gives};
-ghost use Rattle.board_file.specs.Entries as entries;
 ghost use Rattle.board_file.specs.Functions as said;
-ghost use Rattle.board_file.specs.Functions.{standings};
 ghost use Rattle.board_file.specs.Judged.{is_judged, is_declarable, is_lawful_bridge, IsShortGuest};
 ghost use Rattle.board_file.specs.Rules.{masks_hold};
-ghost use Rattle.board_file.specs.Meaning.{world_in, world_of, meaning};
-ghost use Rattle.board_file.specs.Faults.{number_of};
+ghost use Rattle.board_file.specs.Meaning.{world_in, world_of};
 ghost use Rattle.board_file.specs.declared.fault.BoardFault.TheVariants.{Memory, CellMasks};
 
 use crate::apertures::apertures;
 use crate::building::{bridge, endpoint, guest};
 use crate::entries::{BridgeEntry, EndpointEntry, FileEntries, GuestEntry};
 use crate::fault::BoardFault;
-use crate::judging::first_fault;
-use crate::places::FunctionPath;
 use accesses::GuestDecl;
 use bridge_forward::{Bus, Decl, Declared};
 use headers::Apertures;
 use host_bridge::Host;
 use std::alloc::{AllocError, Global};
-use toml::Table;
 
 /// The endpoints, where their patterns are lawful.
 fn endpoint_decls(
@@ -104,7 +97,10 @@ fn host(alloc: Global, decls: Vec<Decl>, apertures: Apertures) -> Result<Host, A
 }
 
 /// The host and the guests of a judged file. Only its patterns are still judged.
-fn build(alloc: Global, file: &FileEntries<'_>) -> Result<(Host, Vec<GuestDecl>), BoardFault>
+pub(crate) fn build(
+    alloc: Global,
+    file: &FileEntries<'_>,
+) -> Result<(Host, Vec<GuestDecl>), BoardFault>
     requires { IsTrue (is_judged file.now) }
     ensures masks { IfOk result (λ r. list_all masks_hold file.now.endpoints ≡ true) }
     ensures world { IfOk result (λ r. world_in r.0 r.1.items ≡ world_of file.now) }
@@ -122,26 +118,4 @@ fn build(alloc: Global, file: &FileEntries<'_>) -> Result<(Host, Vec<GuestDecl>)
     let host = host(alloc, decls, apertures)?;
     let guests = guests(alloc, &file.guests)?;
     Ok((host, guests))
-}
-
-/// The host at reset and the guests of a table, by what it says.
-pub(crate) fn read_table(
-    alloc: Global,
-    table: &Table,
-    file: &FileEntries<'_>,
-    functions: &[FunctionPath],
-) -> Result<(Host, Vec<GuestDecl>), BoardFault>
-    requires entries { file.now ≡ entries.file (table_view table.now) }
-    requires places { functions.now ≡ standings file.now }
-    ensures world { IfOk result (λ r.
-        meaning (table_view table.now) ≡ Ok (world_in r.0 r.1.items)) }
-    ensures reset { IfOk result (λ r. IsAtReset r.0.state) }
-    ensures lawful { IfOk result (λ r. IsLawfulWorld (world_in r.0 r.1.items)) }
-    ensures refused { IfErr result (λ e.
-        e ≢ Memory → meaning (table_view table.now) ≡ Err (number_of e)) }
-{
-    match first_fault(alloc, table, file, functions)? {
-        Some(fault) => Err(fault),
-        None => build(alloc, file),
-    }
 }

@@ -1,7 +1,6 @@
 //! The entries of a file that break a rule.
 ghost use Rattle.std.specs.Prelude.{◌≡◌, IfOk, OnOk, map};
 ghost use Rattle.board_file.specs.EntryRules.{file_rules, host_rules};
-ghost use Rattle.board_file.specs.Functions.{standings};
 ghost use Rattle.board_file.specs.Problems.{found_of, Adds, broken, of_values, problems_in};
 
 use crate::apertures::{is_io, is_mem, is_pref};
@@ -11,9 +10,9 @@ use crate::fault::BoardFault;
 use crate::function_problems::{push_bridges, push_endpoints};
 use crate::guest_problems::push_guests;
 use crate::numbers::has_few_functions;
-use crate::path_problems::{push_places, push_slots};
-use crate::places::FunctionPath;
+use crate::path_problems::push_paths;
 use crate::rule::Rule;
+use crate::source::Source;
 use std::alloc::{AllocError, Global};
 
 /// An entry that breaks a rule, and the key at which it does.
@@ -107,20 +106,19 @@ fn push_values(
 
 /// All entries that break a rule of what the file says, with this fault, in the order of the file. Of the
 /// faults of a document and of its keys there are none.
-pub fn problems<'a>(
+pub(crate) fn value_problems<'a>(
     alloc: Global,
-    file: &FileEntries<'_>,
-    functions: &[FunctionPath],
+    source: &Source<'_>,
     fault: BoardFault,
 ) -> Result<Vec<Problem<'a>>, AllocError>
-    requires { functions.now ≡ standings file.now }
-    ensures { IfOk result (λ v. map found_of v.items ≡ problems_in file.now fault) }
+    ensures { IfOk result (λ v. map found_of v.items ≡ problems_in source.now.file fault) }
 {
     let mut problems = Vec::new(alloc);
     match fault {
-        BoardFault::Place => push_places(alloc, &mut problems, file, functions)?,
-        BoardFault::Slot => push_slots(alloc, &mut problems, file, functions)?,
-        _ => push_values(alloc, &mut problems, file, fault)?,
+        BoardFault::Place | BoardFault::Slot => {
+            push_paths(alloc, &mut problems, &source.file, &source.functions, fault)?
+        }
+        _ => push_values(alloc, &mut problems, &source.file, fault)?,
     }
     Ok(problems)
 }

@@ -2,7 +2,6 @@
 ghost use Rattle.std.specs.Prelude.{◌≡◌, ◌++◌, IfOk, OnOk, flat_map, map, option_map, true};
 ghost use Rattle.std.specs.Option.{option_map_or};
 ghost use Rattle.toml.specs.View.{view, table_view};
-ghost use Rattle.board_file.specs.Entries as said;
 ghost use Rattle.board_file.specs.KeyProblems.{with_endpoint, tables_of, unless_kept_at, of_field, of_member, keys_in, of_table, of_entry, key_problems};
 ghost use Rattle.board_file.specs.Problems.{found_of, Adds};
 ghost use Rattle.board_file.specs.Schema.{fields, field_of, has_form};
@@ -15,6 +14,7 @@ use crate::keys::fields;
 use crate::reading::value_at;
 use crate::rule::Rule;
 use crate::schema::{Field, Form, Level, form_at, has_form};
+use crate::source::Source;
 use crate::tables::{level_of, table_at};
 use std::alloc::{AllocError, Global};
 use toml::Table;
@@ -180,18 +180,16 @@ fn push_entry<'a>(
 /// All tables that break a rule of keys with this fault.
 pub(crate) fn key_problems<'a>(
     alloc: Global,
-    document: &'a Table,
-    file: &FileEntries<'_>,
+    source: &Source<'a>,
     fault: BoardFault,
 ) -> Result<Vec<Problem<'a>>, AllocError>
-    requires { file.now ≡ said.file (table_view document.now) }
     ensures { IfOk result (λ v.
-        map found_of v.items ≡ key_problems (table_view document.now) fault) }
+        map found_of v.items ≡ key_problems (table_view source.now.document.now) fault) }
 {
-    let tables = tables(alloc, file)?;
+    let tables = tables(alloc, &source.file)?;
     let mut problems = Vec::new(alloc);
     'tables: for entry in &tables {
-        push_entry(&mut problems, fault, document, *entry)?;
+        push_entry(&mut problems, fault, source.document, *entry)?;
     }
     Ok(problems)
 }

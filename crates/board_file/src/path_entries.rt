@@ -9,6 +9,7 @@ ghost use Rattle.board_file.specs.PathEntries as said;
 
 use crate::entries::{FileEntries, GuestEntry};
 use crate::entry::Entry;
+use crate::fault::BoardFault;
 use crate::path_text::PathText;
 use paths::Path;
 use std::alloc::{AllocError, Global};
@@ -75,6 +76,22 @@ fn slot_texts<'f, 'a>(
     Ok(texts)
 }
 
+/// The texts of the paths that a check asks: of functions, or of slots.
+fn path_texts<'f, 'a>(
+    alloc: Global,
+    file: &'f FileEntries<'a>,
+    fault: BoardFault,
+) -> Result<Vec<(Entry, &'f PathText<'a>)>, AllocError>
+    ensures { IfOk result (λ v.
+        map (λ p. (p.0, p.1.now)) v.items ≡ said.path_texts fault file.now) }
+{
+    match fault {
+        BoardFault::Place => place_texts(alloc, file),
+        BoardFault::Slot => slot_texts(alloc, file),
+        _ => Ok(Vec::new(alloc)),
+    }
+}
+
 /// Whether the text is no path, or one that is not taken yet, which it is from then on.
 fn take(taken: &mut BTreeSet<Path>, text: &PathText<'_>) -> Result<bool, AllocError>
     ensures own { IfOk result (λ own.
@@ -110,22 +127,13 @@ fn path_entries<'f, 'a>(
     Ok(entries)
 }
 
-/// All functions, with where they stand, endpoints first.
-pub(crate) fn places<'f, 'a>(
+/// The entries whose paths a check asks.
+pub(crate) fn asked_entries<'f, 'a>(
     alloc: Global,
     file: &'f FileEntries<'a>,
+    fault: BoardFault,
 ) -> Result<Vec<PathEntry<'f, 'a>>, AllocError>
-    ensures { IfOk result (λ v. v.items ≡ said.path_entries (said.place_texts file.now)) }
+    ensures { IfOk result (λ v. v.items ≡ said.path_entries (said.path_texts fault file.now)) }
 {
-    path_entries(alloc, place_texts(alloc, file)?)
-}
-
-/// All slots, guest after guest.
-pub(crate) fn slots<'f, 'a>(
-    alloc: Global,
-    file: &'f FileEntries<'a>,
-) -> Result<Vec<PathEntry<'f, 'a>>, AllocError>
-    ensures { IfOk result (λ v. v.items ≡ said.path_entries (said.slot_texts file.now)) }
-{
-    path_entries(alloc, slot_texts(alloc, file)?)
+    path_entries(alloc, path_texts(alloc, file, fault)?)
 }

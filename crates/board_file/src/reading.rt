@@ -38,10 +38,7 @@ fn number(table: &Table, key: &str) -> i64
 fn text_at<'a>(table: &'a Table, key: &str) -> Option<&'a str>
     ensures { option_map (λ s. s.now) result ≡ text_at key.now (table_view table.now) }
 {
-    match value_at(table, key) {
-        Some(value) => value.as_str(),
-        None => None,
-    }
+    value_at(table, key)?.as_str()
 }
 
 /// The text at a key, or none.
@@ -56,10 +53,7 @@ fn array_at<'a>(table: &'a Table, key: &str) -> Option<&'a Array>
     ensures { option_map (λ a. array_view a.now) result
         ≡ option_and_then as_array (get_member key.now (table_view table.now)) }
 {
-    match value_at(table, key) {
-        Some(value) => value.as_array(),
-        None => None,
-    }
+    value_at(table, key)?.as_array()
 }
 
 /// What a table of an array says.
@@ -238,10 +232,7 @@ fn table_at<'a>(table: &'a Table, key: &str) -> Option<&'a Table>
     ensures { option_map (λ t. table_view t.now) result
         ≡ option_and_then as_table (get_member key.now (table_view table.now)) }
 {
-    match value_at(table, key) {
-        Some(value) => value.as_table(),
-        None => None,
-    }
+    value_at(table, key)?.as_table()
 }
 
 fn host_range(table: &Table, key: &str) -> Bounds

@@ -1,22 +1,24 @@
 //! A document with what it says, and the reading of a board file.
-ghost use Rattle.std.specs.Prelude.{◌≡◌, ◌≢◌, IfOk, IfErr, IsUtf8, Ok, Err, map};
+ghost use Rattle.std.specs.Prelude.{◌≡◌, ◌≢◌, IfOk, IfErr, IsUtf8, Ok, Err, map, option_map};
 ghost use Rattle.toml.specs.View.{table_view};
 ghost use Rattle.toml.specs.Parse.{parse_document};
+ghost use Rattle.model_registers.specs.DeclarationRules.{first_broken};
 ghost use Rattle.model_board.specs.AtReset.{IsAtReset};
 ghost use Rattle.model_guests.specs.World.{IsLawfulWorld};
 ghost use Rattle.board_file.specs.Entries as said;
 ghost use Rattle.board_file.specs.Functions.{standings};
 ghost use Rattle.board_file.specs.KeyProblems.{problems_of};
 ghost use Rattle.board_file.specs.Problems.{found_of};
-ghost use Rattle.board_file.specs.Meaning.{world_in, meaning, document_meaning};
+ghost use Rattle.board_file.specs.Meaning.{early_checks, world_in, meaning, document_meaning};
 ghost use Rattle.board_file.specs.Faults.{number_of};
 ghost use Rattle.board_file.specs.declared.fault.BoardFault.TheVariants.{NotToml, Memory};
 
-use crate::board::read_table;
+use crate::board::build;
+use crate::checks::order;
 use crate::entries::FileEntries;
 use crate::fault::BoardFault;
-use crate::finding::Problem;
-use crate::judging::problems_of;
+use crate::finding::{Problem, value_problems};
+use crate::key_problems::key_problems;
 use crate::places::{FunctionPath, function_paths};
 use crate::reading::read_entries;
 use accesses::GuestDecl;
@@ -57,6 +59,31 @@ impl<'a> Source<'a> {
         })
     }
 
+    /// All entries that break a rule whose fault this is, each with this rule and the key at which it is
+    /// broken, in the order of the file.
+    pub fn problems(&self, alloc: Global, fault: BoardFault) -> Result<Vec<Problem<'a>>, AllocError>
+        ensures { let ms = table_view self.now.document.now in
+            IfOk result (λ v. map found_of v.items ≡ problems_of ms fault) }
+    {
+        match fault {
+            BoardFault::Key | BoardFault::UnknownKey => key_problems(alloc, self, fault),
+            _ => value_problems(alloc, self, fault),
+        }
+    }
+
+    /// The first fault of the document, but for that of its patterns.
+    fn first_fault(&self, alloc: Global) -> Result<Option<BoardFault>, AllocError>
+        ensures { let ms = table_view self.now.document.now in
+            IfOk result (λ found. option_map number_of found ≡ first_broken (early_checks ms)) }
+    {
+        'checks: for fault in order() {
+            if !self.problems(alloc, *fault)?.is_empty() {
+                return Ok(Some(*fault));
+            }
+        }
+        Ok(None)
+    }
+
     /// The host and the guests that the document declares, or its refusal, as [`read_board`] answers them.
     pub fn world(&self, alloc: Global) -> Result<(Host, Vec<GuestDecl>), BoardFault>
         ensures world { let ms = table_view self.now.document.now in
@@ -66,16 +93,10 @@ impl<'a> Source<'a> {
         ensures refused { let ms = table_view self.now.document.now in
             IfErr result (λ e. e ≢ Memory → meaning ms ≡ Err (number_of e)) }
     {
-        read_table(alloc, self.document, &self.file, &self.functions)
-    }
-
-    /// All entries that break a rule whose fault this is, each with this rule and the key at which it is
-    /// broken, in the order of the file.
-    pub fn problems(&self, alloc: Global, fault: BoardFault) -> Result<Vec<Problem<'a>>, AllocError>
-        ensures { let ms = table_view self.now.document.now in
-            IfOk result (λ v. map found_of v.items ≡ problems_of ms fault) }
-    {
-        problems_of(alloc, self.document, &self.file, &self.functions, fault)
+        match self.first_fault(alloc)? {
+            Some(fault) => Err(fault),
+            None => build(alloc, &self.file),
+        }
     }
 }
 

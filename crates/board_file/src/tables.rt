@@ -15,10 +15,7 @@ fn table_of(list: &Value, index: usize) -> Option<&Table>
     ensures { option_map (λ t. table_view t.now) result
         ≡ option_and_then as_table (at index (view list.now)) }
 {
-    match list.get(index) {
-        Some(item) => item.as_table(),
-        None => None,
-    }
+    list.get(index)?.as_table()
 }
 
 /// The table at an index of the list at a key.
@@ -26,10 +23,7 @@ fn table_in<'v>(table: &'v Table, key: &str, index: usize) -> Option<&'v Table>
     ensures { option_map (λ t. table_view t.now) result
         ≡ table_in key.now index (table_view table.now) }
 {
-    match member(table, key) {
-        Some(list) => table_of(list, index),
-        None => None,
-    }
+    table_of(member(table, key)?, index)
 }
 
 /// The table at an index of the list at a key of a table of `endpoint`.
@@ -43,10 +37,7 @@ fn table_in_endpoint<'v>(
         ≡ option_and_then (table_in key.now index)
         (table_in (codes "endpoint") endpoint (table_view table.now)) }
 {
-    match table_in(table, "endpoint", endpoint) {
-        Some(inner) => table_in(inner, key, index),
-        None => None,
-    }
+    table_in(table_in(table, "endpoint", endpoint)?, key, index)
 }
 
 /// The table `host`.
@@ -54,10 +45,7 @@ fn host(table: &Table) -> Option<&Table>
     ensures { option_map (λ t. table_view t.now) result
         ≡ table_at (table_view table.now) Entry.Host }
 {
-    match member(table, "host") {
-        Some(host) => host.as_table(),
-        None => None,
-    }
+    member(table, "host")?.as_table()
 }
 
 /// The table of an entry.
@@ -81,10 +69,7 @@ fn member_of<'v>(table: Option<&'v Table>, key: &str) -> Option<&'v Value>
     ensures { option_map (λ v. view v.now) result
         ≡ option_and_then (get_member key.now) (option_map (λ t. table_view t.now) table.entry) }
 {
-    match table {
-        Some(table) => member(table, key),
-        None => None,
-    }
+    member(table?, key)
 }
 
 /// The value at a key of an entry. A slot is its value itself.
@@ -93,10 +78,7 @@ pub fn value_at<'v>(document: &'v Table, entry: Entry, key: &str) -> Option<&'v 
         ≡ value_at (table_view document.now) entry key.now }
 {
     match entry {
-        Entry::Slot(i, j) => match member_of(table_at(document, Entry::Guest(i)), "slots") {
-            Some(slots) => slots.get(j),
-            None => None,
-        },
+        Entry::Slot(i, j) => member_of(table_at(document, Entry::Guest(i)), "slots")?.get(j),
         _ => member_of(table_at(document, entry), key),
     }
 }

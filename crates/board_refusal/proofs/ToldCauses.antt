@@ -9,11 +9,11 @@ use Rattle.toml.specs.Data.{Members, get_member}
 use Rattle.model_registers.specs.DeclarationRules.{has_own_registers}
 use Rattle.board_file.specs.Entries.{Patterns, Bar, Config, Endpoint, Bridge, Guest, File, file}
 use Rattle.board_file.specs.Functions.{region, standings}
-use Rattle.board_file.specs.PathEntries.{place_texts, slot_texts, path_entries}
+use Rattle.board_file.specs.PathEntries.{path_texts, path_entries}
 use Rattle.board_file.specs.Blocks.{is_block}
 use Rattle.board_file.specs.RuleFaults.{key_of}
-use Rattle.board_file.specs.EntryRules.{file_rules, host_rules, place_rules, slot_rules, endpoint_rules, has_indices, bar_rules, config_rules, are_apart, bridge_rules, guest_rules}
-use Rattle.board_file.specs.Problems.{Found, unless_kept, broken, of_bar, of_config, of_endpoint, of_bridge, of_guest, of_values, of_place, of_slot, problems_in}
+use Rattle.board_file.specs.EntryRules.{file_rules, host_rules, path_rules, endpoint_rules, has_indices, bar_rules, config_rules, are_apart, bridge_rules, guest_rules}
+use Rattle.board_file.specs.Problems.{Found, unless_kept, broken, of_bar, of_config, of_endpoint, of_bridge, of_guest, of_values, of_path, problems_in}
 use Rattle.board_file.specs.KeyProblems.{tables_of, unless_kept_at, of_field, of_member, keys_in, of_table, of_entry, problems_of}
 use Rattle.board_file.specs.Schema.{Field, fields, form_at, has_form}
 use Rattle.board_file.specs.Tables.{level_of, table_at}
@@ -201,9 +201,9 @@ module _ (f : File) where
 
   in_file_caused : (fault : BoardFault) → AllCaused f (problems_in f fault)
   in_file_caused fault.Place =
-      of_all f (of_place (standings f)) (path_entries (place_texts f)) (λ p m. no_cause f p.entry (place_rules (standings f) p.text p.is_own) refl)
+      of_all f (of_path fault.Place (standings f)) (path_entries (path_texts fault.Place f)) (λ p m. no_cause f p.entry (path_rules fault.Place (standings f) p.text p.is_own) refl)
   in_file_caused fault.Slot =
-      of_all f (of_slot (standings f)) (path_entries (slot_texts f)) (λ p m. no_cause f p.entry (slot_rules (standings f) p.text p.is_own) refl)
+      of_all f (of_path fault.Slot (standings f)) (path_entries (path_texts fault.Slot f)) (λ p m. no_cause f p.entry (path_rules fault.Slot (standings f) p.text p.is_own) refl)
   in_file_caused fault = values_caused fault
 
 -- ---- all problems

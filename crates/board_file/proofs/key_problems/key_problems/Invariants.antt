@@ -7,5 +7,5 @@ use Rattle.board_file.proofs.key_problems.key_problems.Given as goal
 
 abbrev pub invariant-tables : goal.invariant-tables
 invariant-tables l =
-    let wrong = of_entry l.fault (table_view l.document) in
+    let wrong = of_entry l.fault (table_view l.source.document.now) in
     map found_of l.problems.items ++ flat_map wrong (drop l.entry-index l.entry-items) ≡ flat_map wrong l.entry-items

@@ -1,6 +1,6 @@
 use Rattle.std.proofs.Common.{rules}
 use Rattle.board_file.specs.KeyProblems.{problems_of}
-use Rattle.board_file.proofs.judging.problems_of.Goals as goal
+use Rattle.board_file.proofs.source.Source.problems.Goals as goal
 
 pub returns-in-Key : goal.returns-in-Key
 unfolding problems_of
