@@ -1,6 +1,16 @@
 /* The calls of the header, over those of the proved library. tools/bindings writes this file from library/pciguest.h. */
 #include "calls.h"
 
+uint32_t pciguest_limits(struct pciguest_limits *limits)
+{
+    uint32_t answer;
+
+    if (!limits)
+        return PCIGUEST_ARGUMENT;
+    answer = pciguest_raw_limits(limits);
+    return answer;
+}
+
 uint32_t pciguest_new(struct pciguest *machine, const void *board, size_t length)
 {
     struct pciguest held_machine;
@@ -401,6 +411,22 @@ uint32_t pciguest_changed(struct pciguest *machine, size_t guest, uint64_t *coun
     if (!TAKE(machine, held_machine))
         return PCIGUEST_BUSY;
     answer = pciguest_raw_changed(&held_machine, guest, count);
+    PUT_BACK(machine, held_machine);
+    return answer;
+}
+
+uint32_t pciguest_moved(struct pciguest *machine, size_t guest, struct pciguest_place *places, size_t room,
+                        size_t *count)
+{
+    struct pciguest held_machine;
+    struct pciguest_place none;
+    uint32_t answer;
+
+    if (!machine || (!places && room) || !count)
+        return PCIGUEST_ARGUMENT;
+    if (!TAKE(machine, held_machine))
+        return PCIGUEST_BUSY;
+    answer = pciguest_raw_moved(&held_machine, guest, places ? places : &none, room, count);
     PUT_BACK(machine, held_machine);
     return answer;
 }

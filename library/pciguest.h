@@ -66,6 +66,18 @@ struct pciguest_region {
     uint32_t is_open;      /* 1 or 0: whether the guest's Command opens the space */
 };
 
+/* Where a region of a guest stands now, and where it stood when that was told before; all of either is 0 where there is no
+ * region. */
+struct pciguest_place {
+    struct pciguest_region now;
+    struct pciguest_region before;
+    uint32_t has_moved; /* 1 or 0: whether these differ */
+    uint32_t reserved;  /* 0 */
+};
+
+/* How many regions a guest can have: six for each of its slots. */
+enum { PCIGUEST_PLACES = 192 };
+
 /* The byte that an access hits. The part is as for pciguest_raise: a region by its base address register, 0 to 5, or
  * PCIGUEST_RAISE_CONFIG. Where nothing is hit, all of it is 0. */
 struct pciguest_hit {
@@ -76,8 +88,9 @@ struct pciguest_hit {
 };
 
 /* The room that the text of a path has, of which a path takes 79 bytes at most, and the base address registers of a
- * function, and the windows of a bridge. */
-enum { PCIGUEST_PATH = 80, PCIGUEST_BARS = 6, PCIGUEST_WINDOWS = 3 };
+ * function, and the windows of a bridge. Structs that may tell more in a later version keep PCIGUEST_ROOM numbers for it,
+ * which are 0 until then: so they stay as large as they are. */
+enum { PCIGUEST_PATH = 80, PCIGUEST_BARS = 6, PCIGUEST_WINDOWS = 3, PCIGUEST_ROOM = 4 };
 
 /* The region that begins at a base address register, as the register on the board has it: `size` addresses of its space
  * from `first` on. Where none begins there, all of it is 0. */
@@ -95,6 +108,16 @@ struct pciguest_window {
     uint64_t first;
     uint64_t last;
     uint32_t is_there; /* 1 or 0 */
+};
+
+/* The interrupt pin of a function, from 1 for INTA# to 4 for INTD#, and the device of bus 0 and its pin that it reaches: the
+ * pin moves on by the device number on each bus but bus 0 (PCI-to-PCI Bridge Architecture 1.2, chapter 9.1). These three are
+ * 0 where the function has no pin. No interrupt is delivered. */
+struct pciguest_interrupt {
+    uint32_t pin;         /* what Interrupt Pin holds */
+    uint32_t root_device; /* the device on bus 0 */
+    uint32_t root_pin;    /* its pin */
+    uint32_t is_disabled; /* 1 or 0: Interrupt Disable, as the guest that has the function wrote it, else as on the board */
 };
 
 /* A function of the board as it is now. */
@@ -116,6 +139,8 @@ struct pciguest_function {
     size_t guest;                                   /* where is_given is 1, the guest that has it; else 0 */
     uint64_t slot;                                  /* where is_given is 1, its slot there; else 0 */
     uint32_t is_given;                              /* 1 or 0: whether a guest has it */
+    struct pciguest_interrupt interrupt;            /* all 0 in struct pciguest_board_function: firmware reads it */
+    uint64_t reserved[PCIGUEST_ROOM];               /* 0 */
 };
 
 /* A function of a board that firmware drives, as the registers stand: no guest has it. */
@@ -124,6 +149,7 @@ struct pciguest_board_function {
     uint32_t is_found;                 /* 1 or 0: whether a configuration access by this number reaches it */
     uint32_t opens_io;                 /* 1 or 0: whether its Command opens I/O space */
     uint32_t opens_memory;             /* 1 or 0: the same of memory */
+    uint64_t reserved[PCIGUEST_ROOM];  /* 0 */
 };
 
 /* The kinds of problems in the registers of a board: a region of which a bridge doesn't forward a byte, two that answer an
@@ -144,6 +170,19 @@ struct pciguest_problem {
     uint32_t bus;                 /* its number, by which no cycle finds it; else 0, as are the next two */
     uint32_t device;
     uint32_t function;
+    uint64_t reserved[PCIGUEST_ROOM]; /* 0 */
+};
+
+/* How large things can be, of any board. */
+struct pciguest_limits {
+    uint64_t guest_image; /* bytes: no image of a guest has more */
+    uint32_t functions;   /* of a board, endpoints and bridges */
+    uint32_t guests;      /* of a machine */
+    uint32_t slots;       /* of a guest */
+    uint32_t bars;        /* base address registers of an endpoint */
+    uint32_t block;       /* cells of a region, each a byte */
+    uint32_t own_cells;   /* cells of a function's own configuration space, 40h to FFh */
+    uint64_t reserved[PCIGUEST_ROOM]; /* 0 */
 };
 
 /* The room that pciguest_run_line and pciguest_board_run_line need for a reply, and the most that pciguest_words and
@@ -212,6 +251,9 @@ uint32_t pciguest_version(void);
 /* The words of a number, as pciguest_words has them, as a text that ends with a 0 and stays as long as the library is
  * loaded. A number that stands for nothing, as 0, has the empty text. Since 0.4.0. */
 const char *pciguest_strerror(uint32_t number);
+
+/* Tells how large things can be. No machine is needed. Since 0.4.0. */
+uint32_t pciguest_limits(struct pciguest_limits *limits);
 
 /* Sets up the board of a board file, given as its bytes, and gives its functions to the guests of the file.
  * 0: the machine holds the world that the file declares, before any access. Otherwise the number of the first
@@ -384,6 +426,16 @@ uint32_t pciguest_region(struct pciguest *machine, size_t guest, uint64_t slot, 
  * all slots and registers. Nothing else makes it grow. It is 0 in a machine that was made just now, and goes on from 0
  * after 2^64 - 1. It takes no memory and changes nothing. 902: there is no such guest. Since 0.4.0. */
 uint32_t pciguest_changed(struct pciguest *machine, size_t guest, uint64_t *count);
+
+/* Tells which regions of a guest stand elsewhere, or are open or closed otherwise, than the caller was told before. Of the
+ * rows, which the caller keeps from call to call, that of slot S and base address register B is `places[6 * S + B]`; they
+ * begin with all bytes 0, and PCIGUEST_PLACES are all. Each row is told anew: where its region stands now, where it stood when
+ * this row was told before, and whether these differ; and `count` tells of how many they do. A region that is written to
+ * where it stood, as at the end of sizing, has not moved. So a hypervisor unmaps `before` and maps `now` of rows that moved,
+ * where `is_open` says so, and asks again once pciguest_changed tells another count. It takes no memory. 902: there is no
+ * such guest. Since 0.4.0. */
+uint32_t pciguest_moved(struct pciguest *machine, size_t guest, struct pciguest_place *places, size_t room,
+                        size_t *count);
 
 /* What an access of the guest at a place hits, as pciguest_read and pciguest_write take the place: a byte of a function
  * in one of its slots, or nothing. It takes no memory and changes nothing. Every access there begins at this byte, but

@@ -5,6 +5,7 @@
 
 #include "pciguest.h"
 
+uint32_t pciguest_raw_limits(struct pciguest_limits *limits);
 uint32_t pciguest_raw_new(struct pciguest *machine, const uint8_t *board, size_t length);
 void pciguest_raw_free(struct pciguest *machine);
 uint32_t pciguest_raw_guest(struct pciguest *machine, const uint8_t *name, size_t length, size_t *guest);
@@ -40,6 +41,8 @@ uint32_t pciguest_raw_device_write_wide(struct pciguest *machine, size_t guest, 
 uint32_t pciguest_raw_region(struct pciguest *machine, size_t guest, uint64_t slot, uint32_t bar,
                              struct pciguest_region *region);
 uint32_t pciguest_raw_changed(struct pciguest *machine, size_t guest, uint64_t *count);
+uint32_t pciguest_raw_moved(struct pciguest *machine, size_t guest, struct pciguest_place *places, size_t room,
+                            size_t *count);
 uint32_t pciguest_raw_locate(struct pciguest *machine, size_t guest, uint32_t space, uint64_t slot, uint64_t place,
                              struct pciguest_hit *hit);
 uint32_t pciguest_raw_why(struct pciguest *machine, size_t guest, uint32_t space, uint64_t slot, uint64_t place,

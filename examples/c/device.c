@@ -65,30 +65,29 @@ static void ring(struct pciguest *machine, size_t guest, const struct pciguest_h
     printf("ring\n");
 }
 
-/* Tells which addresses of a slot's function have to be trapped from here on. */
-static void tell_traps(struct pciguest *machine, size_t guest, uint64_t slot)
+/* Tells which addresses have to be trapped from here on. */
+static void tell_traps(struct pciguest *machine, size_t guest)
 {
-    struct pciguest_region region = {0};
+    static struct pciguest_place places[PCIGUEST_PLACES];
+    size_t count = 0;
 
-    for (uint32_t bar = 0; bar < 6; bar++)
-        if (pciguest_region(machine, guest, slot, bar, &region) == 0 && region.is_open)
-            printf("trap %s 0x%" PRIx64 " to 0x%" PRIx64 "\n", region.space == PCIGUEST_IO ? "port" : "memory",
-                   region.first, region.first + region.size - 1);
+    (void)pciguest_moved(machine, guest, places, PCIGUEST_PLACES, &count);
+    for (const struct pciguest_place *it = places; count && it < places + PCIGUEST_PLACES; it++)
+        if (it->has_moved && it->now.is_open)
+            printf("trap %s 0x%" PRIx64 " to 0x%" PRIx64 "\n", it->now.space == PCIGUEST_IO ? "port" : "memory",
+                   it->now.first, it->now.first + it->now.size - 1);
 }
 
-/* After a write: regions stand elsewhere where Command or a base address register was hit, and the device acts where its
- * doorbell was. An access that begins before the doorbell may ring it too. */
+/* After a write: regions may stand elsewhere where configuration space was hit, and the device acts where its doorbell was.
+ * An access that begins before the doorbell may ring it too. */
 static void act(struct pciguest *machine, size_t guest, struct trap trap, const struct pciguest_hit *hit)
 {
-    bool is_moving = hit->offset / 2 == 0x04 / 2 || (hit->offset >= 0x10 && hit->offset < 0x28);
-    bool is_ringing = hit->offset < DOORBELL + 4 && hit->offset + trap.width > DOORBELL;
-
     if (!trap.is_write || !hit->found)
         return;
-    if (hit->part != PCIGUEST_RAISE_CONFIG && is_ringing)
+    if (hit->part == PCIGUEST_RAISE_CONFIG)
+        tell_traps(machine, guest);
+    else if (hit->offset < DOORBELL + 4 && hit->offset + trap.width > DOORBELL)
         ring(machine, guest, hit);
-    else if (hit->part == PCIGUEST_RAISE_CONFIG && is_moving)
-        tell_traps(machine, guest, hit->slot);
 }
 
 /* What CONFIG_ADDRESS holds for a register of a device of bus 0. */

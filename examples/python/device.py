@@ -51,24 +51,19 @@ def ring(guest: Guest, hit: Hit) -> None:
     print("ring")
 
 
-def tell_traps(guest: Guest, slot: int) -> None:
-    """Tells which addresses of a slot's function have to be trapped from here on."""
-    for register in range(6):
-        try:
-            region = guest.region(slot, register)
-        except Refusal:
-            continue
-        if region.is_open:
+def tell_traps(guest: Guest) -> None:
+    """Tells which addresses have to be trapped from here on."""
+    for region in (moved.now for moved in guest.moved()):
+        if region is not None and region.is_open:
             name = "port" if region.space == "io" else "memory"
             print(f"trap {name} {region.first:#x} to {region.first + region.size - 1:#x}")
 
 
 def act(guest: Guest, trap: Trap, hit: Hit) -> None:
-    """After a write: regions stand elsewhere where Command or a base address register was hit, and the device acts where
-    its doorbell was. An access that begins before the doorbell may ring it too."""
+    """After a write: regions may stand elsewhere where configuration space was hit, and the device acts where its doorbell
+    was. An access that begins before the doorbell may ring it too."""
     if hit.region is None:
-        if hit.offset in (0x04, 0x05) or 0x10 <= hit.offset < 0x28:
-            tell_traps(guest, hit.slot)
+        tell_traps(guest)
     elif hit.offset < DOORBELL + 4 and hit.offset + trap.width > DOORBELL:
         ring(guest, hit)
 

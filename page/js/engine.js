@@ -10,7 +10,7 @@ const LONGEST_LINE = 256;
 const LONGEST_NAME = 16;
 // what stands where in what is told of a function: its number, its regions and windows, each with its length, who has it, and of firmware's
 // board what its Command opens
-const FUNCTION_ROW = 432, NUMBER_AT = 88, REGIONS_AT = 128, REGION_ROW = 32, WINDOWS_AT = 320, WINDOW_ROW = 24, SEAT_AT = 392, OPENS_AT = 420;
+const FUNCTION_ROW = 512, NUMBER_AT = 88, REGIONS_AT = 128, REGION_ROW = 32, WINDOWS_AT = 320, WINDOW_ROW = 24, SEAT_AT = 392, OPENS_AT = 468;
 const WINDOW_SPACES = ['io', 'mem', 'pref'];
 const ROOM = 1 << 16;
 // Made once: of a large board hundreds of registers are read after each line.

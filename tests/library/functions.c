@@ -1,5 +1,5 @@
 /* Random events of two guests. After each, what is told of every function of the board is compared with what the host
- * reads of it by its number, and who has it with what the guests read in their slots.
+ * reads of it by its number, and who has it, and whether its interrupt is disabled, with what the guests read in their slots.
  *
  *     functions BOARD COUNT SEED
  *
@@ -98,6 +98,24 @@ static void compare_windows(struct pciguest *machine, const struct pciguest_func
                    high_last << 32 | (wide >> 16 & 0xfff0) << 16 | 0xfffff, is_bridge);
 }
 
+/* The interrupt: a pin moves on by the device on each bus but bus 0, and the guest's own Command disables it. */
+static void compare_interrupt(struct pciguest *machine, const struct pciguest_function *row, const char *path)
+{
+    uint64_t pin = host(machine, row, 0x3d, 1), sum = 0;
+    uint32_t command = (uint32_t)host(machine, row, 4, 2);
+
+    for (const char *part = strchr(path, '/'); part; part = strchr(part + 1, '/'))
+        sum += strtoull(part + 1, NULL, 10);
+    if (row->is_given)
+        IS(pciguest_read(machine, row->guest, PCIGUEST_CONFIG, row->slot, 4, 2, &command), 0);
+    IS(row->interrupt.pin, pin);
+    IS(row->interrupt.root_device, pin ? strtoull(path, NULL, 10) : 0);
+    IS(row->interrupt.root_pin, pin ? (pin - 1 + sum) % 4 + 1 : 0);
+    IS(row->interrupt.is_disabled, command >> 10 & 1);
+    for (int n = 0; n < PCIGUEST_ROOM; n++)
+        IS(row->reserved[n], 0);
+}
+
 /* A function as the host reads it. */
 static void compare(struct pciguest *machine, const struct pciguest_function *row, const char *path)
 {
@@ -120,6 +138,7 @@ static void compare(struct pciguest *machine, const struct pciguest_function *ro
     IS(row->subsystem_id, row->is_bridge ? 0 : host(machine, row, 0x2e, 2));
     compare_bars(machine, row);
     compare_windows(machine, row);
+    compare_interrupt(machine, row, path);
 }
 
 /* Two answers of one function, but for what stands between its fields. */
@@ -133,6 +152,7 @@ static void alike(const struct pciguest_function *one, const struct pciguest_fun
     IS(one->guest, other->guest);
     IS(one->slot, other->slot);
     IS(one->is_given, other->is_given);
+    IS(memcmp(&one->interrupt, &other->interrupt, sizeof one->interrupt), 0);
 }
 
 /* Each slot of the guests, by what its guest reads there; gives how many functions they have. */

@@ -1,6 +1,7 @@
 /* Random events of two guests. After each, where every region stands is compared with the base address registers and
  * the Command that its guest reads there, what addresses hit with the first such region that is open, each guest's
- * count of changes with what the event touched, and where that count stays, each answer with the one before.
+ * count of changes with what the event touched, where that count stays, each answer with the one before, and which regions
+ * are told to have moved with the answers that differ from those of the last time that this was asked.
  *
  *     queries BOARD COUNT SEED
  *
@@ -21,6 +22,7 @@ struct answer {
 };
 
 static struct answer answers[GUESTS][SLOTS][REGISTERS];
+static struct pciguest_place places[GUESTS][PCIGUEST_PLACES];
 static uint64_t counts[GUESTS];
 static uint64_t state;
 static int wrong;
@@ -94,6 +96,35 @@ static void ask_all(struct pciguest *machine, const bool *touched)
         counts[guest] = now;
         ask(machine, guest, !touched[guest]);
     }
+}
+
+/* Which regions of a guest are told to have moved, by where they stand and where they were told to stand before; now and then
+ * of some slots alone. */
+static void ask_moved(struct pciguest *machine, size_t guest)
+{
+    static struct pciguest_place before[PCIGUEST_PLACES];
+    size_t room = below(8) ? PCIGUEST_PLACES : below(PCIGUEST_PLACES), count = SIZE_MAX, wanted = 0;
+    static const struct pciguest_region none;
+
+    memcpy(before, places[guest], sizeof before);
+    IS(pciguest_moved(machine, guest, places[guest], room, &count), 0);
+    for (size_t n = 0; n < room; n++) {
+        const struct answer *told = &answers[guest][n / REGISTERS][n % REGISTERS];
+        const struct pciguest_region *now = told->number ? &none : &told->region, *row = &places[guest][n].now;
+        const struct pciguest_region *was = &before[n].now, *row_before = &places[guest][n].before;
+        bool has_moved = now->first != was->first || now->size != was->size || now->space != was->space
+                         || now->prefetchable != was->prefetchable || now->is_open != was->is_open;
+
+        IS(row->first == now->first && row->size == now->size && row->space == now->space, 1);
+        IS(row->prefetchable == now->prefetchable && row->is_open == now->is_open, 1);
+        IS(row_before->first == was->first && row_before->size == was->size && row_before->space == was->space, 1);
+        IS(row_before->prefetchable == was->prefetchable && row_before->is_open == was->is_open, 1);
+        IS(places[guest][n].has_moved, has_moved);
+        IS(places[guest][n].reserved, 0);
+        wanted += has_moved;
+    }
+    IS(memcmp(places[guest] + room, before + room, (PCIGUEST_PLACES - room) * sizeof *before), 0);
+    IS(count, wanted);
 }
 
 /* What an address hits, by the regions that were told. */
@@ -195,6 +226,7 @@ int main(int argc, char **argv)
 
         event(&machine, touched);
         ask_all(&machine, touched);
+        ask_moved(&machine, below(GUESTS));
         locate(&machine, below(GUESTS), PCIGUEST_MEMORY, (below(4) << 20) + below(0x100));
         locate(&machine, below(GUESTS), PCIGUEST_IO, below(0x40));
     }

@@ -20,6 +20,7 @@ static void without_a_machine(void)
     struct pciguest_region region = {.size = 9};
     struct pciguest_hit hit = {.found = 9};
     struct pciguest_function function = {.class_code = 9};
+    struct pciguest_place place = {.has_moved = 9};
 
     IS(sizeof none, 2 * sizeof(void *));
     IS(pciguest_read(&none, 0, PCIGUEST_CONFIG, 0, 0, 4, &value), 901);
@@ -43,6 +44,7 @@ static void without_a_machine(void)
     IS(pciguest_device_write_wide(&none, 0, 0, 1, 0, 9, 1), 901);
     IS(pciguest_region(&none, 0, 0, 0, &region), 901);
     IS(pciguest_changed(&none, 0, &changes), 901);
+    IS(pciguest_moved(&none, 0, &place, 1, &count), 901);
     IS(pciguest_locate(&none, 0, PCIGUEST_IO, 0, 0, &hit), 901);
     IS(pciguest_count(&none, &count), 901);
     IS(pciguest_function(&none, 0, &function), 901);
@@ -62,6 +64,7 @@ static void without_a_machine(void)
     IS(wide, 5);
     IS(hit.found, 9);
     IS(function.class_code, 9);
+    IS(place.has_moved, 9);
 }
 
 static void null_pointers(struct pciguest *machine)
@@ -115,6 +118,10 @@ static void null_pointers(struct pciguest *machine)
     IS(pciguest_region(machine, 0, 0, 0, NULL), 902);
     IS(pciguest_changed(NULL, 0, &changes), 902);
     IS(pciguest_changed(machine, 0, NULL), 902);
+    IS(pciguest_limits(NULL), 902);
+    IS(pciguest_moved(NULL, 0, NULL, 0, &count), 902);
+    IS(pciguest_moved(machine, 0, NULL, 1, &count), 902);
+    IS(pciguest_moved(machine, 0, NULL, 0, NULL), 902);
     IS(pciguest_locate(NULL, 0, PCIGUEST_IO, 0, 0, &hit), 902);
     IS(pciguest_locate(machine, 0, PCIGUEST_IO, 0, 0, NULL), 902);
     IS(pciguest_count(NULL, &count), 902);
@@ -136,6 +143,7 @@ static void null_pointers(struct pciguest *machine)
 
 static void bad_arguments(struct pciguest *machine, const uint8_t *board, size_t length)
 {
+    struct pciguest_place place = {.has_moved = 9};
     uint32_t value = 7;
     size_t count = 8;
     uint64_t changes = 6, wide = 5;
@@ -193,6 +201,8 @@ static void bad_arguments(struct pciguest *machine, const uint8_t *board, size_t
     IS(pciguest_device_write_wide(machine, 0, 31, 1, 0, 8, 1), 601);
     IS(pciguest_device_write_wide(machine, 0, 0, 1, 4089, 8, 1), 303);
     IS(pciguest_changed(machine, 2, &changes), 902);
+    IS(pciguest_moved(machine, 2, &place, 1, &count), 902);
+    IS(place.has_moved, 9);
     IS(pciguest_guest(machine, "nobody", 6, &count), 902);
     IS(pciguest_guest_name(machine, 2, reply, sizeof reply, &count), 902);
     IS(reply[0], 0);
@@ -203,6 +213,20 @@ static void bad_arguments(struct pciguest *machine, const uint8_t *board, size_t
     IS(wide, 5);
     IS(pciguest_run_line(machine, "# a comment", 11, reply, sizeof reply, &count), 0);
     IS(count, 0);
+}
+
+/* How large things can be; what is kept for later is 0. */
+static void limits(void)
+{
+    struct pciguest_limits told;
+
+    memset(&told, 0x5a, sizeof told);
+    IS(pciguest_limits(&told), 0);
+    IS(told.guest_image, 7881836);
+    IS(told.functions == 1024 && told.guests == 32 && told.slots == 32 && told.bars == PCIGUEST_BARS, 1);
+    IS(told.block == 4096 && told.own_cells == 0x100 - 0x40 && told.slots * told.bars == PCIGUEST_PLACES, 1);
+    for (int n = 0; n < PCIGUEST_ROOM; n++)
+        IS(told.reserved[n], 0);
 }
 
 /* The names of the guests, which tell how much room they need. */
@@ -592,6 +616,7 @@ int main(int argc, char **argv)
     reports(board, length);
     checks(board, length);
     all_words();
+    limits();
     out_of_memory(board, length);
     check_out_of_memory(board, length, 0);
     check_out_of_memory("x = 1", 5, 102);

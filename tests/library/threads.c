@@ -58,6 +58,7 @@ static void ask_machine(void)
     struct pciguest_region region = {0};
     struct pciguest_hit hit = {0};
     struct pciguest_function row = {0};
+    struct pciguest_place place = {0};
     char text[PCIGUEST_REPLY] = {0};
     uint64_t wide = 7;
     uint32_t value = 7;
@@ -91,6 +92,7 @@ static void ask_machine(void)
     BUSY(pciguest_device_write_wide(&machine, 0, 0, 1, 0, 8, 1));
     BUSY(pciguest_region(&machine, 0, 0, 1, &region));
     BUSY(pciguest_changed(&machine, 0, &wide));
+    BUSY(pciguest_moved(&machine, 0, &place, 1, &told));
     BUSY(pciguest_locate(&machine, 0, PCIGUEST_MEMORY, 0, 0x80000000, &hit));
     BUSY(pciguest_why(&machine, 0, PCIGUEST_MEMORY, 0, 0x80000000, text, sizeof text, &told));
     BUSY(pciguest_count(&machine, &told));

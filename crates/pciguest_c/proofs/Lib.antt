@@ -1,11 +1,13 @@
 mod DeviceBytes
 mod FunctionRows
 mod FaultNumbers
+mod FoundRegisters
 mod Images
 mod Kept
 mod LongTexts
 mod Moved
 mod OpenFaults
 mod Options
+mod Places
 mod Rows
 mod Words

@@ -2,7 +2,7 @@
 --     Call, BoardCall      a call with what it is given
 --     Told      what a call tells, and what stands where it goes: nothing, a number, a row of some kind; a text, a line's reply or
 --         a machine's image, which go to a buffer, and with it how many bytes that takes; a text with a count beside it; and rows,
---         with how many there are
+--         with how many there are, or, where they stand before as after, how many of them moved
 --     Outcome      a call is refused, or is done, with what is told and the session after it
 --     reading r, doing r, telling f r      the outcome of a reply, which tells what was read, or nothing; and of an answer
 --     where_lawful, where_guest m guest, of_guest m guest      902 where a value is none that is lawful, and where the machine
@@ -46,7 +46,8 @@ use Rattle.pciguest_c.specs.DevicesTold.{reply_at_device, after_at_device, wide_
 use Rattle.pciguest_c.specs.SeatingsTold.{gift_reply, after_gift, taking_reply, after_taking}
 use Rattle.pciguest_c.specs.ImagesTold.{image_asked, after_restart, machine_image}
 use Rattle.pciguest_c.specs.QueriesTold.{region_asked, region_told, hit_asked, hit_told}
-use Rattle.pciguest_c.specs.FunctionsTold.{function_row, slot_asked}
+use Rattle.pciguest_c.specs.MovesTold.{places_from, moved_count}
+use Rattle.pciguest_c.specs.FunctionsTold.{function_told, slot_asked}
 use Rattle.pciguest_c.specs.DrivenTold.{driven_row}
 use Rattle.pciguest_c.specs.WhyTold.{why_asked}
 use Rattle.pciguest_c.specs.ProblemsTold.{problem_row}
@@ -58,6 +59,7 @@ use Rattle.pciguest_c.specs.declared.querying.HitTold.{HitTold}
 use Rattle.pciguest_c.specs.declared.function_row.FunctionRow.{FunctionRow}
 use Rattle.pciguest_c.specs.declared.driven_calls.DrivenRow.{DrivenRow}
 use Rattle.pciguest_c.specs.declared.problem_rows.ProblemRow.{ProblemRow}
+use Rattle.pciguest_c.specs.declared.moves.PlaceRow.{PlaceRow}
 
 pub data Call : Type 0 where
   read : (guest space slot place width : ℕ) → Call
@@ -76,6 +78,7 @@ pub data Call : Type 0 where
   region : (guest slot register : ℕ) → Call
   locate : (guest space slot place : ℕ) → Call
   changed : (guest : ℕ) → Call
+  moved : (guest : ℕ) (places : List PlaceRow) → Call
   guest_named : (name : Text) → Call
   guest_count : Call
   guest_name : (guest : ℕ) → Call
@@ -94,8 +97,7 @@ pub data BoardCall : Type 0 where
   board_write : (space bus device function place width value : ℕ) → BoardCall
   board_count : BoardCall
   board_function : (index : ℕ) → BoardCall
-  board_audit : BoardCall
-  board_ready : BoardCall
+  board_survey : (with_lacks : Bool) → BoardCall
   board_problems : BoardCall
 
 pub data Told : Type 0 where
@@ -113,6 +115,8 @@ pub data Told : Type 0 where
   counter : Text → ℕ → ℕ → Told
   rows : List ProblemRow → Told
   row_buffer : List ProblemRow → ℕ → Told
+  places : List PlaceRow → Told
+  place_buffer : List PlaceRow → ℕ → Told
 
 pub data Outcome : Type 0 where
   refusal : ℕ → Outcome
@@ -166,7 +170,7 @@ giving m path guest slot =
 
 unfoldable pub telling_slot : MachineNow → ℕ → ℕ → Outcome
 telling_slot m guest slot =
-    of_guest m guest (telling (λ f. a_function (function_row f)) (slot_asked m.world guest slot) (given m))
+    of_guest m guest (telling (λ f. a_function (function_told m.world f)) (slot_asked m.world guest slot) (given m))
 
 unfoldable pub board_asked : DrivenNow → Option HostTarget → ℕ → Op → Option (Reply × DrivenNow)
 board_asked b o width op = option_map (λ t.
@@ -176,11 +180,10 @@ board_asked b o width op = option_map (λ t.
 unfoldable pub telling_why : MachineNow → ℕ → Option Target → Outcome
 telling_why m guest o = where_lawful (where_guest m guest o) (λ t. telling text (why_asked m.world guest t) (given m))
 
-unfoldable pub auditing : DrivenNow → Outcome
-auditing b = tells (counted (audit b.state.functions) (length (problems b.state.functions))) (driven b)
-
-unfoldable pub judging : DrivenNow → Outcome
-judging b =
+-- what is wrong, and with what is lacking too
+unfoldable pub surveying : Bool → DrivenNow → Outcome
+surveying false b = tells (counted (audit b.state.functions) (length (problems b.state.functions))) (driven b)
+surveying true b =
     tells (counted (ready_report b.world.apertures b.state.functions) (lack_count b.world.apertures b.state.functions)) (driven b)
 
 unfoldable pub finding : DrivenNow → Outcome
@@ -219,6 +222,7 @@ outcome (region guest slot register) m =
 outcome (locate guest space slot place) m = where_lawful (where_guest m guest (target_told space slot place)) (λ t.
     telling (λ l. a_hit (hit_told l)) (hit_asked m.world guest t) (given m))
 outcome (changed guest) m = of_guest m guest (tells (number (unwrap_or (slice_get m.counts guest) 0)) (given m))
+outcome (moved guest ps) m = of_guest m guest (tells (places (places_from m.world guest 0 ps)) (given m))
 outcome (guest_named name) m = where_lawful (index_asked m.world name) (λ i. tells (number i) (given m))
 outcome guest_count m = tells (number (length m.world.guests)) (given m)
 outcome (guest_name guest) m = of_guest m guest (tells (text (name_nth m.world guest)) (given m))
@@ -228,7 +232,7 @@ outcome image_size_all m = tells (number (capped (length (machine_image m.world)
 outcome save_all m = tells (image (machine_image m.world)) (given m)
 outcome function_count m = tells (number (length (board_state m.world).functions)) (given m)
 outcome (function_at index) m = where_lawful (function_nth (board_state m.world) m.world.guests index) (λ f.
-    tells (a_function (function_row f)) (given m))
+    tells (a_function (function_told m.world f)) (given m))
 outcome (function_in guest slot) m = telling_slot m guest slot
 outcome (why guest space slot place) m = telling_why m guest (target_told space slot place)
 outcome (run_line line) m = tells (reply (line_output m.world line)) (given (after_line_on_machine m line))
@@ -243,8 +247,7 @@ board_outcome (board_write space bus device function place width value) b =
 board_outcome board_count b = tells (number (length b.state.functions)) (driven b)
 board_outcome (board_function index) b = where_lawful (driven_function_nth b.state index) (λ f.
     tells (a_driven (driven_row f)) (driven b))
-board_outcome board_audit b = auditing b
-board_outcome board_ready b = judging b
+board_outcome (board_survey with_lacks) b = surveying with_lacks b
 board_outcome board_problems b = finding b
 
 -- ---- what is answered
@@ -264,6 +267,7 @@ left (reply t) (buffer out needed) = buffer (at_front t out) (length t)
 left (image t) (buffer out needed) = buffer (at_front t out) (capped (length t))
 left (counted t n) (counter out needed count) = counter (at_front t out) (length t) n
 left (rows rs) (row_buffer out count) = row_buffer (at_front rs out) (length rs)
+left (places ps) (place_buffer out count) = place_buffer ps (moved_count ps)
 left t old = t
 
 abbrev pub short : Told → Told → Told

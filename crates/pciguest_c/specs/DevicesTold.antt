@@ -1,5 +1,6 @@
 -- What C is told of an event at the device of a guest's function, and of one after the other at bytes side by side.
 --     reply_at_device, after_at_device      such an event of a guest by its index: the reply, and the machine after it
+--     byte_of b      a byte of a function in a slot, from the program's words
 --     bytes_from d n      n bytes of a function in a slot, from one on
 --     bytes_read w guest ds      the number that a device reads of bytes, the lowest first, or why the first is refused
 --     after_bytes m guest ds v      the machine after a device wrote a number into bytes, the lowest first
@@ -17,6 +18,8 @@ use Rattle.model_guests.specs.DeviceEvents.{DeviceByte, DeviceEvent, device_read
 use Rattle.model_handoff.specs.Actions.{calls}
 use Rattle.model_handoff.specs.Changes.{MachineNow, after_on_machine}
 use Rattle.monitor.specs.ByIndex.{name_nth}
+use Rattle.monitor.specs.DeviceBytes.{device_byte}
+use Rattle.pciguest_c.specs.declared.asking.Byte.{Byte}
 
 abbrev pub reply_at_device : WorldNow → ℕ → DeviceEvent → Reply
 reply_at_device w guest e = device_answer (lone_of w.guests (name_nth w guest)) e
@@ -25,6 +28,9 @@ abbrev pub after_at_device : MachineNow → ℕ → DeviceEvent → MachineNow
 after_at_device m guest e = after_on_machine m (calls (at_device (name_nth m.world guest) e))
 
 -- ---- bytes side by side
+
+abbrev pub byte_of : Byte → DeviceByte
+byte_of b = device_byte b.slot b.place b.offset
 
 abbrev pub next_byte : DeviceByte → DeviceByte
 next_byte d = record d { offset = d.offset + 1 }

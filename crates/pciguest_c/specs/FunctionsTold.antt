@@ -3,7 +3,7 @@
 --     region_rows r      those of the six base address registers; a bridge has none
 --     window_row w, window_rows r      a window, and a bridge's windows for ports, memory and prefetchable memory
 --     text_room, text_row t      a text at the front of the bytes that are there for it, the others 0
---     function_row f      all that is told of a function
+--     function_row f i, function_told w f      all that is told of a function, with its interrupt
 --     slot_asked w guest slot      the function in a slot of a guest by its index, or why there is none
 use Rattle.std.specs.Prelude.{◌==◌, ◌-◌, ◌++◌, ℕ, List, [], ◌∷◌, map, length, replicate, find, is_some}
 use Rattle.std.specs.Prelude.{Option, Some, None, Result}
@@ -19,7 +19,9 @@ use Rattle.model_guests.specs.WorldNow.{WorldNow, board_state}
 use Rattle.model_handoff.specs.GuestRegions.{is_prefetchable}
 use Rattle.model_handoff.specs.Functions.{FunctionNow, Seat, slot_answer}
 use Rattle.monitor.specs.ByIndex.{name_nth}
+use Rattle.pciguest_c.specs.InterruptsTold.{interrupt_of}
 use Rattle.pciguest_c.specs.QueriesTold.{one_if, space_number}
+use Rattle.pciguest_c.specs.declared.interrupts.Interrupt.{Interrupt}
 use Rattle.pciguest_c.specs.declared.function_row.RegionRow.{RegionRow}
 use Rattle.pciguest_c.specs.declared.function_row.WindowRow.{WindowRow}
 use Rattle.pciguest_c.specs.declared.function_row.FunctionRow.{FunctionRow}
@@ -63,8 +65,8 @@ text_room = 80
 abbrev pub text_row : Text → List ℕ
 text_row t = t ++ replicate (text_room - length t) 0
 
-abbrev pub function_row : FunctionNow → FunctionRow
-function_row f = record {
+abbrev pub function_row : FunctionNow → Interrupt → FunctionRow
+function_row f interrupt = record {
   path = text_row (path_text f.path);
   path_length = length (path_text f.path);
   bus = f.at.bus;
@@ -82,7 +84,12 @@ function_row f = record {
   is_given = one_if (is_some f.seat);
   guest = option_map_or (λ (s : Seat). s.guest) f.seat 0;
   slot = option_map_or (λ (s : Seat). s.slot) f.seat 0;
+  interrupt = interrupt;
+  reserved = replicate 4 0;
 }
+
+abbrev pub function_told : WorldNow → FunctionNow → FunctionRow
+function_told w f = function_row f (interrupt_of w f)
 
 abbrev pub slot_asked : WorldNow → ℕ → ℕ → Result FunctionNow ℕ
 slot_asked w guest slot = slot_answer (board_state w) w.guests (name_nth w guest) slot

@@ -5,6 +5,9 @@ pub mod Told
 pub mod DevicesTold
 pub mod SeatingsTold
 pub mod QueriesTold
+pub mod MovesTold
+pub mod LimitsTold
+pub mod InterruptsTold
 pub mod WhyTold
 pub mod FunctionsTold
 pub mod ProblemsTold

@@ -2,8 +2,9 @@
 -- Architecture 1.2, chapters 3 and 4.
 --     no_register      in place of a base address register, where none is told
 --     reached_text p      the text of what a cycle reaches, which is empty where it reaches nothing
+--     named_row kind path other      a kind of problem of a function at a path, with the text of another one
 --     problem_row p      all that is told of a problem
-use Rattle.std.specs.Prelude.{ℕ, [], length, Option}
+use Rattle.std.specs.Prelude.{ℕ, [], length, replicate, Option}
 use Rattle.std.specs.Option.{option_map_or}
 use Rattle.model_board.specs.Paths.{Path}
 use Rattle.model_guests.specs.Text.{Text}
@@ -19,46 +20,32 @@ no_register = 6
 abbrev pub reached_text : Option Path → Text
 reached_text p = option_map_or path_text p []
 
-abbrev pub problem_row : Problem → ProblemRow
-problem_row (not_forwarded q bridge address) = record {
-  kind = 1;
-  space = space_number q.space;
-  address = address;
-  path = text_row (path_text q.path);
-  path_length = length (path_text q.path);
-  bar = q.index;
-  other = text_row (path_text bridge);
-  other_length = length (path_text bridge);
-  other_bar = no_register;
-  bus = 0;
-  device = 0;
-  function = 0;
-}
-problem_row (contended a b address) = record {
-  kind = 2;
-  space = space_number a.space;
-  address = address;
-  path = text_row (path_text a.path);
-  path_length = length (path_text a.path);
-  bar = option_map_or (λ n. n) a.register no_register;
-  other = text_row (path_text b.path);
-  other_length = length (path_text b.path);
-  other_bar = option_map_or (λ n. n) b.register no_register;
-  bus = 0;
-  device = 0;
-  function = 0;
-}
-problem_row (not_found path at instead) = record {
-  kind = 3;
+-- of which nothing else is told
+abbrev pub named_row : ℕ → Path → Text → ProblemRow
+named_row kind path other = record {
+  kind = kind;
   space = 0;
   address = 0;
   path = text_row (path_text path);
   path_length = length (path_text path);
   bar = no_register;
-  other = text_row (reached_text instead);
-  other_length = length (reached_text instead);
+  other = text_row other;
+  other_length = length other;
   other_bar = no_register;
-  bus = at.bus;
-  device = at.part.device;
-  function = at.part.function;
+  bus = 0;
+  device = 0;
+  function = 0;
+  reserved = replicate 4 0;
 }
+
+abbrev pub problem_row : Problem → ProblemRow
+problem_row (not_forwarded q bridge address) =
+    record (named_row 1 q.path (path_text bridge)) { space = space_number q.space; address = address; bar = q.index }
+problem_row (contended a b address) = record (named_row 2 a.path (path_text b.path)) {
+  space = space_number a.space;
+  address = address;
+  bar = option_map_or (λ n. n) a.register no_register;
+  other_bar = option_map_or (λ n. n) b.register no_register;
+}
+problem_row (not_found path at instead) =
+    record (named_row 3 path (reached_text instead)) { bus = at.bus; device = at.part.device; function = at.part.function }

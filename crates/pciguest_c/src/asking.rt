@@ -1,5 +1,5 @@
 //! What is asked of a machine, from what C says of it.
-ghost use Rattle.std.specs.Prelude.{◌≡◌, ◌<◌, ◌≤◌, Some, None, IfOk, IfErr, length, option_map, position};
+ghost use Rattle.std.specs.Prelude.{◌≡◌, ◌<◌, ◌≤◌, Some, None, IfOk, IfErr, length, position};
 ghost use Rattle.std.specs.Str.{bytes_eq};
 ghost use Rattle.accesses.specs.Accesses.{target_of, part_of};
 ghost use Rattle.pciguest_c.specs.Calls.{where_guest};
@@ -9,27 +9,12 @@ use crate::numbers::ARGUMENT;
 use accesses::{At, Names, Place};
 use monitor::Monitor;
 
-/// Where an access goes, if there is such a space.
-pub fn at_of(space: u32, slot: u64, place: u64) -> Option<At>
-    ensures { option_map target_of result ≡ target_told space slot place }
-{
-    match space {
-        0 => Some(At::Config { slot, off: place }),
-        1 => Some(At::Io { port: place }),
-        2 => Some(At::Mem { addr: place }),
-        _ => None,
-    }
-}
-
-/// Where a raise goes: a region by its register, or 6 for configuration space.
-pub fn place_of(part: u32) -> Option<Place>
-    ensures { option_map part_of result ≡ part_told part }
-{
-    match part {
-        0..=5 => Some(Place::Bar(part as u8)),
-        6 => Some(Place::Cfg),
-        _ => None,
-    }
+/// A byte of the function in a slot, as its device names it.
+#[derive(Clone, Copy)]
+pub struct Byte {
+    pub slot: u64,
+    pub place: Place,
+    pub offset: u64,
 }
 
 /// How many guests there are.
@@ -67,13 +52,16 @@ pub fn target_for(
         where_guest machine.now guest (target_told space slot place) ≡ None) }
 {
     check_guest(machine, guest)?;
-    match at_of(space, slot, place) {
-        Some(at) => Ok(at),
-        None => Err(ARGUMENT),
+    match space {
+        0 => Ok(At::Config { slot, off: place }),
+        1 => Ok(At::Io { port: place }),
+        2 => Ok(At::Mem { addr: place }),
+        _ => Err(ARGUMENT),
     }
 }
 
-/// Where a raise at a guest or an access of its device goes, or 902 where there is no such guest or part.
+/// Where a raise at a guest or an access of its device goes, a region by its register, or 6 for configuration space; or
+/// 902 where there is no such guest or part.
 pub fn part_for(machine: &Monitor, guest: usize, part: u32) -> Result<Place, u32>
     ensures there { IfOk result (λ _. guest < length machine.now.world.guests) }
     ensures told { IfOk result (λ p.
@@ -83,9 +71,10 @@ pub fn part_for(machine: &Monitor, guest: usize, part: u32) -> Result<Place, u32
         where_guest machine.now guest (part_told part) ≡ None) }
 {
     check_guest(machine, guest)?;
-    match place_of(part) {
-        Some(place) => Ok(place),
-        None => Err(ARGUMENT),
+    match part {
+        0..=5 => Ok(Place::Bar(part as u8)),
+        6 => Ok(Place::Cfg),
+        _ => Err(ARGUMENT),
     }
 }
 

@@ -1,7 +1,7 @@
 //! What a device itself reads and writes of several bytes of a guest's function at once.
 ghost use Rattle.pciguest_c.specs.Calls.{Answers, device_read_wide, device_write_wide, nothing, number};
 
-use crate::asking::part_for;
+use crate::asking::{Byte, part_for};
 use crate::device_bytes::{wide_read, wide_write};
 use crate::handle::Handle;
 use crate::numbers::{number_of_done, put_result};
@@ -25,7 +25,12 @@ pub extern "C" fn pciguest_raw_device_read_wide(
 {
     let answer = handle.ask_machine(alloc, |machine| {
         let place = part_for(machine, guest, part)?;
-        wide_read(machine, guest, slot, place, offset, width)
+        let byte = Byte {
+            slot,
+            place,
+            offset,
+        };
+        wide_read(machine, guest, byte, width)
     });
     put_result(answer, value)
 }
@@ -48,6 +53,11 @@ pub extern "C" fn pciguest_raw_device_write_wide(
 {
     number_of_done(handle.ask_machine(alloc, |machine| {
         let place = part_for(machine, guest, part)?;
-        wide_write(machine, guest, slot, place, offset, width, value)
+        let byte = Byte {
+            slot,
+            place,
+            offset,
+        };
+        wide_write(machine, guest, byte, width, value)
     }))
 }

@@ -6,6 +6,7 @@ ghost use Rattle.pciguest_c.specs.Calls.{AnswersBoard, board_count, board_functi
 
 use crate::function_row::{FunctionRow, function_row};
 use crate::handle::Handle;
+use crate::interrupts::NO_INTERRUPT;
 use crate::numbers::{ARGUMENT, put_result};
 use session::DrivenFunction;
 use std::alloc::Global;
@@ -18,6 +19,7 @@ pub struct DrivenRow {
     pub is_found: u32,
     pub opens_io: u32,
     pub opens_memory: u32,
+    pub reserved: [u64; 4],
 }
 
 /// A function for C.
@@ -25,10 +27,11 @@ fn driven_row(function: &DrivenFunction) -> DrivenRow
     ensures { result ≡ driven_row (driven_function_named function.now) }
 {
     DrivenRow {
-        function: function_row(&function.function),
+        function: function_row(&function.function, NO_INTERRUPT),
         is_found: u32::from(function.is_found),
         opens_io: u32::from(function.opens_io),
         opens_memory: u32::from(function.opens_memory),
+        reserved: [0; 4],
     }
 }
 

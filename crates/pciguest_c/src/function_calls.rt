@@ -3,13 +3,23 @@ ghost use Rattle.std.specs.Prelude.{◌≡◌, IfErr, IfOk};
 ghost use Rattle.model_lines.specs.Sessions.{given};
 ghost use Rattle.pciguest_c.specs.Calls.{Answers, function_count, function_at, function_in, number, a_function};
 ghost use Rattle.pciguest_c.specs.Calls.{telling_slot, tells, refusal};
+ghost use Rattle.monitor.specs.FunctionsTold.{function_named};
+ghost use Rattle.pciguest_c.specs.FunctionsTold.{function_told};
 
 use crate::asking::check_guest;
 use crate::function_row::{FunctionRow, function_row};
 use crate::handle::Handle;
+use crate::interrupts::interrupt_of;
 use crate::numbers::{ARGUMENT, put_result};
-use monitor::Monitor;
+use monitor::{FunctionNow, Monitor};
 use std::alloc::Global;
+
+/// What is told of a function, with its interrupt.
+fn told_row(machine: &Monitor, function: &FunctionNow) -> FunctionRow
+    ensures { result ≡ function_told machine.now.world (function_named function.now) }
+{
+    function_row(function, interrupt_of(machine, function))
+}
 
 /// What is told of the function in a slot of a guest, or the number of why there is none.
 #[tactic(auto, unfolding(crate::specs::Calls::telling_slot))]
@@ -20,7 +30,7 @@ fn slot_function(machine: &Monitor, guest: usize, slot: u64) -> Result<FunctionR
 {
     check_guest(machine, guest)?;
     match machine.slot_function(guest, slot) {
-        Ok(function) => Ok(function_row(&function)),
+        Ok(function) => Ok(told_row(machine, &function)),
         Err(number) => Err(u32::from(number)),
     }
 }
@@ -49,7 +59,7 @@ pub extern "C" fn pciguest_raw_function(
         (a_function told.old) (a_function told.new) }
 {
     let answer = handle.ask_machine(alloc, |machine| match machine.function(index) {
-        Some(function) => Ok(function_row(&function)),
+        Some(function) => Ok(told_row(machine, &function)),
         None => Err(ARGUMENT),
     });
     put_result(answer, told)

@@ -13,6 +13,7 @@ ghost use Rattle.pciguest_c.specs.QueriesTold.{one_if};
 ghost use Rattle.pciguest_c.specs.FunctionsTold.{no_region, region_row, region_rows, window_row};
 ghost use Rattle.pciguest_c.specs.FunctionsTold.{window_rows, bridge_number, text_row, function_row};
 
+use crate::interrupts::Interrupt;
 use crate::text_calls::put;
 use bars::{BasedRegion, Kind, Space};
 use bridge_forward::Window;
@@ -62,6 +63,8 @@ pub struct FunctionRow {
     pub guest: usize,
     pub slot: u64,
     pub is_given: u32,
+    pub interrupt: Interrupt,
+    pub reserved: [u64; 4],
 }
 
 /// No region.
@@ -179,8 +182,8 @@ pub fn text_row(text: &[u8]) -> [u8; 80]
 }
 
 /// A function for C.
-pub fn function_row(function: &FunctionNow) -> FunctionRow
-    ensures { result ≡ function_row (function_named function.now) }
+pub fn function_row(function: &FunctionNow, interrupt: Interrupt) -> FunctionRow
+    ensures { result ≡ function_row (function_named function.now) interrupt }
 {
     let text = path_text(&function.path);
     let identity = function.identity;
@@ -203,5 +206,7 @@ pub fn function_row(function: &FunctionNow) -> FunctionRow
         guest: seat.guest,
         slot: seat.slot as u64,
         is_given: u32::from(function.seat.is_some()),
+        interrupt,
+        reserved: [0; 4],
     }
 }

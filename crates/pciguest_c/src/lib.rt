@@ -5,7 +5,6 @@
 #![tactic(auto)]
 
 mod asking;
-mod auditing;
 mod board_calls;
 mod board_guests;
 mod board_life;
@@ -21,21 +20,24 @@ mod guest_calls;
 mod guests;
 mod handle;
 mod host_calls;
+mod interrupts;
 mod life;
+mod limits;
 mod line_calls;
 mod loading;
 mod loading_all;
+mod moves;
 mod number_words;
 mod numbers;
 mod owner;
 mod problem_calls;
 mod problem_rows;
 mod querying;
-mod readiness;
 mod resetting;
 mod saving;
 mod saving_all;
 mod seating;
+mod surveying;
 mod text;
 mod text_calls;
 mod unboxed;

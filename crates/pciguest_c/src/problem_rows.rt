@@ -7,7 +7,7 @@ ghost use Rattle.bars.specs.Kinds.{named_space};
 ghost use Rattle.paths.specs.BusAddresses.{bus_address_of};
 ghost use Rattle.findings.specs.Findings.{problem_of};
 ghost use Rattle.pciguest_c.specs.QueriesTold.{space_number};
-ghost use Rattle.pciguest_c.specs.ProblemsTold.{no_register, problem_row, reached_text};
+ghost use Rattle.pciguest_c.specs.ProblemsTold.{named_row, no_register, problem_row, reached_text};
 ghost use Rattle.pciguest_c.specs.TextsTold.{IsTold};
 
 use crate::function_row::text_row;
@@ -33,6 +33,7 @@ pub struct ProblemRow {
     pub bus: u32,
     pub device: u32,
     pub function: u32,
+    pub reserved: [u64; 4],
 }
 
 /// No register of a region.
@@ -58,25 +59,40 @@ fn register_number(register: Option<u8>) -> u32
     }
 }
 
-/// A region of which a bridge doesn't forward a byte.
-fn not_forwarded_row(region: &RegionNow, bridge: &Path, address: u64) -> ProblemRow
-    ensures { result ≡ problem_row (not_forwarded region.now bridge.now address) }
+/// A problem of a function, with another one; of it nothing else is told.
+fn named_row(kind: u32, path: &Path, other: &[u8]) -> ProblemRow
+    requires { length other.now ≤ 79 }
+    ensures { result ≡ named_row kind path.now other.now }
 {
-    let text = path_text(&region.path);
-    let above = path_text(bridge);
+    let text = path_text(path);
     ProblemRow {
-        kind: 1,
-        space: space_number(region.region.kind.space()),
-        address,
+        kind,
+        space: 0,
+        address: 0,
         path: text_row(&text),
         path_length: text.len(),
-        bar: u32::from(region.region.index),
-        other: text_row(&above),
-        other_length: above.len(),
+        bar: NO_REGISTER,
+        other: text_row(other),
+        other_length: other.len(),
         other_bar: NO_REGISTER,
         bus: 0,
         device: 0,
         function: 0,
+        reserved: [0; 4],
+    }
+}
+
+/// A region of which a bridge doesn't forward a byte.
+fn not_forwarded_row(region: &RegionNow, bridge: &Path, address: u64) -> ProblemRow
+    ensures { result ≡ problem_row (not_forwarded region.now bridge.now address) }
+{
+    let space = space_number(region.region.kind.space());
+    let bar = u32::from(region.region.index);
+    ProblemRow {
+        space,
+        address,
+        bar,
+        ..named_row(1, &region.path, &path_text(bridge))
     }
 }
 
@@ -84,21 +100,24 @@ fn not_forwarded_row(region: &RegionNow, bridge: &Path, address: u64) -> Problem
 fn contended_row(one: &Agent, other: &Agent, address: u64) -> ProblemRow
     ensures { result ≡ problem_row (contended one.now other.now address) }
 {
-    let first = path_text(&one.path);
-    let second = path_text(&other.path);
     ProblemRow {
-        kind: 2,
         space: space_number(one.space),
         address,
-        path: text_row(&first),
-        path_length: first.len(),
         bar: register_number(one.register),
-        other: text_row(&second),
-        other_length: second.len(),
         other_bar: register_number(other.register),
-        bus: 0,
-        device: 0,
-        function: 0,
+        ..named_row(2, &one.path, &path_text(&other.path))
+    }
+}
+
+/// A function that no cycle finds.
+fn not_found_row(path: &Path, at: Bdf, instead: &Option<Path>) -> ProblemRow
+    ensures { result ≡ problem_row (not_found path.now (bus_address_of at) instead.now) }
+{
+    ProblemRow {
+        bus: u32::from(at.bus),
+        device: u32::from(at.device),
+        function: u32::from(at.function),
+        ..named_row(3, path, &reached_text(instead))
     }
 }
 
@@ -109,28 +128,6 @@ fn reached_text(path: &Option<Path>) -> PathText
     match path {
         Some(path) => path_text(path),
         None => PathText::new(),
-    }
-}
-
-/// A function that no cycle finds.
-fn not_found_row(path: &Path, at: Bdf, instead: &Option<Path>) -> ProblemRow
-    ensures { result ≡ problem_row (not_found path.now (bus_address_of at) instead.now) }
-{
-    let text = path_text(path);
-    let reached = reached_text(instead);
-    ProblemRow {
-        kind: 3,
-        space: 0,
-        address: 0,
-        path: text_row(&text),
-        path_length: text.len(),
-        bar: NO_REGISTER,
-        other: text_row(&reached),
-        other_length: reached.len(),
-        other_bar: NO_REGISTER,
-        bus: u32::from(at.bus),
-        device: u32::from(at.device),
-        function: u32::from(at.function),
     }
 }
 

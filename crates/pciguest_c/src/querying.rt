@@ -35,8 +35,17 @@ pub struct HitTold {
     pub found: u32,
 }
 
+/// No region.
+pub const NO_REGION: RegionTold = RegionTold {
+    first: 0,
+    size: 0,
+    space: 0,
+    prefetchable: 0,
+    is_open: 0,
+};
+
 /// A region for C.
-fn region_for(region: RegionNow) -> RegionTold
+pub fn region_for(region: RegionNow) -> RegionTold
     ensures { result ≡ region_told (region_named region) }
 {
     RegionTold {

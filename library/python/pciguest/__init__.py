@@ -48,11 +48,12 @@ from ._calls import VERSION
 from ._declared import Register
 from ._devices import Device
 from ._differs import DeclaredOtherwise
-from ._functions import Bar, BoardFunction, Function, Window, Windows
+from ._functions import Bar, BoardFunction, Function, Interrupt, Window, Windows
 from ._library import version
+from ._limits import Limits, limits
 from ._machine import Guest, Host, Machine
 from ._refusal import BoardRefusal, Problem, Refusal, strerror, words
-from ._regions import Hit, Region
+from ._regions import Hit, Moved, Region
 from ._spaces import Functions, ReadableSpace, ReadableWide, Space, Wide
 from ._texts import Check, check, report
 
@@ -71,7 +72,10 @@ __all__ = [
     "Guest",
     "Hit",
     "Host",
+    "Interrupt",
+    "Limits",
     "Machine",
+    "Moved",
     "Problem",
     "ReadableSpace",
     "ReadableWide",
@@ -84,6 +88,7 @@ __all__ = [
     "Window",
     "Windows",
     "check",
+    "limits",
     "report",
     "strerror",
     "version",

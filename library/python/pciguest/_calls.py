@@ -15,9 +15,12 @@ MEMORY = 2
 
 RAISE_CONFIG = 6
 
+PLACES = 192
+
 PATH = 80
 BARS = 6
 WINDOWS = 3
+ROOM = 4
 
 NOT_FORWARDED = 1
 CONTENDED = 2
@@ -115,6 +118,20 @@ class RegionTold(ctypes.Structure):
     ]
 
 
+class PlaceTold(ctypes.Structure):
+    """Where a region of a guest stands now, and where it stood when that was told before; all of either is 0 where
+    there is no region."""
+
+    _fields_ = [
+        ("now", RegionTold),
+        ("before", RegionTold),
+        # 1 or 0: whether these differ
+        ("has_moved", c_uint32),
+        # 0
+        ("reserved", c_uint32),
+    ]
+
+
 class HitTold(ctypes.Structure):
     """The byte that an access hits. The part is as for pciguest_raise: a region by its base address register, 0 to 5,
     or PCIGUEST_RAISE_CONFIG. Where nothing is hit, all of it is 0."""
@@ -157,6 +174,23 @@ class WindowTold(ctypes.Structure):
     ]
 
 
+class InterruptTold(ctypes.Structure):
+    """The interrupt pin of a function, from 1 for INTA# to 4 for INTD#, and the device of bus 0 and its pin that it
+    reaches: the pin moves on by the device number on each bus but bus 0 (PCI-to-PCI Bridge Architecture 1.2, chapter
+    9.1). These three are 0 where the function has no pin. No interrupt is delivered."""
+
+    _fields_ = [
+        # what Interrupt Pin holds
+        ("pin", c_uint32),
+        # the device on bus 0
+        ("root_device", c_uint32),
+        # its pin
+        ("root_pin", c_uint32),
+        # 1 or 0: Interrupt Disable, as the guest that has the function wrote it, else as on the board
+        ("is_disabled", c_uint32),
+    ]
+
+
 class FunctionTold(ctypes.Structure):
     """A function of the board as it is now."""
 
@@ -191,6 +225,10 @@ class FunctionTold(ctypes.Structure):
         ("slot", c_uint64),
         # 1 or 0: whether a guest has it
         ("is_given", c_uint32),
+        # all 0 in struct pciguest_board_function: firmware reads it
+        ("interrupt", InterruptTold),
+        # 0
+        ("reserved", c_uint64 * 4),
     ]
 
 
@@ -206,6 +244,8 @@ class BoardFunctionTold(ctypes.Structure):
         ("opens_io", c_uint32),
         # 1 or 0: the same of memory
         ("opens_memory", c_uint32),
+        # 0
+        ("reserved", c_uint64 * 4),
     ]
 
 
@@ -235,6 +275,31 @@ class ProblemTold(ctypes.Structure):
         ("bus", c_uint32),
         ("device", c_uint32),
         ("function", c_uint32),
+        # 0
+        ("reserved", c_uint64 * 4),
+    ]
+
+
+class LimitsTold(ctypes.Structure):
+    """How large things can be, of any board."""
+
+    _fields_ = [
+        # bytes: no image of a guest has more
+        ("guest_image", c_uint64),
+        # of a board, endpoints and bridges
+        ("functions", c_uint32),
+        # of a machine
+        ("guests", c_uint32),
+        # of a guest
+        ("slots", c_uint32),
+        # base address registers of an endpoint
+        ("bars", c_uint32),
+        # cells of a region, each a byte
+        ("block", c_uint32),
+        # cells of a function's own configuration space, 40h to FFh
+        ("own_cells", c_uint32),
+        # 0
+        ("reserved", c_uint64 * 4),
     ]
 
 
@@ -246,6 +311,8 @@ DECLARED: Dict[str, Tuple[Any, Tuple[Any, ...]]] = {
     # The words of a number, as pciguest_words has them, as a text that ends with a 0 and stays as long as the library
     # is loaded. A number that stands for nothing, as 0, has the empty text. Since 0.4.0.
     "strerror": (c_char_p, (c_uint32,)),
+    # Tells how large things can be. No machine is needed. Since 0.4.0.
+    "limits": (c_uint32, (POINTER(LimitsTold),)),
     # Sets up the board of a board file, given as its bytes, and gives its functions to the guests of the file.
     # 0: the machine holds the world that the file declares, before any access. Otherwise the number of the first check
     # that the file or its board fails, 199 or 299 out of memory, or 903.
@@ -374,6 +441,14 @@ DECLARED: Dict[str, Tuple[Any, Tuple[Any, ...]]] = {
     # was made just now, and goes on from 0 after 2^64 - 1. It takes no memory and changes nothing. 902: there is no
     # such guest. Since 0.4.0.
     "changed": (c_uint32, (POINTER(Handle), c_size_t, POINTER(c_uint64))),
+    # Tells which regions of a guest stand elsewhere, or are open or closed otherwise, than the caller was told before.
+    # Of the rows, which the caller keeps from call to call, that of slot S and base address register B is `places[6 * S
+    # + B]`; they begin with all bytes 0, and PCIGUEST_PLACES are all. Each row is told anew: where its region stands
+    # now, where it stood when this row was told before, and whether these differ; and `count` tells of how many they
+    # do. A region that is written to where it stood, as at the end of sizing, has not moved. So a hypervisor unmaps
+    # `before` and maps `now` of rows that moved, where `is_open` says so, and asks again once pciguest_changed tells
+    # another count. It takes no memory. 902: there is no such guest. Since 0.4.0.
+    "moved": (c_uint32, (POINTER(Handle), c_size_t, POINTER(PlaceTold), c_size_t, POINTER(c_size_t))),
     # What an access of the guest at a place hits, as pciguest_read and pciguest_write take the place: a byte of a
     # function in one of its slots, or nothing. It takes no memory and changes nothing. Every access there begins at
     # this byte, but for four bytes at port CF8h, which are the guest's own CONFIG_ADDRESS. Numbers as for a read of one

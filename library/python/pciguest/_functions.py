@@ -33,6 +33,17 @@ class Windows(NamedTuple):
     prefetchable: Optional[Window]
 
 
+class Interrupt(NamedTuple):
+    """The interrupt pin of a function, from 1 for INTA# to 4 for INTD#, and the device of bus 0 and its pin that it reaches:
+    the pin moves on by the device number on each bus but bus 0. These are 0 where the function has no pin. Interrupt
+    Disable is as the guest that has the function wrote it, else as on the board. No interrupt is delivered."""
+
+    pin: int
+    root_device: int
+    root_pin: int
+    is_disabled: bool
+
+
 class Function(NamedTuple):
     """A function of the board as it is now. Where regions and windows stand, and by which number it is reached, is told
     as the board's own registers have it, which no guest writes."""
@@ -57,6 +68,8 @@ class Function(NamedTuple):
     windows: Optional[Windows]
     #: the index of the guest that has it, and the slot, or None where no guest has it
     seat: Optional[Tuple[int, int]]
+    #: all 0 in a `BoardFunction`, of which firmware reads it
+    interrupt: Interrupt
 
     @property
     def is_bridge(self) -> bool:
@@ -104,6 +117,7 @@ def function_of(told: FunctionTold) -> Function:
         tuple(_bar(bar) for bar in told.regions),
         Windows(*(_window(window) for window in told.windows)) if told.is_bridge else None,
         (told.guest, told.slot) if told.is_given else None,
+        Interrupt(told.interrupt.pin, told.interrupt.root_device, told.interrupt.root_pin, bool(told.interrupt.is_disabled)),
     )
 
 

@@ -8,14 +8,14 @@ from pathlib import Path
 from typing import Any, Callable, Iterator, List, Optional, Tuple, Union
 
 from ._attached import Attaching
-from ._calls import CONFIG, GUEST_NAME, IO, MEMORY, RAISE_CONFIG, FunctionTold, Handle, RegionTold
+from ._calls import BARS, CONFIG, GUEST_NAME, IO, MEMORY, PLACES, RAISE_CONFIG, FunctionTold, Handle, PlaceTold, RegionTold
 from ._functions import Function, function_of
 from ._held import Held, as_bytes
 from ._images import Saved
 from ._library import CALLS, number, told
 from ._lines import Access, access_of
 from ._refusal import Refusal, answered
-from ._regions import Hit, Region
+from ._regions import Hit, Moved, Region, region_of
 from ._spaces import Cycles, Functions, ReadableSpace, Space
 from ._texts import NAME, explained
 
@@ -192,6 +192,8 @@ class Guest(Saved):
         self.name = name
         #: guests stand in the order of the board file, from 0 on
         self.index = index
+        # where its regions stood when `moved` told of them last
+        self._places = (PlaceTold * PLACES)()
 
     def __repr__(self) -> str:
         return f"<guest {self.name}>"
@@ -286,8 +288,9 @@ class Guest(Saved):
         told = RegionTold()
         place = number("slot", slot, 64), number("register", register, 32)
         self.machine._call("region", self.index, *place, byref(told))
-        space = "io" if told.space == IO else "memory"
-        return Region(space, told.first, told.size, bool(told.prefetchable), bool(told.is_open))
+        region = region_of(told)
+        assert region is not None, "each region has a size"
+        return region
 
     def changed(self) -> int:
         """A count that grows with each access of this guest, move, reset, gift, taking or load that touches one of its slots
@@ -298,6 +301,16 @@ class Guest(Saved):
         told = c_uint64()
         self.machine._call("changed", self.index, byref(told))
         return told.value
+
+    def moved(self) -> List[Moved]:
+        """The regions of this guest that stand elsewhere, or are open or closed otherwise, than when this `Guest` was asked
+        last; at first, all that are there. A region that is written to where it stood, as at the end of sizing, has not
+        moved. A hypervisor asks once `changed` tells another count. It changes nothing of the machine.
+        """
+        count = c_size_t()
+        self.machine._call("moved", self.index, self._places, PLACES, byref(count))
+        rows = ((nth, row) for nth, row in enumerate(self._places) if row.has_moved) if count.value else ()
+        return [Moved(nth // BARS, nth % BARS, region_of(row.before), region_of(row.now)) for nth, row in rows]
 
     def function(self, slot: int) -> Function:
         """The function in a slot, as the board's own registers have it. It changes nothing.

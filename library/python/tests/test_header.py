@@ -23,6 +23,9 @@ STRUCTS = {
     "pciguest_function": _calls.FunctionTold,
     "pciguest_board_function": _calls.BoardFunctionTold,
     "pciguest_problem": _calls.ProblemTold,
+    "pciguest_interrupt": _calls.InterruptTold,
+    "pciguest_place": _calls.PlaceTold,
+    "pciguest_limits": _calls.LimitsTold,
 }
 
 

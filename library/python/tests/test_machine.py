@@ -6,7 +6,7 @@ import unittest
 import unittest.mock
 
 from boards import MAIN, REFUSED
-from pciguest import Bar, Machine, Refusal
+from pciguest import Bar, Interrupt, Machine, Refusal, limits
 from pciguest._library import CALLS
 
 
@@ -311,6 +311,32 @@ class Ends(Case):
         for thread in threads:
             thread.join()
         self.assertEqual(wrong, [])
+
+
+class Moves(Case):
+    def test_regions_that_move_are_told(self):
+        a = self.a
+        self.assertEqual([(it.slot, it.register) for it in a.moved()], [(0, 0), (0, 1), (1, 0)])
+        self.assertEqual(a.moved(), [])
+        for value in 0xFFFFFFFF, 0:  # it is sized, and stands where it stood
+            a.config[0][0x14:4] = value
+        self.assertEqual(a.moved(), [])
+        a.config[0][0x14:4] = 0xE0000000
+        a.config[0][4:2] = 2
+        (moved,) = a.moved()
+        self.assertEqual((moved.slot, moved.register), (0, 1))
+        self.assertEqual((moved.before.first, moved.before.is_open), (0, False))
+        self.assertEqual((moved.now.first, moved.now.is_open), (0xE0000000, True))
+        self.machine.move(a, 0, self.b, 7)
+        self.assertEqual([(it.register, it.now) for it in a.moved()], [(0, None), (1, None)])
+
+    def test_an_interrupt_is_told(self):
+        self.a.config[1][4:2] = 0x0400
+        self.assertEqual(self.a.function(1).interrupt, Interrupt(1, 2, 2, True))
+        self.assertEqual(self.b.function(0).interrupt, Interrupt(0, 0, 0, False))
+
+    def test_limits(self):
+        self.assertEqual(limits()[1:5], (1024, 32, 32, 6))
 
 
 class OneAtATime(Case):

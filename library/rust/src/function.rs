@@ -34,6 +34,21 @@ pub struct Function {
     pub ranges: Ranges,
     /// The guest and the slot that hold it, if a guest has it.
     pub seat: Option<(Guest, u64)>,
+    /// Its interrupt; all 0 in a [`BoardFunction`], of which firmware reads it.
+    pub interrupt: Interrupt,
+}
+
+/// The interrupt pin of a function, and where it reaches bus 0. No interrupt is delivered.
+#[derive(Clone, Copy, Debug, Default, PartialEq, Eq)]
+pub struct Interrupt {
+    /// From 1 for INTA# to 4 for INTD#; 0 where the function has none, as are then the next two.
+    pub pin: u8,
+    /// The device on bus 0 that the pin reaches.
+    pub root_device: u8,
+    /// The pin of this device that it reaches: it moves on by the device number on each bus but bus 0.
+    pub root_pin: u8,
+    /// Interrupt Disable of Command, as the guest that has the function wrote it, else as on the board.
+    pub is_disabled: bool,
 }
 
 /// A function of a [`Board`](crate::Board) as the registers stand, whatever firmware did of them so far.
@@ -179,6 +194,12 @@ impl Function {
             subsystem_id: told.subsystem_id as u16,
             ranges: Ranges::of(told),
             seat: (told.is_given != 0).then_some((Guest::of_index(told.guest), told.slot)),
+            interrupt: Interrupt {
+                pin: told.interrupt.pin as u8,
+                root_device: told.interrupt.root_device as u8,
+                root_pin: told.interrupt.root_pin as u8,
+                is_disabled: told.interrupt.is_disabled != 0,
+            },
         }
     }
 
@@ -262,6 +283,7 @@ impl Machine {
     /// let mut machine = pciguest::Machine::new(BOARD)?;
     /// let function = machine.function(0)?;
     /// assert_eq!((function.bus, function.device, function.function), (0, 1, 0));
+    /// assert_eq!((function.interrupt.pin, function.interrupt.is_disabled), (0, false));
     /// assert!(!function.is_bridge());
     /// assert_eq!(machine.function(1).unwrap_err().to_string(), "902 argument");
     /// # Ok::<(), pciguest::Error>(())

@@ -69,10 +69,12 @@ mod differs;
 mod error;
 mod function;
 mod image;
+mod limits;
 mod lines;
 #[cfg(feature = "std")]
 mod load;
 mod machine;
+mod moved;
 mod place;
 mod text;
 mod touch;
@@ -86,8 +88,12 @@ pub use declared::{Declaration, Kind, Register};
 pub use device::{DeviceModel, Registers};
 pub use differs::Difference;
 pub use error::{Error, Refusal};
-pub use function::{Bar, BoardFunction, BoardProblem, Function, Functions, Ranges, Window};
+pub use function::{
+    Bar, BoardFunction, BoardProblem, Function, Functions, Interrupt, Ranges, Window,
+};
+pub use limits::{limits, Limits};
 pub use machine::Machine;
+pub use moved::{Moved, Places};
 pub use place::{At, Guest, Hit, HostAt, Part, Region, Space};
 pub use text::{check, report, strerror, version, words, Check};
 

@@ -1,6 +1,8 @@
 //! Each call on `boards/main.toml`, and what is refused.
 
-use pciguest::{At, Bar, Error, Guest, Hit, HostAt, Machine, Part, Ranges, Space, Window};
+use pciguest::{
+    At, Bar, Error, Guest, Hit, HostAt, Interrupt, Machine, Part, Places, Ranges, Space, Window,
+};
 
 const BOARD: &str = include_str!("../../../boards/main.toml");
 
@@ -482,5 +484,53 @@ fn a_function_is_told_by_its_slot() -> Result<(), Error> {
     assert_eq!(number(machine.slot_function(a, 32)), 303);
     assert_eq!(number(machine.slot_function(Guest::of_index(2), 0)), 902);
     assert_eq!(number(machine.function(4)), 902);
+    Ok(())
+}
+
+#[test]
+fn regions_that_move_are_told() -> Result<(), Error> {
+    let mut machine = Machine::new(BOARD)?;
+    let (a, b) = (machine.guest("a")?, machine.guest("b")?);
+    let mut places = Places::new();
+    let seats = |moved: &[pciguest::Moved]| -> Vec<(u64, u32)> {
+        moved.iter().map(|it| (it.slot, it.register)).collect()
+    };
+    assert_eq!(
+        seats(&machine.moved(a, &mut places)?),
+        [(0, 0), (0, 1), (1, 0)]
+    );
+    assert_eq!(machine.moved(a, &mut places)?, []);
+    for value in [0xffff_ffff, 0] {
+        machine.write(a, config(0, 0x14), 4, value)?; // it is sized, and stands where it stood
+    }
+    assert_eq!(machine.moved(a, &mut places)?, []);
+    machine.write(a, config(0, 0x14), 4, 0xe000_0000)?;
+    machine.write(a, config(0, 4), 2, 2)?;
+    let moved = machine.moved(a, &mut places)?;
+    assert_eq!(seats(&moved), [(0, 1)]);
+    let (before, now) = (moved[0].before.unwrap(), moved[0].now.unwrap());
+    assert_eq!((before.first, before.is_open), (0, false));
+    assert_eq!((now.first, now.is_open), (0xe000_0000, true));
+    machine.move_function(a, 0, b, 7)?;
+    let gone = machine.moved(a, &mut places)?;
+    assert_eq!(seats(&gone), [(0, 0), (0, 1)]);
+    assert!(gone.iter().all(|it| it.now.is_none()) && gone[1].before == Some(now));
+    assert_eq!(number(machine.moved(Guest::of_index(2), &mut places)), 902);
+    Ok(())
+}
+
+#[test]
+fn an_interrupt_is_told() -> Result<(), Error> {
+    let mut machine = Machine::new(BOARD)?;
+    let a = machine.guest("a")?;
+    machine.write(a, config(1, 4), 2, 0x0400)?;
+    let interrupt = Interrupt {
+        pin: 1,
+        root_device: 2,
+        root_pin: 2,
+        is_disabled: true,
+    };
+    assert_eq!(machine.slot_function(a, 1)?.interrupt, interrupt);
+    assert_eq!(machine.function(2)?.interrupt, Interrupt::default());
     Ok(())
 }

@@ -2,7 +2,7 @@
 //! board, whose device reads what its driver left in RAM. In place of a processor a driver makes the accesses that a
 //! hypervisor would trap.
 
-use pciguest::{At, Declaration, DeviceModel, Error, Guest, GuestBus, Kind, Machine, Region, Register, Registers, Space};
+use pciguest::{At, Declaration, DeviceModel, Error, Guest, GuestBus, Kind, Machine, Places, Region, Register, Registers, Space};
 use std::io::{stdout, Stdout};
 use std::sync::{Arc, Mutex};
 use vm_memory::{Bytes, GuestAddress, GuestMemoryMmap};
@@ -62,9 +62,9 @@ struct Buses {
     guest: Guest,
     ports: GuestBus,
     memory: GuestBus,
-    /// The regions of the board that are open, as they were at this count.
+    /// The regions of the board that are open, and where all were told to stand.
     open: Vec<Region>,
-    count: Option<u64>,
+    places: Places,
 }
 
 impl Buses {
@@ -77,7 +77,7 @@ impl Buses {
             memory: GuestBus::new(Arc::clone(&board), guest, Space::Memory),
             board,
             open: Vec::new(),
-            count: None,
+            places: Places::new(),
         }
     }
 
@@ -109,17 +109,11 @@ impl Buses {
         open.any(|it| it.space == space && (it.first..=it.first + (it.size - 1)).contains(&place))
     }
 
-    /// Regions stand elsewhere where the guest's count is another one.
+    /// Regions that stand elsewhere since.
     fn see_moves(&mut self) {
-        let mut board = self.board.lock().unwrap();
-        let count = board.changed(self.guest).ok();
-        if count == self.count {
-            return;
-        }
-        let places = (0..32).flat_map(|slot| (0..6).map(move |register| (slot, register)));
-        let regions = places.filter_map(|(slot, register)| board.region(self.guest, slot, register).ok());
-        self.open = regions.filter(|it| it.is_open).collect();
-        self.count = count;
+        let moved = self.board.lock().unwrap().moved(self.guest, &mut self.places).unwrap_or_default();
+        self.open.retain(|open| !moved.iter().any(|it| it.before == Some(*open)));
+        self.open.extend(moved.iter().filter_map(|it| it.now).filter(|now| now.is_open));
     }
 }
 

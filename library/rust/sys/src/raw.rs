@@ -8,9 +8,12 @@ pub const MEMORY: u32 = 2;
 
 pub const RAISE_CONFIG: u32 = 6;
 
+pub const PLACES: usize = 192;
+
 pub const PATH: usize = 80;
 pub const BARS: usize = 6;
 pub const WINDOWS: usize = 3;
+pub const ROOM: usize = 4;
 
 pub const NOT_FORWARDED: u32 = 1;
 pub const CONTENDED: u32 = 2;
@@ -146,6 +149,19 @@ pub struct Region {
     pub is_open: u32,
 }
 
+/// Where a region of a guest stands now, and where it stood when that was told before; all of either is 0 where there
+/// is no region.
+#[repr(C)]
+#[derive(Clone, Copy, Default)]
+pub struct Place {
+    pub now: Region,
+    pub before: Region,
+    /// 1 or 0: whether these differ
+    pub has_moved: u32,
+    /// 0
+    pub reserved: u32,
+}
+
 /// The byte that an access hits. The part is as for pciguest_raise: a region by its base address register, 0 to 5, or
 /// PCIGUEST_RAISE_CONFIG. Where nothing is hit, all of it is 0.
 #[repr(C)]
@@ -185,6 +201,22 @@ pub struct Window {
     pub is_there: u32,
 }
 
+/// The interrupt pin of a function, from 1 for INTA# to 4 for INTD#, and the device of bus 0 and its pin that it
+/// reaches: the pin moves on by the device number on each bus but bus 0 (PCI-to-PCI Bridge Architecture 1.2, chapter
+/// 9.1). These three are 0 where the function has no pin. No interrupt is delivered.
+#[repr(C)]
+#[derive(Clone, Copy, Default)]
+pub struct Interrupt {
+    /// what Interrupt Pin holds
+    pub pin: u32,
+    /// the device on bus 0
+    pub root_device: u32,
+    /// its pin
+    pub root_pin: u32,
+    /// 1 or 0: Interrupt Disable, as the guest that has the function wrote it, else as on the board
+    pub is_disabled: u32,
+}
+
 /// A function of the board as it is now.
 #[repr(C)]
 pub struct Function {
@@ -218,6 +250,10 @@ pub struct Function {
     pub slot: u64,
     /// 1 or 0: whether a guest has it
     pub is_given: u32,
+    /// all 0 in struct pciguest_board_function: firmware reads it
+    pub interrupt: Interrupt,
+    /// 0
+    pub reserved: [u64; 4],
 }
 
 impl Default for Function {
@@ -240,6 +276,8 @@ impl Default for Function {
             guest: 0,
             slot: 0,
             is_given: 0,
+            interrupt: Interrupt::default(),
+            reserved: [0; 4],
         }
     }
 }
@@ -255,6 +293,8 @@ pub struct BoardFunction {
     pub opens_io: u32,
     /// 1 or 0: the same of memory
     pub opens_memory: u32,
+    /// 0
+    pub reserved: [u64; 4],
 }
 
 impl Default for BoardFunction {
@@ -264,6 +304,7 @@ impl Default for BoardFunction {
             is_found: 0,
             opens_io: 0,
             opens_memory: 0,
+            reserved: [0; 4],
         }
     }
 }
@@ -293,6 +334,8 @@ pub struct Problem {
     pub bus: u32,
     pub device: u32,
     pub function: u32,
+    /// 0
+    pub reserved: [u64; 4],
 }
 
 impl Default for Problem {
@@ -310,8 +353,31 @@ impl Default for Problem {
             bus: 0,
             device: 0,
             function: 0,
+            reserved: [0; 4],
         }
     }
+}
+
+/// How large things can be, of any board.
+#[repr(C)]
+#[derive(Clone, Copy, Default)]
+pub struct Limits {
+    /// bytes: no image of a guest has more
+    pub guest_image: u64,
+    /// of a board, endpoints and bridges
+    pub functions: u32,
+    /// of a machine
+    pub guests: u32,
+    /// of a guest
+    pub slots: u32,
+    /// base address registers of an endpoint
+    pub bars: u32,
+    /// cells of a region, each a byte
+    pub block: u32,
+    /// cells of a function's own configuration space, 40h to FFh
+    pub own_cells: u32,
+    /// 0
+    pub reserved: [u64; 4],
 }
 
 extern "C" {
@@ -321,6 +387,8 @@ extern "C" {
     /// The words of a number, as pciguest_words has them, as a text that ends with a 0 and stays as long as the library
     /// is loaded. A number that stands for nothing, as 0, has the empty text. Since 0.4.0.
     pub fn pciguest_strerror(number: u32) -> *const c_char;
+    /// Tells how large things can be. No machine is needed. Since 0.4.0.
+    pub fn pciguest_limits(limits: *mut Limits) -> u32;
     /// Sets up the board of a board file, given as its bytes, and gives its functions to the guests of the file.
     /// 0: the machine holds the world that the file declares, before any access. Otherwise the number of the first
     /// check that the file or its board fails, 199 or 299 out of memory, or 903.
@@ -569,6 +637,20 @@ extern "C" {
     /// was made just now, and goes on from 0 after 2^64 - 1. It takes no memory and changes nothing. 902: there is no
     /// such guest. Since 0.4.0.
     pub fn pciguest_changed(machine: *mut Handle, guest: usize, count: *mut u64) -> u32;
+    /// Tells which regions of a guest stand elsewhere, or are open or closed otherwise, than the caller was told
+    /// before. Of the rows, which the caller keeps from call to call, that of slot S and base address register B is
+    /// `places[6 * S + B]`; they begin with all bytes 0, and PCIGUEST_PLACES are all. Each row is told anew: where its
+    /// region stands now, where it stood when this row was told before, and whether these differ; and `count` tells of
+    /// how many they do. A region that is written to where it stood, as at the end of sizing, has not moved. So a
+    /// hypervisor unmaps `before` and maps `now` of rows that moved, where `is_open` says so, and asks again once
+    /// pciguest_changed tells another count. It takes no memory. 902: there is no such guest. Since 0.4.0.
+    pub fn pciguest_moved(
+        machine: *mut Handle,
+        guest: usize,
+        places: *mut Place,
+        room: usize,
+        count: *mut usize,
+    ) -> u32;
     /// What an access of the guest at a place hits, as pciguest_read and pciguest_write take the place: a byte of a
     /// function in one of its slots, or nothing. It takes no memory and changes nothing. Every access there begins at
     /// this byte, but for four bytes at port CF8h, which are the guest's own CONFIG_ADDRESS. Numbers as for a read of

@@ -1,0 +1,13 @@
+use Rattle.std.proofs.Common.{ℕ, None, Some, Option, ap, ◌∙◌}
+use Rattle.std.specs.Prelude.{unwrap_or}
+use Rattle.model_guests.specs.WorldNow.{board_state}
+use Rattle.pciguest_c.proofs.FoundRegisters.{word_found}
+use Rattle.pciguest_c.proofs.interrupts.command_at.Goals as goal
+
+pub returns-in-Some : goal.returns-in-Some
+returns-in-Some c =
+    c.unwrap_or.ensures ∙ ap (λ (o : Option ℕ). unwrap_or o 0) c.number_nth.ensures
+    ∙ word_found _ (board_state c.args.machine.now.world) c.args.path.now (Some c.in-Some.index) 4 c.in-Some.ensures.function c.host-host.ensures.state
+
+pub returns-in-None : goal.returns-in-None
+returns-in-None c = word_found _ (board_state c.args.machine.now.world) c.args.path.now None 4 c.in-None.ensures.function c.host-host.ensures.state

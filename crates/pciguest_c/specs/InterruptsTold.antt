@@ -1,0 +1,41 @@
+-- What C is told of the interrupt of a function: PCI Local Bus 3.0, chapters 2.2.6, 6.2.2 and 6.2.4; PCI-to-PCI Bridge
+-- Architecture 1.2, chapter 9.1.
+--     no_interrupt      where firmware drives the board
+--     pin_route p n      a pin, and the device of bus 0 and its pin that it reaches; 0 where it is no pin
+--     own_command w s      Command of the function in a slot of a guest, as the guest has it
+--     command_now w f      as the guest has it whose function it is, else as the board has it
+--     interrupt_of w f      all that is told of it
+use Rattle.std.specs.Prelude.{ℕ, ◌/◌, ◌%◌, ◌||◌, if◌then◌else◌, length, nat_lt, nat_le}
+use Rattle.std.specs.Option.{option_map_or}
+use Rattle.model_registers.specs.Registers.{config, number}
+use Rattle.model_registers.specs.Decoding.{Function, command_word}
+use Rattle.model_board.specs.Interrupts.{root_device, root_pin}
+use Rattle.model_board.specs.Paths.{Path}
+use Rattle.model_board.specs.Ports.{file_at}
+use Rattle.model_guests.specs.Guests.{lone_of}
+use Rattle.model_guests.specs.Slots.{slot_at}
+use Rattle.model_guests.specs.WorldNow.{WorldNow, board_state}
+use Rattle.model_handoff.specs.Functions.{FunctionNow, Seat}
+use Rattle.monitor.specs.ByIndex.{name_nth}
+use Rattle.pciguest_c.specs.declared.interrupts.Interrupt.{Interrupt}
+
+abbrev pub no_interrupt : Interrupt
+no_interrupt = record { pin = 0; root_device = 0; root_pin = 0; is_disabled = 0 }
+
+abbrev pub pin_route : Path → ℕ → ℕ × ℕ × ℕ
+pin_route p n = if nat_lt n 1 || nat_lt 4 n then (0, 0, 0) else (n, root_device p, root_pin p n)
+
+-- a seat is one of a guest that is there
+abbrev pub own_command : WorldNow → Seat → ℕ
+own_command w s =
+    if nat_le (length w.guests) s.guest then 0
+    else option_map_or (λ (f : Function). command_word f.file) (slot_at (lone_of w.guests (name_nth w s.guest)).slots s.slot) 0
+
+abbrev pub command_now : WorldNow → FunctionNow → ℕ
+command_now w f = option_map_or (own_command w) f.seat (number (file_at (board_state w).functions f.path) (config 4) 2)
+
+-- Interrupt Disable is bit 10 of Command
+unfoldable pub interrupt_of : WorldNow → FunctionNow → Interrupt
+interrupt_of w f =
+    let route = pin_route f.path (number (file_at (board_state w).functions f.path) (config 0x3d) 1) in
+    record { pin = route.0; root_device = route.1; root_pin = route.2; is_disabled = command_now w f / 1024 % 2 }

@@ -1,0 +1,20 @@
+-- How large things can be, as C is told of it.
+--     greatest_image      no image of a guest has more bytes: 12 and 32 slots of 246307
+--     limits      functions, guests and slots as board files may have them; registers; cells of a region and of a function
+use Rattle.std.specs.Prelude.{ℕ, replicate}
+use Rattle.pciguest_c.specs.declared.limits.LimitsRow.{LimitsRow}
+
+abbrev pub greatest_image : ℕ
+greatest_image = 7881836
+
+abbrev pub limits : LimitsRow
+limits = record {
+  guest_image = greatest_image;
+  functions = 1024;
+  guests = 32;
+  slots = 32;
+  bars = 6;
+  block = 4096;
+  own_cells = 192;
+  reserved = replicate 4 0;
+}

@@ -1,0 +1,38 @@
+-- What C is told of the regions of a guest that stand elsewhere than they were told before.
+--     no_region_told      where there is no region
+--     place_now w guest n      the region of a guest by its index; n counts six for each slot
+--     is_same a b      two regions stand alike
+--     place_row now before      the row of a region, and whether it moved
+--     places_from w guest n ps      rows that are told anew, the first of region n
+--     moved_count ps      how many of these moved
+use Rattle.std.specs.Prelude.{ℕ, ◌+◌, ◌/◌, ◌%◌, ◌==◌, ◌&&◌, Bool, not, List, [], ◌∷◌, Result, Ok, Err, count_by}
+use Rattle.model_guests.specs.WorldNow.{WorldNow}
+use Rattle.model_handoff.specs.GuestRegions.{RegionNow}
+use Rattle.pciguest_c.specs.QueriesTold.{one_if, region_asked, region_told}
+use Rattle.pciguest_c.specs.declared.querying.RegionTold.{RegionTold}
+use Rattle.pciguest_c.specs.declared.moves.PlaceRow.{PlaceRow}
+
+abbrev pub no_region_told : RegionTold
+no_region_told = record { first = 0; size = 0; space = 0; prefetchable = 0; is_open = 0 }
+
+abbrev pub region_or_none : Result RegionNow ℕ → RegionTold
+region_or_none (Ok r) = region_told r
+region_or_none (Err n) = no_region_told
+
+abbrev pub place_now : WorldNow → ℕ → ℕ → RegionTold
+place_now w guest n = region_or_none (region_asked w guest (n / 6) (n % 6))
+
+abbrev pub is_same : RegionTold → RegionTold → Bool
+is_same a b =
+    a.first == b.first && a.size == b.size && a.space == b.space && a.prefetchable == b.prefetchable
+    && a.is_open == b.is_open
+
+abbrev pub place_row : RegionTold → RegionTold → PlaceRow
+place_row now before = record { now = now; before = before; has_moved = one_if (not (is_same now before)); reserved = 0 }
+
+abbrev pub places_from : WorldNow → ℕ → ℕ → List PlaceRow → List PlaceRow
+places_from w guest n [] = []
+places_from w guest n (p ∷ ps) = place_row (place_now w guest n) p.now ∷ places_from w guest (n + 1) ps
+
+abbrev pub moved_count : List PlaceRow → ℕ
+moved_count ps = count_by (λ (p : PlaceRow). p.has_moved == 1) ps

@@ -1,0 +1,103 @@
+//! Which interrupt pin a function has, where that reaches bus 0, and whether its Command disables it.
+ghost use Rattle.std.specs.Prelude.{◌≡◌};
+ghost use Rattle.model_registers.specs.Registers.{config, number};
+ghost use Rattle.model_board.specs.Ports.{file_at};
+ghost use Rattle.model_guests.specs.WorldNow.{board_state};
+ghost use Rattle.monitor.specs.FunctionsTold.{function_named, seat_named};
+ghost use Rattle.pciguest_c.specs.InterruptsTold.{own_command, command_now, pin_route, interrupt_of};
+
+use crate::asking::guest_count;
+use intx_swizzle::at_root;
+use monitor::{FunctionNow, Monitor, Seat};
+use paths::Path;
+
+/// The pin of a function, 1 to 4, and the device of bus 0 and its pin that it reaches; all 0 where it has none. And whether
+/// Command disables it.
+#[repr(C)]
+#[derive(Clone, Copy)]
+pub struct Interrupt {
+    pub pin: u32,
+    pub root_device: u32,
+    pub root_pin: u32,
+    pub is_disabled: u32,
+}
+
+/// Of a function of a board that firmware drives nothing is told.
+pub const NO_INTERRUPT: Interrupt = Interrupt {
+    pin: 0,
+    root_device: 0,
+    root_pin: 0,
+    is_disabled: 0,
+};
+
+/// What Interrupt Pin holds of the function at a path.
+fn pin_at(machine: &Monitor, path: &Path) -> u32
+    ensures { let fs = (board_state machine.now.world).functions in
+        result ≡ number (file_at fs path.now) (config 0x3d) 1 }
+{
+    let host = machine.host();
+    match host.index_of(path) {
+        Some(index) => host.number_nth(index, 0x3d, 1).unwrap_or(0),
+        None => 0,
+    }
+}
+
+/// What Command holds on the board of the function at a path.
+fn command_at(machine: &Monitor, path: &Path) -> u32
+    ensures { let fs = (board_state machine.now.world).functions in
+        result ≡ number (file_at fs path.now) (config 4) 2 }
+{
+    let host = machine.host();
+    match host.index_of(path) {
+        Some(index) => host.number_nth(index, 4, 2).unwrap_or(0),
+        None => 0,
+    }
+}
+
+/// What Command holds of the function in a slot, as its guest has it.
+fn own_command(machine: &Monitor, seat: Seat) -> u32
+    ensures { result ≡ own_command machine.now.world (seat_named seat) }
+{
+    if seat.guest >= guest_count(machine) {
+        return 0;
+    }
+    match machine.own_registers(seat.guest, seat.slot) {
+        Some(own) => u32::from(own.command),
+        None => 0,
+    }
+}
+
+/// What Command holds of a function, as the guest that has it does, or else on the board.
+fn command_now(machine: &Monitor, function: &FunctionNow) -> u32
+    ensures { result ≡ command_now machine.now.world (function_named function.now) }
+{
+    match function.seat {
+        Some(seat) => own_command(machine, seat),
+        None => command_at(machine, &function.path),
+    }
+}
+
+/// Where a pin of the function at a path reaches bus 0.
+fn pin_route(path: &Path, pin: u32) -> (u32, u32, u32)
+    ensures { result ≡ pin_route path.now pin }
+{
+    if pin < 1 || pin > 4 {
+        return (0, 0, 0);
+    }
+    let (device, root) = at_root(path, pin as u8);
+    (pin, u32::from(device), u32::from(root))
+}
+
+/// What is told of the interrupt of a function.
+#[tactic(auto, unfolding(crate::specs::InterruptsTold::interrupt_of))]
+pub fn interrupt_of(machine: &Monitor, function: &FunctionNow) -> Interrupt
+    ensures { result ≡ interrupt_of machine.now.world (function_named function.now) }
+{
+    let (pin, root_device, root_pin) = pin_route(&function.path, pin_at(machine, &function.path));
+    Interrupt {
+        pin,
+        root_device,
+        root_pin,
+        is_disabled: command_now(machine, function) / 0x400 % 2,
+    }
+}
