@@ -15,7 +15,8 @@ use std::alloc::Global;
 fn survey_of(alloc: Global, board: &mut Board, with_lacks: bool) -> Result<CountedText, u32>
     ensures told { IfOk result (λ t. surveying with_lacks board.old
         ≡ tells (counted (string_bytes t.text) t.count) (driven board.old)) }
-    ensures memory { IfErr result (λ n. unless_out n (surveying with_lacks board.old) ≡ refusal n) }
+    ensures memory { IfErr result (λ n.
+        unless_out n (surveying with_lacks board.old) ≡ refusal n) }
     ensures kept { board.new ≡ board.old }
 {
     if with_lacks {
