@@ -271,7 +271,8 @@ class WhoWrote(unittest.TestCase):
         told = why_unfound(SecondHand(), text_of(AUDITED), lines, "2.0/0.0", story.asked["2.0/0.0"])
         self.assertEqual(told, [
             "the firmware never finds 2.0/0.0: line 3 of 4 asks for it last: host cr 01:00.0 0 4", "host why cfg 01:00.0",
-            "why: 01:00.0 reaches nothing", "why: no bridge on bus 00 takes bus 01", "why: 2 lines"])
+            "why: 01:00.0 reaches nothing", "why: no bridge on bus 00 takes bus 01",
+            "why: 2.0/0.0 has this number behind 2.0", "why: 3 lines"])
         self.assertNotIn("3.0", story.asked)
         self.assertIn("never asks for it", why_unfound(SecondHand(), "", lines, "3.0", None)[0])
 
