@@ -1,11 +1,21 @@
 -- Bytes that are compared in two steps.
-use Rattle.std.proofs.Common.{◌≡◌, ℕ, ◌⊎◌, inl, inr, true, false, List, [], ◌∷◌, ◌++◌, length, take, drop, Ok, Err, refl, sym, ap, ◌∙◌, arith}
+use Rattle.std.proofs.Common.{◌≡◌, ◌<◌, ℕ, ◌⊎◌, inl, inr, true, false, List, [], ◌∷◌, ◌++◌, length, take, drop, Ok, Err, refl, sym, ap, ap₂, ◌∙◌, subst, arith}
+use Rattle.std.specs.Prelude.{flat_map}
 use Rattle.std.specs.Str.{bytes_eq}
 use Rattle.std.proofs.lemmas.List.{append-nil, take-append-drop, take_all, take_at}
 use Rattle.std.proofs.lemmas.Slice.Eq.{bytes_eq-Decides}
 use Rattle.model_images.specs.LoadedBytes.{then_read, after_bytes}
-use Rattle.images.specs.SinkLaws.{after_both}
+use Rattle.lists.specs.Elements.{Each}
+use Rattle.model_registers.specs.Declarations.{Region, ConfigBlock, Endpoint}
+use Rattle.model_registers.specs.DeclarationRules.{IsConfigBlock, IsLawfulEndpoint}
+use Rattle.model_images.proofs.Savable.{block_count}
+use Rattle.images.specs.Parts.{counted_blocks, region_bytes, rest_bytes}
 use Rattle.model_images.proofs.LoadedBytes.{compared, own_bytes, Follows, FallsShort}
+
+after_both : (k : ℕ) (xs ys bytes : List ℕ) → after_bytes k (xs ++ ys) bytes ≡ then_read (after_bytes k ys) (after_bytes k xs bytes)
+after_both k [] ys bytes = refl
+after_both k (x ∷ xs) ys [] = refl
+after_both k (x ∷ xs) ys (b ∷ bytes) = grind (arith, after_both k xs ys bytes)
 
 same : (xs ys : List ℕ) → bytes_eq xs ys ≡ true → xs ≡ ys
 same xs ys h = (bytes_eq-Decides xs ys).0 h
@@ -54,3 +64,31 @@ goes_on k xs ys bytes rest h = after_both k xs ys bytes ∙ ap (then_read (after
 
 pub ends : (k n : ℕ) (xs ys bytes : List ℕ) → after_bytes k xs bytes ≡ Err n → after_bytes k (xs ++ ys) bytes ≡ Err n
 ends k n xs ys bytes h = after_both k xs ys bytes ∙ ap (then_read (after_bytes k ys)) h
+
+-- the first of a list
+pub goes_on_of : {A : Type 0} (f : A → List ℕ) (x : A) (left others : List A) (k : ℕ) (own bytes rest : List ℕ) → left ≡ x ∷ others → own ≡ f x → after_bytes k own bytes ≡ Ok rest
+    → after_bytes k (flat_map f others) rest ≡ after_bytes k (flat_map f left) bytes
+goes_on_of f x left others k own bytes rest first are h = grind (arith, goes_on)
+
+pub ends_of : {A : Type 0} (f : A → List ℕ) (x : A) (left others : List A) (k n : ℕ) (own bytes : List ℕ) → left ≡ x ∷ others → own ≡ f x → after_bytes k own bytes ≡ Err n
+    → after_bytes k (flat_map f left) bytes ≡ Err n
+ends_of f x left others k n own bytes first are h = grind (arith, ends)
+
+-- what holds of the first and of the others holds of all
+pub each_of : {A : Type 0} (P : A → Type 0) (x : A) (left others all : List A) → left ≡ x ∷ others → P x → (Each P left → Each P all) → Each P others → Each P all
+each_of P x left others all first here more h = more (subst (Each P) (sym first) (here, h))
+
+-- ---- a declaration
+
+pub rest_goes_on : (d : Endpoint) (rs : List Region) (bs : List ConfigBlock) (bytes rest : List ℕ) → rs ≡ d.regions → bs ≡ d.blocks → after_bytes 906 (flat_map region_bytes rs) bytes ≡ Ok rest
+    → after_bytes 906 (rest_bytes d) bytes ≡ after_bytes 906 (counted_blocks bs) rest
+rest_goes_on d rs bs bytes rest regions blocks h =
+    ap₂ (λ (x : List Region) (y : List ConfigBlock). after_bytes 906 (flat_map region_bytes x ++ counted_blocks y) bytes) (sym regions) (sym blocks)
+    ∙ goes_on 906 (flat_map region_bytes rs) (counted_blocks bs) bytes rest h
+
+pub record AreCounted (bs : List ConfigBlock) : Type 0 where
+  pub lawful : Each IsConfigBlock bs
+  pub count : length bs < 256
+
+pub are_counted : (d : Endpoint) (bs : List ConfigBlock) → IsLawfulEndpoint d → bs ≡ d.blocks → AreCounted bs
+are_counted d bs h same = subst AreCounted (sym same) (record { lawful = h.config_blocks; count = let few = block_count d h in omega arith })

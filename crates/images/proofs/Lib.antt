@@ -5,7 +5,6 @@ pub mod DeclaredBytes
 pub mod ComparedBytes
 pub mod Lengths
 pub mod TakenValues
-pub mod Feeding
 pub mod Runs
 pub mod ShownValues
 pub mod ComparedFunctions

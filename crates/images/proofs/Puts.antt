@@ -1,8 +1,29 @@
 -- What is put into a buffer in two steps.
-use Rattle.std.proofs.Common.{◌≡◌, ℕ, ◌+◌, ◌≤◌, List, ◌∷◌, ◌++◌, length, sym, ap, ◌∙◌, subst, arith, length-append}
+use Rattle.std.proofs.Common.{◌≡◌, ℕ, ◌+◌, ◌≤◌, List, [], ◌∷◌, ◌++◌, length, take, drop, sym, ap, ap₂, ◌∙◌, subst, append_assoc, arith, length-append, length-drop}
 use Rattle.std.specs.Prelude.{flat_map}
+use Rattle.std.proofs.lemmas.List.{length-take, take-append-drop, take_at, drop_at, drop-drop}
 use Rattle.images.specs.Puts.{put}
-use Rattle.images.specs.SinkLaws.{put_both, put_length}
+
+pub put_length : (at : ℕ) (xs out : List ℕ) → at + length xs ≤ length out → length (put at xs out) ≡ length out
+put_length at xs out room = grind (arith, length-append, length-take, length-drop)
+
+-- nothing that is put
+pub put_none : (at : ℕ) (out : List ℕ) → put at [] out ≡ out
+put_none at out = let same : at + 0 ≡ at = omega arith in ap (λ n. take at out ++ drop n out) same ∙ take-append-drop at out
+
+pub put_both : (at n : ℕ) (xs ys out : List ℕ) → n ≡ at + length xs → at + length xs ≤ length out → put n ys (put at xs out) ≡ put at (xs ++ ys) out
+put_both at n xs ys out end room =
+    let front : List ℕ = take at out in
+    let back : List ℕ = drop (at + length xs) out in
+    let begins : length (front ++ xs) ≡ n = let a = length-append front xs in let b = length-take at out in omega arith in
+    let split : put at xs out ≡ (front ++ xs) ++ back = sym (append_assoc front xs back) in
+    let left : take n (put at xs out) ≡ front ++ xs = ap (take n) split ∙ take_at (front ++ xs) back n begins in
+    let both : at + length xs + length ys ≡ at + length (xs ++ ys) = let a = length-append xs ys in omega arith in
+    let right : drop (n + length ys) (put at xs out) ≡ drop (at + length (xs ++ ys)) out =
+    sym (drop-drop (length ys) n (put at xs out)) ∙ ap (λ (l : List ℕ). drop (length ys) (drop n l)) split ∙ ap (drop (length ys)) (drop_at (front ++ xs) back n begins)
+    ∙ drop-drop (length ys) (at + length xs) out ∙ ap (λ m. drop m out) both in
+    ap₂ (λ (x y : List ℕ). x ++ (ys ++ y)) left right ∙ append_assoc front xs (ys ++ drop (at + length (xs ++ ys)) out)
+    ∙ ap (λ (l : List ℕ). front ++ l) (sym (append_assoc xs ys (drop (at + length (xs ++ ys)) out)))
 
 -- ---- elements that are put one after the other
 

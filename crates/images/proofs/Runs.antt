@@ -9,8 +9,7 @@ use Rattle.model_registers.specs.OwnCopies.{OwnCopies}
 use Rattle.headers.specs.declared.place.Place as headers
 use Rattle.headers.specs.Places.{place_of}
 use Rattle.images.specs.Puts.{put}
-use Rattle.images.specs.SinkLaws.{put_none}
-use Rattle.images.proofs.Puts.{next}
+use Rattle.images.proofs.Puts.{next, put_none}
 use Rattle.images.specs.Shown.{block_values, bytes_from, header_values, region_values, shown_byte, shown_values}
 
 after_place : (place : headers.Place) (off : ℕ) → after (place_of place off) ≡ place_of place (off + 1)

@@ -2,8 +2,6 @@ pub mod Cells
 pub mod Faults
 pub mod Parts
 pub mod Puts
-pub mod SinkLaws
-pub mod Sinks
 pub mod Shown
 pub mod MachineFaults
 pub mod BoardBytes

@@ -3,9 +3,8 @@
 --     endpoint_head, region_head, block_head      what stands before regions, and before cells of a region or a block
 --     region_bytes, block_bytes      a region, a block
 --     counted_blocks, rest_bytes, declared_bytes      blocks with their count; what follows the head; a declaration
---     IsShortRegion r      its first register and how many cells it has fit their fields
 --     DeclaredBytes      they are the bytes of the declaration
-use Rattle.std.specs.Prelude.{◌≡◌, ◌<◌, ◌≤◌, List, ℕ, ◌++◌, length, flat_map}
+use Rattle.std.specs.Prelude.{◌≡◌, List, ℕ, ◌++◌, length, flat_map}
 use Rattle.model_registers.specs.Cell.{Cell}
 use Rattle.model_registers.specs.Declarations.{Region, ConfigBlock, Endpoint}
 use Rattle.model_images.specs.Layouts.{le_bytes}
@@ -43,10 +42,6 @@ rest_bytes d = flat_map region_bytes d.regions ++ counted_blocks d.blocks
 
 abbrev pub declared_bytes : Endpoint → List ℕ
 declared_bytes d = endpoint_head d ++ rest_bytes d
-
-pub record IsShortRegion (r : Region) : Type 0 where
-  pub index : r.index < 256
-  pub count : length r.cells ≤ 4096
 
 abbrev pub DeclaredBytes : Type 0
 DeclaredBytes = (d : Endpoint) → declared_bytes d ≡ declaration_bytes d

@@ -1,25 +1,21 @@
 //! A function of the board by its index: its path and what is declared of it.
-ghost use Rattle.std.specs.Prelude.{◌≡◌, ◌≤◌, ◌+◌, ℕ, List, Ok, Err, IfErr, IfOk, length};
-ghost use Rattle.model_board.specs.Board.{bridge};
+ghost use Rattle.std.specs.Prelude.{◌≡◌, ◌≤◌, ◌+◌, Ok, Err, IfErr, IfOk, length};
+ghost use Rattle.model_board.specs.Board.{bridge, endpoint};
 ghost use Rattle.model_images.specs.LoadedBytes.{after_bytes};
 ghost use Rattle.model_images.specs.Layouts.{le_bytes};
 ghost use Rattle.model_images.specs.MachineBytes.{io_number, pref_number};
 ghost use Rattle.headers.specs.Decodes.{io_decode_of, pref_decode_of};
 ghost use Rattle.images.specs.Puts.{put};
-ghost use Rattle.images.specs.Sinks.{left_of};
 ghost use Rattle.images.specs.BoardBytes.{decl_bytes, decl_nth, row_nth};
 ghost use Rattle.images.specs.MachineFaults.{number_of};
 
 use crate::board_paths::path_bytes;
-use crate::comparing::{Judge, after};
-use crate::declaring::feed_declaration;
-use crate::fault::ImageFault;
+use crate::comparing::{after, after_declaration};
 use crate::machine_fault::{MachineFault, of_board};
-use crate::sink::Sink;
 use crate::sizes::declaration_size;
-use crate::writing::Buffer;
+use crate::writing::{put, write_declaration};
 use byteorder::{ByteOrder, LittleEndian};
-use headers::{BridgeDecl, IoDecode, PrefDecode};
+use headers::{BridgeDecl, EndpointDecl, IoDecode, PrefDecode};
 use host_bridge::Host;
 
 /// The number by which an image names how a bridge decodes I/O addresses.
@@ -65,6 +61,16 @@ fn bridge_bytes(decl: &BridgeDecl) -> [u8; 8]
     [1, v0, v1, d0, d1, decl.revision(), io, pref]
 }
 
+/// Puts an endpoint into a buffer, behind the byte that says that it is one.
+fn write_endpoint(decl: &EndpointDecl, out: &mut [u8], at: usize) -> usize
+    requires { at + length (decl_bytes (endpoint decl.now)) ≤ length out.old }
+    ensures bytes { out.new ≡ put at (decl_bytes (endpoint decl.now)) out.old }
+    ensures end { result ≡ at + length (decl_bytes (endpoint decl.now)) }
+{
+    let next = put(out, at, &[0]);
+    write_declaration(decl, out, next)
+}
+
 /// How many bytes the declaration of a function has.
 fn decl_size(host: &Host, index: usize) -> usize
     ensures size { result ≡ length (decl_nth host.now.state.functions index) }
@@ -90,30 +96,17 @@ pub fn row_size(host: &Host, index: usize) -> usize
     }
 }
 
-/// Feeds the declaration of the function at an index, behind the byte that says what it is.
-fn feed_decl<S: Sink>(host: &Host, index: usize, sink: &mut S)
-    ensures { S.fed sink.old (decl_nth host.now.state.functions index) sink.new }
+fn write_decl(host: &Host, index: usize, out: &mut [u8], at: usize) -> usize
+    requires { at + length (decl_nth host.now.state.functions index) ≤ length out.old }
+    ensures bytes { out.new ≡ put at (decl_nth host.now.state.functions index) out.old }
+    ensures end { result ≡ at + length (decl_nth host.now.state.functions index) }
 {
     match host.endpoint_ref_nth(index) {
-        Some(endpoint) => {
-            sink.put(&[0]);
-            feed_declaration(endpoint.decl(), sink);
-        }
-        None => {
-            if let Some(decl) = host.bridge_decl_nth(index) {
-                sink.put(&bridge_bytes(&decl));
-            }
-        }
-    }
-}
-
-/// Feeds the path of the function at an index and its declaration.
-fn feed_row<S: Sink>(host: &Host, index: usize, sink: &mut S)
-    ensures { S.fed sink.old (row_nth host.now.state.functions index) sink.new }
-{
-    if let Some(path) = host.path_nth(index) {
-        sink.put(path_bytes(&path).as_slice());
-        feed_decl(host, index, sink);
+        Some(endpoint) => write_endpoint(endpoint.decl(), out, at),
+        None => match host.bridge_decl_nth(index) {
+            Some(decl) => put(out, at, &bridge_bytes(&decl)),
+            None => at,
+        },
     }
 }
 
@@ -124,24 +117,12 @@ pub fn write_row(host: &Host, index: usize, out: &mut [u8], at: usize) -> usize
     ensures bytes { out.new ≡ put at (row_nth host.now.state.functions index) out.old }
     ensures end { result ≡ at + length (row_nth host.now.state.functions index) }
 {
-    let mut sink = Buffer { out, at };
-    feed_row(host, index, &mut sink);
-    sink.at
-}
-
-/// What is left of bytes that were compared with those of the board.
-#[tactic(auto, using(crate::proofs::RowBytes::refused_as, crate::proofs::RowBytes::taken_as))]
-pub(crate) fn left_by_board(left: Result<&[u8], ImageFault>) -> Result<&[u8], MachineFault>
-    ensures taken { IfOk result (λ rest. (own bytes : List ℕ)
-        → left_of left.entry ≡ after_bytes 906 own bytes
-        → after_bytes 907 own bytes ≡ Ok rest.now) }
-    ensures refused { IfErr result (λ why. (own bytes : List ℕ)
-        → left_of left.entry ≡ after_bytes 906 own bytes
-        → after_bytes 907 own bytes ≡ Err (number_of why)) }
-{
-    match left {
-        Ok(rest) => Ok(rest),
-        Err(fault) => Err(of_board(fault)),
+    match host.path_nth(index) {
+        Some(path) => {
+            let next = put(out, at, path_bytes(&path).as_slice());
+            write_decl(host, index, out, next)
+        }
+        None => at,
     }
 }
 
@@ -157,6 +138,36 @@ pub fn after_own<'a>(own: &[u8], bytes: &'a [u8]) -> Result<&'a [u8], MachineFau
     }
 }
 
+/// The bytes after the byte that says that an endpoint follows, and its declaration.
+fn after_endpoint<'a>(decl: &EndpointDecl, bytes: &'a [u8]) -> Result<&'a [u8], MachineFault>
+    ensures left { IfOk result (λ rest.
+        after_bytes 907 (decl_bytes (endpoint decl.now)) bytes.now ≡ Ok rest.now) }
+    ensures refused { IfErr result (λ why.
+        after_bytes 907 (decl_bytes (endpoint decl.now)) bytes.now ≡ Err (number_of why)) }
+{
+    let bytes = after_own(&[0], bytes)?;
+    match after_declaration(decl, bytes) {
+        Ok(rest) => Ok(rest),
+        Err(fault) => Err(of_board(fault)),
+    }
+}
+
+fn after_decl<'a>(host: &Host, index: usize, bytes: &'a [u8]) -> Result<&'a [u8], MachineFault>
+    ensures left { IfOk result (λ rest.
+        after_bytes 907 (decl_nth host.now.state.functions index) bytes.now ≡ Ok rest.now) }
+    ensures refused { IfErr result (λ why.
+        after_bytes 907 (decl_nth host.now.state.functions index) bytes.now
+        ≡ Err (number_of why)) }
+{
+    match host.endpoint_ref_nth(index) {
+        Some(endpoint) => after_endpoint(endpoint.decl(), bytes),
+        None => match host.bridge_decl_nth(index) {
+            Some(decl) => after_own(&bridge_bytes(&decl), bytes),
+            None => Ok(bytes),
+        },
+    }
+}
+
 /// The bytes after the path of the function at an index and its declaration. Refuses too few bytes, and those of
 /// another board.
 pub fn after_row<'a>(host: &Host, index: usize, bytes: &'a [u8]) -> Result<&'a [u8], MachineFault>
@@ -166,7 +177,11 @@ pub fn after_row<'a>(host: &Host, index: usize, bytes: &'a [u8]) -> Result<&'a [
         after_bytes 907 (row_nth host.now.state.functions index) bytes.now
         ≡ Err (number_of why)) }
 {
-    let mut sink = Judge { left: Ok(bytes) };
-    feed_row(host, index, &mut sink);
-    left_by_board(sink.left)
+    match host.path_nth(index) {
+        Some(path) => {
+            let bytes = after_own(path_bytes(&path).as_slice(), bytes)?;
+            after_decl(host, index, bytes)
+        }
+        None => Ok(bytes),
+    }
 }

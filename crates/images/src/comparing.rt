@@ -1,12 +1,19 @@
-//! Bytes that are compared with others.
-ghost use Rattle.std.specs.Prelude.{◌≡◌, Ok, Err, IfErr, IfOk};
+//! Bytes of an image that are compared with what a function declares.
+ghost use Rattle.std.specs.Prelude.{◌≡◌, ◌≤◌, ◌<◌, Ok, Err, IfErr, IfOk, flat_map, length};
+ghost use Rattle.lists.specs.Elements.{Each};
+ghost use Rattle.model_registers.specs.Cell.{IsCell};
+ghost use Rattle.model_registers.specs.Declarations.{IsLawfulRegion};
+ghost use Rattle.model_registers.specs.DeclarationRules.{IsConfigBlock, IsLawfulEndpoint};
+ghost use Rattle.model_images.specs.ImageBytes.{declaration_bytes};
+ghost use Rattle.model_images.specs.ByteLaws.{HasCells, IsDeclared};
 ghost use Rattle.model_images.specs.LoadedBytes.{after_bytes};
 ghost use Rattle.images.specs.Faults.{number_of};
-ghost use Rattle.images.specs.Sinks.{Judged};
-ghost use Rattle.images.specs.SinkLaws.{judged_both, judged_none};
+ghost use Rattle.images.specs.Parts.{block_bytes, cell_bytes, counted_blocks, declared_bytes, region_bytes, rest_bytes};
 
 use crate::fault::ImageFault;
-use crate::sink::Sink;
+use crate::parts::{block_head, cell_bytes, endpoint_head, region_head};
+use config_bytes::Cell;
+use headers::{ConfigBlock, EndpointDecl, EndpointValues, Region};
 
 /// The bytes after these own ones, which have to stand there.
 pub fn after<'a>(own: &[u8], bytes: &'a [u8]) -> Result<&'a [u8], ImageFault>
@@ -24,22 +31,131 @@ pub fn after<'a>(own: &[u8], bytes: &'a [u8]) -> Result<&'a [u8], ImageFault>
     }
 }
 
-/// What is left of bytes that have to begin with what is fed, or why they don't.
-#[derive(Drop)]
-pub struct Judge<'a> {
-    pub left: Result<&'a [u8], ImageFault>,
+fn after_cells<'a>(cells: &[Cell], bytes: &'a [u8]) -> Result<&'a [u8], ImageFault>
+    ensures left { IfOk result (λ rest.
+        after_bytes 906 (flat_map cell_bytes cells.now) bytes.now ≡ Ok rest.now) }
+    ensures refused { IfErr result (λ why.
+        after_bytes 906 (flat_map cell_bytes cells.now) bytes.now ≡ Err (number_of why)) }
+    ensures cells { IfOk result (λ _. Each IsCell cells.now) }
+{
+    let mut left = cells;
+    let mut bytes = bytes;
+    while let Some((cell, rest)) = left.split_first() {
+        bytes = after(&cell_bytes(cell), bytes)?;
+        left = rest;
+    }
+    Ok(bytes)
 }
 
-impl Sink for Judge<'_> {
-    ghost fed = { Judged };
+fn after_region<'a>(region: &Region, bytes: &'a [u8]) -> Result<&'a [u8], ImageFault>
+    requires lawful { IsLawfulRegion region.now }
+    requires count { length region.now.cells ≤ 4096 }
+    ensures left { IfOk result (λ rest.
+        after_bytes 906 (region_bytes region.now) bytes.now ≡ Ok rest.now) }
+    ensures refused { IfErr result (λ why.
+        after_bytes 906 (region_bytes region.now) bytes.now ≡ Err (number_of why)) }
+    ensures cells { IfOk result (λ _. Each IsCell region.now.cells) }
+{
+    let bytes = after(&region_head(region), bytes)?;
+    after_cells(&region.block, bytes)
+}
 
-    fn put(&mut self, bytes: &[u8]) {
-        if let Ok(left) = self.left {
-            self.left = after(bytes, left);
-        }
+fn after_regions<'a>(regions: &[Region], bytes: &'a [u8]) -> Result<&'a [u8], ImageFault>
+    requires lawful { Each IsLawfulRegion regions.now }
+    requires counts { Each (λ r. length r.cells ≤ 4096) regions.now }
+    ensures left { IfOk result (λ rest.
+        after_bytes 906 (flat_map region_bytes regions.now) bytes.now ≡ Ok rest.now) }
+    ensures refused { IfErr result (λ why.
+        after_bytes 906 (flat_map region_bytes regions.now) bytes.now ≡ Err (number_of why)) }
+    ensures cells { IfOk result (λ _. Each (λ r. Each IsCell r.cells) regions.now) }
+{
+    let mut left = regions;
+    let mut bytes = bytes;
+    while let Some((region, rest)) = left.split_first() {
+        bytes = after_region(region, bytes)?;
+        left = rest;
     }
+    Ok(bytes)
+}
 
-    ghost none = { judged_none };
+fn after_block<'a>(block: &ConfigBlock, bytes: &'a [u8]) -> Result<&'a [u8], ImageFault>
+    requires { IsConfigBlock block.now }
+    ensures left { IfOk result (λ rest.
+        after_bytes 906 (block_bytes block.now) bytes.now ≡ Ok rest.now) }
+    ensures refused { IfErr result (λ why.
+        after_bytes 906 (block_bytes block.now) bytes.now ≡ Err (number_of why)) }
+    ensures cells { IfOk result (λ _. Each IsCell block.now.cells) }
+{
+    let bytes = after(&block_head(block), bytes)?;
+    after_cells(&block.block, bytes)
+}
 
-    ghost both = { judged_both };
+fn after_blocks<'a>(blocks: &[ConfigBlock], bytes: &'a [u8]) -> Result<&'a [u8], ImageFault>
+    requires { Each IsConfigBlock blocks.now }
+    ensures left { IfOk result (λ rest.
+        after_bytes 906 (flat_map block_bytes blocks.now) bytes.now ≡ Ok rest.now) }
+    ensures refused { IfErr result (λ why.
+        after_bytes 906 (flat_map block_bytes blocks.now) bytes.now ≡ Err (number_of why)) }
+    ensures cells { IfOk result (λ _. Each (λ b. Each IsCell b.cells) blocks.now) }
+{
+    let mut left = blocks;
+    let mut bytes = bytes;
+    while let Some((block, rest)) = left.split_first() {
+        bytes = after_block(block, bytes)?;
+        left = rest;
+    }
+    Ok(bytes)
+}
+
+/// The bytes after how many blocks there are, and these.
+fn after_counted<'a>(blocks: &[ConfigBlock], bytes: &'a [u8]) -> Result<&'a [u8], ImageFault>
+    requires lawful { Each IsConfigBlock blocks.now }
+    requires count { length blocks.now < 256 }
+    ensures left { IfOk result (λ rest.
+        after_bytes 906 (counted_blocks blocks.now) bytes.now ≡ Ok rest.now) }
+    ensures refused { IfErr result (λ why.
+        after_bytes 906 (counted_blocks blocks.now) bytes.now ≡ Err (number_of why)) }
+    ensures cells { IfOk result (λ _. Each (λ b. Each IsCell b.cells) blocks.now) }
+{
+    let bytes = after(&[blocks.len() as u8], bytes)?;
+    after_blocks(blocks, bytes)
+}
+
+/// The bytes after the regions of a declaration and its blocks.
+fn after_rest<'a>(values: &EndpointValues, bytes: &'a [u8]) -> Result<&'a [u8], ImageFault>
+    requires { IsLawfulEndpoint values.now }
+    ensures left { IfOk result (λ rest.
+        after_bytes 906 (rest_bytes values.now) bytes.now ≡ Ok rest.now) }
+    ensures refused { IfErr result (λ why.
+        after_bytes 906 (rest_bytes values.now) bytes.now ≡ Err (number_of why)) }
+    ensures cells { IfOk result (λ _. HasCells values.now) }
+{
+    let bytes = after_regions(&values.bar, bytes)?;
+    after_counted(&values.config, bytes)
+}
+
+/// The bytes after the parts of a declaration.
+fn after_parts<'a>(decl: &EndpointDecl, bytes: &'a [u8]) -> Result<&'a [u8], ImageFault>
+    ensures left { IfOk result (λ rest.
+        after_bytes 906 (declared_bytes decl.now) bytes.now ≡ Ok rest.now) }
+    ensures refused { IfErr result (λ why.
+        after_bytes 906 (declared_bytes decl.now) bytes.now ≡ Err (number_of why)) }
+    ensures declared { IfOk result (λ _. IsDeclared decl.now) }
+{
+    let values = decl.values();
+    let bytes = after(&endpoint_head(decl), bytes)?;
+    after_rest(values, bytes)
+}
+
+/// The bytes after those of this very declaration, with which they have to begin. Refuses too few
+/// bytes, and those of another declaration. Where they are taken, it is one that can be written.
+#[tactic(auto, using(crate::proofs::DeclaredBytes::declared_is))]
+pub fn after_declaration<'a>(decl: &EndpointDecl, bytes: &'a [u8]) -> Result<&'a [u8], ImageFault>
+    ensures left { IfOk result (λ rest.
+        after_bytes 906 (declaration_bytes decl.now) bytes.now ≡ Ok rest.now) }
+    ensures refused { IfErr result (λ why.
+        after_bytes 906 (declaration_bytes decl.now) bytes.now ≡ Err (number_of why)) }
+    ensures declared { IfOk result (λ _. IsDeclared decl.now) }
+{
+    after_parts(decl, bytes)
 }

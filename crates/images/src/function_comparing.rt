@@ -4,7 +4,7 @@ ghost use Rattle.model_images.specs.ByteLaws.{IsDeclared};
 ghost use Rattle.images.specs.Faults.{number_of};
 ghost use Rattle.images.specs.Shown.{after_filled};
 
-use crate::declaring::after_declaration;
+use crate::comparing::after_declaration;
 use crate::fault::ImageFault;
 use crate::heading::after_tag;
 use crate::values::after_values;

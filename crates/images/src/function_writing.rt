@@ -4,9 +4,9 @@ ghost use Rattle.model_registers.specs.OwnCopies.{OwnCopies};
 ghost use Rattle.images.specs.Puts.{put};
 ghost use Rattle.images.specs.Shown.{HasDeclaredPlaces, function_bytes, seen};
 
-use crate::declaring::write_declaration;
 use crate::function_values::put_values;
 use crate::sizes::{declaration_size, values_size};
+use crate::writing::write_declaration;
 use bridge_forward::EndpointFn;
 use guest_functions::VirtualFunction;
 

@@ -14,13 +14,11 @@ ghost use Rattle.images.specs.Puts.{put};
 ghost use Rattle.images.specs.BoardBytes.{held_nth, held_value};
 ghost use Rattle.images.specs.MachineFaults.{number_of};
 
-use crate::board_rows::left_by_board;
+use crate::board_rows::after_own;
 use crate::cells::{CellPlace, DeclaredCell, bridge_cell, endpoint_cell, is_own};
-use crate::comparing::Judge;
 use crate::machine_fault::MachineFault;
-use crate::sink::Sink;
 use crate::sizes::{bridge_values_size, values_size};
-use crate::writing::Buffer;
+use crate::writing::put;
 use bridge_forward::EndpointFn;
 use headers::{BridgeDecl, Place};
 use host_bridge::Host;
@@ -134,16 +132,6 @@ pub fn held_size(host: &Host, index: usize) -> usize
     }
 }
 
-/// Feeds what the handoff holds of the function at an index.
-fn feed_held<S: Sink>(host: &Host, index: usize, is_seated: bool, sink: &mut S)
-    requires { Each HasDeclaredShape host.now.state.functions }
-    ensures { S.fed sink.old (held_nth is_seated host.now.state.functions index) sink.new }
-{
-    for nth in 0..held_size(host, index) {
-        sink.put(&[held_byte(host, index, is_seated, nth)]);
-    }
-}
-
 /// Puts what the handoff holds of the function at an index into a buffer from an index on, and gives the index behind
 /// it.
 pub fn write_held(host: &Host, index: usize, is_seated: bool, out: &mut [u8], at: usize) -> usize
@@ -153,9 +141,11 @@ pub fn write_held(host: &Host, index: usize, is_seated: bool, out: &mut [u8], at
     ensures bytes { out.new ≡ put at (held_nth is_seated host.now.state.functions index) out.old }
     ensures end { result ≡ at + length (held_nth is_seated host.now.state.functions index) }
 {
-    let mut sink = Buffer { out, at };
-    feed_held(host, index, is_seated, &mut sink);
-    sink.at
+    let mut next = at;
+    for nth in 0..held_size(host, index) {
+        next = put(out, next, &[held_byte(host, index, is_seated, nth)]);
+    }
+    next
 }
 
 /// The bytes after what the handoff holds of the function at an index. Refuses too few bytes, and those of another
@@ -174,7 +164,9 @@ pub fn after_held<'a>(
         after_bytes 907 (held_nth is_seated host.now.state.functions index) bytes.now
         ≡ Err (number_of why)) }
 {
-    let mut sink = Judge { left: Ok(bytes) };
-    feed_held(host, index, is_seated, &mut sink);
-    left_by_board(sink.left)
+    let mut bytes = bytes;
+    for nth in 0..held_size(host, index) {
+        bytes = after_own(&[held_byte(host, index, is_seated, nth)], bytes)?;
+    }
+    Ok(bytes)
 }

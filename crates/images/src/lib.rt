@@ -12,7 +12,6 @@ mod board_rows;
 mod cells;
 mod comparing;
 mod declarations;
-mod declaring;
 mod fault;
 mod found_path;
 mod function_bytes;
@@ -23,7 +22,6 @@ mod heading;
 mod held_cells;
 mod machine_fault;
 mod parts;
-mod sink;
 mod sizes;
 mod values;
 mod writing;
@@ -31,9 +29,8 @@ mod writing;
 pub use board_paths::path_bytes;
 pub use board_rows::{after_own, after_row, row_size, write_row};
 pub use cells::{CellPlace, DeclaredCell, bridge_cell, endpoint_cell, is_own};
-pub use comparing::{Judge, after};
+pub use comparing::{after, after_declaration};
 pub use declarations::read_declarations;
-pub use declaring::{after_declaration, feed_declaration, write_declaration};
 pub use fault::ImageFault;
 pub use found_path::after_path;
 pub use function_comparing::after_function;
@@ -41,10 +38,9 @@ pub use function_writing::{function_size, write_function};
 pub use heading::{after_header, after_latch, after_tag, at_end, header, latch_bytes};
 pub use held_cells::{after_held, held_size, write_held};
 pub use machine_fault::MachineFault;
-pub use sink::{Part, Sink, feed_each};
 pub use sizes::{bridge_values_size, declaration_size, values_size};
 pub use values::after_values;
-pub use writing::{Buffer, put};
+pub use writing::{put, write_declaration};
 
 /// What is held of each function, as guests sit, is what the handoff holds with each function in a slot at reset.
 #[tactic(auto, using(crate::proofs::SeatedFunctions::held_as_seated))]

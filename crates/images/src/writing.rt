@@ -1,10 +1,15 @@
-//! Bytes that are put into a buffer.
-ghost use Rattle.std.specs.Prelude.{◌≡◌, ◌≤◌, ◌+◌, length};
+//! Declarations that are written into a buffer.
+ghost use Rattle.std.specs.Prelude.{◌≡◌, ◌≤◌, ◌+◌, ◌<◌, length, flat_map};
+ghost use Rattle.lists.specs.Elements.{Each};
+ghost use Rattle.model_registers.specs.Declarations.{IsLawfulRegion};
+ghost use Rattle.model_registers.specs.DeclarationRules.{IsConfigBlock};
+ghost use Rattle.model_images.specs.ImageBytes.{declaration_bytes};
+ghost use Rattle.images.specs.Parts.{block_bytes, cell_bytes, declared_bytes, region_bytes};
 ghost use Rattle.images.specs.Puts.{put};
-ghost use Rattle.images.specs.Sinks.{Written};
-ghost use Rattle.images.specs.SinkLaws.{written_both, written_none};
 
-use crate::sink::Sink;
+use crate::parts::{block_head, cell_bytes, endpoint_head, region_head};
+use config_bytes::Cell;
+use headers::{ConfigBlock, EndpointDecl, Region};
 
 /// Puts bytes into a buffer from an index on, and gives the index behind them.
 pub fn put(out: &mut [u8], at: usize, bytes: &[u8]) -> usize
@@ -17,26 +22,91 @@ pub fn put(out: &mut [u8], at: usize, bytes: &[u8]) -> usize
     end
 }
 
-/// A buffer into which bytes are put from an index on, as far as they have room.
-#[derive(Drop)]
-pub struct Buffer<'a> {
-    pub out: &'a mut [u8],
-    pub at: usize,
+fn put_cells(out: &mut [u8], at: usize, cells: &[Cell]) -> usize
+    requires { at + length (flat_map cell_bytes cells.now) ≤ length out.old }
+    ensures bytes { out.new ≡ put at (flat_map cell_bytes cells.now) out.old }
+    ensures end { result ≡ at + length (flat_map cell_bytes cells.now) }
+{
+    let mut left = cells;
+    let mut next = at;
+    while let Some((cell, rest)) = left.split_first() {
+        next = put(out, next, &cell_bytes(cell));
+        left = rest;
+    }
+    next
 }
 
-impl Sink for Buffer<'_> {
-    ghost fed = { Written };
+fn put_region(out: &mut [u8], at: usize, region: &Region) -> usize
+    requires lawful { IsLawfulRegion region.now }
+    requires count { length region.now.cells ≤ 4096 }
+    requires room { at + length (region_bytes region.now) ≤ length out.old }
+    ensures bytes { out.new ≡ put at (region_bytes region.now) out.old }
+    ensures end { result ≡ at + length (region_bytes region.now) }
+{
+    let next = put(out, at, &region_head(region));
+    put_cells(out, next, &region.block)
+}
 
-    fn put(&mut self, bytes: &[u8]) {
-        let len = self.out.len();
-        if self.at <= len && bytes.len() <= len - self.at {
-            let end = self.at + bytes.len();
-            self.out[self.at..end].copy_from_slice(bytes);
-            self.at = end;
-        }
+fn put_regions(out: &mut [u8], at: usize, regions: &[Region]) -> usize
+    requires lawful { Each IsLawfulRegion regions.now }
+    requires counts { Each (λ r. length r.cells ≤ 4096) regions.now }
+    requires room { at + length (flat_map region_bytes regions.now) ≤ length out.old }
+    ensures bytes { out.new ≡ put at (flat_map region_bytes regions.now) out.old }
+    ensures end { result ≡ at + length (flat_map region_bytes regions.now) }
+{
+    let mut left = regions;
+    let mut next = at;
+    while let Some((region, rest)) = left.split_first() {
+        next = put_region(out, next, region);
+        left = rest;
     }
+    next
+}
 
-    ghost none = { written_none };
+fn put_block(out: &mut [u8], at: usize, block: &ConfigBlock) -> usize
+    requires lawful { IsConfigBlock block.now }
+    requires room { at + length (block_bytes block.now) ≤ length out.old }
+    ensures bytes { out.new ≡ put at (block_bytes block.now) out.old }
+    ensures end { result ≡ at + length (block_bytes block.now) }
+{
+    let next = put(out, at, &block_head(block));
+    put_cells(out, next, &block.block)
+}
 
-    ghost both = { written_both };
+fn put_blocks(out: &mut [u8], at: usize, blocks: &[ConfigBlock]) -> usize
+    requires lawful { Each IsConfigBlock blocks.now }
+    requires room { at + length (flat_map block_bytes blocks.now) ≤ length out.old }
+    ensures bytes { out.new ≡ put at (flat_map block_bytes blocks.now) out.old }
+    ensures end { result ≡ at + length (flat_map block_bytes blocks.now) }
+{
+    let mut left = blocks;
+    let mut next = at;
+    while let Some((block, rest)) = left.split_first() {
+        next = put_block(out, next, block);
+        left = rest;
+    }
+    next
+}
+
+/// Puts the parts of a declaration one after the other.
+fn put_declaration(out: &mut [u8], at: usize, decl: &EndpointDecl) -> usize
+    requires { at + length (declared_bytes decl.now) ≤ length out.old }
+    ensures bytes { out.new ≡ put at (declared_bytes decl.now) out.old }
+    ensures end { result ≡ at + length (declared_bytes decl.now) }
+{
+    let values = decl.values();
+    let next = put(out, at, &endpoint_head(decl));
+    let next = put_regions(out, next, &values.bar);
+    let next = put(out, next, &[values.config.len() as u8]);
+    put_blocks(out, next, &values.config)
+}
+
+/// Puts the bytes of a declaration into a buffer from an index on, and gives the index behind them.
+#[tactic(auto, using(crate::proofs::DeclaredBytes::declared_is))]
+pub fn write_declaration(decl: &EndpointDecl, out: &mut [u8], at: usize) -> usize
+    requires { at + length (declaration_bytes decl.now) ≤ length out.old }
+    ensures bytes { out.new ≡ put at (declaration_bytes decl.now) out.old }
+    ensures end { result ≡ at + length (declaration_bytes decl.now) }
+{
+    put_declaration(out, at, decl)
 }

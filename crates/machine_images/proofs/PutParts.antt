@@ -12,8 +12,7 @@ use Rattle.std.specs.Option.{option_map_or}
 use Rattle.std.proofs.lemmas.List.{append-nil, drop_all}
 use Rattle.lists.proofs.Indices.{at_below}
 use Rattle.images.specs.Puts.{put}
-use Rattle.images.specs.SinkLaws.{put_none}
-use Rattle.images.proofs.Puts.{next}
+use Rattle.images.proofs.Puts.{next, put_none}
 use Rattle.images.proofs.IndexedBytes.{drop_next}
 use Rattle.machine_images.specs.SavedParts.{IsPut, capped, part_nth}
 

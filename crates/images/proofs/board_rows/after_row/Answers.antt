@@ -1,0 +1,26 @@
+use Rattle.std.proofs.Common.{arith}
+use Rattle.images.specs.BoardBytes.{decl_nth, path_bytes, row_nth}
+use Rattle.images.proofs.RowBytes.{row_there}
+use Rattle.images.proofs.Steps.{ends, goes_on}
+use Rattle.images.proofs.board_rows.after_row.Goals as goal
+
+pub returns-in_err-bytes-in-Some-clause-refused : goal.returns-in_err-bytes-in-Some-clause-refused
+returns-in_err-bytes-in-Some-clause-refused c =
+    let fs = c.args.host.now.state.functions in
+    let there = row_there fs c.args.index c.in-Some.path (grind arith) in
+    let end = ends (row_nth fs c.args.index) (path_bytes c.in-Some.path) (decl_nth fs c.args.index) c.args.bytes.now there in
+    grind (arith, end)
+
+pub returns-in_ok-bytes-in-Some-clause-left : goal.returns-in_ok-bytes-in-Some-clause-left
+returns-in_ok-bytes-in-Some-clause-left c =
+    let fs = c.args.host.now.state.functions in
+    let there = row_there fs c.args.index c.in-Some.path (grind arith) in
+    let all = goes_on (row_nth fs c.args.index) (path_bytes c.in-Some.path) (decl_nth fs c.args.index) c.args.bytes.now there c.in_ok-bytes-in-Some.bytes.now (grind arith) in
+    grind arith
+
+pub returns-in_ok-bytes-in-Some-clause-refused : goal.returns-in_ok-bytes-in-Some-clause-refused
+returns-in_ok-bytes-in-Some-clause-refused c =
+    let fs = c.args.host.now.state.functions in
+    let there = row_there fs c.args.index c.in-Some.path (grind arith) in
+    let all = goes_on (row_nth fs c.args.index) (path_bytes c.in-Some.path) (decl_nth fs c.args.index) c.args.bytes.now there c.in_ok-bytes-in-Some.bytes.now (grind arith) in
+    grind arith
