@@ -38,7 +38,7 @@ pciguest:
 # get, from nothing, and their tests; then the edits, and beside them the proved program as its user runs it, the commands that
 # the documents print, and each growth of memory refused in turn on the main board. Parts between brackets run side by side.
 # At the end stands how long each took.
-FIRST := [ tests/documents.sh tests/kit.sh tests/tools.sh ]
+FIRST := [ tests/documents.sh tests/kit.sh tests/tools.sh tests/bindings.sh tests/bench.sh ]
 PROGRAM := 'tests/edits.py --gate' tests/program.sh tests/commands.sh \
   'python3 tests/hostile/growths.py crates/pciguest/out/pciguest --quick --arrays crates/test_streams/out/test_streams'
 gate:
@@ -254,7 +254,7 @@ quick:
 # The demo in about a minute: nothing is proved.
 try:
 	@echo 'This run proves nothing: it only compiles the program and runs it. `make demo` proves it first.'
-	@cd crates/pciguest && ../../tools/rt try -- demo < ../../boards/demo.script
+	@cd crates/pciguest && rt try -- demo < ../../boards/demo.script
 
 clean:
 	rm -rf crates/*/out page/out library/rust/target corpus pciguest pciguest.html library/libpciguest.a library/libpciguest.so.0

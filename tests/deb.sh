@@ -7,24 +7,8 @@ set -u
 [ $# = 1 ] || { echo 'usage: tests/deb.sh FOLDER' >&2; exit 2; }
 folder=$(realpath "$1")
 cd "$(dirname "$0")/.."
-top=$PWD
-room=$(mktemp -d)
+source tests/holds.sh
 root=$room/root
-trap 'rm -rf "$room"' EXIT
-passed=0
-failed=0
-
-# holds NAME COMMAND..: the command ends with 0
-holds() {
-  local name=$1; shift
-  if "$@" > "$room/told" 2>&1; then
-    passed=$((passed + 1))
-  else
-    failed=$((failed + 1))
-    echo "FAILED: $name"
-    head -c 3000 "$room/told"
-  fi
-}
 
 same() { diff "$1" <(shift; "$@" 2>&1); }
 packages=(libpciguest0 libpciguest-dev python3-pciguest pciguest)
@@ -42,7 +26,7 @@ inside() { chroot "$root" env -i PATH=/usr/bin:/bin:/usr/sbin:/sbin HOME=/root "
 # on a machine with neither the kit nor this repository
 if tarball=$(ls pciguest-*-x86_64-linux.tar.gz 2> /dev/null); then
   mkdir -p "$root/tried/tests/library" && tar -C "$root/tried" -xzf "$tarball"
-  cp tests/{users,commands}.sh "$root/tried/tests/" && cp tests/library/device.stdout "$root/tried/tests/library/"
+  cp tests/{users,commands,holds}.sh "$root/tried/tests/" && cp tests/library/device.stdout "$root/tried/tests/library/"
   # with /proc, which bash takes for what it compares; it is mounted for this command alone
   with_proc() { unshare -m sh -c 'mount -t proc proc "$0/proc"; ln -sfn /proc/self/fd "$0/dev/fd"; exec chroot "$0" "$@"' "$root" "$@"; }
   holds 'the tarball, by its README' with_proc env -i PATH=/usr/bin:/bin HOME=/root sh -c '/tried/tests/users.sh /tried/pciguest-*'
@@ -81,5 +65,4 @@ holds 'they are removed' inside dpkg --purge pciguest python3-pciguest libpcigue
 left() { test -z "$(find "$root/usr" "$root/etc" "$root/var/lib/dpkg/info" -name '*pciguest*' | tee /dev/stderr)"; }
 holds 'nothing of them is left' left
 
-echo "$passed passed, $failed failed"
-[ "$failed" = 0 ]
+counted

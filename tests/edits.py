@@ -15,6 +15,7 @@ an answer of that function itself, and proves the copy as it stands. Other edits
 where it stands, each in a check of its own of the functions that it changes. What gets no verdict so is tried alone in a
 check of the whole crate. Each verdict is told once it is there; the last line is 'N passed, M failed'."""
 import copy
+import functools
 import itertools
 import os
 import pathlib
@@ -47,26 +48,19 @@ IMPL = re.compile(r"^impl(?:<([^{]*?)>)? (?:(\w+)(?:<([^{]*?)>)? for )?(\w+)")
 # ---- the functions of a crate
 
 class Function:
-    """A function of the source: its name, as a check tells it, its lines, and its text with what stands above it for it."""
+    """A function of the source: its name, as a check tells it, and its text with what stands above it for it."""
 
     def __init__(self, path, is_of_trait, first, lines):
-        self.path, self.is_of_trait, self.first = path, is_of_trait, first
-        indent = re.match(" *", lines[first])[0]
-        ends = (it for it in range(first, len(lines)) if lines[it] in (f"{indent}}}", "}"))
-        self.last = next(ends, first) + 1
-        top = first
-        while re.match(r" *///", lines[top - 1]) or lines[top - 1].strip() and lines[top - 1][-1] not in "{};":
-            top -= 1
-        self.text = "\n".join(lines[top:self.last])
+        self.path, self.is_of_trait = path, is_of_trait
+        ends = (f"{re.match(' *', lines[first])[0]}}}", "}")
+        last = next((it for it in range(first, len(lines)) if lines[it] in ends), first) + 1
+        while re.match(r" *///", lines[first - 1]) or lines[first - 1].strip() and lines[first - 1][-1] not in "{};":
+            first -= 1
+        self.text = "\n".join(lines[first:last])
 
-    def copied(self, number, pairs=()):
-        """A copy of it under another name, with edits; none, where the text of one doesn't stand there once."""
-        text, name = self.text, self.path.split("::")[-1]
-        for _, old, new in pairs:
-            if text.count(old) != 1:
-                return None
-            text = text.replace(old, new)
-        return re.sub(rf"^(.*\bfn {name})\b", rf"\1_copy_{number}", text, count=1, flags=re.M)
+    def copied(self, number):
+        """A copy of it under another name."""
+        return re.sub(rf"^(.*\bfn {self.path.split('::')[-1]})\b", rf"\1_copy_{number}", self.text, count=1, flags=re.M)
 
 
 def module_of(file):
@@ -82,20 +76,9 @@ def trait_of(impl):
     return (impl[2] or "") + "".join(word[0].upper() + word[1:] for it in taken for word in re.findall(r"\w+", it))
 
 
-def functions_of(crate, types, file, text):
-    """The functions of a file. As `rt fmt` lays them out, each ends with a brace that stands where its head begins. A method
-    has its type's name, where this stands."""
-    owner, is_of_trait, lines = [], False, text.split("\n")
-    for place, line in enumerate(lines):
-        head, impl = HEAD.match(line), IMPL.match(line)
-        if impl:
-            owner = [*types.get(impl[4], module_of(file)), impl[4] + trait_of(impl)]
-            is_of_trait = bool(impl[2])
-        elif line == "}":
-            owner, is_of_trait = [], False
-        if head:
-            path = owner if head[1] and owner else module_of(file)
-            yield Function("::".join([crate, *path, head[2]]), is_of_trait, place, lines)
+def beside(functions, text):
+    """What stands in a text beside these functions of it."""
+    return functools.reduce(lambda left, it: left.replace(it.text, ""), functions, text)
 
 
 class Source:
@@ -103,22 +86,29 @@ class Source:
 
     def __init__(self, crate, folder):
         self.crate, self.folder = crate, pathlib.Path(folder)
-        self.texts = {f"src/{it.name}": self.text(f"src/{it.name}") for it in sorted((self.folder / "src").glob("*.rt"))}
+        self.texts = {f"src/{it.name}": it.read_text(encoding="utf-8") for it in sorted((self.folder / "src").glob("*.rt"))}
         self.types = {name: module_of(file) for file, text in self.texts.items() for name in TYPE.findall(text)}
-        self.functions = {file: list(functions_of(crate, self.types, file, text)) for file, text in self.texts.items()}
-        self.paths = [it.path for found in self.functions.values() for it in found]
+        self.functions = {file: [*self.functions_of(file, text)] for file, text in self.texts.items()}
 
-    def text(self, path):
-        return (self.folder / path).read_text(encoding="utf-8")
+    def functions_of(self, file, text):
+        """The functions of a file. As `rt fmt` lays them out, each ends with a brace that stands where its head begins. A method
+        has its type's name, where this stands."""
+        owner, is_of_trait, lines = [], False, text.split("\n")
+        for place, line in enumerate(lines):
+            head, impl = HEAD.match(line), IMPL.match(line)
+            if impl:
+                owner = [*self.types.get(impl[4], module_of(file)), impl[4] + trait_of(impl)]
+                is_of_trait = bool(impl[2])
+            elif line == "}":
+                owner, is_of_trait = [], False
+            if head:
+                path = owner if head[1] and owner else module_of(file)
+                yield Function("::".join([self.crate, *path, head[2]]), is_of_trait, place, lines)
 
-    def at(self, file, text):
-        """The function in which a text stands, if that can be copied: not one of a trait, nor one that calls itself."""
-        if text not in self.texts.get(file, ""):
-            return None
-        line = self.texts[file][:self.texts[file].index(text)].count("\n")
-        found = [it for it in self.functions[file] if it.first <= line < it.last]
-        has_own_name = len(found) == 1 and self.paths.count(found[0].path) == 1
-        if not has_own_name or found[0].is_of_trait or "#[cycle(" in found[0].text or self.proofs_of(found[0], "+").is_dir():
+    def to_copy(self, path):
+        """The function of a path, if it can be copied: not one of a trait, nor one that calls itself."""
+        found = [it for functions in self.functions.values() for it in functions if it.path == path]
+        if len(found) != 1 or found[0].is_of_trait or "#[cycle(" in found[0].text or self.proofs_of(found[0], "+").is_dir():
             return None
         return found[0]
 
@@ -139,22 +129,20 @@ class Source:
 # ---- edits
 
 class Edit:
-    """An edit, or a twin of one."""
+    """An edit, or a twin of one: the texts that it makes, or why it can't be made; the functions that it changes, as they then
+    stand, or of what stands in none the file's; and the one that it changes alone, if that can be copied."""
 
-    def __init__(self, file, source, clauses):
-        self.file, self.source = file, source
+    def __init__(self, rt, file, source, clauses):
+        self.file, self.source, self.verdict = file, source, None
         self.is_twin, self.clause = file.suffix == ".twin", clauses.get(str(file.relative_to(TOP)))
-        path, old, self.pairs, self.verdict = "", "", [], None
-        for line in file.read_text(encoding="utf-8").split("\n"):
-            word, _, rest = line.partition(": ")
-            if word == "file":
-                path = rest.strip()
-            elif word == "old":
-                old = rest
-            elif line.startswith("new:"):
-                self.pairs.append((path, old, re.sub(r"\A ", "", line[len("new:"):])))
-        places = {(path, source.at(path, old)) for path, old, _ in self.pairs}
-        self.path, self.function = places.pop() if len(places) == 1 else ("", None)
+        self.texts, self.why = rt.read_edit(str(file), source.folder)
+        self.changed, self.function = [], None
+        for path in {*(self.texts or ())} & {*source.texts}:
+            functions, known = [*source.functions_of(path, self.texts[path])], source.functions[path]
+            is_inside = beside(functions, self.texts[path]) == beside(known, source.texts[path])
+            self.changed += [it for it in functions if not is_inside or it.text not in {was.text for was in known}]
+        if self.texts and len(self.texts) == len(self.changed) == 1 and is_inside:
+            self.path, self.function = *self.texts, source.to_copy(self.changed[0].path)
 
     def tell(self, verdict, how):
         self.verdict = verdict
@@ -169,22 +157,6 @@ class Edit:
         how = f"{'refused' if is_refused else 'proved'}, as it must be" if verdict else wrong
         self.tell(verdict, f"{how}: {why[:160]} ({' '.join(goals)})")
 
-    def in_place(self):
-        """The texts of a copy of the crate with the edit where it stands, and the functions that it changes there; of what stands in
-        no function, the file's. Nothing, where a text doesn't stand there once."""
-        texts, changed = {}, {}
-        for path, old, new in self.pairs:
-            text = texts.get(path) or self.source.text(path)
-            if text.count(old) != 1:
-                return {}, {}
-            texts[path] = text.replace(old, new)
-        for path, _, new in self.pairs:
-            functions = list(functions_of(self.source.crate, self.source.types, path, texts[path])) if path.startswith("src/") else []
-            line = texts[path][:texts[path].index(new)].count("\n")
-            found = [it.path for it in functions if it.first <= line + new.count("\n") and line < it.last]
-            changed.update(dict.fromkeys(found or [it.path for it in functions], self))
-        return texts, changed
-
 
 def with_copies(source, batch):
     """The texts of a copy of the crate, and by the path of each function that its check has to look at the edit of which it is a
@@ -195,11 +167,9 @@ def with_copies(source, batch):
         file, copies = edits[0].path, [function.text]
         for edit in [None, *edits]:
             number = len(looked_at)
-            made = function.copied(number, edit.pairs if edit else ())
-            if made is not None:
-                texts.update(source.proofs_for(function, number))
-                looked_at[f"{function.path}_copy_{number}"] = edit
-                copies.append(made)
+            texts.update(source.proofs_for(function, number))
+            looked_at[f"{function.path}_copy_{number}"] = edit
+            copies.append((edit.changed[0] if edit else function).copied(number))
         texts[file] = texts.get(file, source.texts[file]).replace(function.text, "\n\n".join(copies))
     return texts, looked_at
 
@@ -228,7 +198,7 @@ class Tries:
     def __init__(self, rt, crate, folder, clauses):
         self.rt, self.crate, self.source = rt, crate, Source(crate.name, crate.folder)
         files = [it for form in ("*.edit", "*.twin") for it in sorted(folder.glob(form))]
-        self.edits = [Edit(it, self.source, clauses) for it in files]
+        self.edits = [Edit(rt, it, self.source, clauses) for it in files]
 
     def check(self, texts, *words):
         """How a check of a copy of the crate with these texts ended, what it said, and whether it could read them."""
@@ -247,7 +217,8 @@ class Tries:
 
     def try_batch(self, batch):
         """One check of the functions of a batch. Those edits that it doesn't decide are left."""
-        texts, looked_at = with_copies(self.source, batch) if batch[0].function else batch[0].in_place()
+        in_place = batch[0].texts, {it.path: batch[0] for it in batch[0].changed}
+        texts, looked_at = with_copies(self.source, batch) if batch[0].function else in_place
         only = [word for path in looked_at for word in ("--only", path.partition("::")[2])]
         status, said, is_read = self.check(texts, *only) if only else (2, [], False)
         if status not in (0, 1) or not said[-1].startswith("only=") or not is_read:
@@ -265,8 +236,7 @@ class Tries:
 
     def try_alone(self, edit):
         """One check of the whole crate."""
-        texts, why = self.rt.read_edit(str(edit.file), self.crate.folder)
-        status, said, is_read = self.check(texts) if texts else (2, [f"{edit.file}:0:0: error: {why}"], False)
+        status, said, is_read = self.check(edit.texts) if edit.texts else (2, [f"{edit.file}:0:0: error: {edit.why}"], False)
         errors = [it for it in said if re.match(r"\S+:\d+:\d+: error|fn \S+: no proof: ", it)]
         if is_read and (status == 0 or status == 1 and said[-1].startswith("logic=not-proved")):
             edit.judge(status == 1, "; ".join([it for it in errors if not NAMES.search(it)] or errors))

@@ -3,26 +3,10 @@
 # tarball as somebody without the kit does. The last line is 'N passed, M failed'.
 set -u
 cd "$(dirname "$0")/.."
-top=$PWD
-room=$(mktemp -d)
-trap 'rm -rf "$room"' EXIT
-passed=0
-failed=0
+source tests/holds.sh
 if ! [ -x pciguest ] || ! [ -e library/libpciguest.a ] || ! [ -e library/libpciguest.so.0 ]; then
   echo 'nothing is built: make build library'; echo '0 passed, 1 failed'; exit 1
 fi
-
-# holds NAME COMMAND..: the command ends with 0
-holds() {
-  local name=$1; shift
-  if "$@" > "$room/told" 2>&1; then
-    passed=$((passed + 1))
-  else
-    failed=$((failed + 1))
-    echo "FAILED: $name"
-    head -c 2000 "$room/told"
-  fi
-}
 
 # same WANTED COMMAND..: what the command writes is the file, or the text, WANTED
 same() {
@@ -200,5 +184,4 @@ fi
 holds 'what the README gives to each of its readers' "$top/tests/users.sh" "$PWD"
 echo "from the tarball: $(tail -n 2 "$room/told")"
 
-echo "$passed passed, $failed failed"
-[ "$failed" = 0 ]
+counted

@@ -7,7 +7,7 @@
 # PROGRAM is the one that `rt ci` or `make build` left, unless it is given. The last line is 'N passed, M failed'.
 set -u
 cd "$(dirname "$0")/.."
-top=$PWD
+source tests/holds.sh
 program=$(readlink -f "${1:-crates/pciguest/out/pciguest}")
 board=$top/boards/main.toml
 compile=${CC:-cc}
@@ -15,23 +15,7 @@ compile=${CC:-cc}
 command -v "$compile" > /dev/null || { echo 'no C compiler: the library for C is not tried'; echo '0 passed, 0 failed'; exit 0; }
 [ -e library/libpciguest.a ] || tools/library || { echo '0 passed, 1 failed'; exit 1; }
 
-room=$(mktemp -d)
-trap 'rm -rf "$room"' EXIT
 cd "$room" || exit 1
-passed=0
-failed=0
-
-# holds NAME COMMAND..: the command ends with 0
-holds() {
-  local name=$1; shift
-  if "$@" > told 2>&1; then
-    passed=$((passed + 1))
-  else
-    failed=$((failed + 1))
-    echo "FAILED: $name"
-    head -c 2000 told
-  fi
-}
 
 # build NAME FILE WORD..: compiles one file with the library
 build() {
@@ -303,5 +287,4 @@ declared() {
 exported() { nm --defined-only "$top/library/libpciguest.a" | awk '$2 ~ /[A-Z]/ { print $3 }' | sort -u; }
 holds 'the library exports the calls of the header, and those that they stand over' test "$(declared)" = "$(exported)"
 
-echo "$passed passed, $failed failed"
-[ "$failed" = 0 ]
+counted

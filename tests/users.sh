@@ -5,30 +5,15 @@
 #     tests/users.sh FOLDER      the folder in which the tarball was unpacked
 set -u
 [ $# = 1 ] || { echo 'usage: tests/users.sh FOLDER' >&2; exit 2; }
-here=$(realpath "$(dirname "$0")/..")
-room=$(mktemp -d)
-trap 'rm -rf "$room"' EXIT
-cp -r "$1" "$room/unpacked"
+folder=$(realpath "$1")
+cd "$(dirname "$0")/.."
+source tests/holds.sh
+cp -r "$folder" "$room/unpacked"
 cd "$room/unpacked" || exit 1
-passed=0
-failed=0
-
 # outside COMMAND..: without the kit, and with nothing of this repository
 outside() {
   env -i PATH=/usr/bin:/bin HOME="$room" PKG_CONFIG_PATH="$PWD/lib/pkgconfig" \
     PYTHONPATH="$PWD/share/pciguest/python" PYTHONDONTWRITEBYTECODE=1 "$@"
-}
-
-# holds NAME COMMAND..: the command ends with 0
-holds() {
-  local name=$1; shift
-  if "$@" > "$room/told" 2>&1; then
-    passed=$((passed + 1))
-  else
-    failed=$((failed + 1))
-    echo "FAILED: $name"
-    head -c 2000 "$room/told"
-  fi
 }
 
 same() { diff "$1" <(shift; "$@" 2>&1); }
@@ -133,5 +118,4 @@ done_by 'who teaches'
 
 printf 'waited: '; printf '%s; ' "${waited[@]}"; echo
 
-echo "$passed passed, $failed failed"
-[ "$failed" = 0 ]
+counted

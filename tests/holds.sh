@@ -1,0 +1,30 @@
+# What tests in bash share: a room of their own, and what holds and what fails there, counted. It is sourced at the top of the
+# repository; `counted` comes last.
+top=$PWD
+room=$(mktemp -d)
+trap 'rm -rf "$room"' EXIT
+passed=0
+failed=0
+
+# holds NAME COMMAND..: the command ends with 0
+holds() {
+  local name=$1; shift
+  if "$@" > "$room/told" 2>&1; then
+    passed=$((passed + 1))
+  else
+    failed=$((failed + 1))
+    echo "FAILED: $name"
+    cat "$room"/{told,out} 2> /dev/null | head -c 3000
+  fi
+}
+
+# run COMMAND..: what it writes is in the file out of the folder, and its status is kept; then what of that can be asked
+run() { "$@" > out 2>&1; status=$?; }
+has() { grep -qxE "$1" out; }
+ends() { [ "$(tail -n 1 out)" = "$1" ] && [ "$status" = "$2" ]; }
+
+# tells how many, which is the last line, and whether all held
+counted() {
+  echo "$passed passed, $failed failed"
+  [ "$failed" = 0 ]
+}
