@@ -4,10 +4,10 @@
 //! its guests.
 #![tactic(auto)]
 
+mod board_report;
+mod fields;
 mod lines;
-mod texts;
-mod whole;
 
+pub use board_report::{bridges, endpoints, report_text};
+pub use fields::{kind_text, push_byte, push_path, push_word};
 pub use lines::pin_text;
-pub use texts::{kind_text, push_byte, push_path, push_word};
-pub use whole::{bridges, endpoints, report_text};

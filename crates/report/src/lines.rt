@@ -8,7 +8,7 @@ ghost use Rattle.bars.specs.Slots.{placed, bases_from};
 ghost use Rattle.window_packing.specs.Plans.{writes_of};
 ghost use Rattle.report.specs.Found.{ended, base_line, known_pin_lines, named_window_lines, base_lines, window_lines, range_text, pin_line, row_head, endpoint_text, windows_text, found_text, slot_line};
 
-use crate::texts::{kind_text, push_byte, push_identity, push_numbers_and_path, push_path};
+use crate::fields::{kind_text, push_byte, push_identity, push_numbers_and_path, push_path};
 use accesses::GuestDecl;
 use bars::BasedRegion;
 use bus_scan::{Found, FunctionRow};

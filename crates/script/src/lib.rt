@@ -4,9 +4,9 @@
 #![tactic(auto)]
 
 mod answers;
-mod running;
+mod script_run;
 
 pub use answers::{Script, answer, answer_line, refusal_of, run_line};
 pub use lines::{Line, LineText, RunFault, What, Who, parse_line};
 pub use monitor::Monitor;
-pub use running::run;
+pub use script_run::run;

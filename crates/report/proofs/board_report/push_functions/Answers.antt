@@ -1,7 +1,7 @@
 use Rattle.std.proofs.Common.{◌++◌, length, string_bytes, sym, ap, ◌∙◌, append-nil}
 use Rattle.std.proofs.lemmas.Slice.Zip.{zip_end}
 use Rattle.report.proofs.RowTexts.{rows_text_end}
-use Rattle.report.proofs.whole.push_functions.Goals as goal
+use Rattle.report.proofs.board_report.push_functions.Goals as goal
 
 pub returns : goal.returns
 returns c =

@@ -1,6 +1,6 @@
 use Rattle.std.proofs.Common.{◌≡◌, ◌++◌, drop, length, string_bytes}
 use Rattle.report.specs.Found.{rows_text}
-use Rattle.report.proofs.whole.push_functions.Given as goal
+use Rattle.report.proofs.board_report.push_functions.Given as goal
 
 abbrev pub invariant-loop-row : goal.invariant-loop-row
 invariant-loop-row l =

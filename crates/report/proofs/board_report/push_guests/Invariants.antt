@@ -1,6 +1,6 @@
 use Rattle.std.proofs.Common.{◌≡◌, ◌++◌, drop, string_bytes}
 use Rattle.report.specs.Found.{guests_text}
-use Rattle.report.proofs.whole.push_guests.Given as goal
+use Rattle.report.proofs.board_report.push_guests.Given as goal
 
 abbrev pub invariant-loop-guest : goal.invariant-loop-guest
 invariant-loop-guest l =
