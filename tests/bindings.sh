@@ -1,7 +1,7 @@
 #!/usr/bin/env bash
 # The calls in C, what the modules for Rust and Python declare, and the manual's section are written from the header: what
-# stands there is what tools/bindings writes, and is old once the header says something else. It needs no kit. The last line
-# is 'N passed, M failed'.
+# stands there is what tools/bindings writes, and is old once the header says something else. And the page knows where fields
+# of the header's structs stand. It needs no kit. The last line is 'N passed, M failed'.
 set -u
 cd "$(dirname "$0")/.."
 source tests/holds.sh
@@ -28,5 +28,19 @@ notices 'another word of a number' 's|PCIGUEST_BAD_WIDTH = 302,         /\* widt
 notices 'another type of a parameter' 's/^\(uint32_t pciguest_take(.*\)uint64_t slot)/\1uint32_t slot)/' \
   library/rust/sys/src/raw.rs library/calls.c man/libpciguest.3
 notices 'another word of a comment' 's/^\/\* How many guests the machine has\./\/* How many guests a machine has./' man/libpciguest.3
+
+# ---- the page reads fields of two structs by where they stand
+other_places() {
+  PYTHONPATH=$top/library/python/pciguest python3 -B - "$top/page/js/engine.js" << 'PYTHON'
+import ctypes, re, sys
+from _calls import BarTold, BoardFunctionTold, FunctionTold, WindowTold
+row, text = FunctionTold, open(sys.argv[1], encoding="utf-8").read()
+places = {"FUNCTION_ROW": ctypes.sizeof(BoardFunctionTold), "NUMBER_AT": row.bus.offset, "REGIONS_AT": row.regions.offset,
+          "REGION_ROW": ctypes.sizeof(BarTold), "WINDOWS_AT": row.windows.offset, "WINDOW_ROW": ctypes.sizeof(WindowTold),
+          "SEAT_AT": row.guest.offset, "OPENS_AT": BoardFunctionTold.opens_io.offset}
+sys.exit(" ".join(f"{name} is {place}" for name, place in places.items() if not re.search(rf"\b{name} = {place}[,;]", text)) or None)
+PYTHON
+}
+holds 'the page reads fields where the header has them' other_places
 
 counted
