@@ -10,7 +10,7 @@ use Rattle.model_registers.specs.EndpointTable.{BaseAddress, opened, IsLawfulBas
 use Rattle.model_registers.specs.BaseLaws.{shown, word_at, rebased, rewritten}
 use Rattle.model_registers.proofs.Bases.{word_low, word_high, word_apart, rewritten_low, rewritten_high, rewritten_apart, rewritten_lawful, registers_positive}
 use Rattle.bars.specs.declared.region.BasedRegion.{BasedRegion}
-use Rattle.bars.specs.declared.slots.Part.{Part}
+use Rattle.bars.specs.declared.slots.ShownPart.{ShownPart}
 use Rattle.bars.specs.Slots.{placed, bases_from, slot_at}
 use Rattle.bars.specs.Parts.{IsPartAt, IsUnused, IsLowerPart, IsUpperPart}
 
@@ -97,31 +97,31 @@ rewritten_middle reg ons x (q ∷ pre) post b c before after e = grind (arith, r
 -- ---- a part of a region
 
 -- the register of a part lies in its region
-part_of : (reg : ℕ) (p : Part) → IsLowerPart reg p ⊎ IsUpperPart reg p → IsOf reg (placed p.slot p.region)
+part_of : (reg : ℕ) (p : ShownPart) → IsLowerPart reg p ⊎ IsUpperPart reg p → IsOf reg (placed p.slot p.region)
 part_of reg p low = grind (arith, registers_positive)
 
-part_word : (reg : ℕ) (p : Part) (bs : List BaseAddress) → IsLowerPart reg p ⊎ IsUpperPart reg p → word_at reg (placed p.slot p.region ∷ bs) ≡ shown (placed 0 p.region) / 2 ^ p.shift
+part_word : (reg : ℕ) (p : ShownPart) (bs : List BaseAddress) → IsLowerPart reg p ⊎ IsUpperPart reg p → word_at reg (placed p.slot p.region ∷ bs) ≡ shown (placed 0 p.region) / 2 ^ p.shift
 part_word reg p bs low = search (rules, word_low, word_high)
 
 -- the region of a part, with another base
-with_base : Part → ℕ → BaseAddress
+with_base : ShownPart → ℕ → BaseAddress
 with_base p n = record { index = p.slot; kind = p.region.decl.kind; size = p.region.decl.size; base = n }
 
-abbrev region_with : Part → ℕ → BasedRegion
+abbrev region_with : ShownPart → ℕ → BasedRegion
 region_with p n = record { decl = p.region.decl; base = n }
 
-part_written : (reg : ℕ) (ons : List Bool) (x : ℕ) (p : Part) → IsLowerPart reg p ⊎ IsUpperPart reg p
+part_written : (reg : ℕ) (ons : List Bool) (x : ℕ) (p : ShownPart) → IsLowerPart reg p ⊎ IsUpperPart reg p
     → rewritten reg ons x (placed p.slot p.region) ≡ placed p.slot (record p.region { base = rebased (placed 0 p.region) (x * 2 ^ p.shift) (enabled_bits ons * 2 ^ p.shift) })
 unfolding with_base
 part_written reg ons x p low = search (rules, rewritten_low, with_base, rewritten_high)
 
-part_split : (slots : List (Option BasedRegion)) (reg : ℕ) (p : Part) → IsPartAt slots reg p → Split 0 slots p.slot p.region
+part_split : (slots : List (Option BasedRegion)) (reg : ℕ) (p : ShownPart) → IsPartAt slots reg p → Split 0 slots p.slot p.region
 part_split slots reg p at = split slots 0 p.slot p.region at.region
 
 order_at : (bs cs : List BaseAddress) → HasLawfulBases bs → bs ≡ cs → EachPair InOrder (map opened cs)
 order_at bs cs lawful e = (subst HasLawfulBases e lawful).regions.in_order
 
-pub read_part : (slots : List (Option BasedRegion)) → HasLawfulBases (bases_from 0 slots) → (reg : ℕ) (p : Part) → IsPartAt slots reg p → word_at reg (bases_from 0 slots) ≡ shown (placed 0 p.region) / 2 ^ p.shift
+pub read_part : (slots : List (Option BasedRegion)) → HasLawfulBases (bases_from 0 slots) → (reg : ℕ) (p : ShownPart) → IsPartAt slots reg p → word_at reg (bases_from 0 slots) ≡ shown (placed 0 p.region) / 2 ^ p.shift
 read_part slots lawful reg p at =
     let s : Split 0 slots p.slot p.region = part_split slots reg p at in
     let b : BaseAddress = placed p.slot p.region in
@@ -129,7 +129,7 @@ read_part slots lawful reg p at =
     let order : EachPair InOrder (map opened (s.pre ++ (b ∷ s.post))) = order_at (bases_from 0 slots) (s.pre ++ (b ∷ s.post)) lawful whole in
     ap (word_at reg) whole ∙ word_past reg s.pre (b ∷ s.post) (before reg b (part_of reg p at.half) s.pre s.post order) ∙ part_word reg p s.post at.half
 
-pub write_part : (slots : List (Option BasedRegion)) → HasLawfulBases (bases_from 0 slots) → (reg : ℕ) (ons : List Bool) (x : ℕ) (p : Part) → IsPartAt slots reg p
+pub write_part : (slots : List (Option BasedRegion)) → HasLawfulBases (bases_from 0 slots) → (reg : ℕ) (ons : List Bool) (x : ℕ) (p : ShownPart) → IsPartAt slots reg p
     → bases_from 0 (slice_set slots p.slot (Some (record p.region { base = rebased (placed 0 p.region) (x * 2 ^ p.shift) (enabled_bits ons * 2 ^ p.shift) }))) ≡ map (rewritten reg ons x) (bases_from 0 slots)
 write_part slots lawful reg ons x p at =
     let s : Split 0 slots p.slot p.region = part_split slots reg p at in
@@ -142,11 +142,11 @@ write_part slots lawful reg ons x p at =
     ∙ sym (rewritten_middle reg ons x s.pre s.post b (placed p.slot r) (before reg b of s.pre s.post order) (after reg b of s.post (pairs_after b s.pre s.post order)) (part_written reg ons x p at.half))
     ∙ ap (map (rewritten reg ons x)) (sym whole)
 
-shift_fits : (reg : ℕ) (p : Part) → IsLowerPart reg p ⊎ IsUpperPart reg p → (x : ℕ) → x < 2 ^ 32 → x * 2 ^ p.shift % 2 ^ 64 ≡ x * 2 ^ p.shift
+shift_fits : (reg : ℕ) (p : ShownPart) → IsLowerPart reg p ⊎ IsUpperPart reg p → (x : ℕ) → x < 2 ^ 32 → x * 2 ^ p.shift % 2 ^ 64 ≡ x * 2 ^ p.shift
 shift_fits reg p low x h = grind (arith, shl_whole)
 
 -- the same in 64 bits, as the program shifts
-pub stored_part : (slots : List (Option BasedRegion)) → HasLawfulBases (bases_from 0 slots) → (reg : ℕ) (ons : List Bool) (x : ℕ) (p : Part) → IsPartAt slots reg p
+pub stored_part : (slots : List (Option BasedRegion)) → HasLawfulBases (bases_from 0 slots) → (reg : ℕ) (ons : List Bool) (x : ℕ) (p : ShownPart) → IsPartAt slots reg p
     → x < 2 ^ 32 → enabled_bits ons < 2 ^ 32 → (r : BasedRegion)
     → r ≡ record p.region { base = rebased (placed 0 p.region) (x * 2 ^ p.shift % 2 ^ 64) (enabled_bits ons * 2 ^ p.shift % 2 ^ 64) }
     → bases_from 0 (slice_set slots p.slot (Some r)) ≡ map (rewritten reg ons x) (bases_from 0 slots)
@@ -154,7 +154,7 @@ stored_part slots lawful reg ons x p at hx he r e =
     let exact : r ≡ record p.region { base = rebased (placed 0 p.region) (x * 2 ^ p.shift) (enabled_bits ons * 2 ^ p.shift) } = grind (arith, shift_fits) in
     ap (λ (q : BasedRegion). bases_from 0 (slice_set slots p.slot (Some q))) exact ∙ write_part slots lawful reg ons x p at
 
-pub lawful_part : (slots : List (Option BasedRegion)) → HasLawfulBases (bases_from 0 slots) → (reg : ℕ) (p : Part) → IsPartAt slots reg p → IsLawfulBase (placed 0 p.region)
+pub lawful_part : (slots : List (Option BasedRegion)) → HasLawfulBases (bases_from 0 slots) → (reg : ℕ) (p : ShownPart) → IsPartAt slots reg p → IsLawfulBase (placed 0 p.region)
 lawful_part slots lawful reg p at =
     let s : Split 0 slots p.slot p.region = part_split slots reg p at in
     let own : IsLawfulBase (placed (0 + p.slot) p.region) = each_lawful (placed (0 + p.slot) p.region) s.pre s.post (subst HasLawfulBases s.whole lawful).each in

@@ -4,16 +4,16 @@
 use Rattle.std.specs.Prelude.{◌≡◌, ℕ, ◌+◌, List, Option, Some, None, ◌⊎◌}
 use Rattle.model_registers.specs.Declarations.{registers_of}
 use Rattle.bars.specs.declared.region.BasedRegion.{BasedRegion}
-use Rattle.bars.specs.declared.slots.Part.{Part}
+use Rattle.bars.specs.declared.slots.ShownPart.{ShownPart}
 use Rattle.bars.specs.Slots.{slot_at}
 
-abbrev pub IsLowerPart : ℕ → Part → Type 0
+abbrev pub IsLowerPart : ℕ → ShownPart → Type 0
 IsLowerPart reg p = (p.slot ≡ reg) × (p.shift ≡ 0)
 
-abbrev pub IsUpperPart : ℕ → Part → Type 0
+abbrev pub IsUpperPart : ℕ → ShownPart → Type 0
 IsUpperPart reg p = (p.slot + 1 ≡ reg) × (p.shift ≡ 32) × (registers_of p.region.decl.kind ≡ 2)
 
-pub record IsPartAt (slots : List (Option BasedRegion)) (reg : ℕ) (p : Part) : Type 0 where
+pub record IsPartAt (slots : List (Option BasedRegion)) (reg : ℕ) (p : ShownPart) : Type 0 where
   pub region : slot_at slots p.slot ≡ Some p.region
   pub half : IsLowerPart reg p ⊎ IsUpperPart reg p
 

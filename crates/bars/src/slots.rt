@@ -59,7 +59,7 @@ fn clear_bases(regions: &mut [Option<BasedRegion>; 6])
 
 /// The part of a region's registers that one register of four bytes shows, from the bit `shift` on.
 #[derive(Clone, Copy, Debug)]
-pub struct Part {
+pub struct ShownPart {
     pub slot: usize,
     pub region: BasedRegion,
     pub shift: u32,
@@ -129,14 +129,14 @@ impl Slots {
 
     /// What the register at an index shows: a region's lower half or its only register, or the upper
     /// half of the region below.
-    pub fn part_at(&self, reg: u8) -> Option<Part>
+    pub fn part_at(&self, reg: u8) -> Option<ShownPart>
         requires { reg < 6 }
         ensures used { IfSome result (IsPartAt self.now reg) }
         ensures unused { IfNone result (IsUnused self.now reg) }
     {
         let slot = usize::from(reg);
         if let Some(region) = self.regions[slot] {
-            return Some(Part {
+            return Some(ShownPart {
                 slot,
                 region,
                 shift: 0,
@@ -146,7 +146,7 @@ impl Slots {
             && let Some(region) = self.regions[slot - 1]
             && region.decl.kind().is_wide()
         {
-            return Some(Part {
+            return Some(ShownPart {
                 slot: slot - 1,
                 region,
                 shift: 32,
