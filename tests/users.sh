@@ -10,6 +10,7 @@ cd "$(dirname "$0")/.."
 source tests/holds.sh
 cp -r "$folder" "$room/unpacked"
 cd "$room/unpacked" || exit 1
+
 # outside COMMAND..: without the kit, and with nothing of this repository
 outside() {
   env -i PATH=/usr/bin:/bin HOME="$room" PKG_CONFIG_PATH="$PWD/lib/pkgconfig" \
@@ -30,7 +31,7 @@ done_by() {
 holds 'no kit' outside sh -c '! command -v rt'
 
 # ---- all: what the README, FORMATS and the lessons that were packed print is what their commands write there
-holds 'the commands of the documents' outside bash "$here/tests/commands.sh" ./pciguest "$PWD"
+holds 'the commands of the documents' outside bash "$top/tests/commands.sh" ./pciguest "$PWD"
 done_by 'who reads the documents'
 
 # ---- firmware: boards at reset, broken firmware, and a session
@@ -63,7 +64,7 @@ fi
 done_by 'who writes firmware'
 
 # ---- a hypervisor: the program in C, by make and by pkg-config, and the crate for Rust
-device=$here/tests/library/device.stdout
+device=$top/tests/library/device.stdout
 if has cc && has make; then
   holds 'make -C examples/c' outside make -s -C examples/c
   holds 'the program in C' same "$device" outside make -s -C examples/c
