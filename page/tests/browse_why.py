@@ -155,7 +155,8 @@ def a_gone_bar_keeps_its_question(browser, page):
     type_line(browser, 'host cr 00:02.0 0 4')
     told = browser.run("[document.querySelector('#addresses > .question') !== null, document.querySelector('[data-space=mem]') === null]")
     holds('a question whose bar is gone stands below', told == [True, True] and browser.run(ASKED) == asked, told)
-    holds('and tells what is closed', browser.run(LINES)[1].endswith('closed, Command 0x0000'), browser.run(LINES))
+    holds('and tells all that keeps a region from answering', browser.run(LINES)[1].endswith(
+        "closed, Command 0x0000; 2.0 doesn't forward it, Command 0x0000 closes memory"), browser.run(LINES))
 
 
 # What a guest is told of a region that is closed.
