@@ -29,6 +29,7 @@ pub mod TakenMachines
 mod ByteCells
 mod FittingMachines
 mod SavableMachines
+mod DecidedMachines
 mod SavedMachines
 mod SavedWorlds
 mod ByteExamples

@@ -19,6 +19,7 @@ use Rattle.model_images.specs.ImageBytes.{endpoint_layout, function_layout, decl
 use Rattle.model_images.specs.ByteLaws.{IsLayout, HasBytes, HoldsSavable}
 use Rattle.model_images.specs.LoadedBytes.{Left, then_read, after_bytes, after_values, after_slot, after_slots_front, at_end, after_slots, after_number, after_latch, after_image_front, after_image, fault_of, load_fault}
 use Rattle.model_images.specs.LoadedLaws.{ImagesDecided, OwnAccepted, IsOfOthers}
+use Rattle.model_images.specs.TakenBytes.{HoldsDeclared, IsDeclaredGuest}
 use Rattle.model_images.proofs.Numbers.{number_again}
 use Rattle.model_images.proofs.ImageLayouts.{endpoint_is}
 use Rattle.model_images.proofs.ImageBytes.{read_are_bytes, HasParts, parts_of, FunctionParts, function_parts, slot_fits}
@@ -59,7 +60,7 @@ none_left [] ys y h = cc
 none_left (x ∷ xs) ys y h = cc
 
 -- of two values that have bytes, those of one don't go on as those of the other
-prefix_decided : {A : Type 0} (L : Layout A) → IsLayout L → (x y : A) → IsTrue (L.fits x) → IsTrue (L.fits y) → (k : ℕ) (rest : List ℕ) → (x ≡ y) ⊎ (after_bytes k (L.bytes y) (L.bytes x ++ rest) ≡ Err k)
+pub prefix_decided : {A : Type 0} (L : Layout A) → IsLayout L → (x y : A) → IsTrue (L.fits x) → IsTrue (L.fits y) → (k : ℕ) (rest : List ℕ) → (x ≡ y) ⊎ (after_bytes k (L.bytes y) (L.bytes x ++ rest) ≡ Err k)
 prefix_decided {A} L l x y fits too k rest = of (compared k (L.bytes y) (L.bytes x ++ rest))
   where
     read : (a b : A) (r u : List ℕ) → IsTrue (L.fits a) → IsTrue (L.fits b) → L.bytes a ++ r ≡ L.bytes b ++ u → parsed a r ≡ parsed b u
@@ -96,11 +97,11 @@ function_bytes s rest parts =
     ∙ ap (λ (xs : List ℕ). 1 ∷ xs) (append_assoc (declaration_bytes s.decl) s.values rest)
 
 -- what doesn't fit is refused as another's
-slot_decided : (s : Option SavedFunction) (f : Option Function) (rest : List ℕ) → (optional function_layout).fits s ≡ true → HoldsSavable f → FitsSlot s f ⊎ (after_slot f (slot_bytes s ++ rest) ≡ Err 906)
+slot_decided : (s : Option SavedFunction) (f : Option Function) (rest : List ℕ) → (optional function_layout).fits s ≡ true → HoldsDeclared f → FitsSlot s f ⊎ (after_slot f (slot_bytes s ++ rest) ≡ Err 906)
 slot_decided None None rest h k = inl tt
 slot_decided None (Some f) rest h k = inr refl
 slot_decided (Some s) None rest h k = inr refl
-slot_decided (Some s) (Some f) rest h k = of (prefix_decided endpoint_layout endpoint_is s.decl f.decl parts.decl (endpoint_fits f.decl k.declared) 906 (s.values ++ rest))
+slot_decided (Some s) (Some f) rest h k = of (prefix_decided endpoint_layout endpoint_is s.decl f.decl parts.decl (endpoint_fits f.decl k) 906 (s.values ++ rest))
   where
     parts : FunctionParts s
     parts = function_parts s (slot_fits s h)
@@ -124,11 +125,11 @@ fitting_slot s f rest h k = absurd k
 abbrev pub slots_bytes : List (Option SavedFunction) → List ℕ
 slots_bytes ss = flat_map slot_bytes ss
 
-slots_decided : (n : ℕ) (ss : List (Option SavedFunction)) (fs : Slots) → fit_times (optional function_layout).fits n ss ≡ true → length fs ≡ n → Each HoldsSavable fs
-    → FitSlots ss fs ⊎ (after_slots fs (slots_bytes ss) ≡ Err 906)
-slots_decided n [] [] h count all = inl tt
-slots_decided (suc n) (s ∷ ss) (f ∷ fs) h count all = grind (arith, slot_decided, left_true, right_true, fitting_slot, slots_decided n ss fs)
-slots_decided n ss fs h count all = grind arith
+slots_decided : (n : ℕ) (ss : List (Option SavedFunction)) (fs : Slots) (rest : List ℕ) → fit_times (optional function_layout).fits n ss ≡ true → length fs ≡ n → Each HoldsDeclared fs
+    → FitSlots ss fs ⊎ (after_slots_front fs (slots_bytes ss ++ rest) ≡ Err 906)
+slots_decided n [] [] rest h count all = inl tt
+slots_decided (suc n) (s ∷ ss) (f ∷ fs) rest h count all = grind (arith, append_assoc, slot_decided, left_true, right_true, fitting_slot, slots_decided n ss fs rest)
+slots_decided n ss fs rest h count all = grind arith
 
 fitting_slots : (n : ℕ) (ss : List (Option SavedFunction)) (fs : Slots) (rest : List ℕ) → fit_times (optional function_layout).fits n ss ≡ true → FitSlots ss fs
     → after_slots_front fs (slots_bytes ss ++ rest) ≡ Ok rest
@@ -149,6 +150,17 @@ fitting_front g i has fits rest =
     let parts = parts_of i has in
     ap (then_read (after_slots_front g.slots)) (latch_taken i.latch (slots_bytes i.slots ++ rest) parts.latch_fits parts.latched) ∙ fitting_slots 32 i.slots g.slots rest parts.slots fits.slots
 
+-- what doesn't fit is refused as another guest's
+pub front_decided : (g : LoneGuest) → IsDeclaredGuest g → (i : Image) → HasBytes i → (rest : List ℕ) → Fits i g ⊎ (after_image_front g (image_bytes i ++ rest) ≡ Err 906)
+front_decided g declared i has rest = of (slots_decided 32 i.slots g.slots rest parts.slots declared.count declared.functions)
+  where
+    parts : HasParts i
+    parts = parts_of i has
+
+    of : FitSlots i.slots g.slots ⊎ (after_slots_front g.slots (slots_bytes i.slots ++ rest) ≡ Err 906) → Fits i g ⊎ (after_image_front g (image_bytes i ++ rest) ≡ Err 906)
+    of (inl m) = inl (record { latch = parts.latched; slots = m })
+    of (inr m) = inr (ap (then_read (after_slots_front g.slots)) (latch_taken i.latch (slots_bytes i.slots ++ rest) parts.latch_fits parts.latched) ∙ m)
+
 -- nothing follows
 pub slots_end : (fs : Slots) (bytes : List ℕ) → after_slots fs bytes ≡ then_read at_end (after_slots_front fs bytes)
 slots_end [] bytes = refl
@@ -161,23 +173,24 @@ pub fitting_accepted : (g : LoneGuest) (i : Image) → HasBytes i → Fits i g �
 fitting_accepted g i has fits =
     ap fault_of (image_ends g (image_bytes i) ∙ ap (λ (bs : List ℕ). then_read at_end (after_image_front g bs)) (sym (append-nil (image_bytes i))) ∙ ap (then_read at_end) (fitting_front g i has fits []))
 
+savable_declared : (fs : Slots) → Each HoldsSavable fs → Each HoldsDeclared fs
+savable_declared [] h = tt
+savable_declared (f ∷ fs) h = grind (arith, savable_declared fs)
+
 pub images_decided : ImagesDecided
-images_decided g savable bytes i h = of (slots_decided 32 i.slots g.slots parts.slots savable.count savable.functions)
+images_decided g savable bytes i h = of (front_decided g (record { count = savable.count; functions = savable_declared g.slots savable.functions }) i spelled.1 [])
   where
     spelled : (bytes ≡ image_bytes i) × HasBytes i
     spelled = read_are_bytes bytes i h
 
-    parts : HasParts i
-    parts = parts_of i spelled.1
-
     accepted : Fits i g → load_fault g bytes ≡ None
     accepted k = ap (load_fault g) spelled.0 ∙ fitting_accepted g i spelled.1 k
 
-    of : FitSlots i.slots g.slots ⊎ (after_slots g.slots (slots_bytes i.slots) ≡ Err 906) → ((load_fault g bytes ≡ None) × Fits i g) ⊎ IsOfOthers g bytes i
-    of (inl m) = let fits : Fits i g = record { latch = parts.latched; slots = m } in inl (accepted fits, fits)
+    of : Fits i g ⊎ (after_image_front g (image_bytes i ++ []) ≡ Err 906) → ((load_fault g bytes ≡ None) × Fits i g) ⊎ IsOfOthers g bytes i
+    of (inl fits) = inl (accepted fits, fits)
     of (inr m) =
         let refused : load_fault g bytes ≡ Some 906 =
-        ap (load_fault g) spelled.0 ∙ ap (λ l. fault_of (then_read (after_slots g.slots) l)) (latch_taken i.latch (slots_bytes i.slots) parts.latch_fits parts.latched) ∙ ap fault_of m in
+        ap fault_of (image_ends g bytes ∙ ap (λ (bs : List ℕ). then_read at_end (after_image_front g bs)) (spelled.0 ∙ sym (append-nil (image_bytes i))) ∙ ap (then_read at_end) m) in
         inr (record { refused = refused; not_fitting = λ k. let none = accepted k in cc })
 
 pub savable_fits : (fs : Slots) → Each HoldsSavable fs → Each HoldsFitting fs

@@ -10,7 +10,7 @@ use Rattle.model_board.specs.AtReset.{board_at}
 use Rattle.model_board.specs.State.{State}
 use Rattle.model_handoff.specs.Handoffs.{declared_cells}
 use Rattle.model_images.specs.MachineImages.{SavedGuest, MachineImage, saved_handoff}
-use Rattle.model_images.specs.Layouts.{number, le_bytes, through, optional, OneOf}
+use Rattle.model_images.specs.Layouts.{number, le_bytes, bytes_each, through, optional, OneOf}
 use Rattle.model_images.specs.ImageBytes.{endpoint_layout}
 use Rattle.model_images.specs.ByteLaws.{IsLayout}
 use Rattle.model_images.specs.MachineBytes.{machine_magic, machine_version, path_layout, io_number, io_of, pref_number, pref_of, third, BridgeParts, bridge_layout, decl_of, kind_of_decl, decl_layout, board_layout, name_layout, paths_layout, GuestParts, guest_layout, cells_layout, on_board, machine_of_parts, parts_of_machine, machine_layout, machine_bytes, machine_of}
@@ -94,17 +94,24 @@ machine_is =
 
 -- ---- part after part
 
+-- what the handoff of an image holds, as bytes
+abbrev pub held_in : MachineImage → List ℕ
+held_in i = bytes_each cells_layout i.handoff.board i.handoff.values ++ le_bytes 4 i.handoff.latch
+
+pub parts_bytes : (i : MachineImage) → machine_bytes i ≡ machine_header ++ ((board_layout.bytes i.handoff.board ++ le_bytes 2 (length i.guests)) ++ (flat_map guest_layout.bytes i.guests ++ held_in i))
+parts_bytes i =
+    let board = board_layout.bytes i.handoff.board in
+    let count = le_bytes 2 (length i.guests) in
+    let guests = flat_map guest_layout.bytes i.guests in
+    ap (λ (bs : List ℕ). machine_header ++ (board ++ bs)) (append_assoc count guests (held_in i))
+    ∙ ap (λ (bs : List ℕ). machine_header ++ bs) (sym (append_assoc board count (guests ++ held_in i)))
+
 module _ (s : State) (gs : List SavedGuest) where
   abbrev pub told : MachineImage
   told = record { handoff = saved_handoff s; guests = gs }
 
   pub told_bytes : machine_bytes told ≡ machine_header ++ ((board_layout.bytes (board_at s.functions) ++ le_bytes 2 (length gs)) ++ (flat_map guest_layout.bytes gs ++ held_bytes s))
-  told_bytes =
-      let board = board_layout.bytes (board_at s.functions) in
-      let count = le_bytes 2 (length gs) in
-      let guests = flat_map guest_layout.bytes gs in
-      ap (λ (bs : List ℕ). machine_header ++ (board ++ bs)) (append_assoc count guests (held_bytes s))
-      ∙ ap (λ (bs : List ℕ). machine_header ++ bs) (sym (append_assoc board count (guests ++ held_bytes s)))
+  told_bytes = parts_bytes told
 
 -- ---- laws
 

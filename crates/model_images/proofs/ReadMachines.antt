@@ -116,7 +116,7 @@ guests_good s (name ∷ names) taken bytes p h =
 -- ---- where declarations and names can be written
 
 module _ (s : State) (declares : (p : Path) (d : Endpoint) → declared (board_at s.functions) p ≡ Some d → IsDeclared d) where
-  slots_declared : (qs : List (Option Path)) → Each HoldsDeclared (guest_at (board_at s.functions) qs).slots
+  pub slots_declared : (qs : List (Option Path)) → Each HoldsDeclared (guest_at (board_at s.functions) qs).slots
   slots_declared [] = tt
   slots_declared (None ∷ qs) = (tt, slots_declared qs)
   slots_declared (Some p ∷ qs) = grind (arith, slots_declared qs)

@@ -88,13 +88,17 @@ pub record IsWritableState (s : State) : Type 0 where
   pub latch : s.latch < 2 ^ 32
 
 pub writable_now : (w : WorldNow) → IsSavableWorld w → IsWritableMachine w → IsWritableState w.handoff
-writable_now w h can = record { handoff = h.lawful.handoff; declared = can.compared.declared; bytes = can.bytes; many = can.many; latch = can.latch }
+writable_now w h can = record { handoff = h.lawful.handoff; declared = can.known.compared.declared; bytes = can.bytes; many = can.known.many; latch = can.latch }
+
+pub board_fits : (s : State) → IsHandoff s → Each (λ (f : BoardFunction). CanBeDeclared f.decl) s.functions → length s.functions < 2 ^ 32 → board_layout.fits (board_at s.functions) ≡ true
+board_fits s h declared few =
+    let many : length (board_at s.functions) < 256 ^ 4 = let a = length-map s.functions row_at in omega arith in
+    counted_fit 4 row_layout (board_at s.functions) many (rows_fit s.functions h.board.places.paths h.board.declarations declared)
 
 pub state_fits : (s : State) → IsWritableState s → (gs : List SavedGuest) → (counted 2 guest_layout).fits gs ≡ true → HasMachineBytes (record { handoff = saved_handoff s; guests = gs })
 state_fits s h gs guests =
     let b = board_at s.functions in
-    let many : length b < 256 ^ 4 = let a = length-map s.functions row_at in let c = h.many in omega arith in
-    let board = counted_fit 4 row_layout b many (rows_fit s.functions h.handoff.board.places.paths h.handoff.board.declarations h.declared) in
+    let board = board_fits s h.handoff h.declared h.many in
     let cells = cells_fit s.functions h.handoff.shapes h.bytes in
     let latch = lt-ltb s.latch (256 ^ 4) h.latch in
     and_from (board_layout.fits b) ((on_board b).fits (gs, (values_in s, s.latch))) board
@@ -173,7 +177,7 @@ module _ (b : Board) (paths : Each (λ (r : Row). IsPath r.path) b) where
 pub machines_have_bytes : MachinesHaveBytes
 machines_have_bytes w h can =
     let guests = map saved_guest w.guests in
-    let few : length guests < 256 ^ 2 = let a = length-map w.guests saved_guest in let c = length-map w.guests (λ (g : GuestNow). g.name) in let d = can.machine.few in omega arith in
-    let all = guests_fit (board_at w.handoff.functions) h.lawful.handoff.board.places.paths w.guests h.lawful.seated.guests can.machine.compared.names can.guests in
+    let few : length guests < 256 ^ 2 = let a = length-map w.guests saved_guest in let c = length-map w.guests (λ (g : GuestNow). g.name) in let d = can.machine.known.few in omega arith in
+    let all = guests_fit (board_at w.handoff.functions) h.lawful.handoff.board.places.paths w.guests h.lawful.seated.guests can.machine.known.compared.names can.guests in
     subst (λ (x : State). HasMachineBytes (record { handoff = saved_handoff x; guests = guests })) (sym h.shown)
     (state_fits w.handoff (writable_now w h can.machine) guests (counted_fit 2 guest_layout guests few all))

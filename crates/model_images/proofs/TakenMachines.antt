@@ -144,12 +144,12 @@ written w h can bytes all i e =
     let under = under_guests w gs in
     let board : board_at under.functions ≡ board_at w.handoff.functions =
     (opens_alike (seated_files (shown_handoff w) (map restored_guest gs)) (shown_handoff w)).board ∙ (opens_alike (seated_files w.handoff w.guests) w.handoff).board in
-    let count = many w can.compared bytes all i r in
-    let few : length gs < 256 ^ 2 = let c = can.few in omega arith in
-    let fits = and_from ((number 2).fits (length gs)) (fit_times guest_layout.fits (length gs) gs) (lt-ltb (length gs) (256 ^ 2) few) (fit w can.compared bytes all i r) in
+    let count = many w can.known.compared bytes all i r in
+    let few : length gs < 256 ^ 2 = let c = can.known.few in omega arith in
+    let fits = and_from ((number 2).fits (length gs)) (fit_times guest_layout.fits (length gs) gs) (lt-ltb (length gs) (256 ^ 2) few) (fit w can.known.compared bytes all i r) in
     subst (λ h. IsWritten bytes (record { handoff = h; guests = gs })) r.handoff
     (record {
-      are = are w can.compared bytes all i r
+      are = are w can.known.compared bytes all i r
           ∙ ap₂ (λ (c : Board) (n : ℕ). machine_header ++ ((board_layout.bytes c ++ le_bytes 2 n) ++ (flat_map guest_layout.bytes gs ++ held_bytes under))) (sym board) (sym count) ∙ sym (told_bytes under gs);
       has = state_fits under (writable_under (shown_handoff w) (writable_under w.handoff (writable_now w h can) w.guests) (map restored_guest gs)) gs fits;
     })

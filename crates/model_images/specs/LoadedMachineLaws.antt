@@ -1,6 +1,9 @@
 -- Laws of bytes that are loaded into a machine.
 --     ReadFits      what a machine reads fits it
 --     AcceptedIsMachine      so bytes that are not refused are an image that fits the machine, and it is loaded
+--     IsOfOtherMachine w bytes i, MachinesDecided      bytes of an image that doesn't fit are refused by another number
+--                                                  than 905
+--     NoMachineIsRefused      so what is refused by 905 is no image
 --     IsGuestThere b s, StandsThere w i bytes      a guest of functions of this board as it stands in bytes; what stands
 --                                                  in bytes that a machine reads as an image
 --     ReadStandsThere      so it stands there
@@ -8,7 +11,7 @@
 --     FittingIsLoaded      and it is loaded
 --     IsTaken w v, TakesSavedMachine      so a machine takes what was saved of one like it, and is that other one
 --     RefusedKeeps      refused bytes change nothing
-use Rattle.std.specs.Prelude.{◌≡◌, ℕ, List, ◌++◌, flat_map, Some, None, Ok, IsTrue}
+use Rattle.std.specs.Prelude.{◌≡◌, ◌⊎◌, ℕ, List, ◌++◌, flat_map, Some, None, Ok, IsTrue}
 use Rattle.lists.specs.Elements.{Each}
 use Rattle.model_board.specs.Board.{Board}
 use Rattle.model_board.specs.AtReset.{board_at}
@@ -21,7 +24,7 @@ use Rattle.model_images.specs.ImageBytes.{image_bytes}
 use Rattle.model_images.specs.ByteLaws.{AreBytes}
 use Rattle.model_images.specs.LoadedBytes.{after_image_front, load_fault}
 use Rattle.model_images.specs.MachineBytes.{guest_layout, machine_bytes, machine_of}
-use Rattle.model_images.specs.MachineByteLaws.{HasMachineBytes, CanBeCompared, IsWritableMachine, CanBeSaved}
+use Rattle.model_images.specs.MachineByteLaws.{HasMachineBytes, CanBeCompared, HasKnownBytes, IsWritableMachine, CanBeSaved}
 use Rattle.model_images.specs.LoadedMachines.{guest_at, machine_header, known_bytes, held_bytes, read_machine}
 use Rattle.model_images.specs.LoadedMachines.{load_all_fault, after_load_all_bytes}
 
@@ -38,6 +41,19 @@ pub record IsMachineLoad (w : WorldNow) (bytes : List ℕ) (i : MachineImage) : 
 abbrev pub AcceptedIsMachine : Type 0
 AcceptedIsMachine = (w : WorldNow) → IsSavableWorld w → IsWritableMachine w → (bytes : List ℕ) → AreBytes bytes
     → load_all_fault w bytes ≡ None → (i : MachineImage) × IsMachineLoad w bytes i
+
+pub record IsOfOtherMachine (w : WorldNow) (bytes : List ℕ) (i : MachineImage) : Type 0 where
+  pub refused : (load_all_fault w bytes ≡ Some 906) ⊎ (load_all_fault w bytes ≡ Some 907)
+  pub not_fitting : FitsMachine i w → ⊥
+
+abbrev pub MachinesDecided : Type 0
+MachinesDecided = (w : WorldNow) → IsSavableWorld w → IsWritableMachine w → (bytes : List ℕ) (i : MachineImage)
+    → machine_of bytes ≡ Some i → ((load_all_fault w bytes ≡ None) × FitsMachine i w) ⊎ IsOfOtherMachine w bytes i
+
+-- whatever the machine holds
+abbrev pub NoMachineIsRefused : Type 0
+NoMachineIsRefused = (w : WorldNow) → IsSavableWorld w → HasKnownBytes w → (bytes : List ℕ)
+    → load_all_fault w bytes ≡ Some 905 → machine_of bytes ≡ None
 
 -- its name, its paths, and then the bytes of its image, which a guest of the functions at these paths takes
 pub record IsGuestThere (b : Board) (s : SavedGuest) : Type 0 where

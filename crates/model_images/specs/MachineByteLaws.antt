@@ -6,8 +6,9 @@
 --     OneMachineImage      two images that have bytes don't have the same
 --     CanBeDeclared, IsWritableName, CanBeCompared      a declaration, and a guest's name, that can be written; a machine
 --                            of such
---     IsWritableMachine, IsWritableWorld      a machine of such, whose functions hold bytes, and of no more functions and
---                            guests than there are numbers for; a world of it, whose guests can be saved
+--     HasKnownBytes w      a machine of such, and of no more functions and guests than there are numbers for
+--     IsWritableMachine, IsWritableWorld      such a machine, whose functions hold bytes; a world of it, whose guests can
+--                            be saved
 --     MachinesHaveBytes      the image of such a world has bytes
 --     AreDeclared fs      the declaration of each function of a board can be written
 --     CanBeSaved w      so it is of a world's board, and each of its guests can be saved, whatever its handoff holds
@@ -61,13 +62,17 @@ pub record CanBeCompared (w : WorldNow) : Type 0 where
   pub declared : AreDeclared w.handoff.functions
   pub names : Each IsWritableName (names_now w)
 
--- whatever its guests hold
-pub record IsWritableMachine (w : WorldNow) : Type 0 where
+-- what bytes are compared with before they tell what the machine holds
+pub record HasKnownBytes (w : WorldNow) : Type 0 where
   pub compared : CanBeCompared w
-  pub bytes : Each (λ (f : BoardFunction). HoldsBytes f.file) w.handoff.functions
-  pub latch : w.handoff.latch < 2 ^ 32
   pub many : length w.handoff.functions < 2 ^ 32
   pub few : length (names_now w) < 2 ^ 16
+
+-- whatever its guests hold
+pub record IsWritableMachine (w : WorldNow) : Type 0 where
+  pub known : HasKnownBytes w
+  pub bytes : Each (λ (f : BoardFunction). HoldsBytes f.file) w.handoff.functions
+  pub latch : w.handoff.latch < 2 ^ 32
 
 pub record IsWritableWorld (w : WorldNow) : Type 0 where
   pub machine : IsWritableMachine w

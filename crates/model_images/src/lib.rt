@@ -20,7 +20,8 @@ ghost use Rattle.model_images.specs.ByteExamples.{ByteExamples};
 ghost use Rattle.model_images.specs.ByteLaws.{BytesAreBytes, BytesAreRead, GuestsHaveBytes, OneImage, ReadAreBytes, ReadIsOfAGuest};
 ghost use Rattle.model_images.specs.FrontBytes.{FrontIsTaken, SizeIsTold};
 ghost use Rattle.model_images.specs.LoadedLaws.{AcceptedIsImage, ImagesDecided, KeepsSavedBytes, LoadsImage, OwnAccepted, RefusedStays};
-ghost use Rattle.model_images.specs.LoadedMachineLaws.{AcceptedIsMachine, FittingIsAccepted, FittingIsLoaded, ReadFits, ReadStandsThere, RefusedKeeps, TakesSavedMachine};
+ghost use Rattle.model_images.specs.LoadedMachineLaws.{AcceptedIsMachine, FittingIsAccepted, FittingIsLoaded, MachinesDecided, NoMachineIsRefused};
+ghost use Rattle.model_images.specs.LoadedMachineLaws.{ReadFits, ReadStandsThere, RefusedKeeps, TakesSavedMachine};
 ghost use Rattle.model_images.specs.MachineByteExamples.{MachineByteExamples};
 ghost use Rattle.model_images.specs.MachineByteLaws.{MachineBytesAreBytes, MachineBytesAreRead, MachineReadAreBytes, MachinesHaveBytes, OneMachineImage};
 ghost use Rattle.model_images.specs.SavedLaws.{CanBeSavedAlong, CanBeSavedAtFirst, NoImageIsRefused, SavesWhatWasTaken, TakesItsOwn, TakesSavedGuest};
@@ -191,12 +192,15 @@ pub fn machines_have_bytes()
 
 /// Bytes that a machine doesn't refuse are the image of a machine that fits it, and it is loaded.
 /// In them each guest stands by its name and its paths, and then by an image that it takes. The
-/// bytes of each image that fits are taken, and refused bytes change nothing. So a machine takes
+/// bytes of each image that fits are taken, those of another are refused as such (906 or 907, and
+/// 905 where they are no image), and refused bytes change nothing. So a machine takes
 /// what was saved of one like it, and is that other one; one like it is the same machine later,
 /// where no function was given or taken meanwhile.
 pub fn machine_bytes_are_taken()
     ensures fits { ReadFits }
     ensures accepted { AcceptedIsMachine }
+    ensures decided { MachinesDecided }
+    ensures no_image { NoMachineIsRefused }
     ensures there { ReadStandsThere }
     ensures fitting { FittingIsAccepted }
     ensures loaded { FittingIsLoaded }

@@ -1,5 +1,6 @@
 use Rattle.model_images.proofs.TakenMachines.{read_fits, accepted_is_machine, read_stands_there, refused_keeps}
 use Rattle.model_images.proofs.FittingMachines.{fitting_is_accepted, fitting_is_loaded}
+use Rattle.model_images.proofs.DecidedMachines.{machines_decided, no_machine_is_refused}
 use Rattle.model_images.proofs.SavedMachines.{takes_saved_machine, takes_its_own}
 use Rattle.model_images.proofs.machine_bytes_are_taken.Goals as goal
 
@@ -8,6 +9,12 @@ returns-clause-fits c = read_fits
 
 pub returns-clause-accepted : goal.returns-clause-accepted
 returns-clause-accepted c = accepted_is_machine
+
+pub returns-clause-decided : goal.returns-clause-decided
+returns-clause-decided c = machines_decided
+
+pub returns-clause-no_image : goal.returns-clause-no_image
+returns-clause-no_image c = no_machine_is_refused
 
 pub returns-clause-there : goal.returns-clause-there
 returns-clause-there c = read_stands_there
