@@ -24,6 +24,7 @@ use Rattle.model_guests.proofs.TablePlaces.{found_entries}
 use Rattle.model_images.specs.Images.{values_of}
 use Rattle.model_handoff.specs.Handoffs.{declared_cells, HasDeclaredShape}
 use Rattle.model_images.specs.Layouts.{le_bytes}
+use Rattle.model_images.proofs.Numbers.{one_each}
 use Rattle.bridge_forward.specs.BridgeDecls.{declared_bridge, declared_bridge_nth}
 use Rattle.bridge_forward.specs.ResetAlone.{after_leaf_reset}
 use Rattle.bridge_forward.specs.Lending.{as_endpoint, endpoint_nth}
@@ -46,10 +47,6 @@ single_at (v ∷ vs) (suc n) = single_at vs n
 
 byte_at : (file : File) (n : ℕ) → slice_get (file_bytes file) n ≡ option_map byte_of (slice_get file n)
 byte_at file n = grind (arith, single_at, slice_get-map)
-
-one_each : (vs : List ℕ) → length (flat_map (le_bytes 1) vs) ≡ length vs
-one_each [] = refl
-one_each (v ∷ vs) = ap suc (one_each vs)
 
 many_bytes : (file : File) → length (file_bytes file) ≡ length file
 many_bytes file = one_each (values_of file) ∙ length-map file (λ (e : PlacedCell). e.cell.value)

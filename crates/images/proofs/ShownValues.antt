@@ -21,6 +21,7 @@ use Rattle.model_images.specs.Images.{image_of_lone, saved, values_of}
 use Rattle.model_images.specs.Layouts.{le_bytes, optional}
 use Rattle.model_images.specs.ImageBytes.{declaration_bytes, function_layout, image_bytes}
 use Rattle.model_images.specs.LoadedBytes.{header}
+use Rattle.model_images.proofs.Numbers.{one_each}
 use Rattle.images.specs.Shown.{block_values, bytes_from, function_bytes, HasDeclaredPlaces, header_values, region_values, seen, shown_byte, shown_values, slot_bytes}
 
 module _ (e : Function) (own : OwnCopies) where
@@ -88,10 +89,6 @@ module _ (e : Function) (own : OwnCopies) where
 
   pub function_is : IsLawfulEndpoint e.decl → HasDeclaredPlaces e → declaration_bytes e.decl ++ shown_values e own e.decl ≡ function_bytes (seen e own)
   function_is lawful places = sym (function_parts ∙ ap (λ (xs : List ℕ). declaration_bytes e.decl ++ xs) (values_are lawful places))
-
-  one_each : (vs : List ℕ) → length (flat_map (le_bytes 1) vs) ≡ length vs
-  one_each [] = refl
-  one_each (v ∷ vs) = ap suc (one_each vs)
 
   pub size_is : HasDeclaredPlaces e → length (declaration_bytes e.decl) + length (endpoint_reset e.decl false) ≡ length (function_bytes (seen e own))
   size_is places =

@@ -37,7 +37,7 @@ use Rattle.model_images.proofs.Layouts.{both_is, fit_count}
 use Rattle.model_images.proofs.LoadedBytes.{fitting_front, front_decided, own_bytes, prefix_decided}
 use Rattle.model_images.proofs.MachineBytes.{board_is, held_in, machine_bytes_are_bytes, machine_read_are_bytes, name_is, parts_bytes, slot_path_is}
 use Rattle.model_images.proofs.Machines.{handoff_stays, opens_alike}
-use Rattle.model_images.proofs.Numbers.{number_is}
+use Rattle.model_images.proofs.Numbers.{number_is, one_each}
 use Rattle.model_images.proofs.ReadMachines.{slots_declared}
 use Rattle.model_images.proofs.Savable.{as_long}
 use Rattle.model_images.proofs.SavableMachines.{board_fits, declared_written, name_fits}
@@ -146,10 +146,6 @@ module _ (s : State) (declares : (p : Path) (d : Endpoint) → declared (board_a
   guests_judged gs names taken many written fits rest = grind arith
 
 -- ---- what a handoff holds
-
-one_each : (vs : List ℕ) → length (flat_map (le_bytes 1) vs) ≡ length vs
-one_each [] = refl
-one_each (v ∷ vs) = ap suc (one_each vs)
 
 -- as many bytes, whatever values they are of
 held_long : (fs : List BoardFunction) (vs : List (List ℕ)) → Each HasDeclaredShape fs → fit_each cells_layout (board_at fs) vs ≡ true

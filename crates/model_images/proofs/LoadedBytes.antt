@@ -16,7 +16,7 @@ use Rattle.model_images.specs.FitLaws.{HoldsFitting}
 use Rattle.model_images.proofs.Fitting.{saved_slots}
 use Rattle.model_images.specs.Layouts.{Layout, Parsed, parsed, le_bytes, number, fit_times, optional}
 use Rattle.model_images.specs.ImageBytes.{endpoint_layout, function_layout, declaration_bytes, image_bytes}
-use Rattle.model_images.specs.ByteLaws.{IsLayout, HasBytes, HoldsSavable}
+use Rattle.model_images.specs.ByteLaws.{IsLayout, HasBytes, HoldsSavable, IsSavableGuest}
 use Rattle.model_images.specs.LoadedBytes.{Left, then_read, after_bytes, after_values, after_slot, after_slots_front, at_end, after_slots, after_number, after_latch, after_image_front, after_image, fault_of, load_fault}
 use Rattle.model_images.specs.LoadedLaws.{ImagesDecided, OwnAccepted, IsOfOthers}
 use Rattle.model_images.specs.TakenBytes.{HoldsDeclared, IsDeclaredGuest}
@@ -177,8 +177,11 @@ savable_declared : (fs : Slots) → Each HoldsSavable fs → Each HoldsDeclared 
 savable_declared [] h = tt
 savable_declared (f ∷ fs) h = grind (arith, savable_declared fs)
 
+pub savable_is_declared : (g : LoneGuest) → IsSavableGuest g → IsDeclaredGuest g
+savable_is_declared g h = record { count = h.count; functions = savable_declared g.slots h.functions }
+
 pub images_decided : ImagesDecided
-images_decided g savable bytes i h = of (front_decided g (record { count = savable.count; functions = savable_declared g.slots savable.functions }) i spelled.1 [])
+images_decided g savable bytes i h = of (front_decided g (savable_is_declared g savable) i spelled.1 [])
   where
     spelled : (bytes ≡ image_bytes i) × HasBytes i
     spelled = read_are_bytes bytes i h

@@ -1,6 +1,6 @@
 -- Numbers of so many bytes are read as they are written, and no other bytes are.
 use Rattle.std.proofs.Common.{◌≡◌, ℕ, zero, suc, ◌/◌, ◌^◌, ◌<◌, Bool, true, false, cond, List, [], ◌∷◌, ◌++◌, Some, None, refl, sym, ap, subst, arith}
-use Rattle.std.specs.Prelude.{nat_lt, option_map}
+use Rattle.std.specs.Prelude.{flat_map, length, nat_lt, option_map}
 use Rattle.std.proofs.Math.Nat.{pow-suc}
 use Rattle.std.proofs.lemmas.Bool.{lt-ltb, ltb-true}
 use Rattle.std.proofs.lemmas.Option.{same_Some}
@@ -11,6 +11,11 @@ use Rattle.model_images.proofs.Options.{from_map}
 pub number_bytes : (k n : ℕ) → AreBytes (le_bytes k n)
 number_bytes zero n = tt
 number_bytes (suc k) n = (omega arith, number_bytes k (n / 256))
+
+-- numbers of one byte
+pub one_each : (vs : List ℕ) → length (flat_map (le_bytes 1) vs) ≡ length vs
+one_each [] = refl
+one_each (v ∷ vs) = ap suc (one_each vs)
 
 pub number_again : (k n : ℕ) (rest : List ℕ) → n < 256 ^ k → parse_number k (le_bytes k n ++ rest) ≡ Some (parsed n rest)
 number_again zero n rest h = let none : n ≡ 0 = omega arith in ap (λ m. Some (parsed m rest)) (sym none)

@@ -21,7 +21,7 @@ use Rattle.model_images.specs.Images.{SavedFunction, Image, image_of_guest, afte
 use Rattle.model_images.proofs.Loading.{keeps_what_was_saved}
 use Rattle.model_images.specs.Layouts.{Parsed, parsed, le_bytes, parse_number, number, fit_times, optional}
 use Rattle.model_images.specs.ImageBytes.{function_layout, image_layout, declaration_bytes, image_bytes, image_of}
-use Rattle.model_images.specs.ByteLaws.{AreBytes, Spells, HasBytes, IsDeclared, HoldsSavable, IsSavableGuest}
+use Rattle.model_images.specs.ByteLaws.{AreBytes, Spells, HasBytes, IsDeclared}
 use Rattle.model_images.specs.LoadedBytes.{Left, then_read, after_bytes, after_values, after_slot, after_slots_front, at_end, after_slots, after_number, after_latch, header, after_image_front, fault_of, load_fault, after_load_bytes}
 use Rattle.model_images.specs.LoadedLaws.{AcceptedIsImage, LoadsImage, RefusedStays, KeepsSavedBytes}
 use Rattle.model_images.specs.TakenBytes.{le_number, values_begin, slot_size, taken_slot, taken_slots, taken_image, SlotsAreTaken, IsTakenImage, ImageIsTaken, HoldsDeclared, IsDeclaredGuest, AcceptedIsTaken}
@@ -30,7 +30,7 @@ use Rattle.model_images.proofs.Numbers.{number_again, number_is, number_spells}
 use Rattle.model_images.proofs.Layouts.{fit_count}
 use Rattle.model_images.proofs.ImageBytes.{bytes_are_read, parts_of, FunctionParts, function_parts, parts_fit, slot_fits}
 use Rattle.model_images.proofs.Savable.{times_fit, endpoint_fits, guests_have_bytes}
-use Rattle.model_images.proofs.LoadedBytes.{own_bytes, same_left, follows, function_bytes, slot_bytes, slots_bytes, values_taken, fitting_slot, slots_end, image_ends, own_accepted}
+use Rattle.model_images.proofs.LoadedBytes.{own_bytes, same_left, follows, function_bytes, slot_bytes, slots_bytes, values_taken, fitting_slot, slots_end, image_ends, own_accepted, savable_is_declared}
 
 -- ---- values
 
@@ -280,13 +280,6 @@ accepted_is_taken g declared bytes all h =
     record { image = ap image_of (s.bytes ∙ append-nil (image_bytes (taken_image g bytes))) ∙ bytes_are_read (taken_image g bytes) s.fits; fits = front_fits g bytes [] front }
 
 -- ---- a guest that can be saved
-
-savable_declared : (fs : Slots) → Each HoldsSavable fs → Each HoldsDeclared fs
-savable_declared [] h = tt
-savable_declared (f ∷ fs) h = grind (arith, savable_declared fs)
-
-pub savable_is_declared : (g : LoneGuest) → IsSavableGuest g → IsDeclaredGuest g
-savable_is_declared g h = record { count = h.count; functions = savable_declared g.slots h.functions }
 
 pub accepted_is_image : AcceptedIsImage
 accepted_is_image g savable bytes all h = (taken_image g bytes, accepted_is_taken g (savable_is_declared g savable) bytes all h)
