@@ -1,6 +1,7 @@
 -- A machine that is emptied, filled and loaded as bytes say that it doesn't refuse.
-use Rattle.std.proofs.Common.{◌≡◌, ◌*◌, ℕ, List, [], ◌∷◌, ◌++◌, length, Option, refl, sym, ap, ◌∙◌, subst, length-append, arith}
+use Rattle.std.proofs.Common.{◌≡◌, ◌*◌, ℕ, List, [], ◌∷◌, ◌++◌, length, Option, Some, refl, sym, ap, ◌∙◌, subst, length-append, arith}
 use Rattle.std.specs.Prelude.{flat_map, map}
+use Rattle.std.specs.Result.{result_err}
 use Rattle.std.proofs.lemmas.List.{length-map}
 use Rattle.lists.specs.Elements.{Each}
 use Rattle.model_board.specs.Board.{Board}
@@ -11,8 +12,13 @@ use Rattle.model_images.specs.Requests.{Request, after_requests}
 use Rattle.model_images.specs.RequestLaws.{after_all_requests}
 use Rattle.model_images.specs.FitLaws.{AreFittingRequests}
 use Rattle.model_images.specs.MachineImages.{SavedGuest}
-use Rattle.model_images.specs.MachineLaws.{load_of, takings}
+use Rattle.model_images.specs.MachineLaws.{IsSavableWorld, load_of, takings}
+use Rattle.model_images.specs.ByteLaws.{AreBytes}
+use Rattle.model_images.specs.MachineBytes.{machine_of}
+use Rattle.model_images.specs.MachineByteLaws.{IsWritableMachine}
 use Rattle.model_images.proofs.MachineLoads.{loads_all_by_requests}
+use Rattle.model_images.proofs.ReadMachines.{same_ok}
+use Rattle.model_images.proofs.TakenMachines.{accepted_is_machine}
 use Rattle.model_images.proofs.Counts.{world_along}
 use Rattle.machine_images.specs.Judging.{AreRuns, IsPlanned, functions_now, paths_seated}
 use Rattle.machine_images.specs.Loading.{GivesSeats, LoadsAll, LoadsRuns}
@@ -44,6 +50,10 @@ module _ (old : MachineNow) {bytes : List ℕ} {seats : List (Option ℕ)} {runs
 
   many_runs_there : length runs ≡ length old.world.guests
   many_runs_there = grind (arith, many_runs, many_names, length-map)
+
+  is_image : IsSavableWorld old.world → AreBytes bytes → IsWritableMachine old.world → machine_of bytes ≡ Some plan.image
+  is_image savable all can =
+      let i = accepted_is_machine old.world savable can bytes all (ap result_err plan.read) in i.1.image ∙ ap Some (same_ok i.0 plan.image (sym i.1.read ∙ plan.read))
 
   module _ {m : MachineNow} (taken : m ≡ after_all_requests old taking) where
     pub gives : {slots : List (Option ℕ)} → slots ≡ seats → GivesSeats m 0 slots gs
@@ -79,5 +89,5 @@ module _ (old : MachineNow) {bytes : List ℕ} {seats : List (Option ℕ)} {runs
             fits = subst (λ (v : WorldNow). AreFittingRequests v loading) (sym world) later;
           }
 
-      pub loaded : {last : MachineNow} → last ≡ after_all_requests n loading → LoadsAll old bytes last
-      loaded done = grind (arith, both_along)
+      pub loaded : IsSavableWorld old.world → AreBytes bytes → {last : MachineNow} → last ≡ after_all_requests n loading → LoadsAll old bytes last
+      loaded savable all done = let is = is_image savable all in grind (arith, both_along)

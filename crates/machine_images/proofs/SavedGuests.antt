@@ -6,7 +6,7 @@
 --     many_seats, seat_there      its slots
 --     guest_count, many_guests      how many bytes it has, and how many guests there are
 --     held_count      how many bytes the handoff has of a function of the board
-use Rattle.std.proofs.Common.{◌≡◌, ◌+◌, ◌*◌, ◌-◌, ◌%◌, ◌<◌, ◌≤◌, ℕ, suc, Bool, List, [], ◌∷◌, ◌++◌, length, get_or, Fits, w8, Some, None, Option, refl, sym, ap, ap₂, ◌∙◌, arith, length-append, length-drop}
+use Rattle.std.proofs.Common.{◌≡◌, ◌+◌, ◌*◌, ◌-◌, ◌%◌, ◌<◌, ◌≤◌, ℕ, Bool, List, [], ◌∷◌, ◌++◌, length, get_or, Fits, w8, Some, None, Option, refl, sym, ap, ap₂, ◌∙◌, arith, length-append, length-drop}
 use Rattle.std.specs.Prelude.{flat_map, map, slice_get, unwrap_or}
 use Rattle.std.specs.Option.{option_map_or}
 use Rattle.std.proofs.lemmas.List.{append-nil, drop-drop, drop_all, length-map, take_rest}
@@ -26,6 +26,7 @@ use Rattle.model_handoff.specs.Kept.{IsLawfulOver}
 use Rattle.model_images.specs.Images.{image_of_guest, image_of_lone}
 use Rattle.model_images.specs.ImageBytes.{image_bytes}
 use Rattle.model_images.specs.Layouts.{le_bytes}
+use Rattle.model_images.proofs.Numbers.{one_each}
 use Rattle.images.specs.Puts.{put}
 use Rattle.images.specs.BoardBytes.{bytes_nth, held_cells, path_bytes}
 use Rattle.images.proofs.FoundParts.{AreBytes, are_bytes}
@@ -56,13 +57,9 @@ pub name_is : (t : Text) → ((i : ℕ) → Fits w8 (get_or t i 0)) → name_byt
 unfolding name_bytes
 name_is t h = ap (λ (xs : List ℕ). length t % 256 ∷ xs) (same_bytes t (are_bytes t h))
 
-each_one : (t : Text) → length (flat_map (le_bytes 1) t) ≡ length t
-each_one [] = refl
-each_one (x ∷ xs) = ap suc (each_one xs)
-
 pub name_count : (t : Text) → length (name_bytes t) ≡ 1 + length t
 unfolding name_bytes
-name_count t = let all = each_one t in omega arith
+name_count t = let all = one_each t in omega arith
 
 -- ---- in the rest of a buffer
 

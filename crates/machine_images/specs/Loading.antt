@@ -1,8 +1,8 @@
 -- A machine into which the image of a machine is loaded.
---     LoadsAll m bytes new      the machine after the image that it reads of these bytes was loaded
+--     LoadsAll m bytes new      the machine after the image that it reads of these bytes, and that they are, was loaded
 --     LoadsRuns m guest runs gs      what guests are loaded from, this one first
 --     GivesSeats m guest seats gs      what guests are given, this one first
-use Rattle.std.specs.Prelude.{List, ◌≡◌, ℕ, flat_map, map, drop, Option, Ok, length}
+use Rattle.std.specs.Prelude.{List, ◌≡◌, ℕ, flat_map, map, drop, Option, Some, Ok, length}
 use Rattle.lists.specs.Elements.{Each}
 use Rattle.model_board.specs.AtReset.{board_at}
 use Rattle.model_guests.specs.WorldNow.{names_now}
@@ -10,6 +10,8 @@ use Rattle.model_handoff.specs.Changes.{MachineNow}
 use Rattle.model_images.specs.FitLaws.{AreFittingRequests}
 use Rattle.model_images.specs.MachineImages.{SavedGuest, MachineImage, FitsMachine}
 use Rattle.model_images.specs.MachineLaws.{after_load_all_on_machine, load_of}
+use Rattle.model_images.specs.MachineBytes.{machine_of}
+use Rattle.model_images.specs.MachineByteLaws.{IsWritableMachine}
 use Rattle.model_images.specs.LoadedMachines.{read_machine}
 use Rattle.machine_images.specs.Judging.{AreRuns, functions_now, paths_seated}
 
@@ -17,6 +19,7 @@ pub record LoadsAll (m : MachineNow) (bytes : List ℕ) (new : MachineNow) : Typ
   pub image : MachineImage
   pub read : read_machine m.world bytes ≡ Ok image
   pub fits : FitsMachine image m.world
+  pub is_image : IsWritableMachine m.world → machine_of bytes ≡ Some image
   pub machine : new ≡ after_load_all_on_machine image m
 
 -- the runs of these guests, the first of whom has this index, and whose images fit

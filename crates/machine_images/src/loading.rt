@@ -1,11 +1,13 @@
 //! Images of whole machines that are loaded. The bytes are read before anything changes: which function each slot gets,
 //! and which bytes hold the image of each guest. Then all slots are emptied and filled again, and each guest is loaded.
-ghost use Rattle.std.specs.Prelude.{◌≡◌, ◌≤◌, ◌<◌, ◌+◌, ◌*◌, List, None, IsSome, flat_map, length, map, option_map};
+ghost use Rattle.std.specs.Prelude.{◌≡◌, ◌≤◌, ◌<◌, ◌+◌, ◌*◌, List, None, IfSome, IsSome, flat_map, length, map, option_map};
 ghost use Rattle.model_guests.specs.WorldNow.{names_now};
 ghost use Rattle.model_images.specs.MachineImages.{SavedGuest};
 ghost use Rattle.model_images.specs.MachineLaws.{gift, gifts, load_of, takings};
 ghost use Rattle.model_images.specs.RequestLaws.{after_all_requests};
 ghost use Rattle.model_images.specs.LoadedMachines.{load_all_fault};
+ghost use Rattle.model_images.specs.MachineBytes.{machine_of};
+ghost use Rattle.model_images.specs.MachineByteLaws.{HasKnownBytes};
 ghost use Rattle.images.specs.MachineFaults.{number_of};
 ghost use Rattle.monitor.specs.ByIndex.{name_nth};
 ghost use Rattle.machine_images.specs.Judging.{functions_now, path_seated, paths_seated};
@@ -13,6 +15,7 @@ ghost use Rattle.machine_images.specs.Loading.{GivesSeats, LoadsAll, LoadsRuns};
 
 use crate::judging::judge;
 use images::MachineFault;
+use model_images::machine_bytes_are_taken;
 use monitor::Monitor;
 
 /// Takes all functions of a guest, that in the last slot first.
@@ -102,12 +105,16 @@ fn load_all(monitor: &mut Monitor, guest: usize, runs: &[&[u8]])
 /// from guests and given again, and each guest is loaded, so nothing comes about that calls for these couldn't bring
 /// about, and counts grow as for them. Or refuses the bytes and changes nothing: 905 where they are no image of a
 /// machine, 906 where they seat what can't be given there, or 907 for another board or other guests; the first byte
-/// that fails decides. No memory is taken.
+/// that fails decides, and of an image it is 906 or 907. No memory is taken.
 pub fn load_machine(monitor: &mut Monitor, bytes: &[u8]) -> Option<MachineFault>
     ensures fault { option_map number_of result ≡ load_all_fault monitor.old.world bytes.now }
+    ensures no_image { IfSome result (λ why. number_of why ≡ 905
+        → HasKnownBytes monitor.old.world → machine_of bytes.now ≡ None) }
     ensures refused { IsSome result → monitor.new ≡ monitor.old }
     ensures loaded { result ≡ None → LoadsAll monitor.old bytes.now monitor.new }
 {
+    machine_bytes_are_taken();
+    let _host = monitor.host();
     match judge(monitor, bytes) {
         Ok(plan) => {
             take_all(monitor);

@@ -1,5 +1,6 @@
-use Rattle.std.proofs.Common.{map, ap, arith}
+use Rattle.std.proofs.Common.{map, Some, ap, ◌∙◌, arith}
 use Rattle.std.proofs.lemmas.List.{length-map}
+use Rattle.images.proofs.FoundParts.{are_bytes}
 use Rattle.machine_images.proofs.LoadedMachine.{gives, loaded, loads, runs_there, seats_there}
 use Rattle.machine_images.proofs.loading.load_machine.Goals as goal
 
@@ -22,5 +23,9 @@ returns-in-Ok-clause-loaded c = λ _.
     let old = c.args.monitor.now in
     let plan = c.in-Ok.ensures.planned in
     let given = c.give_all.ensures plan.image.guests (gives old plan c.take_all.ensures c.as_slice.ensures.value) in
-    loaded old plan c.take_all.ensures given
+    loaded old plan c.take_all.ensures given c.host-host.ensures.savable (are_bytes c.args.bytes.now c.type_inv.bytes)
     (c.load_all.ensures plan.image.guests (loads old plan c.take_all.ensures given (ap (map (λ r. r.now)) c.as_slice-in-Ok.ensures.value)))
+
+pub returns-in-Err-clause-no_image : goal.returns-in-Err-clause-no_image
+returns-in-Err-clause-no_image c = λ is known.
+    c.machine_bytes_are_taken.ensures.no_image c.args.monitor.now.world c.host-host.ensures.savable known c.args.bytes.now (c.in-Err.ensures.refused ∙ ap Some is)
