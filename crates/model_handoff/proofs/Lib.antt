@@ -18,6 +18,7 @@ pub mod ResetCase
 pub mod DevicesOver
 pub mod Landings
 pub mod Inside
+mod RegionBytes
 pub mod Staying
 mod FunctionSeats
 mod FunctionExamples

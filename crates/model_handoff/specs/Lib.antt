@@ -14,6 +14,7 @@ pub mod DevicesOver
 pub mod GuestRegions
 pub mod Located
 pub mod QueryLaws
+pub mod RegionBytes
 pub mod StayLaws
 pub mod Functions
 pub mod FunctionLaws

@@ -22,6 +22,7 @@ ghost use Rattle.model_handoff.specs.Examples.{WorkedExamples};
 ghost use Rattle.model_handoff.specs.FunctionExamples.{ToldFunctions};
 ghost use Rattle.model_handoff.specs.FunctionLaws.{NoSeatHolds, SeatsHold};
 ghost use Rattle.model_handoff.specs.QueryLaws.{AccessLands, HitIsInside, InsideIsHit, NothingHit};
+ghost use Rattle.model_handoff.specs.RegionBytes.{BytesByAddress};
 ghost use Rattle.model_handoff.specs.StayLaws.{RegionsStay};
 ghost use Rattle.model_handoff.specs.Actions.{IsolatedByActions};
 ghost use Rattle.model_handoff.specs.CountLaws.{AnswersStay, ChangesTouchSlots, CountsGrow, RegionsStayAlong};
@@ -142,10 +143,11 @@ pub fn accesses_land()
 {}
 
 /// A hit lies in a region that is told there and is open, and each address of such a region hits
-/// something.
+/// something. An access of a byte that is hit is one of that byte by its slot and its register.
 pub fn hits_lie_in_regions()
     ensures inside { HitIsInside }
     ensures hit { InsideIsHit }
+    ensures bytes { BytesByAddress }
 {}
 
 /// Where a region of a guest's function stands changes by nothing else than the guest's own writes of

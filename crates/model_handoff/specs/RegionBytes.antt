@@ -1,0 +1,67 @@
+-- An access of one byte of a region, told by slot and base address register and not by an address, as whoever maps the
+-- regions of a guest hands it on: PCI Local Bus 3.0, chapter 6.2.5.
+--     opening f part off      whether Command opens the region to the byte, where a region has it
+--     byte_opening g d      the same of the function in a slot, or the number of a refusal
+--     byte_landing d t      the byte's place, which an access reaches where its region is open
+--     byte_reply, after_byte      the reply, and the guest after it
+--     IsByteThere, BytesByAddress      where an address of the guest lands there is such a byte, and an access of it is one
+--                                      of a byte at the address
+use Rattle.std.specs.Prelude.{◌≡◌, ℕ, Bool, true, if◌then◌else◌, nat_lt, nat_le, Option, Some, None, Result, Ok, Err}
+use Rattle.std.specs.Option.{option_map_or, ok_or}
+use Rattle.model_registers.specs.Registers.{block}
+use Rattle.model_registers.specs.Declarations.{Region}
+use Rattle.model_registers.specs.Decoding.{space_of, Function, is_open}
+use Rattle.model_guests.specs.Accesses.{RaisePlace, in_config, in_region, Op, Reply, refused, Target, port, address}
+use Rattle.model_guests.specs.Slots.{Landing, slot_at, landing, perform, effect}
+use Rattle.model_guests.specs.Lone.{LoneGuest, at_target, reply_at, after_access_at}
+use Rattle.model_guests.specs.DeviceEvents.{DeviceByte}
+use Rattle.model_handoff.specs.GuestRegions.{region_at}
+use Rattle.model_handoff.specs.QueryLaws.{HasLawfulFunctions}
+
+-- configuration space is no region
+abbrev pub opening : Function → RaisePlace → ℕ → Option Bool
+opening f in_config off = None
+opening f (in_region n) off = option_map_or (λ (r : Region).
+    if nat_lt off r.size then Some (is_open f.file (space_of r.kind)) else None) (region_at f n) None
+
+-- the checks in their order, as for a device's byte: the slot's number, the slot's function, the byte in it
+abbrev pub byte_opening : LoneGuest → DeviceByte → Result Bool ℕ
+byte_opening g d =
+    if nat_le 32 d.slot then Err 303
+    else option_map_or (λ (f : Function). ok_or (opening f d.part d.offset) 303) (slot_at g.slots d.slot) (Err 601)
+
+abbrev pub register_of : RaisePlace → ℕ
+register_of in_config = 0
+register_of (in_region n) = n
+
+abbrev pub byte_landing : DeviceByte → Bool → Option Landing
+byte_landing d t =
+    if t then Some (record { slot = d.slot; place = block (register_of d.part) d.offset }) else None
+
+-- what an access does that lands there by its address
+abbrev pub reply_there : LoneGuest → Op → DeviceByte → Result Bool ℕ → Reply
+reply_there g op d (Err n) = refused n
+reply_there g op d (Ok t) = perform op 1 g.slots (byte_landing d t)
+
+abbrev pub after_there : LoneGuest → Op → DeviceByte → Result Bool ℕ → LoneGuest
+after_there g op d (Err n) = g
+after_there g op d (Ok t) = record g { slots = effect op 1 g.slots (byte_landing d t) }
+
+abbrev pub byte_reply : LoneGuest → Op → DeviceByte → Reply
+byte_reply g op d = reply_there g op d (byte_opening g d)
+
+abbrev pub after_byte : LoneGuest → Op → DeviceByte → LoneGuest
+after_byte g op d = after_there g op d (byte_opening g d)
+
+-- ---- a law
+
+pub record IsByteThere (g : LoneGuest) (t : Target) (l : Landing) : Type 0 where
+  pub byte : DeviceByte
+  pub place : byte_landing byte true ≡ Some l
+  pub reply : (op : Op) → byte_reply g op byte ≡ reply_at g op 1 (at_target t)
+  pub after : (op : Op) → after_byte g op byte ≡ after_access_at g op 1 (at_target t)
+
+abbrev pub BytesByAddress : Type 0
+BytesByAddress = (g : LoneGuest) → HasLawfulFunctions g.slots → (a : ℕ) (l : Landing)
+    → (landing g.slots (port a) ≡ Some l → IsByteThere g (port a) l)
+    × (landing g.slots (address a) ≡ Some l → IsByteThere g (address a) l)
