@@ -1,15 +1,17 @@
 -- A guest's address on the board: where it lands, the claim there, and what is read and written.
-use Rattle.std.proofs.Common.{◌≡◌, ℕ, ◌+◌, ◌%◌, Bool, List, [], ◌∷◌, Some, Option, slice_get, refl, sym, ap, ap₂, ◌∙◌, subst, arith, None, rules}
+use Rattle.std.proofs.Common.{◌≡◌, ℕ, ◌+◌, ◌%◌, ◌<◌, Bool, true, List, [], ◌∷◌, Some, Option, slice_get, refl, sym, ap, ap₂, ◌∙◌, subst, arith, None, rules}
 use Rattle.std.specs.Prelude.{find, map, IsTrue, option_map, IsSome}
 use Rattle.std.specs.Option.{option_map_or}
 use Rattle.std.proofs.lemmas.Option.{slice_get_within}
-use Rattle.lists.specs.Elements.{EachPair}
+use Rattle.lists.specs.Elements.{EachPair, IsIn}
 use Rattle.lists.proofs.Tests.{and_true}
+use Rattle.lists.proofs.Members.{each_in}
 use Rattle.model_findings.specs.Found.{address_now}
 use Rattle.model_registers.specs.Registers.{Place, block, File, read, all_bytes, number}
 use Rattle.model_registers.specs.ByteEnables.{IsWidth}
 use Rattle.model_registers.specs.OwnCopies.{handed_on}
-use Rattle.model_registers.specs.Decoding.{Space}
+use Rattle.model_registers.specs.Declarations.{Region}
+use Rattle.model_registers.specs.Decoding.{Space, space_of}
 use Rattle.model_board.specs.Paths.{Path, path_eq, path_before}
 use Rattle.model_board.specs.Board.{endpoint, Row, Board, IsBoard}
 use Rattle.model_board.specs.State.{BoardFunction, row_at, State}
@@ -25,14 +27,15 @@ use Rattle.model_guests.proofs.GuestsByName.{path_at}
 use Rattle.lists.proofs.Indices.{each_at}
 use Rattle.lists.proofs.EachLemmas.{pairs_from_map}
 use Rattle.model_registers.specs.DeclarationRules.{IsLawfulEndpoint}
+use Rattle.model_guests.proofs.DeclaredRows.{declared_row}
 use Rattle.model_guests.proofs.Seats.{seats_at}
 use Rattle.model_guests.proofs.AgreedFiles.{shows_file}
 use Rattle.model_guests.specs.Text.{Text}
-use Rattle.model_handoff.specs.Regions.{base_in}
+use Rattle.model_handoff.specs.Regions.{base_in, opens_region}
 use Rattle.model_handoff.specs.RegionLaws.{HasSlot, ReachesOver}
 use Rattle.model_handoff.proofs.Accesses.{reached_is}
 use Rattle.model_handoff.proofs.Keeping.{keeps_board}
-use Rattle.model_handoff.proofs.Regions.{hit_reaches_over}
+use Rattle.model_handoff.proofs.Regions.{hit_reaches_over, region_is_claimed}
 use Rattle.bars.specs.Hits.{hit_in}
 use Rattle.bridge_forward.specs.declared.bus.Located.{Located}
 use Rattle.bridge_forward.specs.Locating.{located_claim}
@@ -139,6 +142,26 @@ module _ {w : WorldNow} {h : HostState} {names : List Text} {gs : List Guest} {i
         ap (λ (o : Option BoardFunction). number (option_map_or (λ (f : BoardFunction). f.file) o []) (block k a) width) found_on_board
         ∙ ap (read on_board.file (block k a)) (sym (all_handed k a ons)) ∙ board_shows (block k a) ons ∙ ap (read slot.f.file (block k a)) (all_handed k a ons)
 
+    -- an offset in a region of the function, by its index
+    pub claim_by_index : (k off : ℕ) → located_claim functions (Some (record { index = held.index; region = k; offset = off })) ≡ Some (record { path = slot.p; index = k; offset = off })
+    claim_by_index k off = ap (option_map (λ (f : BoardFunction). claim_at f.path (hit_in k off))) board_row
+
+    -- a byte of a region, which is open on the board
+    pub byte_landing_there : (r : Region) → IsIn r slot.f.decl.regions → (off : ℕ) → off < r.size → IsLanding functions (record { index = held.index; region = r.index; offset = off }) 1
+    byte_landing_there r declared off small =
+        let opened : opens_region w.handoff slot.p r ≡ true =
+        each_in (λ (q : Region). IsTrue (opens_region w.handoff slot.p q)) r slot.f.decl.regions (at.kept.lawful.served (name_nth w i) n slot.p (path_there at slot) slot.f.decl (seat slot).decl) declared in
+        let claimed =
+        region_is_claimed w.handoff at.kept.lawful.handoff.board at.kept.lawful.order.routes w.guests at.kept.lawful.seated slot.p slot.f.decl
+        (declared_row board slot.p slot.f.decl (seat slot).decl) r declared opened off small in
+        record {
+          space = space_of r.kind;
+          address = base_in w.handoff slot.p r + off;
+          aligned = omega arith;
+          claim = claim_by_index r.index off ∙ sym claimed.first;
+          within = slice_get_within functions held.index on_board board_row;
+        }
+
     -- the function is lawful in the handoff
     pub lawful : IsLawfulEndpoint slot.f.decl
     lawful = lawful_at (board_at w.handoff.functions) slot.p slot.f at.kept.lawful.handoff.board.declarations (seat slot)
@@ -157,14 +180,11 @@ module _ {w : WorldNow} {h : HostState} {names : List Text} {gs : List Guest} {i
     abbrev pub landed : Located
     landed = record { index = lands.held.index; region = l.1; offset = l.2 }
 
-    pub claim_by_index : located_claim functions (Some landed) ≡ Some (record { path = lands_at.p; index = l.1; offset = l.2 })
-    claim_by_index = ap (option_map (λ (f : BoardFunction). claim_at f.path (hit_in l.1 l.2))) (board_row lands_at)
-
     pub is_landing : (width : ℕ) → IsWidth width → addr % width ≡ 0 → IsLanding functions landed width
     is_landing width wide whole = record {
       space = space;
       address = base_in w.handoff lands_at.p reach.region + l.2;
       aligned = same_lanes addr (base_in w.handoff lands_at.p reach.region + l.2) width wide reach.lanes whole;
-      claim = claim_by_index ∙ sym reach.claimed.first;
+      claim = claim_by_index lands_at l.1 l.2 ∙ sym reach.claimed.first;
       within = slice_get_within functions lands.held.index (on_board lands_at) (board_row lands_at);
     }

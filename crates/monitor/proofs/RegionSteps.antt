@@ -1,10 +1,10 @@
 -- A read and a write of the region where a guest's address lands.
-use Rattle.std.proofs.Common.{◌≡◌, ℕ, ◌/◌, ◌%◌, Bool, cond, List, [], ◌∷◌, Some, None, Option, refl, sym, ap, ◌∙◌, subst, arith}
+use Rattle.std.proofs.Common.{◌≡◌, ℕ, ◌%◌, List, [], Some, None, Option, refl, sym, ap, ◌∙◌, subst, arith}
 use Rattle.std.specs.Option.{option_map_or}
 use Rattle.std.specs.Prelude.{option_map}
 use Rattle.lists.proofs.Indices.{set_same}
 use Rattle.model_registers.specs.ByteEnables.{IsWidth}
-use Rattle.model_registers.specs.Registers.{Place, block, File, write, all_bytes, number}
+use Rattle.model_registers.specs.Registers.{block, File, write, all_bytes, number}
 use Rattle.model_registers.specs.Decoding.{Space, io, memory, Function}
 use Rattle.model_board.specs.State.{State}
 use Rattle.model_board.specs.Claims.{Claim}
@@ -14,7 +14,7 @@ use Rattle.model_board.specs.Paths.{Path}
 use Rattle.model_guests.specs.Slots.{Slots, Landing, landing, landing_from, perform, effect}
 use Rattle.model_guests.specs.Lone.{at_target, reply_at, after_access_at, Destination}
 use Rattle.model_guests.specs.WorldNow.{WorldNow}
-use Rattle.model_guests.specs.ChangeLaws.{ChangesAlike, with_slot_changed}
+use Rattle.model_guests.specs.ChangeLaws.{ChangesAlike}
 use Rattle.model_guests.proofs.AgreedFiles.{writes_alike}
 use Rattle.model_guests.proofs.Seats.{written_shape}
 use Rattle.model_guests.specs.Text.{Text}
@@ -24,13 +24,13 @@ use Rattle.bridge_forward.specs.Locating.{located_claim}
 use Rattle.host_bridge.specs.HostState.{HostState, with_functions}
 use Rattle.host_bridge.specs.Landings.{IsLanding}
 use Rattle.monitor.specs.declared.guest.Guest.{Guest}
-use Rattle.monitor.specs.Keeping.{IsKept, AreSlots}
+use Rattle.monitor.specs.Keeping.{AreSlots}
 use Rattle.monitor.specs.ByIndex.{lone_nth, with_lone_nth, guest_nth}
 use Rattle.monitor.specs.Landings.{landing_of}
 use Rattle.monitor.specs.Reaches.{LandsIn, target_in}
 use Rattle.monitor.specs.declared.guest.Held.{Held}
 use Rattle.monitor.specs.Configs.{IsHolding}
-use Rattle.monitor.proofs.Steps.{with_guest_at, kept_slot, GuestAt, SlotAt, in_place, slots_lent, with_same}
+use Rattle.monitor.proofs.Steps.{kept_slot, GuestAt, SlotAt, in_place, slots_lent, with_same}
 use Rattle.monitor.proofs.Reached.{all_handed, block_shown, landed, claim_by_index, is_landing, lands_at}
 use Rattle.monitor.proofs.Calls.{Leaves, leaves}
 
@@ -43,6 +43,42 @@ landing_in_space memory addr slots = refl
 -- what `landing` says of slots
 abbrev pub Lands : List (Option Held) → Space → ℕ → Option (ℕ × ℕ × ℕ) → Type 0
 Lands slots space addr o = (s : State) (qs : List (Option Path)) (fs : Slots) → AreSlots s qs fs slots → option_map landing_of o ≡ landing_from 0 space addr fs
+
+-- ---- an access of a region of the function in a slot
+
+module _ {w : WorldNow} {h : HostState} {names : List Text} {gs : List Guest} {i : ℕ} {g : Guest} (at : GuestAt w h names gs i g) {n : ℕ} {held : Held} (slot : SlotAt at n held) (k off : ℕ) {r : Located} (found : r ≡ record { index = held.index; region = k; offset = off }) (width : ℕ) where
+  abbrev there : Landing
+  there = record { slot = n; place = block k off }
+
+  abbrev claimed : Claim
+  claimed = record { path = slot.p; index = k; offset = off }
+
+  claim_is : located_claim h.state.functions (Some r) ≡ Some claimed
+  claim_is = ap (λ (x : Located). located_claim h.state.functions (Some x)) found ∙ ap (λ (s : State). located_claim s.functions (Some (record { index = held.index; region = k; offset = off }))) at.kept.agrees ∙ claim_by_index at slot k off
+
+  pub read_there : {value : ℕ} → value ≡ claim_reply h.state.functions width (located_claim h.state.functions (Some r)) → answered value width ≡ perform reads width (lone_nth w i).slots (Some there)
+  read_there {value} reads_it =
+      ap (λ (x : ℕ). answered x width)
+      (reads_it ∙ ap (claim_reply h.state.functions width) claim_is ∙ ap (λ (s : State). claim_reply s.functions width (Some claimed)) at.kept.agrees
+      ∙ block_shown at slot k off width
+      ∙ ap (λ (o : Option Function). number (option_map_or (λ (f : Function). f.file) o []) (block k off) width) (sym slot.function))
+
+  module _ (v : ℕ) {new : HostState} (is_new : new ≡ with_functions (after_claim_write h.state.functions width v (located_claim h.state.functions (Some r))) h) where
+    abbrev own_change : File → File
+    own_change = write (all_bytes width) v (block k off)
+
+    alike : ChangesAlike own_change own_change
+    alike = subst (λ ons. ChangesAlike own_change (write ons v (block k off))) (all_handed k off (all_bytes width)) (writes_alike (all_bytes width) v (block k off))
+
+    pub written_there : Leaves (with_lone_nth i (record (lone_nth w i) { slots = effect (writes v) width (lone_nth w i).slots (Some there) }) w) h new names gs
+    written_there = leaves at.kept
+        (in_place at _ new
+        (kept_slot at slot own_change own_change alike (written_shape (all_bytes width) v (block k off))
+        held.own (block_written_held held.own slot.f.file slot.held.own (all_bytes width) v k off) refl
+        g refl (sym (set_same g.slots.items n (Some held) slot.holds))
+        new
+        (ap (λ (k : HostState). k.state) is_new ∙ ap (λ (c : Option Claim). record h.state { functions = after_claim_write h.state.functions width v c }) claim_is)))
+        refl
 
 -- ---- an access at a target, by what stands there
 
@@ -75,12 +111,6 @@ module _ {w : WorldNow} {h : HostState} {names : List Text} {gs : List Guest} {i
       abbrev of_slot : SlotAt at l.0 lands.held
       of_slot = lands_at at lands
 
-      abbrev place : Place
-      place = block l.1 l.2
-
-      abbrev claimed : Claim
-      claimed = record { path = of_slot.p; index = l.1; offset = l.2 }
-
       found_here : r ≡ landed at lands
       found_here =
           subst (λ (os : List (Option Held)). (holds : IsHolding os l.0) → r ≡ record { index = holds.held.index; region = l.1; offset = l.2 }) is found
@@ -91,34 +121,11 @@ module _ {w : WorldNow} {h : HostState} {names : List Text} {gs : List Guest} {i
           subst (λ (x : Located). IsLanding h.state.functions x width) (sym found_here)
           (subst (λ (s : State). IsLanding s.functions (landed at lands) width) (sym at.kept.agrees) (is_landing at lands width wide whole))
 
-      claim_is : located_claim h.state.functions (Some r) ≡ Some claimed
-      claim_is = ap (λ (x : Located). located_claim h.state.functions (Some x)) found_here ∙ ap (λ (s : State). located_claim s.functions (Some (landed at lands))) at.kept.agrees ∙ claim_by_index at lands
-
       pub reply_read : {value : ℕ} → value ≡ claim_reply h.state.functions width (located_claim h.state.functions (Some r)) → answered value width ≡ reply_at (lone_nth w i) reads width target
-      reply_read {value} reads_it =
-          ap (λ (x : ℕ). answered x width)
-          (reads_it ∙ ap (claim_reply h.state.functions width) claim_is ∙ ap (λ (s : State). claim_reply s.functions width (Some claimed)) at.kept.agrees
-          ∙ block_shown at of_slot l.1 l.2 width
-          ∙ ap (λ (o : Option Function). number (option_map_or (λ (f : Function). f.file) o []) place width) (sym of_slot.function))
-          ∙ ap (perform reads width (lone_nth w i).slots) (sym (lands_as (Some l) lands_there))
+      reply_read reads_it = read_there at of_slot l.1 l.2 found_here width reads_it ∙ ap (perform reads width (lone_nth w i).slots) (sym (lands_as (Some l) lands_there))
 
-      module _ (v : ℕ) {new : HostState} (is_new : new ≡ with_functions (after_claim_write h.state.functions width v (located_claim h.state.functions (Some r))) h) where
-        abbrev own_change : File → File
-        own_change = write (all_bytes width) v place
-
-        alike : ChangesAlike own_change own_change
-        alike = subst (λ ons. ChangesAlike own_change (write ons v place)) (all_handed l.1 l.2 (all_bytes width)) (writes_alike (all_bytes width) v place)
-
-        world : with_lone_nth i (after_access_at (lone_nth w i) (writes v) width target) w ≡ with_guest_at i (with_slot_changed own_change l.0 (guest_nth w i)) w
-        world = ap (λ (o : Option Landing). with_lone_nth i (record (lone_nth w i) { slots = effect (writes v) width (lone_nth w i).slots o }) w) (lands_as (Some l) lands_there)
-
-        pub region_written : Leaves (with_lone_nth i (after_access_at (lone_nth w i) (writes v) width target) w) h new names gs
-        region_written = leaves at.kept
-            (subst (λ (u : WorldNow). IsKept u new names gs) (sym world)
-            (in_place at _ new
-            (kept_slot at of_slot own_change own_change alike (written_shape (all_bytes width) v place)
-            lands.held.own (block_written_held lands.held.own of_slot.f.file of_slot.held.own (all_bytes width) v l.1 l.2) refl
-            g refl (sym (set_same g.slots.items l.0 (Some lands.held) lands.there))
-            new
-            (ap (λ (k : HostState). k.state) is_new ∙ ap (λ (c : Option Claim). record h.state { functions = after_claim_write h.state.functions width v c }) claim_is))))
-            refl
+      pub region_written : (v : ℕ) {new : HostState} → new ≡ with_functions (after_claim_write h.state.functions width v (located_claim h.state.functions (Some r))) h
+          → Leaves (with_lone_nth i (after_access_at (lone_nth w i) (writes v) width target) w) h new names gs
+      region_written v {new} is_new =
+          subst (λ (o : Option Landing). Leaves (with_lone_nth i (record (lone_nth w i) { slots = effect (writes v) width (lone_nth w i).slots o }) w) h new names gs) (sym (lands_as (Some l) lands_there))
+          (written_there at of_slot l.1 l.2 found_here width v is_new)

@@ -37,6 +37,7 @@ mod monitor;
 mod moving;
 mod own;
 mod raising;
+mod region_byte;
 mod regions;
 mod reset;
 mod restarting;

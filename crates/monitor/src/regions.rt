@@ -73,7 +73,7 @@ fn opens(held: &Held, space: Space) -> bool
 }
 
 /// The region of a function in a slot that begins at a base address register, if one does.
-fn region_kept(held: &Held, bar: usize) -> Option<RegionNow>
+pub(crate) fn region_kept(held: &Held, bar: usize) -> Option<RegionNow>
     ensures { (s : State) (p : Path) (f : Function) → IsHeld s p f held.now
         → IsLawfulOwn held.now.own →
         option_map region_named result ≡ option_map (region_now f.file) (region_at f bar) }

@@ -1,0 +1,127 @@
+-- An access of one byte of a region by slot and register: the checks in their order, where it lands, and the machine after it.
+use Rattle.std.proofs.Common.{◌≡◌, ◌<◌, ℕ, Bool, true, false, cond, eqb, List, [], Some, None, Option, Ok, Err, refl, sym, ap, ◌∙◌, subst, arith}
+use Rattle.std.specs.Prelude.{nat_lt, option_map, Result}
+use Rattle.std.specs.Option.{option_map_or, ok_or}
+use Rattle.std.proofs.lemmas.Bool.Decides.{nat_tests}
+use Rattle.lists.specs.Elements.{IsIn}
+use Rattle.lists.proofs.Indices.{found_at, index_in}
+use Rattle.model_registers.specs.OwnCopies.{IsLawfulOwn}
+use Rattle.model_registers.specs.Declarations.{Region}
+use Rattle.model_registers.specs.Decoding.{Function, space_of, is_open}
+use Rattle.model_board.specs.Paths.{Path}
+use Rattle.model_board.specs.State.{State}
+use Rattle.model_guests.specs.Accesses.{RaisePlace, in_config, in_region, Op, reads, writes, refused}
+use Rattle.model_guests.specs.Slots.{slot_at, perform}
+use Rattle.model_guests.specs.Lone.{LoneGuest}
+use Rattle.model_guests.specs.Text.{Text}
+use Rattle.model_guests.specs.WorldNow.{WorldNow}
+use Rattle.model_guests.specs.DeviceEvents.{DeviceByte}
+use Rattle.model_handoff.specs.GuestRegions.{RegionNow, region_at, region_now}
+use Rattle.model_handoff.specs.RegionBytes.{opening, byte_opening, byte_reply, reply_there, after_there, register_of}
+use Rattle.model_handoff.specs.Changes.{MachineNow}
+use Rattle.headers.specs.declared.place.Place as headers
+use Rattle.bridge_forward.specs.declared.bus.Located.{Located}
+use Rattle.host_bridge.specs.HostState.{HostState}
+use Rattle.host_bridge.specs.Landings.{IsLanding}
+use Rattle.accesses.specs.Accesses.{part_of}
+use Rattle.monitor.specs.declared.guest.Held.{Held}
+use Rattle.monitor.specs.declared.guest.Guest.{Guest}
+use Rattle.monitor.specs.ByIndex.{lone_nth, with_lone_nth}
+use Rattle.monitor.specs.Counts.{after_byte_nth}
+use Rattle.monitor.specs.Keeping.{IsHeld}
+use Rattle.monitor.specs.DeviceBytes.{device_byte}
+use Rattle.monitor.specs.InSlots.{IsInSlot, IsSlotFault}
+use Rattle.monitor.proofs.Steps.{GuestAt, SlotAt, slot_lent, slots_lent, with_same}
+use Rattle.monitor.proofs.Reached.{byte_landing_there}
+use Rattle.monitor.proofs.ConfigSteps.{seen}
+use Rattle.monitor.proofs.Checks.{low_slot}
+use Rattle.monitor.proofs.Machines.{untouched}
+
+-- ---- what is told of a region, and what it opens
+
+pub opening_told : (f : Function) (n off : ℕ) (o : Option RegionNow) → o ≡ option_map (region_now f.file) (region_at f n)
+    → option_map_or (λ (r : RegionNow). cond {A = Option Bool} (nat_lt off r.size) (Some r.is_open) None) o None ≡ opening f (in_region n) off
+opening_told f n off o is = by (region_at f n) o is
+  where
+    by : (q : Option Region) (o : Option RegionNow) → o ≡ option_map (region_now f.file) q
+        → option_map_or (λ (r : RegionNow). cond {A = Option Bool} (nat_lt off r.size) (Some r.is_open) None) o None
+        ≡ option_map_or (λ (r : Region). cond {A = Option Bool} (nat_lt off r.size) (Some (is_open f.file (space_of r.kind))) None) q None
+    by None o e = ap (λ (x : Option RegionNow). option_map_or (λ (r : RegionNow). cond {A = Option Bool} (nat_lt off r.size) (Some r.is_open) None) x None) e
+    by (Some q) o e = ap (λ (x : Option RegionNow). option_map_or (λ (r : RegionNow). cond {A = Option Bool} (nat_lt off r.size) (Some r.is_open) None) x None) e
+
+-- a region that opens, or is closed, to a byte
+pub record HasByte (f : Function) (n off : ℕ) : Type 0 where
+  pub region : Region
+  pub declared : IsIn region f.decl.regions
+  pub index : region.index ≡ n
+  pub inside : off < region.size
+
+pub has_byte : (f : Function) (part : RaisePlace) (off : ℕ) (t : Bool) → Some t ≡ opening f part off → HasByte f (register_of part) off
+has_byte f in_config off t is = cc
+has_byte f (in_region n) off t is = by (region_at f n) refl is
+  where
+    by : (q : Option Region) → region_at f n ≡ q → Some t ≡ option_map_or (λ (r : Region). cond {A = Option Bool} (nat_lt off r.size) (Some (is_open f.file (space_of r.kind))) None) q None → HasByte f n off
+    by None there e = cc
+    by (Some r) there e =
+        let found = found_at (λ (y : Region). eqb y.index n) f.decl.regions r there in
+        record {
+          region = r;
+          declared = index_in f.decl.regions found.1.0 r found.1.1;
+          index = grind (arith, nat_tests);
+          inside = grind (arith, nat_tests);
+        }
+
+-- ---- the checks
+
+module _ {w : WorldNow} {h : HostState} {names : List Text} {gs : List Guest} {i : ℕ} {g : Guest} (at : GuestAt w h names gs i g) {slots : List (Option Held)} (same : slots ≡ g.slots.items) (n : ℕ) (place : headers.Place) (off : ℕ) where
+  abbrev d : DeviceByte
+  d = device_byte n place off
+
+  pub slot_refused : {number : ℕ} → IsSlotFault slots n number → byte_opening (lone_nth w i) d ≡ Err number
+  slot_refused {number} fault = let it = fault w.handoff _ (lone_nth w i).slots (slots_lent at same) in grind arith
+
+  module _ {held : Held} (is : IsInSlot slots n held) {o : Option Bool} (told : (s : State) (p : Path) (f : Function) → IsHeld s p f held → IsLawfulOwn held.own → o ≡ opening f (part_of place) off) where
+    abbrev slot : SlotAt at n held
+    slot = slot_lent at same is.there
+
+    opens : o ≡ opening slot.f (part_of place) off
+    opens = told w.handoff slot.p slot.f slot.held (seen at slot).lawful
+
+    pub opening_is : byte_opening (lone_nth w i) d ≡ ok_or o 303
+    opening_is =
+        ap (λ (t : Bool). cond {A = Result Bool ℕ} t (Err 303) (option_map_or (λ (f : Function). ok_or (opening f (part_of place) off) 303) (slot_at (lone_nth w i).slots n) (Err 601))) (low_slot is.low)
+        ∙ ap (λ (x : Option Function). option_map_or (λ (f : Function). ok_or (opening f (part_of place) off) 303) x (Err 601)) slot.function
+        ∙ ap (λ (x : Option Bool). ok_or x 303) (sym opens)
+
+    pub lands : {t : Bool} → o ≡ Some t → {r : Located} → r ≡ record { index = held.index; region = register_of (part_of place); offset = off } → IsLanding h.state.functions r 1
+    lands {t} some {r} found =
+        let byte = has_byte slot.f (part_of place) off t (sym some ∙ opens) in
+        subst (λ (x : Located). IsLanding h.state.functions x 1)
+        (ap (λ (k : ℕ). let x : Located = record { index = held.index; region = k; offset = off } in x) byte.index ∙ sym found)
+        (subst (λ (s : State). IsLanding s.functions (record { index = held.index; region = byte.region.index; offset = off }) 1) (sym at.kept.agrees)
+        (byte_landing_there at slot byte.region byte.declared off byte.inside))
+
+-- ---- an access that is refused, that a closed region drops, or that reads
+
+closed_stays : (g : LoneGuest) (op : Op) (d : DeviceByte) → after_there g op d (Ok false) ≡ g
+closed_stays g reads d = refl
+closed_stays g (writes v) d = refl
+
+nowhere : (g : LoneGuest) (op : Op) (d : DeviceByte) → perform op 1 [] None ≡ reply_there g op d (Ok false)
+nowhere g reads d = refl
+nowhere g (writes v) d = refl
+
+module _ {m : MachineNow} {h : HostState} {names : List Text} {gs : List Guest} {i : ℕ} {g : Guest} (at : GuestAt m.world h names gs i g) (op : Op) (d : DeviceByte) where
+  stays : {x : Result Bool ℕ} → byte_opening (lone_nth m.world i) d ≡ x → after_there (lone_nth m.world i) op d x ≡ lone_nth m.world i → m ≡ after_byte_nth i op d m
+  stays {x} is same =
+      untouched m i _ false
+      (sym (with_same at) ∙ ap (λ (l : LoneGuest). with_lone_nth i l m.world) (sym (ap (after_there (lone_nth m.world i) op d) is ∙ same))) refl
+
+  pub byte_refused : {number : ℕ} → byte_opening (lone_nth m.world i) d ≡ Err number → (refused number ≡ byte_reply (lone_nth m.world i) op d) × (m ≡ after_byte_nth i op d m)
+  byte_refused is = (sym (ap (reply_there (lone_nth m.world i) op d) is), stays is refl)
+
+  pub byte_closed : byte_opening (lone_nth m.world i) d ≡ Ok false → (perform op 1 [] None ≡ byte_reply (lone_nth m.world i) op d) × (m ≡ after_byte_nth i op d m)
+  byte_closed is = (nowhere (lone_nth m.world i) op d ∙ sym (ap (reply_there (lone_nth m.world i) op d) is), stays is (closed_stays (lone_nth m.world i) op d))
+
+pub read_stays : {m : MachineNow} {h : HostState} {names : List Text} {gs : List Guest} {i : ℕ} {g : Guest} → GuestAt m.world h names gs i g → (d : DeviceByte) → byte_opening (lone_nth m.world i) d ≡ Ok true → m ≡ after_byte_nth i reads d m
+read_stays {m} at d is = stays {m = m} at reads d is refl

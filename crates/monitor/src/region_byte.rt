@@ -1,0 +1,98 @@
+//! A guest's access of one byte of a region, told by slot and base address register.
+ghost use Rattle.std.specs.Prelude.{◌≡◌, ◌<◌, length};
+ghost use Rattle.model_registers.specs.OwnCopies.{IsLawfulOwn};
+ghost use Rattle.model_registers.specs.Decoding.{Function};
+ghost use Rattle.model_board.specs.Paths.{Path};
+ghost use Rattle.model_board.specs.State.{State};
+ghost use Rattle.model_guests.specs.Accesses.{reads};
+ghost use Rattle.model_handoff.specs.RegionBytes.{byte_reply, opening, register_of};
+ghost use Rattle.accesses.specs.Accesses.{op_of, part_of, reply_of};
+ghost use Rattle.accesses.specs.Replies.{IsRefusal, IsShown};
+ghost use Rattle.monitor.specs.Keeping.{IsHeld};
+ghost use Rattle.monitor.specs.ByIndex.{lone_nth};
+ghost use Rattle.monitor.specs.Counts.{after_byte_nth};
+ghost use Rattle.monitor.specs.DeviceBytes.{device_byte};
+
+use crate::config::function_in;
+use crate::engine::Engine;
+use crate::guest::Held;
+use crate::regions::region_kept;
+use accesses::{Op, Place, Refusal, Reply, nothing};
+use host_bridge::{Located, Route};
+
+/// Whether the guest's own Command opens a region of a function to a byte, where a region has the byte.
+fn opening(held: &Held, place: Place, off: u64) -> Option<bool>
+    ensures { (s : State) (p : Path) (f : Function) → IsHeld s p f held.now
+        → IsLawfulOwn held.now.own → result ≡ opening f (part_of place) off }
+{
+    let Place::Bar(register) = place else {
+        return None;
+    };
+    let Some(region) = region_kept(held, usize::from(register)) else {
+        return None;
+    };
+    if off < region.size {
+        Some(region.is_open)
+    } else {
+        None
+    }
+}
+
+/// Where a byte of a region of a function stands on the board.
+fn byte_at(held: &Held, place: Place, off: u64) -> Located
+    ensures { result
+        ≡ record { index = held.now.index; region = register_of (part_of place); offset = off } }
+{
+    let region = match place {
+        Place::Bar(register) => register,
+        Place::Cfg => 0,
+    };
+    Located {
+        index: held.index,
+        region,
+        offset: off,
+    }
+}
+
+impl<R: Route> Engine<R> {
+    ghost use Rattle.monitor.specs.Views.{texts, machine_shown};
+    ghost use Rattle.monitor.specs.Keeping.{IsSound};
+
+    /// Reads or writes one byte of a region of a guest's function, as an access of the guest does that lands
+    /// there by its address: while Command closes the region a read gives all ones and a write is dropped. Where
+    /// regions of the guest stand at one address, each is reached. Or refuses and changes nothing: 303 for a slot
+    /// above 31, else 601 for an empty slot, else 303 for a place that is no region, or an offset that is not
+    /// below its size. No memory is taken.
+    pub fn region_byte(&mut self, guest: usize, slot: u64, place: Place, off: u64, op: Op) -> Reply
+        requires { guest < length self.old.world.guests }
+        ensures reply { reply_of result
+            ≡ byte_reply (lone_nth self.old.world guest) (op_of op) (device_byte slot place off) }
+        ensures after { self.new
+            ≡ after_byte_nth guest (op_of op) (device_byte slot place off) self.old }
+        ensures read { op_of op ≡ reads → self.new ≡ self.old }
+        ensures shown { IsShown result }
+        ensures refused { IsRefusal result → self.new ≡ self.old }
+    {
+        let held = match function_in(&self.guests[guest].slots, slot) {
+            Ok(held) => held,
+            Err(why) => return Reply::Refused(why),
+        };
+        let Some(opened) = opening(held, place, off) else {
+            return Reply::Refused(Refusal::Range);
+        };
+        if !opened {
+            return nothing(op, 1);
+        }
+        let at = byte_at(held, place, off);
+        match op {
+            Op::Read => {
+                let value = self.host.region_read(at, 1);
+                Reply::Value(value, 1)
+            }
+            Op::Write(value) => {
+                self.host.region_write(at, 1, value);
+                Reply::Done
+            }
+        }
+    }
+}
