@@ -19,9 +19,6 @@ asked_false a b h k = rw (h, k)
 pub asked_true : (a b : Bool) → a ≡ true → (not a || b) ≡ true → b ≡ true
 asked_true a b h k = grind arith
 
-pub asked_parts : (a b : Bool) → (not a || b) ≡ false → (a ≡ true) × (b ≡ false)
-asked_parts a b h = grind arith
-
 pub and_true : (a : Bool) → (a && true) ≡ a
 and_true a = grind arith
 

@@ -1,14 +1,11 @@
 -- A region begins at a multiple of 4, so an access lies in the same byte lanes in the region as at its address.
 use Rattle.std.proofs.Common.{◌≡◌, ℕ, ◌%◌, List, Some, arith}
 use Rattle.model_registers.proofs.HitRegions.{hit_is_of_region}
-use Rattle.model_registers.specs.Decoding.{Space, Hit}
+use Rattle.model_registers.specs.Decoding.{Space}
 use Rattle.model_board.specs.State.{BoardFunction}
 use Rattle.model_board.specs.Claims.{Claim, claim_of}
 use Rattle.model_board.specs.PortLaws.{ClaimsKeepLanes}
 use Rattle.lists.proofs.FirstFound.{first_some_has}
-
-abbrev IsInLane : ℕ → Hit → Type 0
-IsInLane a h = h.offset % 4 ≡ a % 4
 
 function_in_lane : (fs : List BoardFunction) (space : Space) (a : ℕ) (f : BoardFunction) (c : Claim) → claim_of fs space a f ≡ Some c → c.offset % 4 ≡ a % 4
 function_in_lane fs space a f c = grind (arith, hit_is_of_region)

@@ -12,7 +12,7 @@ use Rattle.lists.proofs.EachLemmas.{each_map, each_both}
 
 -- ---- path order is total
 
-part_turn : (a b : Part) → part_eq a b ≡ true → part_eq b a ≡ true
+pub part_turn : (a b : Part) → part_eq a b ≡ true → part_eq b a ≡ true
 part_turn a b h = grind (arith, nat_tests)
 
 pub path_total : (p q : Path) → path_before p q ≡ false → path_eq p q ≡ false → path_before q p ≡ true

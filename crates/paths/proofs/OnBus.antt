@@ -1,20 +1,16 @@
 -- Path order on one bus: one part tells it.
 use Rattle.std.proofs.Common.{◌≡◌, ℕ, ◌+◌, ◌<◌, ◌≤◌, Bool, true, false, ◌&&◌, ◌||◌, [], ◌∷◌, ◌++◌, length, get_or, refl, ap, sym, ◌∙◌, arith, inl, inr, ◌⊎◌, subst}
 use Rattle.std.proofs.lemmas.Bool.Decides.{nat_tests}
-use Rattle.lists.proofs.Tests.{left_true, right_true}
+use Rattle.lists.proofs.Tests.{left_true, right_true, and_true, and_false}
 use Rattle.model_board.specs.Paths.{Part, Path, part_eq, part_before, path_eq, path_before, leads_to}
+use Rattle.model_board.proofs.PlacesLaw.{part_turn}
 
 or_false : (a b : Bool) → (a || (b && false)) ≡ a
-or_false true b = refl
-or_false false true = refl
-or_false false false = refl
+or_false a b = grind arith
 
 -- equal parts are in no order
 not_before : (a b : Part) → part_eq a b ≡ true → part_before b a ≡ false
 not_before a b h = grind (arith, nat_tests)
-
-turned : (a b : Part) → part_eq a b ≡ true → part_eq b a ≡ true
-turned a b h = grind (arith, nat_tests)
 
 pub before_on : (bus p : Path) (t d : Part) → leads_to bus p ≡ true → path_before p (bus ++ t ∷ []) ≡ part_before (get_or p (length bus) d) t
 before_on [] [] t d h = absurd (cc)
@@ -23,34 +19,26 @@ before_on [] (x ∷ y ∷ p) t d h = or_false (part_before x t) (part_eq x t)
 before_on (a ∷ bus) [] t d h = absurd (cc)
 before_on (a ∷ bus) (x ∷ p) t d h =
     let same : part_eq a x ≡ true = left_true (part_eq a x) (leads_to bus p) h in
-    rw (not_before a x same, turned a x same) (before_on bus p t d (right_true (part_eq a x) (leads_to bus p) h))
+    rw (not_before a x same, part_turn a x same) (before_on bus p t d (right_true (part_eq a x) (leads_to bus p) h))
 
 -- a path that goes on behind the part is another
 pub other_on : (bus p : Path) (t : Part) → leads_to bus p ≡ true → length bus + 1 < length p → path_eq p (bus ++ t ∷ []) ≡ false
 other_on [] [] t h l = absurd (cc)
 other_on [] (x ∷ []) t h l = absurd (omega arith)
 other_on [] (x ∷ y ∷ p) t h l = and_false (part_eq x t)
-  where
-    and_false : (a : Bool) → (a && false) ≡ false
-    and_false true = refl
-    and_false false = refl
 other_on (a ∷ bus) [] t h l = absurd (cc)
 other_on (a ∷ bus) (x ∷ p) t h l =
     let same : part_eq a x ≡ true = left_true (part_eq a x) (leads_to bus p) h in
-    rw (turned a x same) (other_on bus p t (right_true (part_eq a x) (leads_to bus p) h) (omega arith))
+    rw (part_turn a x same) (other_on bus p t (right_true (part_eq a x) (leads_to bus p) h) (omega arith))
 
 pub same_on : (bus p : Path) (t d : Part) → leads_to bus p ≡ true → length p ≤ length bus + 1 → path_eq p (bus ++ t ∷ []) ≡ part_eq (get_or p (length bus) d) t
 same_on [] [] t d h l = absurd (cc)
 same_on [] (x ∷ []) t d h l = and_true (part_eq x t)
-  where
-    and_true : (a : Bool) → (a && true) ≡ a
-    and_true true = refl
-    and_true false = refl
 same_on [] (x ∷ y ∷ p) t d h l = absurd (omega arith)
 same_on (a ∷ bus) [] t d h l = absurd (cc)
 same_on (a ∷ bus) (x ∷ p) t d h l =
     let same : part_eq a x ≡ true = left_true (part_eq a x) (leads_to bus p) h in
-    rw (turned a x same) (same_on bus p t d (right_true (part_eq a x) (leads_to bus p) h) (omega arith))
+    rw (part_turn a x same) (same_on bus p t d (right_true (part_eq a x) (leads_to bus p) h) (omega arith))
 
 -- ---- the part that was read
 
