@@ -224,8 +224,7 @@ of_function b a pool w p (bridge d) what m = of_row b a pool w p (items_on b a p
 pub bridge_window : (b : Board) (a : Apertures) → HasRows b a → (w : LayoutRow) → IsIn w (layout b a) → w.what ≡ a_window → IsBridgeWindow b a w
 bridge_window b a has w m what =
     let f = from_flat_map (pool_rows b a) w (io_pool ∷ mem_pool ∷ pref_pool ∷ []) m in
-    let g = each_in (λ (l : LayoutRow). (r : Row) × IsIn r b × IsRowFor b a f.0 l r.path r.decl) w (pool_rows b a f.0) (has.no_others f.0) f.2 in
-    of_function b a f.0 w g.0.path g.0.decl what g.2
+    grind (arith, each_in, of_function)
 
 -- ---- a window with items holds the addresses inside it
 
@@ -235,9 +234,5 @@ in_window unit first is i n m l u = grind (arith, le-leb)
 module _ (b : Board) (a : Apertures) (p : Path) (d : Bridge) (forwards : ForwardsPlaced b a p d) (i : Item) (n : ℕ) where
   pub window_holds : (pool : Pool) → IsIn i (items_on b a pool p) → bus_first b a pool p ≤ n → n < bus_first b a pool p + need (unit_of pool) (items_on b a pool p) → is_in_window d (set_up_file b a p (bridge d)) (pool_space pool) n ≡ true
   window_holds io_pool m l u = ap (is_in n) forwards.io ∙ in_window (unit_of io_pool) (bus_first b a io_pool p) (items_on b a io_pool p) i n m l u
-  window_holds mem_pool m l u =
-      or_left (is_in n (mem_window (set_up_file b a p (bridge d)))) (is_in n (pref_window d.pref (set_up_file b a p (bridge d))))
-      (ap (is_in n) forwards.mem ∙ in_window (unit_of mem_pool) (bus_first b a mem_pool p) (items_on b a mem_pool p) i n m l u)
-  window_holds pref_pool m l u =
-      or_right (is_in n (mem_window (set_up_file b a p (bridge d)))) (is_in n (pref_window d.pref (set_up_file b a p (bridge d))))
-      (ap (is_in n) forwards.pref ∙ in_window (unit_of pref_pool) (bus_first b a pref_pool p) (items_on b a pref_pool p) i n m l u)
+  window_holds mem_pool m l u = grind (arith, or_left, in_window)
+  window_holds pref_pool m l u = grind (arith, or_right, in_window)

@@ -1,5 +1,6 @@
 -- The rows of compact placement are those of the regions and windows that the board declares, one each.
-use Rattle.std.proofs.Common.{◌≡◌, ℕ, ◌+◌, ◌<◌, inl, Bool, true, false, ◌&&◌, List, [], ◌∷◌, ◌++◌, length, refl, sym, ap, ap₂, ◌∙◌, subst, arith}
+use Rattle.std.proofs.lemmas.Grind.{common_steps}
+use Rattle.std.proofs.Common.{◌≡◌, ℕ, ◌+◌, ◌<◌, inl, Bool, true, false, ◌&&◌, List, [], ◌∷◌, ◌++◌, length, refl, sym, ap, ap₂, ◌∙◌, subst, arith, rules}
 use Rattle.std.specs.Prelude.{filter}
 use Rattle.std.proofs.lemmas.Bool.{and_parts}
 use Rattle.std.proofs.lemmas.Bool.Decides.{nat_tests}
@@ -8,8 +9,8 @@ use Rattle.model_registers.specs.Declarations.{Endpoint, Region}
 use Rattle.model_board.specs.Board.{Board, Row, Decl, endpoint, bridge, IsBoard}
 use Rattle.model_board.specs.Paths.{Part, Path, path_eq, parent, last_part, IsPath}
 use Rattle.model_registers.specs.Apertures.{Apertures}
-use Rattle.model_set_up.specs.Pools.{Pool, same_pool, unit_of, bridges_above, pool_of}
-use Rattle.model_set_up.specs.Placement.{Placed, a_region, a_window, same_placed, Item, Spot, spots, need, region_item, items_on, offset_on, bus_first, region_first}
+use Rattle.model_set_up.specs.Pools.{Pool, same_pool, bridges_above, pool_of}
+use Rattle.model_set_up.specs.Placement.{Placed, a_region, a_window, same_placed, Item, Spot, spots, region_item, items_on, offset_on, bus_first, region_first}
 use Rattle.model_set_up.specs.Layout.{LayoutRow, row_of, bus_rows, buses, pool_rows}
 use Rattle.model_board.specs.Lawful.{HasLawfulDecls}
 use Rattle.model_set_up.specs.PlacementLaws.{pool_at, region_row, window_row, window_rows, rows_at, HasOwnRows, IsRowFor, RowsAreDeclared}
@@ -17,7 +18,7 @@ use Rattle.lists.proofs.Members.{each_in, each_from, from_map, in_map, in_filter
 use Rattle.model_set_up.proofs.PlacedApart.{pool_is}
 use Rattle.model_board.proofs.PathOrder.{path_same}
 use Rattle.model_board.proofs.PathEnds.{snoc, path_self, parent_snoc, path_eq-snoc, path_eq-sym}
-use Rattle.model_set_up.proofs.Items.{spot_of, item_of, SpotsDiffer, spots_differ, same_placed-sym, items_for, region_of_item, Origin, origin, on_own_bus, items_differ}
+use Rattle.model_set_up.proofs.Items.{spot_of, item_of, spots_differ, same_placed-sym, items_for, region_of_item, Origin, origin, on_own_bus, items_differ}
 use Rattle.model_set_up.proofs.Nesting.{HasItems, WindowOn, offset_of, window_of, window_above}
 use Rattle.model_set_up.proofs.LawfulPlacement.{buses_differ, pool_self, OnBus, on_bus_row, row_in}
 
@@ -47,10 +48,7 @@ module _ (b : Board) (a : Apertures) (pool : Pool) (board : IsBoard b) (lawful :
   the_row bus s = row_of pool bus (bus_first b a pool bus) s
 
   bus_rows_differ : (bus : Path) → EachPair RowsDiffer (bus_rows b a pool bus)
-  bus_rows_differ bus =
-      pairs_of_map RowsDiffer (row_of pool bus (bus_first b a pool bus)) (spots (items_on b a pool bus))
-      (pairs_weaker SpotsDiffer (λ s t. RowsDiffer (the_row bus s) (the_row bus t)) (spots (items_on b a pool bus)) (spots_differ (items_on b a pool bus) (items_differ b a pool board lawful bus))
-      (λ s t m k h. ap (λ (v : Bool). v && same_placed s.item.what t.item.what) (path_eq-snoc bus s.item.part t.item.part) ∙ h))
+  bus_rows_differ bus = search (rules, pairs_of_map, pairs_weaker, spots_differ, items_differ, path_eq-snoc)
 
   pub rows_differ : EachPair RowsDiffer (pool_rows b a pool)
   rows_differ =
@@ -60,17 +58,11 @@ module _ (b : Board) (a : Apertures) (pool : Pool) (board : IsBoard b) (lawful :
       of_two : (x y : Path) → path_eq x y ≡ false → (r s : LayoutRow) → (t : Spot) × IsIn t (spots (items_on b a pool x)) × (r ≡ the_row x t) → (u : Spot) × IsIn u (spots (items_on b a pool y)) × (s ≡ the_row y u)
           → (v : Bool) → path_eq r.path s.path ≡ v → RowsDiffer r s
       of_two x y other r s (t, m, e) (u, k, f) false apart = rw apart
-      of_two x y other r s (t, m, e) (u, k, f) true meet =
-          let up : parent r.path ≡ x = ap (λ (w : LayoutRow). parent w.path) e ∙ parent_snoc x t.item.part in
-          let down : parent s.path ≡ y = ap (λ (w : LayoutRow). parent w.path) f ∙ parent_snoc y u.item.part in
-          let same : x ≡ y = sym up ∙ ap parent (path_same r.path s.path meet) ∙ down in
-          let equal : path_eq x y ≡ true = subst (λ (z : Path). path_eq x z ≡ true) same (path_self x) in
-          let no : true ≡ false = sym equal ∙ other in cc
+      of_two x y other r s (t, m, e) (u, k, f) true meet = grind (arith, nat_tests, common_steps, parent_snoc, path_same, path_self)
 
   -- a row is the only one for its region or window
   pub only_row : (x : LayoutRow) → IsIn x (pool_rows b a pool) → filter (λ r. path_eq r.path x.path && same_placed r.what x.what) (pool_rows b a pool) ≡ x ∷ []
-  only_row x m =
-      one_passes (λ r. path_eq r.path x.path && same_placed r.what x.what) RowsDiffer x (pool_rows b a pool) rows_differ (λ y h. differ_sym x y h) (λ y h. h) (rw (path_self x.path, placed_self x.what)) m
+  only_row x m = grind (arith, one_passes, rows_differ, differ_sym, path_self, placed_self)
 
   -- ---- the row at a spot
 
@@ -86,9 +78,7 @@ module _ (b : Board) (a : Apertures) (pool : Pool) (board : IsBoard b) (lawful :
   pub window_row_at : (p : Path) (bus : Path) (s : Spot) → IsIn s (spots (items_on b a pool bus)) → p ≡ bus ++ s.item.part ∷ [] → s.item.what ≡ a_window → the_row bus s ≡ window_row b a pool p
   window_row_at p bus s m path what =
       let w = window_of b a pool board lawful bus s m what in
-      same_row pool (sym path) what
-      (ap (λ (t : Spot). bus_first b a pool bus + t.first) (sym w.1) ∙ sym w.0.first_is ∙ ap (bus_first b a pool) (sym path))
-      (ap (λ (t : Spot). t.item.size) (sym w.1) ∙ w.0.size_is ∙ ap (λ (x : Path). need (unit_of pool) (items_on b a pool x)) (sym path))
+      grind (arith, same_row)
 
   -- ---- each region and each window has its row
 

@@ -1,6 +1,6 @@
 -- A board as it was found: each row keeps its path, whether it is a bridge, its regions but for their cells, and its decodes.
-use Rattle.std.proofs.Common.{◌≡◌, ℕ, ◌+◌, ◌≤◌, Bool, ◌&&◌, ◌||◌, cond, List, [], ◌∷◌, ◌++◌, length, Some, refl, sym, ap, ap₂, ◌∙◌, subst, ◌⊎◌, arith, rules, zero, suc}
-use Rattle.std.specs.Prelude.{map, filter, flat_map, IsTrue, count_by}
+use Rattle.std.proofs.Common.{◌≡◌, ℕ, ◌+◌, ◌≤◌, Bool, ◌&&◌, ◌||◌, cond, List, [], ◌∷◌, ◌++◌, length, Some, refl, sym, ap, ap₂, ◌∙◌, subst, arith, rules, zero, suc}
+use Rattle.std.specs.Prelude.{map, filter, flat_map, count_by}
 use Rattle.std.specs.List.{list_all, list_any}
 use Rattle.std.proofs.lemmas.List.{map-append}
 use Rattle.std.proofs.lemmas.List.Folds.{list_all-map, flat_map-map}
@@ -10,7 +10,7 @@ use Rattle.std.proofs.lemmas.List.Sums.{sum_by-cons}
 use Rattle.lists.specs.Elements.{Each}
 use Rattle.model_registers.specs.Declarations.{Kind, Region, Endpoint, Bridge}
 use Rattle.model_registers.specs.OwnCopies.{bare}
-use Rattle.model_board.specs.Paths.{Path, path_eq, path_before, leads_to, parent, IsPath, function_zero, last_part}
+use Rattle.model_board.specs.Paths.{Path, path_eq, path_before, leads_to, parent, last_part}
 use Rattle.model_board.specs.Board.{Decl, endpoint, bridge, is_bridge, Row, Board, stands_at, is_bridge_at, IsBoard, rows_on}
 use Rattle.model_board.specs.BusNumbers.{secondary, subordinate, bus_behind, bus_of, Enumerates}
 use Rattle.model_board.specs.Lawful.{HasLawfulDecls}
@@ -78,16 +78,7 @@ found_stands [] p = refl
 found_stands (r ∷ b) p = ap (λ t. path_eq r.path p || t) (found_stands b p)
 
 pub found_places : (b : Board) → IsBoard b → IsBoard (found_board b)
-found_places b h = record {
-  paths = each_of_map (λ (r : Row). IsPath r.path) found_row b h.paths;
-  in_order = pairs_of_map (λ (r s : Row). IsTrue (path_before r.path s.path)) found_row b h.in_order;
-  behind_bridges =
-      each_of_map (λ (r : Row). (parent r.path ≡ []) ⊎ IsTrue (is_bridge_at (found_board b) (parent r.path))) found_row b
-      (subst (λ (f : Path → Bool). Each (λ (r : Row). (parent r.path ≡ []) ⊎ IsTrue (f (parent r.path))) b) (λ i p. sym (found_bridge_at b p) i) h.behind_bridges);
-  function_zeros =
-      each_of_map (λ (r : Row). IsTrue (stands_at (found_board b) (function_zero r.path))) found_row b
-      (subst (λ (f : Path → Bool). Each (λ (r : Row). IsTrue (f (function_zero r.path))) b) (λ i p. sym (found_stands b p) i) h.function_zeros);
-}
+found_places b h = search (rules, each_of_map, pairs_of_map, found_bridge_at, found_stands)
 
 -- ---- bus numbers
 
@@ -258,9 +249,7 @@ module _ (b : Board) (a : Apertures) where
 -- as many bridges stand in the table
 all_bridges : (b : Board) → count_by (λ (r : Row). is_bridge r.decl) (found_board b) ≡ count_by (λ (r : Row). is_bridge r.decl) b
 all_bridges [] = refl
-all_bridges (r ∷ b) =
-    sum_by-cons (λ (s : Row). one (is_bridge s.decl)) (found_row r) (found_board b) ∙ ap₂ (λ t n. one t + n) (found_is_bridge r.decl) (all_bridges b)
-    ∙ sym (sum_by-cons (λ (s : Row). one (is_bridge s.decl)) r b)
+all_bridges (r ∷ b) = search (rules, sum_by-cons, one, found_is_bridge, all_bridges b)
 
 pub found_few : (b : Board) → Enumerates b → Enumerates (board_in (sized_table b))
 found_few b few = subst Enumerates (sym (board_in_table b)) (subst (λ n. n ≤ 255) (sym (all_bridges b)) few)

@@ -1,5 +1,5 @@
 -- Items in order are a sorted permutation, and on a bus the only one.
-use Rattle.std.proofs.Common.{◌≡◌, ℕ, zero, suc, ◌<◌, ◌⊎◌, inl, inr, Bool, true, false, ◌&&◌, cond, List, [], ◌∷◌, length, refl, sym, ap₂, ◌∙◌, subst, arith, eqb, IsPermutation, get_or, add-one}
+use Rattle.std.proofs.Common.{◌≡◌, ℕ, zero, suc, ◌<◌, ◌⊎◌, inl, inr, Bool, true, false, ◌&&◌, cond, List, [], ◌∷◌, length, refl, sym, ap₂, ◌∙◌, subst, arith, eqb, IsPermutation, get_or, add-one, rules}
 use Rattle.std.specs.List.{IsDistinct}
 use Rattle.std.proofs.lemmas.Bool.Decides.{nat_tests}
 use Rattle.std.proofs.lemmas.List.Sorted.{IsPermutation-refl, IsPermutation-cons, IsPermutation-swap, IsPermutation-trans, IsPermutation-sym}
@@ -128,9 +128,7 @@ ranked b a pool bus board lawful = items_pairs b a pool board Ranked (λ i j e. 
 
 -- the items of a bus stand in strict order
 pub items_strict : (b : Board) (a : Apertures) (pool : Pool) (bus : Path) → IsBoard b → HasLawfulDecls b → EachPair Strictly (in_order (items_on b a pool bus))
-items_strict b a pool bus board lawful =
-    let is : List Item = items_on b a pool bus in
-    strict_pairs (in_order is) (order_pairs is) (pairs_in_order Ranked (λ i j e. is_same-sym j i ∙ e) is (ranked b a pool bus board lawful))
+items_strict b a pool bus board lawful = search (rules, strict_pairs, order_pairs, pairs_in_order, is_same-sym, ranked)
 
 pub one_order : OneOrder
 one_order b a pool bus board lawful js h =

@@ -84,11 +84,7 @@ window_of_another_bridge h = let e : false ≡ true = h.under_windows.0.there.0 
 -- ---- the main board keeps the premises
 
 pub main_apertures_lawful : IsLawfulApertures main_apertures
-main_apertures_lawful = record {
-  io = record { units = record { not_empty = lit≤ tt; begins = refl; ends = refl }; begins = lit≤ tt; ends = lit≤ tt };
-  mem = record { units = record { not_empty = lit≤ tt; begins = refl; ends = refl }; ends = lit< tt };
-  pref = record { units = record { not_empty = lit≤ tt; begins = refl; ends = refl }; ends = lit< tt; one_side = inr (lit≤ tt); apart = inl (lit< tt) };
-}
+main_apertures_lawful = grind (arith, lit≤, lit<)
 
 main_pools_fit : (pool : Pool) → IsTrue (fits main_board main_apertures pool)
 main_pools_fit io_pool = refl

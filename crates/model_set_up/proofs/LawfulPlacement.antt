@@ -1,5 +1,5 @@
 -- Where a pool fits, the rows of its compact placement are lawful.
-use Rattle.std.proofs.Common.{◌≡◌, ℕ, ◌+◌, ◌%◌, ◌≤◌, ◌<◌, ◌⊎◌, inl, inr, Bool, true, false, ◌&&◌, List, [], ◌∷◌, ◌++◌, length, Option, MatchOption, refl, sym, ap, ap₂, ◌∙◌, subst, arith}
+use Rattle.std.proofs.Common.{◌≡◌, ℕ, ◌+◌, ◌%◌, ◌≤◌, ◌<◌, ◌⊎◌, inl, inr, Bool, true, false, ◌&&◌, List, [], ◌∷◌, ◌++◌, length, Option, MatchOption, refl, sym, ap, ap₂, ◌∙◌, subst, arith, rules}
 use Rattle.std.specs.Prelude.{IsTrue, map, filter, nat_le}
 use Rattle.std.specs.List.{list_any}
 use Rattle.std.specs.Option.{option_map_or}
@@ -19,9 +19,8 @@ use Rattle.model_set_up.specs.PlacementLaws.{PoolsAreLawful, LayoutIsLawful}
 use Rattle.lists.proofs.Members.{each_in, each_from, in_flat_map, from_flat_map, in_map, from_map, in_filter, from_filter, any_in, from_any, pairs_weaker, pairs_flat_map, pairs_of_map}
 use Rattle.lists.proofs.EachLemmas.{pairs_filter}
 use Rattle.model_set_up.proofs.PlacedApart.{pool_is}
-use Rattle.model_board.proofs.PathOrder.{path_same}
 use Rattle.model_board.proofs.PlacesLaw.{before_apart}
-use Rattle.model_board.proofs.PathEnds.{snoc, path_self, parent_snoc, leads_up, not_before_itself}
+use Rattle.model_board.proofs.PathEnds.{snoc, path_self, parent_snoc, leads_up}
 use Rattle.model_set_up.proofs.Packing.{Divides, divides_chain, powers_divide, unit_positive, round_up_not_before}
 use Rattle.model_set_up.proofs.Items.{item_of, unit_power, unit_below, AlignsAs, IsPlaceable, some_end, end_below_need, items_placeable}
 use Rattle.model_set_up.proofs.Nesting.{HasItems, bus_end, WindowOn, window_of, window_above, root_has, spot_placeable, bus_run, spot_aligned, bus_aligned, IsWithin, nested, items_above, bridge_of_bus}
@@ -103,8 +102,7 @@ module _ (b : Board) (a : Apertures) (pool : Pool) (board : IsBoard b) (lawful :
   row_aligned : (bus : Path) (s : Spot) → IsIn s (spots (items_on b a pool bus)) → IsAligned (the_row bus s) s.item.what
   row_aligned bus s m =
       let whole : IsPlaceable (unit_of pool) s.item = spot_placeable b a pool board lawful bus s m in
-      aligned_as s.item (bus ++ s.item.part ∷ []) s.item.what pool (bus_first b a pool bus + s.first) s.item.what whole.power (unit_power pool) whole.aligns
-      (spot_aligned b a pool board lawful bus (bus_aligned b a pool board lawful bus (spot_has bus s m)) s m)
+      search (rules, aligned_as, unit_power, spot_aligned, bus_aligned, spot_has)
 
   -- a spot's row stands inside each bus that leads to it
   row_inside : (bus : Path) (s : Spot) → IsIn s (spots (items_on b a pool bus)) → (q : Path) → (q ≡ bus) ⊎ (leads_to q bus ≡ true)
@@ -112,8 +110,7 @@ module _ (b : Board) (a : Apertures) (pool : Pool) (board : IsBoard b) (lawful :
   row_inside bus s m q over =
       let up : IsWithin b a pool board lawful q bus = nested b a pool board lawful bus (spot_has bus s m) q over in
       let inside = each_in (λ (t : Spot). (0 ≤ t.first) × (spot_end t ≤ bus_end b a pool bus)) s (spots (items_on b a pool bus)) (bus_run b a pool board lawful bus).within m in
-      let last : s.first + s.item.size ≤ bus_end b a pool bus = inside.1 in
-      (omega (arith, up.begins), omega (arith, up.ends, last))
+      grind (arith, bus_end)
 
   from_root : (bus : Path) → ([] ≡ bus) ⊎ (leads_to [] bus ≡ true)
   from_root bus = grind arith

@@ -21,9 +21,7 @@ use Rattle.model_set_up.proofs.Items.{spot_of, item_of, spots_differ, offset_of_
 
 first_snoc : (b : Board) (a : Apertures) (pool : Pool) (xs : Path) (n : ℕ) (above : Path) (p : Part) → first_below b a pool n above (xs ++ p ∷ []) ≡ first_below b a pool n above xs + offset_on b a pool (above ++ xs) p a_window
 first_snoc b a pool [] n above p = ap (λ (x : Path). n + offset_on b a pool x p a_window) (sym (append-nil above))
-first_snoc b a pool (x ∷ xs) n above p =
-    first_snoc b a pool xs (n + offset_on b a pool above x a_window) (above ++ x ∷ []) p
-    ∙ ap (λ (y : Path). first_below b a pool (n + offset_on b a pool above x a_window) (above ++ x ∷ []) xs + offset_on b a pool y p a_window) (append_assoc above (x ∷ []) xs)
+first_snoc b a pool (x ∷ xs) n above p = grind (arith, append_assoc, first_snoc b a pool xs)
 
 -- a bus begins where the window of its bridge stands on the bus above
 pub bus_first-snoc : (b : Board) (a : Apertures) (pool : Pool) (bus : Path) (p : Part) → bus_first b a pool (bus ++ p ∷ []) ≡ bus_first b a pool bus + offset_on b a pool bus p a_window
@@ -123,8 +121,7 @@ module _ (b : Board) (a : Apertures) (pool : Pool) (board : IsBoard b) (lawful :
       by_spot : (r : Row) → r.path ≡ bus → (i : Item) → i.part ≡ last_part r.path → i.what ≡ a_window → (s : Spot) × IsIn s (spots (items_on b a pool (parent r.path))) × (s.item ≡ i) → WindowOn b a pool (parent bus) (last_part bus)
       by_spot r path i part what (s, k, e) =
           let w = window_of (parent r.path) s k (ap (λ (j : Item). j.what) e ∙ what) in
-          let same : s.item.part ≡ last_part r.path = ap (λ (j : Item). j.part) e ∙ part in
-          subst (λ (x : Path). WindowOn b a pool (parent x) (last_part x)) path (subst (λ (x : Part). WindowOn b a pool (parent r.path) x) same w.0)
+          grind arith
 
       by_row : (r : Row) × IsIn r b × (r.path ≡ bus) × (is_bridge r.decl ≡ true) → WindowOn b a pool (parent bus) (last_part bus)
       by_row (r, m, path, is) =

@@ -203,8 +203,7 @@ run_from n [] h = record { aligned = tt; within = tt; apart = tt }
 run_from n (i ∷ is) h =
     let first : ℕ = round_up i.align n in
     let rest : IsRun (first + i.size) (end_from (first + i.size) is) (spots_from (first + i.size) is) = run_from (first + i.size) is h.1 in
-    let here : n ≤ first = round_up_not_before i.align n h.0 in
-    grind (arith, end_not_before, round_up_is_multiple, each_map)
+    grind (arith, round_up_not_before, end_not_before, round_up_is_multiple, each_map)
 
 pub run_in_order : (is : List Item) → Each (λ i. 0 < i.align) is → IsRun 0 (end_from 0 (in_order is)) (spots is)
 run_in_order is positive = run_from 0 (in_order is) (each_in_order (λ i. 0 < i.align) is positive)

@@ -63,8 +63,7 @@ module _ (b : Board) (a : Apertures) (board : IsBoard b) (rows : List LayoutRow)
   window_over r d m k h =
       let under : IsUnderWindows b rows r = each_in (IsUnderWindows b rows) r rows lawful.under_windows m in
       let f = from_any (λ (w : LayoutRow). is_window_over r w && path_eq w.path d.path) rows (each_in (λ (e : Row). IsTrue (leads_to e.path r.path) → IsTrue (list_any (λ w. is_window_over r w && path_eq w.path e.path) rows)) d b under.there k h) in
-      let over : is_window_over r f.0 ≡ true = left_true (is_window_over r f.0) (path_eq f.0.path d.path) f.2 in
-      grind (arith, over_parts, pool_is, path_same, right_true, each_in)
+      grind (arith, left_true, over_parts, pool_is, path_same, right_true, each_in)
 
   -- on each bus of its path a row of its pool holds its addresses
   record Holder (r : LayoutRow) (q : Path) : Type 0 where

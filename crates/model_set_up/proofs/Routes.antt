@@ -59,10 +59,7 @@ one_taker None above n p q e d h k = cc
 one_taker (Some f) above n p q e d h k =
     let c : Bool = eqb (secondary_register f.file) n in
     let at_p : f.path ≡ above ++ p ∷ [] = path_same f.path (above ++ p ∷ []) (left_true (path_eq f.path (above ++ p ∷ [])) (cond c e (not e)) h) in
-    let at_q : path_eq f.path (above ++ q ∷ []) ≡ true = left_true (path_eq f.path (above ++ q ∷ [])) (cond c d (not d)) k in (
-      part_same p q (next_equal above p q [] (subst (λ (x : Path). path_eq x (above ++ q ∷ []) ≡ true) at_p at_q)),
-      flags c e d (right_true (path_eq f.path (above ++ p ∷ [])) (cond c e (not e)) h) (right_true (path_eq f.path (above ++ q ∷ [])) (cond c d (not d)) k),
-    )
+    grind (arith, left_true, part_same, next_equal, flags, right_true)
 
 module _ (fs : List BoardFunction) (n : ℕ) (t : Part) where
   pub one_route : (p q above : Path) → is_route fs n above p ≡ true → is_route fs n above q ≡ true → ends_in p t ≡ true → ends_in q t ≡ true → p ≡ q
@@ -79,9 +76,7 @@ module _ (fs : List BoardFunction) (n : ℕ) (t : Part) where
   one_route (a ∷ c ∷ b ∷ p) (x ∷ y ∷ []) above h k e d = grind (arith, one_taker, left_true)
   one_route (a ∷ c ∷ b ∷ p) (x ∷ y ∷ z ∷ q) above h k e d =
       let s = one_taker (taker fs above n) above n a x false false (left_true (takes fs above n a false) (is_route fs n (above ++ a ∷ []) (c ∷ b ∷ p)) h) (left_true (takes fs above n x false) (is_route fs n (above ++ x ∷ []) (y ∷ z ∷ q)) k) in
-      let below : is_route fs n (above ++ a ∷ []) (y ∷ z ∷ q) ≡ true =
-      subst (λ (u : Part). is_route fs n (above ++ u ∷ []) (y ∷ z ∷ q) ≡ true) (sym s.0) (right_true (takes fs above n x false) (is_route fs n (above ++ x ∷ []) (y ∷ z ∷ q)) k) in
-      ap₂ (λ (u : Part) (r : Path). u ∷ r) s.0 (one_route (c ∷ b ∷ p) (y ∷ z ∷ q) (above ++ a ∷ []) (right_true (takes fs above n a false) (is_route fs n (above ++ a ∷ []) (c ∷ b ∷ p)) h) below e d)
+      grind (arith, below, right_true, one_route (c ∷ b ∷ p) (y ∷ z ∷ q) (above ++ a ∷ []))
 
 -- ---- bridges of the board
 
@@ -153,8 +148,7 @@ module _ (b : Board) (lawful : IsBoard b) (fs : List BoardFunction) (rows : map 
         let g = stands_on_way above p rest e in
         let h : is_bridge_at b (above ++ p ∷ []) ≡ true = subst (λ (x : Path). is_bridge_at b x ≡ true) g.3 (bridge_of g.0 g.1 g.2) in
         let cover = subst (λ (x : Path). (secondary b x ≤ goal) × (goal ≤ subordinate b x)) (sym g.3) (covering above p rest e h) in
-        let parent_is : path_eq (parent g.0.path) above ≡ true = ap (λ (x : Path). path_eq x above) (ap parent g.3 ∙ parent_snoc above p) ∙ path_self above in
-        any_in (test_on above) g.0 fs g.1 (and_from (path_eq (parent g.0.path) above) (covers goal g.0) parent_is ((named g.0 g.1 g.2).covers_when cover.0 cover.1))
+        grind (arith, parent_snoc, path_self, any_in, and_from, named)
 
     next_part : (above : Path) (x p : Part) (rest : Path) → (path_eq (above ++ x ∷ []) (above ++ p ∷ rest) ≡ true) ⊎ (leads_to (above ++ x ∷ []) (above ++ p ∷ rest) ≡ true) → x ≡ p
     next_part above x p rest e = grind (arith, part_same, next_equal, next_leads)
@@ -228,9 +222,7 @@ reached_by_names b lawful fs rows (a ∷ rs) (inr there) names t =
 
 -- a bridge that holds the numbers c and d covers what lies between them
 pub covers_between : (n c d : ℕ) (f : BoardFunction) → is_bridge f.decl ≡ true → secondary_register f.file ≡ c → subordinate_register f.file ≡ d → c ≤ n → n ≤ d → covers n f ≡ true
-covers_between n c d f k low high h g =
-    and_from (is_bridge f.decl && leb (secondary_register f.file) n) (leb n (subordinate_register f.file))
-    (and_from (is_bridge f.decl) (leb (secondary_register f.file) n) k (rw low (le-leb c n h))) (rw high (le-leb n d g))
+covers_between n c d f k low high h g = grind (arith, and_from, le-leb)
 
 pub between_covers : (n : ℕ) (f : BoardFunction) → covers n f ≡ true → (secondary_register f.file ≤ n) × (n ≤ subordinate_register f.file)
 between_covers n f h = search (rules, left_true, leb-true, right_true)
@@ -275,9 +267,6 @@ pub covers_bridge : (n : ℕ) (f : BoardFunction) → covers n f ≡ true → is
 covers_bridge n f is = grind (arith, left_true)
 
 module _ (b : Board) (fs : List BoardFunction) (has : HasNumbers b fs) (n : ℕ) where
-  abbrev Numbered : BoardFunction → Type 0
-  Numbered f = is_bridge f.decl ≡ true → (secondary_register f.file ≡ secondary b f.path) × (subordinate_register f.file ≡ subordinate b f.path)
-
   -- the bridge that leads to bus n itself stands at this path, and n is its number
   last_bridge : (above : Path) (p : Part) → takes fs above n p true ≡ true → secondary b (above ++ p ∷ []) ≡ n
   last_bridge above p h = by_case (taker fs above n) refl h
@@ -288,10 +277,7 @@ module _ (b : Board) (fs : List BoardFunction) (has : HasNumbers b fs) (n : ℕ)
       by_case (Some f) e k =
           let is : covers n f ≡ true = right_true (path_eq (parent f.path) above) (covers n f) (found_passes (λ g. path_eq (parent g.path) above && covers n g) fs f e) in
           let at : f.path ≡ above ++ p ∷ [] = path_same f.path (above ++ p ∷ []) (left_true (path_eq f.path (above ++ p ∷ [])) (cond (eqb (secondary_register f.file) n) true (not true)) k) in
-          let here : secondary_register f.file ≡ n = eqb-true (secondary_register f.file) n (last_flag (eqb (secondary_register f.file) n)
-          (right_true (path_eq f.path (above ++ p ∷ [])) (cond (eqb (secondary_register f.file) n) true (not true)) k)) in
-          let numbers = each_found Numbered (λ g. path_eq (parent g.path) above && covers n g) fs f has.numbers e (covers_bridge n f is) in
-          ap (secondary b) (sym at) ∙ sym numbers.0 ∙ here
+          grind (arith, eqb-true, last_flag, right_true, each_found, covers_bridge)
 
   -- a way that leads to bus n ends behind the bridge whose number is n
   way_ends : (above p : Path) → is_route fs n above p ≡ true → (secondary b (above ++ parent p) ≡ n) × ((q : Part) × (rest : Path) × (parent p ≡ q ∷ rest))

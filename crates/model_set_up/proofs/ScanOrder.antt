@@ -1,5 +1,6 @@
 -- A scan meets the functions in path order, and gives bus numbers in it.
-use Rattle.std.proofs.Common.{◌≡◌, ℕ, ◌+◌, ◌≤◌, ◌<◌, inl, inr, Bool, true, false, ◌&&◌, ◌||◌, cond, List, [], ◌∷◌, ◌++◌, append_assoc, length, zero-add, refl, sym, ap, ap₂, ◌∙◌, subst, arith, rules}
+use Rattle.std.proofs.lemmas.Grind.{common_steps}
+use Rattle.std.proofs.Common.{◌≡◌, ℕ, ◌+◌, ◌<◌, inl, inr, Bool, true, false, ◌&&◌, ◌||◌, cond, List, [], ◌∷◌, ◌++◌, append_assoc, length, zero-add, refl, sym, ap, ap₂, ◌∙◌, subst, arith, rules}
 use Rattle.std.specs.Prelude.{filter, count_by, IsTrue}
 use Rattle.std.proofs.lemmas.Bool.Decides.{nat_tests}
 use Rattle.std.proofs.lemmas.List.Sums.{sum_by-cons}
@@ -29,9 +30,7 @@ filter_adds : {A : Type 0} (p q : A → Bool) (R : A → A → Type 0) (x : A) (
     → p x ≡ false → q x ≡ true → IsIn x xs → filter q xs ≡ filter p xs ++ x ∷ []
 filter_adds p q R x [] h before after fails passes m = absurd m
 filter_adds {A} p q R x (y ∷ ys) h before after fails passes (inl e) = search (rules, each_in, none_pass)
-filter_adds p q R x (y ∷ ys) h before after fails passes (inr m) =
-    let both = before y (each_in (R y) x ys h.0 m) in
-    rw (both.0, both.1) (ap (λ zs. y ∷ zs) (filter_adds p q R x ys h.1 before after fails passes m))
+filter_adds p q R x (y ∷ ys) h before after fails passes (inr m) = grind (arith, each_in, filter_adds p q R x ys h.1 before after fails passes m)
 
 or_false : (s t : Bool) → t ≡ false → (s || t) ≡ s
 or_false s t h = grind arith
@@ -96,9 +95,7 @@ module _ (b : Board) (lawful : IsBoard b) where
 
   -- a row at a path where no bridge stands is no bridge
   met_next : (bus : Path) (n : ℕ) → is_bridge_at b (on bus n) ≡ false → (y : Row) → IsIn y b → path_before y.path (on bus (next_part b bus n)) ≡ (path_before y.path (on bus n) || path_eq y.path (on bus n))
-  met_next bus n h y m =
-      before_next bus n y m
-      ∙ ap (λ t. path_before y.path (on bus n) || t) (passed bus n y m ∙ ap (λ t. path_eq y.path (on bus n) || t) (none_behind (on bus n) (snoc_some bus (nth_part n)) h y m) ∙ or_false (path_eq y.path (on bus n)) false refl)
+  met_next bus n h y m = grind (arith, before_next, passed, none_behind, snoc_some, or_false)
 
   pub no_bridge_here : (r : Row) → IsIn r b → is_bridge r.decl ≡ false → is_bridge_at b r.path ≡ false
   no_bridge_here r m h = search (rules, false_from_ne_true, bridge_at, one_row)
@@ -140,23 +137,12 @@ module _ (b : Board) (lawful : IsBoard b) where
 
   counted_met : (here : Path) (bs : Board) → count_by (λ r. is_bridge r.decl && path_before r.path here) bs ≡ count_by (λ r. is_bridge r.decl) (met bs here)
   counted_met here [] = refl
-  counted_met here (r ∷ bs) = bridges-cons (λ x. path_before x here) r bs ∙ by_test (path_before r.path here) (counted_met here bs)
-    where
-      by_test : (t : Bool) → bridges (λ x. path_before x here) bs ≡ count_by (λ s. is_bridge s.decl) (met bs here)
-          → one (is_bridge r.decl && t) + bridges (λ x. path_before x here) bs ≡ count_by (λ s. is_bridge s.decl) (cond t (r ∷ met bs here) (met bs here))
-      by_test true e = ap₂ (λ t n. one t + n) (and_true (is_bridge r.decl)) e ∙ sym (sum_by-cons (λ (s : Row). one (is_bridge s.decl)) r (met bs here))
-      by_test false e = grind (arith, zero-add)
+  counted_met here (r ∷ bs) = grind (arith, nat_tests, common_steps, bridges-cons, bridges, one, and_true, sum_by-cons, zero-add, counted_met here bs)
 
   -- the bridges before the end of a bus are those before its bridge, that bridge, and those behind it
   counted_last : (p : Path) (bs : Board) → Each (λ r. IsPath r.path) bs → bridges (λ x. path_before x (on p 128)) bs ≡ bridges (λ x. path_before x p) bs + bridges (at p) bs + bridges (λ x. leads_to p x) bs
   counted_last p [] h = refl
-  counted_last p (r ∷ bs) h =
-      let here = sum_of (is_bridge r.decl) (path_before r.path p) (path_eq r.path p) (leads_to p r.path) (exclusive r.path p) in
-      let same : one (is_bridge r.decl && path_before r.path (on p 128)) ≡ one (is_bridge r.decl && (path_before r.path p || path_eq r.path p || leads_to p r.path)) = ap (λ t. one (is_bridge r.decl && t)) (before_last r.path p h.0.parts) in
-      omega (arith, bridges-cons (λ x. path_before x (on p 128)) r bs, bridges-cons (λ x. path_before x p) r bs, bridges-cons (at p) r bs, bridges-cons (λ x. leads_to p x) r bs, here, same, counted_last p bs h.1)
-    where
-      sum_of : (k u v w : Bool) → one u + one v + one w ≤ 1 → one (k && (u || v || w)) ≡ one (k && u) + one (k && v) + one (k && w)
-      sum_of k u v w h = grind arith
+  counted_last p (r ∷ bs) h = grind (arith, nat_tests, common_steps, exclusive, one, before_last, bridges-cons, at, counted_last p bs h.1)
 
   some_path : (q : Path) → is_bridge_at b q ≡ true → (path_before q [] || path_eq q []) ≡ false
   some_path q h = at_bridge (λ x. (path_before x [] || path_eq x []) ≡ false) not_none q h
@@ -170,10 +156,7 @@ module _ (b : Board) (lawful : IsBoard b) where
 
   -- a bridge does not lead to the bus above it
   not_above : (bus : Path) (n : ℕ) (q : Path) → path_eq q (on bus n) ≡ true → (leads_to q bus || path_eq q bus) ≡ false
-  not_above bus n q h = false_from_ne_true (leads_to q bus || path_eq q bus) (λ t. too_long (subst (λ (x : Path). (leads_to x bus || path_eq x bus) ≡ true) (path_same q (on bus n) h) t))
-    where
-      too_long : (leads_to (on bus n) bus || path_eq (on bus n) bus) ≡ true → ⊥
-      too_long t = grind (arith, leads_longer, length_snoc, path_same)
+  not_above bus n q h = grind (arith, nat_tests, common_steps, false_from_ne_true, path_same, leads_longer, length_snoc)
 
   behind_cases : {A : Type 0} (o m z : A) (l e t : Bool) → cond (l || e) o (cond (t || e) m z) ≡ cond e o (cond l o (cond t m z))
   behind_cases o m z l e t = grind arith

@@ -28,8 +28,7 @@ numbers_small b few p h =
     let parts : bridges (λ x. path_before x p) b + bridges (at p) b + bridges (λ x. leads_to p x) b ≤ bridges (λ x. true) b =
     count_three (λ x. path_before x p) (at p) (λ x. leads_to p x) (λ x. true) (λ x. exclusive x p) b in
     let whole : bridges (λ x. true) b ≡ count_by (λ r. is_bridge r.decl) b = λ i. count_by (λ r. and_true (is_bridge r.decl) i) b in
-    let here : 1 ≤ bridges (at p) b = counted b p h in
-    record { first = omega (arith, few); last = omega (arith, few) }
+    grind (arith, bridges, at, counted)
 
 abbrev pub HoldsNumbers : Board → Path → File → Type 0
 HoldsNumbers b p file = (secondary_register file ≡ secondary b p) × (subordinate_register file ≡ subordinate b p)

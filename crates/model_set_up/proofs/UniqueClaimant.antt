@@ -193,8 +193,7 @@ claim_of_region b a can fs same p d on_board r declared k inside =
     (each_in (λ (q : PlacedRegion). (j : ℕ) → j < q.size → IsClaimed fs q j) (placed b a p r) (placed_regions b a) unique.each_byte there k inside).claimed
 
 pub claim_in_any_order : ClaimInAnyOrder
-claim_in_any_order b a can qs same space n =
-    same_members space n (placed_regions b a) qs (placed_apart b a can.places can.declarations can.apertures (layout_is_lawful b a can.places can.declarations can.room) (rows_are_declared b a can.places can.declarations)) (λ q. (same q).1) (λ q. (same q).0)
+claim_in_any_order b a can qs same space n = grind (arith, same_members, placed_apart, layout_is_lawful, rows_are_declared)
 
 pub rows_are_placed : RowsArePlaced
 rows_are_placed b a board decls q = (rows_to_placed b a (rows_are_declared b a board decls) q, placed_to_rows b a (rows_are_declared b a board decls) q)
