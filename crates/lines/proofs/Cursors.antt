@@ -7,7 +7,7 @@ use Rattle.model_guests.specs.Text.{Text, onto, pieces, is_blank, words}
 use Rattle.model_guests.specs.Numbers.{below, digit_of, digits_from, digits_in, is_hexadecimal, number_of}
 use Rattle.lines.specs.Cursors.{before_blank, after_blank, IsAtWord, Numbered, numbered}
 use Rattle.lines.proofs.Digits.{longer, longer-None}
-use Rattle.lines.proofs.Splitting.{is_word}
+use Rattle.lines.proofs.Splitting.{is_word, place_is}
 
 by_next : (b : Bool) (c d : ℕ) (ds : Text)
     → onto d (pieces is_blank ds) ≡ (d ∷ before_blank ds) ∷ pieces is_blank (after_blank ds)
@@ -101,12 +101,9 @@ no_longer limit base n b t some h e =
     longer-None limit base n (before_blank t) (below base (digit_of b)) some e
     ∙ ap (λ (xs : Text). below limit (digits_from base n xs)) (sym (at_other b t h).0)
 
-value_is : (b : Bool) (k m : ℕ) → Some m ≡ cond b (Some k) None → k ≡ m
-value_is b k m e = grind arith
-
 longer_is : (limit base n m : ℕ) (cs : Text) (digit : Option ℕ) → Some m ≡ below limit (option_map (λ d. n * base + d) digit)
     → digits_from base m cs ≡ longer base n cs digit
-longer_is limit base n m cs digit e = grind (arith, value_is)
+longer_is limit base n m cs digit e = grind (arith, place_is)
 
 pub no_blank : (b : Bool) (limit base n m c : ℕ) → is_blank c ≡ b
     → Some m ≡ below limit (option_map (λ d. n * base + d) (below base (digit_of c))) → b ≡ false
@@ -120,4 +117,4 @@ pub record Longer (limit base n m b : ℕ) (t : Text) : Type 0 where
 
 pub one_longer : (limit base n m b : ℕ) (t : Text)
     → Some m ≡ below limit (option_map (λ d. n * base + d) (below base (digit_of b))) → Longer limit base n m b t
-one_longer limit base n m b t e = grind (arith, at_other, no_blank, longer_is, nat_tests, value_is)
+one_longer limit base n m b t e = grind (arith, at_other, no_blank, longer_is, nat_tests, place_is)

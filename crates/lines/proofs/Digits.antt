@@ -6,7 +6,7 @@ use Rattle.std.proofs.Math.Nat.{mul-le-mul_left}
 use Rattle.model_guests.specs.Text.{Text}
 use Rattle.model_guests.specs.Numbers.{below, digit_of, digits_from, digits_in}
 
-from_None : (b : Bool) (n : ℕ) → None ≡ cond b (Some n) None → b ≡ false
+pub from_None : (b : Bool) (n : ℕ) → None ≡ cond b (Some n) None → b ≡ false
 from_None b n e = grind arith
 
 -- one more digit of a number

@@ -1,5 +1,5 @@
 -- Where line feeds stand in a text.
-use Rattle.std.proofs.Common.{◌≡◌, ℕ, suc, ◌+◌, ◌<◌, ◌||◌, Bool, false, not, cond, List, [], ◌∷◌, ◌++◌, Option, Some, None, length, take, drop, get_or, refl, sym, ap, ap₂, ◌∙◌, arith, take-append-drop}
+use Rattle.std.proofs.Common.{◌≡◌, ℕ, suc, ◌+◌, ◌<◌, ◌||◌, Bool, false, not, cond, List, [], ◌∷◌, ◌++◌, Some, None, length, take, drop, get_or, refl, sym, ap, ap₂, ◌∙◌, arith, take-append-drop}
 use Rattle.std.specs.List.{list_any, position, position_from, position_or_len}
 use Rattle.std.proofs.Math.Seq.{drop-cons}
 use Rattle.std.proofs.lemmas.Bool.{or_parts}
@@ -40,12 +40,9 @@ ends_at xs n e =
     let byte : get_or xs n 0 ≡ 10 = grind (arith, nat_tests, found.1) in
     sym (take-append-drop n xs) ∙ ap (λ (t : Text). take n xs ++ t) (drop-cons xs n 0 within ∙ ap₂ (λ (c : ℕ) (cs : Text). c ∷ cs) byte (ap (λ (m : ℕ). drop m xs) next))
 
-none_after : (b : Bool) (i : ℕ) (o : Option ℕ) (rest : Bool) → None ≡ cond b (Some i) o → (None ≡ o → rest ≡ false) → (b || rest) ≡ false
-none_after b i o rest e more = grind arith
-
 no_end_from : (i : ℕ) (xs : Text) → None ≡ position_from ends_line i xs → HasNoEnd xs
 no_end_from i [] e = refl
-no_end_from i (c ∷ cs) e = none_after (ends_line c) i (position_from ends_line (i + 1) cs) (list_any ends_line cs) e (λ h. no_end_from (i + 1) cs h)
+no_end_from i (c ∷ cs) e = grind (arith, no_end_from (i + 1) cs)
 
 pub no_end_none : (xs : Text) → None ≡ position ends_line xs → HasNoEnd xs
 no_end_none xs e = no_end_from 0 xs (e ∙ position_from-zero ends_line xs)

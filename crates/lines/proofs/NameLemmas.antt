@@ -1,5 +1,5 @@
 -- The guest of a name, and what a line means by its first word.
-use Rattle.std.proofs.Common.{◌≡◌, ℕ, ◌+◌, ◌||◌, Bool, true, false, cond, List, [], ◌∷◌, Option, Some, None, map, codes, length, refl, sym, ap, subst, ◌∙◌, ◌≤◌, arith}
+use Rattle.std.proofs.Common.{◌≡◌, ℕ, ◌+◌, true, false, cond, List, [], ◌∷◌, Option, Some, None, map, codes, length, refl, sym, ap, subst, ◌∙◌, ◌≤◌, arith}
 use Rattle.std.specs.List.{position, position_from}
 use Rattle.std.specs.Str.{bytes_eq}
 use Rattle.std.proofs.lemmas.Iterator.Adapters.{position_from-zero}
@@ -39,23 +39,13 @@ place_of-names names w =
     ∙ place_from_names w 0 names.items
     ∙ sym (position_from-zero (λ n. bytes_eq n w) (texts names))
 
-any_after : (b : Bool) (i g : ℕ) (o : Option ℕ) (rest : Bool)
-    → Some g ≡ cond b (Some i) o → (Some g ≡ o → rest ≡ true) → (b || rest) ≡ true
-any_after b i g o rest e more = grind arith
-
 any-Some : (w : Text) (i g : ℕ) (ns : List Text) → Some g ≡ place_from i ns w → has_name ns w ≡ true
 any-Some w i g [] e = absurd (cc)
-any-Some w i g (n ∷ ns) e =
-    any_after (bytes_eq n w) i g (place_from (i + 1) ns w) (has_name ns w) e (λ h. any-Some w (i + 1) g ns h)
-
-none_after : (b : Bool) (i : ℕ) (o : Option ℕ) (rest : Bool)
-    → None ≡ cond b (Some i) o → (None ≡ o → rest ≡ false) → (b || rest) ≡ false
-none_after b i o rest e more = grind arith
+any-Some w i g (n ∷ ns) e = grind (arith, any-Some w (i + 1) g ns)
 
 any-None : (w : Text) (i : ℕ) (ns : List Text) → None ≡ place_from i ns w → has_name ns w ≡ false
 any-None w i [] e = refl
-any-None w i (n ∷ ns) e =
-    none_after (bytes_eq n w) i (place_from (i + 1) ns w) (has_name ns w) e (λ h. any-None w (i + 1) ns h)
+any-None w i (n ∷ ns) e = grind (arith, any-None w (i + 1) ns)
 
 -- the guest that was found
 pub record IsFound (ns : List Text) (w : Text) (g : ℕ) : Type 0 where

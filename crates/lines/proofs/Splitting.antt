@@ -7,6 +7,7 @@ use Rattle.std.proofs.lemmas.List.Sums.{fails_before_first}
 use Rattle.std.proofs.lemmas.List.Quantifiers.{position-Some}
 use Rattle.std.specs.List.{slice_split, onto_first, position, position_or_len}
 use Rattle.model_guests.specs.Text.{Text, onto, pieces}
+use Rattle.lines.proofs.Digits.{from_None}
 
 abbrev pub is_word : Text → Bool
 is_word w = not (length w == 0)
@@ -39,11 +40,8 @@ pieces-split p (x ∷ xs) =
 pub rest_is : (xs : Text) (n : ℕ) → take (length xs - n) (drop n xs) ≡ drop n xs
 rest_is xs n = grind (arith, common_steps)
 
-place_is : (b : Bool) (k n : ℕ) → Some n ≡ cond b (Some k) None → k ≡ n
+pub place_is : (b : Bool) (k n : ℕ) → Some n ≡ cond b (Some k) None → k ≡ n
 place_is b k n e = grind arith
-
-no_place : (b : Bool) (k : ℕ) → None ≡ cond b (Some k) None → b ≡ false
-no_place b k e = grind arith
 
 -- the first piece ends at the first place that ends one
 pub pieces-first : (p : ℕ → Bool) (xs : Text) (n : ℕ) → Some n ≡ position p xs
@@ -65,7 +63,7 @@ without_last-one xs some = grind arith
 pub pieces-none : (p : ℕ → Bool) (xs : Text) → None ≡ position p xs → 0 < length xs → pieces p xs ≡ xs ∷ []
 pieces-none p xs e some =
     let k = position_or_len p xs in
-    let past : length xs ≤ k = grind (arith, nat_tests, no_place (nat_lt k (length xs)) k e) in
+    let past : length xs ≤ k = grind (arith, nat_tests, from_None (nat_lt k (length xs)) k e) in
     sym (pieces-split p xs)
     ∙ ap without_last (slice_split_none p xs (λ j d h. fails_before_first p xs j d (omega arith)))
     ∙ without_last-one xs some
