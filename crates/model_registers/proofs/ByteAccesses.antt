@@ -54,28 +54,30 @@ write_lanes (suc l) w k v file p = write_lanes l w k (v / 256) file (after p) �
 
 -- ---- the enables of a number
 
-enable_table : (l w : ℕ) → l + w ≤ 4 → lanes ((2 ^ w - 1) * 2 ^ l) ≡ lanes_of l w (4 - (l + w))
-enable_table zero zero h = refl
-enable_table zero (suc zero) h = refl
-enable_table zero (suc (suc zero)) h = refl
-enable_table zero (suc (suc (suc zero))) h = refl
-enable_table zero (suc (suc (suc (suc zero)))) h = refl
-enable_table (suc zero) zero h = refl
-enable_table (suc zero) (suc zero) h = refl
-enable_table (suc zero) (suc (suc zero)) h = refl
-enable_table (suc zero) (suc (suc (suc zero))) h = refl
-enable_table (suc (suc zero)) zero h = refl
-enable_table (suc (suc zero)) (suc zero) h = refl
-enable_table (suc (suc zero)) (suc (suc zero)) h = refl
-enable_table (suc (suc (suc zero))) zero h = refl
-enable_table (suc (suc (suc zero))) (suc zero) h = refl
-enable_table (suc (suc (suc (suc zero)))) zero h = refl
-enable_table zero (suc (suc (suc (suc (suc w))))) h = absurd (omega arith)
-enable_table (suc zero) (suc (suc (suc (suc w)))) h = absurd (omega arith)
-enable_table (suc (suc zero)) (suc (suc (suc w))) h = absurd (omega arith)
-enable_table (suc (suc (suc zero))) (suc (suc w)) h = absurd (omega arith)
-enable_table (suc (suc (suc (suc zero)))) (suc w) h = absurd (omega arith)
-enable_table (suc (suc (suc (suc (suc l))))) w h = absurd (omega arith)
+-- of each part of a dword: its enables, its bits, and what is written into it
+tables : (l w v : ℕ) → l + w ≤ 4
+    → (lanes ((2 ^ w - 1) * 2 ^ l) ≡ lanes_of l w (4 - (l + w))) × ((2 ^ 32 - 1) / 256 ^ l % 256 ^ w ≡ all_ones w) × (v * 256 ^ l % 2 ^ 32 / 256 ^ l % 256 ^ w ≡ v % 256 ^ w)
+tables zero zero v h = (refl, refl, omega arith)
+tables zero (suc zero) v h = (refl, refl, omega arith)
+tables zero (suc (suc zero)) v h = (refl, refl, omega arith)
+tables zero (suc (suc (suc zero))) v h = (refl, refl, omega arith)
+tables zero (suc (suc (suc (suc zero)))) v h = (refl, refl, omega arith)
+tables (suc zero) zero v h = (refl, refl, omega arith)
+tables (suc zero) (suc zero) v h = (refl, refl, omega arith)
+tables (suc zero) (suc (suc zero)) v h = (refl, refl, omega arith)
+tables (suc zero) (suc (suc (suc zero))) v h = (refl, refl, omega arith)
+tables (suc (suc zero)) zero v h = (refl, refl, omega arith)
+tables (suc (suc zero)) (suc zero) v h = (refl, refl, omega arith)
+tables (suc (suc zero)) (suc (suc zero)) v h = (refl, refl, omega arith)
+tables (suc (suc (suc zero))) zero v h = (refl, refl, omega arith)
+tables (suc (suc (suc zero))) (suc zero) v h = (refl, refl, omega arith)
+tables (suc (suc (suc (suc zero)))) zero v h = (refl, refl, omega arith)
+tables zero (suc (suc (suc (suc (suc w))))) v h = absurd (omega arith)
+tables (suc zero) (suc (suc (suc (suc w)))) v h = absurd (omega arith)
+tables (suc (suc zero)) (suc (suc (suc w))) v h = absurd (omega arith)
+tables (suc (suc (suc zero))) (suc (suc w)) v h = absurd (omega arith)
+tables (suc (suc (suc (suc zero)))) (suc w) v h = absurd (omega arith)
+tables (suc (suc (suc (suc (suc l))))) w v h = absurd (omega arith)
 
 further-config : (l a : ℕ) → further l (config a) ≡ config (a + l)
 further-config zero a = ap config (omega arith)
@@ -94,7 +96,7 @@ unshifted n l = mul-div_cancel n (one-le-pow l 256 (omega arith))
 pub number_by_lanes : NumberByLanes
 number_by_lanes file p w within =
     let l : ℕ = offset_of p % 4 in
-    sym (ap (λ ons. read file (word_of p) ons / 256 ^ l) (enable_table l w within)
+    sym (ap (λ ons. read file (word_of p) ons / 256 ^ l) (tables l w 0 within).0
     ∙ ap (λ n. n / 256 ^ l) (read_lanes l w (4 - (l + w)) file (word_of p))
     ∙ unshifted (number file (further l (word_of p)) w) l
     ∙ ap (λ q. number file q w) (in_word p))
@@ -106,36 +108,13 @@ write_same : (w x y : ℕ) (p : Place) (file : File) → x % 256 ^ w ≡ y % 256
 write_same zero x y p file h = refl
 write_same (suc w) x y p file h = grind (arith, low_byte, write_same w (x / 256) (y / 256) (after p) (changed (written (y % 256)) p file))
 
-lane_table : (l w v : ℕ) → l + w ≤ 4 → v * 256 ^ l % 2 ^ 32 / 256 ^ l % 256 ^ w ≡ v % 256 ^ w
-lane_table zero zero v h = omega arith
-lane_table zero (suc zero) v h = omega arith
-lane_table zero (suc (suc zero)) v h = omega arith
-lane_table zero (suc (suc (suc zero))) v h = omega arith
-lane_table zero (suc (suc (suc (suc zero)))) v h = omega arith
-lane_table (suc zero) zero v h = omega arith
-lane_table (suc zero) (suc zero) v h = omega arith
-lane_table (suc zero) (suc (suc zero)) v h = omega arith
-lane_table (suc zero) (suc (suc (suc zero))) v h = omega arith
-lane_table (suc (suc zero)) zero v h = omega arith
-lane_table (suc (suc zero)) (suc zero) v h = omega arith
-lane_table (suc (suc zero)) (suc (suc zero)) v h = omega arith
-lane_table (suc (suc (suc zero))) zero v h = omega arith
-lane_table (suc (suc (suc zero))) (suc zero) v h = omega arith
-lane_table (suc (suc (suc (suc zero)))) zero v h = omega arith
-lane_table zero (suc (suc (suc (suc (suc w))))) v h = absurd (omega arith)
-lane_table (suc zero) (suc (suc (suc (suc w)))) v h = absurd (omega arith)
-lane_table (suc (suc zero)) (suc (suc (suc w))) v h = absurd (omega arith)
-lane_table (suc (suc (suc zero))) (suc (suc w)) v h = absurd (omega arith)
-lane_table (suc (suc (suc (suc zero)))) (suc w) v h = absurd (omega arith)
-lane_table (suc (suc (suc (suc (suc l))))) w v h = absurd (omega arith)
-
 pub write_by_lanes : WriteByLanes
 write_by_lanes file p w v within =
     let l : ℕ = offset_of p % 4 in
-    sym (ap (λ ons. write ons (into_lanes (offset_of p) v) (word_of p) file) (enable_table l w within)
+    sym (ap (λ ons. write ons (into_lanes (offset_of p) v) (word_of p) file) (tables l w 0 within).0
     ∙ write_lanes l w (4 - (l + w)) (into_lanes (offset_of p) v) file (word_of p)
     ∙ ap (λ q. write (all_bytes w) (into_lanes (offset_of p) v / 256 ^ l) q file) (in_word p)
-    ∙ write_same w (into_lanes (offset_of p) v / 256 ^ l) v p file (lane_table l w v within))
+    ∙ write_same w (into_lanes (offset_of p) v / 256 ^ l) v p file (tables l w v within).2)
 
 -- ---- the bytes of a word
 
@@ -153,38 +132,15 @@ pub lanes_fit : LanesFit
 lanes_fit off w word within only =
     let l : ℕ = off % 4 in
     let is : word ≡ (word / 256 ^ l % 256 ^ w) * 256 ^ l =
-    only ∙ ap (λ ons. enabled_bytes ons word) (enable_table l w within) ∙ enabled_lanes l w (4 - (l + w)) word in
+    only ∙ ap (λ ons. enabled_bytes ons word) (tables l w 0 within).0 ∙ enabled_lanes l w (4 - (l + w)) word in
     sym (ap (λ m. m / 256 ^ l) is ∙ unshifted (word / 256 ^ l % 256 ^ w) l)
 
 pub number_from_word : NumberFromWord
 number_from_word file p w word within is only =
     lanes_fit (offset_of p) w word within only ∙ ap (λ n. n / 256 ^ (offset_of p % 4)) is ∙ sym (number_by_lanes file p w within)
 
-ones_table : (l w : ℕ) → l + w ≤ 4 → (2 ^ 32 - 1) / 256 ^ l % 256 ^ w ≡ all_ones w
-ones_table zero zero h = refl
-ones_table zero (suc zero) h = refl
-ones_table zero (suc (suc zero)) h = refl
-ones_table zero (suc (suc (suc zero))) h = refl
-ones_table zero (suc (suc (suc (suc zero)))) h = refl
-ones_table (suc zero) zero h = refl
-ones_table (suc zero) (suc zero) h = refl
-ones_table (suc zero) (suc (suc zero)) h = refl
-ones_table (suc zero) (suc (suc (suc zero))) h = refl
-ones_table (suc (suc zero)) zero h = refl
-ones_table (suc (suc zero)) (suc zero) h = refl
-ones_table (suc (suc zero)) (suc (suc zero)) h = refl
-ones_table (suc (suc (suc zero))) zero h = refl
-ones_table (suc (suc (suc zero))) (suc zero) h = refl
-ones_table (suc (suc (suc (suc zero)))) zero h = refl
-ones_table zero (suc (suc (suc (suc (suc w))))) h = absurd (omega arith)
-ones_table (suc zero) (suc (suc (suc (suc w)))) h = absurd (omega arith)
-ones_table (suc (suc zero)) (suc (suc (suc w))) h = absurd (omega arith)
-ones_table (suc (suc (suc zero))) (suc (suc w)) h = absurd (omega arith)
-ones_table (suc (suc (suc (suc zero)))) (suc w) h = absurd (omega arith)
-ones_table (suc (suc (suc (suc (suc l))))) w h = absurd (omega arith)
-
 pub all_ones_by_lanes : AllOnesByLanes
-all_ones_by_lanes off w within = ones_table (off % 4) w within
+all_ones_by_lanes off w within = (tables (off % 4) w 0 within).1
 
 -- ---- files whose cells are bytes
 

@@ -10,9 +10,16 @@ use Rattle.model_registers.specs.Declarations.{Endpoint, ConfigBlock, Kind, io_k
 use Rattle.model_registers.specs.EndpointTable.{BaseAddress, base_width, type_bits, base_file, command_cells, opened, closed, region_cells, block_cells, header_cells}
 use Rattle.model_registers.specs.Decoding.{base, base_address}
 use Rattle.model_registers.specs.OwnCopies.{is_own, OwnCopies, own_file, HoldsOwn, handed_on, IsLawfulOwn, OwnReads, OwnWrites, OwnStay, bare, OwnHits, ResetHoldsOwn}
+use Rattle.model_registers.specs.CopiedFiles.{with_copies}
 use Rattle.model_registers.proofs.RegisterFiles.{place_same, change_at_place, above}
 use Rattle.model_registers.proofs.Hits.{hits_by_bases}
 use Rattle.model_registers.proofs.Parts.{IsOutside, cell_outside}
+
+-- ---- the guest's copies put in
+
+pub other_cell : (copies file : File) (p : Place) → is_own p ≡ false → cell_at (with_copies copies file) p ≡ cell_at file p
+other_cell copies [] p h = refl
+other_cell copies (e ∷ es) p h = grind (arith, other_cell copies es p h, place_same)
 
 -- ---- writes
 
