@@ -12,8 +12,8 @@ HEAD = re.compile(r"(?:(?:pub|abbrev|unfoldable|opaque) )*([^\s:(){}=]+) :(?=\s)
 WORD = re.compile(r"[^\s(){}.,;]+|[(){}.,;]")
 # what has fewer words is no more than an instance of another lemma
 LEAST = 20
-KNOWN = ["Follows InOrder InOrder IsBehind", "changed_entry changed_entry", "found_is_bridge found_is_bridge", "known told",
-         "none_after none_after", "part_turn turned", "same_is same_is"]
+KNOWN = ["Follows InOrder InOrder IsBehind", "found_is_bridge found_is_bridge found_is_bridge", "known told", "same_is same_is",
+         "shape_places shaped_places"]
 
 
 def lemmas(text):
@@ -26,7 +26,7 @@ def lemmas(text):
         elif line.startswith(("use ", "pub use ", "mod ", "pub mod ")):
             continue
         if found:
-            found[[*found][-1]] += WORD.findall(line)
+            found[[*found][-1]] += WORD.findall(line.removeprefix("pub "))
     return found
 
 

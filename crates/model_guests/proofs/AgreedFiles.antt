@@ -22,9 +22,6 @@ place_self p = grind (arith, nat_tests)
 
 -- ---- what the agreed file holds
 
-abbrev agreed_entry : File → PlacedCell → PlacedCell
-agreed_entry own e = cond (is_own e.place) e (record e { cell = cell_at own e.place })
-
 pub agreed_places : (left own : File) → places_of (agreed_file left own) ≡ places_of left
 agreed_places [] own = refl
 agreed_places (e ∷ es) own = grind (arith, agreed_places es own)
@@ -99,9 +96,6 @@ only_file left own now distinct holds =
 pub own_change : (f : Cell → Cell) → f no_cell ≡ no_cell → (p : Place) → is_own p ≡ true → (left own : File) → agreed_file left (changed f p own) ≡ agreed_file left own
 own_change f none p h [] own = refl
 own_change f none p h (e ∷ es) own = grind (arith, own_change f none p h es own, change_at_place, place_same)
-
-abbrev changed_entry : (Cell → Cell) → Place → PlacedCell → PlacedCell
-changed_entry f p e = cond (place_eq e.place p) (record e { cell = f e.cell }) e
 
 pub board_change : (f : Cell → Cell) → f no_cell ≡ no_cell → (p : Place) → is_own p ≡ false → (left own : File) → agreed_file left (changed f p own) ≡ changed f p (agreed_file left own)
 board_change f none p h [] own = refl

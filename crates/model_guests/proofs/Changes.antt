@@ -1,9 +1,8 @@
 -- A change of one guest's function changes the board there, and nowhere else.
-use Rattle.std.proofs.Common.{◌≡◌, ℕ, false, cond, List, [], ◌∷◌, Some, Option, refl, sym, ap, ap₂, ◌∙◌, arith}
+use Rattle.std.proofs.Common.{◌≡◌, ℕ, false, List, [], ◌∷◌, Some, Option, refl, sym, ap, ap₂, ◌∙◌, arith}
 use Rattle.std.specs.Prelude.{map, IsFalse}
 use Rattle.model_board.proofs.PlacesLaw.{apart_turn}
-use Rattle.model_registers.specs.Registers.{PlacedCell, File, cell_at}
-use Rattle.model_registers.specs.OwnCopies.{is_own}
+use Rattle.model_registers.specs.Registers.{File}
 use Rattle.model_registers.specs.Decoding.{Function}
 use Rattle.model_registers.specs.EndpointTable.{endpoint_reset}
 use Rattle.model_board.specs.Paths.{Path, path_eq}
@@ -108,9 +107,6 @@ pub latch_keeps_board : LatchKeepsBoard
 latch_keeps_board s gs name latch = same_files_over s gs (with_guest (with_latch latch) name gs) (λ q. latch_files name latch q gs)
 
 -- ---- a file put in twice
-
-abbrev agreed_entry : File → PlacedCell → PlacedCell
-agreed_entry file e = cond (is_own e.place) e (record e { cell = cell_at file e.place })
 
 pub agreed_twice : (left own file : File) → agreed_file left file ≡ agreed_file (agreed_file left own) file
 agreed_twice [] own file = refl

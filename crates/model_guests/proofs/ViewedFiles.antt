@@ -1,17 +1,14 @@
 -- A guest's file is the board's with the guest's copies put in.
-use Rattle.std.proofs.Common.{◌≡◌, false, cond, [], ◌∷◌, refl, ◌∙◌, arith}
+use Rattle.std.proofs.Common.{◌≡◌, false, [], ◌∷◌, refl, ◌∙◌, arith}
 use Rattle.std.specs.Prelude.{IsTrue}
 use Rattle.lists.specs.Elements.{Each}
-use Rattle.model_registers.proofs.RegisterFiles.{place_same}
-use Rattle.model_registers.specs.Registers.{Place, PlacedCell, File, cell_at}
+use Rattle.model_registers.proofs.Owned.{other_cell}
+use Rattle.model_registers.specs.Registers.{Place, File, cell_at}
 use Rattle.model_registers.specs.OwnCopies.{is_own}
 use Rattle.model_registers.specs.CopiedFiles.{agreed_file, places_of, with_copies}
 use Rattle.model_guests.specs.ViewLaws.{ViewAgrees, ViewIsFile}
 use Rattle.model_guests.proofs.AgreedFiles.{agreed_common}
 use Rattle.model_guests.proofs.TablePlaces.{found_entries}
-
-abbrev agreed_entry : File → PlacedCell → PlacedCell
-agreed_entry own e = cond (is_own e.place) e (record e { cell = cell_at own e.place })
 
 module _ (full copies : File) (held : (p : Place) → IsTrue (is_own p) → cell_at full p ≡ cell_at copies p) where
   entries_are : (ls os : File) → places_of os ≡ places_of ls → Each (λ e. cell_at full e.place ≡ e.cell) os → with_copies copies (agreed_file ls full) ≡ os
@@ -24,10 +21,6 @@ pub view_is_file : ViewIsFile
 view_is_file left own copies distinct same held = entries_are own copies held left own same (found_entries own distinct)
 
 -- ---- the board agrees with its view
-
-other_cell : (copies file : File) (p : Place) → is_own p ≡ false → cell_at (with_copies copies file) p ≡ cell_at file p
-other_cell copies [] p h = refl
-other_cell copies (e ∷ es) p h = grind (arith, other_cell copies es p h, place_same)
 
 alike_files : (f g : File) → ((p : Place) → is_own p ≡ false → cell_at f p ≡ cell_at g p) → (left : File) → agreed_file left f ≡ agreed_file left g
 alike_files f g same [] = refl
