@@ -5,3 +5,4 @@ pub mod LongerWays
 pub mod LaterLines
 pub mod Ends
 pub mod Pushed
+pub mod MarkTexts

@@ -1,5 +1,5 @@
 //! Texts with marks in place of values.
-ghost use Rattle.std.specs.Prelude.{◌≡◌, ◌++◌, IfOk, OnOk, IsTrue, length, option_map};
+ghost use Rattle.std.specs.Prelude.{◌≡◌, ◌<◌, ◌^◌, ◌++◌, ℕ, true, IfOk, OnOk, IsTrue, Some, length, option_map};
 ghost use Rattle.toml.specs.View.{view};
 ghost use Rattle.diagnostics.specs.Marks.{are_in_order, mark, quoted, with_marks, is_mark};
 
@@ -69,10 +69,23 @@ pub(crate) fn is_mark(start: usize, value: Option<&Value>) -> bool
     }
 }
 
-/// Where the place of a mark begins, if the value is one.
-pub(crate) fn marked_start(value: &Value) -> Option<usize> {
+/// Where the place begins whose mark the text is, if it is one.
+fn start_of(text: &str) -> Option<usize>
+    ensures { (start : ℕ) → start < 2 ^ 64
+        → text.now ≡ mark start → result ≡ Some start }
+{
+    let digits = text.strip_prefix('@')?;
+    let start = digits.parse::<u64>().ok()?;
+    Some(start as usize)
+}
+
+/// Where the place begins whose mark the value is, if it is one.
+pub(crate) fn marked_start(value: &Value) -> Option<usize>
+    ensures { (start : ℕ) → start < 2 ^ 64
+        → is_mark start (Some (view value.now)) ≡ true → result ≡ Some start }
+{
     match value {
-        Value::String(text) => text.as_str().strip_prefix("@")?.parse::<usize>().ok(),
+        Value::String(text) => start_of(text.as_str()),
         _ => None,
     }
 }
