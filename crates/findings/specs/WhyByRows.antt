@@ -1,7 +1,7 @@
 -- What is told of an address, from routing registers and what is declared of bridges.
 --     row_windows, row_hindrance, row_stop      of a bridge, by its row
 --     Held, held_in, held_of, all_held      regions that hold an address and don't answer, each with its function's Command
---     causes_down, causes_at, told_from      all that keeps such a region from answering, by its path and Command; what is told of it
+--     causes_at, told_from      all that keeps such a region from answering, by its path and Command; what is told of it
 --     selected t g xs      of the elements that pass a test
 --     row_forwarder, forwarders_among      a bridge that forwards the address, by its row; those among some functions
 use Rattle.std.specs.Prelude.{List, [], ◌∷◌, ◌++◌, ℕ, Bool, ◌&&◌, not, if◌then◌else◌, Option, Some, None, map, filter, flat_map}
@@ -49,12 +49,9 @@ all_held space n answer rows = flat_map (held_of space n answer) rows
 
 -- ---- what keeps them from answering
 
--- from bus 0 down
-abbrev pub causes_down : List BoardFunction → Space → ℕ → Path → ℕ → List Cause
-causes_down fs space n p command = stops fs space n p ++ (if opens_space command space then [] else closed_by command ∷ [])
-
 abbrev pub causes_at : List BoardFunction → Space → ℕ → Path → ℕ → List Cause
-causes_at fs space n p command = reverse (causes_down fs space n p command)
+causes_at fs space n p command =
+    reverse (stops fs space n p ++ (if opens_space command space then [] else closed_by command ∷ []))
 
 abbrev pub told_from : List BoardFunction → Space → ℕ → Held → Told
 told_from fs space n h = record { region = h.region; causes = causes_at fs space n h.region.path h.command }

@@ -94,7 +94,7 @@ impl Agent {
 }
 
 /// Whether two buses are one.
-pub(crate) fn is_same(xs: &[Part], ys: &[Part]) -> bool
+fn is_same(xs: &[Part], ys: &[Part]) -> bool
     ensures { result ≡ path_eq xs.now ys.now }
 {
     match xs {

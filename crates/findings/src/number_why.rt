@@ -1,17 +1,16 @@
 //! Why a configuration number reaches what it reaches (PCI-to-PCI Bridge Architecture 1.2, chapter 3).
-ghost use Rattle.std.specs.Prelude.{◌≡◌, map, option_map, position, IfOk};
+ghost use Rattle.std.specs.Prelude.{◌≡◌, map, option_map, IfOk};
 ghost use Rattle.model_board.specs.Cycles.{reached};
 ghost use Rattle.model_board.specs.State.{BoardFunction};
 ghost use Rattle.model_board.specs.Routing.{routing};
 ghost use Rattle.model_lines.specs.Ways.{takers_on_way, end_of, missing_at, why_number};
 ghost use Rattle.paths.specs.BusAddresses.{bus_address_of};
-ghost use Rattle.findings.specs.Bridges.{is_bridge_row, is_there};
-ghost use Rattle.model_findings.specs.Found.{bus_now};
 ghost use Rattle.findings.specs.WhyOnWay.{end_told, missing_by, is_unfound, unfound};
 ghost use Rattle.findings.specs.WhyTold.{missing_told, number_told};
 
+use crate::numbering::{address_now, is_there};
 use crate::way::{Way, WayEnd, way_down};
-use bridge_forward::{Part, Path, Ranges, RoutingRow};
+use bridge_forward::{Path, RoutingRow};
 use host_bridge::{Bdf, Host};
 use std::alloc::{AllocError, Global};
 
@@ -96,47 +95,6 @@ fn missing_if(reached: &Option<Path>, end: WayEnd, at: Bdf) -> Option<Missing>
     }
 }
 
-/// Whether a bridge stands at these parts.
-fn is_bridge_at(row: &RoutingRow, bus: &[Part]) -> bool
-    ensures { result ≡ is_bridge_row bus.now row.now }
-{
-    match &row.ranges {
-        Ranges::Regions(_) => false,
-        Ranges::Windows { .. } => row.path.has_parts(bus),
-    }
-}
-
-/// The index of the bridge above a bus.
-fn bridge_index(rows: &[RoutingRow], bus: &[Part]) -> Option<usize>
-    ensures { result ≡ position (is_bridge_row bus.now) rows.now }
-{
-    rows.iter().position(|row| is_bridge_at(row, bus))
-}
-
-/// The number of a bus: what the bridge above it holds, and 0 for bus 0.
-fn bus_now(host: &Host, rows: &[RoutingRow], bus: &[Part]) -> u8
-    requires { rows.now ≡ routing host.now.state.functions }
-    ensures { result ≡ bus_now host.now.state.functions bus.now }
-{
-    if bus.is_empty() {
-        return 0;
-    }
-    match bridge_index(rows, bus) {
-        Some(index) => host.secondary_nth(index).unwrap_or(0),
-        None => 0,
-    }
-}
-
-/// Whether it is the path of the function that is reached.
-fn is_there(reached: &Option<Path>, path: &Path) -> bool
-    ensures { result ≡ is_there path.now reached.now }
-{
-    match reached {
-        Some(other) => other == path,
-        None => false,
-    }
-}
-
 /// Whether a function has this number by the bridge above it, and isn't the one that is reached.
 fn is_unfound(
     host: &Host,
@@ -149,11 +107,7 @@ fn is_unfound(
     ensures { let fs = host.now.state.functions in
         result ≡ is_unfound fs (bus_address_of at) reached.now path.now }
 {
-    let part = path.last();
-    bus_now(host, rows, path.parent()) == at.bus
-        && part.device() == at.device
-        && part.function() == at.function
-        && !is_there(reached, path)
+    address_now(host, rows, path) == at && !is_there(reached, path)
 }
 
 /// The functions that have this number by the bridge above them and aren't reached.

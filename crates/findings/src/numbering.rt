@@ -8,7 +8,6 @@ ghost use Rattle.paths.specs.BusAddresses.{bus_address_of};
 ghost use Rattle.findings.specs.Bridges.{is_bridge_row, is_there, lost_function};
 ghost use Rattle.findings.specs.Findings.{problem_of};
 
-use crate::agent::is_same;
 use crate::problem::Problem;
 use bridge_forward::{Part, Path, Ranges, RoutingRow};
 use host_bridge::{Bdf, Host};
@@ -20,7 +19,7 @@ fn is_bridge_at(row: &RoutingRow, bus: &[Part]) -> bool
 {
     match &row.ranges {
         Ranges::Regions(_) => false,
-        Ranges::Windows { .. } => is_same(row.path.parts(), bus),
+        Ranges::Windows { .. } => row.path.has_parts(bus),
     }
 }
 
@@ -73,7 +72,7 @@ fn path_at(rows: &[RoutingRow], index: Option<usize>) -> Option<Path>
 }
 
 /// Whether this is the path that was reached.
-fn is_there(instead: &Option<Path>, path: &Path) -> bool
+pub(crate) fn is_there(instead: &Option<Path>, path: &Path) -> bool
     ensures { result ≡ is_there path.now instead.now }
 {
     match instead {

@@ -5,7 +5,7 @@ ghost use Rattle.bars.specs.Kinds.{named_space};
 ghost use Rattle.model_board.specs.Routing.{routing};
 ghost use Rattle.model_lines.specs.Why.{stops};
 ghost use Rattle.bridge_forward.specs.BridgeDecls.{declared_bridge_nth};
-ghost use Rattle.findings.specs.WhyByRows.{row_stop, causes_down, causes_at};
+ghost use Rattle.findings.specs.WhyByRows.{row_stop, causes_at};
 ghost use Rattle.findings.specs.WhyTold.{cause_told};
 
 use crate::causes::Cause;
@@ -74,29 +74,7 @@ fn stops(
     Ok(causes)
 }
 
-/// All that keeps a region that holds the address from answering it, from bus 0 down.
-fn causes_down(
-    alloc: Global,
-    host: &Host,
-    rows: &[RoutingRow],
-    asked: &Asked,
-    held: &Held,
-) -> Result<Vec<Cause>, AllocError>
-    requires { rows.now ≡ routing host.now.state.functions }
-    ensures { let space = named_space asked.now.space in let fs = host.now.state.functions in
-        IfOk result (λ v. map cause_told v.items
-        ≡ causes_down fs space asked.now.addr held.now.region.path held.now.command) }
-{
-    let mut causes = stops(alloc, host, rows, asked, &held.region.path)?;
-    if !opens(held.command, asked.space) {
-        causes.push(Cause::ClosedBy {
-            command: held.command,
-        })?;
-    }
-    Ok(causes)
-}
-
-/// The same, the nearest to its function first.
+/// All that keeps a region that holds the address from answering it, the nearest to its function first.
 pub(crate) fn causes_of(
     alloc: Global,
     host: &Host,
@@ -109,7 +87,12 @@ pub(crate) fn causes_of(
         IfOk result (λ v. map cause_told v.items
         ≡ causes_at fs space asked.now.addr held.now.region.path held.now.command) }
 {
-    let mut causes = causes_down(alloc, host, rows, asked, held)?;
+    let mut causes = stops(alloc, host, rows, asked, &held.region.path)?;
+    if !opens(held.command, asked.space) {
+        causes.push(Cause::ClosedBy {
+            command: held.command,
+        })?;
+    }
     causes.reverse();
     Ok(causes)
 }
