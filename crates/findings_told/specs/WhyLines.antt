@@ -1,74 +1,58 @@
--- Lines of an address, of a configuration number and of a port, in the program's words.
---     text_of, lines_at, lines_of_number      some lines; those of an address, and those of a configuration number
---     address_head, forwarder_lines      who answers; bridges that forward it
---     apart_lines, count_lines      regions that hold the address and don't answer it; how many are as at reset
---     number_head, taker_lines, lines_of_missing, not_found_lines      what a number reaches; bridges that take it; what is missing; what isn't found
---     data_line, use_line      a byte of configuration space at a port; what the latch makes of a port, if it makes something of it
-use Rattle.std.specs.Prelude.{List, [], ◌++◌, ℕ, Option, map, option_map, codes}
+-- What lines of why say, from the program's words.
+--     address_head, number_head      who answers an address; what a configuration number reaches
+--     taking_text      a bridge that takes the cycle for a bus
+--     at_reset_text      how many regions are as at reset
+--     use_text      what the latch makes of a port, if it makes something of it
+--     line_text      what a line says beside its first word
+use Rattle.std.specs.Prelude.{[], ◌++◌, ℕ, Option, ◌==◌, if◌then◌else◌, codes, decimal}
 use Rattle.std.specs.Option.{option_map_or}
 use Rattle.model_registers.specs.Decoding.{Space}
 use Rattle.model_board.specs.Paths.{Path}
-use Rattle.model_board.specs.Claims.{Claim}
 use Rattle.model_board.specs.Cycles.{BusAddress}
-use Rattle.model_guests.specs.Text.{Text, text_of_lines}
+use Rattle.model_guests.specs.Text.{Text}
+use Rattle.model_guests.specs.Replies.{hex_digits}
 use Rattle.model_guests.specs.PathTexts.{hexadecimal, path_text}
 use Rattle.model_findings.specs.AuditText.{space_text, number_text}
-use Rattle.model_board.specs.State.{BoardFunction}
 use Rattle.model_lines.specs.Why as model
-use Rattle.model_lines.specs.Why.{why}
-use Rattle.model_lines.specs.Ways.{why_number}
-use Rattle.model_lines.specs.WhyText.{claim_text, no_claim_text, forwarder_text, told_text, apart, at_reset_lines, why_lines, missing_lines, not_found_text, taker_text}
-use Rattle.model_lines.specs.WhyText.{number_lines, why_line}
 use Rattle.model_lines.specs.WhyPorts as ports
-use Rattle.report.specs.Found.{ended}
-use Rattle.findings.specs.declared.causes.Forwarder.{Forwarder}
-use Rattle.findings.specs.declared.causes.Told.{Told}
-use Rattle.findings.specs.declared.number_why.Missing.{Missing}
-use Rattle.findings.specs.WhyTold.{forwarder_told, region_told, missing_told}
+use Rattle.model_lines.specs.WhyText.{claim_text, no_claim_text, forwarder_text, told_text, missing_text, not_found_text, total_text}
+use Rattle.bars.specs.Kinds.{named_space}
+use Rattle.paths.specs.BusAddresses.{bus_address_of}
+use Rattle.findings.specs.WhyTold.{forwarder_told, region_told, why_told, missing_told, use_told}
+use Rattle.findings_told.specs.declared.why_line.Line.{Line}
+use Rattle.findings_told.specs.declared.why_line.Line.TheVariants.{Port, Address, Forwarder, Region, AtReset, Number, Taker, Missing, NotFound, Total}
 
-abbrev pub text_of : List Text → Text
-text_of ls = text_of_lines (map why_line ls)
+abbrev pub address_head : Space → ℕ → model.Why → Text
+address_head space n w =
+    space_text space ++ codes " " ++ hexadecimal n ++ codes ": "
+    ++ option_map_or claim_text w.answer (no_claim_text w.forwarders)
 
-abbrev pub lines_at : List BoardFunction → Space → ℕ → List Text
-lines_at fs space n = why_lines space n (why fs space n)
-
-abbrev pub lines_of_number : List BoardFunction → BusAddress → List Text
-lines_of_number fs at = number_lines at (why_number fs at)
-
-abbrev pub address_head : Space → ℕ → Option Claim → List model.Forwarder → Text
-address_head space n answer gs =
-    space_text space ++ codes " " ++ hexadecimal n ++ codes ": " ++ option_map_or claim_text answer (no_claim_text gs)
-
-abbrev pub forwarder_lines : List Forwarder → Text
-forwarder_lines gs = text_of (map forwarder_text (map forwarder_told gs))
-
-abbrev pub apart_lines : Space → List Told → Text
-apart_lines space ts = text_of (map (told_text space) (apart (map region_told ts)))
-
-abbrev pub count_lines : ℕ → Text
-count_lines n = text_of (at_reset_lines n)
+abbrev pub at_reset_text : ℕ → Text
+at_reset_text n =
+    decimal n ++ (if n == 1 then codes " region" else codes " regions") ++ codes " at 0x0, closed as at reset"
 
 abbrev pub number_head : BusAddress → Option Path → Text
 number_head at reached = number_text at ++ codes " reaches " ++ option_map_or path_text reached (codes "nothing")
 
-abbrev pub taker_lines : BusAddress → List Path → Text
-taker_lines at ps = text_of (map (taker_text at) ps)
+abbrev pub taking_text : ℕ → Path → Text
+taking_text bus p = path_text p ++ codes " takes bus " ++ hex_digits 2 bus
 
-abbrev pub lines_of_missing : Option Missing → Text
-lines_of_missing m = text_of (missing_lines (option_map missing_told m))
+abbrev pub use_text : ℕ → ℕ → ports.PortUse → Text
+use_text latch n ports.holds_latch = ports.port_text n ++ codes "4 bytes are " ++ ports.latch_text latch
+use_text latch n (ports.shows_data at off) =
+    ports.port_text n ++ codes "offset " ++ hexadecimal off ++ codes " of " ++ number_text at ++ codes " by "
+    ++ ports.latch_text latch
+use_text latch n ports.hides_data = ports.port_text n ++ codes "not enabled by " ++ ports.latch_text latch
+use_text latch n ports.like_others = []
 
-abbrev pub not_found_lines : List Path → Text
-not_found_lines ps = text_of (map not_found_text ps)
-
-abbrev pub data_line : ℕ → ℕ → BusAddress → ℕ → Text
-data_line latch n at off =
-    ended (why_line (ports.port_text n ++ codes "offset " ++ hexadecimal off ++ codes " of " ++ number_text at
-    ++ codes " by " ++ ports.latch_text latch))
-
-abbrev pub use_line : ℕ → ℕ → ports.PortUse → Text
-use_line latch n ports.holds_latch =
-    ended (why_line (ports.port_text n ++ codes "4 bytes are " ++ ports.latch_text latch))
-use_line latch n (ports.shows_data at off) = data_line latch n at off
-use_line latch n ports.hides_data =
-    ended (why_line (ports.port_text n ++ codes "not enabled by " ++ ports.latch_text latch))
-use_line latch n ports.like_others = []
+abbrev pub line_text : Line → Text
+line_text (Port latch n u) = use_text latch n (use_told u.now)
+line_text (Address space n w) = address_head (named_space space) n (why_told w.now)
+line_text (Forwarder g) = forwarder_text (forwarder_told g.now)
+line_text (Region space t) = told_text (named_space space) (region_told t.now)
+line_text (AtReset n) = at_reset_text n
+line_text (Number at w) = number_head (bus_address_of at.now) w.now.reached
+line_text (Taker bus p) = taking_text bus p.now
+line_text (Missing m) = missing_text (missing_told m.now)
+line_text (NotFound p) = not_found_text p.now
+line_text (Total n) = total_text n

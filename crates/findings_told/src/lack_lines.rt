@@ -1,27 +1,15 @@
 //! The lines of lacks, and the line that counts them and problems.
 ghost use Rattle.std.specs.Prelude.{OnOk};
 ghost use Rattle.lists.specs.Texts.{Adds};
-ghost use Rattle.model_findings.specs.Lacks.{outside_apertures};
 ghost use Rattle.model_findings.specs.ReadyText.{lack_text, lack_total, ready_line};
 ghost use Rattle.findings.specs.Findings.{lack_of};
 ghost use Rattle.findings_told.specs.Lines.{lack_lines};
 ghost use Rattle.report.specs.Found.{ended};
 
-use crate::places::{push_address, push_bus, push_region};
-use findings::{Lack, RegionNow};
-use report::push_path;
+use crate::places::{push_hexadecimal, push_region};
+use findings::Lack;
+use report::{push_byte, push_path};
 use std::alloc::AllocError;
-
-/// Appends what is lacking of a region that isn't inside the apertures.
-fn push_outside(text: &mut String, region: &RegionNow, address: u64) -> Result<(), AllocError>
-    ensures { OnOk result (Adds text.old text.new
-        (lack_text (outside_apertures region.now address))) }
-{
-    push_region(text, region)?;
-    text.push_str(": ")?;
-    push_address(text, address)?;
-    text.push_str(" is outside the apertures")
-}
 
 /// Appends what is lacking.
 fn push_told(text: &mut String, lack: &Lack) -> Result<(), AllocError>
@@ -32,7 +20,10 @@ fn push_told(text: &mut String, lack: &Lack) -> Result<(), AllocError>
             push_region(text, region)?;
             text.push_str(" is closed")
         }
-        Lack::OutsideApertures { region, address } => push_outside(text, region, *address),
+        Lack::OutsideApertures { region, address } => {
+            push_region(text, region)?;
+            write!(text, ": 0x{address:x} is outside the apertures")
+        }
         Lack::Prefetched {
             region,
             bridge,
@@ -42,14 +33,14 @@ fn push_told(text: &mut String, lack: &Lack) -> Result<(), AllocError>
             text.push_str(": ")?;
             push_path(text, bridge)?;
             text.push_str(" prefetches ")?;
-            push_address(text, *address)
+            push_hexadecimal(text, *address)
         }
         Lack::OtherPrimary { path, held, number } => {
             push_path(text, path)?;
             text.push_str(": Primary is ")?;
-            push_bus(text, *held)?;
+            push_byte(text, *held)?;
             text.push_str(" on bus ")?;
-            push_bus(text, *number)
+            push_byte(text, *number)
         }
     }
 }

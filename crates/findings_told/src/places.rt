@@ -1,11 +1,10 @@
 //! Where something stands: regions, addresses, spaces, numbers and paths, in lines.
-ghost use Rattle.std.specs.Prelude.{codes, OnOk};
+ghost use Rattle.std.specs.Prelude.{◌≡◌, codes, OnOk};
 ghost use Rattle.std.specs.Option.{option_map_or};
 ghost use Rattle.lists.specs.Texts.{Adds};
 ghost use Rattle.bars.specs.Kinds.{named_space};
 ghost use Rattle.paths.specs.BusAddresses.{bus_address_of};
 ghost use Rattle.model_guests.specs.PathTexts.{hexadecimal, path_text};
-ghost use Rattle.model_guests.specs.Replies.{hex_digits};
 ghost use Rattle.model_findings.specs.AuditText.{region_text, space_text, number_text};
 
 use bars::Space;
@@ -15,7 +14,7 @@ use report::{push_byte, push_path};
 use std::alloc::AllocError;
 
 /// Appends the path of a region, its register, and where it stands.
-pub fn push_region(text: &mut String, region: &RegionNow) -> Result<(), AllocError>
+pub(crate) fn push_region(text: &mut String, region: &RegionNow) -> Result<(), AllocError>
     ensures { OnOk result (Adds text.old text.new (region_text region.now)) }
 {
     push_path(text, &region.path)?;
@@ -25,28 +24,28 @@ pub fn push_region(text: &mut String, region: &RegionNow) -> Result<(), AllocErr
     write!(text, " bar{index} at 0x{base:x} size 0x{size:x}")
 }
 
-/// Appends an address.
-pub fn push_address(text: &mut String, address: u64) -> Result<(), AllocError>
-    ensures { OnOk result (Adds text.old text.new (hexadecimal address)) }
-{
-    write!(text, "0x{address:x}")
-}
-
-/// Appends the name of a space.
-pub fn push_space(text: &mut String, space: Space) -> Result<(), AllocError>
-    ensures { OnOk result (Adds text.old text.new (space_text (named_space space))) }
+/// The name of a space.
+pub(crate) fn space_name(space: Space) -> &'static str
+    ensures { result.now ≡ space_text (named_space space) }
 {
     match space {
-        Space::Io => text.push_str("I/O"),
-        Space::Mem => text.push_str("memory"),
+        Space::Io => "I/O",
+        Space::Mem => "memory",
     }
 }
 
-/// Appends a bus number.
-pub fn push_bus(text: &mut String, bus: u8) -> Result<(), AllocError>
-    ensures { OnOk result (Adds text.old text.new (hex_digits 2 bus)) }
+/// Appends the name of a space.
+pub(crate) fn push_space(text: &mut String, space: Space) -> Result<(), AllocError>
+    ensures { OnOk result (Adds text.old text.new (space_text (named_space space))) }
 {
-    push_byte(text, bus)
+    text.push_str(space_name(space))
+}
+
+/// Appends a number in hexadecimal digits.
+pub(crate) fn push_hexadecimal(text: &mut String, number: u64) -> Result<(), AllocError>
+    ensures { OnOk result (Adds text.old text.new (hexadecimal number)) }
+{
+    write!(text, "0x{number:x}")
 }
 
 /// Appends a bus, device and function number.
@@ -66,7 +65,7 @@ pub fn push_number(text: &mut String, at: Bdf) -> Result<(), AllocError>
 }
 
 /// Appends a path, or `nothing`.
-pub fn push_reached(text: &mut String, path: &Option<Path>) -> Result<(), AllocError>
+pub(crate) fn push_reached(text: &mut String, path: &Option<Path>) -> Result<(), AllocError>
     ensures { OnOk result (Adds text.old text.new
         (option_map_or path_text path.now (codes "nothing"))) }
 {

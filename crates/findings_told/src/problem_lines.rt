@@ -6,7 +6,7 @@ ghost use Rattle.findings.specs.Findings.{problem_of};
 ghost use Rattle.findings_told.specs.Lines.{problem_lines};
 ghost use Rattle.report.specs.Found.{ended};
 
-use crate::places::{push_address, push_number, push_reached, push_region, push_space};
+use crate::places::{push_hexadecimal, push_number, push_reached, push_region, push_space};
 use findings::{Agent, Problem};
 use report::push_path;
 use std::alloc::AllocError;
@@ -34,7 +34,7 @@ fn push_told(text: &mut String, problem: &Problem) -> Result<(), AllocError>
         } => {
             push_region(text, region)?;
             text.push_str(": ")?;
-            push_address(text, *address)?;
+            push_hexadecimal(text, *address)?;
             text.push_str(" is not forwarded by ")?;
             push_path(text, bridge)
         }
@@ -49,7 +49,7 @@ fn push_told(text: &mut String, problem: &Problem) -> Result<(), AllocError>
             text.push_str(" both answer ")?;
             push_space(text, one.space)?;
             text.push_str(" ")?;
-            push_address(text, *address)
+            push_hexadecimal(text, *address)
         }
         Problem::NotFound {
             path,

@@ -1,4 +1,4 @@
-//! The lines of an address.
+//! What the lines of an address say.
 ghost use Rattle.std.specs.Prelude.{◌++◌, codes, map, OnOk};
 ghost use Rattle.std.specs.Option.{option_map_or};
 ghost use Rattle.lists.specs.Texts.{Adds};
@@ -6,17 +6,16 @@ ghost use Rattle.bars.specs.Kinds.{named_space};
 ghost use Rattle.model_lines.specs.Why.{stopped_at};
 ghost use Rattle.model_lines.specs.WhyText.{command_text, hindrance_text, cause_text, more_text};
 ghost use Rattle.model_lines.specs.WhyText.{causes_text, told_text, forwarder_text, claim_text};
-ghost use Rattle.model_lines.specs.WhyText.{no_claim_text, why_line};
-ghost use Rattle.findings.specs.WhyTold.{hindrance_told, cause_told, forwarder_told, region_told};
-ghost use Rattle.report.specs.Found.{ended};
-ghost use Rattle.findings_told.specs.WhyLines.{address_head, forwarder_lines};
+ghost use Rattle.model_lines.specs.WhyText.{no_claim_text};
+ghost use Rattle.findings.specs.WhyTold.{hindrance_told, cause_told, forwarder_told, region_told, why_told};
+ghost use Rattle.findings_told.specs.WhyLines.{address_head};
 
-use crate::places::{push_address, push_bus, push_region, push_space};
+use crate::places::{push_region, space_name};
 use crate::why_parts::{push_command, push_windows};
 use bars::Space;
 use bridge_forward::{Claim, Path};
-use findings::{Cause, Forwarder, Hindrance, Told};
-use report::push_path;
+use findings::{Cause, Forwarder, Hindrance, Told, Why};
+use report::{push_byte, push_path};
 use std::alloc::AllocError;
 
 /// Appends what keeps a bridge from forwarding an address.
@@ -27,8 +26,8 @@ fn push_hindrance(text: &mut String, space: Space, hindrance: Hindrance) -> Resu
     match hindrance {
         Hindrance::Closes { command } => {
             push_command(text, command)?;
-            text.push_str(" closes ")?;
-            push_space(text, space)
+            let space = space_name(space);
+            write!(text, " closes {space}")
         }
         Hindrance::Misses { one, other } => push_windows(text, one, other),
     }
@@ -103,23 +102,13 @@ fn push_causes(text: &mut String, space: Space, causes: &[Cause]) -> Result<(), 
 }
 
 /// Appends a region that holds the address, and what keeps it from answering.
-fn push_told(text: &mut String, space: Space, told: &Told) -> Result<(), AllocError>
+pub(crate) fn push_told(text: &mut String, space: Space, told: &Told) -> Result<(), AllocError>
     ensures { OnOk result (Adds text.old text.new
         (told_text (named_space space) (region_told told.now))) }
 {
     push_region(text, &told.region)?;
     text.push_str(": ")?;
     push_causes(text, space, &told.causes)
-}
-
-/// Appends its line.
-pub(crate) fn push_told_line(text: &mut String, space: Space, told: &Told) -> Result<(), AllocError>
-    ensures { OnOk result (Adds text.old text.new
-        (ended (why_line (told_text (named_space space) (region_told told.now))))) }
-{
-    text.push_str("why: ")?;
-    push_told(text, space, told)?;
-    text.push('\n')
 }
 
 /// Appends where an address lands.
@@ -160,65 +149,26 @@ fn push_answer(
 }
 
 /// Appends an address, and who answers it.
-fn push_found(
+pub(crate) fn push_address(
     text: &mut String,
     space: Space,
     addr: u64,
-    answer: &Option<Claim>,
-    forwarders: &[Forwarder],
+    why: &Why,
 ) -> Result<(), AllocError>
-    ensures { let gs = map forwarder_told forwarders.now in OnOk result (Adds text.old text.new
-        (address_head (named_space space) addr answer.now gs)) }
+    ensures { OnOk result (Adds text.old text.new
+        (address_head (named_space space) addr (why_told why.now))) }
 {
-    push_space(text, space)?;
-    text.push_str(" ")?;
-    push_address(text, addr)?;
-    text.push_str(": ")?;
-    push_answer(text, answer, forwarders)
-}
-
-/// Appends the line of who answers an address.
-pub(crate) fn push_head(
-    text: &mut String,
-    space: Space,
-    addr: u64,
-    answer: &Option<Claim>,
-    forwarders: &[Forwarder],
-) -> Result<(), AllocError>
-    ensures { let gs = map forwarder_told forwarders.now in OnOk result (Adds text.old text.new
-        (ended (why_line (address_head (named_space space) addr answer.now gs)))) }
-{
-    text.push_str("why: ")?;
-    push_found(text, space, addr, answer, forwarders)?;
-    text.push('\n')
+    let space = space_name(space);
+    write!(text, "{space} 0x{addr:x}: ")?;
+    push_answer(text, &why.answer, &why.forwarders)
 }
 
 /// Appends a bridge that forwards an address.
-fn push_forwarder(text: &mut String, forwarder: &Forwarder) -> Result<(), AllocError>
+pub(crate) fn push_forwarder(text: &mut String, forwarder: &Forwarder) -> Result<(), AllocError>
     ensures { OnOk result (Adds text.old text.new
         (forwarder_text (forwarder_told forwarder.now))) }
 {
     push_path(text, &forwarder.path)?;
     text.push_str(" forwards it to bus ")?;
-    push_bus(text, forwarder.bus)
-}
-
-/// Appends its line.
-fn push_forwarder_line(text: &mut String, forwarder: &Forwarder) -> Result<(), AllocError>
-    ensures { OnOk result (Adds text.old text.new
-        (ended (why_line (forwarder_text (forwarder_told forwarder.now))))) }
-{
-    text.push_str("why: ")?;
-    push_forwarder(text, forwarder)?;
-    text.push('\n')
-}
-
-/// Appends the lines of all bridges that forward an address.
-pub(crate) fn push_forwarders(text: &mut String, all: &[Forwarder]) -> Result<(), AllocError>
-    ensures { OnOk result (Adds text.old text.new (forwarder_lines all.now)) }
-{
-    for forwarder in all {
-        push_forwarder_line(text, forwarder)?;
-    }
-    Ok(())
+    push_byte(text, forwarder.bus)
 }

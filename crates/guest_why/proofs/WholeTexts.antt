@@ -1,21 +1,12 @@
 -- The lines of a text, one after the other.
-use Rattle.std.proofs.Common.{◌≡◌, ◌++◌, ℕ, List, [], ◌∷◌, map, refl, sym, ap, ◌∙◌, append_assoc, append-nil}
+use Rattle.std.proofs.Common.{◌≡◌, ◌++◌, List, [], ◌∷◌, map, sym, ap, ◌∙◌, append_assoc}
 use Rattle.std.specs.Prelude.{Result, Ok, Err, OnOk, is_ok, if◌then◌else◌}
 use Rattle.std.proofs.lemmas.List.{map-append}
 use Rattle.model_guests.specs.Text.{Text, text_of_lines}
 use Rattle.model_lines.specs.WhyText.{why_line}
-use Rattle.model_lines.specs.WhyPorts.{PortUse, holds_latch, shows_data, hides_data, like_others, use_lines}
 use Rattle.report.specs.Found.{ended}
 use Rattle.model_guests.proofs.WrittenLines.{text_of_lines-append}
 use Rattle.findings_told.proofs.Chains.{onto}
-use Rattle.findings_told.specs.WhyLines.{use_line}
-
--- a line for what the latch makes of a port, or none
-pub use_alone : (latch n : ℕ) (u : PortUse) → use_line latch n u ≡ text_of_lines (map why_line (use_lines latch n u))
-use_alone latch n holds_latch = sym (append-nil (use_line latch n holds_latch))
-use_alone latch n (shows_data at off) = sym (append-nil (use_line latch n (shows_data at off)))
-use_alone latch n hides_data = sym (append-nil (use_line latch n hides_data))
-use_alone latch n like_others = refl
 
 pub text_whole : (before after : List Text) (head zero one two three : Text) → zero ≡ [] → one ≡ zero ++ text_of_lines (map why_line before) → two ≡ one ++ ended (why_line head)
     → three ≡ two ++ text_of_lines (map why_line after) → three ≡ text_of_lines (map why_line (before ++ head ∷ after))

@@ -18,12 +18,12 @@ use paths::Latch;
 use std::alloc::{AllocError, Global};
 
 /// Appends the line of what a guest's address latch makes of a place, if that is a port and it makes something of it.
-fn push_use_at(text: &mut String, latch: Latch, at: At) -> Result<(), AllocError>
+fn push_use_at(alloc: Global, text: &mut String, latch: Latch, at: At) -> Result<(), AllocError>
     ensures { OnOk result (Adds text.old text.new
         (text_of_lines (map why_line (target_lines latch (target_of at))))) }
 {
     match at {
-        At::Io { port } => push_use(text, latch, port, port_use(latch, port)),
+        At::Io { port } => push_use(alloc, text, latch, port, port_use(latch, port)),
         At::Config { .. } | At::Mem { .. } => Ok(()),
     }
 }
@@ -34,7 +34,7 @@ fn text_of(alloc: Global, latch: Latch, at: At, finding: &Finding) -> Result<Str
         string_bytes t ≡ text_told latch (target_of at) (finding_told finding.now)) }
 {
     let mut text = String::new(alloc);
-    push_use_at(&mut text, latch, at)?;
+    push_use_at(alloc, &mut text, latch, at)?;
     push_head(&mut text, at, finding)?;
     push_closed_of(&mut text, finding)?;
     Ok(text)

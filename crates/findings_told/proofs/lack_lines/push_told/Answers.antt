@@ -17,14 +17,14 @@ returns-in_ok-push_str-in-Prefetched-2 c =
     let one = and_then old (region_text c.in-Prefetched.region) (codes ": ") _ _ c.in_ok-push_region-in-Prefetched.ensures c.in_ok-push_str-in-Prefetched.ensures.bytes in
     let two = and_then old _ (path_text c.in-Prefetched.bridge) _ _ one c.in_ok-push_path-in-Prefetched.ensures in
     let three = and_then old _ (codes " prefetches ") _ _ two c.in_ok-push_str-in-Prefetched-2.ensures.bytes in
-    subst (λ (l : Lack). OnOk c.push_address.result (Adds c.args.text.now c.push_address.new.text (lack_text (lack_of l)))) (sym c.in-Prefetched.is)
-    (IfOk-equal c.push_address.result _ _ _ c.push_address.ensures (onto old _ (hexadecimal c.in-Prefetched.address) _ three))
+    subst (λ (l : Lack). OnOk c.push_hexadecimal.result (Adds c.args.text.now c.push_hexadecimal.new.text (lack_text (lack_of l)))) (sym c.in-Prefetched.is)
+    (IfOk-equal c.push_hexadecimal.result _ _ _ c.push_hexadecimal.ensures (onto old _ (hexadecimal c.in-Prefetched.address) _ three))
 
 pub returns-in_ok-push_str-in-OtherPrimary-2 : goal.returns-in_ok-push_str-in-OtherPrimary-2
 returns-in_ok-push_str-in-OtherPrimary-2 c =
     let old = string_bytes c.args.text.now in
     let one = and_then old (path_text c.in-OtherPrimary.path) (codes ": Primary is ") _ _ c.in_ok-push_path-in-OtherPrimary.ensures c.in_ok-push_str-in-OtherPrimary.ensures.bytes in
-    let two = and_then old _ (hex_digits 2 c.in-OtherPrimary.held) _ _ one c.in_ok-push_bus-in-OtherPrimary.ensures in
+    let two = and_then old _ (hex_digits 2 c.in-OtherPrimary.held) _ _ one c.in_ok-push_byte-in-OtherPrimary.ensures in
     let three = and_then old _ (codes " on bus ") _ _ two c.in_ok-push_str-in-OtherPrimary-2.ensures.bytes in
-    subst (λ (l : Lack). OnOk c.push_bus-in-OtherPrimary.result (Adds c.args.text.now c.push_bus-in-OtherPrimary.new.text (lack_text (lack_of l)))) (sym c.in-OtherPrimary.is)
-    (IfOk-equal c.push_bus-in-OtherPrimary.result _ _ _ c.push_bus-in-OtherPrimary.ensures (onto old _ (hex_digits 2 c.in-OtherPrimary.number) _ three))
+    subst (λ (l : Lack). OnOk c.push_byte-in-OtherPrimary.result (Adds c.args.text.now c.push_byte-in-OtherPrimary.new.text (lack_text (lack_of l)))) (sym c.in-OtherPrimary.is)
+    (IfOk-equal c.push_byte-in-OtherPrimary.result _ _ _ c.push_byte-in-OtherPrimary.ensures (onto old _ (hex_digits 2 c.in-OtherPrimary.number) _ three))

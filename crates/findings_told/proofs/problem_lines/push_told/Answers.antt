@@ -16,7 +16,7 @@ pub returns-in_ok-push_str-in-NotForwarded-2 : goal.returns-in_ok-push_str-in-No
 returns-in_ok-push_str-in-NotForwarded-2 c =
     let old = string_bytes c.args.text.now in
     let one = and_then old (region_text c.in-NotForwarded.region) (codes ": ") _ _ c.in_ok-push_region-in-NotForwarded.ensures c.in_ok-push_str-in-NotForwarded.ensures.bytes in
-    let two = and_then old _ (hexadecimal c.in-NotForwarded.address) _ _ one c.in_ok-push_address-in-NotForwarded.ensures in
+    let two = and_then old _ (hexadecimal c.in-NotForwarded.address) _ _ one c.in_ok-push_hexadecimal-in-NotForwarded.ensures in
     let three = and_then old _ (codes " is not forwarded by ") _ _ two c.in_ok-push_str-in-NotForwarded-2.ensures.bytes in
     subst (λ (p : Problem). OnOk c.push_path.result (Adds c.args.text.now c.push_path.new.text (problem_text (problem_of p)))) (sym c.in-NotForwarded.is)
     (IfOk-equal c.push_path.result _ _ _ c.push_path.ensures (onto old _ (path_text c.in-NotForwarded.bridge) _ three))
@@ -29,8 +29,8 @@ returns-in_ok-push_str-in-Contended-3 c =
     let three = and_then old _ (codes " both answer ") _ _ two c.in_ok-push_str-in-Contended-2.ensures.bytes in
     let four = and_then old _ (space_text c.in-Contended.one.space) _ _ three (c.in_ok-push_space-in-Contended.ensures ∙ ap (λ (a : Agent). string_bytes c.push_str-in-Contended-2.new.self ++ space_text a.space) c.one.view_is) in
     let five = and_then old _ (codes " ") _ _ four c.in_ok-push_str-in-Contended-3.ensures.bytes in
-    subst (λ (p : Problem). OnOk c.push_address-in-Contended.result (Adds c.args.text.now c.push_address-in-Contended.new.text (problem_text (problem_of p)))) (sym c.in-Contended.is)
-    (IfOk-equal c.push_address-in-Contended.result _ _ _ c.push_address-in-Contended.ensures (onto old _ (hexadecimal c.in-Contended.address) _ five))
+    subst (λ (p : Problem). OnOk c.push_hexadecimal-in-Contended.result (Adds c.args.text.now c.push_hexadecimal-in-Contended.new.text (problem_text (problem_of p)))) (sym c.in-Contended.is)
+    (IfOk-equal c.push_hexadecimal-in-Contended.result _ _ _ c.push_hexadecimal-in-Contended.ensures (onto old _ (hexadecimal c.in-Contended.address) _ five))
 
 pub returns-in_ok-push_str-in-NotFound-2 : goal.returns-in_ok-push_str-in-NotFound-2
 returns-in_ok-push_str-in-NotFound-2 c =
