@@ -1,8 +1,7 @@
 -- What a run of lines says of the board file over whose board it began.
---     runs_from, runs_over, is_run      a run from where it begins, as in the world of the file
+--     runs_from, is_run      a run from where it begins, as in the world of the file
 use Rattle.std.proofs.Common.{◌≡◌, Result, subst}
 use Rattle.model_guests.specs.Text.{Text}
-use Rattle.model_guests.specs.World.{World}
 use Rattle.model_guests.specs.LineRuns.{Protocol}
 use Rattle.lines.specs.declared.runs.RunFault.{RunFault}
 use Rattle.lines.specs.Runs.{Ends, Runs}
@@ -10,22 +9,12 @@ use Rattle.model_handoff.specs.AfterSetUp.{world_at_first}
 use Rattle.model_guests.specs.WorldNow.{world_protocol}
 use Rattle.model_handoff.specs.Changes.{MachineNow, BeginsIn, machine_protocol}
 use Rattle.model_handoff.proofs.AfterSetUp.{set_up_isolates}
-use Rattle.simulation.specs.Lines.{RunsOver}
 use Rattle.simulation.specs.Running.{IsRun}
 use Rattle.simulation.proofs.Ran.{runs_aside}
-use Rattle.session.specs.Files.{Declares, IsOpened}
+use Rattle.session.specs.Files.{IsOpened}
 
 pub runs_from : {S T : Type 0} (p : Protocol S) (s first end : S) (at : Ends) (result : Result T RunFault) → s ≡ first → Runs p s end at result → Runs p first end at result
 runs_from p s first end at result begins runs = subst (λ x. Runs p x end at result) begins runs
-
-abbrev pub runs_over : {S T : Type 0} (p : Protocol S) (first : World → S) {board : Text} {w : World} {s : S} (end : S) {at : Ends} (result : Result T RunFault)
-    → Declares board w → s ≡ first w → Runs p s end at result → RunsOver p first board at result
-runs_over p first {board} {w} {s} end {at} result declared begins runs = record {
-  world = w;
-  declared = declared;
-  end = end;
-  runs = runs_from p s (first w) end at result begins runs;
-}
 
 -- a run over the opened world of the file
 abbrev pub is_run : {T : Type 0} (board : Text) (m end : MachineNow) (at : Ends) (result : Result T RunFault)

@@ -1,8 +1,7 @@
 mod FaultNumbers
 mod Begun
-mod Strict
-mod ToldAfter
-pub mod Left
+mod Scripts
+mod Served
 mod Listed
 pub mod Ran
 pub mod Accepted

@@ -8,7 +8,7 @@
 --     IsTelling choice f      the choice tells of the fault
 --     IsLacking choice f      memory is out once lines ran
 --     IsOfChoice choice f      a fault that the choice can end with
-use Rattle.std.specs.Prelude.{◌≡◌, Bool, true, false, if◌then◌else◌, Option, None, Some, Result, Ok, Err, string_bytes, ⊤}
+use Rattle.std.specs.Prelude.{◌≡◌, Bool, false, if◌then◌else◌, Option, None, Some, Result, Ok, Err, string_bytes, ⊤}
 use Rattle.std.specs.Io.KnownBytes.{Appends}
 use Rattle.model_registers.specs.DeclarationRules.{first_broken}
 use Rattle.model_set_up.specs.SetUpWrites.{set_up_rules}
@@ -26,14 +26,13 @@ use Rattle.board_fit.specs.declared.warned.Warned.TheVariants as of
 use Rattle.simulation.specs.declared.listing.ReportForm.{ReportForm}
 use Rattle.simulation.specs.declared.listing.ReportForm.TheVariants.{Lines, Json}
 use Rattle.simulation.specs.Demo.{demo_board}
-use Rattle.simulation.specs.Faults.{IsRefusal, IsOfAudit, IsOfList, IsOfReadiness, IsOfRun, IsOfStrictRun, IsOfStrictSession, OnRun}
+use Rattle.simulation.specs.Faults.{IsRefusal, IsOfList, IsOfRun, IsOfRunAs, OnRun}
 use Rattle.session.specs.Files.{Declares}
 use Rattle.simulation.specs.Listing.{IsListed, IsListedInPart}
 use Rattle.simulation.specs.Checking.{IsChecked, IsCheckedInPart}
 use Rattle.simulation.specs.Running.{IsRun, RunsAs}
-use Rattle.simulation.specs.Sessions.{Drives}
-use Rattle.simulation.specs.Auditing.{Audits}
-use Rattle.simulation.specs.Readiness.{Readies}
+use Rattle.simulation.specs.Serving.{IsOfServing, Serves}
+use Rattle.simulation.specs.declared.serving.Question.TheVariants as question
 use Rattle.simulation.specs.declared.fault.Fault.{Fault}
 use Rattle.simulation.specs.declared.fault.Fault.TheVariants.{SetUp, Write}
 
@@ -81,9 +80,9 @@ Does Demo board at r = OnRun (IsRun demo_board at) r
 Does (List path json) board at r = Lists (form_of json) board at r
 Does (Check path all plain) board at r = Checks (style_of plain) (warned_of all) path.now board at r
 Does (Run path strict) board at r = RunsAs strict board at r
-Does (Firmware path strict) board at r = Drives strict board at r
-Does (Audit path json strict) board at r = Audits (form_of json) strict board at r
-Does (Ready path) board at r = Readies board at r
+Does (Firmware path strict) board at r = Serves None strict board at r
+Does (Audit path json strict) board at r = Serves (Some (question.Audit (form_of json))) strict board at r
+Does (Ready path) board at r = Serves (Some question.Ready) false board at r
 
 abbrev pub IsTelling : Choice → Fault → Type 0
 IsTelling (Check path all plain) f = IsRefusal f
@@ -96,16 +95,12 @@ IsLacking (Audit path json strict) f = f ≡ SetUp set_up.Memory
 IsLacking (Ready path) f = f ≡ SetUp set_up.Memory
 IsLacking _ f = ⊥
 
-abbrev pub IsOfRunAs : Bool → Fault → Type 0
-IsOfRunAs true f = IsOfStrictRun f
-IsOfRunAs false f = IsOfRun f
-
 abbrev pub IsOfChoice : Choice → Fault → Type 0
 IsOfChoice (Help text) f = f ≡ Write
 IsOfChoice Demo f = IsOfRun f
 IsOfChoice (List path json) f = IsOfList f
 IsOfChoice (Check path all plain) f = IsOfList f
 IsOfChoice (Run path strict) f = IsOfRunAs strict f
-IsOfChoice (Firmware path strict) f = IsOfStrictSession strict f
-IsOfChoice (Audit path json strict) f = IsOfAudit strict f
-IsOfChoice (Ready path) f = IsOfReadiness f
+IsOfChoice (Firmware path strict) f = IsOfServing None strict f
+IsOfChoice (Audit path json strict) f = IsOfServing (Some (question.Audit (form_of json))) strict f
+IsOfChoice (Ready path) f = IsOfServing (Some question.Ready) false f

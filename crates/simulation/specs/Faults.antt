@@ -2,8 +2,7 @@
 --     number_of, words_of, line_of      the number, the words and the line of a fault
 --     fault_numbered n      the fault of a number
 --     of_open, of_run, of_words      the fault of a board that is not set up, of a run, and of the words of the command line
---     OnRun P r, OnSession P r      how a run of lines ended has P, if any ran before r; of a session memory may be out
---         for a line
+--     OnRun P r      how a run of lines ended has P, if any ran before r
 --     IsOfFile f      the file is refused, or memory is out while it is read
 --     IsOfBoard f      so too, or of its board
 --     IsRefusal f, IsOutOfMemory f      the one of these, and the other
@@ -12,9 +11,7 @@
 --     IsToldLast f      f is told once all was written and flushed
 --     IsOfList, IsOfRun      a fault of a listing, or of a run over a board that is set up
 --     IsOfSession      a fault of a session over a board at reset
---     IsOfStrictRun, IsOfStrictSession strict      so too, or a line was refused, where that is a fault
---     IsOfAudit strict      so too, or an audit after it tells a problem, where that is a fault
---     IsOfReadiness      a fault of a session, or the board isn't ready after it
+--     IsOfRunAs strict      a fault of a run, or a line was refused, where that is a fault
 use Rattle.std.specs.Prelude.{◌≡◌, ◌≢◌, ◌==◌, ℕ, Bool, true, ◌++◌, List, [], ◌∷◌, Option, Result, Ok, Err, codes, decimal, find, ⊤}
 use Rattle.board_file.specs.declared.fault.BoardFault.TheVariants as file
 use Rattle.board_file.specs.Faults as board_file
@@ -89,10 +86,6 @@ OnRun P (Err Read) = P (Err run.Read)
 OnRun P (Err Write) = P (Err run.Write)
 OnRun P (Err other) = ⊤
 
-abbrev pub OnSession : {T : Type 0} → (Result T RunFault → Type 0) → Result T Fault → Type 0
-OnSession P (Err (SetUp set_up.Memory)) = P (Err run.Memory)
-OnSession P r = OnRun P r
-
 abbrev pub IsOfFile : Fault → Type 0
 IsOfFile (File b) = ⊤
 IsOfFile _ = ⊥
@@ -152,18 +145,7 @@ IsOfSession Write = ⊤
 IsOfSession (SetUp s) = s ≡ set_up.Memory
 IsOfSession f = IsOfFile f
 
-abbrev pub IsOfStrictRun : Fault → Type 0
-IsOfStrictRun RefusedLine = ⊤
-IsOfStrictRun f = IsOfRun f
-
-abbrev pub IsOfStrictSession : Bool → Fault → Type 0
-IsOfStrictSession strict RefusedLine = strict ≡ true
-IsOfStrictSession strict f = IsOfSession f
-
-abbrev pub IsOfAudit : Bool → Fault → Type 0
-IsOfAudit strict NotInOrder = strict ≡ true
-IsOfAudit strict f = IsOfStrictSession strict f
-
-abbrev pub IsOfReadiness : Fault → Type 0
-IsOfReadiness NotReady = ⊤
-IsOfReadiness f = IsOfSession f
+-- if `strict`, a refused line is a fault
+abbrev pub IsOfRunAs : Bool → Fault → Type 0
+IsOfRunAs strict RefusedLine = strict ≡ true
+IsOfRunAs strict f = IsOfRun f

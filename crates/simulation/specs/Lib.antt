@@ -1,12 +1,8 @@
 pub mod Faults
 pub mod Demo
 pub mod Listing
-pub mod Lines
 pub mod Checking
 pub mod Running
-pub mod Sessions
-pub mod AfterLines
-pub mod Auditing
-pub mod Readiness
+pub mod Serving
 pub mod Choices
 pub mod Hints

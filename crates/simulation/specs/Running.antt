@@ -1,10 +1,9 @@
 -- What a run says of a board file and a script.
 --     IsRun board at result      what a run did in the file's world; guests are isolated there
---     HasRun refused board at      all lines were read, and what they write was written and flushed; this is whether one was
---         refused
---     RunsStrictly board at result      what was done, by how it ended: a refused line is a fault
---     RunsAs strict board at result      so too if `strict`, else what a run did
-use Rattle.std.specs.Prelude.{◌≡◌, Bool, true, false, Result, Ok, Err, IsTrue}
+--     HasRun strict refused board at      all lines were read, and what they write was written and flushed; if `strict`, this
+--         is whether one was refused
+--     RunsAs strict board at result      what was done, by how it ended: if `strict`, a refused line is a fault
+use Rattle.std.specs.Prelude.{◌≡◌, ◌&&◌, Bool, true, false, Result, Ok, Err, IsTrue}
 use Rattle.std.specs.Option.{ForSome}
 use Rattle.model_guests.specs.Text.{Text, lines}
 use Rattle.model_guests.specs.Grammar.{has_name}
@@ -30,15 +29,11 @@ pub record IsRun {T : Type 0} (board : Text) (at : Ends) (result : Result T RunF
   pub runs : Runs world_protocol (world_at_first world) end at result
   pub isolated : (name script : Text) → IsTrue (has_name (names world) name) → IsIsolated world name script
 
-pub record HasRun (refused : Bool) (board : Text) (at : Ends) : Type 0 where
+pub record HasRun (strict refused : Bool) (board : Text) (at : Ends) : Type 0 where
   pub run : IsRun {T = Unit {0}} board at (Ok tt)
-  pub answers : ForSome at.script (λ s. refuses world_protocol refusal_in (world_at_first run.world) (lines s) ≡ refused)
-
-abbrev pub RunsStrictly : {T : Type 0} → Text → Ends → Result T Fault → Type 0
-RunsStrictly board at (Ok x) = HasRun false board at
-RunsStrictly board at (Err RefusedLine) = HasRun true board at
-RunsStrictly {T} board at (Err other) = OnRun {T = T} (IsRun board at) (Err other)
+  pub answers : ForSome at.script (λ s. (strict && refuses world_protocol refusal_in (world_at_first run.world) (lines s)) ≡ refused)
 
 abbrev pub RunsAs : {T : Type 0} → Bool → Text → Ends → Result T Fault → Type 0
-RunsAs true board at r = RunsStrictly board at r
-RunsAs false board at r = OnRun (IsRun board at) r
+RunsAs strict board at (Ok x) = HasRun strict false board at
+RunsAs strict board at (Err RefusedLine) = HasRun strict true board at
+RunsAs {T} strict board at (Err other) = OnRun {T = T} (IsRun board at) (Err other)

@@ -3,18 +3,15 @@ ghost use Rattle.std.specs.Prelude.{◌≡◌, ◌≢◌, ◌+◌, ◌-◌, ◌^
 ghost use Rattle.std.specs.Io.KnownBytes.{Appends};
 ghost use Rattle.streams.specs.Ends.{AppendsPart};
 ghost use Rattle.lines.specs.Runs.{ends};
-ghost use Rattle.simulation.specs.Choices.{form_of, style_of, warned_of, Does, IsTelling, IsLacking, IsOfChoice, IsOfRunAs};
-ghost use Rattle.simulation.specs.Faults.{read_faults, write_faults, IsOfBoard, IsToldLast};
-ghost use Rattle.simulation.specs.Running.{RunsAs};
+ghost use Rattle.simulation.specs.Choices.{form_of, style_of, warned_of, Does, IsTelling, IsLacking, IsOfChoice};
+ghost use Rattle.simulation.specs.Faults.{read_faults, write_faults, IsToldLast};
 
-use crate::auditing::audit;
 use crate::checking::check;
 use crate::demonstration::demo;
-use crate::driving::drive;
 use crate::fault::Fault;
 use crate::listing::{ReportForm, list};
-use crate::readiness::ready;
-use crate::running::{whole, whole_strictly};
+use crate::running::run_as;
+use crate::serving::{Question, serve};
 use board_fit::Warned;
 use command_line::Choice;
 use diagnostics::Style;
@@ -66,31 +63,6 @@ pub(crate) fn print<W: Writer>(text: &str, writer: &mut W) -> Result<(), Fault>
     Ok(())
 }
 
-/// Runs a script over a board file, by whether a refused line is a fault.
-fn run_as<R: Reader, W: Writer>(
-    alloc: Global,
-    board: &[u8],
-    strict: bool,
-    reader: &mut R,
-    writer: &mut W,
-) -> Result<(), Fault>
-    requires reader_has_room { R.failures reader.old < 2 ^ 64 - 1 }
-    requires writer_has_room { W.failures writer.old < 2 ^ 64 - 1 }
-    ensures runs { RunsAs strict board.now (ends (R.rest reader.old) (R.rest reader.new)
-        (W.written writer.old) (W.written writer.new) (W.flushed writer.new)) result }
-    ensures faults { IfErr result (IsOfRunAs strict) }
-    ensures nothing { IfErr result
-        (λ f. IsOfBoard f → (reader.new ≡ reader.old) × (writer.new ≡ writer.old)) }
-    ensures reads { R.failures reader.new ≡ R.failures reader.old + read_faults result }
-    ensures writes { W.failures writer.new ≡ W.failures writer.old + write_faults result }
-{
-    if strict {
-        whole_strictly(alloc, board, reader, writer)
-    } else {
-        whole(alloc, board, reader, writer)
-    }
-}
-
 /// Does what is asked. A script is read from `reader`, and `board` is what stands in the board file, where one is asked
 /// for.
 pub fn perform<R: Reader, W: Writer>(
@@ -140,10 +112,11 @@ pub fn perform<R: Reader, W: Writer>(
             writer,
         ),
         Choice::Run { strict, .. } => run_as(alloc, board, *strict, reader, writer),
-        Choice::Firmware { strict, .. } => drive(alloc, board, *strict, reader, writer),
+        Choice::Firmware { strict, .. } => serve(alloc, board, None, *strict, reader, writer),
         Choice::Audit { json, strict, .. } => {
-            audit(alloc, board, form_of(*json), *strict, reader, writer)
+            let question = Question::Audit(form_of(*json));
+            serve(alloc, board, Some(question), *strict, reader, writer)
         }
-        Choice::Ready(_) => ready(alloc, board, reader, writer),
+        Choice::Ready(_) => serve(alloc, board, Some(Question::Ready), false, reader, writer),
     }
 }

@@ -1,35 +1,30 @@
 //! Layer: program. Below: command_line, board_refusal, board_fit, json_texts, session. Above: pciguest, pciguest_c.
 //!
 //! What the program does, over bytes, a reader and a writer: the report of a board file, what is
-//! wrong with one, a script over its board, a session over it from reset on, the same with an audit or
-//! with readiness after it, and a script over the demo board; what a fault and the line below it say; and
+//! wrong with one, a script over its board, a session over it from reset on, with an audit or readiness after
+//! it where that is asked, and a script over the demo board; what a fault and the line below it say; and
 //! the law of two worlds, over the definitions alone.
 #![tactic(auto)]
 
-mod auditing;
 mod checking;
 mod choice;
 mod demonstration;
-mod driving;
 mod fault;
 mod fault_lines;
 mod files;
 mod hints;
 mod listing;
 mod numbered;
-mod questions;
-mod readiness;
 mod running;
+mod serving;
 mod standard_streams;
 
-pub use auditing::audit;
 pub use board_fit::Warned;
 pub use checking::{Checked, check, check_text};
 pub use choice::perform;
 pub use command_line::Choice;
 pub use demonstration::demo;
 pub use diagnostics::Style;
-pub use driving::drive;
 pub use fault::Fault;
 pub use fault_lines::fault_line;
 pub use files::{board_bytes, board_or_hint};
@@ -37,6 +32,6 @@ pub use hints::{check_hint, usage_hint};
 pub use listing::{ReportForm, list, list_json, list_text};
 pub use model_guests::two_worlds;
 pub use monitor::Monitor;
-pub use readiness::ready;
-pub use running::{whole, whole_strictly};
+pub use running::whole;
+pub use serving::{Question, serve};
 pub use standard_streams::{InputStream, OutputStream};

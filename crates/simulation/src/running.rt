@@ -1,17 +1,51 @@
 //! A script over the board of a board file.
 ghost use Rattle.std.specs.Prelude.{◌≡◌, ◌+◌, ◌-◌, ◌^◌, ◌<◌, IfErr};
 ghost use Rattle.lines.specs.Runs.{ends};
-ghost use Rattle.simulation.specs.Faults.{read_faults, write_faults, OnFile, OnSetUp, OnRun, IsOfBoard, IsOfRun, IsOfStrictRun};
+ghost use Rattle.simulation.specs.Faults.{read_faults, write_faults, OnFile, OnSetUp, OnRun, IsOfBoard, IsOfRun, IsOfRunAs};
 ghost use Rattle.session.specs.Files.{Refuses, Breaks};
-ghost use Rattle.simulation.specs.Running.{IsRun, RunsStrictly};
+ghost use Rattle.simulation.specs.Running.{IsRun, RunsAs};
 
 use crate::fault::Fault;
 use lines::run_watched;
 use monitor::Monitor;
-use script::{Script, run};
+use script::Script;
 use session::open;
 use std::alloc::Global;
 use streams::{Reader, Writer};
+
+/// Runs a script over the board of a board file, as [`whole`] does. If `strict`, a refused line is a fault (209), once
+/// all lines ran and what they write was written and flushed.
+pub(crate) fn run_as<R: Reader, W: Writer>(
+    alloc: Global,
+    board: &[u8],
+    strict: bool,
+    reader: &mut R,
+    writer: &mut W,
+) -> Result<(), Fault>
+    requires reader_has_room { R.failures reader.old < 2 ^ 64 - 1 }
+    requires writer_has_room { W.failures writer.old < 2 ^ 64 - 1 }
+
+    // What it did of the script in the world of the file, and whether a line was refused.
+    ensures runs { RunsAs strict board.now (ends (R.rest reader.old) (R.rest reader.new)
+        (W.written writer.old) (W.written writer.new) (W.flushed writer.new)) result }
+
+    ensures file { IfErr result (OnFile (Refuses board.now)) }
+    ensures placement { IfErr result (OnSetUp (Breaks board.now)) }
+    ensures faults { IfErr result (IsOfRunAs strict) }
+    ensures nothing { IfErr result
+        (λ f. IsOfBoard f → (reader.new ≡ reader.old) × (writer.new ≡ writer.old)) }
+
+    // A fault is the reader's or the writer's exactly where that end failed during the call.
+    ensures reads { R.failures reader.new ≡ R.failures reader.old + read_faults result }
+    ensures writes { W.failures writer.new ≡ W.failures writer.old + write_faults result }
+{
+    let monitor = open(alloc, board)?;
+    let (_, refused) = run_watched::<Script, Monitor, R, W>(monitor, strict, reader, writer)?;
+    if refused {
+        return Err(Fault::RefusedLine);
+    }
+    Ok(())
+}
 
 /// Sets up the board that a board file declares, gives its functions to the guests of the file, and
 /// runs a script over them, line by line as it is read.
@@ -45,40 +79,5 @@ pub fn whole<R: Reader, W: Writer>(
     ensures reads { R.failures reader.new ≡ R.failures reader.old + read_faults result }
     ensures writes { W.failures writer.new ≡ W.failures writer.old + write_faults result }
 {
-    let mut monitor = open(alloc, board)?;
-    run(&mut monitor, reader, writer)?;
-    Ok(())
-}
-
-/// Does the same, and answers 209 where a line was refused, once all lines ran and what they write was written and
-/// flushed.
-pub fn whole_strictly<R: Reader, W: Writer>(
-    alloc: Global,
-    board: &[u8],
-    reader: &mut R,
-    writer: &mut W,
-) -> Result<(), Fault>
-    requires reader_has_room { R.failures reader.old < 2 ^ 64 - 1 }
-    requires writer_has_room { W.failures writer.old < 2 ^ 64 - 1 }
-
-    // What it did of the script in the world of the file, and whether a line was refused.
-    ensures runs { RunsStrictly board.now (ends (R.rest reader.old) (R.rest reader.new)
-        (W.written writer.old) (W.written writer.new) (W.flushed writer.new)) result }
-
-    ensures file { IfErr result (OnFile (Refuses board.now)) }
-    ensures placement { IfErr result (OnSetUp (Breaks board.now)) }
-    ensures faults { IfErr result IsOfStrictRun }
-    ensures nothing { IfErr result
-        (λ f. IsOfBoard f → (reader.new ≡ reader.old) × (writer.new ≡ writer.old)) }
-
-    // A fault is the reader's or the writer's exactly where that end failed during the call.
-    ensures reads { R.failures reader.new ≡ R.failures reader.old + read_faults result }
-    ensures writes { W.failures writer.new ≡ W.failures writer.old + write_faults result }
-{
-    let monitor = open(alloc, board)?;
-    let (_, refused) = run_watched::<Script, Monitor, R, W>(monitor, true, reader, writer)?;
-    if refused {
-        return Err(Fault::RefusedLine);
-    }
-    Ok(())
+    run_as(alloc, board, false, reader, writer)
 }

@@ -1,21 +1,26 @@
+use Rattle.std.specs.Prelude.{IfErr}
 use Rattle.lines.specs.Runs.{ends}
 use Rattle.session.specs.Files.{Refuses, Breaks}
-use Rattle.simulation.proofs.Ran.{opened_file, opened_set_up, read_again, written_again}
-use Rattle.simulation.proofs.Strict.{has_run, none_ran, strict_early}
-use Rattle.simulation.proofs.running.whole_strictly.Goals as goal
+use Rattle.simulation.specs.Faults.{OnFile, OnSetUp}
+use Rattle.simulation.specs.Running.{RunsAs}
+use Rattle.simulation.proofs.Ran.{on_error, opened_file, opened_set_up, read_again, written_again}
+use Rattle.simulation.proofs.Scripts.{has_run, none_ran, stopped}
+use Rattle.simulation.proofs.running.run_as.Goals as goal
 
 pub returns-in_err-monitor-clause-file : goal.returns-in_err-monitor-clause-file
 returns-in_err-monitor-clause-file g c =
-    opened_file (Refuses c.args.board.now) c.from_residual.result _ c.from_residual.ensures.1 c.in_err-monitor.ensures.file
+    on_error (λ r. IfErr r (OnFile (Refuses c.args.board.now))) c.from_residual.result _ c.from_residual.ensures.1
+    (opened_file (Refuses c.args.board.now) _ c.in_err-monitor.ensures.file)
 
 pub returns-in_err-monitor-clause-placement : goal.returns-in_err-monitor-clause-placement
 returns-in_err-monitor-clause-placement g c =
-    opened_set_up (Breaks c.args.board.now) c.from_residual.result _ c.from_residual.ensures.1 c.in_err-monitor.ensures.placement
+    on_error (λ r. IfErr r (OnSetUp (Breaks c.args.board.now))) c.from_residual.result _ c.from_residual.ensures.1
+    (opened_set_up (Breaks c.args.board.now) _ c.in_err-monitor.ensures.placement)
 
 pub returns-in_err-monitor-clause-runs : goal.returns-in_err-monitor-clause-runs
 returns-in_err-monitor-clause-runs g c =
     let at = ends (g.R.Reader.rest c.args.reader.now) (g.R.Reader.rest c.args.reader.now) (g.W.Writer.written c.args.writer.now) (g.W.Writer.written c.args.writer.now) (g.W.Writer.flushed c.args.writer.now) in
-    none_ran c.args.board.now at c.from_residual.result _ c.from_residual.ensures.1
+    on_error (RunsAs c.args.strict c.args.board.now at) c.from_residual.result _ c.from_residual.ensures.1 (none_ran c.args.strict c.args.board.now at _)
 
 pub returns-in_err-refused-clause-reads : goal.returns-in_err-refused-clause-reads
 returns-in_err-refused-clause-reads g c = read_again c.from_residual-in_err-refused.result _ _ _ c.from_residual-in_err-refused.ensures.1 c.in_err-refused.ensures.reads
@@ -26,14 +31,15 @@ returns-in_err-refused-clause-writes g c = written_again c.from_residual-in_err-
 pub returns-in_err-refused-clause-runs : goal.returns-in_err-refused-clause-runs
 returns-in_err-refused-clause-runs g c =
     let at = ends (g.R.Reader.rest c.args.reader.now) (g.R.Reader.rest c.run_watched.new.reader) (g.W.Writer.written c.args.writer.now) (g.W.Writer.written c.run_watched.new.writer) (g.W.Writer.flushed c.run_watched.new.writer) in
-    strict_early c.args.board.now _ at c.from_residual-in_err-refused.result _ c.from_residual-in_err-refused.ensures.1 c.in_ok-monitor.ensures.opened c.in_err-refused.ensures.runs
+    on_error (RunsAs c.args.strict c.args.board.now at) c.from_residual-in_err-refused.result _ c.from_residual-in_err-refused.ensures.1
+    (stopped c.args.strict c.args.board.now _ at _ c.in_ok-monitor.ensures.opened c.in_err-refused.ensures.runs)
 
 pub returns-then-refused-clause-runs : goal.returns-then-refused-clause-runs
 returns-then-refused-clause-runs g c =
     let at = ends (g.R.Reader.rest c.args.reader.now) (g.R.Reader.rest c.run_watched.new.reader) (g.W.Writer.written c.args.writer.now) (g.W.Writer.written c.run_watched.new.writer) (g.W.Writer.flushed c.run_watched.new.writer) in
-    has_run c.args.board.now _ _ at _ c.in_ok-monitor.ensures.opened c.in_ok-refused.ensures.runs c.if-refused.true
+    has_run c.args.strict _ c.args.board.now _ at _ c.in_ok-monitor.ensures.opened c.in_ok-refused.ensures.runs c.if-refused.true
 
 pub returns-clause-runs : goal.returns-clause-runs
 returns-clause-runs g c =
     let at = ends (g.R.Reader.rest c.args.reader.now) (g.R.Reader.rest c.run_watched.new.reader) (g.W.Writer.written c.args.writer.now) (g.W.Writer.written c.run_watched.new.writer) (g.W.Writer.flushed c.run_watched.new.writer) in
-    has_run c.args.board.now _ _ at _ c.in_ok-monitor.ensures.opened c.in_ok-refused.ensures.runs c.if-refused.false
+    has_run c.args.strict _ c.args.board.now _ at _ c.in_ok-monitor.ensures.opened c.in_ok-refused.ensures.runs c.if-refused.false

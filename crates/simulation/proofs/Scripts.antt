@@ -1,0 +1,61 @@
+-- A run of a script over a board file, where a refused line may be a fault.
+--     none_ran, stopped, has_run      how it ended: before any line, with a fault of the run, and after all lines
+--     plainly, plain_faults      so too where a refused line is none
+use Rattle.std.specs.Prelude.{IfErr}
+use Rattle.std.proofs.Common.{◌≡◌, ◌&&◌, Bool, true, false, Result, Ok, Err, refl, sym, ap, ◌∙◌}
+use Rattle.model_guests.specs.Text.{Text, lines}
+use Rattle.model_guests.specs.WorldNow.{world_protocol}
+use Rattle.model_handoff.specs.Changes.{BeginsIn, MachineNow, machine_protocol}
+use Rattle.lines.specs.Runs.{Ends}
+use Rattle.lines.specs.declared.runs.RunFault.{RunFault}
+use Rattle.lines.specs.declared.runs.RunFault.TheVariants as run
+use Rattle.session.specs.Files.{IsOpened}
+use Rattle.session.specs.declared.opening.OpenFault.{OpenFault}
+use Rattle.session.specs.declared.opening.OpenFault.TheVariants as opening
+use Rattle.simulation.specs.declared.fault.Fault.{Fault}
+use Rattle.simulation.specs.declared.fault.Fault.TheVariants.{Read, Write, RefusedLine}
+use Rattle.simulation.specs.Faults.{of_open, of_run, IsOfRun, IsOfRunAs, OnRun}
+use Rattle.lines.specs.Refusals.{refuses, IsWatched}
+use Rattle.script.specs.Refusals.{refusal_in, refusal_on_machine}
+use Rattle.simulation.specs.Running.{HasRun, IsRun, RunsAs}
+use Rattle.simulation.proofs.Begun.{is_run}
+use Rattle.lines.proofs.Parts.{same_end, same_error, same_refusals}
+use Rattle.simulation.proofs.Ran.{world_part}
+
+pub none_ran : (strict : Bool) (board : Text) (at : Ends) (o : OpenFault) → RunsAs {T = Unit {0}} strict board at (Err (of_open o))
+none_ran strict board at (opening.File b) = tt
+none_ran strict board at (opening.SetUp s) = tt
+
+pub stopped : (strict : Bool) (board : Text) (m : MachineNow) (at : Ends) (e : RunFault) → BeginsIn (IsOpened board) m
+    → IsWatched strict machine_protocol refusal_on_machine m at (Err e) → RunsAs {T = Unit {0}} strict board at (Err (of_run e))
+stopped strict board m at e opened w = by_fault e (is_run board m w.end at (Err e) opened (same_error (MachineNow × Bool) (Unit {0}) machine_protocol m w.end at e w.runs))
+  where
+    by_fault : (e : RunFault) → IsRun {T = Unit {0}} board at (Err e) → RunsAs {T = Unit {0}} strict board at (Err (of_run e))
+    by_fault run.Read ran = ran
+    by_fault run.Write ran = ran
+    by_fault run.Memory ran = tt
+
+pub has_run : (strict refused : Bool) (board : Text) (m : MachineNow) (at : Ends) (y : MachineNow × Bool) → BeginsIn (IsOpened board) m
+    → IsWatched strict machine_protocol refusal_on_machine m at (Ok y) → y.1 ≡ refused → HasRun strict refused board at
+has_run strict refused board m at y opened w is = record {
+  run = is_run board m w.end at (Ok tt) opened (same_end (MachineNow × Bool) (Unit {0}) machine_protocol m w.end at y tt w.runs);
+  answers = λ s known.
+      ap (λ b. strict && b)
+      (ap (λ z. refuses world_protocol refusal_in z (lines s)) (sym opened.world.begins)
+      ∙ sym (same_refusals world_part refusal_on_machine refusal_in (λ n line. refl) m (lines s)))
+      ∙ sym (w.refused s known) ∙ is;
+}
+
+pub plainly : (board : Text) (at : Ends) (r : Result (Unit {0}) Fault) → RunsAs false board at r → OnRun (IsRun board at) r
+plainly board at (Ok x) h = h.run
+plainly board at (Err Read) h = h
+plainly board at (Err Write) h = h
+plainly board at (Err _) h = tt
+
+plain_fault : (f : Fault) → IsOfRunAs false f → IsOfRun f
+plain_fault RefusedLine h = absurd (let wrong : false ≡ true = h in cc)
+plain_fault _ h = h
+
+pub plain_faults : {T : Type 0} (r : Result T Fault) → IfErr r (IsOfRunAs false) → IfErr r IsOfRun
+plain_faults (Ok x) h = tt
+plain_faults (Err f) h = plain_fault f h

@@ -1,0 +1,150 @@
+-- A session over a board file, as it was served.
+--     IsBegun      how it was opened
+--     stopped      a run of its lines ended early
+--     IsLeft, left_by      it stands as the lines left it
+--     is_served      all was told
+--     unanswered      the text after the lines was not told whole
+--     served_fault, of_serving      the fault after all was told is one of these
+use Rattle.std.proofs.Common.{◌≡◌, ◌&&◌, ◌++◌, ℕ, Bool, true, false, Result, Ok, Err, Option, None, Some, is_some, IsTrue, refl, inl, inr, sym, ap, ap₂, subst, ◌∙◌, arith}
+use Rattle.std.specs.Option.{ForSome}
+use Rattle.std.specs.Io.{StartsWith}
+use Rattle.std.specs.Io.KnownBytes.{Appends}
+use Rattle.std.proofs.KnownBytes.{Appends-trans}
+use Rattle.streams.specs.Ends.{AppendsPart}
+use Rattle.model_registers.specs.Apertures.{Apertures}
+use Rattle.model_guests.specs.Text.{Text, lines}
+use Rattle.model_guests.specs.World.{World, IsLawfulWorld}
+use Rattle.model_lines.specs.Sessions.{SessionNow, driven, at_reset, session_functions, session_protocol}
+use Rattle.model_lines.proofs.HandoverLines.{isolated_sessions}
+use Rattle.lines.specs.declared.runs.RunFault.{RunFault}
+use Rattle.lines.specs.declared.runs.RunFault.TheVariants as run
+use Rattle.lines.specs.Refusals.{refuses, IsWatched}
+use Rattle.lines.specs.Runs.{Ends, ends, Runs}
+use Rattle.lines.proofs.Parts.{same_end, same_error}
+use Rattle.bus_scan.specs.declared.fault.Fault.TheVariants as set_up
+use Rattle.session.specs.Files.{Declares}
+use Rattle.session.specs.Refusals.{refusal_in}
+use Rattle.simulation.specs.declared.fault.Fault.{Fault}
+use Rattle.simulation.specs.declared.fault.Fault.TheVariants.{SetUp, Write, NotInOrder, NotReady, RefusedLine}
+use Rattle.simulation.specs.declared.serving.Question.{Question}
+use Rattle.simulation.specs.declared.serving.Question.TheVariants.{Audit, Ready}
+use Rattle.simulation.specs.Faults.{of_run, IsOfFile, IsToldLast, OnFile}
+use Rattle.simulation.specs.Serving.{at_first, session_text, left_after, told, counted, last_fault, HasEnded, IsSession, IsServed, Serves, IsOfAnswer, IsOfServing}
+use Rattle.simulation.proofs.Begun.{runs_from}
+
+abbrev pub IsBegun : Text → SessionNow → Type 0
+IsBegun board x = (w : World) × Declares board w × IsLawfulWorld w × (x ≡ driven (at_reset w))
+
+abbrev session_over : {T : Type 0} (board : Text) (x end : SessionNow) (at : Ends) (r : Result T RunFault) → IsBegun board x
+    → Runs session_protocol x end at r → IsSession board at r
+session_over board x end at r begun ran = record {
+  world = begun.0;
+  declared = begun.1;
+  end = end;
+  runs = runs_from session_protocol x (at_first begun.0) end at r begun.3 ran;
+  isolated = isolated_sessions begun.0 begun.2.guests.lawful_names;
+}
+
+pub stopped : (q : Option Question) (strict : Bool) (board : Text) (x : SessionNow) (at : Ends) (e : RunFault) → IsBegun board x
+    → IsWatched strict session_protocol refusal_in x at (Err e) → Serves {T = Unit {0}} q strict board at (Err (of_run e))
+stopped q strict board x at e begun w =
+    by_fault e (session_over board x w.end at (Err e) begun (same_error (SessionNow × Bool) (Unit {0}) session_protocol x w.end at e w.runs))
+  where
+    by_fault : (e : RunFault) → IsSession {T = Unit {0}} board at (Err e) → Serves {T = Unit {0}} q strict board at (Err (of_run e))
+    by_fault run.Read s = s
+    by_fault run.Write s = inl s
+    by_fault run.Memory s = inl s
+
+-- ---- after the lines
+
+pub record IsLeft (strict : Bool) (board : Text) (at : Ends) (a : Apertures) (y : SessionNow × Bool) : Type 0 where
+  pub session : HasEnded board at
+  pub left : y.0 ≡ session.end
+  pub apertures : a ≡ session.world.apertures
+  pub refused : ForSome at.script (λ s. y.1 ≡ (strict && refuses session_protocol refusal_in (at_first session.world) (lines s)))
+
+pub left_by : (board : Text) (strict : Bool) (x : SessionNow) (at : Ends) (a : Apertures) (y : SessionNow × Bool) (begun : IsBegun board x) → a ≡ begun.0.apertures
+    → IsWatched strict session_protocol refusal_in x at (Ok y) → IsLeft strict board at a y
+left_by board strict x at a y begun same w = record {
+  session = session_over board x w.end at (Ok tt) begun (same_end (SessionNow × Bool) (Unit {0}) session_protocol x w.end at y tt w.runs);
+  left = w.left;
+  apertures = same;
+  refused = λ s known. w.refused s known ∙ ap (λ z. strict && refuses session_protocol refusal_in z (lines s)) begun.3;
+}
+
+-- what is told and counted of the session that was left is so of the one after the lines
+after_lines_told : {A : Type 0} (f : Apertures → SessionNow → A) {strict : Bool} {board : Text} {at : Ends} {a : Apertures} {y : SessionNow × Bool} (l : IsLeft strict board at a y)
+    → (s : Text) → at.script ≡ Some s → f a y.0 ≡ f l.session.world.apertures (left_after l.session.world (lines s))
+after_lines_told f l s known = ap₂ f l.apertures (l.left ∙ l.session.runs.events s known)
+
+pub is_served : (q : Option Question) (strict : Bool) (board : Text) (a : Apertures) (n : ℕ) (script unread old mid mid_flushed new flushed : Option Text) (y : SessionNow × Bool)
+    → IsLeft strict board (ends script unread old mid mid_flushed) a y → Appends mid new (told q a (session_functions y.0)) → n ≡ counted q a (session_functions y.0)
+    → (mid_flushed ≡ mid → flushed ≡ new) → IsServed q strict (last_fault q strict y.1 n) board (ends script unread old new flushed)
+is_served q strict board a n script unread old mid mid_flushed new flushed y l appended counts all =
+    let o = l.session in
+    record {
+      told = record {
+        world = o.world;
+        declared = o.declared;
+        read = o.runs.read;
+        written = λ s known. subst (λ (t : Text). Appends old new (session_text o.world (lines s) ++ t)) (after_lines_told (λ b z. told q b (session_functions z)) l s known)
+            (Appends-trans old mid new (session_text o.world (lines s)) (told q a (session_functions y.0)) (o.runs.output s known) appended);
+        flushed = all o.runs.flushed;
+        isolated = o.isolated;
+      };
+      fault = λ s known. sym (ap₂ (λ (r : Bool) (m : ℕ). last_fault q strict r m) (l.refused s known)
+          (counts ∙ after_lines_told (λ b z. counted q b (session_functions z)) l s known));
+    }
+
+pub unanswered : (q : Option Question) (strict : Bool) (board : Text) (a : Apertures) (f : Fault) (script unread old mid mid_flushed new flushed : Option Text) (y : SessionNow × Bool)
+    → IsLeft strict board (ends script unread old mid mid_flushed) a y → IsOfAnswer f → IsTrue (is_some q)
+    → (f ≡ Write → AppendsPart mid new (told q a (session_functions y.0))) → (f ≡ SetUp set_up.Memory → (new ≡ mid) × (flushed ≡ mid_flushed))
+    → Serves {T = Unit {0}} q strict board (ends script unread old new flushed) (Err f)
+unanswered q strict board a Write script unread old mid mid_flushed new flushed y l of asked stops lacks =
+    let o = l.session in
+    let last = stops refl in
+    inr (record {
+      asked = asked;
+      world = o.world;
+      declared = o.declared;
+      read = o.runs.read;
+      part = last.0;
+      begins = λ s known. subst (λ (t : Text). StartsWith t last.0) (after_lines_told (λ b z. told q b (session_functions z)) l s known) last.1;
+      written = λ s known. Appends-trans old mid new (session_text o.world (lines s)) last.0 (o.runs.output s known) last.2;
+    })
+unanswered q strict board a (SetUp s) script unread old mid mid_flushed new flushed y l of asked stops lacks =
+    let same = lacks (ap SetUp of) in
+    let ended : HasEnded board (ends script unread old new flushed) =
+    subst (λ z. HasEnded board (ends script unread old z flushed)) (sym same.0) (subst (λ z. HasEnded board (ends script unread old mid z)) (sym same.1) l.session) in
+    subst (λ z. Serves {T = Unit {0}} q strict board (ends script unread old new flushed) (Err (SetUp z))) (sym of) (inr (asked, ended))
+unanswered q strict board a _ script unread old mid mid_flushed new flushed y l of asked stops lacks = absurd of
+
+-- ---- the fault that is told last
+
+pub told_last : (q : Option Question) (strict refused : Bool) (n : ℕ) (f : Fault) → last_fault q strict refused n ≡ Some f → IsToldLast f
+told_last q strict true n f is = subst IsToldLast {x = RefusedLine} (let same : RefusedLine ≡ f = cc in same) tt
+told_last None strict false n f is = grind arith
+told_last (Some (Audit form)) strict false n f is = grind arith
+told_last (Some Ready) strict false n f is = grind arith
+
+pub served_fault : (q : Option Question) (strict refused : Bool) (n : ℕ) (board : Text) (at : Ends) (f : Fault) → last_fault q strict refused n ≡ Some f
+    → IsServed q strict (last_fault q strict refused n) board at → Serves {T = Unit {0}} q strict board at (Err f)
+served_fault q strict refused n board at f is served = by_fault f (told_last q strict refused n f is) (subst (λ z. IsServed q strict z board at) is served)
+  where
+    by_fault : (f : Fault) → IsToldLast f → IsServed q strict (Some f) board at → Serves {T = Unit {0}} q strict board at (Err f)
+    by_fault RefusedLine last s = s
+    by_fault NotInOrder last s = s
+    by_fault NotReady last s = s
+    by_fault _ last s = absurd last
+
+pub no_file : (P : ℕ → Type 0) (f : Fault) → IsToldLast f → OnFile P f × (IsOfFile f → ⊥)
+no_file P RefusedLine last = (tt, λ of. of)
+no_file P NotInOrder last = (tt, λ of. of)
+no_file P NotReady last = (tt, λ of. of)
+no_file P _ last = absurd last
+
+pub of_serving : (q : Option Question) (strict refused : Bool) (n : ℕ) (f : Fault) → (refused ≡ true → strict ≡ true) → last_fault q strict refused n ≡ Some f → IsOfServing q strict f
+of_serving q strict true n f asked is = grind arith
+of_serving None strict false n f asked is = grind arith
+of_serving (Some (Audit form)) strict false n f asked is = grind arith
+of_serving (Some Ready) strict false n f asked is = grind arith
