@@ -8,7 +8,7 @@ mod LineEnds
 pub mod NameLemmas
 pub mod Splitting
 pub mod Tables
-pub mod WhyForms
+pub mod RequestCounts
 pub mod WriteCounts
 pub mod WriteForms
 pub mod Buffers

@@ -1,6 +1,7 @@
 -- Lines of firmware, in the words of its definitions.
 --     host_asked place op      what the host does at a place and in a width
---     firmware_meaning_of what      what a line means
+--     firmware_meaning_of what      what a line means: one that asks something is no access
+--     requested what      what it asks, if it does
 use Rattle.model_guests.specs.Accesses.{Op, reads, writes}
 use Rattle.model_guests.specs.Grammar.{host, nobody}
 use Rattle.model_lines.specs.HostAccesses as firmware
@@ -8,6 +9,9 @@ use Rattle.model_lines.specs.FirmwareLines.{Meaning, nothing, asked, bad}
 use Rattle.accesses.specs.Accesses.{host_target_of}
 use Rattle.accesses.specs.Refusals.{number_of}
 use Rattle.accesses.specs.declared.access.HostAccess.{HostAccess}
+use Rattle.std.specs.Prelude.{Option, None, Some}
+use Rattle.model_lines.specs.Requests.{Request}
+use Rattle.lines.specs.Requests.{request_of}
 use Rattle.lines.specs.declared.firmware_line.FirmwareWhat.{FirmwareWhat}
 use Rattle.lines.specs.declared.firmware_line.FirmwareWhat.TheVariants as what
 
@@ -18,5 +22,10 @@ abbrev pub firmware_meaning_of : FirmwareWhat → Meaning
 firmware_meaning_of what.Nothing = nothing
 firmware_meaning_of (what.Read place) = asked (host_asked place reads)
 firmware_meaning_of (what.Write place v) = asked (host_asked place (writes v))
+firmware_meaning_of (what.Asks request) = bad host 401
 firmware_meaning_of what.NoForm = bad host 401
 firmware_meaning_of (what.NotOfHost why) = bad nobody (number_of why)
+
+abbrev pub requested : FirmwareWhat → Option Request
+requested (what.Asks request) = Some (request_of request)
+requested other = None

@@ -1,8 +1,8 @@
 pub mod Cursors
 pub mod Forms
 pub mod Lines
+pub mod Requests
 pub mod FirmwareLines
-pub mod WhyLines
 pub mod Faults
 pub mod Pieces
 pub mod Runs

@@ -1,5 +1,5 @@
 //! Lines of firmware.
-ghost use Rattle.std.specs.Prelude.{◌≡◌, [], ◌∷◌, map, option_map, ◌^◌};
+ghost use Rattle.std.specs.Prelude.{◌≡◌, None, [], ◌∷◌, map, option_map, ◌^◌};
 ghost use Rattle.model_guests.specs.Grammar.{host_port, host_address, host_at};
 ghost use Rattle.model_guests.specs.Numbers.{below, number_of};
 ghost use Rattle.model_guests.specs.Text.{words};
@@ -7,12 +7,15 @@ ghost use Rattle.model_lines.specs.FirmwareLines.{asked, config_place, written_a
 ghost use Rattle.model_lines.specs.FirmwareLines.{host_access_of as access_of_words, access_or_bad};
 ghost use Rattle.model_lines.specs.FirmwareLines.{meaning_of_words, meaning};
 ghost use Rattle.accesses.specs.Accesses.{host_access_of};
-ghost use Rattle.lines.specs.FirmwareLines.{firmware_meaning_of};
+ghost use Rattle.model_lines.specs.Requests.{request, request_in, request_of};
+ghost use Rattle.lines.specs.Requests.{request_of as request_told};
+ghost use Rattle.lines.specs.FirmwareLines.{firmware_meaning_of, requested};
 
 use crate::cursor::name_word;
 use crate::forms::{bus_address, host_form};
 use crate::line::{LONGEST_LINE, is_comment};
 use crate::numbers::number_of;
+use crate::requests::{Request, request_form};
 use crate::words::first_words;
 use accesses::{HostAccess, HostAt, Refusal};
 
@@ -24,10 +27,24 @@ pub enum FirmwareWhat {
     Read(HostAccess),
     /// A place, a width, and a value of which as many low bytes are written.
     Write(HostAccess, u32),
+    /// What is asked of a session beside an access.
+    Asks(Request),
     /// A line of the host that has no form: 401.
     NoForm,
     /// No line of the host, which is refused: it is of an unknown guest, or is long.
     NotOfHost(Refusal),
+}
+
+impl FirmwareWhat {
+    /// What is asked of a session beside an access, if it is.
+    pub fn request(self) -> Option<Request>
+        ensures { option_map request_told result ≡ requested self }
+    {
+        match self {
+            FirmwareWhat::Asks(request) => Some(request),
+            _ => None,
+        }
+    }
 }
 
 /// A value of 32 bits.
@@ -123,10 +140,12 @@ fn host_write_form(words: &[&[u8]]) -> Option<FirmwareWhat>
     }
 }
 
-/// What the words after `host` ask.
-fn of_host_words(words: &[&[u8]]) -> FirmwareWhat
-    ensures { firmware_meaning_of result
+/// The access that the words after `host` ask.
+#[tactic(auto, using(crate::proofs::RequestCounts::writes_ask_nothing))]
+fn access_of_words(words: &[&[u8]]) -> FirmwareWhat
+    ensures means { firmware_meaning_of result
         ≡ access_or_bad (access_of_words (map (λ w. w.now) words.now)) }
+    ensures asks { requested result ≡ None }
 {
     if let Some(read) = host_form(words) {
         return FirmwareWhat::Read(read);
@@ -137,16 +156,31 @@ fn of_host_words(words: &[&[u8]]) -> FirmwareWhat
     }
 }
 
+/// What the words after `host` ask.
+fn of_host_words(words: &[&[u8]]) -> FirmwareWhat
+    ensures means { firmware_meaning_of result
+        ≡ access_or_bad (access_of_words (map (λ w. w.now) words.now)) }
+    ensures asks { requested result ≡ request_of (map (λ w. w.now) words.now) }
+{
+    match request_form(words) {
+        Some(request) => FirmwareWhat::Asks(request),
+        None => access_of_words(words),
+    }
+}
+
 /// A line of the host, by the text after `host`.
 fn host_line(text: &[u8]) -> FirmwareWhat
-    ensures { firmware_meaning_of result ≡ access_or_bad (access_of_words (words text.now)) }
+    ensures means { firmware_meaning_of result
+        ≡ access_or_bad (access_of_words (words text.now)) }
+    ensures asks { requested result ≡ request_of (words text.now) }
 {
     of_host_words(first_words(text).as_slice())
 }
 
 /// What a line means, by its first word and the text after it.
 fn named_line(first: &[u8], text: &[u8]) -> FirmwareWhat
-    ensures { firmware_meaning_of result ≡ meaning_of_words (first.now ∷ words text.now) }
+    ensures means { firmware_meaning_of result ≡ meaning_of_words (first.now ∷ words text.now) }
+    ensures asks { requested result ≡ request_in (first.now ∷ words text.now) }
 {
     if is_comment(first) {
         return FirmwareWhat::Nothing;
@@ -161,7 +195,8 @@ fn named_line(first: &[u8], text: &[u8]) -> FirmwareWhat
 /// none is known.
 #[tactic(auto, using(std::proofs::lemmas::Bool::Decides::nat_tests))]
 pub fn firmware_meaning(line: &[u8]) -> FirmwareWhat
-    ensures { firmware_meaning_of result ≡ meaning line.now }
+    ensures means { firmware_meaning_of result ≡ meaning line.now }
+    ensures asks { requested result ≡ request line.now }
 {
     if line.len() > LONGEST_LINE {
         return FirmwareWhat::NotOfHost(Refusal::LongLine);

@@ -1,6 +1,5 @@
 -- Where a session hands its board over, and what guests are told then.
-use Rattle.std.proofs.Common.{◌≡◌, Bool, true, false, List, [], ◌∷◌, Option, None, Some, refl, sym, ap, ◌∙◌, arith, subst}
-use Rattle.std.specs.Prelude.{IsTrue}
+use Rattle.std.proofs.Common.{◌≡◌, List, [], ◌∷◌, Option, None, Some, refl, sym, ap, ◌∙◌, arith, subst}
 use Rattle.model_guests.specs.Text.{Text, lines}
 use Rattle.model_guests.specs.Guests.{guests_at_first}
 use Rattle.model_guests.specs.Inputs.{inputs}
@@ -12,7 +11,8 @@ use Rattle.model_guests.proofs.Isolation.{isolated_over}
 use Rattle.model_handoff.specs.Handoffs.{taken_over}
 use Rattle.model_handoff.specs.Regions.{HandoffFault, first_fault}
 use Rattle.model_handoff.specs.Changes.{MachineNow, machine_protocol}
-use Rattle.model_lines.specs.Sessions.{is_question, is_handover, DrivenNow, SessionNow, driven, given, after_handover, handed_over}
+use Rattle.model_lines.specs.Requests.{Request, for_guests, request}
+use Rattle.model_lines.specs.Sessions.{DrivenNow, SessionNow, driven, given, after_handover, handed_over}
 use Rattle.model_lines.specs.Sessions.{after_board_line, after_session_line, session_protocol}
 use Rattle.model_lines.specs.SessionLaws.{IsHandedOver, IsGivenBy, GivenBy, IsolatedSessions}
 use Rattle.model_lines.proofs.SessionLines.{questions_change_nothing, handover_leaves, unasked_after, given_is_script}
@@ -25,19 +25,18 @@ pub data Left (b : DrivenNow) (line : Text) : Type 0 where
   goes_on : (next : DrivenNow) → after_session_line (driven b) line ≡ driven next → Left b line
   hands_over : IsHandedOver b line → after_session_line (driven b) line ≡ given (handed_over b) → Left b line
 
-left_by_fault : (b : DrivenNow) (line : Text) → IsTrue (is_handover line) → (f : Option HandoffFault) → first_fault b.world b.state ≡ f → Left b line
+left_by_fault : (b : DrivenNow) (line : Text) → request line ≡ Some for_guests → (f : Option HandoffFault) → first_fault b.world b.state ≡ f → Left b line
 left_by_fault b line asks None can =
     hands_over (record { asks = asks; can = can }) (handover_leaves b line asks ∙ ap (after_handover b) can)
 left_by_fault b line asks (Some f) fault = goes_on b (handover_leaves b line asks ∙ ap (after_handover b) fault)
 
-left_by : (b : DrivenNow) (line : Text) (t u : Bool) → is_question line ≡ t → is_handover line ≡ u → Left b line
-left_by b line true u is_one is_other = goes_on b (questions_change_nothing (driven b) line is_one)
-left_by b line false true is_one is_other = left_by_fault b line is_other (first_fault b.world b.state) refl
-left_by b line false false is_one is_other =
-    goes_on (after_board_line b line) (unasked_after b line is_one is_other)
+left_by : (b : DrivenNow) (line : Text) (o : Option Request) → request line ≡ o → Left b line
+left_by b line None none = goes_on (after_board_line b line) (unasked_after b line none)
+left_by b line (Some for_guests) is = left_by_fault b line is (first_fault b.world b.state) refl
+left_by b line (Some r) is = goes_on b (questions_change_nothing (driven b) line r is (λ same. cc))
 
 left : (b : DrivenNow) (line : Text) → Left b line
-left b line = left_by b line (is_question line) (is_handover line) refl refl
+left b line = left_by b line (request line) refl
 
 given_by_left : (b : DrivenNow) (l : Text) (ls : List Text) (m : MachineNow) → Left b l
     → ((next : DrivenNow) → after_lines session_protocol (driven next) ls ≡ given m → IsGivenBy next ls m)

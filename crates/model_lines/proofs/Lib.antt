@@ -6,7 +6,7 @@ pub mod Answers
 pub mod Ports
 pub mod Guests
 pub mod HostLaws
-pub mod WhyLines
+pub mod Requests
 pub mod SessionLines
 pub mod HandoverLines
 pub mod FirmwareLeaves

@@ -1,6 +1,7 @@
 -- The lines of firmware: what they mean, what each writes, and the board after it.
 --     host_access_of      the words of a line after `host`
 --     Meaning, meaning      an access, a refusal, or nothing
+--     text_by s m      what a line of this meaning writes
 --     line_output, after_line      what a line writes, and the board after it
 --     board_protocol      the two as a protocol, so that they go along lines
 use Rattle.std.specs.Prelude.{List, [], ◌∷◌, ℕ, ◌^◌, if◌then◌else◌, Option, None, Some, codes, option_map}
@@ -73,8 +74,11 @@ after_meaning s nothing = s
 after_meaning s (asked a) = after_access s a
 after_meaning s (bad who n) = s
 
+abbrev pub text_by : State → Meaning → Text
+text_by s m = text_of_lines (written_by s m)
+
 abbrev pub line_output : State → Text → Text
-line_output s line = text_of_lines (written_by s (meaning line))
+line_output s line = text_by s (meaning line)
 
 abbrev pub after_line : State → Text → State
 after_line s line = after_meaning s (meaning line)

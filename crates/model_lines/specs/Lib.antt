@@ -9,7 +9,7 @@ pub mod GuestExamples
 pub mod HostAccesses
 pub mod FirmwareLines
 pub mod FirmwareLaws
-pub mod WhyLines
+pub mod Requests
 pub mod Sessions
 pub mod SessionLaws
 pub mod FirmwareLeaves

@@ -1,6 +1,6 @@
 -- Laws of sessions.
 --     HostWordsAreNoForm      `host` and one word are refused among firmware's lines and among a script's
---     WhyLinesAreNoForm      so are the lines that ask why
+--     RequestsAreNoForm      so are all lines that ask something
 --     QuestionsChangeNothing      a question changes nothing, and among guests' lines it is a bad line
 --     RefusedStays      a handover that is refused changes nothing
 --     PlainSessions      lines without all these write and leave what they do as firmware's lines
@@ -9,11 +9,10 @@
 --     AccessesTellWritten, LinesTellWritten      where no write was done, a board with latch 0 is as it was
 --     GivenBy      wherever a board is given, some line handed it over, and the later ones are a script over it
 --     IsolatedSessions      from there on a guest is told what its own functions tell it, and holds what they leave
-use Rattle.std.specs.Prelude.{◌≡◌, List, ◌∷◌, ◌++◌, Some, None, false, IsTrue, IsFalse}
+use Rattle.std.specs.Prelude.{◌≡◌, ◌≢◌, List, [], ◌∷◌, ◌++◌, Some, None, false, codes, IsTrue, IsFalse}
 use Rattle.lists.specs.Elements.{Each}
-use Rattle.model_guests.specs.Text.{Text, lines}
-use Rattle.model_guests.specs.Grammar.{has_name}
-use Rattle.model_guests.specs.Grammar.{host}
+use Rattle.model_guests.specs.Text.{Text, lines, words}
+use Rattle.model_guests.specs.Grammar.{has_name, host, is_long}
 use Rattle.model_guests.specs.Guests.{guests_at_first, lone_of}
 use Rattle.model_guests.specs.Inputs.{inputs, lone_output, after_inputs}
 use Rattle.model_guests.specs.Lines as script
@@ -25,10 +24,9 @@ use Rattle.model_guests.specs.WorldNow as now
 use Rattle.model_lines.specs.FirmwareLines as firmware
 use Rattle.model_lines.specs.FirmwareLines.{board_protocol}
 use Rattle.model_lines.specs.HostAccesses.{HostAccess}
-use Rattle.model_lines.specs.WhyLines.{is_why_line}
+use Rattle.model_lines.specs.Requests.{Request, for_guests, request}
 use Rattle.model_handoff.specs.Regions.{HandoffFault, first_fault}
 use Rattle.model_handoff.specs.Changes.{MachineNow, machine_protocol}
-use Rattle.model_lines.specs.Sessions.{host_word, is_audit, is_ready_line, is_question, is_handover}
 use Rattle.model_lines.specs.Sessions.{DrivenNow, SessionNow, driven, given}
 use Rattle.model_lines.specs.Sessions.{after_board_access, after_board_line, driven_protocol, handed_over}
 use Rattle.model_lines.specs.Sessions.{after_session_line, session_protocol}
@@ -38,26 +36,21 @@ pub record IsNoForm (line : Text) : Type 0 where
   pub script : (guests : List Text) → script.meaning guests line ≡ script.bad host 401
 
 abbrev pub HostWordsAreNoForm : Type 0
-HostWordsAreNoForm = (line word : Text) → host_word line ≡ Some word → IsNoForm line
+HostWordsAreNoForm = (line word : Text) → IsFalse (is_long line) → words line ≡ codes "host" ∷ word ∷ [] → IsNoForm line
 
-abbrev pub WhyLinesAreNoForm : Type 0
-WhyLinesAreNoForm = (line : Text) → IsTrue (is_why_line line) → IsNoForm line
+abbrev pub RequestsAreNoForm : Type 0
+RequestsAreNoForm = (line : Text) (r : Request) → request line ≡ Some r → IsNoForm line
 
 abbrev pub QuestionsChangeNothing : Type 0
-QuestionsChangeNothing = (x : SessionNow) (line : Text) → IsTrue (is_question line) → after_session_line x line ≡ x
+QuestionsChangeNothing = (x : SessionNow) (line : Text) (r : Request) → request line ≡ Some r → r ≢ for_guests
+    → after_session_line x line ≡ x
 
 abbrev pub RefusedStays : Type 0
-RefusedStays = (b : DrivenNow) (f : HandoffFault) (line : Text) → IsTrue (is_handover line)
+RefusedStays = (b : DrivenNow) (f : HandoffFault) (line : Text) → request line ≡ Some for_guests
     → first_fault b.world b.state ≡ Some f → after_session_line (driven b) line ≡ driven b
 
-pub record IsPlain (line : Text) : Type 0 where
-  pub no_audit : IsFalse (is_audit line)
-  pub no_ready : IsFalse (is_ready_line line)
-  pub no_why : IsFalse (is_why_line line)
-  pub no_handover : IsFalse (is_handover line)
-
 abbrev pub PlainSessions : Type 0
-PlainSessions = (b : DrivenNow) (ls : List Text) → Each IsPlain ls
+PlainSessions = (b : DrivenNow) (ls : List Text) → Each (λ (line : Text). request line ≡ None) ls
     → (output session_protocol (driven b) ls ≡ output board_protocol b.state ls)
     × (after_lines session_protocol (driven b) ls ≡ driven (after_lines driven_protocol b ls))
 
@@ -88,7 +81,7 @@ LinesTellWritten = (b : DrivenNow) → b.state.latch ≡ 0 → (line : Text)
 
 -- a line of the session that handed this board over
 pub record IsHandedOver (b : DrivenNow) (line : Text) : Type 0 where
-  pub asks : IsTrue (is_handover line)
+  pub asks : request line ≡ Some for_guests
   pub can : first_fault b.world b.state ≡ None
 
 pub record IsGivenBy (b : DrivenNow) (ls : List Text) (m : MachineNow) : Type 0 where

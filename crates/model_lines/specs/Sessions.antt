@@ -1,9 +1,6 @@
 -- A session over a board: firmware's lines from reset on, and among them `host audit`, which writes the text of an audit,
 -- `host ready`, which writes that of readiness, `host why ..`, which writes why something finds what it finds, and
 -- `host guests`, which hands the board to its guests. After that each line is a line of a script.
---     host_word line      the second of a line's two words, where the first is `host`
---     is_audit, is_ready_line, is_handover      whether a line asks for an audit, for readiness, or for guests
---     is_question line      it asks for an audit, for readiness or why
 --     DrivenNow      the board of a world as firmware drives it, and whether a write was done since reset
 --     at_reset w      the board of a world at reset
 --     after_board_access, after_board_line      the board after an access of firmware, and after a line of firmware
@@ -15,15 +12,14 @@
 --     handover_lines f      what is written, by the first fault
 --     session_output, after_session_line      what a line writes, and the session after it
 --     session_protocol      the two as a protocol, so that they go along lines
-use Rattle.std.specs.Prelude.{List, [], ◌∷◌, ℕ, ◌++◌, ◌||◌, Bool, true, false, if◌then◌else◌, Option, None, Some, map}
+use Rattle.std.specs.Prelude.{List, [], ◌∷◌, ℕ, ◌++◌, ◌||◌, Bool, true, false, Option, None, Some, map}
 use Rattle.std.specs.Prelude.{codes, decimal}
 use Rattle.std.specs.Option.{option_map_or}
-use Rattle.std.specs.Str.{bytes_eq}
 use Rattle.model_board.specs.AtReset.{reset_state}
 use Rattle.model_board.specs.State.{BoardFunction, State}
 use Rattle.model_set_up.specs.PlacedRegions.{PlacedRegion}
-use Rattle.model_guests.specs.Text.{Text, words, text_of_lines}
-use Rattle.model_guests.specs.Grammar.{on_word, host, is_long}
+use Rattle.model_guests.specs.Text.{Text, text_of_lines}
+use Rattle.model_guests.specs.Grammar.{host}
 use Rattle.model_guests.specs.Guests.{GuestNow}
 use Rattle.model_guests.specs.Accesses.{Reply, answered, done, refused}
 use Rattle.model_guests.specs.Replies.{line_text}
@@ -34,35 +30,12 @@ use Rattle.model_guests.specs.WorldNow as script
 use Rattle.model_guests.specs.LineRuns.{Protocol}
 use Rattle.model_lines.specs.HostAccesses.{HostAccess, answer, after_access}
 use Rattle.model_lines.specs.FirmwareLines.{Meaning, nothing, asked, bad, meaning, line_output}
-use Rattle.model_lines.specs.WhyLines.{why_asked, is_why_line, why_written}
+use Rattle.model_lines.specs.Requests.{Request, for_audit, for_ready, for_guests, for_why, request, why_written}
 use Rattle.model_findings.specs.AuditText.{audit, audit_line, problem_text, register_text}
 use Rattle.model_findings.specs.ReadyText.{ready_report}
 use Rattle.model_handoff.specs.Handoffs.{taken_over}
 use Rattle.model_handoff.specs.Regions.{HandoffFault, in_disorder, closed_region, first_fault}
 use Rattle.model_handoff.specs.Changes.{MachineNow, after_line_on_machine}
-
-abbrev pub host_word_in : List Text → Option Text
-host_word_in (first ∷ second ∷ []) = on_word first (codes "host") (Some second)
-host_word_in _ = None
-
--- a long line asks for nothing
-abbrev pub host_word : Text → Option Text
-host_word line = if is_long line then None else host_word_in (words line)
-
-abbrev pub is_host_line : Text → Text → Bool
-is_host_line word line = option_map_or (λ (w : Text). bytes_eq w word) (host_word line) false
-
-abbrev pub is_audit : Text → Bool
-is_audit line = is_host_line (codes "audit") line
-
-abbrev pub is_ready_line : Text → Bool
-is_ready_line line = is_host_line (codes "ready") line
-
-abbrev pub is_question : Text → Bool
-is_question line = is_audit line || is_ready_line line || is_why_line line
-
-abbrev pub is_handover : Text → Bool
-is_handover line = is_host_line (codes "guests") line
 
 -- ---- a board that firmware drives
 
@@ -139,20 +112,22 @@ after_handover b (Some f) = driven b
 
 -- ---- a line
 
--- a line that asks why, or one of firmware
-abbrev pub told_output : DrivenNow → Text → Text
-told_output b line = option_map_or (why_written b.state) (why_asked line) (line_output b.state line)
+-- what a request writes, and the session after it: all but that for guests are questions, which change nothing
+abbrev pub told_output : DrivenNow → Request → Text
+told_output b for_audit = audit b.state.functions
+told_output b for_ready = ready_report b.world.apertures b.state.functions
+told_output b for_guests = handover_output (first_fault b.world b.state)
+told_output b (for_why at) = why_written b.state at
+
+abbrev pub after_request : DrivenNow → Request → SessionNow
+after_request b for_guests = after_handover b (first_fault b.world b.state)
+after_request b other = driven b
 
 abbrev pub driven_output : DrivenNow → Text → Text
-driven_output b line =
-    if is_audit line then audit b.state.functions
-    else (if is_ready_line line then ready_report b.world.apertures b.state.functions
-    else (if is_handover line then handover_output (first_fault b.world b.state) else told_output b line))
+driven_output b line = option_map_or (told_output b) (request line) (line_output b.state line)
 
 abbrev pub after_driven : DrivenNow → Text → SessionNow
-after_driven b line =
-    if is_question line then driven b
-    else (if is_handover line then after_handover b (first_fault b.world b.state) else driven (after_board_line b line))
+after_driven b line = option_map_or (after_request b) (request line) (driven (after_board_line b line))
 
 abbrev pub session_output : SessionNow → Text → Text
 session_output (driven b) line = driven_output b line

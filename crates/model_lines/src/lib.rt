@@ -17,8 +17,8 @@ ghost use Rattle.model_guests.specs.LineRuns.{AfterAlong, CutIsBeginning, Output
 ghost use Rattle.model_lines.specs.FirmwareLaws.{BadLinesChangeNothing, DataIsByNumber, LatchIsPort, LongLinesAlike, ReadsChangeNoRegister, RefusedChangesNothing};
 ghost use Rattle.model_lines.specs.FirmwareLines.{board_protocol};
 ghost use Rattle.model_lines.specs.Sessions.{session_protocol};
-ghost use Rattle.model_lines.specs.WhyLines.{WhyLineExamples};
-ghost use Rattle.model_lines.specs.SessionLaws.{HostWordsAreNoForm, QuestionsChangeNothing, RefusedStays, WhyLinesAreNoForm};
+ghost use Rattle.model_lines.specs.Requests.{RequestExamples};
+ghost use Rattle.model_lines.specs.SessionLaws.{HostWordsAreNoForm, QuestionsChangeNothing, RefusedStays, RequestsAreNoForm};
 ghost use Rattle.model_lines.specs.SessionLaws.{DrivenIsFirmware, GivenIsScript, PlainSessions};
 ghost use Rattle.model_lines.specs.SessionLaws.{AccessesTellWritten, GivenBy, IsolatedSessions, LinesTellWritten};
 ghost use Rattle.model_lines.specs.FirmwareLeaves.{AccessLeaves, LinesLeave};
@@ -85,14 +85,14 @@ pub fn lines_in_pieces()
 /// change nothing, nor does a handover that is refused.
 pub fn questions_and_handovers()
     ensures no_form { HostWordsAreNoForm }
-    ensures why_no_form { WhyLinesAreNoForm }
+    ensures requests_no_form { RequestsAreNoForm }
     ensures nothing { QuestionsChangeNothing }
     ensures refused { RefusedStays }
 {}
 
-/// What some lines ask that ask why.
-pub fn why_lines()
-    ensures { WhyLineExamples }
+/// What some lines ask.
+pub fn worked_requests()
+    ensures { RequestExamples }
 {}
 
 /// Without such lines a session writes and leaves what its lines do as firmware's, and once the board is given what

@@ -2,26 +2,26 @@
 --     handed_over_as      the session that a machine makes, which guests have
 --     IsAnswered, answered      what the line of a handover that is done writes and leaves
 --     told_refusal      the number by which one is refused
-use Rattle.std.proofs.Common.{◌≡◌, ℕ, Bool, false, true, cond, None, List, refl, sym, ap, ap₂, ◌∙◌, map}
-use Rattle.std.specs.Prelude.{IsTrue, IfSome, IsSome, Some}
+use Rattle.std.proofs.Common.{◌≡◌, ℕ, false, true, None, List, refl, sym, ap, ap₂, ◌∙◌, map}
+use Rattle.std.specs.Prelude.{IfSome, IsSome, Some}
 use Rattle.model_guests.specs.Text.{Text}
 use Rattle.model_guests.specs.Guests.{GuestNow}
 use Rattle.model_guests.specs.WorldNow.{WorldNow}
-use Rattle.model_findings.specs.AuditText.{audit}
-use Rattle.model_findings.specs.ReadyText.{ready_report}
 use Rattle.model_handoff.specs.Changes.{MachineNow, BeginsIn}
 use Rattle.model_handoff.specs.Regions.{first_fault}
 use Rattle.model_handoff.proofs.Served.{fault_decides}
 use Rattle.model_lines.specs.GivenLaws.{IsGiven}
-use Rattle.model_lines.specs.Sessions.{DrivenNow, SessionNow, driven, given, is_handover, is_question, handed_over, after_handover, handover_output, told_output}
+use Rattle.model_lines.specs.Requests.{for_guests, request}
+use Rattle.model_lines.specs.Sessions.{DrivenNow, SessionNow, driven, given, handed_over, after_handover, handover_output, told_output}
 use Rattle.model_lines.specs.Sessions.{after_session_line, session_output}
-use Rattle.model_lines.specs.FirmwareLines.{meaning}
-use Rattle.model_lines.proofs.SessionLines.{no_audit, no_ready, handover_leaves}
+use Rattle.std.specs.Option.{option_map_or}
+use Rattle.model_lines.specs.FirmwareLines.{line_output, meaning}
+use Rattle.model_lines.proofs.SessionLines.{handover_leaves}
 use Rattle.monitor.specs.declared.handover.HandoverFault.{HandoverFault}
 use Rattle.monitor.specs.declared.handover.HandoverFault.TheVariants.{NotInOrder, Closed, Memory}
 use Rattle.monitor.specs.Handovers.{number_of, handoff_fault}
 use Rattle.session.specs.Boards.{IsHandedOverAs, IsRefusalOf}
-use Rattle.session.specs.Refusals.{handover_refusal, refusal_by, refusal_in}
+use Rattle.session.specs.Refusals.{handover_refusal, refusal_by, refusal_in, request_refusal}
 use Rattle.session.specs.Stages.{board_in, IsDriven}
 
 machine_is : (m : MachineNow) (w : WorldNow) → m.world ≡ w → m.counts ≡ map (λ (g : GuestNow). 0) m.world.guests
@@ -45,16 +45,13 @@ pub record IsAnswered (x new : SessionNow) (line : Text) : Type 0 where
   pub leaves : new ≡ after_session_line x line
   pub refused : None ≡ refusal_in x line
 
-handover_writes : (b : DrivenNow) (line : Text) → IsTrue (is_handover line) → session_output (driven b) line ≡ handover_output (first_fault b.world b.state)
-handover_writes b line asks =
-    ap₂ (λ (t r : Bool). cond t (audit b.state.functions) (cond r (ready_report b.world.apertures b.state.functions) (cond (is_handover line) (handover_output (first_fault b.world b.state)) (told_output b line)))) (no_audit line asks) (no_ready line asks)
-    ∙ ap (λ (u : Bool). cond u (handover_output (first_fault b.world b.state)) (told_output b line)) asks
+handover_writes : (b : DrivenNow) (line : Text) → request line ≡ Some for_guests → session_output (driven b) line ≡ handover_output (first_fault b.world b.state)
+handover_writes b line same = ap (λ o. option_map_or (told_output b) o (line_output b.state line)) same
 
-handover_refuses : (b : DrivenNow) (line : Text) → IsTrue (is_handover line) → refusal_in (driven b) line ≡ handover_refusal (first_fault b.world b.state)
-handover_refuses b line asks =
-    ap (λ (t : Bool). cond t (handover_refusal (first_fault b.world b.state)) (cond (is_question line) None (refusal_by b.state (meaning line)))) asks
+handover_refuses : (b : DrivenNow) (line : Text) → request line ≡ Some for_guests → refusal_in (driven b) line ≡ handover_refusal (first_fault b.world b.state)
+handover_refuses b line same = ap (λ o. option_map_or (request_refusal b) o (refusal_by b.state (meaning line))) same
 
-pub answered : (x new : SessionNow) → IsDriven x → IfSome (board_in x) (λ b. IsHandedOverAs b new) → (line : Text) → IsTrue (is_handover line) → IsAnswered x new line
+pub answered : (x new : SessionNow) → IsDriven x → IfSome (board_in x) (λ b. IsHandedOverAs b new) → (line : Text) → request line ≡ Some for_guests → IsAnswered x new line
 answered (driven b) new is handed line asks =
     let none : first_fault b.world b.state ≡ None = (fault_decides b.world b.state).1 handed.lawful.can in
     record {
@@ -64,7 +61,7 @@ answered (driven b) new is handed line asks =
     }
 answered (given m) new is handed line asks = absurd (let wrong : false ≡ true = is in cc)
 
-pub told_refusal : (x : SessionNow) (f : HandoverFault) → IsDriven x → IsSome (handoff_fault f) → IfSome (board_in x) (λ b. IsRefusalOf b f) → (line : Text) → IsTrue (is_handover line)
+pub told_refusal : (x : SessionNow) (f : HandoverFault) → IsDriven x → IsSome (handoff_fault f) → IfSome (board_in x) (λ b. IsRefusalOf b f) → (line : Text) → request line ≡ Some for_guests
     → Some (number_of f) ≡ refusal_in x line
 told_refusal (driven b) (NotInOrder p) is told first line asks = sym (handover_refuses b line asks ∙ ap handover_refusal first)
 told_refusal (driven b) (Closed r) is told first line asks = sym (handover_refuses b line asks ∙ ap handover_refusal first)

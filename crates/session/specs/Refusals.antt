@@ -2,13 +2,15 @@
 --     refusal_by s m      that of a line of firmware of this meaning
 --     handover_refusal f      that of a handover, by what stands in its way
 --     refusal_in x line      that of a line
-use Rattle.std.specs.Prelude.{ℕ, Option, None, Some, if◌then◌else◌}
+use Rattle.std.specs.Prelude.{ℕ, Option, None, Some}
+use Rattle.std.specs.Option.{option_map_or}
 use Rattle.model_board.specs.State.{State}
 use Rattle.model_guests.specs.Text.{Text}
 use Rattle.model_handoff.specs.Regions.{HandoffFault, in_disorder, closed_region, first_fault}
 use Rattle.model_lines.specs.HostAccesses.{answer}
 use Rattle.model_lines.specs.FirmwareLines.{Meaning, nothing, asked, bad, meaning}
-use Rattle.model_lines.specs.Sessions.{DrivenNow, SessionNow, driven, given, is_question, is_handover}
+use Rattle.model_lines.specs.Requests.{Request, for_guests, request}
+use Rattle.model_lines.specs.Sessions.{DrivenNow, SessionNow, driven, given}
 use Rattle.script.specs.Refusals.{refusal_of}
 use Rattle.script.specs.Refusals as script
 
@@ -23,10 +25,12 @@ handover_refusal (Some (in_disorder p)) = Some 207
 handover_refusal (Some (closed_region q)) = Some 206
 
 -- no question is refused
+abbrev pub request_refusal : DrivenNow → Request → Option ℕ
+request_refusal b for_guests = handover_refusal (first_fault b.world b.state)
+request_refusal b other = None
+
 abbrev pub driven_refusal : DrivenNow → Text → Option ℕ
-driven_refusal b line =
-    if is_handover line then handover_refusal (first_fault b.world b.state)
-    else (if is_question line then None else refusal_by b.state (meaning line))
+driven_refusal b line = option_map_or (request_refusal b) (request line) (refusal_by b.state (meaning line))
 
 abbrev pub refusal_in : SessionNow → Text → Option ℕ
 refusal_in (driven b) line = driven_refusal b line

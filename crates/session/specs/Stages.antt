@@ -3,16 +3,12 @@
 --     IsAtLine stage      what holds of it between lines: it is not within a handover
 --     board_in x, machine_in x      the board, where firmware drives it, and the guests, where they have it
 --     IsDriven x, IsGiven x      which of the two it is
---     asks_audit, asks_ready, asks_why, asks_guests      what a line asks for
---     asks_for_more x line      it asks a question or for guests, while firmware drives the board
-use Rattle.std.specs.Prelude.{◌||◌, Bool, true, false, [], Option, None, Some, IsSome, ⊤}
+--     asks_for_more x line      it asks something beside an access, while firmware drives the board
+use Rattle.std.specs.Prelude.{Bool, false, [], Option, None, Some, is_some, IsSome, ⊤}
 use Rattle.model_handoff.specs.Changes.{MachineNow}
 use Rattle.model_guests.specs.Text.{Text}
-use Rattle.model_lines.specs.WhyLines.{WhyAsked}
-use Rattle.lines.specs.WhyLines.{why_asked_of}
-use Rattle.model_lines.specs.Sessions.{DrivenNow, SessionNow, driven, given, is_question, is_handover}
-use Rattle.session.specs.declared.asking.Asked.{Asked}
-use Rattle.session.specs.declared.asking.Asked.TheVariants.{Audit, Ready, Why, Handover}
+use Rattle.model_lines.specs.Requests.{request}
+use Rattle.model_lines.specs.Sessions.{DrivenNow, SessionNow, driven, given}
 use Rattle.session.specs.declared.stage.Stage.{Stage}
 use Rattle.session.specs.declared.stage.Stage.TheVariants.{Driven, Given, Between}
 
@@ -44,21 +40,5 @@ IsGiven x = IsSome (machine_in x)
 
 -- all other lines take no memory
 abbrev pub asks_for_more : SessionNow → Text → Bool
-asks_for_more (driven b) line = is_question line || is_handover line
+asks_for_more (driven b) line = is_some (request line)
 asks_for_more (given m) line = false
-
-abbrev pub asks_audit : Asked → Bool
-asks_audit Audit = true
-asks_audit other = false
-
-abbrev pub asks_ready : Asked → Bool
-asks_ready Ready = true
-asks_ready other = false
-
-abbrev pub asks_why : Asked → Option WhyAsked
-asks_why (Why at) = Some (why_asked_of at)
-asks_why other = None
-
-abbrev pub asks_guests : Asked → Bool
-asks_guests Handover = true
-asks_guests other = false

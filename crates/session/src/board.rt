@@ -12,15 +12,14 @@ ghost use Rattle.model_findings.specs.Lacks.{lack_count};
 ghost use Rattle.model_findings.specs.ReadyText.{ready_report};
 ghost use Rattle.model_handoff.specs.Changes.{BeginsIn};
 ghost use Rattle.model_lines.specs.HostAccesses.{answer};
-ghost use Rattle.model_lines.specs.FirmwareLines.{line_output, meaning};
-ghost use Rattle.model_lines.specs.WhyLines.{why_written};
+ghost use Rattle.model_lines.specs.FirmwareLines.{text_by};
+ghost use Rattle.model_lines.specs.Requests.{why_written};
 ghost use Rattle.model_lines.specs.GivenLaws.{IsGiven};
-ghost use Rattle.model_lines.specs.Sessions.{at_reset, after_board_access, after_board_line};
+ghost use Rattle.model_lines.specs.Sessions.{at_reset, after_board_access, after_meant};
 ghost use Rattle.accesses.specs.Accesses.{reply_of};
 ghost use Rattle.accesses.specs.Replies.{IsRefusal, IsShown};
-ghost use Rattle.lines.specs.FirmwareLines.{host_asked};
-ghost use Rattle.lines.specs.WhyLines.{why_asked_of};
-ghost use Rattle.lines.specs.Pieces.{IsBefore};
+ghost use Rattle.lines.specs.FirmwareLines.{host_asked, firmware_meaning_of};
+ghost use Rattle.lines.specs.Requests.{why_asked_of};
 ghost use Rattle.board_file.specs.declared.fault.BoardFault.TheVariants.{Memory};
 ghost use Rattle.board_file.specs.Faults.{number_of as file_number};
 ghost use Rattle.session.specs.Boards.{IsRefusalOf};
@@ -39,7 +38,7 @@ use findings_told::{
 };
 use headers::Apertures;
 use host_bridge::Host;
-use lines::{FirmwareWhat, LineText, WhyAsked, firmware_meaning, push_named};
+use lines::{FirmwareWhat, LineText, WhyAsked, push_named};
 use monitor::{Monitor, Refused};
 use script::refusal_of;
 use std::alloc::{AllocError, Global};
@@ -126,19 +125,19 @@ impl Board {
         reply
     }
 
-    /// Runs the event of a line, and gives under which name it is answered and with what, if the line makes
+    /// Runs the event that a line means, and gives under which name it is answered and with what, if the line makes
     /// output.
-    fn reply_to(&mut self, line: &[u8]) -> Option<(&'static [u8], Reply)>
-        ensures text { MatchOption result (line_output self.old.state line.now ≡ []) (λ a.
-            line_output self.old.state line.now
-            ≡ a.0.now ++ codes ": " ++ reply_text (reply_of a.1) ++ 10 ∷ []) }
+    fn reply_to(&mut self, what: FirmwareWhat) -> Option<(&'static [u8], Reply)>
+        ensures text { let text = text_by self.old.state (firmware_meaning_of what) in
+            MatchOption result (text ≡ []) (λ a.
+            text ≡ a.0.now ++ codes ": " ++ reply_text (reply_of a.1) ++ 10 ∷ []) }
         ensures refused { option_and_then (λ a. refusal_of (reply_of a.1)) result
-            ≡ refusal_by self.old.state (meaning line.now) }
-        ensures after { self.new ≡ after_board_line self.old line.now }
+            ≡ refusal_by self.old.state (firmware_meaning_of what) }
+        ensures after { self.new ≡ after_meant self.old (firmware_meaning_of what) }
         ensures short { IfSome result (λ a. length a.0.now ≤ 16) }
         ensures shown { IfSome result (λ a. IsShown a.1) }
     {
-        match firmware_meaning(line) {
+        match what {
             FirmwareWhat::Nothing => None,
             FirmwareWhat::Read(from) => {
                 let reply = self.read(from);
@@ -148,47 +147,25 @@ impl Board {
                 let reply = self.write(to, value);
                 Some((b"host", reply))
             }
-            FirmwareWhat::NoForm => Some((b"host", Reply::Refused(Refusal::BadLine))),
+            FirmwareWhat::Asks(_) | FirmwareWhat::NoForm => {
+                Some((b"host", Reply::Refused(Refusal::BadLine)))
+            }
             FirmwareWhat::NotOfHost(why) => Some((b"?", Reply::Refused(why))),
         }
     }
 
-    /// Runs the event of a line, and writes what the line writes into an empty text. It gives the number by which the
-    /// line is refused.
-    fn push_answer(&mut self, line: &[u8], text: &mut LineText) -> Option<u16>
+    /// Runs the event that a line of firmware means, and writes what the line writes into an empty text: nothing, or
+    /// one line with its line feed. It gives the number by which the line is refused; one that asks something is no
+    /// line of firmware. No memory is taken.
+    pub(crate) fn answer(&mut self, what: FirmwareWhat, text: &mut LineText) -> Option<u16>
         requires { text.old.items ≡ [] }
-        ensures text { text.new.items ≡ line_output self.old.state line.now }
-        ensures refused { result ≡ refusal_by self.old.state (meaning line.now) }
-        ensures after { self.new ≡ after_board_line self.old line.now }
+        ensures text { text.new.items ≡ text_by self.old.state (firmware_meaning_of what) }
+        ensures refused { result ≡ refusal_by self.old.state (firmware_meaning_of what) }
+        ensures after { self.new ≡ after_meant self.old (firmware_meaning_of what) }
     {
-        let (name, reply) = self.reply_to(line)?;
+        let (name, reply) = self.reply_to(what)?;
         push_named(text, name, reply);
         refusal_of(reply)
-    }
-
-    /// Runs a line of firmware, which is given without its line feed, and writes what the line writes into an
-    /// empty text: nothing, or one line with its line feed. It gives the number by which the line is refused. If `long`,
-    /// bytes of the line were passed over. No memory is taken.
-    pub(crate) fn answer_line(
-        &mut self,
-        line: &[u8],
-        long: bool,
-        text: &mut LineText,
-    ) -> Option<u16>
-        requires { text.old.items ≡ [] }
-        ensures text { (before : Text) → IsBefore long before →
-            text.new.items ≡ line_output self.old.state (before ++ line.now) }
-        ensures refused { (before : Text) → IsBefore long before →
-            result ≡ refusal_by self.old.state (meaning (before ++ line.now)) }
-        ensures after { (before : Text) → IsBefore long before →
-            self.new ≡ after_board_line self.old (before ++ line.now) }
-    {
-        // No event runs, and all such lines write the same.
-        if long {
-            push_named(text, b"?", Reply::Refused(Refusal::LongLine));
-            return Some(Refusal::LongLine.number());
-        }
-        self.push_answer(line, text)
     }
 
     /// What our own set-up makes of this board, which is at reset: a board that is set up, with its functions

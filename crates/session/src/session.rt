@@ -20,14 +20,14 @@ ghost use Rattle.session.specs.Boards.{IsHandedOverAs, IsRefusalOf};
 ghost use Rattle.session.specs.Refusals.{refusal_in};
 ghost use Rattle.session.specs.Stages.{board_in, machine_in, asks_for_more, IsDriven, IsGiven};
 
-use crate::asking::{Asked, asked_by};
+use crate::asking::meant;
 use crate::board::Board;
 use crate::stage::{Stage, answer_handover, hand_over};
 use board_file::BoardFault;
 use findings::Problem;
 use findings_told::CountedText;
 use headers::Apertures;
-use lines::{Answer, Answers, LineText};
+use lines::{Answer, Answers, LineText, Request};
 use monitor::{HandoverFault, Monitor};
 use std::alloc::{AllocError, Global};
 use std::marker::Model;
@@ -237,25 +237,28 @@ impl Session {
                 let refused = script::answer_line(monitor, line, long, text);
                 Ok(Answer::short(refused))
             }
-            Stage::Driven(board) => match asked_by(line, long) {
-                Asked::Access => {
-                    let refused = board.answer_line(line, long, text);
-                    Ok(Answer::short(refused))
+            Stage::Driven(board) => {
+                let what = meant(line, long);
+                match what.request() {
+                    None => {
+                        let refused = board.answer(what, text);
+                        Ok(Answer::short(refused))
+                    }
+                    Some(Request::Audit) => {
+                        let told = board.audit(self.alloc)?;
+                        Ok(Answer::text(told.text))
+                    }
+                    Some(Request::Ready) => {
+                        let ready = board.ready(self.alloc)?;
+                        Ok(Answer::text(ready.text))
+                    }
+                    Some(Request::Why(at)) => {
+                        let told = board.why(self.alloc, at)?;
+                        Ok(Answer::text(told))
+                    }
+                    Some(Request::Guests) => answer_handover(self.alloc, &mut self.stage, text),
                 }
-                Asked::Audit => {
-                    let told = board.audit(self.alloc)?;
-                    Ok(Answer::text(told.text))
-                }
-                Asked::Ready => {
-                    let ready = board.ready(self.alloc)?;
-                    Ok(Answer::text(ready.text))
-                }
-                Asked::Why(at) => {
-                    let told = board.why(self.alloc, at)?;
-                    Ok(Answer::text(told))
-                }
-                Asked::Handover => answer_handover(self.alloc, &mut self.stage, text),
-            },
+            }
             Stage::Between => unreachable!(),
         }
     }

@@ -1,8 +1,9 @@
 //! How far a session came.
-ghost use Rattle.std.specs.Prelude.{◌≡◌, [], option_map, string_bytes, IsTrue};
+ghost use Rattle.std.specs.Prelude.{◌≡◌, [], Some, option_map, string_bytes};
 ghost use Rattle.std.specs.Prelude.{IfOk, IfErr, OnOk, OnErr, IfSome};
 ghost use Rattle.model_guests.specs.Text.{Text};
-ghost use Rattle.model_lines.specs.Sessions.{is_handover, session_output, after_session_line};
+ghost use Rattle.model_lines.specs.Requests.{for_guests, request};
+ghost use Rattle.model_lines.specs.Sessions.{session_output, after_session_line};
 ghost use Rattle.lines.specs.Pieces.{with_more};
 ghost use Rattle.session.specs.Boards.{IsHandedOverAs, IsRefusalOf};
 ghost use Rattle.session.specs.Refusals.{refusal_in};
@@ -63,12 +64,12 @@ pub(crate) fn answer_handover(
     requires driven { IsDriven (session_now stage.old) }
     requires at_line { IsAtLine stage.old }
     requires empty { text.old.items ≡ [] }
-    ensures text { IfOk result (λ a. (line : Text) → IsTrue (is_handover line) →
+    ensures text { IfOk result (λ a. (line : Text) → request line ≡ Some for_guests →
         with_more text.new.items (option_map string_bytes a.more)
         ≡ session_output (session_now stage.old) line) }
-    ensures refused { IfOk result (λ a. (line : Text) → IsTrue (is_handover line) →
+    ensures refused { IfOk result (λ a. (line : Text) → request line ≡ Some for_guests →
         a.refused ≡ refusal_in (session_now stage.old) line) }
-    ensures after { OnOk result ((line : Text) → IsTrue (is_handover line) →
+    ensures after { OnOk result ((line : Text) → request line ≡ Some for_guests →
         session_now stage.new ≡ after_session_line (session_now stage.old) line) }
     ensures more { IfOk result (λ a.
         IfSome a.more (λ _.

@@ -1,11 +1,11 @@
-use Rattle.model_lines.proofs.SessionLines.{host_words_are_no_form, questions_change_nothing, refused_stays}
-use Rattle.model_lines.proofs.WhyLines.{why_lines_are_no_form}
+use Rattle.model_lines.proofs.Requests.{host_words_are_no_form, requests_are_no_form}
+use Rattle.model_lines.proofs.SessionLines.{questions_change_nothing, refused_stays}
 use Rattle.model_lines.proofs.questions_and_handovers.Goals as goal
 
 pub returns : goal.returns
 returns c = record {
   no_form = host_words_are_no_form;
-  why_no_form = why_lines_are_no_form;
+  requests_no_form = requests_are_no_form;
   nothing = questions_change_nothing;
   refused = refused_stays;
 }

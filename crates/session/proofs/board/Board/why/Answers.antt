@@ -2,11 +2,11 @@ use Rattle.std.proofs.Common.{◌≡◌, sym, subst}
 use Rattle.std.specs.Prelude.{IfOk, string_bytes}
 use Rattle.paths.specs.BusAddresses.{bus_address_of}
 use Rattle.model_lines.specs.WhyText.{why_number_text}
-use Rattle.model_lines.specs.WhyLines.{why_written}
+use Rattle.model_lines.specs.Requests.{why_written}
 use Rattle.model_lines.specs.Sessions.{DrivenNow}
-use Rattle.lines.specs.WhyLines.{why_asked_of}
-use Rattle.lines.specs.declared.why_line.WhyAsked.{WhyAsked}
-use Rattle.lines.specs.declared.why_line.WhyAsked.TheVariants.{Config}
+use Rattle.lines.specs.Requests.{why_asked_of}
+use Rattle.lines.specs.declared.requests.WhyAsked.{WhyAsked}
+use Rattle.lines.specs.declared.requests.WhyAsked.TheVariants.{Config}
 use Rattle.session.proofs.board.Board.why.Goals as goal
 
 pub returns-in-Config-clause-text : goal.returns-in-Config-clause-text

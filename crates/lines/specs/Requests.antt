@@ -1,0 +1,20 @@
+-- What firmware asks of a session, in the words of its definitions.
+--     why_asked_of      what is asked about where why is asked
+--     request_of      what a line asks
+use Rattle.model_lines.specs.Requests as model
+use Rattle.paths.specs.BusAddresses.{bus_address_of}
+use Rattle.lines.specs.declared.requests.WhyAsked.{WhyAsked}
+use Rattle.lines.specs.declared.requests.WhyAsked.TheVariants.{Mem, Io, Config}
+use Rattle.lines.specs.declared.requests.Request.{Request}
+use Rattle.lines.specs.declared.requests.Request.TheVariants.{Audit, Ready, Guests, Why}
+
+abbrev pub why_asked_of : WhyAsked → model.WhyAsked
+why_asked_of (Mem addr) = model.of_address addr
+why_asked_of (Io port) = model.of_port port
+why_asked_of (Config bdf) = model.of_function (bus_address_of bdf)
+
+abbrev pub request_of : Request → model.Request
+request_of Audit = model.for_audit
+request_of Ready = model.for_ready
+request_of Guests = model.for_guests
+request_of (Why at) = model.for_why (why_asked_of at)

@@ -1,0 +1,71 @@
+-- The lines of a session that ask something of the host: `host audit`, `host ready` and `host guests`, and why something
+-- finds what it finds, `host why mem ADDR`, `host why io PORT` and `host why cfg BB:DD.F`.
+--     WhyAsked      an address, a port or a number that is asked about
+--     Request, request line      what a line asks, if it is of such a form
+--     why_written s a      what is told of why
+--     RequestExamples      what some lines ask
+use Rattle.std.specs.Prelude.{◌≡◌, List, [], ◌∷◌, ℕ, ◌^◌, if◌then◌else◌, Option, Some, None, option_map, codes}
+use Rattle.std.specs.Str.{bytes_eq}
+use Rattle.model_registers.specs.Decoding.{memory}
+use Rattle.model_board.specs.Cycles.{BusAddress}
+use Rattle.model_board.specs.State.{State}
+use Rattle.model_guests.specs.Text.{Text, words}
+use Rattle.model_guests.specs.Numbers.{below, number_of}
+use Rattle.model_guests.specs.Grammar.{on_word, bus_address, is_long}
+use Rattle.model_lines.specs.WhyText.{why_text, why_number_text}
+use Rattle.model_lines.specs.WhyPorts.{why_port_text}
+
+pub data WhyAsked : Type 0 where
+  of_address : ℕ → WhyAsked
+  of_port : ℕ → WhyAsked
+  of_function : BusAddress → WhyAsked
+
+-- mem ADDR, io PORT with a port of 32 bits, cfg BB:DD.F
+abbrev pub why_place : Text → Text → Option WhyAsked
+why_place space at =
+    if bytes_eq space (codes "mem") then option_map of_address (number_of at)
+    else (if bytes_eq space (codes "io") then option_map of_port (below (2 ^ 32) (number_of at))
+    else on_word space (codes "cfg") (option_map of_function (bus_address at)))
+
+pub data Request : Type 0 where
+  for_audit : Request
+  for_ready : Request
+  for_guests : Request
+  for_why : WhyAsked → Request
+
+abbrev pub request_of_word : Text → Option Request
+request_of_word w =
+    if bytes_eq w (codes "audit") then Some for_audit
+    else (if bytes_eq w (codes "ready") then Some for_ready else on_word w (codes "guests") (Some for_guests))
+
+-- the words after `host`
+abbrev pub request_of : List Text → Option Request
+request_of (w ∷ []) = request_of_word w
+request_of (w ∷ space ∷ at ∷ []) = on_word w (codes "why") (option_map for_why (why_place space at))
+request_of _ = None
+
+abbrev pub request_in : List Text → Option Request
+request_in [] = None
+request_in (w ∷ ws) = on_word w (codes "host") (request_of ws)
+
+-- a long line asks for nothing
+abbrev pub request : Text → Option Request
+request line = if is_long line then None else request_in (words line)
+
+abbrev pub why_written : State → WhyAsked → Text
+why_written s (of_address n) = why_text s.functions memory n
+why_written s (of_port n) = why_port_text s n
+why_written s (of_function at) = why_number_text s.functions at
+
+-- ---- worked examples
+
+pub record RequestExamples : Type 0 where
+  pub audit : request (codes "host audit") ≡ Some for_audit
+  pub address : request (codes "host why mem 0x80000010") ≡ Some (for_why (of_address 0x80000010))
+  pub port : request (codes "host why io 0xcf8") ≡ Some (for_why (of_port 0xcf8))
+  pub number :
+      request (codes "host why cfg 01:02.3")
+      ≡ Some (for_why (of_function (record { bus = 1; part = record { device = 2; function = 3 } })))
+  pub far_port : request (codes "host why io 0x100000000") ≡ None
+  pub no_number : request (codes "host why cfg 01:20.3") ≡ None
+  pub no_place : request (codes "host why mem") ≡ None
