@@ -8,11 +8,12 @@ _pciguest() {
     check) flags='--all --plain' ;;
     'check --all') flags=--plain ;;
     'check --plain') flags=--all ;;
-    audit) flags='--json --strict' ;;
-    'audit --strict') flags=--json ;;
-    'audit --json' | firmware | run) flags=--strict ;;
+    audit | ready) flags='--json --strict' ;;
+    'audit --strict' | 'ready --strict') flags=--json ;;
+    'audit --json' | 'ready --json' | firmware | run) flags=--strict ;;
     list) flags=--json ;;
-    ready | 'check --all --plain' | 'check --plain --all' | 'audit --json --strict' | 'audit --strict --json') flags='' ;;
+    'check --all --plain' | 'check --plain --all' | 'audit --json --strict' | 'audit --strict --json') flags='' ;;
+    'ready --json --strict' | 'ready --strict --json') flags='' ;;
     'firmware --strict' | 'run --strict' | 'list --json') flags='' ;;
     *) return ;;
   esac

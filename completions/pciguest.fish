@@ -5,9 +5,9 @@ function __pciguest_board
         case 2
             contains -- $words[2] audit check firmware list ready run
         case 3
-            contains -- "$words[2] $words[3]" 'check --all' 'check --plain' 'audit --json' 'audit --strict' 'firmware --strict' 'run --strict' 'list --json'
+            contains -- "$words[2] $words[3]" 'check --all' 'check --plain' 'audit --json' 'audit --strict' 'ready --json' 'ready --strict' 'firmware --strict' 'run --strict' 'list --json'
         case 4
-            contains -- "$words[2] $words[3] $words[4]" 'check --all --plain' 'check --plain --all' 'audit --json --strict' 'audit --strict --json'
+            contains -- "$words[2] $words[3] $words[4]" 'check --all --plain' 'check --plain --all' 'audit --json --strict' 'audit --strict --json' 'ready --json --strict' 'ready --strict --json'
         case '*'
             false
     end
@@ -36,4 +36,6 @@ complete -c pciguest -n '__pciguest_board; and contains -- (commandline -opc)[-1
 complete -c pciguest -n '__pciguest_board; and contains -- (commandline -opc)[-1] firmware run' -l strict -d 'End with status 1 where a line was refused'
 complete -c pciguest -n '__pciguest_lacks audit --json' -l json -d 'Write the audit as JSON'
 complete -c pciguest -n '__pciguest_lacks audit --strict' -l strict -d 'End with status 1 where a line was refused or a problem told'
+complete -c pciguest -n '__pciguest_lacks ready --json' -l json -d 'Write what is wrong and lacking as JSON'
+complete -c pciguest -n '__pciguest_lacks ready --strict' -l strict -d 'End with status 1 where a line was refused'
 complete -c pciguest -n __pciguest_board -a '(__fish_complete_suffix .toml)'

@@ -236,6 +236,17 @@ ends_with_fault 'ready, a board at reset' '208 not ready' ready "$boards/main.to
 { echo 'host: ok'; cat wanted.out; } > wanted.more; mv wanted.more wanted.out
 ends_with_fault 'ready, a last line without a line feed' '208 not ready' ready "$boards/main.toml" < <(printf 'host mw 0 4 1')
 full 'ready, a board at reset' ready "$boards/main.toml" < /dev/null
+{ echo '?: refused 402 unknown guest'; tail -n +2 wanted.out; } > wanted.more; mv wanted.more wanted.out
+ends_with_fault 'ready --strict, lacks and a refused line' '209 refused line' ready --strict "$boards/main.toml" <<< 'a cr 0 0 4'
+# --json: the same as a JSON object on one line
+echo '{"lacks":[],"problems":[]}' > wanted.out
+ends_with 'ready --json, no function at all' ready --json "$boards/host_alone.toml" < /dev/null
+cat > wanted.out << 'END'
+{"lacks":[{"region":{"bar":0,"base":0,"path":"1.0","size":32,"space":"io"},"type":"closed"},{"region":{"bar":1,"base":0,"path":"1.0","size":4096,"space":"mem"},"type":"closed"},{"region":{"bar":0,"base":0,"path":"2.0/0.0","size":1048576,"space":"mem"},"type":"closed"},{"region":{"bar":1,"base":0,"path":"2.0/0.0","size":8,"space":"io"},"type":"closed"},{"region":{"bar":0,"base":0,"path":"2.0/1.0","size":16777216,"space":"mem"},"type":"closed"}],"problems":[{"number":{"bus":0,"device":0,"function":0},"path":"2.0/0.0","reached":null,"type":"not found"},{"number":{"bus":0,"device":1,"function":0},"path":"2.0/1.0","reached":"1.0","type":"not found"}]}
+END
+ends_with_fault 'ready --json, a board at reset' '208 not ready' ready --json "$boards/main.toml" < /dev/null
+ends_with_fault 'ready, and then both flags' '208 not ready' ready "$boards/main.toml" --strict --json < /dev/null
+full 'ready --json, a board at reset' ready --json "$boards/main.toml" < /dev/null
 fails_with 'ready, a faulty file' '107 size' ready "$boards/refused/size.toml" < /dev/null
 fails_with 'ready, no such file' '702 board file' ready nothing.toml < /dev/null
 fails_with 'ready, standard input closed' '501 read failed' ready "$boards/main.toml" <&-
@@ -276,13 +287,13 @@ full 'audit --json, problems' audit --json "$boards/main.toml" < /dev/null
 fails_with 'audit --json, a faulty file' '107 size' audit --json "$boards/refused/size.toml" < /dev/null
 fails_with 'audit --json, no board' '701 usage' audit --json
 fails_with 'audit --json twice' '701 usage' audit --json --json "$boards/main.toml"
-for verb in run firmware audit; do
+for verb in run firmware audit ready; do
   fails_with "$verb --strict, no board" '701 usage' $verb --strict
   fails_with "$verb --strict twice" '701 usage' $verb --strict --strict "$boards/main.toml"
 done
-for verb in list check ready; do fails_with "$verb --strict" '701 usage' $verb --strict "$boards/main.toml"; done
+for verb in list check; do fails_with "$verb --strict" '701 usage' $verb --strict "$boards/main.toml"; done
 for verb in list run audit; do fails_with "$verb --all" '701 usage' $verb --all "$boards/main.toml"; done
-for verb in check run firmware ready; do fails_with "$verb --json" '701 usage' $verb --json "$boards/main.toml"; done
+for verb in check run firmware; do fails_with "$verb --json" '701 usage' $verb --json "$boards/main.toml"; done
 
 # ---- run: lines at the ends of what a line may say
 longest=$(printf '%190s' '')

@@ -146,4 +146,9 @@ asked_alike same alike terminal (Audit path json strict) said = (
   said.2 ∙ sym (json_alike alike),
   said.3 ∙ sym (strict_alike alike),
 )
-asked_alike same alike terminal (Ready path) said = (same ∙ said.0, said.1 ∙ sym (board_alike alike))
+asked_alike same alike terminal (Ready path json strict) said = (
+  same ∙ said.0,
+  said.1 ∙ sym (board_alike alike),
+  said.2 ∙ sym (json_alike alike),
+  said.3 ∙ sym (strict_alike alike),
+)

@@ -1,6 +1,6 @@
 -- What the words of the command line ask for.
 --     is_plain given is_terminal      a check tells lines alone, by what is given for `--plain` and where it is written
---     is_json value      the report or the audit is written as JSON
+--     is_json value      what is told is written as JSON
 --     is_all value      a check tells every warning
 --     is_strict value      a refused line is a fault
 --     board_path choice      the path of the board file that is read
@@ -51,7 +51,8 @@ IsAskedBy name value terminal (Firmware path strict) =
     (name ≡ Some (codes "firmware")) × (path.now ≡ board_in value) × (strict ≡ is_strict value)
 IsAskedBy name value terminal (Audit path json strict) =
     (name ≡ Some (codes "audit")) × (path.now ≡ board_in value) × (json ≡ is_json value) × (strict ≡ is_strict value)
-IsAskedBy name value terminal (Ready path) = (name ≡ Some (codes "ready")) × (path.now ≡ board_in value)
+IsAskedBy name value terminal (Ready path json strict) =
+    (name ≡ Some (codes "ready")) × (path.now ≡ board_in value) × (json ≡ is_json value) × (strict ≡ is_strict value)
 
 abbrev pub IsAsked : List (List ℕ) → Bool → Choice → Type 0
 IsAsked words terminal choice = IsAskedBy (subcommand words) (value words) terminal choice
@@ -73,7 +74,7 @@ board_path (Check path all plain) = Some path.now
 board_path (Run path strict) = Some path.now
 board_path (Firmware path strict) = Some path.now
 board_path (Audit path json strict) = Some path.now
-board_path (Ready path) = Some path.now
+board_path (Ready path json strict) = Some path.now
 
 abbrev pub IsHelp : Choice → Type 0
 IsHelp (Help text) = Unit {0}

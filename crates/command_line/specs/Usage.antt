@@ -41,7 +41,7 @@ taken_by name =
     else if bytes_eq name (codes "run") then codes "run [--strict] BOARD"
     else if bytes_eq name (codes "firmware") then codes "firmware [--strict] BOARD"
     else if bytes_eq name (codes "audit") then codes "audit [--json] [--strict] BOARD"
-    else if bytes_eq name (codes "ready") then codes "ready BOARD"
+    else if bytes_eq name (codes "ready") then codes "ready [--json] [--strict] BOARD"
     else any_subcommand
 
 abbrev pub words_taken : List (List ℕ) → List ℕ

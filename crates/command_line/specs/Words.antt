@@ -28,7 +28,7 @@ abbrev pub strict_rule : Rule
 strict_rule = record (new_rule (codes "strict")) { long = Some (codes "strict"); action = Some SetTrue }
 
 -- `list [--json] BOARD`, `check [--all] [--plain] BOARD`, `run [--strict] BOARD`, `firmware [--strict] BOARD`,
--- `audit [--json] [--strict] BOARD` and `ready BOARD`
+-- `audit [--json] [--strict] BOARD` and `ready [--json] [--strict] BOARD`
 abbrev pub list_shape : Shape
 list_shape = record (new_shape (codes "list")) { rules = json_rule ∷ board_rule ∷ [] }
 
@@ -45,7 +45,7 @@ abbrev pub audit_shape : Shape
 audit_shape = record (new_shape (codes "audit")) { rules = json_rule ∷ strict_rule ∷ board_rule ∷ [] }
 
 abbrev pub ready_shape : Shape
-ready_shape = record (new_shape (codes "ready")) { rules = board_rule ∷ [] }
+ready_shape = record (new_shape (codes "ready")) { rules = json_rule ∷ strict_rule ∷ board_rule ∷ [] }
 
 -- `pciguest demo` and `pciguest list [--json] BOARD`, with a version and no help subcommand
 abbrev pub demo_and_list_app : App
@@ -71,7 +71,7 @@ with_firmware_app = with_subcommand with_run_app firmware_shape
 abbrev pub with_audit_app : App
 with_audit_app = with_subcommand with_firmware_app audit_shape
 
--- and `pciguest ready BOARD`
+-- and `pciguest ready [--json] [--strict] BOARD`
 abbrev pub pciguest_app : App
 pciguest_app = with_subcommand with_audit_app ready_shape
 

@@ -50,8 +50,12 @@ pub enum Choice<'a> {
         json: bool,
         strict: bool,
     },
-    /// Do the same, and then write all that is wrong and all that is lacking in them.
-    Ready(&'a str),
+    /// Do the same, and then write all that is wrong and all that is lacking in them, as JSON if `json`.
+    Ready {
+        path: &'a str,
+        json: bool,
+        strict: bool,
+    },
 }
 
 impl<'a> Choice<'a> {
@@ -67,7 +71,7 @@ impl<'a> Choice<'a> {
             Choice::Run { path, .. } => Some(*path),
             Choice::Firmware { path, .. } => Some(*path),
             Choice::Audit { path, .. } => Some(*path),
-            Choice::Ready(path) => Some(*path),
+            Choice::Ready { path, .. } => Some(*path),
         }
     }
 }
@@ -156,7 +160,7 @@ fn asked<'a>(name: &str, given: &ArgMatches<'a>, is_terminal: bool) -> Option<Ch
         "run" => Some(Choice::Run { path, strict }),
         "firmware" => Some(Choice::Firmware { path, strict }),
         "audit" => Some(Choice::Audit { path, json, strict }),
-        "ready" => Some(Choice::Ready(path)),
+        "ready" => Some(Choice::Ready { path, json, strict }),
         _ => None,
     }
 }

@@ -19,6 +19,8 @@ const REPORT_AS_JSON: &str = "Write the report as JSON";
 
 const AUDIT_AS_JSON: &str = "Write the audit as JSON";
 
+const READINESS_AS_JSON: &str = "Write what is wrong and lacking as JSON";
+
 const REFUSED_OR_TOLD: &str = "End with status 1 where a line was refused or a problem told";
 
 /// The argument that names a board file.
@@ -140,13 +142,15 @@ fn audit<'a>(alloc: Global) -> Result<Command<'a>, AllocError>
         .arg(board(alloc))
 }
 
-/// `ready BOARD`.
+/// `ready [--json] [--strict] BOARD`.
 fn ready<'a>(alloc: Global) -> Result<Command<'a>, AllocError>
     ensures shape { IfOk result (λ c. shape_of c ≡ ready_shape) }
     ensures local { IfOk result (λ c. (fields_of c).has_globals ≡ false) }
 {
     Command::new(alloc, "ready")
         .about("Do the same, and then say whether the board is ready, or all that it lacks")
+        .arg(json(alloc, READINESS_AS_JSON))?
+        .arg(strict(alloc, REFUSED))?
         .arg(board(alloc))
 }
 

@@ -99,7 +99,7 @@ fn taken_by(name: &str) -> &'static str
     } else if name == "audit" {
         "audit [--json] [--strict] BOARD"
     } else if name == "ready" {
-        "ready BOARD"
+        "ready [--json] [--strict] BOARD"
     } else {
         ANY_SUBCOMMAND
     }

@@ -1,11 +1,12 @@
--- The value has no float, so what is written of it is its compact text.
+-- The values have no float, so what is written of one is its compact text.
 use Rattle.std.proofs.Common.{◌≡◌, ℕ, List, [], ◌∷◌, false, ◌||◌, map, Option, Some, None, refl, ap₂}
 use Rattle.serde_json.specs.View.{items_of}
 use Rattle.serde_json.specs.Written.{has_float, items_have_float}
 use Rattle.model_board.specs.Paths.{Path}
 use Rattle.model_findings.specs.Agents.{Agent}
 use Rattle.model_findings.specs.Problems.{Problem, not_forwarded, contended, not_found}
-use Rattle.json_texts.specs.AuditValue.{register_value, reached_value, agent_value, problem_value, problems_value}
+use Rattle.model_findings.specs.Lacks.{Lack, not_open, outside_apertures, prefetched_by, other_primary}
+use Rattle.json_texts.specs.AuditValue.{register_value, reached_value, agent_value, problem_value, problems_value, lack_value, lacks_value}
 
 none_in_register : (o : Option ℕ) → has_float (register_value o) ≡ false
 none_in_register None = refl
@@ -29,3 +30,16 @@ none_in_each (p ∷ ps) = ap₂ (λ a b. a || b) (none_in_problem p) (none_in_ea
 
 pub none_in_problems : (ps : List Problem) → has_float (problems_value ps) ≡ false
 none_in_problems ps = rw (none_in_each ps) refl
+
+none_in_lack : (l : Lack) → has_float (lack_value l) ≡ false
+none_in_lack (not_open q) = refl
+none_in_lack (outside_apertures q n) = refl
+none_in_lack (prefetched_by q bridge n) = refl
+none_in_lack (other_primary p held n) = refl
+
+none_in_each_lack : (ls : List Lack) → items_have_float (items_of (map lack_value ls)) ≡ false
+none_in_each_lack [] = refl
+none_in_each_lack (l ∷ ls) = ap₂ (λ a b. a || b) (none_in_lack l) (none_in_each_lack ls)
+
+pub none_in_lacks : (ps : List Problem) (ls : List Lack) → has_float (lacks_value ps ls) ≡ false
+none_in_lacks ps ls = rw (none_in_each_lack ls, none_in_each ps) refl

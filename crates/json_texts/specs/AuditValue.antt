@@ -1,4 +1,4 @@
--- What is wrong in a register state, as a JSON value: each problem with its witness, in their order. The members of an
+-- What is wrong and what is lacking in a register state, as a JSON value: each with its witness, in their order. The members of an
 -- object stand in the order of their names.
 --     path_value, reached_value      a path; that of what is reached, null where nothing is
 --     space_text      the name of a space, as in lines
@@ -8,6 +8,9 @@
 --     problem_value      a problem
 --     problems_value, problems_json      the whole value; its text, and a line feed
 --     audit_json fs      that of all that is wrong in a register state
+--     lack_value      what is lacking
+--     lacks_value, lacks_json      problems and lacks; their text, and a line feed
+--     ready_json a fs      that of all that is wrong and all that is lacking, by these apertures
 use Rattle.std.specs.Prelude.{List, [], ◌∷◌, ◌++◌, ℕ, Option, map, codes}
 use Rattle.std.specs.Option.{option_map_or}
 use Rattle.serde_json.specs.Data.{Data, null, number, unsigned, string, array, object, member, no_members}
@@ -22,6 +25,8 @@ use Rattle.model_guests.specs.Text.{Text}
 use Rattle.model_guests.specs.PathTexts.{path_text}
 use Rattle.model_findings.specs.Agents.{Agent}
 use Rattle.model_findings.specs.Problems.{Problem, not_forwarded, contended, not_found, problems}
+use Rattle.model_findings.specs.Lacks.{Lack, not_open, outside_apertures, prefetched_by, other_primary, lacks}
+use Rattle.model_registers.specs.Apertures.{Apertures}
 
 abbrev pub natural : ℕ → Data
 natural n = number (unsigned n)
@@ -83,3 +88,33 @@ problems_json ps = compact_text (problems_value ps) ++ 10 ∷ []
 
 abbrev pub audit_json : List BoardFunction → Text
 audit_json fs = problems_json (problems fs)
+
+abbrev pub lack_value : Lack → Data
+lack_value (not_open q) = object (
+    member (codes "region") (region_value q) (
+    member (codes "type") (string (codes "closed")) no_members))
+lack_value (outside_apertures q n) = object (
+    member (codes "address") (natural n) (
+    member (codes "region") (region_value q) (
+    member (codes "type") (string (codes "outside apertures")) no_members)))
+lack_value (prefetched_by q bridge n) = object (
+    member (codes "address") (natural n) (
+    member (codes "bridge") (path_value bridge) (
+    member (codes "region") (region_value q) (
+    member (codes "type") (string (codes "prefetched")) no_members))))
+lack_value (other_primary p held n) = object (
+    member (codes "bus") (natural n) (
+    member (codes "path") (path_value p) (
+    member (codes "primary") (natural held) (
+    member (codes "type") (string (codes "other primary")) no_members))))
+
+abbrev pub lacks_value : List Problem → List Lack → Data
+lacks_value ps ls = object (
+    member (codes "lacks") (array (items_of (map lack_value ls))) (
+    member (codes "problems") (array (items_of (map problem_value ps))) no_members))
+
+abbrev pub lacks_json : List Problem → List Lack → Text
+lacks_json ps ls = compact_text (lacks_value ps ls) ++ 10 ∷ []
+
+abbrev pub ready_json : Apertures → List BoardFunction → Text
+ready_json a fs = lacks_json (problems fs) (lacks a fs)

@@ -1,11 +1,13 @@
-//! The whole value, and its text.
-ghost use Rattle.std.specs.Prelude.{◌≡◌, IfOk, map, string_bytes};
+//! The whole values, and their texts.
+ghost use Rattle.std.specs.Prelude.{◌≡◌, ◌++◌, ◌∷◌, [], false, IfOk, map, string_bytes};
 ghost use Rattle.serde_json.specs.View.{view};
-ghost use Rattle.findings.specs.Findings.{problem_of};
-ghost use Rattle.json_texts.specs.AuditValue.{problem_value, problems_value, problems_json};
+ghost use Rattle.serde_json.specs.Written.{compact_text, has_float};
+ghost use Rattle.findings.specs.Findings.{problem_of, lack_of};
+ghost use Rattle.json_texts.specs.AuditValue.{problem_value, problems_value, problems_json, lack_value, lacks_value, lacks_json};
 
+use crate::lacks::lack_value;
 use crate::problems::problem_value;
-use findings::Problem;
+use findings::{Lack, Problem};
 use serde_json::{Value, json};
 use std::alloc::{AllocError, Global};
 
@@ -21,7 +23,19 @@ fn problem_values(alloc: Global, problems: &[Problem]) -> Result<Vec<Value>, All
     Ok(values)
 }
 
-/// The value.
+/// All lacks.
+fn lack_values(alloc: Global, lacks: &[Lack]) -> Result<Vec<Value>, AllocError>
+    ensures { IfOk result (λ v.
+        map view v.items ≡ map lack_value (map lack_of lacks.now)) }
+{
+    let mut values = Vec::new(alloc);
+    for lack in lacks {
+        values.push(lack_value(alloc, lack)?)?;
+    }
+    Ok(values)
+}
+
+/// The value of problems.
 fn problems_value(alloc: Global, problems: &[Problem]) -> Result<Value, AllocError>
     ensures { IfOk result (λ v. view v ≡ problems_value (map problem_of problems.now)) }
 {
@@ -29,12 +43,41 @@ fn problems_value(alloc: Global, problems: &[Problem]) -> Result<Value, AllocErr
     json!(in alloc; {"problems": problems})
 }
 
+/// The value of problems and lacks.
+fn lacks_value(alloc: Global, problems: &[Problem], lacks: &[Lack]) -> Result<Value, AllocError>
+    ensures { IfOk result (λ v. view v
+        ≡ lacks_value (map problem_of problems.now) (map lack_of lacks.now)) }
+{
+    let lacks = lack_values(alloc, lacks)?;
+    let wrong = problem_values(alloc, problems)?;
+    json!(in alloc; {"lacks": lacks, "problems": wrong})
+}
+
+/// A value without floats on one line.
+fn line_of(alloc: Global, value: &Value) -> Result<String, AllocError>
+    requires { has_float (view value.now) ≡ false }
+    ensures { IfOk result (λ t. string_bytes t ≡ compact_text (view value.now) ++ 10 ∷ []) }
+{
+    let mut text = value.to_string(alloc)?;
+    text.push('\n')?;
+    Ok(text)
+}
+
 /// These problems as a JSON object on one line, in their order. Only lack of memory refuses it.
+#[tactic(auto, using(crate::proofs::NoFloatsInAudits::none_in_problems))]
 pub fn problems_json(alloc: Global, problems: &[Problem]) -> Result<String, AllocError>
     ensures { IfOk result (λ t. string_bytes t ≡ problems_json (map problem_of problems.now)) }
 {
     let value = problems_value(alloc, problems)?;
-    let mut text = value.to_string(alloc)?;
-    text.push('\n')?;
-    Ok(text)
+    line_of(alloc, &value)
+}
+
+/// These problems and lacks as a JSON object on one line, each in their order. Only lack of memory refuses it.
+#[tactic(auto, using(crate::proofs::NoFloatsInAudits::none_in_lacks))]
+pub fn lacks_json(alloc: Global, problems: &[Problem], lacks: &[Lack]) -> Result<String, AllocError>
+    ensures { IfOk result (λ t. string_bytes t
+        ≡ lacks_json (map problem_of problems.now) (map lack_of lacks.now)) }
+{
+    let value = lacks_value(alloc, problems, lacks)?;
+    line_of(alloc, &value)
 }

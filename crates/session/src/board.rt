@@ -232,22 +232,7 @@ impl Board {
         ensures after { self.new ≡ self.old }
     {
         let apertures = self.apertures();
-        self.ready_within(alloc, &apertures)
-    }
-
-    /// The same, by these apertures.
-    pub(crate) fn ready_within(
-        &mut self,
-        alloc: Global,
-        apertures: &Apertures,
-    ) -> Result<CountedText, AllocError>
-        ensures text { IfOk result (λ r.
-            string_bytes r.text ≡ ready_report apertures.now self.old.state.functions) }
-        ensures count { IfOk result (λ r.
-            r.count ≡ lack_count apertures.now self.old.state.functions) }
-        ensures after { self.new ≡ self.old }
-    {
-        ready_text(alloc, &mut self.host, apertures)
+        ready_text(alloc, &mut self.host, &apertures)
     }
 
     /// Why an address, an I/O port or the number of a function finds what it finds as the registers stand, or

@@ -7,8 +7,8 @@ ghost use Rattle.model_guests.specs.Text.{Text};
 ghost use Rattle.model_guests.specs.World.{World, IsLawfulWorld};
 ghost use Rattle.model_findings.specs.AuditText.{audit};
 ghost use Rattle.model_findings.specs.Problems.{problems};
-ghost use Rattle.findings.specs.Findings.{problem_of};
-ghost use Rattle.model_findings.specs.Lacks.{lack_count};
+ghost use Rattle.findings.specs.Findings.{problem_of, lack_of};
+ghost use Rattle.model_findings.specs.Lacks.{lacks, lack_count};
 ghost use Rattle.model_findings.specs.ReadyText.{ready_report};
 ghost use Rattle.model_lines.specs.Sessions.{driven, given, at_reset, session_functions, session_protocol};
 ghost use Rattle.model_lines.specs.Sessions.{session_output, after_session_line};
@@ -24,7 +24,7 @@ use crate::asking::meant;
 use crate::board::Board;
 use crate::stage::{Stage, answer_handover, hand_over};
 use board_file::BoardFault;
-use findings::Problem;
+use findings::{Lack, Problem};
 use findings_told::CountedText;
 use headers::Apertures;
 use lines::{Answer, Answers, LineText, Request};
@@ -167,14 +167,8 @@ impl Session {
             a.count ≡ length (problems (session_functions self.old))) }
         ensures after { self.new ≡ self.old }
     {
-        match &mut self.stage {
-            Stage::Driven(board) => board.audit(alloc),
-            Stage::Given(monitor) => {
-                let found = monitor.problems(alloc)?;
-                CountedText::of_problems(alloc, &found)
-            }
-            Stage::Between => unreachable!(),
-        }
+        let found = self.problems(alloc)?;
+        CountedText::of_problems(alloc, &found)
     }
 
     /// The same, problem by problem.
@@ -199,13 +193,20 @@ impl Session {
             r.count ≡ lack_count apertures.now (session_functions self.old)) }
         ensures after { self.new ≡ self.old }
     {
+        let found = self.problems(alloc)?;
+        let lacking = self.lacks(alloc, apertures)?;
+        CountedText::of_lacks(alloc, &found, &lacking)
+    }
+
+    /// What is lacking by these apertures, lack by lack. Nothing changes, also where memory is out.
+    pub fn lacks(&mut self, alloc: Global, apertures: &Apertures) -> Result<Vec<Lack>, AllocError>
+        ensures told { IfOk result (λ v.
+            map lack_of v.items ≡ lacks apertures.now (session_functions self.old)) }
+        ensures after { self.new ≡ self.old }
+    {
         match &mut self.stage {
-            Stage::Driven(board) => board.ready_within(alloc, apertures),
-            Stage::Given(monitor) => {
-                let found = monitor.problems(alloc)?;
-                let lacking = monitor.lacks(alloc, apertures)?;
-                CountedText::of_lacks(alloc, &found, &lacking)
-            }
+            Stage::Driven(board) => board.lacks(alloc, apertures),
+            Stage::Given(monitor) => monitor.lacks(alloc, apertures),
             Stage::Between => unreachable!(),
         }
     }

@@ -125,7 +125,7 @@ pub told_last : (q : Option Question) (strict refused : Bool) (n : ℕ) (f : Fau
 told_last q strict true n f is = subst IsToldLast {x = RefusedLine} (let same : RefusedLine ≡ f = cc in same) tt
 told_last None strict false n f is = grind arith
 told_last (Some (Audit form)) strict false n f is = grind arith
-told_last (Some Ready) strict false n f is = grind arith
+told_last (Some (Ready form)) strict false n f is = grind arith
 
 pub served_fault : (q : Option Question) (strict refused : Bool) (n : ℕ) (board : Text) (at : Ends) (f : Fault) → last_fault q strict refused n ≡ Some f
     → IsServed q strict (last_fault q strict refused n) board at → Serves {T = Unit {0}} q strict board at (Err f)
@@ -147,4 +147,4 @@ pub of_serving : (q : Option Question) (strict refused : Bool) (n : ℕ) (f : Fa
 of_serving q strict true n f asked is = grind arith
 of_serving None strict false n f asked is = grind arith
 of_serving (Some (Audit form)) strict false n f asked is = grind arith
-of_serving (Some Ready) strict false n f asked is = grind arith
+of_serving (Some (Ready form)) strict false n f asked is = grind arith

@@ -82,7 +82,7 @@ Does (Check path all plain) board at r = Checks (style_of plain) (warned_of all)
 Does (Run path strict) board at r = RunsAs strict board at r
 Does (Firmware path strict) board at r = Serves None strict board at r
 Does (Audit path json strict) board at r = Serves (Some (question.Audit (form_of json))) strict board at r
-Does (Ready path) board at r = Serves (Some question.Ready) false board at r
+Does (Ready path json strict) board at r = Serves (Some (question.Ready (form_of json))) strict board at r
 
 abbrev pub IsTelling : Choice → Fault → Type 0
 IsTelling (Check path all plain) f = IsRefusal f
@@ -92,7 +92,7 @@ IsTelling _ f = ⊥
 abbrev pub IsLacking : Choice → Fault → Type 0
 IsLacking (Firmware path strict) f = f ≡ SetUp set_up.Memory
 IsLacking (Audit path json strict) f = f ≡ SetUp set_up.Memory
-IsLacking (Ready path) f = f ≡ SetUp set_up.Memory
+IsLacking (Ready path json strict) f = f ≡ SetUp set_up.Memory
 IsLacking _ f = ⊥
 
 abbrev pub IsOfChoice : Choice → Fault → Type 0
@@ -103,4 +103,4 @@ IsOfChoice (Check path all plain) f = IsOfList f
 IsOfChoice (Run path strict) f = IsOfRunAs strict f
 IsOfChoice (Firmware path strict) f = IsOfServing None strict f
 IsOfChoice (Audit path json strict) f = IsOfServing (Some (question.Audit (form_of json))) strict f
-IsOfChoice (Ready path) f = IsOfServing (Some question.Ready) false f
+IsOfChoice (Ready path json strict) f = IsOfServing (Some (question.Ready (form_of json))) strict f

@@ -6,7 +6,8 @@
 --     IsSession board at result      what a run of lines did over the board of the file; once the board is given, guests are
 --         isolated
 --     HasEnded board at      all lines of such a run were read, and what they write was written and flushed
---     audit_in form fs      all that is wrong in some functions, in a form
+--     audit_in form fs, ready_in form a fs      all that is wrong in some functions, and also all that is lacking by these
+--         apertures, in a form
 --     told_by q a fs, counted_by q a fs      the text that answers a question of some functions, by these apertures, and
 --         how many problems and lacks it counts
 --     told q a fs, counted q a fs      the same where a question may be asked
@@ -33,7 +34,7 @@ use Rattle.model_findings.specs.Lacks.{lack_count}
 use Rattle.model_findings.specs.ReadyText.{ready_report}
 use Rattle.model_lines.specs.Sessions.{SessionNow, driven, at_reset, session_protocol, session_functions}
 use Rattle.model_lines.specs.SessionLaws.{IsolatedFrom}
-use Rattle.json_texts.specs.AuditValue.{audit_json}
+use Rattle.json_texts.specs.AuditValue.{audit_json, ready_json}
 use Rattle.lines.specs.declared.runs.RunFault.{RunFault}
 use Rattle.lines.specs.declared.runs.RunFault.TheVariants as run
 use Rattle.lines.specs.Refusals.{refuses}
@@ -76,13 +77,17 @@ abbrev pub audit_in : ReportForm → List BoardFunction → Text
 audit_in Lines fs = audit fs
 audit_in Json fs = audit_json fs
 
+abbrev pub ready_in : ReportForm → Apertures → List BoardFunction → Text
+ready_in Lines a fs = ready_report a fs
+ready_in Json a fs = ready_json a fs
+
 abbrev pub told_by : Question → Apertures → List BoardFunction → Text
 told_by (Audit form) a fs = audit_in form fs
-told_by Ready a fs = ready_report a fs
+told_by (Ready form) a fs = ready_in form a fs
 
 abbrev pub counted_by : Question → Apertures → List BoardFunction → ℕ
 counted_by (Audit form) a fs = length (problems fs)
-counted_by Ready a fs = lack_count a fs
+counted_by (Ready form) a fs = lack_count a fs
 
 abbrev pub told : Option Question → Apertures → List BoardFunction → Text
 told None a fs = []
@@ -100,7 +105,7 @@ told_after q w ls = told q w.apertures (session_functions (left_after w ls))
 abbrev pub fault_by : Option Question → Bool → ℕ → Option Fault
 fault_by None strict n = None
 fault_by (Some (Audit form)) strict n = if strict && nat_lt 0 n then Some NotInOrder else None
-fault_by (Some Ready) strict n = if nat_lt 0 n then Some NotReady else None
+fault_by (Some (Ready form)) strict n = if nat_lt 0 n then Some NotReady else None
 
 abbrev pub last_fault : Option Question → (strict refused : Bool) → ℕ → Option Fault
 last_fault q strict refused n = if refused then Some RefusedLine else fault_by q strict n
@@ -152,5 +157,5 @@ IsOfAnswer _ = ⊥
 abbrev pub IsOfServing : Option Question → Bool → Fault → Type 0
 IsOfServing q strict RefusedLine = strict ≡ true
 IsOfServing (Some (Audit form)) strict NotInOrder = strict ≡ true
-IsOfServing (Some Ready) strict NotReady = ⊤
+IsOfServing (Some (Ready form)) strict NotReady = ⊤
 IsOfServing q strict f = IsOfSession f

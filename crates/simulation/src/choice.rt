@@ -114,9 +114,12 @@ pub fn perform<R: Reader, W: Writer>(
         Choice::Run { strict, .. } => run_as(alloc, board, *strict, reader, writer),
         Choice::Firmware { strict, .. } => serve(alloc, board, None, *strict, reader, writer),
         Choice::Audit { json, strict, .. } => {
-            let question = Question::Audit(form_of(*json));
-            serve(alloc, board, Some(question), *strict, reader, writer)
+            let audit = Question::Audit(form_of(*json));
+            serve(alloc, board, Some(audit), *strict, reader, writer)
         }
-        Choice::Ready(_) => serve(alloc, board, Some(Question::Ready), false, reader, writer),
+        Choice::Ready { json, strict, .. } => {
+            let ready = Question::Ready(form_of(*json));
+            serve(alloc, board, Some(ready), *strict, reader, writer)
+        }
     }
 }

@@ -2,18 +2,19 @@
 ghost use Rattle.std.specs.Prelude.{◌≡◌, ◌+◌, ◌-◌, ◌^◌, ◌<◌, ◌⊎◌, length, string_bytes, is_some, IfOk, IfErr, IsErrOf, IsTrue, OnOk};
 ghost use Rattle.std.specs.Io.KnownBytes.{Appends};
 ghost use Rattle.model_findings.specs.Problems.{problems};
+ghost use Rattle.model_findings.specs.Lacks.{lack_count};
 ghost use Rattle.model_lines.specs.Sessions.{session_functions};
 ghost use Rattle.streams.specs.Ends.{AppendsPart};
 ghost use Rattle.lines.specs.Runs.{ends};
 ghost use Rattle.bus_scan.specs.declared.fault.Fault.TheVariants.{Memory};
 ghost use Rattle.session.specs.Files.{Refuses};
 ghost use Rattle.simulation.specs.Faults.{read_faults, write_faults, OnFile, IsOfFile};
-ghost use Rattle.simulation.specs.Serving.{audit_in, told_by, counted_by, told, counted, last_fault, IsOfAnswer, IsOfServing, Serves};
+ghost use Rattle.simulation.specs.Serving.{audit_in, ready_in, told_by, counted_by, told, counted, last_fault, IsOfAnswer, IsOfServing, Serves};
 
 use crate::choice::print;
 use crate::fault::Fault;
 use crate::listing::ReportForm;
-use json_texts::problems_json;
+use json_texts::{lacks_json, problems_json};
 use lines::run_watched;
 use session::{Apertures, Board, CountedText, Session, SessionLines};
 use std::alloc::{AllocError, Global};
@@ -24,8 +25,8 @@ use streams::{Reader, Writer};
 pub enum Question {
     /// What is wrong in its registers, in a form.
     Audit(ReportForm),
-    /// What is wrong and what is lacking in them.
-    Ready,
+    /// What is wrong and what is lacking in them, in a form.
+    Ready(ReportForm),
 }
 
 /// What is wrong in the registers of the board of a session, in a form.
@@ -52,6 +53,32 @@ fn audit_in(
     }
 }
 
+/// What is wrong and what is lacking in them by these apertures, in a form.
+fn ready_in(
+    alloc: Global,
+    form: ReportForm,
+    session: &mut Session,
+    apertures: &Apertures,
+) -> Result<CountedText, AllocError>
+    ensures text { IfOk result (λ t. string_bytes t.text
+        ≡ ready_in form apertures.now (session_functions session.old)) }
+    ensures count { IfOk result
+        (λ t. t.count ≡ lack_count apertures.now (session_functions session.old)) }
+{
+    match form {
+        ReportForm::Lines => session.ready(alloc, apertures),
+        ReportForm::Json => {
+            let found = session.problems(alloc)?;
+            let lacking = session.lacks(alloc, apertures)?;
+            let text = lacks_json(alloc, &found, &lacking)?;
+            Ok(CountedText {
+                text,
+                count: found.len() + lacking.len(),
+            })
+        }
+    }
+}
+
 /// Answers a question of the board of a session, by these apertures.
 fn tell(
     alloc: Global,
@@ -66,7 +93,7 @@ fn tell(
 {
     match question {
         Question::Audit(form) => audit_in(alloc, form, session),
-        Question::Ready => session.ready(alloc, apertures),
+        Question::Ready(form) => ready_in(alloc, form, session, apertures),
     }
 }
 
@@ -119,7 +146,7 @@ fn last_fault(
     }
     match question {
         Some(Question::Audit(_)) if strict && count > 0 => Some(Fault::NotInOrder),
-        Some(Question::Ready) if count > 0 => Some(Fault::NotReady),
+        Some(Question::Ready(_)) if count > 0 => Some(Fault::NotReady),
         _ => None,
     }
 }
