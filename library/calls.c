@@ -140,6 +140,36 @@ uint32_t pciguest_write_wide(struct pciguest *machine, size_t guest, uint32_t sp
     return answer;
 }
 
+uint32_t pciguest_region_read(struct pciguest *machine, size_t guest, uint64_t slot, uint32_t part, uint64_t offset,
+                              uint32_t width, uint64_t *value)
+{
+    struct pciguest held_machine;
+    uint32_t answer;
+
+    if (!machine || !value)
+        return PCIGUEST_ARGUMENT;
+    if (!TAKE(machine, held_machine))
+        return PCIGUEST_BUSY;
+    answer = pciguest_raw_region_read(&held_machine, guest, slot, part, offset, width, value);
+    PUT_BACK(machine, held_machine);
+    return answer;
+}
+
+uint32_t pciguest_region_write(struct pciguest *machine, size_t guest, uint64_t slot, uint32_t part, uint64_t offset,
+                               uint32_t width, uint64_t value)
+{
+    struct pciguest held_machine;
+    uint32_t answer;
+
+    if (!machine)
+        return PCIGUEST_ARGUMENT;
+    if (!TAKE(machine, held_machine))
+        return PCIGUEST_BUSY;
+    answer = pciguest_raw_region_write(&held_machine, guest, slot, part, offset, width, value);
+    PUT_BACK(machine, held_machine);
+    return answer;
+}
+
 uint32_t pciguest_raise(struct pciguest *machine, size_t guest, uint64_t slot, uint32_t part, uint64_t offset,
                         uint8_t mask)
 {

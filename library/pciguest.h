@@ -314,6 +314,19 @@ uint32_t pciguest_read_wide(struct pciguest *machine, size_t guest, uint32_t spa
 uint32_t pciguest_write_wide(struct pciguest *machine, size_t guest, uint32_t space, uint64_t slot, uint64_t place,
                              uint32_t width, uint64_t value);
 
+/* Reads as a guest 1 to 8 bytes of a region that a function of its has, told by slot, register and offset and not by the
+ * address: as whoever mapped the region hands an access on. While the guest's Command closes the region a read gives all
+ * ones and a write is dropped; where two regions of the guest stand at one address, each is reached. The byte at the lowest
+ * offset is the lowest of the value. 302: the width is not 1 to 8. 303: the slot is above 31, no region begins at this
+ * register, or one of the bytes is past the region. 601: the slot is empty. 902: there is no such guest, or the part is
+ * above 6. Since 0.4.0. */
+uint32_t pciguest_region_read(struct pciguest *machine, size_t guest, uint64_t slot, uint32_t part, uint64_t offset,
+                              uint32_t width, uint64_t *value);
+
+/* Writes so the low bytes of a value, or, where one of them is refused, none. Since 0.4.0. */
+uint32_t pciguest_region_write(struct pciguest *machine, size_t guest, uint64_t slot, uint32_t part, uint64_t offset,
+                               uint32_t width, uint64_t value);
+
 /* Sets bits of one byte of the function in a guest's slot, as its device does. 303: the slot is above 31, or the
  * function has no such byte. 601: the slot is empty. 902: there is no such guest, or the part is above 6. A raise that
  * is refused changes nothing. */

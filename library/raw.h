@@ -15,6 +15,10 @@ uint32_t pciguest_raw_read(struct pciguest *machine, size_t guest, uint32_t spac
                            uint32_t width, uint32_t *value);
 uint32_t pciguest_raw_write(struct pciguest *machine, size_t guest, uint32_t space, uint64_t slot, uint64_t place,
                             uint32_t width, uint32_t value);
+uint32_t pciguest_raw_region_read(struct pciguest *machine, size_t guest, uint64_t slot, uint32_t part, uint64_t offset,
+                                  uint32_t width, uint64_t *value);
+uint32_t pciguest_raw_region_write(struct pciguest *machine, size_t guest, uint64_t slot, uint32_t part,
+                                   uint64_t offset, uint32_t width, uint64_t value);
 uint32_t pciguest_raw_raise(struct pciguest *machine, size_t guest, uint64_t slot, uint32_t part, uint64_t offset,
                             uint8_t mask);
 uint32_t pciguest_raw_host_read(struct pciguest *machine, uint32_t space, uint8_t bus, uint8_t device, uint8_t function,

@@ -76,6 +76,11 @@ for kind in "${kinds[@]}"; do
     holds "$kind: wide accesses of devices, seed $seed" "./devices.$kind" "$board" 20000 "$seed"
   done
 
+  holds "$kind: the regions are built" build "regions.$kind" "$top/tests/library/regions.c" "${words[@]}"
+  for seed in 1 2 3; do
+    holds "$kind: accesses by regions and by addresses, seed $seed" "./regions.$kind" "$board" 20000 "$seed"
+  done
+
   holds "$kind: the images are built" build "images.$kind" "$top/tests/library/images.c" "${words[@]}"
   for seed in 1 2 3; do
     holds "$kind: images of guests, seed $seed" "./images.$kind" "$board" 2000 "$seed"

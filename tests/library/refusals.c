@@ -42,6 +42,8 @@ static void without_a_machine(void)
     IS(pciguest_device_write(&none, 0, 0, 1, 0, 1), 901);
     IS(pciguest_device_read_wide(&none, 0, 0, 1, 0, 9, &wide), 901);
     IS(pciguest_device_write_wide(&none, 0, 0, 1, 0, 9, 1), 901);
+    IS(pciguest_region_read(&none, 0, 0, 1, 0, 9, &wide), 901);
+    IS(pciguest_region_write(&none, 0, 0, 1, 0, 9, 1), 901);
     IS(pciguest_region(&none, 0, 0, 0, &region), 901);
     IS(pciguest_changed(&none, 0, &changes), 901);
     IS(pciguest_moved(&none, 0, &place, 1, &count), 901);
@@ -114,6 +116,9 @@ static void null_pointers(struct pciguest *machine)
     IS(pciguest_device_read_wide(NULL, 0, 0, 1, 0, 4, &changes), 902);
     IS(pciguest_device_read_wide(machine, 0, 0, 1, 0, 4, NULL), 902);
     IS(pciguest_device_write_wide(NULL, 0, 0, 1, 0, 4, 1), 902);
+    IS(pciguest_region_read(NULL, 0, 0, 1, 0, 4, &changes), 902);
+    IS(pciguest_region_read(machine, 0, 0, 1, 0, 4, NULL), 902);
+    IS(pciguest_region_write(NULL, 0, 0, 1, 0, 4, 1), 902);
     IS(pciguest_region(NULL, 0, 0, 0, &region), 902);
     IS(pciguest_region(machine, 0, 0, 0, NULL), 902);
     IS(pciguest_changed(NULL, 0, &changes), 902);
@@ -200,6 +205,18 @@ static void bad_arguments(struct pciguest *machine, const uint8_t *board, size_t
     IS(pciguest_device_write_wide(machine, 0, 32, 1, 0, 9, 1), 302);
     IS(pciguest_device_write_wide(machine, 0, 31, 1, 0, 8, 1), 601);
     IS(pciguest_device_write_wide(machine, 0, 0, 1, 4089, 8, 1), 303);
+    IS(pciguest_region_read(machine, 2, 0, 1, 0, 9, &wide), 902);
+    IS(pciguest_region_read(machine, 0, 0, 7, 0, 9, &wide), 902);
+    IS(pciguest_region_read(machine, 0, 32, 1, 0, 0, &wide), 302);
+    IS(pciguest_region_read(machine, 0, 31, 1, UINT64_MAX - 3, 4, &wide), 303);
+    IS(pciguest_region_read(machine, 0, 31, 1, UINT64_MAX - 4, 4, &wide), 601);
+    IS(pciguest_region_read(machine, 0, 0, PCIGUEST_RAISE_CONFIG, 0x40, 4, &wide), 303);
+    IS(pciguest_region_read(machine, 0, 0, 1, 4089, 8, &wide), 303);
+    IS(pciguest_region_write(machine, 2, 0, 1, 0, 9, 1), 902);
+    IS(pciguest_region_write(machine, 0, 0, 7, 0, 9, 1), 902);
+    IS(pciguest_region_write(machine, 0, 32, 1, 0, 9, 1), 302);
+    IS(pciguest_region_write(machine, 0, 31, 1, 0, 8, 1), 601);
+    IS(pciguest_region_write(machine, 0, 0, 1, 4089, 8, 1), 303);
     IS(pciguest_changed(machine, 2, &changes), 902);
     IS(pciguest_moved(machine, 2, &place, 1, &count), 902);
     IS(place.has_moved, 9);

@@ -90,6 +90,8 @@ static void ask_machine(void)
     BUSY(pciguest_device_write(&machine, 0, 0, 1, 0, 1));
     BUSY(pciguest_device_read_wide(&machine, 0, 0, 1, 0, 8, &wide));
     BUSY(pciguest_device_write_wide(&machine, 0, 0, 1, 0, 8, 1));
+    BUSY(pciguest_region_read(&machine, 0, 0, 1, 0, 8, &wide));
+    BUSY(pciguest_region_write(&machine, 0, 0, 1, 0, 8, 1));
     BUSY(pciguest_region(&machine, 0, 0, 1, &region));
     BUSY(pciguest_changed(&machine, 0, &wide));
     BUSY(pciguest_moved(&machine, 0, &place, 1, &told));

@@ -1,25 +1,31 @@
--- What C is told of an event at the device of a guest's function, and of one after the other at bytes side by side.
+-- What C is told of an event at the device of a guest's function, and of accesses of bytes side by side, by the device or by
+-- the guest that has the function.
 --     reply_at_device, after_at_device      such an event of a guest by its index: the reply, and the machine after it
 --     byte_of b      a byte of a function in a slot, from the program's words
 --     bytes_from d n      n bytes of a function in a slot, from one on
---     bytes_read w guest ds      the number that a device reads of bytes, the lowest first, or why the first is refused
---     after_bytes m guest ds v      the machine after a device wrote a number into bytes, the lowest first
+--     read_reply side, after_byte side      a read of a byte: the reply; and a write: the machine after it
+--     bytes_read side w guest ds      the number that is read of bytes, the lowest first, or why the first is refused
+--     after_bytes side m guest ds v      the machine after a number was written into bytes, the lowest first
 --     width_fault off n      what is no width, or ends past what 64 bits number
---     wide_read w guest d n      what is read of n bytes, or the number of the first of these refusals
---     after_wide m guest d n v      the machine after a number was written there, if they can be read
+--     wide_read side w guest d n      what is read of n bytes, or the number of the first of these refusals
+--     after_wide side m guest d n v      the machine after a number was written there, if they can be read
 use Rattle.std.specs.Prelude.{ℕ, zero, suc, ◌+◌, ◌*◌, ◌/◌, ◌%◌, ◌^◌, ◌==◌, ◌||◌, nat_lt, nat_le, List, [], ◌∷◌}
 use Rattle.std.specs.Prelude.{if◌then◌else◌, is_ok, Option, None, Some, Result, Ok, Err}
 use Rattle.std.specs.Option.{option_map_or}
-use Rattle.model_guests.specs.Accesses.{Reply, answered, done, refused}
+use Rattle.model_guests.specs.Accesses.{Reply, answered, done, refused, reads, writes}
 use Rattle.model_guests.specs.Guests.{lone_of}
 use Rattle.model_guests.specs.WorldNow.{WorldNow}
 use Rattle.model_guests.specs.Calls.{at_device}
 use Rattle.model_guests.specs.DeviceEvents.{DeviceByte, DeviceEvent, device_reads, device_writes, device_answer}
 use Rattle.model_handoff.specs.Actions.{calls}
 use Rattle.model_handoff.specs.Changes.{MachineNow, after_on_machine}
-use Rattle.monitor.specs.ByIndex.{name_nth}
+use Rattle.model_handoff.specs.RegionBytes.{byte_reply}
+use Rattle.monitor.specs.ByIndex.{name_nth, lone_nth}
+use Rattle.monitor.specs.Counts.{after_byte_nth}
 use Rattle.monitor.specs.DeviceBytes.{device_byte}
 use Rattle.pciguest_c.specs.declared.asking.Byte.{Byte}
+use Rattle.pciguest_c.specs.declared.asking.Side.{Side}
+use Rattle.pciguest_c.specs.declared.asking.Side.TheVariants.{Device, Guest}
 
 abbrev pub reply_at_device : WorldNow → ℕ → DeviceEvent → Reply
 reply_at_device w guest e = device_answer (lone_of w.guests (name_nth w guest)) e
@@ -45,8 +51,17 @@ byte_told (answered v w) = Ok (v % 256)
 byte_told done = Ok 0
 byte_told (refused n) = Err n
 
-abbrev pub byte_read : WorldNow → ℕ → DeviceByte → Result ℕ ℕ
-byte_read w guest d = byte_told (reply_at_device w guest (device_reads d))
+-- a guest reaches a region alone, and by its own Command
+abbrev pub read_reply : Side → WorldNow → ℕ → DeviceByte → Reply
+read_reply Device w guest d = reply_at_device w guest (device_reads d)
+read_reply Guest w guest d = byte_reply (lone_nth w guest) reads d
+
+abbrev pub after_byte : Side → MachineNow → ℕ → DeviceByte → ℕ → MachineNow
+after_byte Device m guest d v = after_at_device m guest (device_writes d v)
+after_byte Guest m guest d v = after_byte_nth guest (writes v) d m
+
+abbrev pub byte_read : Side → WorldNow → ℕ → DeviceByte → Result ℕ ℕ
+byte_read side w guest d = byte_told (read_reply side w guest d)
 
 -- a number with one more byte, which is the lowest
 abbrev pub put_below : Result ℕ ℕ → Result ℕ ℕ → Result ℕ ℕ
@@ -54,14 +69,13 @@ put_below (Ok byte) (Ok n) = Ok (byte + 256 * n)
 put_below (Ok byte) (Err n) = Err n
 put_below (Err n) above = Err n
 
-abbrev pub bytes_read : WorldNow → ℕ → List DeviceByte → Result ℕ ℕ
-bytes_read w guest [] = Ok 0
-bytes_read w guest (d ∷ ds) = put_below (byte_read w guest d) (bytes_read w guest ds)
+abbrev pub bytes_read : Side → WorldNow → ℕ → List DeviceByte → Result ℕ ℕ
+bytes_read side w guest [] = Ok 0
+bytes_read side w guest (d ∷ ds) = put_below (byte_read side w guest d) (bytes_read side w guest ds)
 
-abbrev pub after_bytes : MachineNow → ℕ → List DeviceByte → ℕ → MachineNow
-after_bytes m guest [] v = m
-after_bytes m guest (d ∷ ds) v =
-    after_bytes (after_at_device m guest (device_writes d (v % 256))) guest ds (v / 256)
+abbrev pub after_bytes : Side → MachineNow → ℕ → List DeviceByte → ℕ → MachineNow
+after_bytes side m guest [] v = m
+after_bytes side m guest (d ∷ ds) v = after_bytes side (after_byte side m guest d (v % 256)) guest ds (v / 256)
 
 -- ---- accesses of 1 to 8 bytes
 
@@ -70,10 +84,10 @@ width_fault off n =
     if n == 0 || nat_lt 8 n then Some 302
     else (if nat_le (2 ^ 64) (off + n) then Some 303 else None)
 
-abbrev pub wide_read : WorldNow → ℕ → DeviceByte → ℕ → Result ℕ ℕ
-wide_read w guest d n = option_map_or Err (width_fault d.offset n) (bytes_read w guest (bytes_from d n))
+abbrev pub wide_read : Side → WorldNow → ℕ → DeviceByte → ℕ → Result ℕ ℕ
+wide_read side w guest d n = option_map_or Err (width_fault d.offset n) (bytes_read side w guest (bytes_from d n))
 
 -- refused as a read of the same bytes is: then none is written
-abbrev pub after_wide : MachineNow → ℕ → DeviceByte → ℕ → ℕ → MachineNow
-after_wide m guest d n v =
-    if is_ok (wide_read m.world guest d n) then after_bytes m guest (bytes_from d n) v else m
+abbrev pub after_wide : Side → MachineNow → ℕ → DeviceByte → ℕ → ℕ → MachineNow
+after_wide side m guest d n v =
+    if is_ok (wide_read side m.world guest d n) then after_bytes side m guest (bytes_from d n) v else m

@@ -9,9 +9,17 @@ use crate::numbers::ARGUMENT;
 use accesses::{At, Names, Place};
 use monitor::Monitor;
 
-/// A byte of the function in a slot, as its device names it.
+/// Who reads or writes a byte of a function: its device, or the guest that has the function, by its regions.
+#[derive(Clone, Copy)]
+pub enum Side {
+    Device,
+    Guest,
+}
+
+/// A byte of the function in a slot, and who reads or writes it.
 #[derive(Clone, Copy)]
 pub struct Byte {
+    pub side: Side,
     pub slot: u64,
     pub place: Place,
     pub offset: u64,

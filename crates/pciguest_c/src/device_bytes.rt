@@ -1,13 +1,15 @@
-//! What a device itself reads and writes of bytes side by side: each by one event, the lowest first.
+//! What a device, or the guest that has its function, reads and writes of bytes side by side: one after the other, the
+//! lowest first.
 ghost use Rattle.std.specs.Prelude.{◌≡◌, ◌+◌, ◌^◌, ◌<◌, ◌≤◌, IfNone, IfOk, length};
+ghost use Rattle.accesses.specs.Accesses.{reply_of};
 ghost use Rattle.pciguest_c.specs.DevicesTold.{byte_of, byte_read, bytes_from, bytes_read, after_bytes};
-ghost use Rattle.pciguest_c.specs.DevicesTold.{width_fault, wide_read, after_wide};
+ghost use Rattle.pciguest_c.specs.DevicesTold.{read_reply, after_byte, width_fault, wide_read, after_wide};
 
-use crate::asking::Byte;
-use accesses::{Refusal, Reply};
+use crate::asking::{Byte, Side};
+use accesses::{Op, Refusal, Reply};
 use monitor::Monitor;
 
-/// Why no device makes an access of so many bytes from an offset on: it has none or more than 8 (302), or ends
+/// Why there is no access of so many bytes from an offset on: it has none or more than 8 (302), or ends
 /// past what 64 bits number (303).
 fn width_fault(offset: u64, width: u32) -> Option<u32>
     ensures fault { result ≡ width_fault offset width }
@@ -23,13 +25,42 @@ fn width_fault(offset: u64, width: u32) -> Option<u32>
     }
 }
 
-/// The byte that a device reads, or the number of the refusal. Nothing changes.
-fn byte_read(machine: &mut Monitor, guest: usize, byte: Byte) -> Result<u8, u32>
+/// The reply to a read of a byte. Nothing changes.
+fn reply_to_read(machine: &mut Monitor, guest: usize, byte: Byte) -> Reply
     requires { guest < length machine.old.world.guests }
-    ensures read { result ≡ byte_read machine.old.world guest (byte_of byte) }
+    ensures reply { reply_of result
+        ≡ read_reply byte.side machine.old.world guest (byte_of byte) }
     ensures kept { machine.new ≡ machine.old }
 {
-    match machine.device_read(guest, byte.slot, byte.place, byte.offset) {
+    match byte.side {
+        Side::Device => machine.device_read(guest, byte.slot, byte.place, byte.offset),
+        Side::Guest => { machine.region_byte(guest, byte.slot, byte.place, byte.offset, Op::Read) }
+    }
+}
+
+/// Writes a byte. What is refused is passed over.
+fn write_byte(machine: &mut Monitor, guest: usize, byte: Byte, value: u8)
+    requires { guest < length machine.old.world.guests }
+    ensures { machine.new ≡ after_byte byte.side machine.old guest (byte_of byte) value }
+{
+    match byte.side {
+        Side::Device => {
+            machine.device_write(guest, byte.slot, byte.place, byte.offset, value);
+        }
+        Side::Guest => {
+            let op = Op::Write(u32::from(value));
+            machine.region_byte(guest, byte.slot, byte.place, byte.offset, op);
+        }
+    }
+}
+
+/// The byte that is read, or the number of the refusal. Nothing changes.
+fn byte_read(machine: &mut Monitor, guest: usize, byte: Byte) -> Result<u8, u32>
+    requires { guest < length machine.old.world.guests }
+    ensures read { result ≡ byte_read byte.side machine.old.world guest (byte_of byte) }
+    ensures kept { machine.new ≡ machine.old }
+{
+    match reply_to_read(machine, guest, byte) {
         Reply::Value(value, _) => Ok((value % 256) as u8),
         Reply::Done => Ok(0),
         Reply::Refused(why) => Err(u32::from(why.number())),
@@ -47,13 +78,13 @@ fn next_byte(byte: Byte) -> Byte
     }
 }
 
-/// The number that a device reads of so many bytes, or why the first that is refused is. Nothing changes.
+/// The number that is read of so many bytes, or why the first that is refused is. Nothing changes.
 fn bytes_read(machine: &mut Monitor, guest: usize, byte: Byte, count: u32) -> Result<u64, u32>
     requires there { guest < length machine.old.world.guests }
     requires few { count ≤ 8 }
     requires end { byte.offset + count < 2 ^ 64 }
     ensures read { result
-        ≡ bytes_read machine.old.world guest (bytes_from (byte_of byte) count) }
+        ≡ bytes_read byte.side machine.old.world guest (bytes_from (byte_of byte) count) }
     ensures small { IfOk result (λ n. n < 256 ^ count) }
     ensures kept { machine.new ≡ machine.old }
 {
@@ -65,25 +96,25 @@ fn bytes_read(machine: &mut Monitor, guest: usize, byte: Byte, count: u32) -> Re
     Ok(u64::from(lowest) + 256 * above)
 }
 
-/// Writes a number into so many bytes as a device does. What is refused is passed over.
+/// Writes a number into so many bytes. What is refused is passed over.
 fn write_bytes(machine: &mut Monitor, guest: usize, byte: Byte, count: u32, value: u64)
     requires there { guest < length machine.old.world.guests }
     requires end { byte.offset + count < 2 ^ 64 }
     ensures { machine.new
-        ≡ after_bytes machine.old guest (bytes_from (byte_of byte) count) value }
+        ≡ after_bytes byte.side machine.old guest (bytes_from (byte_of byte) count) value }
 {
     if count == 0 {
         return;
     }
-    let lowest = (value % 256) as u8;
-    machine.device_write(guest, byte.slot, byte.place, byte.offset, lowest);
+    write_byte(machine, guest, byte, (value % 256) as u8);
     write_bytes(machine, guest, next_byte(byte), count - 1, value / 256);
 }
 
-/// The number that a device reads of 1 to 8 bytes, or why it doesn't. Nothing changes.
+/// The number that is read of 1 to 8 bytes, or why it isn't. Nothing changes.
 pub fn wide_read(machine: &mut Monitor, guest: usize, byte: Byte, width: u32) -> Result<u64, u32>
     requires { guest < length machine.old.world.guests }
-    ensures read { result ≡ wide_read machine.old.world guest (byte_of byte) width }
+    ensures read { result
+        ≡ wide_read byte.side machine.old.world guest (byte_of byte) width }
     ensures kept { machine.new ≡ machine.old }
 {
     match width_fault(byte.offset, width) {
@@ -92,8 +123,8 @@ pub fn wide_read(machine: &mut Monitor, guest: usize, byte: Byte, width: u32) ->
     }
 }
 
-/// Writes a number into 1 to 8 bytes as a device does, and gives what it would have read there. Where such a read is
-/// refused, nothing is written.
+/// Writes a number into 1 to 8 bytes, and gives what a read of them would have been. Where such a read is refused,
+/// nothing is written.
 pub fn wide_write(
     machine: &mut Monitor,
     guest: usize,
@@ -102,8 +133,10 @@ pub fn wide_write(
     value: u64,
 ) -> Result<u64, u32>
     requires { guest < length machine.old.world.guests }
-    ensures read { result ≡ wide_read machine.old.world guest (byte_of byte) width }
-    ensures after { machine.new ≡ after_wide machine.old guest (byte_of byte) width value }
+    ensures read { result
+        ≡ wide_read byte.side machine.old.world guest (byte_of byte) width }
+    ensures after { machine.new
+        ≡ after_wide byte.side machine.old guest (byte_of byte) width value }
 {
     if let Some(number) = width_fault(byte.offset, width) {
         return Err(number);

@@ -1,7 +1,7 @@
 //! What a device itself reads and writes of several bytes of a guest's function at once.
 ghost use Rattle.pciguest_c.specs.Calls.{Answers, device_read_wide, device_write_wide, nothing, number};
 
-use crate::asking::{Byte, part_for};
+use crate::asking::{Byte, Side, part_for};
 use crate::device_bytes::{wide_read, wide_write};
 use crate::handle::Handle;
 use crate::numbers::{number_of_done, put_result};
@@ -26,6 +26,7 @@ pub extern "C" fn pciguest_raw_device_read_wide(
     let answer = handle.ask_machine(alloc, |machine| {
         let place = part_for(machine, guest, part)?;
         let byte = Byte {
+            side: Side::Device,
             slot,
             place,
             offset,
@@ -54,6 +55,7 @@ pub extern "C" fn pciguest_raw_device_write_wide(
     number_of_done(handle.ask_machine(alloc, |machine| {
         let place = part_for(machine, guest, part)?;
         let byte = Byte {
+            side: Side::Device,
             slot,
             place,
             offset,

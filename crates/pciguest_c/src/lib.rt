@@ -33,6 +33,7 @@ mod owner;
 mod problem_calls;
 mod problem_rows;
 mod querying;
+mod region_calls;
 mod resetting;
 mod saving;
 mod saving_all;

@@ -139,10 +139,10 @@ class Attaching(SavedMachine):
         device = None if hit is None else self._device_at((access.guest, hit.slot))
         return [] if hit is None or device is None else [Touch(device, hit.region, hit.offset, access.width, value)]
 
-    def _tell_read(self, cycles: List[Access]) -> bool:
+    def _tell_read(self, touched: List[Touch]) -> bool:
         """Tells devices of a read that isn't refused, each once for each of its registers, and whether there was one to
         tell."""
-        told = told_by([touch for access in cycles for touch in self._touch(access)])
+        told = told_by(touched)
         for device, register, _ in told:
             device.before_read(register)
         return bool(told)

@@ -7,7 +7,7 @@ from ctypes import byref, c_size_t, c_uint32, c_uint64
 from pathlib import Path
 from typing import Any, Callable, Iterator, List, Optional, Tuple, Union
 
-from ._attached import Attaching
+from ._attached import Attaching, Touch
 from ._calls import BARS, CONFIG, GUEST_NAME, IO, MEMORY, PLACES, RAISE_CONFIG, FunctionTold, Handle, PlaceTold, RegionTold
 from ._functions import Function, function_of
 from ._held import Held, as_bytes
@@ -153,7 +153,7 @@ class Machine(Attaching):
                 self._tell_moved()
             elif found.value is not None:
                 self._tell_written(touched)
-            elif self._tell_read([found.access]):
+            elif self._tell_read(self._touch(found.access)):
                 return self._reply("run_line", line)
             return reply
 
@@ -212,6 +212,38 @@ class Guest(Saved):
     def memory(self) -> Space:
         """Memory: `memory[0x80000000:4]` is 4 bytes at address 80000000h."""
         return self._space(MEMORY, 0)
+
+    def region_read(self, slot: int, register: int, offset: int, width: int = 1) -> int:
+        """1 to 8 bytes of the region that begins at a base address register, 0 to 5, of the function in a slot, read as this
+        guest does, but told by the offset and not by the address: as whoever mapped the region hands an access on. While
+        Command closes the region it is all ones; where two regions of the guest stand at one address, each is reached.
+
+        302: the width is not 1 to 8. 303: the slot is above 31, no region begins at this register, or one of the bytes is
+        past the region. 601: the slot is empty. 902: the register is above 5.
+        """
+        place = *self._byte(slot, offset, register), number("width", width, 32)
+        value = c_uint64()
+        with self.machine._lock:
+            self.machine._call("region_read", self.index, *place, byref(value))
+            if self.machine._tell_read(self._region_touch(*place)):
+                self.machine._call("region_read", self.index, *place, byref(value))
+        return value.value
+
+    def region_write(self, slot: int, register: int, offset: int, value: int, width: int = 1) -> None:
+        """Writes such bytes: each takes what a guest may change of it, and a closed region drops them. Refused as a read
+        is; then nothing is written. A value that has more bits than the bytes is a ValueError.
+        """
+        place = *self._byte(slot, offset, register), number("width", width, 32)
+        bits = number("value", value, 8 * min(max(width, 1), 8))
+        with self.machine._lock:
+            self.machine._call("region_write", self.index, *place, bits)
+            self.machine._tell_written(self._region_touch(*place, bits))
+
+    def _region_touch(self, slot: int, register: int, offset: int, width: int, value: int = 0) -> List[Touch]:
+        """What an access of a region that isn't refused touches of a device, if the region is open and one is there."""
+        device = self.machine._device_at((self.index, slot))
+        is_reached = device is not None and self.region(slot, register).is_open
+        return [Touch(device, register, offset, width, value)] if device and is_reached else []
 
     def raise_bits(self, slot: int, offset: int, mask: int, region: Optional[int] = None) -> None:
         """Sets bits of one byte of the function in a slot, as its device does: at an offset of configuration space, or
@@ -371,7 +403,8 @@ class _GuestSpace(Space):
             return super()._reads(place, cycles)
         with self._machine._lock:
             value = super()._reads(place, cycles)
-            is_told = self._machine._tell_read([self._access(place + done, size) for done, size in cycles])
+            accesses = [self._access(place + done, size) for done, size in cycles]
+            is_told = self._machine._tell_read([each for it in accesses for each in self._machine._touch(it)])
             return super()._reads(place, cycles) if is_told else value
 
     def _writes(self, place: int, cycles: Cycles, value: int) -> None:

@@ -109,6 +109,15 @@ class Acting(Case):
         self.a.memory[0xE0000000:1] = 1
         self.assertEqual((self.device.status, self.device.rings), (0, 1))
 
+    def test_a_region_by_its_offset(self):
+        self.a.region_write(0, 0, 8, 7, width=4)
+        self.assertEqual(self.a.region_read(0, 2, 0xFF8, width=4), 0x5A5A5A5A)
+        self.a.config[0][4:2] = 0
+        del self.device.told[2:]
+        self.a.region_write(0, 0, 8, 9, width=4)
+        self.assertEqual(self.a.region_read(0, 0, 4, width=4), 0xFFFFFFFF)
+        self.assertEqual((self.device.told, self.device.rings), ([("bell", 7), ("far", "read")], 1))
+
     def test_what_was_written(self):
         del self.device.told[:]
         self.a.memory[0xE0000009:1] = 0xAB

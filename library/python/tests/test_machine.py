@@ -168,6 +168,19 @@ class Guests(Case):
             with self.assertRaises(ValueError):
                 a.device_write(0, 6, value, width=width)
 
+    def test_a_region_is_reached_wherever_it_stands(self):
+        a = self.a
+        self.assertEqual(a.region_read(0, 1, 0, width=3), 0xFFFFFF)  # closed
+        a.region_write(0, 1, 0, 0, width=8)
+        a.config[0][0x14:4], a.config[0][4:2] = 0x80000000, 3
+        a.region_write(0, 1, 1, 0x0123456789ABCDEF, width=8)
+        self.assertEqual(a.region_read(0, 1, 1, width=8), a.memory.wide[0x80000001:8])
+        for offset, width, answer in ((0, 0, 302), (0, 9, 302), (4093, 4, 303), ((1 << 64) - 1, 1, 303)):
+            self.refused(answer, a.region_read, 0, 1, offset, width)
+            self.refused(answer, a.region_write, 0, 1, offset, 0, width)
+        self.refused(601, a.region_read, 31, 1, 0)
+        self.refused(902, a.region_read, 0, 6, 0)
+
     def test_a_function_is_reset(self):
         function, other = self.a.config[0], self.a.config[1]
         function[4:2] = other[4:2] = 2

@@ -76,6 +76,7 @@ mod load;
 mod machine;
 mod moved;
 mod place;
+mod region;
 mod text;
 mod touch;
 mod wide;

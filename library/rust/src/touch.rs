@@ -3,7 +3,7 @@
 use crate::declared::Register;
 use crate::error::Error;
 use crate::machine::Machine;
-use crate::place::{At, Guest, Hit};
+use crate::place::{At, Guest, Hit, Part};
 use crate::prelude::*;
 use crate::wide::pieces;
 
@@ -39,6 +39,12 @@ impl Machine {
         let touched: Vec<Touch> = pieces(at, width)
             .filter_map(|(_, at, size)| self.touch(guest, at, size, 0))
             .collect();
+        self.tell_reading(touched)
+    }
+
+    /// The same of what it touches.
+    pub(crate) fn tell_reading(&mut self, touched: impl IntoIterator<Item = Touch>) -> bool {
+        let touched: Vec<Touch> = touched.into_iter().collect();
         let told = self.told_by(&touched);
         for &(device, register, _) in &told {
             self.act(device, |model, registers| {
@@ -57,6 +63,28 @@ impl Machine {
         let device = self.device_at(guest, hit.slot)?;
         let (width, value) = (u64::from(width), u64::from(value));
         Some(Touch {
+            device,
+            hit,
+            width,
+            value,
+        })
+    }
+
+    /// What an access of a region that isn't refused touches of a device, if the region is open and one is there.
+    pub(crate) fn region_touch(
+        &mut self,
+        guest: Guest,
+        hit: Hit,
+        width: u32,
+        value: u64,
+    ) -> Option<Touch> {
+        let device = self.device_at(guest, hit.slot)?;
+        let Part::Region(register) = hit.part else {
+            return None;
+        };
+        let region = self.region(guest, hit.slot, u32::from(register)).ok()?;
+        let width = u64::from(width);
+        region.is_open.then_some(Touch {
             device,
             hit,
             width,

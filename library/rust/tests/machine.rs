@@ -110,6 +110,31 @@ fn a_device_has_wide_registers() -> Result<(), Error> {
 }
 
 #[test]
+fn a_region_is_reached_wherever_it_stands() -> Result<(), Error> {
+    let mut machine = Machine::new(BOARD)?;
+    let a = machine.guest("a")?;
+    assert_eq!(machine.region_read(a, 0, 1, 0, 3)?, 0xff_ffff); // closed
+    machine.region_write(a, 0, 1, 0, 8, 0)?;
+    machine.write(a, config(0, 4), 2, 3)?;
+    machine.write(a, config(0, 0x14), 4, 0x8000_0000)?;
+    let place = At::Memory {
+        address: 0x8000_0001,
+    };
+    machine.region_write(a, 0, 1, 1, 8, 0x0123_4567_89ab_cdef)?;
+    let by_address = machine.read_wide(a, place, 8)?;
+    assert_eq!(machine.region_read(a, 0, 1, 1, 8)?, by_address);
+    for (offset, width, answer) in [(0, 0, 302), (0, 9, 302), (4093, 4, 303), (u64::MAX, 1, 303)] {
+        let read = machine.region_read(a, 0, 1, offset, width);
+        assert_eq!(number(read), answer);
+        let written = machine.region_write(a, 0, 1, offset, width, 0);
+        assert_eq!(number(written), answer);
+    }
+    assert_eq!(number(machine.region_read(a, 31, 1, 0, 1)), 601);
+    assert_eq!(number(machine.region_read(a, 0, 6, 0, 1)), 902);
+    Ok(())
+}
+
+#[test]
 fn a_guest_finds_its_function_by_ports() -> Result<(), Error> {
     let mut machine = Machine::new(BOARD)?;
     let a = machine.guest("a")?;

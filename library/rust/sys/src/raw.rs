@@ -463,6 +463,31 @@ extern "C" {
         width: u32,
         value: u64,
     ) -> u32;
+    /// Reads as a guest 1 to 8 bytes of a region that a function of its has, told by slot, register and offset and not
+    /// by the address: as whoever mapped the region hands an access on. While the guest's Command closes the region a
+    /// read gives all ones and a write is dropped; where two regions of the guest stand at one address, each is
+    /// reached. The byte at the lowest offset is the lowest of the value. 302: the width is not 1 to 8. 303: the slot
+    /// is above 31, no region begins at this register, or one of the bytes is past the region. 601: the slot is empty.
+    /// 902: there is no such guest, or the part is above 6. Since 0.4.0.
+    pub fn pciguest_region_read(
+        machine: *mut Handle,
+        guest: usize,
+        slot: u64,
+        part: u32,
+        offset: u64,
+        width: u32,
+        value: *mut u64,
+    ) -> u32;
+    /// Writes so the low bytes of a value, or, where one of them is refused, none. Since 0.4.0.
+    pub fn pciguest_region_write(
+        machine: *mut Handle,
+        guest: usize,
+        slot: u64,
+        part: u32,
+        offset: u64,
+        width: u32,
+        value: u64,
+    ) -> u32;
     /// Sets bits of one byte of the function in a guest's slot, as its device does. 303: the slot is above 31, or the
     /// function has no such byte. 601: the slot is empty. 902: there is no such guest, or the part is above 6. A raise
     /// that is refused changes nothing.

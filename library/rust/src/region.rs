@@ -1,0 +1,96 @@
+//! Accesses of a guest that name a region and an offset in it.
+
+use crate::error::{answered, Error};
+use crate::machine::Machine;
+use crate::place::{Guest, Hit, Part};
+use crate::raw;
+
+impl Machine {
+    /// Reads as a guest 1 to 8 bytes of the region that begins at a base address register, 0 to 5, told by the offset and not
+    /// by the address: as whoever mapped the region hands an access on. While Command closes the region it gives all ones;
+    /// where two regions of the guest stand at one address, each is reached. The byte at the lowest offset is the lowest of
+    /// the value. A device that is attached is told of it as of one access.
+    ///
+    /// # Errors
+    ///
+    /// 302: the width is not 1 to 8. 303: the slot is above 31, no region begins at this register, or one of the bytes is
+    /// past the region. 601: the slot is empty. 902: there is no such guest, or the register is above 5.
+    ///
+    /// ```
+    /// # const BOARD: &str = include_str!("board.toml");
+    /// use pciguest::{At, Machine};
+    ///
+    /// let mut machine = Machine::new(BOARD)?;
+    /// let a = machine.guest("a")?;
+    /// assert_eq!(machine.region_read(a, 0, 0, 0x10, 2)?, 0xffff);
+    /// machine.write(a, At::Config { slot: 0, offset: 0x04 }, 2, 2)?; // memory on, wherever the region stands
+    /// machine.region_write(a, 0, 0, 0x10, 4, 0x1234_5678)?;
+    /// assert_eq!(machine.region_read(a, 0, 0, 0x11, 2)?, 0x3456);
+    /// assert_eq!(machine.region_read(a, 0, 0, 4093, 4).unwrap_err().to_string(), "303 range");
+    /// # Ok::<(), pciguest::Error>(())
+    /// ```
+    pub fn region_read(
+        &mut self,
+        guest: Guest,
+        slot: u64,
+        register: u8,
+        offset: u64,
+        width: u32,
+    ) -> Result<u64, Error> {
+        let part = Part::Region(register);
+        let hit = Hit { slot, part, offset };
+        let value = self.region_read_alone(guest, hit, width)?;
+        let touched = self.region_touch(guest, hit, width, 0);
+        if self.tell_reading(touched) {
+            return self.region_read_alone(guest, hit, width);
+        }
+        Ok(value)
+    }
+
+    /// Reads so, and tells no device.
+    fn region_read_alone(&mut self, guest: Guest, hit: Hit, width: u32) -> Result<u64, Error> {
+        let mut value = 0;
+        // SAFETY: `value` is a place of its own.
+        answered(unsafe {
+            raw::pciguest_region_read(
+                &mut self.handle,
+                guest.index(),
+                hit.slot,
+                hit.part.number(),
+                hit.offset,
+                width,
+                &mut value,
+            )
+        })?;
+        Ok(value)
+    }
+
+    /// Writes so the low 1 to 8 bytes of a value: each takes what a guest may change of it, and a closed region drops them.
+    /// Refused as a read is; then none of them is written.
+    pub fn region_write(
+        &mut self,
+        guest: Guest,
+        slot: u64,
+        register: u8,
+        offset: u64,
+        width: u32,
+        value: u64,
+    ) -> Result<(), Error> {
+        let part = Part::Region(register);
+        // SAFETY: no pointer but the handle is passed.
+        answered(unsafe {
+            raw::pciguest_region_write(
+                &mut self.handle,
+                guest.index(),
+                slot,
+                part.number(),
+                offset,
+                width,
+                value,
+            )
+        })?;
+        let touched = self.region_touch(guest, Hit { slot, part, offset }, width, value);
+        self.tell_written(touched);
+        Ok(())
+    }
+}
