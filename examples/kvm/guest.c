@@ -8,8 +8,7 @@
 #include <sys/ioctl.h>
 #include <time.h>
 
-enum { COMMAND = 0x04, INTERRUPT_LINE = 0x3c, INTERRUPT_PIN = 0x3d, INTERRUPT_OFF = 0x400, CONFIG_ADDRESS = 0xcf8,
-       BELL_STATUS = 0, BELL_COUNT = 4, BELL_RING = 8, WIRES = 4 };
+enum { INTERRUPT_LINE = 0x3c, CONFIG_ADDRESS = 0xcf8, BELL_STATUS = 0, BELL_COUNT = 4, BELL_RING = 8, WIRES = 4 };
 
 /* The interrupt lines to which the wires of the machine's bus lead. */
 static const unsigned lines[WIRES] = {5, 9, 10, 11};
@@ -21,15 +20,6 @@ static void expect(uint32_t number, const char *what)
         return;
     fprintf(stderr, "kvm: %s: %u %s\n", what, number, pciguest_strerror(number));
     exit(1);
-}
-
-static uint32_t config(struct machine *machine, uint64_t slot, uint64_t offset, uint32_t width)
-{
-    uint32_t value = UINT32_MAX;
-
-    expect(pciguest_read(&machine->board->guests, machine->guest, PCIGUEST_CONFIG, slot, offset, width, &value),
-           "configuration space");
-    return value;
 }
 
 uint8_t board_cell(struct machine *machine, uint64_t slot, uint32_t part, uint64_t offset)
@@ -65,19 +55,19 @@ void machine_find_guest(struct machine *machine)
 
 /* The interrupt line to which a function's pin is wired; 0 where it has none. To a guest a function stands on bus 0 as the
  * device of its slot, with no bridge above: its pin arrives there as it is, and the four wires go round as on a PC. */
-static unsigned line_of(struct machine *machine, uint64_t slot)
+static unsigned line_of(struct machine *machine, uint64_t slot, struct pciguest_function *function)
 {
-    uint32_t pin = config(machine, slot, INTERRUPT_PIN, 1);
-
-    return pin == 0 || pin > WIRES ? 0 : lines[(pin - 1 + slot) % WIRES];
+    expect(pciguest_slot(&machine->board->guests, machine->guest, slot, function), "a function");
+    return function->interrupt.pin ? lines[(function->interrupt.pin - 1 + slot) % WIRES] : 0;
 }
 
 /* Drives the line of a function's pin, which others may share, as its device asks and as its driver lets it. */
 static void drive_line(struct machine *machine, uint64_t slot)
 {
-    unsigned line = line_of(machine, slot);
+    struct pciguest_function function;
+    unsigned line = line_of(machine, slot, &function);
     uint32_t bit = 1u << slot;
-    bool is_driven = machine->asking & bit && !(config(machine, slot, COMMAND, 2) & INTERRUPT_OFF);
+    bool is_driven = machine->asking & bit && !function.interrupt.is_disabled;
 
     if (line == 0 || is_driven == !!(machine->driving[line] & bit))
         return;
@@ -96,6 +86,7 @@ void machine_interrupt(struct machine *machine, uint64_t slot, bool is_asking)
 void machine_wire(struct machine *machine)
 {
     struct kvm_irqchip chips[2] = {{.chip_id = KVM_IRQCHIP_PIC_MASTER}, {.chip_id = KVM_IRQCHIP_PIC_SLAVE}};
+    struct pciguest_function function;
 
     for (unsigned i = 0; i < 2; i++)
         needed(ioctl(machine->file, KVM_GET_IRQCHIP, &chips[i]), "KVM_GET_IRQCHIP");
@@ -106,36 +97,31 @@ void machine_wire(struct machine *machine)
     for (uint64_t slot = 0; slot < SLOTS; slot++)
         if (machine->devices[slot])
             expect(pciguest_write(&machine->board->guests, machine->guest, PCIGUEST_CONFIG, slot, INTERRUPT_LINE, 1,
-                                  line_of(machine, slot)),
+                                  line_of(machine, slot, &function)),
                    "Interrupt Line");
 }
 
-/* Lists the open regions anew where the count says that one of them may stand elsewhere. */
+/* Asks where the regions stand now. */
 static void follow_regions(struct machine *machine)
 {
-    struct pciguest *guests = &machine->board->guests;
-    struct pciguest_region region;
-    uint64_t changes = 0;
+    size_t count = 0;
 
-    expect(pciguest_changed(guests, machine->guest, &changes), "changes");
-    if (machine->is_listed && changes == machine->changes)
-        return;
-    machine->is_listed = true;
-    machine->changes = changes;
-    machine->open_count = 0;
-    for (uint32_t i = 0; i < REGIONS; i++)
-        if (pciguest_region(guests, machine->guest, i / PCIGUEST_BARS, i % PCIGUEST_BARS, &region) == 0 && region.is_open)
-            machine->open[machine->open_count++] = region;
+    expect(pciguest_moved(&machine->board->guests, machine->guest, machine->places, PCIGUEST_PLACES, &count), "regions");
 }
 
-static bool is_of_board(const struct machine *machine, const struct access *access)
+/* Whether an access is the board's, and the byte that it hits: at the ports of configuration space what CONFIG_ADDRESS selects,
+ * and else one of an open region. */
+static bool find(struct machine *machine, const struct access *access, struct pciguest_hit *hit)
 {
     if (access->space == PCIGUEST_IO && access->place - CONFIG_ADDRESS < 8)
-        return true;
-    for (size_t i = 0; i < machine->open_count; i++)
-        if (machine->open[i].space == access->space && access->place - machine->open[i].first < machine->open[i].size)
-            return true;
-    return false;
+        return pciguest_locate(&machine->board->guests, machine->guest, PCIGUEST_IO, 0, access->place, hit) == 0;
+    for (uint32_t i = 0; i < PCIGUEST_PLACES && !hit->found; i++) {
+        const struct pciguest_region *region = &machine->places[i].now;
+
+        if (region->is_open && region->space == access->space && access->place - region->first < region->size)
+            *hit = (struct pciguest_hit){i / PCIGUEST_BARS, access->place - region->first, i % PCIGUEST_BARS, 1};
+    }
+    return hit->found;
 }
 
 /* The bell counts that it was rung, and says so in the bit that its driver clears. */
@@ -149,15 +135,18 @@ static void ring(struct machine *machine, const struct pciguest_hit *hit)
     expect(pciguest_raise(guests, machine->guest, hit->slot, hit->part, BELL_STATUS, 1), "a bell");
 }
 
-/* What the device of a function does after the access that hit it. Of configuration space a driver may have written Command. */
+/* What the device of a function does after the access that hit it. In configuration space a driver may have moved a region, or
+ * written Command. */
 static void act(struct machine *machine, const struct access *access, const struct pciguest_hit *hit)
 {
     enum device device = machine->devices[hit->slot];
     uint64_t end = hit->offset + access->width;
 
     if (hit->part == PCIGUEST_RAISE_CONFIG) {
-        if (access->is_write)
+        if (access->is_write) {
+            follow_regions(machine);
             drive_line(machine, hit->slot);
+        }
     } else if (device == SERIAL_PORT) {
         for (uint64_t offset = hit->offset; offset < end; offset++)
             uart_touched(&machine->ports[hit->slot], (unsigned)offset, access->is_write);
@@ -174,23 +163,33 @@ uint64_t now(void)
     return (uint64_t)time.tv_sec * 1000000000 + (uint64_t)time.tv_nsec;
 }
 
+/* Makes an access: of a region by its slot, its register and the offset, and of configuration space by the ports. */
+static void make(struct machine *machine, struct access *access, const struct pciguest_hit *hit)
+{
+    struct pciguest *guests = &machine->board->guests;
+    bool is_port = !hit->found || hit->part == PCIGUEST_RAISE_CONFIG;
+
+    if (is_port && access->is_write)
+        (void)pciguest_write_wide(guests, machine->guest, PCIGUEST_IO, 0, access->place, access->width, access->value);
+    else if (is_port)
+        (void)pciguest_read_wide(guests, machine->guest, PCIGUEST_IO, 0, access->place, access->width, &access->value);
+    else if (access->is_write)
+        (void)pciguest_region_write(guests, machine->guest, hit->slot, hit->part, hit->offset, access->width, access->value);
+    else
+        (void)pciguest_region_read(guests, machine->guest, hit->slot, hit->part, hit->offset, access->width, &access->value);
+}
+
 /* Serves an access if it is the board's. What nobody answers there reads all ones, and what is written is lost. */
 bool machine_board_access(struct machine *machine, struct access *access)
 {
-    struct pciguest *guests = &machine->board->guests;
     struct pciguest_hit hit = {0};
     uint64_t began = now();
 
-    if (!is_of_board(machine, access))
+    if (!find(machine, access, &hit))
         return false;
-    (void)pciguest_locate(guests, machine->guest, access->space, 0, access->place, &hit);
-    if (access->is_write)
-        (void)pciguest_write_wide(guests, machine->guest, access->space, 0, access->place, access->width, access->value);
-    else
-        (void)pciguest_read_wide(guests, machine->guest, access->space, 0, access->place, access->width, &access->value);
+    make(machine, access, &hit);
     if (hit.found)
         act(machine, access, &hit);
-    follow_regions(machine);
     machine->board_exits++;
     machine->board_nanoseconds += now() - began;
     return true;

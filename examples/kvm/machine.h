@@ -9,7 +9,7 @@
 #include <pthread.h>
 #include <stddef.h>
 
-enum { MEMORY = 128 << 20, SLOTS = 32, REGIONS = SLOTS * PCIGUEST_BARS, CONSOLE_PORT = 0x3f8, CONSOLE_LINE = 4 };
+enum { MEMORY = 128 << 20, SLOTS = 32, CONSOLE_PORT = 0x3f8, CONSOLE_LINE = 4 };
 
 /* The library's struct is used under this lock alone, and so is all of a machine that both its own thread and another use. */
 struct board {
@@ -38,10 +38,7 @@ struct machine {
     char line[256]; /* what the console has of a line that isn't at its end */
     size_t length;
 
-    struct pciguest_region open[REGIONS]; /* the guest's open regions, as they stood at this count of changes */
-    size_t open_count;
-    bool is_listed;
-    uint64_t changes;
+    struct pciguest_place places[PCIGUEST_PLACES]; /* where the guest's regions stand, six for each slot */
     uint32_t asking;      /* a bit for each slot whose device asks for an interrupt */
     uint32_t driving[16]; /* and for each line, of those that drive it */
 
