@@ -191,7 +191,7 @@ enum { PCIGUEST_REPLY = 48, PCIGUEST_WORDS = 20, PCIGUEST_GUEST_NAME = 16 };
 
 /* What a call answers, each with its words; docs/FORMATS.md says what each means. 101 to 112: the board file is refused.
  * 201 to 205: the board can't be set up. 206, 207: a board or a function can't be given to guests. 301 to 303: an access or
- * a path is refused. 601, 602: a slot is empty that must not be, or is taken. 905 to 907: bytes are no image for a guest or
+ * a path is refused. 601, 602: a slot is empty that must not be, or is taken. 905 to 908: bytes are no image for a guest or
  * for a machine. 909: another call runs on the struct. */
 enum pciguest_status {
     PCIGUEST_OK = 0,
@@ -228,6 +228,7 @@ enum pciguest_status {
     PCIGUEST_BAD_IMAGE = 905,         /* image */
     PCIGUEST_OTHER_FUNCTIONS = 906,   /* other functions */
     PCIGUEST_OTHER_BOARD = 907,       /* other board */
+    PCIGUEST_IMAGE_VERSION = 908,     /* image version */
     PCIGUEST_BUSY = 909               /* busy */
 };
 
@@ -368,8 +369,9 @@ uint32_t pciguest_save(struct pciguest *machine, size_t guest, void *image, size
 /* Loads an image into a guest, which then holds what the image says: what the guest that was saved held. Its functions are
  * declared as those of the image, slot by slot; they may stand elsewhere, on another board. Other guests can't tell, and
  * the count of pciguest_changed grows by one. It takes no memory. 906: another slot is filled, or a function is declared
- * otherwise. 905: the bytes are no image, as with a value that its register can't hold. Of both, what the first byte that
- * fails tells. 902: there is no such guest. No line of a script says it. Since 0.4.0. */
+ * otherwise. 908: the image is of another version of the format. 905: the bytes are no image, as with a value that its
+ * register can't hold. Of these, what the first byte that fails tells. 902: there is no such guest. No line of a script
+ * says it. Since 0.4.0. */
 uint32_t pciguest_load(struct pciguest *machine, size_t guest, const void *image, size_t length);
 
 /* How many bytes the image of the whole machine has now, which pciguest_save_all writes. It stays as long as guests have the
@@ -386,8 +388,9 @@ uint32_t pciguest_save_all(struct pciguest *machine, void *image, size_t room, s
  * guest holds what that guest held. The board is an equal one that is set up alike, and the guests have the same names in the
  * same order; where their functions sit now, and what they hold, doesn't matter. The count of pciguest_changed grows for each
  * guest. It takes no memory. 907: the board, its guests or how it is set up are others. 906: a slot is to get what no guest
- * can be given there, or a function is declared otherwise. 905: the bytes are no image of a machine. Of the three, what the
- * first byte that fails tells. No line of a script says it. Since 0.4.0. */
+ * can be given there, or a function is declared otherwise. 908: the image, or one of a guest in it, is of another version of
+ * the format. 905: the bytes are no image of a machine. Of these, what the first byte that fails tells. No line of a script
+ * says it. Since 0.4.0. */
 uint32_t pciguest_load_all(struct pciguest *machine, const void *image, size_t length);
 
 /* Gives a function of the board that no guest has to a guest, into an empty slot: there and on the board it is then at

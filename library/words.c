@@ -39,6 +39,7 @@ const char *pciguest_strerror(uint32_t number)
     case PCIGUEST_BAD_IMAGE: return "image";
     case PCIGUEST_OTHER_FUNCTIONS: return "other functions";
     case PCIGUEST_OTHER_BOARD: return "other board";
+    case PCIGUEST_IMAGE_VERSION: return "image version";
     case PCIGUEST_BUSY: return "busy";
     case PCIGUEST_NOT_READY: return "not ready";
     case PCIGUEST_REFUSED_LINE: return "refused line";

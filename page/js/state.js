@@ -25,5 +25,6 @@ const REASONS = {
   905: 'is no image of a machine: it is cut, or was changed on its way (905)',
   906: 'seats a function where it cannot be given, or is of other functions (906)',
   907: 'is of another board, of other guests, or of a board that firmware set up otherwise (907)',
+  908: 'is of another version of the format (908)',
 };
 export const why_not_loaded = number => `The state that came with the board ${REASONS[number]}. The board is shown without it.`;

@@ -5,7 +5,7 @@ from functools import lru_cache
 from lone import KINDS
 
 MAGIC, VERSION, LATCH = 0x47494350, 1, 0x80FFFFFC
-IMAGE, OTHERS = 905, 906
+IMAGE, OTHERS, OTHER_VERSION = 905, 906, 908
 HEADER = [*range(0x00, 0x0F), *range(0x2C, 0x30), *range(0x3C, 0x40)]
 STATUS = (0x06, 0x07)
 IDENTITY = [("vendor", 2), ("device", 2), ("revision", 1), ("class", 3), ("subvendor", 2), ("subsystem", 2), ("pin", 1),
@@ -93,7 +93,8 @@ def values_of(function):
 
 def parts(guest):
     """The parts of an image of this guest."""
-    yield Part(IMAGE, le(MAGIC, 4) + le(VERSION, 4))
+    yield Part(IMAGE, le(MAGIC, 4))
+    yield Part(OTHER_VERSION, le(VERSION, 4))
     yield Part(IMAGE, bytes(4), le(~LATCH & 0xFFFFFFFF, 4))
     for function in guest.slots:
         if function is None:

@@ -76,7 +76,7 @@ class Fuzz:
 
     def __init__(self, lines, changed):
         self.lines, self.changed = lines, changed
-        self.saved, self.moved, self.taken, self.refused = 0, 0, 0, {905: 0, 906: 0}
+        self.saved, self.moved, self.taken, self.refused = 0, 0, 0, {905: 0, 906: 0, 908: 0}
 
     def differs(self, what, *told):
         sys.exit(f"seed {self.seed}: {what}: {', '.join(map(str, told))}")
@@ -206,7 +206,8 @@ def main():
         fuzz.one(seed)
         seed += 1
     print(f"{fuzz.saved} guests saved, {fuzz.moved} loaded elsewhere, of the images that were changed {fuzz.taken} taken and "
-          f"{sum(fuzz.refused.values())} refused (905: {fuzz.refused[905]}, 906: {fuzz.refused[906]}): all agree")
+          f"{sum(fuzz.refused.values())} refused (905: {fuzz.refused[905]}, 906: {fuzz.refused[906]}, "
+          f"908: {fuzz.refused[908]}): all agree")
 
 
 if __name__ == "__main__":

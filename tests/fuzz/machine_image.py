@@ -3,7 +3,7 @@ hand's own worlds."""
 import image as second_hand
 from board import Endpoint
 from guests import OWN_COPIES
-from image import IMAGE, OTHERS, Part, le
+from image import IMAGE, OTHERS, OTHER_VERSION, Part, le
 
 MAGIC, VERSION, BOARDS = 0x4D494350, 1, 907
 IO, PREF = ["none", "16", "32"], ["none", "32", "64"]
@@ -130,7 +130,8 @@ class Reader:
 
     def guests(self):
         """The guests of an image that isn't refused."""
-        self.skip(Part(IMAGE, le(MAGIC, 4) + le(VERSION, 4)))
+        self.skip(Part(IMAGE, le(MAGIC, 4)))
+        self.skip(Part(OTHER_VERSION, le(VERSION, 4)))
         self.skip(Part(BOARDS, board_bytes(self.world)))
         guests = [self.guest(name) for name in self.world.guests]
         self.skip(Part(BOARDS, held_bytes(self.world) + LATCH))

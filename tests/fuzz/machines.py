@@ -123,7 +123,7 @@ def main():
         seed += 1
     print(f"{fuzz.saved} machines saved, and loaded into others over their boards, of the images that were changed {fuzz.taken} "
           f"taken and {sum(fuzz.refused.values())} refused (905: {fuzz.refused[905]}, 906: {fuzz.refused[906]}, "
-          f"907: {fuzz.refused[907]}): all agree")
+          f"907: {fuzz.refused[907]}, 908: {fuzz.refused[908]}): all agree")
 
 
 if __name__ == "__main__":

@@ -263,7 +263,7 @@ static uint32_t load(struct pciguest *machine, size_t guest, const struct image 
 
     hold(machine, guest, &before);
     number = pciguest_load(machine, guest, image->bytes, image->size);
-    IS(number == 0 || number == 905 || number == 906, 1);
+    IS(number == 0 || number == 905 || number == 906 || number == 908, 1);
     hold(machine, guest, &after);
     IS(are_same(&after.images[guest], number ? &before.images[guest] : image), 1);
     IS(are_same(&after.images[1 - guest], &before.images[1 - guest]), 1);

@@ -1,7 +1,8 @@
 /* Images that were changed at random are loaded into two guests, between random events of theirs. Each is refused by 905 or
  * 906, and nothing changes, or it is loaded, and the guest is then saved as these bytes; the other guest stays as it is.
- * Images of the whole machine are so too, and refused by 907 besides. Images are saved to and loaded from the very end of
- * memory that may be touched, so that one byte too far ends the program.
+ * Images of the whole machine are so too, and refused by 907 besides. Both are refused by 908 where their version is
+ * another. Images are saved to and loaded from the very end of memory that may be touched, so that one byte too far ends the
+ * program.
  *
  *     loads BOARD COUNT SEED
  *
@@ -152,15 +153,15 @@ static void event(struct pciguest *machine)
     }
 }
 
-/* How many images were loaded, and refused by 905, 906 and 907. */
+/* How many images were loaded, and refused by 905, 906, 907 and 908. */
 struct counts {
-    uint64_t of[4];
+    uint64_t of[5];
 };
 
 static void add(struct counts *counts, uint32_t number, uint32_t last)
 {
-    IS(number == 0 || (number >= PCIGUEST_BAD_IMAGE && number <= last), 1);
-    counts->of[number ? (number - PCIGUEST_BAD_IMAGE + 1) % 4 : 0]++;
+    IS(number == 0 || number == PCIGUEST_IMAGE_VERSION || (number >= PCIGUEST_BAD_IMAGE && number <= last), 1);
+    counts->of[number ? (number - PCIGUEST_BAD_IMAGE + 1) % 5 : 0]++;
 }
 
 /* A load of a guest, by one of these rooms each for what it held, for the image, and for what the other guest holds. */
@@ -210,8 +211,8 @@ static void load_all(struct pciguest *machine, const struct room rooms[3], struc
 
 static void tell(const char *what, const struct counts *counts)
 {
-    printf("%s: %" PRIu64 " loaded, refused by 905: %" PRIu64 ", by 906: %" PRIu64 ", by 907: %" PRIu64 "\n", what, counts->of[0],
-           counts->of[1], counts->of[2], counts->of[3]);
+    printf("%s: %" PRIu64 " loaded, refused by 905: %" PRIu64 ", by 906: %" PRIu64 ", by 907: %" PRIu64 ", by 908: %" PRIu64 "\n", what,
+           counts->of[0], counts->of[1], counts->of[2], counts->of[3], counts->of[4]);
 }
 
 int main(int argc, char **argv)

@@ -550,6 +550,7 @@ static void all_words(void)
     words(905, "image");
     words(906, "other functions");
     words(907, "other board");
+    words(908, "image version");
     words(909, "busy");
     for (size_t i = 0; i < sizeof without / sizeof *without; i++)
         words(without[i], "");

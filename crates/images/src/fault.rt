@@ -13,6 +13,9 @@ pub enum ImageFault {
     /// Other slots are filled, or a declaration is another one.
     #[error("other functions")]
     OtherFunctions,
+    /// They are of another version of the format.
+    #[error("image version")]
+    OtherVersion,
 }
 
 impl ImageFault {
@@ -23,6 +26,7 @@ impl ImageFault {
         match self {
             ImageFault::NoImage => 905,
             ImageFault::OtherFunctions => 906,
+            ImageFault::OtherVersion => 908,
         }
     }
 }

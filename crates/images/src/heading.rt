@@ -1,8 +1,9 @@
 //! What stands in an image around functions: its header, the latch, and whether a slot is filled.
 ghost use Rattle.std.specs.Prelude.{◌≡◌, Ok, Err, Some, IfErr, IfOk, [], ◌∷◌, if◌then◌else◌};
 ghost use Rattle.model_images.specs.Layouts.{le_bytes, parse_number, parsed};
-ghost use Rattle.model_images.specs.LoadedBytes.{after_bytes, after_latch, at_end, header};
-ghost use Rattle.images.specs.Faults.{number_of};
+ghost use Rattle.model_images.specs.LoadedBytes.{after_beginning, after_bytes, after_latch, after_version, at_end, header};
+ghost use Rattle.model_images.specs.ImageBytes.{magic, version};
+ghost use Rattle.images.specs.Faults.{number_of, of_version};
 
 use crate::comparing::after;
 use crate::fault::ImageFault;
@@ -27,14 +28,36 @@ pub fn latch_bytes(latch: u32) -> [u8; 4]
     bytes
 }
 
+/// The same fault where the bytes are to be a version: others are another version.
+fn of_version(fault: ImageFault) -> ImageFault
+    ensures { number_of result ≡ of_version (number_of fault) }
+{
+    match fault {
+        ImageFault::OtherFunctions => ImageFault::OtherVersion,
+        other => other,
+    }
+}
+
+/// The bytes after the version of the format. Refuses too few bytes, and another version.
+pub fn after_version(version: u32, bytes: &[u8]) -> Result<&[u8], ImageFault>
+    ensures left { IfOk result (λ rest. after_version version bytes.now ≡ Ok rest.now) }
+    ensures refused { IfErr result (λ why.
+        after_version version bytes.now ≡ Err (number_of why)) }
+{
+    match after(&latch_bytes(version), bytes) {
+        Ok(rest) => Ok(rest),
+        Err(fault) => Err(of_version(fault)),
+    }
+}
+
 /// The bytes after the header, with which they have to begin.
 pub fn after_header(bytes: &[u8]) -> Result<&[u8], ImageFault>
-    ensures left { IfOk result (λ rest. after_bytes 905 header bytes.now ≡ Ok rest.now) }
+    ensures left { IfOk result (λ rest. after_beginning magic version bytes.now ≡ Ok rest.now) }
     ensures refused { IfErr result
-        (λ why. after_bytes 905 header bytes.now ≡ Err (number_of why)) }
+        (λ why. after_beginning magic version bytes.now ≡ Err (number_of why)) }
 {
-    match bytes.strip_prefix(&header()) {
-        Some(rest) => Ok(rest),
+    match bytes.strip_prefix(b"PCIG") {
+        Some(rest) => after_version(1, rest),
         None => Err(ImageFault::NoImage),
     }
 }

@@ -35,7 +35,9 @@ pub use fault::ImageFault;
 pub use found_path::after_path;
 pub use function_comparing::after_function;
 pub use function_writing::{function_size, write_function};
-pub use heading::{after_header, after_latch, after_tag, at_end, header, latch_bytes};
+pub use heading::{
+    after_header, after_latch, after_tag, after_version, at_end, header, latch_bytes,
+};
 pub use held_cells::{after_held, held_size, write_held};
 pub use machine_fault::MachineFault;
 pub use sizes::{bridge_values_size, declaration_size, values_size};

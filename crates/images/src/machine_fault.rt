@@ -18,6 +18,9 @@ pub enum MachineFault {
     /// The board, its guests or what the handoff holds are others.
     #[error("other board")]
     OtherBoard,
+    /// They are of another version of the format.
+    #[error("image version")]
+    OtherVersion,
 }
 
 impl MachineFault {
@@ -29,6 +32,7 @@ impl MachineFault {
             MachineFault::NoImage => 905,
             MachineFault::OtherFunctions => 906,
             MachineFault::OtherBoard => 907,
+            MachineFault::OtherVersion => 908,
         }
     }
 }
@@ -40,5 +44,6 @@ pub(crate) fn of_board(fault: ImageFault) -> MachineFault
     match fault {
         ImageFault::NoImage => MachineFault::NoImage,
         ImageFault::OtherFunctions => MachineFault::OtherBoard,
+        ImageFault::OtherVersion => MachineFault::OtherVersion,
     }
 }

@@ -8,8 +8,9 @@ use Rattle.model_guests.specs.WorldNow.{WorldNow, names_now}
 use Rattle.model_images.specs.MachineImages.{SavedGuest, MachineImage, saved_handoff}
 use Rattle.model_images.specs.MachineLaws.{IsSavableWorld}
 use Rattle.model_images.specs.Layouts.{le_bytes, parsed}
-use Rattle.model_images.specs.LoadedBytes.{Left, after_bytes, at_end, then_read}
-use Rattle.model_images.specs.LoadedMachines.{Read, and_then, held_bytes, known_bytes, load_all_fault, machine_header, read_guests, read_held, read_machine, under_guests, with_paths}
+use Rattle.model_images.specs.MachineBytes.{machine_magic, machine_version}
+use Rattle.model_images.specs.LoadedBytes.{Left, after_beginning, after_bytes, at_end, then_read}
+use Rattle.model_images.specs.LoadedMachines.{Read, and_then, held_bytes, known_bytes, load_all_fault, read_guests, read_held, read_machine, under_guests, with_paths}
 use Rattle.model_images.proofs.ReadMachines.{AreGoodGuests, guests_good}
 use Rattle.model_images.proofs.TakenMachines.{read_fits}
 use Rattle.machine_images.specs.Judging.{AreGuestsRead, IsPlanned, functions_now, held_under, paths_seated}
@@ -29,7 +30,7 @@ module _ (w : WorldNow) (bytes : List ℕ) where
   abbrev by_known : Left → Result MachineImage ℕ
   by_known l = by_guests (and_then (read_guests w.handoff [] (names_now w)) l)
 
-  module _ (one : List ℕ) (headed : after_bytes 905 machine_header bytes ≡ Ok one) where
+  module _ (one : List ℕ) (headed : after_beginning machine_magic machine_version bytes ≡ Ok one) where
     known_decides : read_machine w bytes ≡ by_known (after_bytes 907 (known_bytes w) one)
     known_decides = ap (λ (l : Left). by_known (and_then (after_bytes 907 (known_bytes w)) l)) headed
 

@@ -26,7 +26,8 @@ use Rattle.model_handoff.specs.Handoffs.{IsHandoff}
 use Rattle.model_handoff.specs.ViewLaws.{is_at}
 use Rattle.model_handoff.proofs.Functions.{Facts, facts}
 use Rattle.model_handoff.proofs.Keeping.{keeps_board}
-use Rattle.model_images.specs.LoadedBytes.{Left, after_bytes, after_image_front, after_latch, after_slot, after_slots_front, header, then_read}
+use Rattle.model_images.specs.LoadedBytes.{Left, after_beginning, after_bytes, after_image_front, after_latch, after_slot, after_slots_front, then_read}
+use Rattle.model_images.specs.ImageBytes.{magic, version}
 use Rattle.model_images.specs.Layouts.{Parsed, parsed}
 use Rattle.model_images.specs.LoadedMachines.{Read, can_have, is_open_there, read_slot}
 use Rattle.bridge_forward.specs.Lending.{as_endpoint, endpoint_nth}
@@ -111,10 +112,10 @@ module _ (fs : List BoardFunction) where
     abbrev g : LoneGuest
     g = guest_seated fs seats
 
-    pub header_ends : (n : ℕ) → after_bytes 905 header bytes ≡ Err n → after_image_front g bytes ≡ Err n
+    pub header_ends : (n : ℕ) → after_beginning magic version bytes ≡ Err n → after_image_front g bytes ≡ Err n
     header_ends n h = ap (λ (l : Left). then_read (after_slots_front g.slots) (then_read after_latch l)) h
 
-    module _ (next : List ℕ) (headed : after_bytes 905 header bytes ≡ Ok next) where
+    module _ (next : List ℕ) (headed : after_beginning magic version bytes ≡ Ok next) where
       latch_decides : after_image_front g bytes ≡ then_read (after_slots_front g.slots) (after_latch next)
       latch_decides = ap (λ (l : Left). then_read (after_slots_front g.slots) (then_read after_latch l)) headed
 

@@ -6,18 +6,18 @@ ghost use Rattle.model_board.specs.State.{BoardFunction};
 ghost use Rattle.model_findings.specs.Orderly.{IsStateOfBoard};
 ghost use Rattle.model_guests.specs.WorldNow.{names_now};
 ghost use Rattle.model_images.specs.Layouts.{le_bytes};
-ghost use Rattle.model_images.specs.LoadedBytes.{after_bytes, at_end, then_read};
-ghost use Rattle.model_images.specs.LoadedMachines.{load_all_fault, machine_header, read_guest, read_guests};
-ghost use Rattle.model_images.specs.MachineBytes.{board_layout, name_layout};
+ghost use Rattle.model_images.specs.LoadedBytes.{after_beginning, after_bytes, at_end, then_read};
+ghost use Rattle.model_images.specs.LoadedMachines.{load_all_fault, read_guest, read_guests};
+ghost use Rattle.model_images.specs.MachineBytes.{board_layout, machine_magic, machine_version, name_layout};
 ghost use Rattle.images.specs.Faults as image;
 ghost use Rattle.images.specs.MachineFaults.{number_of};
 ghost use Rattle.machine_images.specs.Judging.{AreGuestsRead, IsGuestRead, IsPlanned, functions_now, has_seat, held_under, taken_by};
 
-use crate::heading::{four, header, two};
+use crate::heading::{four, two};
 use crate::seats::{Seats, after_image, is_taken, read_slots};
 use arrayvec::{ArrayString, ArrayVec};
 use host_bridge::Host;
-use images::{ImageFault, MachineFault, after_held, after_own, after_row};
+use images::{ImageFault, MachineFault, after_held, after_own, after_row, after_version};
 use monitor::Monitor;
 
 /// For each guest the bytes that hold its image.
@@ -37,19 +37,23 @@ fn of_image(fault: ImageFault) -> MachineFault
     match fault {
         ImageFault::NoImage => MachineFault::NoImage,
         ImageFault::OtherFunctions => MachineFault::OtherFunctions,
+        ImageFault::OtherVersion => MachineFault::OtherVersion,
     }
 }
 
 /// The bytes after the header, with which they have to begin.
 fn after_header(bytes: &[u8]) -> Result<&[u8], MachineFault>
     ensures left { IfOk result (λ rest.
-        after_bytes 905 machine_header bytes.now ≡ Ok rest.now) }
+        after_beginning machine_magic machine_version bytes.now ≡ Ok rest.now) }
     ensures refused { IfErr result (λ why.
-        after_bytes 905 machine_header bytes.now ≡ Err (number_of why)) }
+        after_beginning machine_magic machine_version bytes.now ≡ Err (number_of why)) }
 {
-    match bytes.strip_prefix(&header()) {
-        Some(rest) => Ok(rest),
-        None => Err(MachineFault::NoImage),
+    let Some(rest) = bytes.strip_prefix(b"PCIM") else {
+        return Err(MachineFault::NoImage);
+    };
+    match after_version(1, rest) {
+        Ok(rest) => Ok(rest),
+        Err(fault) => Err(of_image(fault)),
     }
 }
 
@@ -228,7 +232,8 @@ pub(crate) fn judge<'a>(monitor: &Monitor, bytes: &'a [u8]) -> Result<Plan<'a>, 
 }
 
 /// Why bytes can't be loaded into a machine, if they can't: they are no image of a machine (905),
-/// seat what can't be given there (906), or are the image of another board or of other guests (907).
+/// or one of another version (908), seat what can't be given there (906), or are the image of
+/// another board or of other guests (907).
 /// The first byte that fails decides.
 pub fn machine_fault(monitor: &Monitor, bytes: &[u8]) -> Option<MachineFault>
     ensures { option_map number_of result ≡ load_all_fault monitor.now.world bytes.now }

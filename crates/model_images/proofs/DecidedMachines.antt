@@ -29,12 +29,12 @@ use Rattle.model_images.specs.ImageBytes.{image_bytes, image_layout}
 use Rattle.model_images.specs.ByteLaws.{AreBytes, IsDeclared}
 use Rattle.model_images.specs.LoadedBytes.{after_bytes, after_image_front, at_end}
 use Rattle.model_images.specs.TakenBytes.{taken_image}
-use Rattle.model_images.specs.MachineBytes.{board_layout, cells_layout, guest_layout, machine_bytes, machine_of, name_layout, on_board, path_layout, paths_layout}
+use Rattle.model_images.specs.MachineBytes.{machine_magic, machine_version, board_layout, cells_layout, guest_layout, machine_bytes, machine_of, name_layout, on_board, path_layout, paths_layout}
 use Rattle.model_images.specs.MachineByteLaws.{HasKnownBytes, HasMachineBytes, IsWritableName}
-use Rattle.model_images.specs.LoadedMachines.{and_then, guest_at, held_bytes, if_free, known_bytes, load_all_fault, machine_header, or_refused, preceded, read_guest, read_guests, read_held, read_image, read_machine, read_slot, read_slots, under_guests, with_path, with_paths}
+use Rattle.model_images.specs.LoadedMachines.{and_then, guest_at, held_bytes, if_free, known_bytes, load_all_fault, or_refused, preceded, read_guest, read_guests, read_held, read_image, read_machine, read_slot, read_slots, under_guests, with_path, with_paths}
 use Rattle.model_images.specs.LoadedMachineLaws.{IsOfOtherMachine, MachinesDecided, NoMachineIsRefused}
 use Rattle.model_images.proofs.Layouts.{both_is, fit_count}
-use Rattle.model_images.proofs.LoadedBytes.{fitting_front, front_decided, own_bytes, prefix_decided}
+use Rattle.model_images.proofs.LoadedBytes.{fitting_front, front_decided, own_beginning, own_bytes, prefix_decided}
 use Rattle.model_images.proofs.MachineBytes.{board_is, held_in, machine_bytes_are_bytes, machine_read_are_bytes, name_is, parts_bytes, slot_path_is}
 use Rattle.model_images.proofs.Machines.{handoff_stays, opens_alike}
 use Rattle.model_images.proofs.Numbers.{number_is, one_each}
@@ -219,7 +219,7 @@ module _ (w : WorldNow) (h : IsSavableWorld w) (k : HasKnownBytes w) (i : Machin
   machine_decides : read_machine w (machine_bytes i) ≡ by_known (after_bytes 907 (known_bytes w) (known_layout.bytes theirs ++ behind_known))
   machine_decides =
       ap (read_machine w) (parts_bytes i)
-      ∙ ap (λ l. by_known (and_then (after_bytes 907 (known_bytes w)) l)) (own_bytes 905 machine_header (known_layout.bytes theirs ++ behind_known))
+      ∙ ap (λ l. by_known (and_then (after_bytes 907 (known_bytes w)) l)) (own_beginning machine_magic machine_version (known_layout.bytes theirs ++ behind_known))
 
   -- ---- what the handoff holds, over an equal board
 

@@ -32,12 +32,12 @@ use Rattle.model_images.specs.ImageBytes.{image_layout, image_bytes}
 use Rattle.model_images.specs.ByteLaws.{HasBytes}
 use Rattle.model_images.specs.LoadedBytes.{after_bytes, at_end}
 use Rattle.model_images.specs.TakenBytes.{taken_image}
-use Rattle.model_images.specs.MachineBytes.{path_layout, board_layout, name_layout, paths_layout, guest_layout, cells_layout, on_board, machine_bytes}
+use Rattle.model_images.specs.MachineBytes.{machine_magic, machine_version, path_layout, board_layout, name_layout, paths_layout, guest_layout, cells_layout, on_board, machine_bytes}
 use Rattle.model_images.specs.MachineByteLaws.{HasMachineBytes}
 use Rattle.model_images.specs.LoadedMachines.{and_then, preceded, is_open_there, can_have, read_slot, with_path, with_paths, read_slots, guest_at, read_image, read_guest, read_guests, machine_header, known_bytes, held_bytes, read_held, read_machine, after_read}
 use Rattle.model_images.specs.LoadedMachineLaws.{FittingIsAccepted, FittingIsLoaded}
 use Rattle.model_images.proofs.MachineBytes.{slot_path_is, told, told_bytes}
-use Rattle.model_images.proofs.LoadedBytes.{own_bytes, fitting_front}
+use Rattle.model_images.proofs.LoadedBytes.{own_beginning, own_bytes, fitting_front}
 use Rattle.model_images.proofs.TakenBytes.{taken_again}
 use Rattle.model_images.proofs.ReadMachines.{AllFree}
 use Rattle.model_images.proofs.SeatedPaths.{is_in}
@@ -211,7 +211,7 @@ told_again w i fits written =
     let there = all_fit_there s gs fits.seated.guests fits.held in
     ap (read_machine w)
     (told_bytes under gs ∙ ap₂ (λ (c : Board) (n : ℕ). machine_header ++ ((board_layout.bytes c ++ le_bytes 2 n) ++ (guests ++ held))) board many)
-    ∙ ap (λ l. and_then (read_held w) (and_then (read_guests s [] names) (and_then (after_bytes 907 (known_bytes w)) l))) (own_bytes 905 machine_header (known_bytes w ++ (guests ++ held)))
+    ∙ ap (λ l. and_then (read_held w) (and_then (read_guests s [] names) (and_then (after_bytes 907 (known_bytes w)) l))) (own_beginning machine_magic machine_version (known_bytes w ++ (guests ++ held)))
     ∙ ap (λ l. and_then (read_held w) (and_then (read_guests s [] names) l)) (own_bytes 907 (known_bytes w) (guests ++ held))
     ∙ ap (λ (ns : List Text). and_then (read_held w) (read_guests s [] ns (guests ++ held))) (sym fits.names)
     ∙ ap (and_then (read_held w)) (guests_again s gs [] free there written held)

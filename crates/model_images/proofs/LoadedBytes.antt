@@ -17,7 +17,7 @@ use Rattle.model_images.proofs.Fitting.{saved_slots}
 use Rattle.model_images.specs.Layouts.{Layout, Parsed, parsed, le_bytes, number, fit_times, optional}
 use Rattle.model_images.specs.ImageBytes.{endpoint_layout, function_layout, declaration_bytes, image_bytes}
 use Rattle.model_images.specs.ByteLaws.{IsLayout, HasBytes, HoldsSavable, IsSavableGuest}
-use Rattle.model_images.specs.LoadedBytes.{Left, then_read, after_bytes, after_values, after_slot, after_slots_front, at_end, after_slots, after_number, after_latch, after_image_front, after_image, fault_of, load_fault}
+use Rattle.model_images.specs.LoadedBytes.{Left, then_read, after_version, after_beginning, after_bytes, after_values, after_slot, after_slots_front, at_end, after_slots, after_number, after_latch, after_image_front, after_image, fault_of, load_fault}
 use Rattle.model_images.specs.LoadedLaws.{ImagesDecided, OwnAccepted, IsOfOthers}
 use Rattle.model_images.specs.TakenBytes.{HoldsDeclared, IsDeclaredGuest}
 use Rattle.model_images.proofs.Numbers.{number_again}
@@ -42,6 +42,9 @@ compared k [] bytes = inl (bytes, record { left = refl; are = refl })
 compared k (x ∷ xs) [] = inr (inr (record { next = x; rest = xs; are = refl }))
 compared k (x ∷ xs) (b ∷ bytes) = grind (arith, eqb-true, compared k xs bytes)
 
+pub read_before : (next : List ℕ → Left) (r : Left) (rest : List ℕ) → then_read next r ≡ Ok rest → (bytes : List ℕ) × (r ≡ Ok bytes) × (next bytes ≡ Ok rest)
+read_before next r rest h = grind arith
+
 pub same_left : (xs ys : List ℕ) → ◌≡◌ {A = Left} (Ok xs) (Ok ys) → xs ≡ ys
 same_left xs ys e = cc
 
@@ -54,6 +57,16 @@ follows k (x ∷ xs) (b ∷ bytes) rest h = grind (arith, follows k xs bytes res
 pub own_bytes : (k : ℕ) (xs rest : List ℕ) → after_bytes k xs (xs ++ rest) ≡ Ok rest
 own_bytes k [] rest = refl
 own_bytes k (x ∷ xs) rest = grind (arith, own_bytes k xs rest)
+
+-- what is read begins so, and what begins so is read
+pub begun : (m v : ℕ) (bytes rest : List ℕ) → after_beginning m v bytes ≡ Ok rest → bytes ≡ (le_bytes 4 m ++ le_bytes 4 v) ++ rest
+begun m v bytes rest h =
+    let first = read_before (after_version v) (after_bytes 905 (le_bytes 4 m) bytes) rest h in
+    follows 905 (le_bytes 4 m) bytes first.0 first.1
+    ∙ ap (λ (xs : List ℕ). le_bytes 4 m ++ xs) (follows 908 (le_bytes 4 v) first.0 rest first.2)
+
+pub own_beginning : (m v : ℕ) (rest : List ℕ) → after_beginning m v ((le_bytes 4 m ++ le_bytes 4 v) ++ rest) ≡ Ok rest
+own_beginning m v rest = ap (then_read (after_version v)) (own_bytes 905 (le_bytes 4 m) (le_bytes 4 v ++ rest)) ∙ own_bytes 908 (le_bytes 4 v) rest
 
 none_left : (xs ys : List ℕ) (y : ℕ) → [] ≡ xs ++ y ∷ ys → ⊥
 none_left [] ys y h = cc

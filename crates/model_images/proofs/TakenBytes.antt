@@ -20,9 +20,9 @@ use Rattle.model_guests.specs.WorldNow.{WorldNow}
 use Rattle.model_images.specs.Images.{SavedFunction, Image, image_of_guest, after_load, can_hold, fit_cells, Fits, FitsSlot, FitSlots}
 use Rattle.model_images.proofs.Loading.{keeps_what_was_saved}
 use Rattle.model_images.specs.Layouts.{Parsed, parsed, le_bytes, parse_number, number, fit_times, optional}
-use Rattle.model_images.specs.ImageBytes.{function_layout, image_layout, declaration_bytes, image_bytes, image_of}
+use Rattle.model_images.specs.ImageBytes.{magic, version, function_layout, image_layout, declaration_bytes, image_bytes, image_of}
 use Rattle.model_images.specs.ByteLaws.{AreBytes, Spells, HasBytes, IsDeclared}
-use Rattle.model_images.specs.LoadedBytes.{Left, then_read, after_bytes, after_values, after_slot, after_slots_front, at_end, after_slots, after_number, after_latch, header, after_image_front, fault_of, load_fault, after_load_bytes}
+use Rattle.model_images.specs.LoadedBytes.{Left, then_read, after_beginning, after_bytes, after_values, after_slot, after_slots_front, at_end, after_slots, after_number, after_latch, header, after_image_front, fault_of, load_fault, after_load_bytes}
 use Rattle.model_images.specs.LoadedLaws.{AcceptedIsImage, LoadsImage, RefusedStays, KeepsSavedBytes}
 use Rattle.model_images.specs.TakenBytes.{le_number, values_begin, slot_size, taken_slot, taken_slots, taken_image, SlotsAreTaken, IsTakenImage, ImageIsTaken, HoldsDeclared, IsDeclaredGuest, AcceptedIsTaken}
 use Rattle.model_images.specs.FrontBytes.{slots_size}
@@ -30,7 +30,7 @@ use Rattle.model_images.proofs.Numbers.{number_again, number_is, number_spells}
 use Rattle.model_images.proofs.Layouts.{fit_count}
 use Rattle.model_images.proofs.ImageBytes.{bytes_are_read, parts_of, FunctionParts, function_parts, parts_fit, slot_fits}
 use Rattle.model_images.proofs.Savable.{times_fit, endpoint_fits, guests_have_bytes}
-use Rattle.model_images.proofs.LoadedBytes.{own_bytes, same_left, follows, function_bytes, slot_bytes, slots_bytes, values_taken, fitting_slot, slots_end, image_ends, own_accepted, savable_is_declared}
+use Rattle.model_images.proofs.LoadedBytes.{begun, own_beginning, own_bytes, read_before, same_left, follows, function_bytes, slot_bytes, slots_bytes, values_taken, fitting_slot, slots_end, image_ends, own_accepted, savable_is_declared}
 
 -- ---- values
 
@@ -52,9 +52,6 @@ values_there (e ∷ es) (b ∷ bytes) rest h = cases (can_hold e b) refl h (valu
         record { values = b ∷ v.values; are = ap (λ (xs : List ℕ). b ∷ xs) v.are; count = ap suc v.count; fit = and_from (can_hold e b) (fit_cells es v.values) i v.fit }
 
 -- ---- a slot
-
-pub read_before : (next : List ℕ → Left) (r : Left) (rest : List ℕ) → then_read next r ≡ Ok rest → (bytes : List ℕ) × (r ≡ Ok bytes) × (next bytes ≡ Ok rest)
-read_before next r rest h = grind arith
 
 values_between : (tagged values rest : List ℕ) (m n : ℕ) → m ≡ length tagged → length values ≡ n → take n (drop m (tagged ++ (values ++ rest))) ≡ values
 values_between tagged values rest m n begin count = grind (arith, drop-append_seam, take-append_seam)
@@ -214,10 +211,10 @@ pub record IsOpened (g : LoneGuest) (bytes rest : List ℕ) : Type 0 where
 
 pub opened : (g : LoneGuest) (bytes rest : List ℕ) → after_image_front g bytes ≡ Ok rest → IsOpened g bytes rest
 opened g bytes rest h =
-    let first = read_before (after_slots_front g.slots) (then_read after_latch (after_bytes 905 header bytes)) rest h in
-    let begin = read_before after_latch (after_bytes 905 header bytes) first.0 first.1 in
+    let first = read_before (after_slots_front g.slots) (then_read after_latch (after_beginning magic version bytes)) rest h in
+    let begin = read_before after_latch (after_beginning magic version bytes) first.0 first.1 in
     let l = latch_there begin.0 first.0 begin.2 in
-    let are : bytes ≡ header ++ (le_bytes 4 l.0 ++ first.0) = follows 905 header bytes begin.0 begin.1 ∙ ap (λ (xs : List ℕ). header ++ xs) l.1 in
+    let are : bytes ≡ header ++ (le_bytes 4 l.0 ++ first.0) = begun magic version bytes begin.0 begin.1 ∙ ap (λ (xs : List ℕ). header ++ xs) l.1 in
     record {
       latch = l.0;
       last = first.0;
@@ -243,7 +240,7 @@ image_is_taken g bytes h =
     subst (IsTakenImage g) (sym o.are)
     (record {
       enough = omega arith;
-      begins = own_bytes 905 header (le_bytes 4 o.latch ++ o.last);
+      begins = own_beginning magic version (le_bytes 4 o.latch ++ o.last);
       read = subst (λ n. parse_number 4 (le_bytes 4 o.latch ++ o.last) ≡ Some (parsed n o.last)) (sym latch) (number_again 4 o.latch o.last (ltb-true o.latch (256 ^ 4) o.fits));
       latch = subst (λ n. latched n ≡ n) (sym latch) o.latched;
       slots = slots_end g.slots o.last ∙ ap (then_read at_end) o.front;

@@ -17,14 +17,14 @@ use Rattle.model_images.proofs.Machines.{opens_alike}
 use Rattle.model_images.specs.Layouts.{parsed, number, le_bytes, fit_times, repeated}
 use Rattle.model_images.specs.ImageBytes.{image_layout}
 use Rattle.model_images.specs.ByteLaws.{AreBytes, Spells}
-use Rattle.model_images.specs.LoadedBytes.{after_bytes, at_end}
-use Rattle.model_images.specs.MachineBytes.{board_layout, name_layout, paths_layout, guest_layout, machine_bytes, machine_of}
+use Rattle.model_images.specs.LoadedBytes.{after_beginning, after_bytes, at_end}
+use Rattle.model_images.specs.MachineBytes.{machine_magic, machine_version, board_layout, name_layout, paths_layout, guest_layout, machine_bytes, machine_of}
 use Rattle.model_images.specs.MachineByteLaws.{HasMachineBytes, IsWritableName, CanBeCompared, IsWritableMachine}
 use Rattle.model_images.specs.LoadedMachines.{and_then, with_paths, guest_at, read_guests, machine_header, known_bytes, held_bytes, under_guests, read_held, read_machine, after_read}
 use Rattle.model_images.specs.LoadedMachineLaws.{ReadFits, AcceptedIsMachine, IsGuestThere, ReadStandsThere, RefusedKeeps}
 use Rattle.model_images.proofs.Layouts.{fit_count}
 use Rattle.model_images.proofs.MachineBytes.{guest_is, told_bytes, machine_bytes_are_read}
-use Rattle.model_images.proofs.LoadedBytes.{follows, fitting_front, fitting_accepted}
+use Rattle.model_images.proofs.LoadedBytes.{begun, follows, fitting_front, fitting_accepted}
 use Rattle.model_images.proofs.ReadMachines.{from_then, same_ok, AreGoodGuests, guests_good, guests_spelled}
 use Rattle.model_images.proofs.SeatedPaths.{guests_served, guests_hold, guests_sit}
 use Rattle.model_images.proofs.SavableMachines.{state_fits, name_fits, writable_now, writable_under, declared_written}
@@ -45,7 +45,7 @@ pub record IsRead (w : WorldNow) (bytes : List ℕ) (i : MachineImage) : Type 0 
   pub begin : List ℕ
   pub front : List ℕ
   pub rest : List ℕ
-  pub header : after_bytes 905 machine_header bytes ≡ Ok begin
+  pub header : after_beginning machine_magic machine_version bytes ≡ Ok begin
   pub known : after_bytes 907 (known_bytes w) begin ≡ Ok front
   pub guests : read_guests w.handoff [] (names_now w) front ≡ Ok (parsed i.guests rest)
   pub held : rest ≡ held_bytes (under_guests w i.guests)
@@ -55,7 +55,7 @@ pub record IsRead (w : WorldNow) (bytes : List ℕ) (i : MachineImage) : Type 0 
 
 pub machine_read : (w : WorldNow) (bytes : List ℕ) (i : MachineImage) → read_machine w bytes ≡ Ok i → IsRead w bytes i
 machine_read w bytes i e =
-    let header = after_bytes 905 machine_header bytes in
+    let header = after_beginning machine_magic machine_version bytes in
     let q = from_then (read_held w) (and_then (read_guests w.handoff [] (names_now w)) (and_then (after_bytes 907 (known_bytes w)) header)) i e in
     let l = from_then (read_guests w.handoff [] (names_now w)) (and_then (after_bytes 907 (known_bytes w)) header) q.0 q.1 in
     let k = from_then (after_bytes 907 (known_bytes w)) header l.0 l.1 in
@@ -93,7 +93,7 @@ read_fits w h bytes i e =
 
 module _ (w : WorldNow) (can : CanBeCompared w) (bytes : List ℕ) (all : AreBytes bytes) (i : MachineImage) (r : IsRead w bytes i) where
   begins : bytes ≡ machine_header ++ r.begin
-  begins = follows 905 machine_header bytes r.begin r.header
+  begins = begun machine_magic machine_version bytes r.begin r.header
 
   board : r.begin ≡ known_bytes w ++ r.front
   board = follows 907 (known_bytes w) r.begin r.front r.known

@@ -17,4 +17,4 @@ pub record ByteExamples : Type 0 where
   pub others : load_fault (reset_guest (declarations main_world (codes "b"))) (image_bytes its_image) ≡ Some 906
   pub too_short : load_fault at_work (take 499 (image_bytes its_image)) ≡ Some 905
   pub too_long : load_fault at_work (image_bytes its_image ++ 0 ∷ []) ≡ Some 905
-  pub other_version : load_fault at_work (take 4 (image_bytes its_image) ++ 2 ∷ drop 5 (image_bytes its_image)) ≡ Some 905
+  pub other_version : load_fault at_work (take 4 (image_bytes its_image) ++ 2 ∷ drop 5 (image_bytes its_image)) ≡ Some 908

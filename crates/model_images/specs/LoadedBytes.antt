@@ -6,7 +6,9 @@
 --     after_slot, after_slots_front, after_image_front      the bytes after those of a slot, of slots, and of an image
 --                                                           of this guest, whatever follows
 --     after_slots, after_image      the same where nothing follows
---     load_fault g bytes      905 where the bytes are no image, 906 where they declare other functions
+--     after_version v, after_beginning m v      the bytes after a version, and after what an image begins with
+--     load_fault g bytes      905 where the bytes are no image, 908 where they are one of another version, 906 where they
+--                             declare other functions
 --     after_load_bytes      the world after it
 use Rattle.std.specs.Prelude.{List, [], ◌∷◌, ◌++◌, ℕ, ◌==◌, false, if◌then◌else◌, is_some, Option, Some, None, Result, Ok, Err}
 use Rattle.std.specs.Option.{option_map_or}
@@ -69,11 +71,19 @@ after_latch bytes = after_number (parse_number 4 bytes)
 abbrev pub header : List ℕ
 header = le_bytes 4 magic ++ le_bytes 4 version
 
+abbrev pub after_version : ℕ → List ℕ → Left
+after_version v bytes = after_bytes 908 (le_bytes 4 v) bytes
+
+-- what follows is read only where the version is this one
+abbrev pub after_beginning : ℕ → ℕ → List ℕ → Left
+after_beginning m v bytes = then_read (after_version v) (after_bytes 905 (le_bytes 4 m) bytes)
+
 abbrev pub after_image_front : LoneGuest → List ℕ → Left
-after_image_front g bytes = then_read (after_slots_front g.slots) (then_read after_latch (after_bytes 905 header bytes))
+after_image_front g bytes =
+    then_read (after_slots_front g.slots) (then_read after_latch (after_beginning magic version bytes))
 
 abbrev pub after_image : LoneGuest → List ℕ → Left
-after_image g bytes = then_read (after_slots g.slots) (then_read after_latch (after_bytes 905 header bytes))
+after_image g bytes = then_read (after_slots g.slots) (then_read after_latch (after_beginning magic version bytes))
 
 abbrev pub fault_of : Left → Option ℕ
 fault_of (Ok bytes) = None

@@ -11,8 +11,9 @@
 --     read_guest, read_guests      a guest of this name, and guests of these names
 --     known_bytes w, held_bytes s      the board and how many guests there are, as bytes; what a handoff holds
 --     under_guests w gs      the handoff as it is under these guests
---     read_machine w bytes      the image that a machine reads: 905 where the bytes are no image, 907 where they are
---                               that of another board or of other guests, 906 where they seat what can't be given there
+--     read_machine w bytes      the image that a machine reads: 905 where the bytes are no image, 908 where they are one
+--                               of another version, 907 where they are that of another board or of other guests, 906
+--                               where they seat what can't be given there
 --     load_all_fault w bytes, after_load_all_bytes bytes w      the refusal, and the world after it
 use Rattle.std.specs.Prelude.{List, [], ◌∷◌, ◌++◌, ℕ, zero, suc, Bool, true, false, not, ◌&&◌, length, map}
 use Rattle.std.specs.Prelude.{if◌then◌else◌, Option, Some, None, option_and_then, Result, Ok, Err}
@@ -33,7 +34,7 @@ use Rattle.model_handoff.specs.ViewLaws.{with_seated_reset}
 use Rattle.model_images.specs.MachineImages.{SavedGuest, MachineImage, values_in, saved_handoff, shown_handoff}
 use Rattle.model_images.specs.MachineImages.{restored_guest, after_load_all}
 use Rattle.model_images.specs.Layouts.{Parsed, parsed, le_bytes, before, for_each, optional}
-use Rattle.model_images.specs.LoadedBytes.{after_bytes, at_end, after_image_front}
+use Rattle.model_images.specs.LoadedBytes.{after_bytes, after_beginning, at_end, after_image_front}
 use Rattle.model_images.specs.TakenBytes.{taken_image}
 use Rattle.model_images.specs.MachineBytes.{machine_magic, machine_version, path_layout, board_layout, name_layout}
 use Rattle.model_images.specs.MachineBytes.{cells_layout}
@@ -131,7 +132,7 @@ read_held w gs =
 abbrev pub read_machine : WorldNow → List ℕ → Result MachineImage ℕ
 read_machine w bytes =
     and_then (read_held w) (and_then (read_guests w.handoff [] (names_now w))
-    (and_then (after_bytes 907 (known_bytes w)) (after_bytes 905 machine_header bytes)))
+    (and_then (after_bytes 907 (known_bytes w)) (after_beginning machine_magic machine_version bytes)))
 
 abbrev pub load_all_fault : WorldNow → List ℕ → Option ℕ
 load_all_fault w bytes = result_err (read_machine w bytes)

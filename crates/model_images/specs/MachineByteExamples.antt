@@ -59,4 +59,4 @@ pub record MachineByteExamples : Type 0 where
   pub too_short : load_all_fault handed (take 100 (machine_bytes its_machine)) ≡ Some 905
   pub too_long : load_all_fault handed (machine_bytes its_machine ++ 0 ∷ []) ≡ Some 905
   pub other_version :
-      load_all_fault handed (take 4 (machine_bytes its_machine) ++ 2 ∷ drop 5 (machine_bytes its_machine)) ≡ Some 905
+      load_all_fault handed (take 4 (machine_bytes its_machine) ++ 2 ∷ drop 5 (machine_bytes its_machine)) ≡ Some 908

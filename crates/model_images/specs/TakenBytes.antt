@@ -19,9 +19,9 @@ use Rattle.model_guests.specs.Slots.{Slots}
 use Rattle.model_guests.specs.Lone.{LoneGuest}
 use Rattle.model_images.specs.Images.{SavedFunction, Image, FitsSlot}
 use Rattle.model_images.specs.Layouts.{parsed, parse_number}
-use Rattle.model_images.specs.ImageBytes.{declaration_bytes}
+use Rattle.model_images.specs.ImageBytes.{magic, version, declaration_bytes}
 use Rattle.model_images.specs.ByteLaws.{AreBytes, IsDeclared}
-use Rattle.model_images.specs.LoadedBytes.{after_bytes, after_slot, after_slots, header, load_fault}
+use Rattle.model_images.specs.LoadedBytes.{after_beginning, after_slot, after_slots, load_fault}
 use Rattle.model_images.specs.LoadedLaws.{IsFittingImage}
 
 abbrev pub le_number : List ℕ → ℕ
@@ -73,7 +73,7 @@ SlotsAreTaken = (f : Option Function) (fs : Slots) (bytes rest : List ℕ) → a
 
 pub record IsTakenImage (g : LoneGuest) (bytes : List ℕ) : Type 0 where
   pub enough : 12 ≤ length bytes
-  pub begins : after_bytes 905 header bytes ≡ Ok (drop 8 bytes)
+  pub begins : after_beginning magic version bytes ≡ Ok (drop 8 bytes)
   pub read : parse_number 4 (drop 8 bytes) ≡ Some (parsed (taken_image g bytes).latch (drop 12 bytes))
   pub latch : latched (taken_image g bytes).latch ≡ (taken_image g bytes).latch
   pub slots : after_slots g.slots (drop 12 bytes) ≡ Ok []

@@ -35,8 +35,8 @@ use Rattle.model_guests.specs.Seated.{AreSeats}
 use Rattle.model_guests.proofs.FoundFiles.{same_places}
 use Rattle.model_images.specs.Images.{Image, image_of_lone, image_of_guest}
 use Rattle.model_images.specs.Layouts.{le_bytes}
-use Rattle.model_images.specs.ImageBytes.{image_bytes}
-use Rattle.model_images.specs.LoadedBytes.{Left, after_bytes, after_image, after_latch, after_slot, after_slots, at_end, fault_of, header, load_fault, then_read}
+use Rattle.model_images.specs.ImageBytes.{image_bytes, magic, version}
+use Rattle.model_images.specs.LoadedBytes.{Left, after_beginning, after_bytes, after_image, after_latch, after_slot, after_slots, at_end, fault_of, header, load_fault, then_read}
 use Rattle.model_images.specs.TakenBytes.{HoldsDeclared}
 use Rattle.images.specs.declared.fault.ImageFault.{ImageFault}
 use Rattle.images.specs.Faults.{number_of}
@@ -169,10 +169,10 @@ module _ (fs : List BoardFunction) where
   slots_done left bytes none = sym (ap (λ (xs : List (Option Held)). after_slots (map (slot_shown fs) xs) bytes) none)
 
 module _ (g : LoneGuest) (bytes : List ℕ) where
-  pub header_ends : (n : ℕ) → after_bytes 905 header bytes ≡ Err n → after_image g bytes ≡ Err n
+  pub header_ends : (n : ℕ) → after_beginning magic version bytes ≡ Err n → after_image g bytes ≡ Err n
   header_ends n h = ap (λ (l : Left). then_read (after_slots g.slots) (then_read after_latch l)) h
 
-  module _ (next : List ℕ) (headed : after_bytes 905 header bytes ≡ Ok next) where
+  module _ (next : List ℕ) (headed : after_beginning magic version bytes ≡ Ok next) where
     pub slots_decide : (rest : List ℕ) → after_latch next ≡ Ok rest → after_slots g.slots rest ≡ after_image g bytes
     slots_decide rest h = sym (ap (λ (l : Left). then_read (after_slots g.slots) (then_read after_latch l)) headed ∙ ap (then_read (after_slots g.slots)) h)
 

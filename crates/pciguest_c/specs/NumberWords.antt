@@ -17,7 +17,8 @@ own_words n =
     else (if n == 904 then codes "not at reset"
     else (if n == 905 then codes "image"
     else (if n == 906 then codes "other functions"
-    else (if n == 907 then codes "other board" else (if n == 909 then codes "busy" else handover_words n)))))))
+    else (if n == 907 then codes "other board"
+    else (if n == 908 then codes "image version" else (if n == 909 then codes "busy" else handover_words n))))))))
 
 abbrev pub words_of_number : ℕ → Text
 words_of_number n =

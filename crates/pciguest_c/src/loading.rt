@@ -28,8 +28,8 @@ fn load(machine: &mut Monitor, guest: usize, image: &[u8]) -> Result<(), u32>
 }
 
 /// Loads the bytes of an image into a guest, which then holds what the image says, and is counted once. Or refuses them
-/// and changes nothing: 905 for bytes that are no image, or 906 for an image of other functions than the guest has in its
-/// slots; of both, what the first byte that fails tells. No memory is taken.
+/// and changes nothing: 905 for bytes that are no image, 908 for one of another version, or 906 for an image of other
+/// functions than the guest has in its slots; of these, what the first byte that fails tells. No memory is taken.
 #[unsafe(no_mangle)]
 pub extern "C" fn pciguest_raw_load(
     alloc: Global,

@@ -25,8 +25,9 @@ fn load_all(machine: &mut Monitor, image: &[u8]) -> Result<(), u32>
 }
 
 /// Loads the bytes of an image into the machine, whose guests then sit where the image says and hold what it says. Or
-/// refuses them and changes nothing: 905 for bytes that are no image of a machine, 906 where they seat what can't be
-/// given there, or 907 for another board or other guests; what the first byte that fails tells. No memory is taken.
+/// refuses them and changes nothing: 905 for bytes that are no image of a machine, 908 for one of another version, 906
+/// where they seat what can't be given there, or 907 for another board or other guests; what the first byte that fails
+/// tells. No memory is taken.
 #[unsafe(no_mangle)]
 pub extern "C" fn pciguest_raw_load_all(alloc: Global, handle: &mut Handle, image: &[u8]) -> u32
     ensures { AnswersLoad (λ m. load_all_number m.world image.now)

@@ -30,6 +30,7 @@ fn own_words(number: u32) -> &'static [u8]
         905 => b"image",
         906 => b"other functions",
         907 => b"other board",
+        908 => b"image version",
         909 => b"busy",
         _ => handover_words(number).as_bytes(),
     }

@@ -64,6 +64,7 @@ NOT_AT_RESET = 904  # not at reset
 BAD_IMAGE = 905  # image
 OTHER_FUNCTIONS = 906  # other functions
 OTHER_BOARD = 907  # other board
+IMAGE_VERSION = 908  # image version
 BUSY = 909  # busy
 
 NOT_READY = 208  # not ready
@@ -387,9 +388,9 @@ DECLARED: Dict[str, Tuple[Any, Tuple[Any, ...]]] = {
     # Loads an image into a guest, which then holds what the image says: what the guest that was saved held. Its
     # functions are declared as those of the image, slot by slot; they may stand elsewhere, on another board. Other
     # guests can't tell, and the count of pciguest_changed grows by one. It takes no memory. 906: another slot is
-    # filled, or a function is declared otherwise. 905: the bytes are no image, as with a value that its register can't
-    # hold. Of both, what the first byte that fails tells. 902: there is no such guest. No line of a script says it.
-    # Since 0.4.0.
+    # filled, or a function is declared otherwise. 908: the image is of another version of the format. 905: the bytes
+    # are no image, as with a value that its register can't hold. Of these, what the first byte that fails tells. 902:
+    # there is no such guest. No line of a script says it. Since 0.4.0.
     "load": (c_uint32, (POINTER(Handle), c_size_t, c_char_p, c_size_t)),
     # How many bytes the image of the whole machine has now, which pciguest_save_all writes. It stays as long as guests
     # have the same functions in the same slots. It takes no memory and changes nothing. Since 0.4.0.
@@ -403,9 +404,9 @@ DECLARED: Dict[str, Tuple[Any, Tuple[Any, ...]]] = {
     # and each guest holds what that guest held. The board is an equal one that is set up alike, and the guests have the
     # same names in the same order; where their functions sit now, and what they hold, doesn't matter. The count of
     # pciguest_changed grows for each guest. It takes no memory. 907: the board, its guests or how it is set up are
-    # others. 906: a slot is to get what no guest can be given there, or a function is declared otherwise. 905: the
-    # bytes are no image of a machine. Of the three, what the first byte that fails tells. No line of a script says it.
-    # Since 0.4.0.
+    # others. 906: a slot is to get what no guest can be given there, or a function is declared otherwise. 908: the
+    # image, or one of a guest in it, is of another version of the format. 905: the bytes are no image of a machine. Of
+    # these, what the first byte that fails tells. No line of a script says it. Since 0.4.0.
     "load_all": (c_uint32, (POINTER(Handle), c_char_p, c_size_t)),
     # Gives a function of the board that no guest has to a guest, into an empty slot: there and on the board it is then
     # at reset, on the board but for what guests have copies of. Its path is a text, as board files and

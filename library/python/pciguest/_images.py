@@ -60,8 +60,8 @@ class Saved:
         another board, and the machine of the image isn't needed any more. Other guests can't tell. The guest's devices
         are told of it (`Device.on_load`).
 
-        905: the bytes are no image. 906: another slot is filled, or a function is declared otherwise. Of both, what the
-        first byte that fails tells.
+        905: the bytes are no image. 908: the image is of another version of the format. 906: another slot is filled, or a
+        function is declared otherwise. Of these, what the first byte that fails tells.
 
         >>> with Machine(BOARD) as machine:
         ...     a = machine.guest("a")
@@ -143,8 +143,8 @@ class SavedMachine(Held):
         isn't needed any more. Devices are told of it (`Device.on_load`).
 
         905: the bytes are no image of a machine. 906: a slot is to get what no guest can be given there, or a function is
-        declared otherwise. 907: the board, its guests or how it is set up are others. Of the three, what the first byte
-        that fails tells.
+        declared otherwise. 907: the board, its guests or how it is set up are others. 908: the image, or one of a guest in
+        it, is of another version of the format. Of these, what the first byte that fails tells.
 
         >>> with Machine(BOARD) as machine:
         ...     a = machine.guest("a")

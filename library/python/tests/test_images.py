@@ -130,7 +130,7 @@ class Loads(Case):
         for text in (b"", b"PCIG", image[:-1], image + b"\0"):
             self.refused(905, self.a.load, text)
         for at in range(8):
-            self.refused(905, self.a.load, image[:at] + bytes([image[at] ^ 0x10]) + image[at + 1 :])
+            self.refused(905 if at < 4 else 908, self.a.load, image[:at] + bytes([image[at] ^ 0x10]) + image[at + 1 :])
         self.refused(906, self.a.load, other)
         self.assertEqual(self.a.save(), held)
         self.machine.move(self.a, 0, self.a, 5)

@@ -92,6 +92,8 @@ pub enum Error {
     OtherFunctions(Refusal),
     /// 907: an image is of another board, of other guests, or of a board that is set up otherwise.
     OtherBoard(Refusal),
+    /// 908: an image is of another version of the format.
+    ImageVersion(Refusal),
     /// 909: another call runs on the machine or the board. A call of this crate has it for itself, so none meets this.
     Busy(Refusal),
     /// Any other number. The library has none today that a call of this crate meets.
@@ -114,6 +116,7 @@ impl Error {
             905 => Error::Image(refusal),
             906 => Error::OtherFunctions(refusal),
             907 => Error::OtherBoard(refusal),
+            908 => Error::ImageVersion(refusal),
             909 => Error::Busy(refusal),
             _ => Error::Other(refusal),
         }
@@ -134,6 +137,7 @@ impl Error {
             | Error::Image(refusal)
             | Error::OtherFunctions(refusal)
             | Error::OtherBoard(refusal)
+            | Error::ImageVersion(refusal)
             | Error::Busy(refusal)
             | Error::Other(refusal) => refusal,
         }

@@ -67,8 +67,8 @@ impl Machine {
     ///
     /// # Errors
     ///
-    /// 905: the bytes are no image. 906: another slot is filled, or a function is declared otherwise. Of both, what the first
-    /// byte that fails tells. 902: there is no such guest.
+    /// 905: the bytes are no image. 908: the image is of another version of the format. 906: another slot is filled, or a
+    /// function is declared otherwise. Of these, what the first byte that fails tells. 902: there is no such guest.
     ///
     /// ```
     /// # const BOARD: &str = include_str!("board.toml");
@@ -152,8 +152,8 @@ impl Machine {
     /// # Errors
     ///
     /// 905: the bytes are no image of a machine. 906: a slot is to get what no guest can be given there, or a function is
-    /// declared otherwise. 907: the board, its guests or how it is set up are others. Of the three, what the first byte
-    /// that fails tells.
+    /// declared otherwise. 907: the board, its guests or how it is set up are others. 908: the image, or one of a guest in
+    /// it, is of another version of the format. Of these, what the first byte that fails tells.
     ///
     /// ```
     /// # const BOARD: &str = include_str!("board.toml");

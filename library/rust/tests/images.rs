@@ -209,7 +209,7 @@ fn bytes_that_are_no_image_for_a_guest_are_refused() -> Result<(), Error> {
     for at in 0..8 {
         let mut changed = image.clone();
         changed[at] ^= 0x10;
-        assert_eq!(number(machine.load_image(a, changed)), 905);
+        assert_eq!(number(machine.load_image(a, changed)), if at < 4 { 905 } else { 908 });
     }
     assert_eq!(machine.save(a)?, held);
     machine.move_function(a, 0, a, 5)?;

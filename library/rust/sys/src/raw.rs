@@ -90,6 +90,8 @@ pub const BAD_IMAGE: u32 = 905;
 pub const OTHER_FUNCTIONS: u32 = 906;
 /// other board
 pub const OTHER_BOARD: u32 = 907;
+/// image version
+pub const IMAGE_VERSION: u32 = 908;
 /// busy
 pub const BUSY: u32 = 909;
 
@@ -549,9 +551,9 @@ extern "C" {
     /// Loads an image into a guest, which then holds what the image says: what the guest that was saved held. Its
     /// functions are declared as those of the image, slot by slot; they may stand elsewhere, on another board. Other
     /// guests can't tell, and the count of pciguest_changed grows by one. It takes no memory. 906: another slot is
-    /// filled, or a function is declared otherwise. 905: the bytes are no image, as with a value that its register
-    /// can't hold. Of both, what the first byte that fails tells. 902: there is no such guest. No line of a script says
-    /// it. Since 0.4.0.
+    /// filled, or a function is declared otherwise. 908: the image is of another version of the format. 905: the bytes
+    /// are no image, as with a value that its register can't hold. Of these, what the first byte that fails tells. 902:
+    /// there is no such guest. No line of a script says it. Since 0.4.0.
     pub fn pciguest_load(
         machine: *mut Handle,
         guest: usize,
@@ -576,9 +578,9 @@ extern "C" {
     /// saved, and each guest holds what that guest held. The board is an equal one that is set up alike, and the guests
     /// have the same names in the same order; where their functions sit now, and what they hold, doesn't matter. The
     /// count of pciguest_changed grows for each guest. It takes no memory. 907: the board, its guests or how it is set
-    /// up are others. 906: a slot is to get what no guest can be given there, or a function is declared otherwise. 905:
-    /// the bytes are no image of a machine. Of the three, what the first byte that fails tells. No line of a script
-    /// says it. Since 0.4.0.
+    /// up are others. 906: a slot is to get what no guest can be given there, or a function is declared otherwise. 908:
+    /// the image, or one of a guest in it, is of another version of the format. 905: the bytes are no image of a
+    /// machine. Of these, what the first byte that fails tells. No line of a script says it. Since 0.4.0.
     pub fn pciguest_load_all(machine: *mut Handle, image: *const u8, length: usize) -> u32;
     /// Gives a function of the board that no guest has to a guest, into an empty slot: there and on the board it is
     /// then at reset, on the board but for what guests have copies of. Its path is a text, as board files and
