@@ -1,7 +1,6 @@
-//! The values of a region, an interrupt and a window, and the text of a path.
-ghost use Rattle.std.specs.Prelude.{◌≡◌, ◌≤◌, IfOk, map, string_bytes};
+//! The values of a region, an interrupt and a window.
+ghost use Rattle.std.specs.Prelude.{◌≡◌, ◌≤◌, IfOk, map};
 ghost use Rattle.serde_json.specs.View.{view};
-ghost use Rattle.model_guests.specs.PathTexts.{path_text};
 ghost use Rattle.bars.specs.Slots.{placed, bases_from};
 ghost use Rattle.window_packing.specs.Plans.{writes_of};
 ghost use Rattle.json_texts.specs.ReportValue.{region_value, pin_value, windows_value};
@@ -10,19 +9,10 @@ ghost use Rattle.json_texts.specs.FoundValue.{known_interrupt, named_window, wri
 use bars::BasedRegion;
 use intx_swizzle::at_root;
 use paths::Path;
-use report::{kind_text, pin_text, push_path};
+use report::{kind_text, pin_text};
 use serde_json::{Value, json};
 use std::alloc::{AllocError, Global};
 use window_packing::{Window, Writes};
-
-/// The text of a path.
-pub(crate) fn path_text(alloc: Global, path: &Path) -> Result<String, AllocError>
-    ensures { IfOk result (λ t. string_bytes t ≡ path_text path.now) }
-{
-    let mut text = String::new(alloc);
-    push_path(&mut text, path)?;
-    Ok(text)
-}
 
 /// A region, whose first register has this index.
 fn region_value(alloc: Global, index: usize, region: &BasedRegion) -> Result<Value, AllocError>

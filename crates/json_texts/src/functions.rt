@@ -6,7 +6,8 @@ ghost use Rattle.window_packing.specs.Plans.{writes_of};
 ghost use Rattle.json_texts.specs.ReportValue.{buses_value, endpoint_value, bridge_value};
 ghost use Rattle.json_texts.specs.FoundValue.{place_members, with_identity, vendor_of, device_id_of, known_interrupt, written_regions, written_windows, found_function, found_functions};
 
-use crate::function_parts::{known_interrupt, path_text, written_regions, written_windows};
+use crate::function_parts::{known_interrupt, written_regions, written_windows};
+use crate::problem_parts::path_value;
 use bus_scan::{Found, FunctionRow};
 use serde_json::{Map, Value, json, put};
 use std::alloc::{AllocError, Global};
@@ -20,12 +21,12 @@ fn place_members(alloc: Global, row: &FunctionRow) -> Result<Map<String, Value>,
     let part = row.path.last();
     let device = part.device();
     let function = part.function();
-    let path = path_text(alloc, &row.path)?;
+    let path = path_value(alloc, &row.path)?;
     let mut members = Map::new(alloc);
     put(&mut members, alloc, "bus", Value::from(row.bus))?;
     put(&mut members, alloc, "device", Value::from(device))?;
     put(&mut members, alloc, "function", Value::from(function))?;
-    put(&mut members, alloc, "path", Value::from(path))?;
+    put(&mut members, alloc, "path", path)?;
     Ok(members)
 }
 

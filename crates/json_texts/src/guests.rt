@@ -3,7 +3,7 @@ ghost use Rattle.std.specs.Prelude.{◌≡◌, IfOk, map};
 ghost use Rattle.serde_json.specs.View.{view};
 ghost use Rattle.json_texts.specs.ReportValue.{slot_value, slot_values, guest_value};
 
-use crate::function_parts::path_text;
+use crate::problem_parts::path_value;
 use accesses::GuestDecl;
 use paths::Path;
 use serde_json::{Value, json};
@@ -13,7 +13,7 @@ use std::alloc::{AllocError, Global};
 fn slot_value(alloc: Global, slot: usize, path: &Path) -> Result<Value, AllocError>
     ensures { IfOk result (λ v. view v ≡ slot_value slot path.now) }
 {
-    let path = path_text(alloc, path)?;
+    let path = path_value(alloc, path)?;
     json!(in alloc; {"slot": slot, "path": path})
 }
 
