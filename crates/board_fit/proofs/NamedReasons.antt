@@ -1,7 +1,8 @@
 use Rattle.std.proofs.lemmas.Grind.{common_steps}
 -- Where bridges are too many, or regions of I/O stand behind bridges without an I/O window, an entry of the file is named.
 use Rattle.std.proofs.Common.{◌≡◌, ◌≢◌, ◌⊎◌, inl, inr, ℕ, ◌+◌, Bool, true, false, ◌&&◌, ◌||◌, not, cond, List, [], ◌∷◌, ◌++◌, map, Option, Some, None, refl, sym, ap, ◌∙◌, arith}
-use Rattle.std.specs.Prelude.{flat_map}
+use Rattle.std.specs.Prelude.{filter, flat_map}
+use Rattle.std.specs.Option.{option_map_or}
 use Rattle.std.specs.List.{list_all, list_any, enumerate_from}
 use Rattle.std.proofs.lemmas.Bool.{both_ways, leb-false, lt-ltb, false_from_ne_true}
 use Rattle.std.proofs.lemmas.List.Sums.{sum_by-cons}
@@ -61,15 +62,15 @@ all_open bs p h =
     (λ b m. passed (leads_to (path_at b.at) p) b.io (position_none (closes p) bs b m h))
 
 -- an endpoint has no regions of I/O, where none is named behind a bridge
-no_io_bars : (i k n : ℕ) (bars : List Bar) → flat_map (closed_region i (Some k)) (enumerate_from n bars) ≡ [] → list_any (λ (b : Bar). is_io b.kind) bars ≡ false
+no_io_bars : (i k n : ℕ) (bars : List Bar) → map (closed_region i k) (filter (λ p. is_io p.1.kind) (enumerate_from n bars)) ≡ [] → list_any (λ (b : Bar). is_io b.kind) bars ≡ false
 no_io_bars i k n [] h = refl
-no_io_bars i k n (b ∷ bars) h = grind (arith, both_empty, no_io_bars i k (n + 1) bars)
+no_io_bars i k n (b ∷ bars) h = grind (arith, no_io_bars i k (n + 1) bars)
 
 opens_none : (e : Endpoint) → list_any (λ (b : Bar). is_io b.kind) e.bars ≡ false → opens_io (endpoint_row e).decl ≡ false
 opens_none e h = grind (arith, common_steps, false_from_ne_true, from_any, from_flat_map, from_map, from_filter, both_ways, any_in)
 
 -- what is named behind the first bridge that is closed
-closed_behind : (bs : List Bridge) (i : ℕ) (e : Endpoint) → closed_in bs (i, e) ≡ [] → closed_bars i (first_closed bs (path_at e.at)) e.bars ≡ []
+closed_behind : (bs : List Bridge) (i : ℕ) (e : Endpoint) → closed_in bs (i, e) ≡ [] → option_map_or (λ k. closed_bars i k e.bars) (first_closed bs (path_at e.at)) [] ≡ []
 unfolding closed_in
 closed_behind bs i e h = h
 
@@ -89,7 +90,7 @@ module _ (f : File) where
           (inr (by_file (λ (d : declared.Bridge). has_io d.io) (path_at e.at) (λ b. has_io b.io) (λ b. refl) f ∙ all_open f.bridges (path_at e.at) is))
       by_bridge (Some k) is =
           either (opens_io (endpoint_row e).decl) (list_all (λ d. has_io d.io) (bridges_above (board_of (rows f)) (path_at e.at)))
-          (inl (opens_none e (no_io_bars i k 0 e.bars (sym (ap (λ (o : Option ℕ). closed_bars i o e.bars) is) ∙ closed_behind f.bridges i e h))))
+          (inl (opens_none e (no_io_bars i k 0 e.bars (sym (ap (λ (o : Option ℕ). option_map_or (λ k. closed_bars i k e.bars) o []) is) ∙ closed_behind f.bridges i e h))))
 
   endpoints_keep : (n : ℕ) (es : List Endpoint) → flat_map (closed_in f.bridges) (enumerate_from n es) ≡ [] → Each keeps (map endpoint_row es)
   endpoints_keep n [] h = tt

@@ -1,8 +1,9 @@
 -- What sets of paths say of bridges and endpoints.
-use Rattle.std.proofs.Common.{◌≡◌, ℕ, Bool, true, false, not, ◌&&◌, ◌||◌, cond, List, [], ◌∷◌, ◌++◌, Option, Some, None, map, refl, sym, ap, ap₂, ◌∙◌, arith}
+use Rattle.std.proofs.Common.{◌≡◌, ℕ, Bool, true, false, not, ◌&&◌, ◌||◌, cond, List, [], ◌∷◌, ◌++◌, Option, Some, None, map, refl, sym, ap, ◌∙◌, arith}
 use Rattle.std.specs.Prelude.{filter, flat_map, option_map, option_and_then, unwrap_or}
 use Rattle.std.specs.List.{list_any, filter_map, cons_option}
 use Rattle.std.specs.Ordering.{eq_by_cmp}
+use Rattle.std.proofs.lemmas.List.Elements.{filter_agree}
 use Rattle.std.specs.BTreeSet.{BTreeSet, IsFromIterResult, contains}
 use Rattle.model_board.specs.Paths.{Part, Path, path_eq, parent}
 use Rattle.model_board.proofs.PathEnds.{path_eq-sym}
@@ -11,10 +12,8 @@ use Rattle.paths.specs.PathLaws.{paths_tied}
 use Rattle.board_file.specs.Entries.{Bridge, Endpoint, Guest}
 use Rattle.board_file.specs.EntryRules.{are_same_place}
 use Rattle.board_file.specs.PathTexts.{part_at_front, parts_after, path_at, is_path_text}
-use Rattle.board_fit.specs.declared.remark.Remark.{Remark}
-use Rattle.board_fit.specs.declared.remark.Remark.TheVariants as remark
 use Rattle.board_fit.specs.PathSets.{bridge_at, bridge_above, given_paths}
-use Rattle.board_fit.specs.Warnings.{if_so, bridge_path, has_none_behind, is_given, empty_bridge, endpoint_of_none}
+use Rattle.board_fit.specs.Warnings.{bridge_path, has_none_behind, is_given}
 
 -- ---- bridges
 
@@ -55,14 +54,10 @@ pub none_behind : (ps : List Path) (parents : BTreeSet Path) (text : List ℕ) �
     → not (contains path_cmp parents (path_at text)) ≡ has_none_behind ps (path_at text)
 none_behind ps parents text is = ap not (is.0 (path_at text)) ∙ none_above ps (path_at text) (has_parts text)
 
-abbrev pub empty_by : BTreeSet Path → ℕ × Bridge → List Remark
-empty_by parents (i, b) = if_so (not (contains path_cmp parents (bridge_path b))) (remark.EmptyBridge i)
-
-pub all_empty : (ps : List Path) (parents : BTreeSet Path) → IsFromIterResult path_cmp (filter_map bridge_above ps) parents → (bs : List (ℕ × Bridge))
-    → flat_map (empty_by parents) bs ≡ flat_map (empty_bridge ps) bs
-all_empty ps parents is [] = refl
-all_empty ps parents is ((i, b) ∷ bs) =
-    ap₂ (λ (x y : List Remark). x ++ y) (ap (λ (e : Bool). if_so e (remark.EmptyBridge i)) (none_behind ps parents b.at is)) (all_empty ps parents is bs)
+-- the bridges outside a set of those behind which something stands
+pub empty : (ps : List Path) (parents : BTreeSet Path) → IsFromIterResult path_cmp (filter_map bridge_above ps) parents → (bs : List (ℕ × Bridge))
+    → filter (λ p. not (contains path_cmp parents (bridge_path p.1))) bs ≡ filter (λ p. has_none_behind ps (bridge_path p.1)) bs
+empty ps parents is bs = filter_agree _ _ (λ p. none_behind ps parents p.1.at is) bs
 
 -- ---- endpoints
 
@@ -112,11 +107,7 @@ pub given : (gs : List Guest) (set : BTreeSet Path) (at : List ℕ) → IsFromIt
     → (is_path_text at && contains path_cmp set (path_at at)) ≡ is_given gs at
 given gs set at is = ap (λ b. is_path_text at && b) (is.0 (path_at at)) ∙ in_guests at gs
 
-abbrev pub of_none_by : BTreeSet Path → ℕ × Endpoint → List Remark
-of_none_by set (i, e) = if_so (not (is_path_text e.at && contains path_cmp set (path_at e.at))) (remark.EndpointOfNone i)
-
-pub all_of_none : (gs : List Guest) (set : BTreeSet Path) → IsFromIterResult path_cmp (given_paths gs) set → (es : List (ℕ × Endpoint))
-    → flat_map (of_none_by set) es ≡ flat_map (endpoint_of_none gs) es
-all_of_none gs set is [] = refl
-all_of_none gs set is ((i, e) ∷ es) =
-    ap₂ (λ (x y : List Remark). x ++ y) (ap (λ (b : Bool). if_so (not b) (remark.EndpointOfNone i)) (given gs set e.at is)) (all_of_none gs set is es)
+-- the endpoints outside a set of those that guests have
+pub of_none : (gs : List Guest) (set : BTreeSet Path) → IsFromIterResult path_cmp (given_paths gs) set → (es : List (ℕ × Endpoint))
+    → filter (λ p. not (is_path_text p.1.at && contains path_cmp set (path_at p.1.at))) es ≡ filter (λ p. not (is_given gs p.1.at)) es
+of_none gs set is es = filter_agree _ _ (λ p. ap not (given gs set p.1.at is)) es

@@ -19,10 +19,9 @@ use Rattle.diagnostics.specs.declared.style.Style.{Style}
 use Rattle.board_fit.specs.declared.pool_region.PoolRegion.{PoolRegion}
 use Rattle.board_fit.specs.declared.remark.Remark.{Remark}
 use Rattle.board_fit.specs.declared.remark.Remark.TheVariants as remark
-use Rattle.board_fit.specs.Shortages.{number_text}
 use Rattle.board_fit.specs.PoolRegions.{pool_regions, largest, bytes_of}
 use Rattle.board_fit.specs.LeastApertures.{IsLeastAperture}
-use Rattle.board_fit.specs.Telling.{AreTold}
+use Rattle.board_fit.specs.RemarkTexts.{AreTold}
 
 abbrev pub large_region : Pool → PoolRegion → Remark
 large_region pool r = remark.LargeRegion pool r
@@ -33,18 +32,14 @@ large_regions rs pool = map (large_region pool) (largest rs)
 abbrev pub gaps : PoolUse → List PoolRegion → ℕ
 gaps u rs = u.extent - bytes_of rs
 
--- a number between words, after a name
-abbrev pub number_line : (name words : List ℕ) → ℕ → List ℕ → List ℕ
-number_line name words n after = name ++ (number_text words n ++ after)
-
 -- of a pool that takes more than 2 ^ 63 bytes it isn't told
 abbrev pub gaps_text : List ℕ → Option PoolUse → List PoolRegion → List ℕ
 gaps_text name None rs = []
-gaps_text name (Some u) rs = number_line name (codes ": gaps take ") (gaps u rs) (codes " of them\n")
+gaps_text name (Some u) rs = name ++ codes ": gaps take " ++ hexadecimal (gaps u rs) ++ codes " of them\n"
 
 -- from the first address of the present aperture on
 abbrev pub least_text : List ℕ → Aperture → Option Aperture → List ℕ
-least_text name x None = number_line name (codes ": no aperture from ") x.first (codes " on fits\n")
+least_text name x None = name ++ codes ": no aperture from " ++ hexadecimal x.first ++ codes " on fits\n"
 least_text name x (Some y) =
     name ++ codes ": the least aperture that fits is " ++ hexadecimal y.first ++ codes " to " ++ hexadecimal y.last ++ codes "\n"
 

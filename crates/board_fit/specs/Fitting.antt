@@ -8,26 +8,24 @@ use Rattle.model_registers.specs.Apertures.{Apertures}
 use Rattle.model_board.specs.Board.{Board}
 use Rattle.model_set_up.specs.Pools.{aperture_of}
 use Rattle.model_guests.specs.Text.{Text}
+use Rattle.model_guests.specs.PathTexts.{hexadecimal}
 use Rattle.window_packing.specs.declared.pool.Pool.{Pool}
 use Rattle.window_packing.specs.declared.pool.Pool.TheVariants.{Io, Mem, Pref}
 use Rattle.window_packing.specs.declared.uses.PoolUse.{PoolUse}
 use Rattle.window_packing.specs.Plans.{named_pool}
 use Rattle.window_packing.specs.Uses.{told_use}
-use Rattle.board_fit.specs.Shortages.{pool_words, number_text}
-
-abbrev pub known_use_text : PoolUse → Text
-known_use_text u =
-    number_text (codes ": ") u.extent ++ (number_text (codes " of ") u.room
-    ++ (number_text (codes " bytes used, from ") u.first ++ codes " on\n"))
+use Rattle.board_fit.specs.Shortages.{pool_words}
 
 abbrev pub use_text : Option PoolUse → Text
-use_text None = codes ": more than 0x8000000000000000 bytes used\n"
-use_text (Some u) = known_use_text u
+use_text None = codes "more than 0x8000000000000000 bytes used"
+use_text (Some u) =
+    hexadecimal u.extent ++ codes " of " ++ hexadecimal u.room ++ codes " bytes used, from " ++ hexadecimal u.first ++ codes " on"
 
 abbrev pub pool_text : Board → Apertures → Pool → Text
-pool_text b a pool = pool_words pool
-    ++ option_map_or (λ _. use_text (told_use b a (named_pool pool)))
-    (aperture_of a (named_pool pool)) (codes ": no aperture\n")
+pool_text b a pool =
+    pool_words pool ++ codes ": "
+    ++ option_map_or (λ _. use_text (told_use b a (named_pool pool))) (aperture_of a (named_pool pool)) (codes "no aperture")
+    ++ codes "\n"
 
 abbrev pub fit_text : Board → Apertures → Text
 fit_text b a = codes "ok\n" ++ pool_text b a Io ++ pool_text b a Mem ++ pool_text b a Pref

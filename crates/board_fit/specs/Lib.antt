@@ -1,8 +1,8 @@
 pub mod Warnings
 pub mod PathSets
 pub mod Misfits
-pub mod Texts
-pub mod Telling
+pub mod Remarks
+pub mod RemarkTexts
 pub mod PoolRegions
 pub mod Reaches
 pub mod LeastApertures

@@ -3,7 +3,7 @@
 --     closed_regions      all regions of I/O behind such a bridge, in order
 --     bridge_too_many      the bridge after the 255 that have bus numbers
 --     reasons f fault      the one or the other, where the fault is that
-use Rattle.std.specs.Prelude.{ℕ, nat_lt, Bool, true, false, ◌&&◌, List, [], ◌∷◌, length, flat_map, Option, if◌then◌else◌}
+use Rattle.std.specs.Prelude.{ℕ, nat_lt, Bool, true, false, ◌&&◌, List, [], ◌∷◌, filter, length, map, flat_map, Option, if◌then◌else◌}
 use Rattle.std.specs.List.{position, enumerate_from}
 use Rattle.std.specs.Option.{option_map_or}
 use Rattle.model_registers.specs.Declarations.{Kind, io_kind, mem32, mem64, IoDecode, no_io, io16, io32}
@@ -31,18 +31,15 @@ closes p b = is_closed b.io && leads_to (path_at b.at) p
 abbrev pub first_closed : List Bridge → Path → Option ℕ
 first_closed bs p = position (closes p) bs
 
-abbrev pub closed_remarks : ℕ → ℕ → Option ℕ → List Remark
-closed_remarks i j o = option_map_or (λ k. remark.ClosedRegion i j k ∷ []) o []
-
-abbrev pub closed_region : ℕ → Option ℕ → ℕ × Bar → List Remark
-closed_region i o (j, b) = if is_io b.kind then closed_remarks i j o else []
+abbrev pub closed_region : ℕ → ℕ → ℕ × Bar → Remark
+closed_region i k (j, b) = remark.ClosedRegion i j k
 
 -- those of a list of regions
-abbrev pub closed_bars : ℕ → Option ℕ → List Bar → List Remark
-closed_bars i o bars = flat_map (closed_region i o) (enumerate_from 0 bars)
+abbrev pub closed_bars : ℕ → ℕ → List Bar → List Remark
+closed_bars i k bars = map (closed_region i k) (filter (λ p. is_io p.1.kind) (enumerate_from 0 bars))
 
 unfoldable pub closed_in : List Bridge → ℕ × Endpoint → List Remark
-closed_in bs (i, e) = closed_bars i (first_closed bs (path_at e.at)) e.bars
+closed_in bs (i, e) = option_map_or (λ k. closed_bars i k e.bars) (first_closed bs (path_at e.at)) []
 
 abbrev pub closed_regions : File → List Remark
 closed_regions f = flat_map (closed_in f.bridges) (enumerate_from 0 f.endpoints)

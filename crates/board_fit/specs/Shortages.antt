@@ -1,6 +1,6 @@
 -- The line of a board that can't be set up.
 --     set_up_words      the words of a fault of set-up
---     pool_words, number_text      a pool, and a number after some words
+--     pool_words      a pool
 --     pool_of f      the pool that doesn't fit, where the fault is that
 --     shortage_of b a f      the same with how much it would take
 --     IsNeedOf b a s      so much it would take of its aperture
@@ -34,9 +34,6 @@ pool_words Io = codes "I/O pool"
 pool_words Mem = codes "memory pool"
 pool_words Pref = codes "prefetchable pool"
 
-abbrev pub number_text : Text → ℕ → Text
-number_text words n = words ++ hexadecimal n
-
 abbrev pub pool_of : Fault → Option Pool
 pool_of IoPool = Some Io
 pool_of MemoryPool = Some Mem
@@ -50,21 +47,19 @@ abbrev pub IsNeedOf : Board → Apertures → Option Shortage → Type 0
 IsNeedOf b a None = Unit {0}
 IsNeedOf b a (Some s) = s.needed ≡ told_use b a (named_pool s.pool)
 
-abbrev pub known_need_text : PoolUse → Text
-known_need_text u =
-    number_text (codes " needs ") u.extent ++ (number_text (codes " bytes from ") u.first
-    ++ number_text (codes " on, and its aperture has ") u.room)
+abbrev pub needed_text : Option PoolUse → Text
+needed_text None = codes "more than 0x8000000000000000 bytes"
+needed_text (Some u) =
+    hexadecimal u.extent ++ codes " bytes from " ++ hexadecimal u.first ++ codes " on, and its aperture has "
+    ++ hexadecimal u.room
 
-abbrev pub need_text : Option PoolUse → Text
-need_text None = codes " needs more than 0x8000000000000000 bytes"
-need_text (Some u) = known_need_text u
+abbrev pub need_text : Shortage → Text
+need_text s = codes "the " ++ pool_words s.pool ++ codes " needs " ++ needed_text s.needed
 
 abbrev pub reason_text : Option Shortage → Text
-reason_text None = codes ": cannot be set up"
-reason_text (Some s) = codes ": the " ++ pool_words s.pool ++ need_text s.needed
-
-abbrev pub fault_text : Fault → Text
-fault_text f = codes " (" ++ decimal (number_of f) ++ codes " " ++ set_up_words f ++ codes ")\n"
+reason_text None = codes "cannot be set up"
+reason_text (Some s) = need_text s
 
 abbrev pub refusal_line : Text → Option Shortage → Fault → Text
-refusal_line name s f = name ++ reason_text s ++ fault_text f
+refusal_line name s f =
+    name ++ codes ": " ++ reason_text s ++ codes " (" ++ decimal (number_of f) ++ codes " " ++ set_up_words f ++ codes ")\n"

@@ -17,7 +17,7 @@ use Rattle.board_fit.specs.declared.shortage.Shortage.{Shortage}
 use Rattle.board_fit.specs.declared.warned.Warned.{Warned}
 use Rattle.board_fit.specs.Fitting.{fit_text}
 use Rattle.board_fit.specs.Shortages.{shortage_of, refusal_line}
-use Rattle.board_fit.specs.Telling.{AreWarnings, AreReasons}
+use Rattle.board_fit.specs.RemarkTexts.{AreWarnings, AreReasons}
 use Rattle.board_fit.specs.Costs.{AreCosts}
 
 pub record IsFitText (style : Style) (warned : Warned) (name bytes : Text) (b : Board) (a : Apertures) (text : Text) : Type 0 where

@@ -5,7 +5,7 @@
 --     empty_bridges, endpoints_of_none (where the file has guests), guests_without_slots      all of which this is so, in order
 --     all_wide_apertures, wide_apertures      the same of apertures; and so where all is warned of
 --     warnings      what is warned of, in order
-use Rattle.std.specs.Prelude.{ℕ, ◌+◌, ◌-◌, ◌*◌, ◌==◌, Bool, false, not, ◌&&◌, nat_lt, List, [], ◌∷◌, ◌++◌, length, map, flat_map, Option, Some, None, if◌then◌else◌}
+use Rattle.std.specs.Prelude.{ℕ, ◌+◌, ◌-◌, ◌*◌, ◌==◌, Bool, false, not, ◌&&◌, nat_lt, List, [], ◌∷◌, ◌++◌, filter, length, map, Option, Some, None, if◌then◌else◌}
 use Rattle.std.specs.List.{list_all, list_any, enumerate_from}
 use Rattle.model_registers.specs.Apertures.{Aperture, Apertures}
 use Rattle.model_board.specs.Board.{Board}
@@ -24,8 +24,9 @@ use Rattle.board_fit.specs.declared.remark.Remark.TheVariants as remark
 use Rattle.board_fit.specs.declared.warned.Warned.{Warned}
 use Rattle.board_fit.specs.declared.warned.Warned.TheVariants as warned
 
-abbrev pub if_so : Bool → Remark → List Remark
-if_so holds r = if holds then r ∷ [] else []
+-- a remark on an entry of the file, by its place there
+abbrev pub with_index : {A : Type 0} → (ℕ → Remark) → ℕ × A → Remark
+with_index remark (i, x) = remark i
 
 -- ---- bridges
 
@@ -45,11 +46,10 @@ is_behind bridge p = path_eq bridge (parent p)
 abbrev pub has_none_behind : List Path → Path → Bool
 has_none_behind paths bridge = list_all (λ p. not (is_behind bridge p)) paths
 
-abbrev pub empty_bridge : List Path → ℕ × Bridge → List Remark
-empty_bridge paths (i, b) = if_so (has_none_behind paths (bridge_path b)) (remark.EmptyBridge i)
-
 abbrev pub empty_bridges : File → List Remark
-empty_bridges f = flat_map (empty_bridge (all_paths f)) (enumerate_from 0 f.bridges)
+empty_bridges f =
+    map (with_index remark.EmptyBridge)
+    (filter (λ p. has_none_behind (all_paths f) (bridge_path p.1)) (enumerate_from 0 f.bridges))
 
 -- ---- endpoints
 
@@ -59,23 +59,18 @@ has_as_slot at g = list_any (λ s. are_same_place s at) g.slots
 abbrev pub is_given : List Guest → List ℕ → Bool
 is_given gs at = list_any (has_as_slot at) gs
 
-abbrev pub endpoint_of_none : List Guest → ℕ × Endpoint → List Remark
-endpoint_of_none gs (i, e) = if_so (not (is_given gs e.at)) (remark.EndpointOfNone i)
-
-abbrev pub all_endpoints_of_none : File → List Remark
-all_endpoints_of_none f = flat_map (endpoint_of_none f.guests) (enumerate_from 0 f.endpoints)
-
 -- a file without guests is for none
 abbrev pub endpoints_of_none : File → List Remark
-endpoints_of_none f = if length f.guests == 0 then [] else all_endpoints_of_none f
+endpoints_of_none f =
+    if length f.guests == 0 then []
+    else map (with_index remark.EndpointOfNone)
+    (filter (λ p. not (is_given f.guests p.1.at)) (enumerate_from 0 f.endpoints))
 
 -- ---- guests
 
-abbrev pub guest_without_slots : ℕ × Guest → List Remark
-guest_without_slots (i, g) = if_so (length g.slots == 0) (remark.GuestWithoutSlots i)
-
-abbrev pub guests_without_slots : File → List Remark
-guests_without_slots f = flat_map guest_without_slots (enumerate_from 0 f.guests)
+abbrev pub guests_without_slots : List Guest → List Remark
+guests_without_slots gs =
+    map (with_index remark.GuestWithoutSlots) (filter (λ p. length p.1.slots == 0) (enumerate_from 0 gs))
 
 -- ---- apertures
 
@@ -92,7 +87,7 @@ abbrev pub is_wide : Board → Apertures → Pool → Bool
 is_wide b a pool = is_wide_for (aperture_of a (named_pool pool)) (told_use b a (named_pool pool))
 
 abbrev pub wide_aperture : Board → Apertures → Pool → List Remark
-wide_aperture b a pool = if_so (is_wide b a pool) (remark.WideAperture pool)
+wide_aperture b a pool = if is_wide b a pool then remark.WideAperture pool ∷ [] else []
 
 abbrev pub all_wide_apertures : Board → Apertures → List Remark
 all_wide_apertures b a = wide_aperture b a Io ++ wide_aperture b a Mem ++ wide_aperture b a Pref
@@ -105,4 +100,4 @@ wide_apertures warned.All b a = all_wide_apertures b a
 -- ---- all
 
 abbrev pub warnings : Warned → File → Board → Apertures → List Remark
-warnings w f b a = empty_bridges f ++ endpoints_of_none f ++ guests_without_slots f ++ wide_apertures w b a
+warnings w f b a = empty_bridges f ++ endpoints_of_none f ++ guests_without_slots f.guests ++ wide_apertures w b a

@@ -10,7 +10,6 @@ ghost use Rattle.board_fit.specs.Warnings.{is_wide_use, is_wide_for, wide_apertu
 
 use crate::remark::Remark;
 use crate::warned::Warned;
-use crate::warnings::push_if;
 use bus_scan::FunctionTable;
 use headers::{Aperture, Apertures};
 use std::alloc::{AllocError, Global};
@@ -62,7 +61,10 @@ fn push_wide(
 {
     let used = pool_use(alloc, pool, table, apertures)?;
     let is_wide = is_wide_for(aperture_of(apertures, pool), used);
-    push_if(remarks, Remark::WideAperture(pool), is_wide)
+    if is_wide {
+        remarks.push(Remark::WideAperture(pool))?;
+    }
+    Ok(())
 }
 
 /// Appends the apertures that are more than ten times what their pools use.

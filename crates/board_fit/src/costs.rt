@@ -1,13 +1,13 @@
 //! What is told of a pool that doesn't fit its aperture.
-ghost use Rattle.std.specs.Prelude.{◌≡◌, IfOk, OnOk, map, string_bytes};
+ghost use Rattle.std.specs.Prelude.{◌≡◌, IfOk, OnOk, string_bytes};
 ghost use Rattle.lists.specs.Texts.{Adds};
 ghost use Rattle.toml.specs.View.{table_view};
 ghost use Rattle.model_board.specs.Board.{Board};
 ghost use Rattle.window_packing.specs.Plans.{named_pool};
 ghost use Rattle.window_packing.specs.Uses.{told_use};
 ghost use Rattle.board_file.specs.Sources.{IsRead};
-ghost use Rattle.board_fit.specs.Costs.{large_region, large_regions, gaps, number_line, gaps_text, least_text, aperture_text, AreCostsBy, AreCosts};
-ghost use Rattle.board_fit.specs.Telling.{AreTold};
+ghost use Rattle.board_fit.specs.Costs.{large_regions, gaps, gaps_text, least_text, aperture_text, AreCostsBy, AreCosts};
+ghost use Rattle.board_fit.specs.RemarkTexts.{AreTold};
 ghost use Rattle.board_fit.specs.Shortages.{IsNeedOf};
 ghost use Rattle.board_fit.specs.Verdicts.{AreCostsOf};
 
@@ -17,24 +17,13 @@ use crate::least::least_aperture;
 use crate::pool_region::PoolRegion;
 use crate::pool_regions::pool_regions;
 use crate::remark::Remark;
-use crate::shortage::{Shortage, push_number};
-use crate::telling::told_text;
+use crate::remark_texts::told_text;
+use crate::shortage::Shortage;
 use board_file::Source;
 use diagnostics::Telling;
 use headers::{Aperture, Apertures};
 use std::alloc::{AllocError, Global};
 use window_packing::{Pool, PoolUse};
-
-/// Regions of a pool, as remarks.
-fn as_remarks(alloc: Global, pool: Pool, regions: &[PoolRegion]) -> Result<Vec<Remark>, AllocError>
-    ensures { IfOk result (λ v. v.items ≡ map (large_region pool) regions.now) }
-{
-    let mut remarks = Vec::new(alloc);
-    'regions: for region in regions {
-        remarks.push(Remark::LargeRegion(pool, *region))?;
-    }
-    Ok(remarks)
-}
 
 /// The largest regions of a pool, as remarks.
 fn large_regions(
@@ -45,7 +34,9 @@ fn large_regions(
     ensures { IfOk result (λ v. v.items ≡ large_regions regions.now pool) }
 {
     let top = largest(alloc, regions)?;
-    as_remarks(alloc, pool, &top)
+    top.iter()
+        .map(|region| Remark::LargeRegion(pool, *region))
+        .collect(alloc)
 }
 
 /// The bytes that a pool takes beyond those of its regions.
@@ -53,22 +44,6 @@ fn gaps(used: PoolUse, regions: &[PoolRegion]) -> u64
     ensures { result ≡ gaps used regions.now }
 {
     u128::from(used.extent).saturating_sub(bytes_of(regions)) as u64
-}
-
-/// Appends a number between words, after a name.
-fn push_number_line(
-    text: &mut String,
-    name: &str,
-    words: &str,
-    number: u64,
-    after: &str,
-) -> Result<(), AllocError>
-    ensures { OnOk result (Adds text.old text.new
-        (number_line name.now words.now number after.now)) }
-{
-    text.push_str(name)?;
-    push_number(text, words, number)?;
-    text.push_str(after)
 }
 
 /// Appends the line of these.
@@ -81,13 +56,10 @@ fn push_gaps(
     ensures { OnOk result (Adds text.old text.new (gaps_text name.now needed regions.now)) }
 {
     match needed {
-        Some(used) => push_number_line(
-            text,
-            name,
-            ": gaps take ",
-            gaps(used, regions),
-            " of them\n",
-        ),
+        Some(used) => {
+            let gaps = gaps(used, regions);
+            writeln!(text, "{name}: gaps take 0x{gaps:x} of them")
+        }
         None => Ok(()),
     }
 }
@@ -101,6 +73,7 @@ fn push_least(
 ) -> Result<(), AllocError>
     ensures { OnOk result (Adds text.old text.new (least_text name.now present least)) }
 {
+    let first = present.first;
     match least {
         Some(least) => {
             let first = least.first;
@@ -110,13 +83,7 @@ fn push_least(
                 "{name}: the least aperture that fits is 0x{first:x} to 0x{last:x}"
             )
         }
-        None => push_number_line(
-            text,
-            name,
-            ": no aperture from ",
-            present.first,
-            " on fits\n",
-        ),
+        None => writeln!(text, "{name}: no aperture from 0x{first:x} on fits"),
     }
 }
 

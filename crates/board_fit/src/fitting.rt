@@ -1,48 +1,39 @@
 //! How a board fits its apertures.
-ghost use Rattle.std.specs.Prelude.{◌≡◌, true, false, IfOk, OnOk, string_bytes};
-ghost use Rattle.std.specs.Option.{option_map_or};
+ghost use Rattle.std.specs.Prelude.{◌≡◌, Some, IfOk, OnOk, string_bytes};
 ghost use Rattle.lists.specs.Texts.{Adds};
 ghost use Rattle.model_board.specs.Board.{Board};
 ghost use Rattle.model_set_up.specs.FunctionTable.{board_in};
-ghost use Rattle.model_set_up.specs.Pools.{aperture_of};
 ghost use Rattle.bus_scan.specs.SizedTables.{IsTableOf};
-ghost use Rattle.window_packing.specs.Plans.{named_pool};
-ghost use Rattle.board_fit.specs.Fitting.{known_use_text, use_text, pool_text, fit_text};
+ghost use Rattle.board_fit.specs.Fitting.{use_text, pool_text, fit_text};
 
-use crate::shortage::{pool_words, push_number};
+use crate::apertures::aperture_of;
+use crate::shortage::pool_words;
 use bus_scan::FunctionTable;
 use headers::Apertures;
 use std::alloc::{AllocError, Global};
+use std::fmt;
 use window_packing::{Pool, PoolUse, pool_use};
 
-/// Appends how much of its aperture a pool takes.
-fn push_known_use(text: &mut String, used: PoolUse) -> Result<(), AllocError>
-    ensures { OnOk result (Adds text.old text.new (known_use_text used)) }
-{
-    push_number(text, ": ", used.extent)?;
-    push_number(text, " of ", used.room)?;
-    push_number(text, " bytes used, from ", used.first)?;
-    text.push_str(" on\n")
-}
+/// How much of its aperture a pool takes, unless that is more than 2^63 bytes.
+#[derive(Clone, Copy)]
+struct Use(Option<PoolUse>);
 
-/// Appends how much a pool takes.
-fn push_use(text: &mut String, used: Option<PoolUse>) -> Result<(), AllocError>
-    ensures { OnOk result (Adds text.old text.new (use_text used)) }
-{
-    match used {
-        Some(used) => push_known_use(text, used),
-        None => text.push_str(": more than 0x8000000000000000 bytes used\n"),
-    }
-}
+impl fmt::Display for Use {
+    ghost output = { λ u. Some (use_text u.0) };
 
-/// Whether a pool has an aperture.
-fn has_aperture(apertures: &Apertures, pool: Pool) -> bool
-    ensures { result
-        ≡ option_map_or (λ _. true) (aperture_of apertures.now (named_pool pool)) false }
-{
-    match pool {
-        Pool::Io | Pool::Mem => true,
-        Pool::Pref => apertures.pref().is_some(),
+    fn fmt<W: fmt::Write>(&self, f: &mut fmt::Formatter<W>) -> fmt::Result {
+        match self.0 {
+            Some(used) => {
+                let extent = used.extent;
+                let room = used.room;
+                let first = used.first;
+                write!(
+                    f,
+                    "0x{extent:x} of 0x{room:x} bytes used, from 0x{first:x} on"
+                )
+            }
+            None => write!(f, "more than 0x8000000000000000 bytes used"),
+        }
     }
 }
 
@@ -58,11 +49,14 @@ fn push_pool(
     ensures { OnOk result ((b : Board) → IsTableOf b table.now
         → Adds text.old text.new (pool_text b apertures.now pool)) }
 {
-    text.push_str(pool_words(pool))?;
-    if !has_aperture(apertures, pool) {
-        return text.push_str(": no aperture\n");
+    let name = pool_words(pool);
+    match aperture_of(apertures, pool) {
+        Some(_) => {
+            let used = Use(pool_use(alloc, pool, table, apertures)?);
+            writeln!(text, "{name}: {used}")
+        }
+        None => writeln!(text, "{name}: no aperture"),
     }
-    push_use(text, pool_use(alloc, pool, table, apertures)?)
 }
 
 /// How the pools of a board that can be set up fit their apertures.

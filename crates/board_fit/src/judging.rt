@@ -15,8 +15,8 @@ ghost use Rattle.board_fit.specs.Verdicts.{IsFitText, IsMisfit, IsMisfitText, Is
 
 use crate::costs::costs_text;
 use crate::fitting::fit_text;
+use crate::remark_texts::{reasons_text, warnings_text};
 use crate::shortage::{Shortage, find_shortage, refusal_line};
-use crate::telling::{reasons_text, warnings_text};
 use crate::warned::Warned;
 use board_file::Source;
 use bus_scan::{Fault, FunctionTable};

@@ -6,6 +6,7 @@
 
 mod apertures;
 mod costs;
+mod fault_words;
 mod fitting;
 mod judging;
 mod largest;
@@ -17,15 +18,14 @@ mod path_sets;
 mod pool_region;
 mod pool_regions;
 mod remark;
+mod remark_lines;
+mod remark_texts;
 mod shortage;
-mod telling;
-mod texts;
 mod warned;
 mod warnings;
-mod words;
 
+pub use fault_words::set_up_words;
 pub use judging::{Verdict, judge};
 pub use least::least_aperture;
 pub use pool_region::PoolRegion;
 pub use warned::Warned;
-pub use words::set_up_words;

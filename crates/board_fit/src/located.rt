@@ -2,7 +2,7 @@
 ghost use Rattle.std.specs.Prelude.{◌≡◌, IfOk, map};
 ghost use Rattle.toml.specs.View.{table_view};
 ghost use Rattle.lists.specs.Elements.{Each};
-ghost use Rattle.board_fit.specs.Telling.{remark_of, IsLocated};
+ghost use Rattle.board_fit.specs.RemarkTexts.{remark_of, IsLocated};
 
 use crate::remark::Remark;
 use diagnostics::{Other, Place, Places, place_of, with_place};

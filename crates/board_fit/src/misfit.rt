@@ -2,7 +2,7 @@
 ghost use Rattle.std.specs.Prelude.{◌≡◌, ◌++◌, IfOk, OnOk};
 ghost use Rattle.bars.specs.Kinds.{kind_of};
 ghost use Rattle.headers.specs.Decodes.{io_decode_of};
-ghost use Rattle.board_fit.specs.Misfits.{is_io, is_closed, closes, first_closed, closed_remarks, closed_region, closed_bars, closed_in, closed_regions, bridge_too_many, reasons};
+ghost use Rattle.board_fit.specs.Misfits.{is_io, is_closed, closes, first_closed, closed_bars, closed_in, closed_regions, bridge_too_many, reasons};
 
 use crate::remark::Remark;
 use bars::Kind;
@@ -46,58 +46,26 @@ fn first_closed(bridges: &[BridgeEntry<'_>], path: &Path) -> Option<usize>
     bridges.iter().position(|bridge| closes(path, bridge))
 }
 
-/// Appends a region behind such a bridge, where there is one.
-fn push_closed(
-    remarks: &mut Vec<Remark>,
+/// The regions of I/O of an endpoint that are behind such a bridge.
+fn closed_bars(
+    alloc: Global,
     endpoint: usize,
-    bar: usize,
-    bridge: Option<usize>,
-) -> Result<(), AllocError>
-    ensures { OnOk result (remarks.new.items
-        ≡ remarks.old.items ++ closed_remarks endpoint bar bridge) }
-{
-    if let Some(bridge) = bridge {
-        remarks.push(Remark::ClosedRegion(endpoint, bar, bridge))?;
-    }
-    Ok(())
-}
-
-/// The same of a region of any kind.
-fn push_region(
-    remarks: &mut Vec<Remark>,
-    endpoint: usize,
-    bridge: Option<usize>,
-    index: usize,
-    bar: &BarEntry<'_>,
-) -> Result<(), AllocError>
-    ensures { OnOk result (remarks.new.items
-        ≡ remarks.old.items ++ closed_region endpoint bridge (index, bar.now)) }
-{
-    if is_io(bar.kind) {
-        push_closed(remarks, endpoint, index, bridge)?;
-    }
-    Ok(())
-}
-
-/// Appends the regions of I/O of an endpoint behind such a bridge.
-fn push_bars(
-    remarks: &mut Vec<Remark>,
-    endpoint: usize,
-    bridge: Option<usize>,
+    bridge: usize,
     bars: &[BarEntry<'_>],
-) -> Result<(), AllocError>
-    ensures { OnOk result (remarks.new.items
-        ≡ remarks.old.items ++ closed_bars endpoint bridge bars.now) }
+) -> Result<Vec<Remark>, AllocError>
+    ensures { IfOk result (λ v. v.items ≡ closed_bars endpoint bridge bars.now) }
 {
-    'bars: for (index, bar) in bars.iter().enumerate() {
-        push_region(remarks, endpoint, bridge, index, bar)?;
-    }
-    Ok(())
+    bars.iter()
+        .enumerate()
+        .filter(|(_, bar)| is_io(bar.kind))
+        .map(|(index, _)| Remark::ClosedRegion(endpoint, index, bridge))
+        .collect(alloc)
 }
 
 /// Appends the regions of an endpoint that are behind such a bridge.
 #[tactic(auto, unfolding(crate::specs::Misfits::closed_in))]
 fn push_endpoint(
+    alloc: Global,
     remarks: &mut Vec<Remark>,
     bridges: &[BridgeEntry<'_>],
     index: usize,
@@ -106,16 +74,25 @@ fn push_endpoint(
     ensures { OnOk result (remarks.new.items
         ≡ remarks.old.items ++ closed_in bridges.now (index, endpoint.now)) }
 {
-    let bridge = first_closed(bridges, &endpoint.at.path());
-    push_bars(remarks, index, bridge, &endpoint.bars)
+    match first_closed(bridges, &endpoint.at.path()) {
+        Some(bridge) => {
+            let closed = closed_bars(alloc, index, bridge, &endpoint.bars)?;
+            remarks.extend_from_slice(&closed)
+        }
+        None => Ok(()),
+    }
 }
 
 /// Appends the regions of all endpoints that are behind such a bridge.
-fn push_closed_regions(remarks: &mut Vec<Remark>, file: &FileEntries<'_>) -> Result<(), AllocError>
+fn push_closed_regions(
+    alloc: Global,
+    remarks: &mut Vec<Remark>,
+    file: &FileEntries<'_>,
+) -> Result<(), AllocError>
     ensures { OnOk result (remarks.new.items ≡ remarks.old.items ++ closed_regions file.now) }
 {
     'endpoints: for (index, endpoint) in file.endpoints.iter().enumerate() {
-        push_endpoint(remarks, &file.bridges, index, endpoint)?;
+        push_endpoint(alloc, remarks, &file.bridges, index, endpoint)?;
     }
     Ok(())
 }
@@ -141,7 +118,7 @@ pub(crate) fn reasons(
     let mut remarks = Vec::new(alloc);
     match fault {
         Fault::Buses => push_too_many(&mut remarks, file)?,
-        Fault::NoIoWindow => push_closed_regions(&mut remarks, file)?,
+        Fault::NoIoWindow => push_closed_regions(alloc, &mut remarks, file)?,
         _ => {}
     }
     Ok(remarks)

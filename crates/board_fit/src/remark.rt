@@ -1,9 +1,11 @@
 //! What is remarked of a board file that is accepted.
-ghost use Rattle.std.specs.Prelude.{◌≡◌};
-ghost use Rattle.board_fit.specs.Texts.{aperture_key, entry_of, key_of, label_of, large_words, words_of, other_of, size_told};
+ghost use Rattle.std.specs.Prelude.{◌≡◌, Some};
+ghost use Rattle.board_fit.specs.Remarks.{aperture_key, entry_of, key_of, label_of, remark_text, other_of};
 
 use crate::pool_region::PoolRegion;
+use crate::shortage::pool_words;
 use board_file::Entry;
+use std::fmt;
 use window_packing::Pool;
 
 /// What may be a mistake and is no fault, or why a board can't be set up. Lists of the file begin at 0.
@@ -33,17 +35,6 @@ fn aperture_key(pool: Pool) -> &'static str
         Pool::Io => "io",
         Pool::Mem => "mem",
         Pool::Pref => "pref",
-    }
-}
-
-/// What is said of a large region of a pool.
-fn large_words(pool: Pool) -> &'static str
-    ensures { result.now ≡ large_words pool }
-{
-    match pool {
-        Pool::Io => "is one of the largest of the I/O pool",
-        Pool::Mem => "is one of the largest of the memory pool",
-        Pool::Pref => "is one of the largest of the prefetchable pool",
     }
 }
 
@@ -96,29 +87,27 @@ impl Remark {
             _ => None,
         }
     }
+}
 
-    /// The size in bytes that is told of it.
-    pub(crate) fn size(self) -> Option<u64>
-        ensures { result ≡ size_told self }
-    {
-        match self {
-            Remark::LargeRegion(_, region) => Some(region.size),
-            _ => None,
-        }
-    }
+/// What is said of the entry.
+impl fmt::Display for Remark {
+    ghost output = { λ r. Some (remark_text r) };
 
-    /// What is said of the entry.
-    pub(crate) fn words(self) -> &'static str
-        ensures { result.now ≡ words_of self }
-    {
+    fn fmt<W: fmt::Write>(&self, f: &mut fmt::Formatter<W>) -> fmt::Result {
         match self {
-            Remark::EmptyBridge(_) => "nothing stands behind it",
-            Remark::EndpointOfNone(_) => "is in no slot of a guest",
-            Remark::GuestWithoutSlots(_) => "has no slots",
-            Remark::WideAperture(_) => "is more than ten times what its pool uses",
-            Remark::BridgeTooMany(_) => "is the first bridge for which no bus number is left",
-            Remark::ClosedRegion(_, _, _) => "is behind a bridge without an I/O window",
-            Remark::LargeRegion(pool, _) => large_words(pool),
+            Remark::EmptyBridge(_) => write!(f, "nothing stands behind it"),
+            Remark::EndpointOfNone(_) => write!(f, "is in no slot of a guest"),
+            Remark::GuestWithoutSlots(_) => write!(f, "has no slots"),
+            Remark::WideAperture(_) => write!(f, "is more than ten times what its pool uses"),
+            Remark::BridgeTooMany(_) => {
+                write!(f, "is the first bridge for which no bus number is left")
+            }
+            Remark::ClosedRegion(_, _, _) => write!(f, "is behind a bridge without an I/O window"),
+            Remark::LargeRegion(pool, region) => {
+                let pool = pool_words(*pool);
+                let size = region.size;
+                write!(f, "is one of the largest of the {pool}, 0x{size:x} bytes")
+            }
         }
     }
 }

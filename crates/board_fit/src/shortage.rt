@@ -1,15 +1,15 @@
 //! The line of a board that can't be set up.
-ghost use Rattle.std.specs.Prelude.{◌≡◌, None, IfOk, OnOk, string_bytes};
-ghost use Rattle.lists.specs.Texts.{Adds};
+ghost use Rattle.std.specs.Prelude.{◌≡◌, Some, IfOk, string_bytes};
 ghost use Rattle.model_board.specs.Board.{Board};
 ghost use Rattle.model_set_up.specs.FunctionTable.{board_in};
 ghost use Rattle.bus_scan.specs.SizedTables.{IsTableOf};
-ghost use Rattle.board_fit.specs.Shortages.{number_text, pool_words, pool_of, known_need_text, need_text, shortage_of, reason_text, fault_text, refusal_line};
+ghost use Rattle.board_fit.specs.Shortages.{pool_words, pool_of, need_text, shortage_of, refusal_line};
 
-use crate::words::set_up_words;
+use crate::fault_words::set_up_words;
 use bus_scan::{Fault, FunctionTable};
 use headers::Apertures;
 use std::alloc::{AllocError, Global};
+use std::fmt;
 use window_packing::{Pool, PoolUse, pool_use};
 
 /// A pool that doesn't fit its aperture, and how much of it the pool would take, unless that is more than
@@ -63,53 +63,22 @@ pub(crate) fn find_shortage(
     }
 }
 
-/// Appends a number in hexadecimal digits, after some words.
-pub(crate) fn push_number(text: &mut String, words: &str, number: u64) -> Result<(), AllocError>
-    ensures { OnOk result (Adds text.old text.new (number_text words.now number)) }
-{
-    write!(text, "{words}0x{number:x}")
-}
+impl fmt::Display for Shortage {
+    ghost output = { λ s. Some (need_text s) };
 
-/// Appends how much a pool needs, and its aperture has.
-fn push_known_need(text: &mut String, needed: PoolUse) -> Result<(), AllocError>
-    ensures { OnOk result (Adds text.old text.new (known_need_text needed)) }
-{
-    push_number(text, " needs ", needed.extent)?;
-    push_number(text, " bytes from ", needed.first)?;
-    push_number(text, " on, and its aperture has ", needed.room)
-}
-
-/// Appends how much a pool needs.
-fn push_need(text: &mut String, needed: Option<PoolUse>) -> Result<(), AllocError>
-    ensures { OnOk result (Adds text.old text.new (need_text needed)) }
-{
-    match needed {
-        Some(needed) => push_known_need(text, needed),
-        None => text.push_str(" needs more than 0x8000000000000000 bytes"),
-    }
-}
-
-/// Appends why the board can't be set up.
-fn push_reason(text: &mut String, shortage: Option<Shortage>) -> Result<(), AllocError>
-    ensures { OnOk result (Adds text.old text.new (reason_text shortage)) }
-{
-    match shortage {
-        Some(shortage) => {
-            text.push_str(": the ")?;
-            text.push_str(pool_words(shortage.pool))?;
-            push_need(text, shortage.needed)
+    fn fmt<W: fmt::Write>(&self, f: &mut fmt::Formatter<W>) -> fmt::Result {
+        let pool = pool_words(self.pool);
+        match self.needed {
+            Some(needed) => {
+                let extent = needed.extent;
+                let first = needed.first;
+                let room = needed.room;
+                write!(f, "the {pool} needs 0x{extent:x} bytes from 0x{first:x} on")?;
+                write!(f, ", and its aperture has 0x{room:x}")
+            }
+            None => write!(f, "the {pool} needs more than 0x8000000000000000 bytes"),
         }
-        None => text.push_str(": cannot be set up"),
     }
-}
-
-/// Appends the number and the words of a fault, and ends the line.
-fn push_fault(text: &mut String, fault: Fault) -> Result<(), AllocError>
-    ensures { OnOk result (Adds text.old text.new (fault_text fault)) }
-{
-    let number = fault.number();
-    let words = set_up_words(fault);
-    writeln!(text, " ({number} {words})")
 }
 
 /// The line of a board that can't be set up.
@@ -121,9 +90,10 @@ pub(crate) fn refusal_line(
 ) -> Result<String, AllocError>
     ensures { IfOk result (λ t. string_bytes t ≡ refusal_line name.now shortage fault) }
 {
-    let mut text = String::new(alloc);
-    text.push_str(name)?;
-    push_reason(&mut text, shortage)?;
-    push_fault(&mut text, fault)?;
-    Ok(text)
+    let number = fault.number();
+    let words = set_up_words(fault);
+    match shortage {
+        Some(shortage) => format!(in alloc; "{name}: {shortage} ({number} {words})\n"),
+        None => format!(in alloc; "{name}: cannot be set up ({number} {words})\n"),
+    }
 }

@@ -1,12 +1,13 @@
 //! What may be a mistake in a file, and is no fault.
-ghost use Rattle.std.specs.Prelude.{◌≡◌, ◌++◌, ◌&&◌, IfOk, OnOk, map, not};
+ghost use Rattle.std.specs.Prelude.{◌≡◌, ◌&&◌, IfOk};
 ghost use Rattle.std.specs.BTreeSet.{contains};
 ghost use Rattle.model_board.specs.Board.{Board};
 ghost use Rattle.model_set_up.specs.FunctionTable.{board_in};
 ghost use Rattle.paths.specs.PathOrders.{path_cmp};
 ghost use Rattle.bus_scan.specs.SizedTables.{IsTableOf};
 ghost use Rattle.board_file.specs.PathTexts.{is_path_text, path_at};
-ghost use Rattle.board_fit.specs.Warnings.{if_so, endpoint_path, bridge_path, all_paths, empty_bridges, all_endpoints_of_none, endpoints_of_none, guest_without_slots, guests_without_slots, warnings};
+ghost use Rattle.board_fit.specs.PathSets.{bridges_outside, endpoints_outside};
+ghost use Rattle.board_fit.specs.Warnings.{all_paths, empty_bridges, endpoints_of_none, guests_without_slots, warnings};
 
 use crate::apertures::push_wide_apertures;
 use crate::path_sets::{bridges_above, given_paths};
@@ -20,51 +21,13 @@ use paths::Path;
 use std::alloc::{AllocError, Global};
 use std::collections::BTreeSet;
 
-/// Appends a remark, where it holds.
-pub(crate) fn push_if(
-    remarks: &mut Vec<Remark>,
-    remark: Remark,
-    holds: bool,
-) -> Result<(), AllocError>
-    ensures { OnOk result (remarks.new.items ≡ remarks.old.items ++ if_so holds remark) }
-{
-    if holds {
-        remarks.push(remark)?;
-    }
-    Ok(())
-}
-
-/// Appends the paths of endpoints.
-fn push_endpoint_paths(
-    paths: &mut Vec<Path>,
-    endpoints: &[EndpointEntry<'_>],
-) -> Result<(), AllocError>
-    ensures { OnOk result (paths.new.items ≡ paths.old.items ++ map endpoint_path endpoints.now) }
-{
-    'endpoints: for endpoint in endpoints {
-        paths.push(endpoint.at.path())?;
-    }
-    Ok(())
-}
-
-/// Appends the paths of bridges.
-fn push_bridge_paths(paths: &mut Vec<Path>, bridges: &[BridgeEntry<'_>]) -> Result<(), AllocError>
-    ensures { OnOk result (paths.new.items ≡ paths.old.items ++ map bridge_path bridges.now) }
-{
-    'bridges: for bridge in bridges {
-        paths.push(bridge.at.path())?;
-    }
-    Ok(())
-}
-
 /// The paths of all functions.
 fn all_paths(alloc: Global, file: &FileEntries<'_>) -> Result<Vec<Path>, AllocError>
     ensures { IfOk result (λ v. v.items ≡ all_paths file.now) }
 {
-    let mut paths = Vec::new(alloc);
-    push_endpoint_paths(&mut paths, &file.endpoints)?;
-    push_bridge_paths(&mut paths, &file.bridges)?;
-    Ok(paths)
+    let endpoints = file.endpoints.iter().map(|endpoint| endpoint.at.path());
+    let bridges = file.bridges.iter().map(|bridge| bridge.at.path());
+    endpoints.chain(bridges).collect(alloc)
 }
 
 /// Whether the bridge at a path is one of those behind which something stands.
@@ -74,34 +37,29 @@ fn is_filled(filled: &BTreeSet<Path>, at: &PathText<'_>) -> bool
     filled.contains(&at.path())
 }
 
-/// Appends a bridge that is none of those.
-fn push_empty_bridge(
-    remarks: &mut Vec<Remark>,
+/// The bridges whose paths are none of these.
+fn bridges_outside(
+    alloc: Global,
     filled: &BTreeSet<Path>,
-    index: usize,
-    bridge: &BridgeEntry<'_>,
-) -> Result<(), AllocError>
-    ensures { OnOk result (remarks.new.items ≡ remarks.old.items
-        ++ if_so (not (contains path_cmp filled.now (bridge_path bridge.now))) (Remark.EmptyBridge index)) }
+    bridges: &[BridgeEntry<'_>],
+) -> Result<Vec<Remark>, AllocError>
+    ensures { IfOk result (λ v. v.items ≡ bridges_outside filled.now bridges.now) }
 {
-    let has_some_behind = is_filled(filled, &bridge.at);
-    push_if(remarks, Remark::EmptyBridge(index), !has_some_behind)
+    bridges
+        .iter()
+        .enumerate()
+        .filter(|(_, bridge)| !is_filled(filled, &bridge.at))
+        .map(|(index, _)| Remark::EmptyBridge(index))
+        .collect(alloc)
 }
 
-/// Appends the bridges behind which nothing stands.
-fn push_empty_bridges(
-    alloc: Global,
-    remarks: &mut Vec<Remark>,
-    file: &FileEntries<'_>,
-) -> Result<(), AllocError>
-    ensures { OnOk result (remarks.new.items ≡ remarks.old.items ++ empty_bridges file.now) }
+/// The bridges behind which nothing stands.
+fn empty_bridges(alloc: Global, file: &FileEntries<'_>) -> Result<Vec<Remark>, AllocError>
+    ensures { IfOk result (λ v. v.items ≡ empty_bridges file.now) }
 {
     let paths = all_paths(alloc, file)?;
     let filled = bridges_above(alloc, &paths)?;
-    'bridges: for (index, bridge) in file.bridges.iter().enumerate() {
-        push_empty_bridge(remarks, &filled, index, bridge)?;
-    }
-    Ok(())
+    bridges_outside(alloc, &filled, &file.bridges)
 }
 
 /// Whether the function at a path is one of those that guests have.
@@ -111,78 +69,43 @@ fn is_given(given: &BTreeSet<Path>, at: &PathText<'_>) -> bool
     at.is_path() && given.contains(&at.path())
 }
 
-/// Appends an endpoint that is none of those that guests have.
-fn push_endpoint_of_none(
-    remarks: &mut Vec<Remark>,
+/// The endpoints whose paths are none of these.
+fn endpoints_outside(
+    alloc: Global,
     given: &BTreeSet<Path>,
-    index: usize,
-    endpoint: &EndpointEntry<'_>,
-) -> Result<(), AllocError>
-    ensures { let at = endpoint.now.at in OnOk result (remarks.new.items ≡ remarks.old.items
-        ++ if_so (not (is_path_text at && contains path_cmp given.now (path_at at))) (Remark.EndpointOfNone index)) }
+    endpoints: &[EndpointEntry<'_>],
+) -> Result<Vec<Remark>, AllocError>
+    ensures { IfOk result (λ v. v.items ≡ endpoints_outside given.now endpoints.now) }
 {
-    let has_guest = is_given(given, &endpoint.at);
-    push_if(remarks, Remark::EndpointOfNone(index), !has_guest)
+    endpoints
+        .iter()
+        .enumerate()
+        .filter(|(_, endpoint)| !is_given(given, &endpoint.at))
+        .map(|(index, _)| Remark::EndpointOfNone(index))
+        .collect(alloc)
 }
 
-/// Appends the endpoints that no guest has, also where there are no guests.
-fn push_all_endpoints_of_none(
-    alloc: Global,
-    remarks: &mut Vec<Remark>,
-    file: &FileEntries<'_>,
-) -> Result<(), AllocError>
-    ensures { OnOk result (remarks.new.items
-        ≡ remarks.old.items ++ all_endpoints_of_none file.now) }
-{
-    let given = given_paths(alloc, &file.guests)?;
-    'endpoints: for (index, endpoint) in file.endpoints.iter().enumerate() {
-        push_endpoint_of_none(remarks, &given, index, endpoint)?;
-    }
-    Ok(())
-}
-
-/// Appends the endpoints that no guest has, where there are guests.
-fn push_endpoints_of_none(
-    alloc: Global,
-    remarks: &mut Vec<Remark>,
-    file: &FileEntries<'_>,
-) -> Result<(), AllocError>
-    ensures { OnOk result (remarks.new.items ≡ remarks.old.items ++ endpoints_of_none file.now) }
+/// The endpoints that no guest has, where there are guests.
+fn endpoints_of_none(alloc: Global, file: &FileEntries<'_>) -> Result<Vec<Remark>, AllocError>
+    ensures { IfOk result (λ v. v.items ≡ endpoints_of_none file.now) }
 {
     if file.guests.len() == 0 {
-        return Ok(());
+        return Ok(Vec::new(alloc));
     }
-    push_all_endpoints_of_none(alloc, remarks, file)
+    let given = given_paths(alloc, &file.guests)?;
+    endpoints_outside(alloc, &given, &file.endpoints)
 }
 
-/// Appends a guest, where it has no slots.
-fn push_guest_without_slots(
-    remarks: &mut Vec<Remark>,
-    index: usize,
-    guest: &GuestEntry<'_>,
-) -> Result<(), AllocError>
-    ensures { OnOk result (remarks.new.items
-        ≡ remarks.old.items ++ guest_without_slots (index, guest.now)) }
+/// The guests that have no slots.
+fn guests_without_slots(alloc: Global, guests: &[GuestEntry<'_>]) -> Result<Vec<Remark>, AllocError>
+    ensures { IfOk result (λ v. v.items ≡ guests_without_slots guests.now) }
 {
-    push_if(
-        remarks,
-        Remark::GuestWithoutSlots(index),
-        guest.slots.len() == 0,
-    )
-}
-
-/// Appends the guests that have no slots.
-fn push_guests_without_slots(
-    remarks: &mut Vec<Remark>,
-    file: &FileEntries<'_>,
-) -> Result<(), AllocError>
-    ensures { OnOk result (remarks.new.items
-        ≡ remarks.old.items ++ guests_without_slots file.now) }
-{
-    'guests: for (index, guest) in file.guests.iter().enumerate() {
-        push_guest_without_slots(remarks, index, guest)?;
-    }
-    Ok(())
+    guests
+        .iter()
+        .enumerate()
+        .filter(|(_, guest)| guest.slots.len() == 0)
+        .map(|(index, _)| Remark::GuestWithoutSlots(index))
+        .collect(alloc)
 }
 
 /// What is warned of in a file, by the table of its board and its apertures.
@@ -198,10 +121,11 @@ pub(crate) fn warnings(
         (b : Board) → IsTableOf b table.now
         → v.items ≡ warnings warned file.now b apertures.now) }
 {
-    let mut remarks = Vec::new(alloc);
-    push_empty_bridges(alloc, &mut remarks, file)?;
-    push_endpoints_of_none(alloc, &mut remarks, file)?;
-    push_guests_without_slots(&mut remarks, file)?;
+    let mut remarks = empty_bridges(alloc, file)?;
+    let endpoints = endpoints_of_none(alloc, file)?;
+    remarks.extend_from_slice(&endpoints)?;
+    let guests = guests_without_slots(alloc, &file.guests)?;
+    remarks.extend_from_slice(&guests)?;
     push_wide_apertures(alloc, &mut remarks, warned, table, apertures)?;
     Ok(remarks)
 }

@@ -28,10 +28,10 @@ use Rattle.diagnostics.specs.declared.entry_places.Other.{Other}
 use Rattle.board_refusal.specs.declared.told.Told.{Told}
 use Rattle.board_refusal.specs.Spoiling.{is_clear}
 use Rattle.board_refusal.specs.AllProblems.{with_check, all_from, later_checks}
-use Rattle.board_refusal.specs.PatternCauses.{keyed_text, masks_text}
+use Rattle.board_refusal.specs.PatternCauses.{masks_text}
 use Rattle.board_refusal.specs.RegisterCauses.{taker_of}
 use Rattle.board_refusal.specs.Others.{other_of}
-use Rattle.board_refusal.specs.Causes.{own_text, beside_text, cause_text}
+use Rattle.board_refusal.specs.Causes.{own_text, others_text, cause_text}
 use Rattle.board_refusal.specs.Telling.{found_in, IsTold}
 use Rattle.board_refusal.specs.CauseLaws.{needs_cause, CausesAreTold}
 use Rattle.board_file.proofs.Searches.{no_position, not_empty, both_empty}
@@ -40,14 +40,11 @@ use Rattle.board_refusal.proofs.Takers.{no_takers}
 -- ---- texts
 
 -- where nothing is said of another entry there is none
-none_beside : (t o : Option Other) → beside_text t o ≡ [] → (t ≡ None) × (o ≡ None)
+none_beside : (t o : Option Other) → others_text t o ≡ [] → (t ≡ None) × (o ≡ None)
 none_beside t o e = grind arith
 
-keyed : (key words : List ℕ) → keyed_text key words ≢ []
-keyed key words e = not_empty 58 (32 ∷ (key ++ words)) e
-
 masks_said : (n : ℕ) (p : Patterns) → masks_text n p ≢ []
-masks_said n p = grind (arith, keyed)
+masks_said n p = grind (arith, not_empty)
 
 -- ---- why something is said
 

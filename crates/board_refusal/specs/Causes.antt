@@ -1,7 +1,7 @@
 -- What is said of a problem beyond the words of its rule.
 --     path_cause_text      what is said of the path of a function or a slot
 --     own_text      what is said of an entry that breaks a rule at a key
---     beside_text      the region without registers of its own and the one that it meets, with their lines
+--     others_text      the region without registers of its own and the one that it meets, with their lines
 --     cause_text      all of this
 use Rattle.std.specs.Prelude.{ℕ, nat_abs, List, [], ◌++◌, codes, Option, Some, None}
 use Rattle.std.specs.Option.{option_map_or}
@@ -13,14 +13,14 @@ use Rattle.board_file.specs.declared.rule.Rule.{Rule}
 use Rattle.board_file.specs.declared.rule.Rule.TheVariants as rule
 use Rattle.board_file.specs.Tables.{level_of}
 use Rattle.diagnostics.specs.declared.entry_places.Other.{Other}
-use Rattle.diagnostics.specs.Texts.{named_text, other_text}
+use Rattle.diagnostics.specs.EntryPlaces.{other_text, beside_text}
 use Rattle.board_refusal.specs.declared.told.Told.{Told}
 use Rattle.board_refusal.specs.KeyCauses.{known_text, asked_text}
 use Rattle.board_refusal.specs.SizeCauses.{bar_text}
 use Rattle.board_refusal.specs.ApertureCauses.{first_words, io_parts, mem_parts, pref_text}
 use Rattle.board_refusal.specs.PatternCauses.{masks_text}
 use Rattle.board_refusal.specs.PathCauses.{path_form_text, bridge_text, zero_text, slot_text}
-use Rattle.board_refusal.specs.Said.{bar_of, config_of, at_of}
+use Rattle.board_refusal.specs.EntryValues.{bar_of, config_of, at_of}
 
 abbrev pub at_text : List Standing → Rule → List ℕ → List ℕ
 at_text ss rule.Path at = path_form_text at
@@ -56,11 +56,11 @@ own_text f e _ k = []
 -- why a region has no registers of its own
 abbrev pub met_text : Option Other → List ℕ
 met_text None = codes " is of a 64-bit kind, which takes two registers, and begins at the last"
-met_text (Some o) = codes " takes a register of " ++ named_text o
+met_text (Some o) = codes " takes a register of " ++ other_text o
 
-abbrev pub beside_text : Option Other → Option Other → List ℕ
-beside_text None o = other_text o
-beside_text (Some t) o = codes ": " ++ named_text t ++ met_text o
+abbrev pub others_text : Option Other → Option Other → List ℕ
+others_text None o = beside_text o
+others_text (Some t) o = codes ": " ++ other_text t ++ met_text o
 
 abbrev pub cause_text : File → Told → List ℕ
-cause_text f t = own_text f t.problem.entry t.problem.rule t.problem.key.now ++ beside_text t.taker t.other
+cause_text f t = own_text f t.problem.entry t.problem.rule t.problem.key.now ++ others_text t.taker t.other

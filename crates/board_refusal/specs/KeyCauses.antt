@@ -37,12 +37,9 @@ abbrev pub keys_text : List Field → List ℕ
 keys_text [] = []
 keys_text (f ∷ fs) = f.key ++ flat_map with_comma fs
 
-abbrev pub all_text : List Field → List ℕ
-all_text fs = codes ", which has " ++ keys_text fs
-
 abbrev pub meant_text : List Field → Option (List ℕ) → List ℕ
 meant_text fs (Some name) = codes ": is " ++ name ++ codes " meant?"
-meant_text fs None = all_text fs
+meant_text fs None = codes ", which has " ++ keys_text fs
 
 abbrev pub known_text : Option Level → List ℕ → List ℕ
 known_text l k = option_map_or (λ l. meant_text (fields l) (nearest k (fields l))) l []

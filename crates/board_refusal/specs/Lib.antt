@@ -1,7 +1,7 @@
 pub mod Spoiling
 pub mod AllProblems
-pub mod Rules
-pub mod Said
+pub mod RuleWords
+pub mod EntryValues
 pub mod KeyCauses
 pub mod SizeCauses
 pub mod ApertureCauses
@@ -10,6 +10,6 @@ pub mod PatternCauses
 pub mod RegisterCauses
 pub mod Others
 pub mod Causes
-pub mod Texts
+pub mod ProblemLines
 pub mod Telling
 pub mod CauseLaws

@@ -38,12 +38,9 @@ abbrev pub pattern_words : ℕ → Option (List ℕ) → List ℕ
 pattern_words n None = []
 pattern_words n (Some text) = first_words (pattern_parts n text)
 
-abbrev pub keyed_text : List ℕ → List ℕ → List ℕ
-keyed_text key words = codes ": " ++ key ++ words
-
 abbrev pub masks_text : ℕ → Patterns → List ℕ
 masks_text n p =
-    if not (length (pattern_words n p.reset) == 0) then keyed_text (codes "reset") (pattern_words n p.reset)
-    else if not (length (pattern_words n p.writable) == 0) then keyed_text (codes "rw") (pattern_words n p.writable)
-    else if not (length (pattern_words n p.clearable) == 0) then keyed_text (codes "w1c") (pattern_words n p.clearable)
+    if not (length (pattern_words n p.reset) == 0) then codes ": reset" ++ pattern_words n p.reset
+    else if not (length (pattern_words n p.writable) == 0) then codes ": rw" ++ pattern_words n p.writable
+    else if not (length (pattern_words n p.clearable) == 0) then codes ": w1c" ++ pattern_words n p.clearable
     else codes ": a bit is in both rw and w1c"

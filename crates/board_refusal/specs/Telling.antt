@@ -17,14 +17,14 @@ use Rattle.board_file.specs.Entries.{File, file}
 use Rattle.diagnostics.specs.declared.place.Place.{Place}
 use Rattle.diagnostics.specs.declared.style.Style.{Style}
 use Rattle.diagnostics.specs.LineNumbers.{line_of}
-use Rattle.diagnostics.specs.EntryPlaces.{IsPlaceOf, line_at, entry_of}
+use Rattle.diagnostics.specs.EntryPlaces.{IsPlaceOf, entry_of}
 use Rattle.board_file.specs.Problems.{Found, found_of}
 use Rattle.board_file.specs.RuleFaults.{fault_of}
 use Rattle.board_refusal.specs.AllProblems.{all_problems, rank}
 use Rattle.board_refusal.specs.declared.told.Told.{Told}
 use Rattle.board_refusal.specs.Others.{other_of}
 use Rattle.board_refusal.specs.RegisterCauses.{taker_of}
-use Rattle.board_refusal.specs.Texts.{unread_text, lines_text}
+use Rattle.board_refusal.specs.ProblemLines.{unread_text, lines_text}
 
 abbrev pub problem_of : Told → Problem
 problem_of t = t.problem
@@ -42,7 +42,7 @@ pub record IsTold (text : List ℕ) (ms : Members) (f : File) (t : Told) : Type 
 
 -- the line of a problem, or 0 where none is known
 abbrev pub line_or_zero : Told → ℕ
-line_or_zero t = unwrap_or (line_at t.place) 0
+line_or_zero t = unwrap_or (option_map (λ p. p.line) t.place) 0
 
 -- those without a line come first, and those of one line keep their order
 pub record IsByLine (found told : List Told) : Type 0 where

@@ -1,21 +1,19 @@
 //! What is said of a problem beyond the words of its rule.
 ghost use Rattle.std.specs.Prelude.{◌≡◌, OnOk};
 ghost use Rattle.lists.specs.Texts.{Adds};
-ghost use Rattle.board_file.specs.Functions.{standings};
-ghost use Rattle.board_refusal.specs.Causes.{patterns_text, path_cause_text, own_text, met_text, beside_text, cause_text};
+ghost use Rattle.board_refusal.specs.Causes.{patterns_text, path_cause_text, own_text, met_text, others_text, cause_text};
 
 use crate::aperture_causes::{io_words, mem_words, pref_words};
+use crate::entry_values::{at_of, bar_of, config_of};
 use crate::key_causes::{push_asked, push_known};
 use crate::path_causes::{push_bridge, push_path_form, push_slot, push_zero};
 use crate::pattern_causes::push_masks;
-use crate::said::{at_of, bar_of, config_of};
 use crate::size_causes::push_bar;
 use crate::told::Told;
 use board_file::entries::FileEntries;
-use board_file::places::FunctionPath;
 use board_file::tables::level_of;
-use board_file::{Entry, Problem, Rule};
-use diagnostics::{Other, push_named, push_other};
+use board_file::{Entry, Problem, Rule, Source};
+use diagnostics::{Beside, Other};
 use std::alloc::{AllocError, Global};
 
 /// Appends what is wrong with the patterns of the region or the block of an entry.
@@ -35,22 +33,20 @@ fn push_patterns(text: &mut String, file: &FileEntries<'_>, entry: Entry) -> Res
 fn push_path(
     alloc: Global,
     text: &mut String,
-    file: &FileEntries<'_>,
-    functions: &[FunctionPath],
+    source: &Source<'_>,
     problem: &Problem<'_>,
 ) -> Result<(), AllocError>
-    requires { functions.now ≡ standings file.now }
     ensures { let p = problem.now in OnOk result (Adds text.old text.new
-        (path_cause_text file.now p.entry p.rule)) }
+        (path_cause_text source.now.file p.entry p.rule)) }
 {
-    let Some(at) = at_of(file, problem.entry) else {
+    let Some(at) = at_of(&source.file, problem.entry) else {
         return Ok(());
     };
     match problem.rule {
         Rule::Path => push_path_form(alloc, text, at),
-        Rule::BehindBridge => push_bridge(text, functions, at),
+        Rule::BehindBridge => push_bridge(text, &source.functions, at),
         Rule::FunctionZero => push_zero(text, at),
-        Rule::NamesEndpoint => push_slot(alloc, text, functions, at),
+        Rule::NamesEndpoint => push_slot(alloc, text, &source.functions, at),
         _ => Ok(()),
     }
 }
@@ -59,14 +55,13 @@ fn push_path(
 fn push_own(
     alloc: Global,
     text: &mut String,
-    file: &FileEntries<'_>,
-    functions: &[FunctionPath],
+    source: &Source<'_>,
     problem: &Problem<'_>,
 ) -> Result<(), AllocError>
-    requires { functions.now ≡ standings file.now }
     ensures { let p = problem.now in OnOk result (Adds text.old text.new
-        (own_text file.now p.entry p.rule p.key.now)) }
+        (own_text source.now.file p.entry p.rule p.key.now)) }
 {
+    let file = &source.file;
     let level = level_of(problem.entry);
     match problem.rule {
         Rule::Known => push_known(alloc, text, level, problem.key),
@@ -80,7 +75,7 @@ fn push_own(
         Rule::MemAperture => text.push_str(mem_words(file.mem)),
         Rule::PrefAperture => text.push_str(pref_words(file.mem, file.pref)),
         Rule::Path | Rule::BehindBridge | Rule::FunctionZero | Rule::NamesEndpoint => {
-            push_path(alloc, text, file, functions, problem)
+            push_path(alloc, text, source, problem)
         }
         _ => Ok(()),
     }
@@ -91,10 +86,7 @@ fn push_met(text: &mut String, met: Option<Other>) -> Result<(), AllocError>
     ensures { OnOk result (Adds text.old text.new (met_text met)) }
 {
     match met {
-        Some(met) => {
-            text.push_str(" takes a register of ")?;
-            push_named(text, met)
-        }
+        Some(met) => write!(text, " takes a register of {met}"),
         None => text.push_str(
             " is of a 64-bit kind, which takes two registers, and begins at the last",
         ),
@@ -102,20 +94,19 @@ fn push_met(text: &mut String, met: Option<Other>) -> Result<(), AllocError>
 }
 
 /// Appends what other entries have to do with a problem: the region that has no registers of its own, and why.
-fn push_beside(
+fn push_others(
     text: &mut String,
     taker: Option<Other>,
     other: Option<Other>,
 ) -> Result<(), AllocError>
-    ensures { OnOk result (Adds text.old text.new (beside_text taker other)) }
+    ensures { OnOk result (Adds text.old text.new (others_text taker other)) }
 {
     match taker {
         Some(taker) => {
-            text.push_str(": ")?;
-            push_named(text, taker)?;
+            write!(text, ": {taker}")?;
             push_met(text, other)
         }
-        None => push_other(text, other),
+        None => write!(text, "{}", Beside(other)),
     }
 }
 
@@ -123,13 +114,11 @@ fn push_beside(
 pub(crate) fn push_cause(
     alloc: Global,
     text: &mut String,
-    file: &FileEntries<'_>,
-    functions: &[FunctionPath],
+    source: &Source<'_>,
     told: &Told<'_>,
 ) -> Result<(), AllocError>
-    requires { functions.now ≡ standings file.now }
-    ensures { OnOk result (Adds text.old text.new (cause_text file.now told.now)) }
+    ensures { OnOk result (Adds text.old text.new (cause_text source.now.file told.now)) }
 {
-    push_own(alloc, text, file, functions, &told.problem)?;
-    push_beside(text, told.taker, told.other)
+    push_own(alloc, text, source, &told.problem)?;
+    push_others(text, told.taker, told.other)
 }

@@ -1,12 +1,13 @@
 //! What is said of a key that its table doesn't have, and of a value that its key doesn't ask for.
-ghost use Rattle.std.specs.Prelude.{◌≡◌, ◌<◌, map, flat_map, IfOk, OnOk, option_map};
+ghost use Rattle.std.specs.Prelude.{◌≡◌, ◌<◌, Some, map, IfOk, OnOk, option_map};
 ghost use Rattle.lists.specs.Texts.{Adds};
 ghost use Rattle.board_file.specs.Schema.{fields, field_of};
-ghost use Rattle.board_refusal.specs.KeyCauses.{distance, is_off, first_off, nearest, with_comma, keys_text, all_text, meant_text, known_text, form_text, asked_text};
+ghost use Rattle.board_refusal.specs.KeyCauses.{distance, is_off, first_off, nearest, keys_text, meant_text, known_text, form_text, asked_text};
 
 use board_file::keys::fields;
 use board_file::schema::{Field, Form, Level, Words, form_at};
 use std::alloc::{AllocError, Global};
+use std::fmt;
 use strsim::levenshtein;
 
 /// Whether the key of a table has so many letters at least twice, and so many changed make it of the word.
@@ -55,36 +56,23 @@ fn nearest(
     }
 }
 
-/// Appends keys, each after a comma.
-fn push_more(text: &mut String, fields: &[Field]) -> Result<(), AllocError>
-    ensures { OnOk result (Adds text.old text.new (flat_map with_comma (map field_of fields.now))) }
-{
-    'fields: for field in fields {
-        text.push_str(", ")?;
-        text.push_str(field.key)?;
-    }
-    Ok(())
-}
+/// Keys with commas between them.
+#[derive(Clone, Copy)]
+struct Keys<'a>(&'a [Field]);
 
-/// Appends keys with commas between them.
-fn push_keys(text: &mut String, fields: &[Field]) -> Result<(), AllocError>
-    ensures { OnOk result (Adds text.old text.new (keys_text (map field_of fields.now))) }
-{
-    match fields {
-        [] => Ok(()),
-        [first, rest @ ..] => {
-            text.push_str(first.key)?;
-            push_more(text, rest)
+impl<'a> fmt::Display for Keys<'a> {
+    ghost output = { λ k. Some (keys_text (map field_of k.0.now)) };
+
+    fn fmt<W: fmt::Write>(&self, f: &mut fmt::Formatter<W>) -> fmt::Result {
+        let Some((first, rest)) = self.0.split_first() else {
+            return Ok(());
+        };
+        write!(f, "{}", first.key)?;
+        'rest: for field in rest {
+            write!(f, ", {}", field.key)?;
         }
+        Ok(())
     }
-}
-
-/// Appends all keys that there are.
-fn push_all(text: &mut String, fields: &[Field]) -> Result<(), AllocError>
-    ensures { OnOk result (Adds text.old text.new (all_text (map field_of fields.now))) }
-{
-    text.push_str(", which has ")?;
-    push_keys(text, fields)
 }
 
 /// Appends the key that may be meant, or all keys that there are.
@@ -97,12 +85,8 @@ fn push_meant(
         (meant_text (map field_of fields.now) (option_map (λ k. k.now) meant.entry))) }
 {
     match meant {
-        Some(key) => {
-            text.push_str(": is ")?;
-            text.push_str(key)?;
-            text.push_str(" meant?")
-        }
-        None => push_all(text, fields),
+        Some(key) => write!(text, ": is {key} meant?"),
+        None => write!(text, ", which has {}", Keys(fields)),
     }
 }
 

@@ -6,19 +6,19 @@
 
 mod aperture_causes;
 mod causes;
+mod entry_values;
 mod every_check;
 mod key_causes;
 pub mod laws;
 mod others;
 mod path_causes;
 mod pattern_causes;
+mod problem_lines;
+mod refusals;
 mod register_causes;
-mod said;
+mod rule_words;
 mod size_causes;
 mod spoiling;
-mod telling;
-mod texts;
 mod told;
-mod words;
 
-pub use telling::{refusal_text, unread_text};
+pub use refusals::{refusal_text, unread_text};

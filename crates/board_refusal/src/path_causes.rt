@@ -1,13 +1,12 @@
 //! What is said of the path of a function.
-ghost use Rattle.std.specs.Prelude.{◌≡◌, ◌<◌, ◌≤◌, ◌++◌, codes, length, map, take, IfOk, IfSome, OnOk, option_map};
+ghost use Rattle.std.specs.Prelude.{◌≡◌, ◌<◌, ◌≤◌, length, take, IfOk, IfSome, OnOk, option_map};
 ghost use Rattle.lists.specs.Texts.{Adds};
 ghost use Rattle.board_file.specs.PathTexts.{path_at};
-ghost use Rattle.diagnostics.specs.Shown.{shown_byte};
 ghost use Rattle.board_refusal.specs.PathCauses.{without_bus, unpadded, meant_path, path_form_text, is_gap, first_gap, gap_text, bridge_text, zero_text, slot_text};
 
 use board_file::path_text::{PathText, path_of};
 use board_file::places::{FunctionPath, has_bridge};
-use diagnostics::push_shown;
+use diagnostics::Shown;
 use paths::{Part, Path};
 use std::alloc::{AllocError, Global};
 
@@ -56,11 +55,7 @@ pub(crate) fn push_path_form(
     ensures { OnOk result (Adds text.old text.new (path_form_text at.now)) }
 {
     match meant_path(alloc, at.text().as_bytes())? {
-        Some(path) => {
-            text.push_str(": is ")?;
-            push_shown(text, &path)?;
-            text.push_str(" meant?")
-        }
+        Some(path) => write!(text, ": is {} meant?", Shown(&path)),
         None => text.push_str(
             ": write parts of device and function, as 2.0/1.0: devices are 0 to 15, functions 0 to 7, without leading zeros",
         ),
@@ -95,12 +90,12 @@ fn first_gap(functions: &[FunctionPath], at: &[u8]) -> Option<usize>
     (0..at.len()).position(|count| is_gap(functions, at, count))
 }
 
-/// Appends so many bytes as they are shown.
-fn push_front(text: &mut String, bytes: &[u8], count: usize) -> Result<(), AllocError>
+/// So many bytes of a text.
+fn front(bytes: &[u8], count: usize) -> &[u8]
     requires { count ≤ length bytes.now }
-    ensures { OnOk result (Adds text.old text.new (map shown_byte (take count bytes.now))) }
+    ensures { result.now ≡ take count bytes.now }
 {
-    push_shown(text, &bytes[..count])
+    &bytes[..count]
 }
 
 /// Appends the path at which no bridge stands.
@@ -108,8 +103,7 @@ fn push_gap(text: &mut String, at: &[u8], count: usize) -> Result<(), AllocError
     requires { count ≤ length at.now }
     ensures { OnOk result (Adds text.old text.new (gap_text at.now count)) }
 {
-    text.push_str(": no bridge at ")?;
-    push_front(text, at, count)
+    write!(text, ": no bridge at {}", Shown(front(at, count)))
 }
 
 /// Appends the first beginning of a path at which no bridge stands.
@@ -127,23 +121,13 @@ pub(crate) fn push_bridge(
     }
 }
 
-/// Appends so many bytes of a path, with function 0 after them.
-fn push_function_zero(text: &mut String, at: &[u8], count: usize) -> Result<(), AllocError>
-    requires { count ≤ length at.now }
-    ensures { OnOk result (Adds text.old text.new
-        (codes ": no function at " ++ (map shown_byte (take count at.now) ++ codes "0"))) }
-{
-    text.push_str(": no function at ")?;
-    push_front(text, at, count)?;
-    push_shown(text, b"0")
-}
-
 /// Appends function 0 of the device.
 pub(crate) fn push_zero(text: &mut String, at: &PathText<'_>) -> Result<(), AllocError>
     ensures { OnOk result (Adds text.old text.new (zero_text at.now)) }
 {
     let bytes = at.text().as_bytes();
-    push_function_zero(text, bytes, bytes.len().saturating_sub(1))
+    let device = Shown(front(bytes, bytes.len().saturating_sub(1)));
+    write!(text, ": no function at {device}0")
 }
 
 /// Appends what stands at a path that is no endpoint's, or what may be meant by a text that is no path.

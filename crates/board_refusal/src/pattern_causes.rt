@@ -1,7 +1,7 @@
 //! What is said of patterns that are not lawful.
 ghost use Rattle.std.specs.Prelude.{◌≡◌, OnOk, option_map};
 ghost use Rattle.lists.specs.Texts.{Adds};
-ghost use Rattle.board_refusal.specs.PatternCauses.{begins_with_0x, is_digit, are_digits, has_whole_bytes, has_room, pattern_parts, pattern_words, keyed_text, masks_text};
+ghost use Rattle.board_refusal.specs.PatternCauses.{begins_with_0x, is_digit, are_digits, has_whole_bytes, has_room, pattern_parts, pattern_words, masks_text};
 ghost use Rattle.board_refusal.specs.ApertureCauses.{first_words};
 
 use crate::aperture_causes::first_words;
@@ -83,15 +83,6 @@ fn pattern_words(len: u64, text: Option<&str>) -> &'static str
     }
 }
 
-/// Appends what is said of the pattern at a key.
-fn push_keyed(text: &mut String, key: &str, words: &str) -> Result<(), AllocError>
-    ensures { OnOk result (Adds text.old text.new (keyed_text key.now words.now)) }
-{
-    text.push_str(": ")?;
-    text.push_str(key)?;
-    text.push_str(words)
-}
-
 /// Appends what is said of the patterns of a block.
 pub(crate) fn push_masks(
     text: &mut String,
@@ -101,16 +92,16 @@ pub(crate) fn push_masks(
     ensures { OnOk result (Adds text.old text.new (masks_text len patterns.now)) }
 {
     let reset = pattern_words(len, patterns.reset);
-    if reset.len() != 0 {
-        return push_keyed(text, "reset", reset);
+    if !reset.is_empty() {
+        return write!(text, ": reset{reset}");
     }
     let rw = pattern_words(len, patterns.rw);
-    if rw.len() != 0 {
-        return push_keyed(text, "rw", rw);
+    if !rw.is_empty() {
+        return write!(text, ": rw{rw}");
     }
     let w1c = pattern_words(len, patterns.w1c);
-    if w1c.len() != 0 {
-        return push_keyed(text, "w1c", w1c);
+    if !w1c.is_empty() {
+        return write!(text, ": w1c{w1c}");
     }
     text.push_str(": a bit is in both rw and w1c")
 }

@@ -1,9 +1,9 @@
 //! What is said of a size that its kind doesn't allow.
-ghost use Rattle.std.specs.Prelude.{◌≡◌, ◌<◌, ◌≤◌, ◌*◌, ◌^◌, ◌++◌, false, not, int_le, pos, OnOk};
+ghost use Rattle.std.specs.Prelude.{◌≡◌, ◌<◌, ◌≤◌, ◌^◌, ◌++◌, false, not, int_le, pos, OnOk};
 ghost use Rattle.lists.specs.Texts.{Adds};
 ghost use Rattle.model_registers.specs.Declarations.{least_size, greatest_size};
 ghost use Rattle.bars.specs.Kinds.{kind_of};
-ghost use Rattle.board_refusal.specs.SizeCauses.{power_below, limits_text, powers_text, power_text, large_text, size_text, bar_text};
+ghost use Rattle.board_refusal.specs.SizeCauses.{power_below, limits_text, power_text, large_text, size_text, bar_text};
 
 use bars::Kind;
 use board_file::entries::BarEntry;
@@ -52,14 +52,6 @@ fn limits(kind: Kind) -> &'static str
     }
 }
 
-/// Appends a power of two and the next one.
-fn push_powers(text: &mut String, power: u64, next: u64) -> Result<(), AllocError>
-    requires { next ≡ power * 2 }
-    ensures { OnOk result (Adds text.old text.new (powers_text power)) }
-{
-    write!(text, ": no power of two, as 0x{power:x} and 0x{next:x} are")
-}
-
 /// Appends what is wrong with a size within the limits of its kind.
 fn push_power(text: &mut String, size: u64) -> Result<(), AllocError>
     requires some { 0 < size }
@@ -70,7 +62,8 @@ fn push_power(text: &mut String, size: u64) -> Result<(), AllocError>
         return Ok(());
     }
     let power = power_below(size, 1, size);
-    push_powers(text, power, power * 2)
+    let next = power * 2;
+    write!(text, ": no power of two, as 0x{power:x} and 0x{next:x} are")
 }
 
 /// Appends a limit that a size doesn't keep.

@@ -4,5 +4,4 @@ pub mod Confirmed
 pub mod LongerWays
 pub mod LaterLines
 pub mod Ends
-pub mod Pushed
 pub mod MarkTexts

@@ -4,9 +4,9 @@
 --     way_to entry key      the way to the value at a key of an entry; a slot is its value itself
 --     way_told ms entry key      the way to the value at a key of an entry, or where it has none to the entry
 --     IsPlaceOf      the place of a value at the end of this way, or inside the value there, which was confirmed
---     line_at      its line
 --     entry_of      the entry that is told of beside another
-use Rattle.std.specs.Prelude.{◌≡◌, ℕ, codes, List, [], ◌∷◌, ◌++◌, map, Option, option_map, is_some, if◌then◌else◌}
+--     other_text, beside_text      such an entry with its line, and the same after a colon
+use Rattle.std.specs.Prelude.{◌≡◌, ℕ, codes, decimal, List, [], ◌∷◌, ◌++◌, map, Option, Some, None, is_some, if◌then◌else◌}
 use Rattle.toml.specs.Data.{Members}
 use Rattle.diagnostics.specs.declared.steps.Step.{Step}
 use Rattle.diagnostics.specs.declared.steps.Step.TheVariants.{Key, Index}
@@ -15,6 +15,7 @@ use Rattle.diagnostics.specs.Places.{IsPlaceWithin}
 use Rattle.diagnostics.specs.declared.entry_places.Other.{Other}
 use Rattle.board_file.specs.declared.entry.Entry.{Entry}
 use Rattle.board_file.specs.declared.entry.Entry.TheVariants as entry
+use Rattle.diagnostics.specs.EntryTexts.{entry_text}
 use Rattle.board_file.specs.Tables.{value_at}
 
 pub data Turn : Type 0 where
@@ -50,8 +51,17 @@ pub record IsPlaceOf (text : List ℕ) (ms : Members) (e : Entry) (key : List �
   pub leads : map turn way ≡ way_told ms e key
   pub is_place : IsPlaceWithin text ms way p
 
-abbrev pub line_at : Option Place → Option ℕ
-line_at p = option_map (λ p. p.line) p
-
 abbrev pub entry_of : Other → Entry
 entry_of o = o.entry
+
+abbrev pub in_line_text : Option Place → List ℕ
+in_line_text None = []
+in_line_text (Some p) = codes " in line " ++ decimal p.line
+
+-- ENTRY in line LINE
+abbrev pub other_text : Other → List ℕ
+other_text o = entry_text o.entry ++ in_line_text o.place
+
+abbrev pub beside_text : Option Other → List ℕ
+beside_text None = []
+beside_text (Some o) = codes ": " ++ other_text o

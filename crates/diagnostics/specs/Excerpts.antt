@@ -3,8 +3,15 @@
 --     line_row      the number of a place's line and what stands in it
 --     mark_row      marks below the part of the place that is shown
 --     excerpt      both
-use Rattle.std.specs.Prelude.{ℕ, ◌-◌, nat_le, List, ◌++◌, codes, decimal, length, map, take, drop, if◌then◌else◌}
+--     shown_text      the line of a place, with marks where it has a value, where lines are shown
+--     below_text      the same at a key of an entry
+use Rattle.std.specs.Prelude.{ℕ, ◌-◌, Bool, nat_le, List, [], ◌++◌, codes, decimal, length, map, take, drop, Option, Some, None, is_some, if◌then◌else◌}
+use Rattle.toml.specs.Data.{Members}
+use Rattle.board_file.specs.Tables.{value_at}
+use Rattle.board_file.specs.declared.entry.Entry.{Entry}
 use Rattle.diagnostics.specs.declared.place.Place.{Place}
+use Rattle.diagnostics.specs.declared.style.Style.{Style}
+use Rattle.diagnostics.specs.declared.style.Style.TheVariants.{Plain, WithExcerpts}
 use Rattle.diagnostics.specs.LineParts.{line_before, line_after}
 use Rattle.diagnostics.specs.Characters.{characters, blank, marks}
 
@@ -31,3 +38,12 @@ mark_row text p =
 
 abbrev pub excerpt : List ℕ → Place → List ℕ
 excerpt text p = line_row text p ++ mark_row text p
+
+-- a key that is missing has no value to mark
+abbrev pub shown_text : Style → List ℕ → Bool → Option Place → List ℕ
+shown_text Plain text has_value o = []
+shown_text WithExcerpts text has_value None = []
+shown_text WithExcerpts text has_value (Some p) = if has_value then excerpt text p else line_row text p
+
+abbrev pub below_text : Style → Members → List ℕ → Entry → List ℕ → Option Place → List ℕ
+below_text style ms text e k place = shown_text style text (is_some (value_at ms e k)) place

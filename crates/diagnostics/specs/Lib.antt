@@ -7,6 +7,7 @@ pub mod LineParts
 pub mod Characters
 pub mod Excerpts
 pub mod Shown
+pub mod EntryTexts
 pub mod Integers
 pub mod EntryPlaces
-pub mod Texts
+pub mod Heads

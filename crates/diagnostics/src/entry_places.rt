@@ -1,14 +1,16 @@
 //! The places of entries, with their lines.
-ghost use Rattle.std.specs.Prelude.{◌≡◌, IfOk, IfSome, map, option_map};
+ghost use Rattle.std.specs.Prelude.{◌≡◌, IfOk, IfSome, Some, map, option_map};
 ghost use Rattle.toml.specs.View.{table_view};
-ghost use Rattle.diagnostics.specs.EntryPlaces.{turn, way_of, way_to, line_at, entry_of, IsPlaceOf};
+ghost use Rattle.diagnostics.specs.EntryPlaces.{turn, way_of, way_to, entry_of, other_text, beside_text, IsPlaceOf};
 
 use crate::confirmation::Places;
+use crate::entry_texts::EntryText;
 use crate::place::Place;
 use crate::steps::Step;
 use board_file::Entry;
 use board_file::tables::value_at;
 use std::alloc::{AllocError, Global};
+use std::fmt;
 
 /// An entry that is told of beside that of the problem, as an earlier one that has what another asks for itself,
 /// and its place, where that is known and was confirmed.
@@ -18,13 +20,30 @@ pub struct Other {
     pub place: Option<Place>,
 }
 
-/// The line of a place, where that is known.
-pub fn line_at(place: Option<Place>) -> Option<usize>
-    ensures { result ≡ line_at place }
-{
-    match place {
-        Some(place) => Some(place.line),
-        None => None,
+impl fmt::Display for Other {
+    ghost output = { λ o. Some (other_text o) };
+
+    fn fmt<W: fmt::Write>(&self, f: &mut fmt::Formatter<W>) -> fmt::Result {
+        let entry = EntryText(self.entry);
+        match self.place {
+            Some(place) => write!(f, "{entry} in line {}", place.line),
+            None => write!(f, "{entry}"),
+        }
+    }
+}
+
+/// Such an entry after a colon, where there is one.
+#[derive(Clone, Copy)]
+pub struct Beside(pub Option<Other>);
+
+impl fmt::Display for Beside {
+    ghost output = { λ b. Some (beside_text b.0) };
+
+    fn fmt<W: fmt::Write>(&self, f: &mut fmt::Formatter<W>) -> fmt::Result {
+        match self.0 {
+            Some(other) => write!(f, ": {other}"),
+            None => Ok(()),
+        }
     }
 }
 

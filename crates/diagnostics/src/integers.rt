@@ -1,12 +1,11 @@
 //! An integer as a file writes it.
-ghost use Rattle.std.specs.Prelude.{◌≡◌, OnOk};
-ghost use Rattle.lists.specs.Texts.{Adds};
-ghost use Rattle.diagnostics.specs.Integers.{part_at, is_of_word, is_one_word, word_text, integer_text};
+ghost use Rattle.std.specs.Prelude.{◌≡◌, Some};
+ghost use Rattle.diagnostics.specs.Integers.{part_at, is_of_word, is_one_word, integer_text};
 
 use crate::line_parts::{bytes_from, first_bytes};
 use crate::place::Place;
-use crate::shown::push_shown;
-use std::alloc::AllocError;
+use crate::shown::Shown;
+use std::fmt;
 
 /// What stands at a place of a text.
 fn part_at(text: &[u8], place: Place) -> &[u8]
@@ -32,28 +31,29 @@ fn is_one_word(bytes: &[u8]) -> bool
     bytes.iter().all(|byte| is_of_word(*byte))
 }
 
-/// Appends an integer as it is written, or in decimal where that is no word.
-fn push_word(text: &mut String, word: &[u8], number: i64) -> Result<(), AllocError>
-    ensures { OnOk result (Adds text.old text.new (word_text word.now number)) }
-{
-    if is_one_word(word) {
-        push_shown(text, word)
-    } else {
-        write!(text, "{number}")
-    }
+/// An integer as it stands at its place in a text, or in decimal where that is not known or is no word.
+#[derive(Clone, Copy)]
+pub(crate) struct Integer<'a> {
+    pub(crate) text: &'a [u8],
+    pub(crate) place: Option<Place>,
+    pub(crate) number: i64,
 }
 
-/// Appends an integer as it stands at its place, or in decimal where that is not known.
-pub(crate) fn push_integer(
-    text: &mut String,
-    bytes: &[u8],
-    place: Option<Place>,
-    number: i64,
-) -> Result<(), AllocError>
-    ensures { OnOk result (Adds text.old text.new (integer_text bytes.now place number)) }
-{
-    match place {
-        Some(place) => push_word(text, part_at(bytes, place), number),
-        None => write!(text, "{number}"),
+impl<'a> fmt::Display for Integer<'a> {
+    ghost output = { λ i. Some (integer_text i.text.now i.place i.number) };
+
+    fn fmt<W: fmt::Write>(&self, f: &mut fmt::Formatter<W>) -> fmt::Result {
+        let number = self.number;
+        match self.place {
+            Some(place) => {
+                let word = part_at(self.text, place);
+                if is_one_word(word) {
+                    write!(f, "{}", Shown(word))
+                } else {
+                    write!(f, "{number}")
+                }
+            }
+            None => write!(f, "{number}"),
+        }
     }
 }

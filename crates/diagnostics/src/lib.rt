@@ -9,27 +9,26 @@ mod confirmation;
 mod cuts;
 mod descent;
 mod entry_places;
+mod entry_texts;
+mod excerpts;
+mod heads;
 mod integers;
 mod line_numbers;
 mod line_parts;
 mod marking;
 mod place;
-mod rows;
 mod scanning;
 mod shapes;
 mod shown;
 mod steps;
 mod style;
-mod texts;
 
 pub use confirmation::Places;
-pub use entry_places::{Other, line_at, place_of, with_place};
+pub use entry_places::{Beside, Other, place_of, with_place};
+pub use excerpts::{push_below, push_shown_line};
+pub use heads::{Head, LineNumber};
 pub use line_numbers::line_of;
 pub use place::Place;
-pub use rows::{push_excerpt, push_line};
-pub use shown::push_shown;
+pub use shown::{Shown, push_shown};
 pub use steps::Step;
 pub use style::{Style, Telling};
-pub use texts::{
-    push_below, push_line_number, push_named, push_other, push_place, push_shown_line,
-};

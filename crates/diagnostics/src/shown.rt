@@ -1,10 +1,10 @@
-//! How bytes, entries and lines are shown.
-ghost use Rattle.std.specs.Prelude.{◌≡◌, ◌<◌, ◌++◌, ◌∷◌, [], OnOk, map, string_bytes};
+//! How bytes, texts and keys are shown.
+ghost use Rattle.std.specs.Prelude.{◌≡◌, ◌<◌, Some, OnOk, map};
 ghost use Rattle.lists.specs.Texts.{Adds};
-ghost use Rattle.diagnostics.specs.Shown.{nth_text, inner_text, entry_text, shown_byte, in_line_text};
+ghost use Rattle.diagnostics.specs.Shown.{shown_byte, quoted_text, key_text};
 
-use board_file::Entry;
 use std::alloc::AllocError;
+use std::fmt;
 
 /// The character that is shown for a byte.
 fn shown_byte(byte: u8) -> char
@@ -18,66 +18,51 @@ fn shown_byte(byte: u8) -> char
     }
 }
 
-/// Appends a byte as it is shown.
-fn push_byte(text: &mut String, byte: u8) -> Result<(), AllocError>
-    ensures { OnOk result (string_bytes text.new
-        ≡ string_bytes text.old ++ shown_byte byte ∷ []) }
-{
-    text.push(shown_byte(byte))
+/// Bytes as they are shown.
+#[derive(Clone, Copy)]
+pub struct Shown<'a>(pub &'a [u8]);
+
+impl<'a> fmt::Display for Shown<'a> {
+    ghost output = { λ s. Some (map shown_byte s.0.now) };
+
+    fn fmt<W: fmt::Write>(&self, f: &mut fmt::Formatter<W>) -> fmt::Result {
+        'bytes: for byte in self.0 {
+            write!(f, "{}", shown_byte(*byte))?;
+        }
+        Ok(())
+    }
 }
 
-/// Appends the bytes as they are shown.
+/// Appends bytes as they are shown.
 pub fn push_shown(text: &mut String, bytes: &[u8]) -> Result<(), AllocError>
     ensures { OnOk result (Adds text.old text.new (map shown_byte bytes.now)) }
 {
-    'bytes: for byte in bytes {
-        push_byte(text, *byte)?;
-    }
-    Ok(())
+    write!(text, "{}", Shown(bytes))
 }
 
-/// Appends an item of a list.
-fn push_nth(text: &mut String, list: &str, index: usize) -> Result<(), AllocError>
-    ensures { OnOk result (Adds text.old text.new (nth_text list.now index)) }
-{
-    write!(text, "{list}[{index}]")
-}
+/// A text as it is shown, in quotation marks.
+#[derive(Clone, Copy)]
+pub(crate) struct Quoted<'a>(pub(crate) &'a str);
 
-/// Appends an item of a list in an item of another.
-fn push_inner(
-    text: &mut String,
-    outer: &str,
-    i: usize,
-    inner: &str,
-    j: usize,
-) -> Result<(), AllocError>
-    ensures { OnOk result (Adds text.old text.new (inner_text outer.now i inner.now j)) }
-{
-    write!(text, "{outer}[{i}].{inner}[{j}]")
-}
+impl<'a> fmt::Display for Quoted<'a> {
+    ghost output = { λ s. Some (quoted_text s.0.now) };
 
-/// Appends where an entry stands.
-pub(crate) fn push_entry(text: &mut String, entry: Entry) -> Result<(), AllocError>
-    ensures { OnOk result (Adds text.old text.new (entry_text entry)) }
-{
-    match entry {
-        Entry::File => text.push_str("file"),
-        Entry::Host => text.push_str("host"),
-        Entry::Endpoint(i) => push_nth(text, "endpoint", i),
-        Entry::Bar(i, j) => push_inner(text, "endpoint", i, "bar", j),
-        Entry::Config(i, j) => push_inner(text, "endpoint", i, "config", j),
-        Entry::Bridge(i) => push_nth(text, "bridge", i),
-        Entry::Guest(i) => push_nth(text, "guest", i),
-        Entry::Slot(i, j) => push_inner(text, "guest", i, "slots", j),
+    fn fmt<W: fmt::Write>(&self, f: &mut fmt::Formatter<W>) -> fmt::Result {
+        write!(f, "\"{}\"", Shown(self.0.as_bytes()))
     }
 }
 
-/// Appends the line of what is told beside a problem, where it is known.
-pub(crate) fn push_in_line(text: &mut String, line: Option<usize>) -> Result<(), AllocError>
-    ensures { OnOk result (Adds text.old text.new (in_line_text line)) }
-{
-    match line {
-        Some(line) => write!(text, " in line {line}"),
-        None => Ok(()),
+/// A key after a dot, where there is one.
+#[derive(Clone, Copy)]
+pub(crate) struct Key<'a>(pub(crate) &'a str);
+
+impl<'a> fmt::Display for Key<'a> {
+    ghost output = { λ k. Some (key_text k.0.now) };
+
+    fn fmt<W: fmt::Write>(&self, f: &mut fmt::Formatter<W>) -> fmt::Result {
+        if self.0.is_empty() {
+            return Ok(());
+        }
+        write!(f, ".{}", Shown(self.0.as_bytes()))
     }
 }

@@ -1,0 +1,12 @@
+use Rattle.std.proofs.Common.{rules}
+use Rattle.std.proofs.lemmas.List.Sorted.{answers_always, IsNonDecreasingBy-from_sort_by_key}
+use Rattle.board_refusal.specs.Telling.{line_or_zero}
+use Rattle.board_refusal.proofs.refusals.sort_by_line.Goals as goal
+
+pub returns : goal.returns
+returns c =
+    let sort = c.in_ok-sort_by_key.ensures in record {
+      are_same = sort.permutation;
+      in_order = IsNonDecreasingBy-from_sort_by_key line_or_zero _ sort.sorted (λ a r q k. search rules);
+      is_stable = sort.stable line_or_zero (answers_always _ _ _ (λ f a r g h. search rules));
+    }

@@ -1,5 +1,0 @@
-use Rattle.std.proofs.Common.{arith}
-use Rattle.board_refusal.proofs.telling.place_of_error.Goals as goal
-
-pub returns-in-Some : goal.returns-in-Some
-returns-in-Some c = grind arith

@@ -1,0 +1,27 @@
+//! How entries are shown.
+ghost use Rattle.std.specs.Prelude.{Some};
+ghost use Rattle.diagnostics.specs.EntryTexts.{entry_text};
+
+use board_file::Entry;
+use std::fmt;
+
+/// Where an entry stands in its file.
+#[derive(Clone, Copy)]
+pub(crate) struct EntryText(pub(crate) Entry);
+
+impl fmt::Display for EntryText {
+    ghost output = { λ e. Some (entry_text e.0) };
+
+    fn fmt<W: fmt::Write>(&self, f: &mut fmt::Formatter<W>) -> fmt::Result {
+        match self.0 {
+            Entry::File => write!(f, "file"),
+            Entry::Host => write!(f, "host"),
+            Entry::Endpoint(i) => write!(f, "endpoint[{i}]"),
+            Entry::Bar(i, j) => write!(f, "endpoint[{i}].bar[{j}]"),
+            Entry::Config(i, j) => write!(f, "endpoint[{i}].config[{j}]"),
+            Entry::Bridge(i) => write!(f, "bridge[{i}]"),
+            Entry::Guest(i) => write!(f, "guest[{i}]"),
+            Entry::Slot(i, j) => write!(f, "guest[{i}].slots[{j}]"),
+        }
+    }
+}
