@@ -35,13 +35,14 @@ gaps u rs = u.extent - bytes_of rs
 -- of a pool that takes more than 2 ^ 63 bytes it isn't told
 abbrev pub gaps_text : List ℕ → Option PoolUse → List PoolRegion → List ℕ
 gaps_text name None rs = []
-gaps_text name (Some u) rs = name ++ codes ": gaps take " ++ hexadecimal (gaps u rs) ++ codes " of them\n"
+gaps_text name (Some u) rs = name ++ (codes ": gaps take " ++ (hexadecimal (gaps u rs) ++ codes " of them\n"))
 
 -- from the first address of the present aperture on
 abbrev pub least_text : List ℕ → Aperture → Option Aperture → List ℕ
-least_text name x None = name ++ codes ": no aperture from " ++ hexadecimal x.first ++ codes " on fits\n"
+least_text name x None = name ++ (codes ": no aperture from " ++ (hexadecimal x.first ++ codes " on fits\n"))
 least_text name x (Some y) =
-    name ++ codes ": the least aperture that fits is " ++ hexadecimal y.first ++ codes " to " ++ hexadecimal y.last ++ codes "\n"
+    name
+    ++ (codes ": the least aperture that fits is " ++ (hexadecimal y.first ++ (codes " to " ++ (hexadecimal y.last ++ codes "\n"))))
 
 abbrev pub aperture_text : List ℕ → Option Aperture → Option Aperture → List ℕ
 aperture_text name None o = []

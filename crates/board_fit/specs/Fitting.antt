@@ -19,7 +19,8 @@ use Rattle.board_fit.specs.Shortages.{pool_words}
 abbrev pub use_text : Option PoolUse → Text
 use_text None = codes "more than 0x8000000000000000 bytes used"
 use_text (Some u) =
-    hexadecimal u.extent ++ codes " of " ++ hexadecimal u.room ++ codes " bytes used, from " ++ hexadecimal u.first ++ codes " on"
+    hexadecimal u.extent
+    ++ (codes " of " ++ (hexadecimal u.room ++ (codes " bytes used, from " ++ (hexadecimal u.first ++ codes " on"))))
 
 abbrev pub pool_text : Board → Apertures → Pool → Text
 pool_text b a pool =

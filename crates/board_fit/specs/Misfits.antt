@@ -38,8 +38,12 @@ closed_region i k (j, b) = remark.ClosedRegion i j k
 abbrev pub closed_bars : ℕ → ℕ → List Bar → List Remark
 closed_bars i k bars = map (closed_region i k) (filter (λ p. is_io p.1.kind) (enumerate_from 0 bars))
 
+-- where there is such a bridge
+abbrev pub closed_by : ℕ → Option ℕ → List Bar → List Remark
+closed_by i o bars = option_map_or (λ k. closed_bars i k bars) o []
+
 unfoldable pub closed_in : List Bridge → ℕ × Endpoint → List Remark
-closed_in bs (i, e) = option_map_or (λ k. closed_bars i k e.bars) (first_closed bs (path_at e.at)) []
+closed_in bs (i, e) = closed_by i (first_closed bs (path_at e.at)) e.bars
 
 abbrev pub closed_regions : File → List Remark
 closed_regions f = flat_map (closed_in f.bridges) (enumerate_from 0 f.endpoints)

@@ -1,12 +1,13 @@
 -- What is told of a board file whose board is judged.
---     line_of      the line of a remark
+--     said_text      a remark with what stands beside it
+--     line_of      its line
 --     told_text      the same, with the line of the file below it where that is asked
 --     IsLocated text ms l      the place of a remark, where there is one, is that of the value at its key, and so is
 --                              that of the other entry
 --     AreWarnings style warned name bytes b a text      a line for each thing that is warned of in the file with these
 --                                                       bytes and in its board, in order
 --     AreReasons style name bytes f text      the same for all in the file that is why its board can't be set up
-use Rattle.std.specs.Prelude.{◌≡◌, ℕ, List, ◌++◌, codes, map, flat_map, Some, option_map, IfSome}
+use Rattle.std.specs.Prelude.{◌≡◌, ℕ, List, ◌++◌, codes, map, flat_map, Option, Some, option_map, IfSome}
 use Rattle.toml.specs.Data.{Members}
 use Rattle.toml.specs.Parse.{parse_document}
 use Rattle.lists.specs.Elements.{Each}
@@ -15,6 +16,7 @@ use Rattle.model_board.specs.Board.{Board}
 use Rattle.bus_scan.specs.declared.fault.Fault.{Fault}
 use Rattle.board_file.specs.Entries.{file}
 use Rattle.diagnostics.specs.EntryPlaces.{IsPlaceOf, beside_text, entry_of as other_entry}
+use Rattle.diagnostics.specs.declared.entry_places.Other.{Other}
 use Rattle.diagnostics.specs.Excerpts.{below_text}
 use Rattle.diagnostics.specs.Heads.{head_text}
 use Rattle.diagnostics.specs.declared.style.Style.{Style}
@@ -26,10 +28,13 @@ use Rattle.board_fit.specs.Remarks.{entry_of, key_of, label_of, remark_text, oth
 use Rattle.board_fit.specs.Misfits.{reasons}
 
 -- FILE:LINE: LABEL ENTRY.KEY = VALUE of OWNER: what is said
+abbrev pub said_text : Remark → Option Other → List ℕ
+said_text r o = remark_text r ++ (beside_text o ++ codes "\n")
+
 abbrev pub line_of : List ℕ → Members → List ℕ → Located → List ℕ
 line_of name ms bytes l =
     head_text name (label_of l.remark) ms bytes (entry_of l.remark) (key_of l.remark) l.place
-    ++ codes ": " ++ remark_text l.remark ++ beside_text l.other ++ codes "\n"
+    ++ codes ": " ++ said_text l.remark l.other
 
 abbrev pub told_text : Style → List ℕ → Members → List ℕ → Located → List ℕ
 told_text style name ms bytes l =

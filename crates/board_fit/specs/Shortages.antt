@@ -62,4 +62,5 @@ reason_text (Some s) = need_text s
 
 abbrev pub refusal_line : Text → Option Shortage → Fault → Text
 refusal_line name s f =
-    name ++ codes ": " ++ reason_text s ++ codes " (" ++ decimal (number_of f) ++ codes " " ++ set_up_words f ++ codes ")\n"
+    name
+    ++ (codes ": " ++ (reason_text s ++ (codes " (" ++ (decimal (number_of f) ++ (codes " " ++ (set_up_words f ++ codes ")\n"))))))

@@ -12,6 +12,7 @@ ghost use Rattle.board_fit.specs.Shortages.{IsNeedOf};
 ghost use Rattle.board_fit.specs.Verdicts.{AreCostsOf};
 
 use crate::apertures::aperture_of;
+use crate::hexadecimal::Hexadecimal;
 use crate::largest::{bytes_of, largest};
 use crate::least::least_aperture;
 use crate::pool_region::PoolRegion;
@@ -57,8 +58,8 @@ fn push_gaps(
 {
     match needed {
         Some(used) => {
-            let gaps = gaps(used, regions);
-            writeln!(text, "{name}: gaps take 0x{gaps:x} of them")
+            let gaps = Hexadecimal(gaps(used, regions));
+            writeln!(text, "{name}: gaps take {gaps} of them")
         }
         None => Ok(()),
     }
@@ -73,17 +74,19 @@ fn push_least(
 ) -> Result<(), AllocError>
     ensures { OnOk result (Adds text.old text.new (least_text name.now present least)) }
 {
-    let first = present.first;
     match least {
         Some(least) => {
-            let first = least.first;
-            let last = least.last;
+            let first = Hexadecimal(least.first);
+            let last = Hexadecimal(least.last);
             writeln!(
                 text,
-                "{name}: the least aperture that fits is 0x{first:x} to 0x{last:x}"
+                "{name}: the least aperture that fits is {first} to {last}"
             )
         }
-        None => writeln!(text, "{name}: no aperture from 0x{first:x} on fits"),
+        None => {
+            let first = Hexadecimal(present.first);
+            writeln!(text, "{name}: no aperture from {first} on fits")
+        }
     }
 }
 

@@ -7,6 +7,7 @@ ghost use Rattle.bus_scan.specs.SizedTables.{IsTableOf};
 ghost use Rattle.board_fit.specs.Fitting.{use_text, pool_text, fit_text};
 
 use crate::apertures::aperture_of;
+use crate::hexadecimal::Hexadecimal;
 use crate::shortage::pool_words;
 use bus_scan::FunctionTable;
 use headers::Apertures;
@@ -24,13 +25,10 @@ impl fmt::Display for Use {
     fn fmt<W: fmt::Write>(&self, f: &mut fmt::Formatter<W>) -> fmt::Result {
         match self.0 {
             Some(used) => {
-                let extent = used.extent;
-                let room = used.room;
-                let first = used.first;
-                write!(
-                    f,
-                    "0x{extent:x} of 0x{room:x} bytes used, from 0x{first:x} on"
-                )
+                let extent = Hexadecimal(used.extent);
+                let room = Hexadecimal(used.room);
+                let first = Hexadecimal(used.first);
+                write!(f, "{extent} of {room} bytes used, from {first} on")
             }
             None => write!(f, "more than 0x8000000000000000 bytes used"),
         }

@@ -8,6 +8,7 @@ mod apertures;
 mod costs;
 mod fault_words;
 mod fitting;
+mod hexadecimal;
 mod judging;
 mod largest;
 pub mod laws;

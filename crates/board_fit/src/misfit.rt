@@ -2,7 +2,7 @@
 ghost use Rattle.std.specs.Prelude.{◌≡◌, ◌++◌, IfOk, OnOk};
 ghost use Rattle.bars.specs.Kinds.{kind_of};
 ghost use Rattle.headers.specs.Decodes.{io_decode_of};
-ghost use Rattle.board_fit.specs.Misfits.{is_io, is_closed, closes, first_closed, closed_bars, closed_in, closed_regions, bridge_too_many, reasons};
+ghost use Rattle.board_fit.specs.Misfits.{is_io, is_closed, closes, first_closed, closed_bars, closed_by, closed_in, closed_regions, bridge_too_many, reasons};
 
 use crate::remark::Remark;
 use bars::Kind;
@@ -62,6 +62,26 @@ fn closed_bars(
         .collect(alloc)
 }
 
+/// Appends them, where there is such a bridge.
+fn push_bars(
+    alloc: Global,
+    remarks: &mut Vec<Remark>,
+    endpoint: usize,
+    bridge: Option<usize>,
+    bars: &[BarEntry<'_>],
+) -> Result<(), AllocError>
+    ensures { OnOk result (remarks.new.items
+        ≡ remarks.old.items ++ closed_by endpoint bridge bars.now) }
+{
+    match bridge {
+        Some(bridge) => {
+            let closed = closed_bars(alloc, endpoint, bridge, bars)?;
+            remarks.extend_from_slice(&closed)
+        }
+        None => Ok(()),
+    }
+}
+
 /// Appends the regions of an endpoint that are behind such a bridge.
 #[tactic(auto, unfolding(crate::specs::Misfits::closed_in))]
 fn push_endpoint(
@@ -74,13 +94,8 @@ fn push_endpoint(
     ensures { OnOk result (remarks.new.items
         ≡ remarks.old.items ++ closed_in bridges.now (index, endpoint.now)) }
 {
-    match first_closed(bridges, &endpoint.at.path()) {
-        Some(bridge) => {
-            let closed = closed_bars(alloc, index, bridge, &endpoint.bars)?;
-            remarks.extend_from_slice(&closed)
-        }
-        None => Ok(()),
-    }
+    let bridge = first_closed(bridges, &endpoint.at.path());
+    push_bars(alloc, remarks, index, bridge, &endpoint.bars)
 }
 
 /// Appends the regions of all endpoints that are behind such a bridge.

@@ -3,19 +3,27 @@ ghost use Rattle.std.specs.Prelude.{OnOk};
 ghost use Rattle.std.specs.List.{flat_map};
 ghost use Rattle.lists.specs.Texts.{Adds};
 ghost use Rattle.toml.specs.View.{table_view};
-ghost use Rattle.board_fit.specs.RemarkTexts.{told_text};
+ghost use Rattle.board_fit.specs.RemarkTexts.{said_text, told_text};
 
 use crate::located::Located;
+use crate::remark::Remark;
 use board_file::Source;
-use diagnostics::{Beside, Head, Telling, push_below};
+use diagnostics::{Beside, Head, Other, Telling, push_below};
 use std::alloc::{AllocError, Global};
 
+/// Appends a remark with what stands beside it, and ends the line.
+fn push_said(text: &mut String, remark: Remark, other: Option<Other>) -> Result<(), AllocError>
+    ensures { OnOk result (Adds text.old text.new (said_text remark other)) }
+{
+    writeln!(text, "{remark}{}", Beside(other))
+}
+
 /// Appends what is told of a remark.
-fn push_told(
+fn push_told<'a>(
     alloc: Global,
     text: &mut String,
-    telling: &Telling<'_>,
-    source: &Source<'_>,
+    telling: &Telling<'a>,
+    source: &Source<'a>,
     located: &Located,
 ) -> Result<(), AllocError>
     ensures { let s = source.now in OnOk result (Adds text.old text.new
@@ -31,7 +39,8 @@ fn push_told(
         key: remark.key(),
         place: located.place,
     };
-    writeln!(text, "{head}: {remark}{}", Beside(located.other))?;
+    write!(text, "{head}: ")?;
+    push_said(text, remark, located.other)?;
     push_below(alloc, text, &head)
 }
 
@@ -47,7 +56,7 @@ pub(crate) fn push_remarks(
         (flat_map (told_text telling.now.style telling.now.name.now (table_view s.document.now) s.bytes.now) located.now)) }
 {
     'remarks: for one in located {
-        push_told(alloc, text, telling, source, one)?;
+        push_told(alloc, text, &*telling, &*source, one)?;
     }
     Ok(())
 }

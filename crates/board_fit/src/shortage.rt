@@ -6,6 +6,7 @@ ghost use Rattle.bus_scan.specs.SizedTables.{IsTableOf};
 ghost use Rattle.board_fit.specs.Shortages.{pool_words, pool_of, need_text, shortage_of, refusal_line};
 
 use crate::fault_words::set_up_words;
+use crate::hexadecimal::Hexadecimal;
 use bus_scan::{Fault, FunctionTable};
 use headers::Apertures;
 use std::alloc::{AllocError, Global};
@@ -70,11 +71,13 @@ impl fmt::Display for Shortage {
         let pool = pool_words(self.pool);
         match self.needed {
             Some(needed) => {
-                let extent = needed.extent;
-                let first = needed.first;
-                let room = needed.room;
-                write!(f, "the {pool} needs 0x{extent:x} bytes from 0x{first:x} on")?;
-                write!(f, ", and its aperture has 0x{room:x}")
+                let extent = Hexadecimal(needed.extent);
+                let first = Hexadecimal(needed.first);
+                let room = Hexadecimal(needed.room);
+                write!(
+                    f,
+                    "the {pool} needs {extent} bytes from {first} on, and its aperture has {room}"
+                )
             }
             None => write!(f, "the {pool} needs more than 0x8000000000000000 bytes"),
         }

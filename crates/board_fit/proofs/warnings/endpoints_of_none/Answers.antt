@@ -1,7 +1,24 @@
-use Rattle.std.proofs.Common.{arith}
-use Rattle.std.proofs.lemmas.Grind.{common_steps}
+use Rattle.std.proofs.Common.{◌≡◌, ◌==◌, ℕ, false, List, length, map, ap, sym, subst, ◌∙◌, arith}
+use Rattle.std.specs.Prelude.{◌≢◌}
+use Rattle.std.proofs.lemmas.Result.{IfOk-weaker}
+use Rattle.std.specs.BTreeSet.{IsFromIterResult}
+use Rattle.paths.specs.PathOrders.{path_cmp}
+use Rattle.board_file.specs.Entries.{Guest}
+use Rattle.board_fit.specs.declared.remark.Remark.TheVariants as remark
+use Rattle.board_fit.specs.PathSets.{endpoints_outside, given_paths}
+use Rattle.board_fit.specs.Warnings.{with_index}
 use Rattle.board_fit.proofs.PathSets.{of_none}
 use Rattle.board_fit.proofs.warnings.endpoints_of_none.Goals as goal
 
+none_of : (n : ℕ) → n ≢ 0 → (n == 0) ≡ false
+none_of n other = grind arith
+
 pub returns : goal.returns
-returns c = grind (arith, common_steps, of_none)
+returns c =
+    let given = c.in_ok-given.given in
+    let guests = c.file.inside.guests.items in
+    let set : IsFromIterResult path_cmp (given_paths guests) given =
+    subst (λ (gs : List Guest). IsFromIterResult path_cmp (given_paths gs) given) c.deref.ensures.value c.in_ok-given.ensures in
+    let some : (length guests == 0) ≡ false = ap (λ (n : ℕ). n == 0) (sym (c.len.ensures ∙ c.file.inside.guests.ok.0)) ∙ none_of c.len.result c.if-len-eq0.false in
+    rw (← c.file.view_is, some) (IfOk-weaker c.endpoints_outside.result (λ v. v.items ≡ endpoints_outside given c.deref-2.result.now) _
+    (λ v is. is ∙ ap (endpoints_outside given) c.deref-2.ensures.value ∙ ap (map (with_index remark.EndpointOfNone)) (of_none guests given set _)) c.endpoints_outside.ensures)
