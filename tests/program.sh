@@ -235,9 +235,9 @@ END
 ends_with_fault 'ready, a board at reset' '208 not ready' ready "$boards/main.toml" < /dev/null
 { echo 'host: ok'; cat wanted.out; } > wanted.more; mv wanted.more wanted.out
 ends_with_fault 'ready, a last line without a line feed' '208 not ready' ready "$boards/main.toml" < <(printf 'host mw 0 4 1')
-full 'ready, a board at reset' ready "$boards/main.toml" < /dev/null
 { echo '?: refused 402 unknown guest'; tail -n +2 wanted.out; } > wanted.more; mv wanted.more wanted.out
 ends_with_fault 'ready --strict, lacks and a refused line' '209 refused line' ready --strict "$boards/main.toml" <<< 'a cr 0 0 4'
+full 'ready, a board at reset' ready "$boards/main.toml" < /dev/null
 # --json: the same as a JSON object on one line
 echo '{"lacks":[],"problems":[]}' > wanted.out
 ends_with 'ready --json, no function at all' ready --json "$boards/host_alone.toml" < /dev/null
@@ -460,7 +460,7 @@ hints "$usage" 'usage: pciguest check [--all] [--plain] BOARD; not taken: --all'
 hints "$usage" 'usage: pciguest run [--strict] BOARD; not taken: y' run board.toml y
 hints "$usage" 'usage: pciguest firmware [--strict] BOARD' firmware --strict
 hints "$usage" 'usage: pciguest audit [--json] [--strict] BOARD; not taken: -s' audit -s board.toml
-hints "$usage" 'usage: pciguest ready BOARD; not taken: --strict' ready board.toml --strict
+hints "$usage" 'usage: pciguest ready [--json] [--strict] BOARD; not taken: --plain' ready board.toml --plain
 hints '702 board file' "cannot read 'nothing.toml': no such file" list nothing.toml
 hints '702 board file' "cannot read '': no such file" run ''
 hints '702 board file' "cannot read '.': it is a folder" check .
