@@ -13,7 +13,7 @@ import tempfile
 from collections import Counter
 from pathlib import Path
 
-from audit import random_state
+from audit import audit_json, random_state
 from audited import audit
 from board import Bridge, board_file, path_text
 
@@ -160,6 +160,14 @@ def main():
             (folder / "wanted").write_text(wanted)
             (folder / "came").write_bytes(ran.stdout + ran.stderr)
             print(f"seed {seed}: what is lacking differs, or an answer: see wanted and came in {folder}")
+            sys.exit(1)
+        ran = subprocess.run([chosen.program, "ready", "--json", folder / "board.toml"], input=script.encode(),
+                             capture_output=True, timeout=120)
+        as_json = audit_json.ready_of(told, (folder / "board.toml").read_text())
+        if (ran.returncode, ran.stdout.decode().split("\n")[-2:], ran.stderr) != (end[0], [as_json, ""], end[2]):
+            (folder / "wanted").write_text(as_json)
+            (folder / "came").write_bytes(ran.stdout + ran.stderr)
+            print(f"seed {seed}: what is lacking as JSON differs: see wanted and came in {folder}")
             sys.exit(1)
         kinds.update(kinds_of(told))
         are_ready += is_ready
