@@ -22,7 +22,7 @@ struct image {
 
 static uint8_t file[1 << 16];
 static size_t length;
-static uint64_t state, told[4]; /* of 0 and of 905 to 907 */
+static uint64_t state, told[5]; /* of 0 and of 905 to 908 */
 static int wrong;
 
 /* xorshift64 */
@@ -194,7 +194,7 @@ static void spoil(struct pciguest *machine)
     if (how > 1) {
         image.bytes[below(image.size)] ^= (uint8_t)(1 << below(8));
         number = load_all(machine, &image);
-        IS(number == 0 || (number >= 905 && number <= 907), 1);
+        IS(number == 0 || (number >= 905 && number <= 908), 1);
         told[number ? number - 904 : 0]++;
         return;
     }
@@ -320,7 +320,7 @@ int main(int argc, char **argv)
     elsewhere(&machines[0]);
     for (int n = 0; n < 2; n++)
         pciguest_free(&machines[n]);
-    printf("%" PRIu64 " loaded, %" PRIu64 ", %" PRIu64 " and %" PRIu64 " refused by 905, 906 and 907\n", told[0], told[1], told[2],
-           told[3]);
+    printf("%" PRIu64 " loaded, %" PRIu64 ", %" PRIu64 ", %" PRIu64 " and %" PRIu64 " refused by 905 to 908\n", told[0], told[1],
+           told[2], told[3], told[4]);
     return wrong != 0;
 }

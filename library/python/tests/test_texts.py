@@ -44,10 +44,10 @@ class Texts(unittest.TestCase):
         self.assertTrue(text.startswith("endpoints 769 bridges 255\n") and text.endswith("\n"))
 
     def test_words(self):
-        self.assertEqual(sum(words(each) != "" for each in range(1000)), 44)
+        self.assertEqual(sum(words(each) != "" for each in range(1000)), 45)
         self.assertEqual(words(205), "prefetchable pool")
-        last = ["image", "other functions", "other board", "busy"]
-        self.assertEqual([words(each) for each in (905, 906, 907, 909)], last)
+        last = ["image", "other functions", "other board", "image version", "busy"]
+        self.assertEqual([words(each) for each in range(905, 910)], last)
         self.assertEqual(words(0xFFFFFFFF), "")
         for each in (*range(1000), 0xFFFFFFFF):
             self.assertEqual(strerror(each), words(each))

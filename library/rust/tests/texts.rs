@@ -54,10 +54,13 @@ fn numbers_have_words() {
     let known = (0..1 << 16)
         .filter(|&number| !words(number).is_empty())
         .count();
-    assert_eq!(known, 44);
+    assert_eq!(known, 45);
     assert_eq!(words(205), "prefetchable pool");
-    let last = [905, 906, 907, 909].map(words);
-    assert_eq!(last, ["image", "other functions", "other board", "busy"]);
+    let last = [905, 906, 907, 908, 909].map(words);
+    assert_eq!(
+        last,
+        ["image", "other functions", "other board", "image version", "busy"]
+    );
     assert_eq!(words(u32::MAX), "");
     for number in (0..1000).chain([u32::MAX]) {
         assert_eq!(strerror(number), words(number), "{number}");
