@@ -59,7 +59,13 @@ fn numbers_have_words() {
     let last = [905, 906, 907, 908, 909].map(words);
     assert_eq!(
         last,
-        ["image", "other functions", "other board", "image version", "busy"]
+        [
+            "image",
+            "other functions",
+            "other board",
+            "image version",
+            "busy"
+        ]
     );
     assert_eq!(words(u32::MAX), "");
     for number in (0..1000).chain([u32::MAX]) {
