@@ -1,6 +1,6 @@
 """Images of guests that were changed at random, by 100,000 on each board, and 10,000 of whole machines: tests/library/loads.c
-loads them, under the sanitizers of the compiler where it has them. Each is refused by 905 or 906, or that of a machine by 907,
-and nothing changes, or the guest or the machine is then saved as these bytes; and nothing beyond them is read or written.
+loads them, under the sanitizers of the compiler where it has them. Each is refused by 905, 906 or 908, or that of a machine by
+907, and nothing changes, or the guest or the machine is then saved as these bytes; and nothing beyond them is read or written.
 
     images.py [COUNT]      COUNT in place of 100000
 
@@ -14,7 +14,7 @@ from pathlib import Path
 
 from harness import BOARDS, TOP
 
-TOLD = re.compile(r"(guests|machines): ([0-9]+) loaded, refused by 905: ([0-9]+), by 906: ([0-9]+), by 907: ([0-9]+)\n")
+TOLD = re.compile(r"(guests|machines): ([0-9]+) loaded, refused by 905: ([0-9]+), by 906: ([0-9]+), by 907: ([0-9]+), by 908: ([0-9]+)\n")
 SANITIZERS = ["-fsanitize=address,undefined", "-fno-sanitize-recover=all"]
 # a board with two guests, each of a function with all kinds of cells
 BLOCKS = """[host]
@@ -57,7 +57,7 @@ def main(count):
             print("the compiler has no sanitizers: without them")
         blocks = Path(folder, "blocks.toml")
         blocks.write_text(BLOCKS)
-        print("| Board | Images of | Loaded | 905 | 906 | 907 |\n|---|---|---|---|---|---|")
+        print("| Board | Images of | Loaded | 905 | 906 | 907 | 908 |\n|---|---|---|---|---|---|---|")
         for board in (BOARDS / "main.toml", BOARDS / "kinds.toml", BOARDS / "server.toml", blocks):
             run = subprocess.run([program, board, count, "1"], capture_output=True, text=True, timeout=600)
             told = TOLD.findall(run.stdout)
