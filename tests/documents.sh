@@ -154,8 +154,8 @@ unnamed() {
 }
 holds 'what was asked for, and is not there' unnamed
 
-# ---- the tables of docs/PROMISES.md are those that the crates give
-holds 'tables of docs/PROMISES.md that are old: run tools/promises' tools/promises --check
+# ---- the laws of docs/PROMISES.md stand there as their crates tell them
+holds 'laws that docs/PROMISES.md tells otherwise, or that are gone' tools/promises --check
 
 # ---- examples in the headings of crates: their lines stand in a test, one after the other
 strange_examples() {
