@@ -154,8 +154,8 @@ unnamed() {
 }
 holds 'what was asked for, and is not there' unnamed
 
-# ---- the laws of docs/PROMISES.md stand there as their crates tell them
-holds 'laws that docs/PROMISES.md tells otherwise, or that are gone' tools/promises --check
+# ---- laws and calls that documents name are those of the crates
+holds 'laws and calls that documents tell otherwise, or that are gone' tools/promises --check
 
 # ---- examples in the headings of crates: their lines stand in a test, one after the other
 strange_examples() {
