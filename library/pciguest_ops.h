@@ -89,15 +89,22 @@ static inline void pg_store(uint64_t address, int width, uint32_t value)
 
 /* ---- questions */
 
-/* A reply's last line counts what is told in the lines above it. Whether this one does: as `audit: ok`, `ready: 2 lacks`, or
- * `why: 3 lines`. */
+/* A reply's last line counts what is told in the lines above it. Whether this one does: as `audit: ok`, `ready: 1
+ * problem, 2 lacks`, or `why: 3 lines`. */
 static inline int pg_is_count(const char *line, unsigned long *count)
 {
-    int audit = 0, ready = 0, why = 0;
+    int audit = 0, both = 0, ready = 0, why = 0;
+    unsigned long lacks = 0;
 
     if (sscanf(line, "audit: %lu problem%n", count, &audit) == 1 && audit > 0)
         return 1;
+    if (sscanf(line, "ready: %lu problem%*[s,] %lu lack%n", count, &lacks, &both) == 2 && both > 0) {
+        *count += lacks;
+        return 1;
+    }
     if (sscanf(line, "ready: %lu lack%n", count, &ready) == 1 && ready > 0)
+        return 1;
+    if (sscanf(line, "ready: %lu problem%n", count, &ready) == 1 && ready > 0)
         return 1;
     if (sscanf(line, "why: %lu line%n", count, &why) == 1 && why > 0)
         return 1;

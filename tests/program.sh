@@ -230,7 +230,7 @@ ready: 1.0 bar1 at 0x0 size 0x1000 is closed
 ready: 2.0/0.0 bar0 at 0x0 size 0x100000 is closed
 ready: 2.0/0.0 bar1 at 0x0 size 0x8 is closed
 ready: 2.0/1.0 bar0 at 0x0 size 0x1000000 is closed
-ready: 7 lacks
+ready: 2 problems, 5 lacks
 END
 ends_with_fault 'ready, a board at reset' '208 not ready' ready "$boards/main.toml" < /dev/null
 { echo 'host: ok'; cat wanted.out; } > wanted.more; mv wanted.more wanted.out

@@ -46,7 +46,8 @@ function regions_hold(engine, machine, board) {
 // The text of whether a board is ready, or nothing where a line of it isn't read back: with the functions that it names, and counted.
 function readiness_of(made) {
   const text = made.readiness(), { problems, lacks } = read_readiness(text), all = [...problems, ...lacks];
-  const count = all.length === 0 ? 'ok' : all.length === 1 ? '1 lack' : `${all.length} lacks`;
+  const counted = (them, word) => them.length === 0 ? [] : [`${them.length} ${word}${them.length === 1 ? '' : 's'}`];
+  const count = [...counted(problems, 'problem'), ...counted(lacks, 'lack')].join(', ') || 'ok';
   const is_read = text.endsWith(`ready: ${count}`) && all.every(one => one.of.length > 0 && one.of.every(({ path }) => one.text.includes(path)));
   return new TextEncoder().encode(is_read ? `${text}\n` : '');
 }

@@ -93,9 +93,8 @@ def lacks(board, state):
 def ready(board, state):
     """The lines that say whether a board is ready, with the problems of its audit."""
     wrong, lacking = audit(state)[:-1], lacks(board, state)
-    count = len(wrong) + len(lacking)
-    total = "ok" if not count else "1 lack" if count == 1 else f"{count} lacks"
-    return [*wrong, *(f"ready: {line}" for line in [*lacking, total])]
+    counts = [f"{len(them)} {word}{'s' * (len(them) > 1)}" for them, word in ((wrong, "problem"), (lacking, "lack")) if them]
+    return [*wrong, *(f"ready: {line}" for line in [*lacking, ", ".join(counts) or "ok"])]
 
 
 def shift_windows(firmware, bridge):

@@ -1,9 +1,9 @@
 -- The lines of problems and lacks with the last line.
-use Rattle.std.proofs.Common.{◌≡◌, ◌++◌, ◌+◌, List, [], ◌∷◌, ℕ, map, length, ap, ap₂, sym, ◌∙◌, append-nil}
+use Rattle.std.proofs.Common.{◌≡◌, ◌++◌, List, [], ◌∷◌, ℕ, map, length, ap, ap₂, sym, ◌∙◌, append-nil}
 use Rattle.std.proofs.lemmas.List.{length-map}
 use Rattle.model_guests.specs.Text.{Text, text_of_lines}
 use Rattle.model_findings.specs.AuditText.{problem_text, audit_line}
-use Rattle.model_findings.specs.ReadyText.{lack_text, lack_total, ready_line, ready_text}
+use Rattle.model_findings.specs.ReadyText.{lack_text, ready_total, ready_line, ready_text}
 use Rattle.report.specs.Found.{ended}
 use Rattle.model_guests.proofs.WrittenLines.{text_of_lines-append}
 use Rattle.findings.specs.Findings.{problem_of}
@@ -13,14 +13,15 @@ use Rattle.findings.specs.Findings.{lack_of}
 use Rattle.findings.specs.declared.lack.Lack.{Lack}
 use Rattle.findings_told.specs.Lines.{lack_lines}
 
-abbrev last : ℕ → Text
-last n = ready_line (lack_total n)
+abbrev last : ℕ → ℕ → Text
+last m n = ready_line (ready_total m n)
 
-pub whole_text : (ps : List Problem) (ls : List Lack) (wrong both text : Text) (n : ℕ) → wrong ≡ problem_lines ps → both ≡ wrong ++ lack_lines ls
-    → n ≡ length ps + length ls → text ≡ both ++ ended (last n) → text ≡ ready_text (map problem_of ps) (map lack_of ls)
-whole_text ps ls wrong both text n w b count e =
-    e ∙ ap₂ (λ (x : Text) (m : ℕ). x ++ ended (last m)) started counted
-    ∙ sym (text_of_lines-append (problem_rows ++ lack_rows) (last total ∷ []) ∙ ap (λ y. text_of_lines (problem_rows ++ lack_rows) ++ y) (append-nil (ended (last total))))
+pub whole_text : (ps : List Problem) (ls : List Lack) (wrong both text : Text) → wrong ≡ problem_lines ps → both ≡ wrong ++ lack_lines ls
+    → text ≡ both ++ ended (last (length ps) (length ls)) → text ≡ ready_text (map problem_of ps) (map lack_of ls)
+whole_text ps ls wrong both text w b e =
+    e ∙ ap (λ x. x ++ ended (last (length ps) (length ls))) started
+    ∙ ap₂ (λ m n. text_of_lines (problem_rows ++ lack_rows) ++ ended (last m n)) (sym (length-map ps problem_of)) (sym (length-map ls lack_of))
+    ∙ sym (text_of_lines-append (problem_rows ++ lack_rows) (total ∷ []) ∙ ap (λ y. text_of_lines (problem_rows ++ lack_rows) ++ y) (append-nil (ended total)))
   where
     problem_rows : List Text
     problem_rows = map (λ p. audit_line (problem_text p)) (map problem_of ps)
@@ -28,11 +29,8 @@ whole_text ps ls wrong both text n w b count e =
     lack_rows : List Text
     lack_rows = map (λ l. ready_line (lack_text l)) (map lack_of ls)
 
-    total : ℕ
-    total = length (map problem_of ps) + length (map lack_of ls)
+    total : Text
+    total = last (length (map problem_of ps)) (length (map lack_of ls))
 
     started : both ≡ text_of_lines (problem_rows ++ lack_rows)
     started = b ∙ ap (λ x. x ++ lack_lines ls) w ∙ sym (text_of_lines-append problem_rows lack_rows)
-
-    counted : n ≡ total
-    counted = count ∙ sym (ap₂ ◌+◌ (length-map ps problem_of) (length-map ls lack_of))

@@ -1,7 +1,7 @@
--- Texts that are appended one after the other.
-use Rattle.std.proofs.Common.{◌≡◌, ◌++◌, List, ℕ, map, length, ap, ◌∙◌, append_assoc, append-nil, arith}
+-- The lines of problems and lacks with the last line.
+use Rattle.std.proofs.Common.{◌≡◌, ◌++◌, List, [], ◌∷◌, ℕ, map, length, ◌∙◌, ap₂, sym, append_assoc, append-nil, arith}
 use Rattle.std.proofs.lemmas.List.{length-map}
-use Rattle.model_guests.specs.Text.{Text}
+use Rattle.model_guests.specs.Text.{Text, text_of_lines}
 use Rattle.model_findings.specs.AuditText.{audit_line, total_text, audit_text}
 use Rattle.report.specs.Found.{ended}
 use Rattle.model_guests.proofs.WrittenLines.{text_of_lines-append}
@@ -9,11 +9,11 @@ use Rattle.findings.specs.Findings.{problem_of}
 use Rattle.findings.specs.declared.problem.Problem.{Problem}
 use Rattle.findings_told.specs.Lines.{problem_lines}
 
-pub onto : (old a b t : Text) → t ≡ old ++ a → t ++ b ≡ old ++ (a ++ b)
-onto old a b t e = ap (λ x. x ++ b) e ∙ append_assoc old a b
+pub right_to_left : (a b c d e : Text) → a ++ (b ++ (c ++ (d ++ e))) ≡ a ++ b ++ c ++ d ++ e
+right_to_left a b c d e = simp append_assoc
 
-pub and_then : (old a b t u : Text) → t ≡ old ++ a → u ≡ t ++ b → u ≡ old ++ (a ++ b)
-and_then old a b t u e f = f ∙ onto old a b t e
+pub all_right_to_left : (a b c d e f g : Text) → a ++ (b ++ (c ++ (d ++ (e ++ (f ++ g))))) ≡ a ++ b ++ c ++ d ++ e ++ f ++ g
+all_right_to_left a b c d e f g = simp append_assoc
 
 abbrev last : ℕ → Text
 last n = audit_line (total_text n)

@@ -1,5 +1,5 @@
 -- What lines of why say, from the program's words.
---     address_head, number_head      who answers an address; what a configuration number reaches
+--     answer_text, address_head, number_head      who answers an address; what a configuration number reaches
 --     taking_text      a bridge that takes the cycle for a bus
 --     at_reset_text      how many regions are as at reset
 --     use_text      what the latch makes of a port, if it makes something of it
@@ -22,10 +22,11 @@ use Rattle.findings.specs.WhyTold.{forwarder_told, region_told, why_told, missin
 use Rattle.findings_told.specs.declared.why_line.Line.{Line}
 use Rattle.findings_told.specs.declared.why_line.Line.TheVariants.{Port, Address, Forwarder, Region, AtReset, Number, Taker, Missing, NotFound, Total}
 
+abbrev pub answer_text : model.Why → Text
+answer_text w = option_map_or claim_text w.answer (no_claim_text w.forwarders)
+
 abbrev pub address_head : Space → ℕ → model.Why → Text
-address_head space n w =
-    space_text space ++ codes " " ++ hexadecimal n ++ codes ": "
-    ++ option_map_or claim_text w.answer (no_claim_text w.forwarders)
+address_head space n w = space_text space ++ codes " " ++ hexadecimal n ++ codes ": " ++ answer_text w
 
 abbrev pub at_reset_text : ℕ → Text
 at_reset_text n =

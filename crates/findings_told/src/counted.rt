@@ -6,7 +6,7 @@ ghost use Rattle.model_findings.specs.Lacks.{lack_count};
 ghost use Rattle.model_findings.specs.ReadyText.{ready_text, ready_report};
 ghost use Rattle.findings.specs.Findings.{problem_of, lack_of};
 
-use crate::lack_lines::{push_lack_count, push_lacks};
+use crate::lack_lines::{push_lacks, push_ready_count};
 use crate::problem_lines::{push_problem_count, push_problems};
 use findings::{Lack, Problem, lacks, problems};
 use headers::Apertures;
@@ -34,8 +34,8 @@ impl CountedText {
         Ok(CountedText { text, count })
     }
 
-    /// A line for each problem and each lack, in their order, and a last line `ready: ok` or `ready: N lacks`, which
-    /// counts both.
+    /// A line for each problem and each lack, in their order, and a last line `ready: ok`, or as `ready: 2
+    /// problems, 5 lacks` with what there is.
     pub fn of_lacks(
         alloc: Global,
         problems: &[Problem],
@@ -46,11 +46,11 @@ impl CountedText {
         ensures count { let ps = map problem_of problems.now in let ls = map lack_of lacks.now in
             IfOk result (λ t. t.count ≡ length ps + length ls) }
     {
-        let count = problems.len() + lacks.len();
         let mut text = String::new(alloc);
         push_problems(&mut text, problems)?;
         push_lacks(&mut text, lacks)?;
-        push_lack_count(&mut text, count)?;
+        push_ready_count(&mut text, problems.len(), lacks.len())?;
+        let count = problems.len() + lacks.len();
         Ok(CountedText { text, count })
     }
 }

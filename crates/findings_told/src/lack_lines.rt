@@ -1,27 +1,26 @@
 //! The lines of lacks, and the line that counts them and problems.
-ghost use Rattle.std.specs.Prelude.{OnOk};
+ghost use Rattle.std.specs.Prelude.{OnOk, Some};
 ghost use Rattle.lists.specs.Texts.{Adds};
-ghost use Rattle.model_findings.specs.ReadyText.{lack_text, lack_total, ready_line};
+ghost use Rattle.model_findings.specs.ReadyText.{lack_text, lacks_text, ready_total, ready_line};
 ghost use Rattle.findings.specs.Findings.{lack_of};
 ghost use Rattle.findings_told.specs.Lines.{lack_lines};
 ghost use Rattle.report.specs.Found.{ended};
 
-use crate::places::{push_hexadecimal, push_region};
+use crate::places::ShownRegion;
+use crate::problem_lines::ProblemCount;
 use findings::Lack;
-use report::{push_byte, push_path};
+use report::{ShownPath, TwoDigits};
 use std::alloc::AllocError;
+use std::fmt;
 
 /// Appends what is lacking.
 fn push_told(text: &mut String, lack: &Lack) -> Result<(), AllocError>
     ensures { OnOk result (Adds text.old text.new (lack_text (lack_of lack.now))) }
 {
     match lack {
-        Lack::NotOpen { region } => {
-            push_region(text, region)?;
-            text.push_str(" is closed")
-        }
+        Lack::NotOpen { region } => write!(text, "{} is closed", ShownRegion(region)),
         Lack::OutsideApertures { region, address } => {
-            push_region(text, region)?;
+            write!(text, "{}", ShownRegion(region))?;
             write!(text, ": 0x{address:x} is outside the apertures")
         }
         Lack::Prefetched {
@@ -29,18 +28,15 @@ fn push_told(text: &mut String, lack: &Lack) -> Result<(), AllocError>
             bridge,
             address,
         } => {
-            push_region(text, region)?;
-            text.push_str(": ")?;
-            push_path(text, bridge)?;
-            text.push_str(" prefetches ")?;
-            push_hexadecimal(text, *address)
+            let bridge = ShownPath(bridge);
+            write!(text, "{}", ShownRegion(region))?;
+            write!(text, ": {bridge} prefetches 0x{address:x}")
         }
         Lack::OtherPrimary { path, held, number } => {
-            push_path(text, path)?;
-            text.push_str(": Primary is ")?;
-            push_byte(text, *held)?;
-            text.push_str(" on bus ")?;
-            push_byte(text, *number)
+            let path = ShownPath(path);
+            let held = TwoDigits(*held);
+            let number = TwoDigits(*number);
+            write!(text, "{path}: Primary is {held} on bus {number}")
         }
     }
 }
@@ -65,15 +61,36 @@ pub(crate) fn push_lacks(text: &mut String, lacks: &[Lack]) -> Result<(), AllocE
     Ok(())
 }
 
+/// Some lacks by their count.
+#[derive(Clone, Copy)]
+struct LackCount(usize);
+
+impl fmt::Display for LackCount {
+    ghost output = { λ n. Some (lacks_text n.0) };
+
+    fn fmt<W: fmt::Write>(&self, f: &mut fmt::Formatter<W>) -> fmt::Result {
+        let count = self.0;
+        if count == 1 {
+            return write!(f, "{count} lack");
+        }
+        write!(f, "{count} lacks")
+    }
+}
+
 /// Appends the line that counts problems and lacks.
-pub(crate) fn push_lack_count(text: &mut String, count: usize) -> Result<(), AllocError>
-    ensures { OnOk result (Adds text.old text.new (ended (ready_line (lack_total count)))) }
+pub(crate) fn push_ready_count(
+    text: &mut String,
+    problems: usize,
+    lacks: usize,
+) -> Result<(), AllocError>
+    ensures { OnOk result (Adds text.old text.new
+        (ended (ready_line (ready_total problems lacks)))) }
 {
-    if count == 0 {
-        return text.push_str("ready: ok\n");
+    let found = ProblemCount(problems);
+    let lacking = LackCount(lacks);
+    match (problems, lacks) {
+        (_, 0) => writeln!(text, "ready: {found}"),
+        (0, _) => writeln!(text, "ready: {lacking}"),
+        _ => writeln!(text, "ready: {found}, {lacking}"),
     }
-    if count == 1 {
-        return writeln!(text, "ready: {count} lack");
-    }
-    writeln!(text, "ready: {count} lacks")
 }

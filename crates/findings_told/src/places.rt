@@ -1,27 +1,31 @@
-//! Where something stands: regions, addresses, spaces, numbers and paths, in lines.
-ghost use Rattle.std.specs.Prelude.{◌≡◌, codes, OnOk};
+//! Where something stands: regions, spaces and what is reached.
+ghost use Rattle.std.specs.Prelude.{◌≡◌, Some, codes, option_map};
 ghost use Rattle.std.specs.Option.{option_map_or};
-ghost use Rattle.lists.specs.Texts.{Adds};
 ghost use Rattle.bars.specs.Kinds.{named_space};
-ghost use Rattle.paths.specs.BusAddresses.{bus_address_of};
 ghost use Rattle.model_guests.specs.PathTexts.{hexadecimal, path_text};
-ghost use Rattle.model_findings.specs.AuditText.{region_text, space_text, number_text};
+ghost use Rattle.model_findings.specs.AuditText.{region_text, space_text};
 
 use bars::Space;
-use findings::RegionNow;
-use paths::{Bdf, Path};
-use report::{push_byte, push_path};
-use std::alloc::AllocError;
+use findings::{Bdf, RegionNow};
+use paths::Path;
+use report::{Numbers, ShownPath};
+use std::fmt;
 
-/// Appends the path of a region, its register, and where it stands.
-pub(crate) fn push_region(text: &mut String, region: &RegionNow) -> Result<(), AllocError>
-    ensures { OnOk result (Adds text.old text.new (region_text region.now)) }
-{
-    push_path(text, &region.path)?;
-    let index = region.region.index;
-    let base = region.region.base;
-    let size = region.region.size;
-    write!(text, " bar{index} at 0x{base:x} size 0x{size:x}")
+/// The path of a region, its register, and where it stands.
+#[derive(Clone, Copy)]
+pub(crate) struct ShownRegion<'a>(pub(crate) &'a RegionNow);
+
+impl<'a> fmt::Display for ShownRegion<'a> {
+    ghost output = { λ q. Some (region_text q.0.now) };
+
+    fn fmt<W: fmt::Write>(&self, f: &mut fmt::Formatter<W>) -> fmt::Result {
+        let region = self.0;
+        let path = ShownPath(&region.path);
+        let index = region.region.index;
+        let base = region.region.base;
+        let size = region.region.size;
+        write!(f, "{path} bar{index} at 0x{base:x} size 0x{size:x}")
+    }
 }
 
 /// The name of a space.
@@ -34,43 +38,41 @@ pub(crate) fn space_name(space: Space) -> &'static str
     }
 }
 
-/// Appends the name of a space.
-pub(crate) fn push_space(text: &mut String, space: Space) -> Result<(), AllocError>
-    ensures { OnOk result (Adds text.old text.new (space_text (named_space space))) }
-{
-    text.push_str(space_name(space))
+/// A number in hexadecimal digits.
+#[derive(Clone, Copy)]
+pub(crate) struct Hexadecimal(pub(crate) u64);
+
+impl fmt::Display for Hexadecimal {
+    ghost output = { λ n. Some (hexadecimal n.0) };
+
+    fn fmt<W: fmt::Write>(&self, f: &mut fmt::Formatter<W>) -> fmt::Result {
+        let number = self.0;
+        write!(f, "0x{number:x}")
+    }
 }
 
-/// Appends a number in hexadecimal digits.
-pub(crate) fn push_hexadecimal(text: &mut String, number: u64) -> Result<(), AllocError>
-    ensures { OnOk result (Adds text.old text.new (hexadecimal number)) }
+/// The numbers of a function, as they are shown.
+pub fn numbers(at: Bdf) -> Numbers
+    ensures { result ≡ record { bus = at.bus; device = at.device; function = at.function } }
 {
-    write!(text, "0x{number:x}")
+    Numbers {
+        bus: at.bus,
+        device: at.device,
+        function: at.function,
+    }
 }
 
-/// Appends a bus, device and function number.
-pub fn push_number(text: &mut String, at: Bdf) -> Result<(), AllocError>
-    ensures { OnOk result (Adds text.old text.new (number_text (bus_address_of at))) }
-{
-    let Bdf {
-        bus,
-        device,
-        function,
-        ..
-    } = at;
-    push_byte(text, bus)?;
-    text.push(':')?;
-    push_byte(text, device)?;
-    write!(text, ".{function}")
-}
+/// A path, or `nothing`.
+#[derive(Clone, Copy)]
+pub(crate) struct Reached<'a>(pub(crate) &'a Option<Path>);
 
-/// Appends a path, or `nothing`.
-pub(crate) fn push_reached(text: &mut String, path: &Option<Path>) -> Result<(), AllocError>
-    ensures { OnOk result (Adds text.old text.new
-        (option_map_or path_text path.now (codes "nothing"))) }
-{
-    match path {
-        Some(path) => push_path(text, path),
-        None => text.push_str("nothing"),
+impl<'a> fmt::Display for Reached<'a> {
+    ghost output = { λ r. Some (option_map_or path_text r.0.now (codes "nothing")) };
+
+    fn fmt<W: fmt::Write>(&self, f: &mut fmt::Formatter<W>) -> fmt::Result {
+        match self.0 {
+            Some(path) => write!(f, "{}", ShownPath(path)),
+            None => write!(f, "nothing"),
+        }
     }
 }

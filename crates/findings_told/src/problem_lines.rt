@@ -1,25 +1,87 @@
 //! The lines of problems, and the line that counts them.
-ghost use Rattle.std.specs.Prelude.{OnOk};
+ghost use Rattle.std.specs.Prelude.{OnOk, Some};
 ghost use Rattle.lists.specs.Texts.{Adds};
+ghost use Rattle.paths.specs.BusAddresses.{bus_address_of};
+ghost use Rattle.model_findings.specs.Problems.{not_forwarded, contended, not_found};
 ghost use Rattle.model_findings.specs.AuditText.{agent_text, problem_text, total_text, audit_line};
 ghost use Rattle.findings.specs.Findings.{problem_of};
 ghost use Rattle.findings_told.specs.Lines.{problem_lines};
 ghost use Rattle.report.specs.Found.{ended};
 
-use crate::places::{push_hexadecimal, push_number, push_reached, push_region, push_space};
-use findings::{Agent, Problem};
-use report::push_path;
+use crate::places::{Hexadecimal, Reached, ShownRegion, space_name};
+use findings::{Agent, Bdf, Problem, RegionNow};
+use paths::Path;
+use report::{Numbers, ShownPath};
 use std::alloc::AllocError;
+use std::fmt;
 
-/// Appends the path of an agent, and its register, if it has one.
-fn push_agent(text: &mut String, agent: &Agent) -> Result<(), AllocError>
-    ensures { OnOk result (Adds text.old text.new (agent_text agent.now)) }
-{
-    push_path(text, &agent.path)?;
-    match agent.register {
-        Some(index) => write!(text, " bar{index}"),
-        None => Ok(()),
+/// The path of an agent, and its register, if it has one.
+#[derive(Clone, Copy)]
+struct ShownAgent<'a>(&'a Agent);
+
+impl<'a> fmt::Display for ShownAgent<'a> {
+    ghost output = { λ a. Some (agent_text a.0.now) };
+
+    fn fmt<W: fmt::Write>(&self, f: &mut fmt::Formatter<W>) -> fmt::Result {
+        let agent = self.0;
+        write!(f, "{}", ShownPath(&agent.path))?;
+        match agent.register {
+            Some(index) => write!(f, " bar{index}"),
+            None => Ok(()),
+        }
     }
+}
+
+/// Appends what is wrong with the forwarding to a region.
+fn push_not_forwarded(
+    text: &mut String,
+    region: &RegionNow,
+    bridge: &Path,
+    address: u64,
+) -> Result<(), AllocError>
+    ensures { OnOk result (Adds text.old text.new
+        (problem_text (not_forwarded region.now bridge.now address))) }
+{
+    write!(text, "{}", ShownRegion(region))?;
+    write!(text, ": 0x{address:x}")?;
+    write!(text, " is not forwarded by {}", ShownPath(bridge))
+}
+
+/// Appends what is wrong between two agents.
+fn push_contended(
+    text: &mut String,
+    one: &Agent,
+    other: &Agent,
+    address: u64,
+) -> Result<(), AllocError>
+    ensures { OnOk result (Adds text.old text.new
+        (problem_text (contended one.now other.now address))) }
+{
+    let space = space_name(one.space);
+    let one = ShownAgent(one);
+    let other = ShownAgent(other);
+    let address = Hexadecimal(address);
+    write!(text, "{one} and {other} both answer {space} {address}")
+}
+
+/// Appends what is wrong with the number of a function.
+fn push_not_found(
+    text: &mut String,
+    path: &Path,
+    at: Bdf,
+    instead: &Option<Path>,
+) -> Result<(), AllocError>
+    ensures { OnOk result (Adds text.old text.new
+        (problem_text (not_found path.now (bus_address_of at) instead.now))) }
+{
+    let path = ShownPath(path);
+    let number = Numbers {
+        bus: at.bus,
+        device: at.device,
+        function: at.function,
+    };
+    let reached = Reached(instead);
+    write!(text, "{path}: a cycle for {number} reaches {reached}")
 }
 
 /// Appends what is wrong.
@@ -31,37 +93,17 @@ fn push_told(text: &mut String, problem: &Problem) -> Result<(), AllocError>
             region,
             bridge,
             address,
-        } => {
-            push_region(text, region)?;
-            text.push_str(": ")?;
-            push_hexadecimal(text, *address)?;
-            text.push_str(" is not forwarded by ")?;
-            push_path(text, bridge)
-        }
+        } => push_not_forwarded(text, region, bridge, *address),
         Problem::Contended {
             one,
             other,
             address,
-        } => {
-            push_agent(text, one)?;
-            text.push_str(" and ")?;
-            push_agent(text, other)?;
-            text.push_str(" both answer ")?;
-            push_space(text, one.space)?;
-            text.push_str(" ")?;
-            push_hexadecimal(text, *address)
-        }
+        } => push_contended(text, one, other, *address),
         Problem::NotFound {
             path,
             address,
             instead,
-        } => {
-            push_path(text, path)?;
-            text.push_str(": a cycle for ")?;
-            push_number(text, *address)?;
-            text.push_str(" reaches ")?;
-            push_reached(text, instead)
-        }
+        } => push_not_found(text, path, *address, instead),
     }
 }
 
@@ -85,15 +127,28 @@ pub(crate) fn push_problems(text: &mut String, problems: &[Problem]) -> Result<(
     Ok(())
 }
 
+/// Some problems by their count.
+#[derive(Clone, Copy)]
+pub(crate) struct ProblemCount(pub(crate) usize);
+
+impl fmt::Display for ProblemCount {
+    ghost output = { λ n. Some (total_text n.0) };
+
+    fn fmt<W: fmt::Write>(&self, f: &mut fmt::Formatter<W>) -> fmt::Result {
+        let count = self.0;
+        if count == 0 {
+            return write!(f, "ok");
+        }
+        if count == 1 {
+            return write!(f, "{count} problem");
+        }
+        write!(f, "{count} problems")
+    }
+}
+
 /// Appends the line that counts the problems.
 pub(crate) fn push_problem_count(text: &mut String, count: usize) -> Result<(), AllocError>
     ensures { OnOk result (Adds text.old text.new (ended (audit_line (total_text count)))) }
 {
-    if count == 0 {
-        return text.push_str("audit: ok\n");
-    }
-    if count == 1 {
-        return writeln!(text, "audit: {count} problem");
-    }
-    writeln!(text, "audit: {count} problems")
+    writeln!(text, "audit: {}", ProblemCount(count))
 }

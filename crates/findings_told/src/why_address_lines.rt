@@ -1,166 +1,168 @@
 //! What the lines of an address say.
-ghost use Rattle.std.specs.Prelude.{◌++◌, codes, map, OnOk};
-ghost use Rattle.std.specs.Option.{option_map_or};
+ghost use Rattle.std.specs.Prelude.{◌≡◌, OnOk, Some, map};
 ghost use Rattle.lists.specs.Texts.{Adds};
 ghost use Rattle.bars.specs.Kinds.{named_space};
-ghost use Rattle.model_lines.specs.Why.{stopped_at};
-ghost use Rattle.model_lines.specs.WhyText.{command_text, hindrance_text, cause_text, more_text};
+ghost use Rattle.model_lines.specs.WhyText.{hindrance_text, cause_text};
 ghost use Rattle.model_lines.specs.WhyText.{causes_text, told_text, forwarder_text, claim_text};
 ghost use Rattle.model_lines.specs.WhyText.{no_claim_text};
 ghost use Rattle.findings.specs.WhyTold.{hindrance_told, cause_told, forwarder_told, region_told, why_told};
-ghost use Rattle.findings_told.specs.WhyLines.{address_head};
+ghost use Rattle.findings_told.specs.WhyLines.{address_head, answer_text};
 
-use crate::places::{push_region, space_name};
-use crate::why_parts::{push_command, push_windows};
+use crate::places::{ShownRegion, space_name};
+use crate::why_parts::{ShownCommand, ShownWindows};
 use bars::Space;
-use bridge_forward::{Claim, Path};
+use bridge_forward::Claim;
 use findings::{Cause, Forwarder, Hindrance, Told, Why};
-use report::{push_byte, push_path};
+use report::{ShownPath, TwoDigits};
 use std::alloc::AllocError;
+use std::fmt;
 
-/// Appends what keeps a bridge from forwarding an address.
-fn push_hindrance(text: &mut String, space: Space, hindrance: Hindrance) -> Result<(), AllocError>
-    ensures { OnOk result (Adds text.old text.new
-        (hindrance_text (named_space space) (hindrance_told hindrance))) }
-{
-    match hindrance {
-        Hindrance::Closes { command } => {
-            push_command(text, command)?;
-            let space = space_name(space);
-            write!(text, " closes {space}")
-        }
-        Hindrance::Misses { one, other } => push_windows(text, one, other),
-    }
-}
-
-/// Appends what is said of a bridge that doesn't forward an address.
-fn push_stopped(
-    text: &mut String,
+/// What keeps a bridge from forwarding an address.
+#[derive(Clone, Copy)]
+struct ShownHindrance {
     space: Space,
-    bridge: &Path,
     hindrance: Hindrance,
-) -> Result<(), AllocError>
-    ensures { OnOk result (Adds text.old text.new
-        (cause_text (named_space space) (stopped_at bridge.now (hindrance_told hindrance)))) }
-{
-    push_path(text, bridge)?;
-    text.push_str(" doesn't forward it, ")?;
-    push_hindrance(text, space, hindrance)
 }
 
-/// Appends what is said of a region that is closed.
-fn push_closed(text: &mut String, command: u16) -> Result<(), AllocError>
-    ensures { OnOk result (Adds text.old text.new (codes "closed, " ++ command_text command)) }
-{
-    text.push_str("closed, ")?;
-    push_command(text, command)
-}
+impl fmt::Display for ShownHindrance {
+    ghost output = { λ h. Some (hindrance_text (named_space h.space) (hindrance_told h.hindrance)) };
 
-/// Appends a cause that keeps a region from answering.
-fn push_cause(text: &mut String, space: Space, cause: &Cause) -> Result<(), AllocError>
-    ensures { OnOk result (Adds text.old text.new
-        (cause_text (named_space space) (cause_told cause.now))) }
-{
-    match cause {
-        Cause::ClosedBy { command } => push_closed(text, *command),
-        Cause::StoppedAt { bridge, hindrance } => push_stopped(text, space, bridge, *hindrance),
-    }
-}
-
-/// Appends a cause after another one.
-fn push_next(text: &mut String, space: Space, cause: &Cause) -> Result<(), AllocError>
-    ensures { OnOk result (Adds text.old text.new
-        (codes "; " ++ cause_text (named_space space) (cause_told cause.now))) }
-{
-    text.push_str("; ")?;
-    push_cause(text, space, cause)
-}
-
-/// Appends causes after another one.
-fn push_more(text: &mut String, space: Space, causes: &[Cause]) -> Result<(), AllocError>
-    ensures { OnOk result (Adds text.old text.new
-        (more_text (named_space space) (map cause_told causes.now))) }
-{
-    for cause in causes {
-        push_next(text, space, cause)?;
-    }
-    Ok(())
-}
-
-/// Appends all that keeps a region from answering.
-fn push_causes(text: &mut String, space: Space, causes: &[Cause]) -> Result<(), AllocError>
-    ensures { OnOk result (Adds text.old text.new
-        (causes_text (named_space space) (map cause_told causes.now))) }
-{
-    match causes {
-        [] => text.push_str("would answer too"),
-        [cause, more @ ..] => {
-            push_cause(text, space, cause)?;
-            push_more(text, space, more)
+    fn fmt<W: fmt::Write>(&self, f: &mut fmt::Formatter<W>) -> fmt::Result {
+        match self.hindrance {
+            Hindrance::Closes { command } => {
+                let command = ShownCommand(command);
+                write!(f, "{command} closes {}", space_name(self.space))
+            }
+            Hindrance::Misses { one, other } => write!(f, "{}", ShownWindows { one, other }),
         }
     }
 }
 
-/// Appends a region that holds the address, and what keeps it from answering.
-pub(crate) fn push_told(text: &mut String, space: Space, told: &Told) -> Result<(), AllocError>
-    ensures { OnOk result (Adds text.old text.new
-        (told_text (named_space space) (region_told told.now))) }
-{
-    push_region(text, &told.region)?;
-    text.push_str(": ")?;
-    push_causes(text, space, &told.causes)
+/// A cause that keeps a region from answering.
+#[derive(Clone, Copy)]
+struct ShownCause<'a> {
+    space: Space,
+    cause: &'a Cause,
 }
 
-/// Appends where an address lands.
-fn push_claim(text: &mut String, claim: &Claim) -> Result<(), AllocError>
-    ensures { OnOk result (Adds text.old text.new (claim_text claim.now)) }
-{
-    push_path(text, &claim.path)?;
-    let region = claim.region;
-    let offset = claim.offset;
-    write!(text, " bar{region} offset 0x{offset:x} answers")
+impl<'a> fmt::Display for ShownCause<'a> {
+    ghost output = { λ c. Some (cause_text (named_space c.space) (cause_told c.cause.now)) };
+
+    fn fmt<W: fmt::Write>(&self, f: &mut fmt::Formatter<W>) -> fmt::Result {
+        match self.cause {
+            Cause::ClosedBy { command } => write!(f, "closed, {}", ShownCommand(*command)),
+            Cause::StoppedAt { bridge, hindrance } => {
+                let bridge = ShownPath(bridge);
+                let hindrance = ShownHindrance {
+                    space: self.space,
+                    hindrance: *hindrance,
+                };
+                write!(f, "{bridge} doesn't forward it, {hindrance}")
+            }
+        }
+    }
 }
 
-/// Appends that no region answers, or nobody, if no bridge forwards the address either.
-fn push_no_claim(text: &mut String, forwarders: &[Forwarder]) -> Result<(), AllocError>
-    ensures { OnOk result (Adds text.old text.new
-        (no_claim_text (map forwarder_told forwarders.now))) }
+/// All that keeps a region from answering.
+#[derive(Clone, Copy)]
+struct ShownCauses<'a> {
+    space: Space,
+    causes: &'a [Cause],
+}
+
+impl<'a> fmt::Display for ShownCauses<'a> {
+    ghost output = { λ c. Some (causes_text (named_space c.space) (map cause_told c.causes.now)) };
+
+    fn fmt<W: fmt::Write>(&self, f: &mut fmt::Formatter<W>) -> fmt::Result {
+        let space = self.space;
+        let Some((cause, more)) = self.causes.split_first() else {
+            return write!(f, "would answer too");
+        };
+        write!(f, "{}", ShownCause { space, cause })?;
+        'more: for cause in more {
+            write!(f, "; {}", ShownCause { space, cause })?;
+        }
+        Ok(())
+    }
+}
+
+/// A region that holds the address, and what keeps it from answering.
+#[derive(Clone, Copy)]
+pub(crate) struct ShownTold<'a> {
+    pub(crate) space: Space,
+    pub(crate) told: &'a Told,
+}
+
+impl<'a> fmt::Display for ShownTold<'a> {
+    ghost output = { λ t. Some (told_text (named_space t.space) (region_told t.told.now)) };
+
+    fn fmt<W: fmt::Write>(&self, f: &mut fmt::Formatter<W>) -> fmt::Result {
+        let region = ShownRegion(&self.told.region);
+        let causes = ShownCauses {
+            space: self.space,
+            causes: &self.told.causes,
+        };
+        write!(f, "{region}: {causes}")
+    }
+}
+
+/// Where an address lands.
+#[derive(Clone, Copy)]
+struct ShownClaim<'a>(&'a Claim);
+
+impl<'a> fmt::Display for ShownClaim<'a> {
+    ghost output = { λ c. Some (claim_text c.0.now) };
+
+    fn fmt<W: fmt::Write>(&self, f: &mut fmt::Formatter<W>) -> fmt::Result {
+        let claim = self.0;
+        let path = ShownPath(&claim.path);
+        let region = claim.region;
+        let offset = claim.offset;
+        write!(f, "{path} bar{region} offset 0x{offset:x} answers")
+    }
+}
+
+/// That no region answers, or nobody, if no bridge forwards the address either.
+fn no_claim(forwarders: &[Forwarder]) -> &'static str
+    ensures { result.now ≡ no_claim_text (map forwarder_told forwarders.now) }
 {
     match forwarders {
-        [] => text.push_str("nobody answers"),
-        [_, ..] => text.push_str("no region answers"),
+        [] => "nobody answers",
+        [_, ..] => "no region answers",
     }
 }
 
-/// Appends who answers an address.
-fn push_answer(
-    text: &mut String,
-    answer: &Option<Claim>,
-    forwarders: &[Forwarder],
-) -> Result<(), AllocError>
-    ensures { let gs = map forwarder_told forwarders.now in
-        OnOk result (Adds text.old text.new
-        (option_map_or claim_text answer.now (no_claim_text gs))) }
-{
-    match answer {
-        Some(claim) => push_claim(text, claim),
-        None => push_no_claim(text, forwarders),
+/// Who answers an address.
+#[derive(Clone, Copy)]
+struct ShownAnswer<'a>(&'a Why);
+
+impl<'a> fmt::Display for ShownAnswer<'a> {
+    ghost output = { λ w. Some (answer_text (why_told w.0.now)) };
+
+    fn fmt<W: fmt::Write>(&self, f: &mut fmt::Formatter<W>) -> fmt::Result {
+        match &self.0.answer {
+            Some(claim) => write!(f, "{}", ShownClaim(claim)),
+            None => write!(f, "{}", no_claim(&self.0.forwarders)),
+        }
     }
 }
 
-/// Appends an address, and who answers it.
-pub(crate) fn push_address(
-    text: &mut String,
-    space: Space,
-    addr: u64,
-    why: &Why,
-) -> Result<(), AllocError>
-    ensures { OnOk result (Adds text.old text.new
-        (address_head (named_space space) addr (why_told why.now))) }
-{
-    let space = space_name(space);
-    write!(text, "{space} 0x{addr:x}: ")?;
-    push_answer(text, &why.answer, &why.forwarders)
+/// An address, and who answers it.
+#[derive(Clone, Copy)]
+pub(crate) struct ShownAddress<'a> {
+    pub(crate) space: Space,
+    pub(crate) addr: u64,
+    pub(crate) why: &'a Why,
+}
+
+impl<'a> fmt::Display for ShownAddress<'a> {
+    ghost output = { λ a. Some (address_head (named_space a.space) a.addr (why_told a.why.now)) };
+
+    fn fmt<W: fmt::Write>(&self, f: &mut fmt::Formatter<W>) -> fmt::Result {
+        let space = space_name(self.space);
+        let addr = self.addr;
+        write!(f, "{space} 0x{addr:x}: {}", ShownAnswer(self.why))
+    }
 }
 
 /// Appends a bridge that forwards an address.
@@ -168,7 +170,6 @@ pub(crate) fn push_forwarder(text: &mut String, forwarder: &Forwarder) -> Result
     ensures { OnOk result (Adds text.old text.new
         (forwarder_text (forwarder_told forwarder.now))) }
 {
-    push_path(text, &forwarder.path)?;
-    text.push_str(" forwards it to bus ")?;
-    push_byte(text, forwarder.bus)
+    let path = ShownPath(&forwarder.path);
+    write!(text, "{path} forwards it to bus {}", TwoDigits(forwarder.bus))
 }

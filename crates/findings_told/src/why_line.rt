@@ -1,21 +1,24 @@
 //! A line of why an address, a configuration number or an I/O port finds what it finds.
-ghost use Rattle.std.specs.Prelude.{OnOk, map};
+ghost use Rattle.std.specs.Prelude.{OnOk, Some, map};
 ghost use Rattle.lists.specs.Texts.{Adds};
 ghost use Rattle.model_guests.specs.Text.{text_of_lines};
 ghost use Rattle.model_lines.specs.WhyText.{total_text, why_line};
 ghost use Rattle.report.specs.Found.{ended};
 ghost use Rattle.findings_told.specs.WhyLines.{line_text, at_reset_text};
 
-use crate::why_address_lines::{push_address, push_forwarder, push_told};
-use crate::why_number_lines::{push_missing, push_not_found, push_number_found, push_taker};
+use crate::places::{Reached, numbers};
+use crate::why_address_lines::{ShownAddress, ShownTold, push_forwarder};
+use crate::why_number_lines::{ShownMissing, push_not_found};
 use crate::why_port_lines::push_port;
 use bars::Space;
 use bridge_forward::Path;
 use findings::{Bdf, Forwarder, Missing, PortUse, Told, Why, WhyNumber};
+use report::{ShownPath, TwoDigits};
 use std::alloc::AllocError;
+use std::fmt;
 
 /// A line, beside its first word.
-#[derive(Drop)]
+#[derive(Clone, Copy)]
 pub(crate) enum Line<'a> {
     /// What the latch, which holds this, makes of a port of which it makes something.
     Port(u32, u64, &'a PortUse),
@@ -39,47 +42,61 @@ pub(crate) enum Line<'a> {
     Total(usize),
 }
 
-/// Appends how many regions are as at reset.
-fn push_at_reset(text: &mut String, count: usize) -> Result<(), AllocError>
-    ensures { OnOk result (Adds text.old text.new (at_reset_text count)) }
-{
-    if count == 1 {
-        return write!(text, "{count} region at 0x0, closed as at reset");
+/// How many regions are as at reset.
+#[derive(Clone, Copy)]
+struct AtReset(usize);
+
+impl fmt::Display for AtReset {
+    ghost output = { λ n. Some (at_reset_text n.0) };
+
+    fn fmt<W: fmt::Write>(&self, f: &mut fmt::Formatter<W>) -> fmt::Result {
+        let count = self.0;
+        let regions = if count == 1 { "region" } else { "regions" };
+        write!(f, "{count} {regions} at 0x0, closed as at reset")
     }
-    write!(text, "{count} regions at 0x0, closed as at reset")
 }
 
-/// Appends how many lines there are.
-fn push_total(text: &mut String, count: usize) -> Result<(), AllocError>
-    ensures { OnOk result (Adds text.old text.new (total_text count)) }
-{
-    if count == 1 {
-        return write!(text, "{count} line");
+/// How many lines there are.
+#[derive(Clone, Copy)]
+struct LineCount(usize);
+
+impl fmt::Display for LineCount {
+    ghost output = { λ n. Some (total_text n.0) };
+
+    fn fmt<W: fmt::Write>(&self, f: &mut fmt::Formatter<W>) -> fmt::Result {
+        let count = self.0;
+        if count == 1 {
+            return write!(f, "{count} line");
+        }
+        write!(f, "{count} lines")
     }
-    write!(text, "{count} lines")
 }
 
 /// Appends what a line says.
-fn push_said(text: &mut String, line: &Line) -> Result<(), AllocError>
-    ensures { OnOk result (Adds text.old text.new (line_text line.now)) }
+fn push_said(text: &mut String, line: Line) -> Result<(), AllocError>
+    ensures { OnOk result (Adds text.old text.new (line_text line.entry)) }
 {
     match line {
-        Line::Port(latch, port, used) => push_port(text, *latch, *port, *used),
-        Line::Address(space, addr, why) => push_address(text, *space, *addr, *why),
-        Line::Forwarder(forwarder) => push_forwarder(text, *forwarder),
-        Line::Region(space, told) => push_told(text, *space, *told),
-        Line::AtReset(count) => push_at_reset(text, *count),
-        Line::Number(at, why) => push_number_found(text, **at, &why.reached),
-        Line::Taker(bus, bridge) => push_taker(text, *bus, *bridge),
-        Line::Missing(missing) => push_missing(text, *missing),
-        Line::NotFound(path) => push_not_found(text, *path),
-        Line::Total(count) => push_total(text, *count),
+        Line::Port(latch, port, used) => push_port(text, latch, port, used),
+        Line::Address(space, addr, why) => write!(text, "{}", ShownAddress { space, addr, why }),
+        Line::Forwarder(forwarder) => push_forwarder(text, forwarder),
+        Line::Region(space, told) => write!(text, "{}", ShownTold { space, told }),
+        Line::AtReset(count) => write!(text, "{}", AtReset(count)),
+        Line::Number(at, why) => {
+            write!(text, "{} reaches {}", numbers(*at), Reached(&why.reached))
+        }
+        Line::Taker(bus, path) => {
+            write!(text, "{} takes bus {}", ShownPath(path), TwoDigits(bus))
+        }
+        Line::Missing(missing) => write!(text, "{}", ShownMissing(missing)),
+        Line::NotFound(path) => push_not_found(text, path),
+        Line::Total(count) => write!(text, "{}", LineCount(count)),
     }
 }
 
 /// Appends a line.
-fn push_line(text: &mut String, line: &Line) -> Result<(), AllocError>
-    ensures { OnOk result (Adds text.old text.new (ended (why_line (line_text line.now)))) }
+fn push_line(text: &mut String, line: Line) -> Result<(), AllocError>
+    ensures { OnOk result (Adds text.old text.new (ended (why_line (line_text line.entry)))) }
 {
     text.push_str("why: ")?;
     push_said(text, line)?;
@@ -92,7 +109,7 @@ pub(crate) fn push_lines(text: &mut String, lines: &[Line]) -> Result<(), AllocE
         (text_of_lines (map why_line (map line_text lines.now)))) }
 {
     for line in lines {
-        push_line(text, line)?;
+        push_line(text, *line)?;
     }
     Ok(())
 }

@@ -1,94 +1,55 @@
 //! What the lines of a configuration number say.
-ghost use Rattle.std.specs.Prelude.{◌≡◌, [], unwrap_or, OnOk};
+ghost use Rattle.std.specs.Prelude.{◌≡◌, [], OnOk, Some, unwrap_or};
 ghost use Rattle.lists.specs.Texts.{Adds};
-ghost use Rattle.model_board.specs.Paths.{Part, parent};
-ghost use Rattle.model_lines.specs.Ways.{no_bridge, no_function};
+ghost use Rattle.model_board.specs.Paths.{parent};
 ghost use Rattle.model_lines.specs.WhyText.{bus_text, missing_text, not_found_text};
-ghost use Rattle.paths.specs.BusAddresses.{bus_address_of};
 ghost use Rattle.findings.specs.WhyTold.{missing_told};
-ghost use Rattle.findings_told.specs.WhyLines.{number_head, taking_text};
 
-use crate::places::{push_number, push_reached};
 use bridge_forward::Path;
-use findings::{Bdf, Missing};
-use report::{push_byte, push_path};
+use findings::Missing;
+use report::{ShownPath, TwoDigits};
 use std::alloc::AllocError;
+use std::fmt;
 
-/// Appends where a bus is.
-fn push_behind(text: &mut String, behind: &Option<Path>) -> Result<(), AllocError>
-    ensures { OnOk result (Adds text.old text.new (bus_text (unwrap_or behind.now []))) }
-{
-    match behind {
-        None => text.push_str("on bus 00"),
-        Some(path) => {
-            // A path has a part.
-            prove!(!path.parts().is_empty());
-            text.push_str("behind ")?;
-            push_path(text, path)
+/// Where a bus is.
+#[derive(Clone, Copy)]
+struct ShownBus<'a>(&'a Option<Path>);
+
+impl<'a> fmt::Display for ShownBus<'a> {
+    ghost output = { λ b. Some (bus_text (unwrap_or b.0.now [])) };
+
+    fn fmt<W: fmt::Write>(&self, f: &mut fmt::Formatter<W>) -> fmt::Result {
+        match self.0 {
+            None => write!(f, "on bus 00"),
+            Some(path) => {
+                // A path has a part.
+                prove!(!path.parts().is_empty());
+                write!(f, "behind {}", ShownPath(path))
+            }
         }
     }
 }
 
-/// Appends that no bridge takes a cycle.
-fn push_no_bridge(text: &mut String, behind: &Option<Path>, bus: u8) -> Result<(), AllocError>
-    ensures { OnOk result (Adds text.old text.new
-        (missing_text (no_bridge (unwrap_or behind.now []) bus))) }
-{
-    text.push_str("no bridge ")?;
-    push_behind(text, behind)?;
-    text.push_str(" takes bus ")?;
-    push_byte(text, bus)
-}
+/// What is missing.
+#[derive(Clone, Copy)]
+pub(crate) struct ShownMissing<'a>(pub(crate) &'a Missing);
 
-/// Appends that no function stands there.
-fn push_no_function(
-    text: &mut String,
-    behind: &Option<Path>,
-    device: u8,
-    function: u8,
-) -> Result<(), AllocError>
-    ensures { let part : Part = record { device = device; function = function } in
-        OnOk result (Adds text.old text.new
-        (missing_text (no_function (unwrap_or behind.now []) part))) }
-{
-    write!(text, "no function {device}.{function} ")?;
-    push_behind(text, behind)
-}
+impl<'a> fmt::Display for ShownMissing<'a> {
+    ghost output = { λ m. Some (missing_text (missing_told m.0.now)) };
 
-/// Appends what is missing.
-pub(crate) fn push_missing(text: &mut String, missing: &Missing) -> Result<(), AllocError>
-    ensures { OnOk result (Adds text.old text.new (missing_text (missing_told missing.now))) }
-{
-    match missing {
-        Missing::NoBridge { behind, bus } => push_no_bridge(text, behind, *bus),
-        Missing::NoFunction {
-            behind,
-            device,
-            function,
-        } => push_no_function(text, behind, *device, *function),
+    fn fmt<W: fmt::Write>(&self, f: &mut fmt::Formatter<W>) -> fmt::Result {
+        match self.0 {
+            Missing::NoBridge { behind, bus } => {
+                let behind = ShownBus(behind);
+                write!(f, "no bridge {behind} takes bus {}", TwoDigits(*bus))
+            }
+            Missing::NoFunction {
+                behind,
+                device,
+                function,
+            } => write!(f, "no function {device}.{function} {}", ShownBus(behind)),
+        }
     }
-}
-
-/// Appends a bridge that takes the cycle for a bus.
-pub(crate) fn push_taker(text: &mut String, bus: u8, bridge: &Path) -> Result<(), AllocError>
-    ensures { OnOk result (Adds text.old text.new (taking_text bus bridge.now)) }
-{
-    push_path(text, bridge)?;
-    text.push_str(" takes bus ")?;
-    push_byte(text, bus)
-}
-
-/// Appends a number, and what it reaches.
-pub(crate) fn push_number_found(
-    text: &mut String,
-    at: Bdf,
-    reached: &Option<Path>,
-) -> Result<(), AllocError>
-    ensures { OnOk result (Adds text.old text.new (number_head (bus_address_of at) reached.now)) }
-{
-    push_number(text, at)?;
-    text.push_str(" reaches ")?;
-    push_reached(text, reached)
 }
 
 /// The path of the bridge above a function. None is above bus 0.
@@ -110,7 +71,6 @@ fn bridge_above(path: &Path) -> Option<Path>
 pub(crate) fn push_not_found(text: &mut String, path: &Path) -> Result<(), AllocError>
     ensures { OnOk result (Adds text.old text.new (not_found_text path.now)) }
 {
-    push_path(text, path)?;
-    text.push_str(" has this number ")?;
-    push_behind(text, &bridge_above(path))
+    let above = bridge_above(path);
+    write!(text, "{} has this number {}", ShownPath(path), ShownBus(&above))
 }

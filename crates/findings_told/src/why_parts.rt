@@ -1,74 +1,85 @@
 //! Parts of lines.
-ghost use Rattle.std.specs.Prelude.{codes, option_map, OnOk};
+ghost use Rattle.std.specs.Prelude.{◌≡◌, Some, codes, option_map};
 ghost use Rattle.std.specs.Option.{option_map_or};
-ghost use Rattle.lists.specs.Texts.{Adds};
 ghost use Rattle.bridge_forward.specs.RoutingRows.{window_of};
 ghost use Rattle.model_lines.specs.WhyText.{command_text, name_text, range_text, window_text, windows_text};
 ghost use Rattle.findings.specs.WhyTold.{name_told, window_told, windows_told};
 
 use bridge_forward::Window;
 use findings::{NamedWindow, WindowName};
-use report::push_word;
-use std::alloc::AllocError;
+use report::FourDigits;
+use std::fmt;
 
-/// Appends what a Command register holds.
-pub fn push_command(text: &mut String, command: u16) -> Result<(), AllocError>
-    ensures { OnOk result (Adds text.old text.new (command_text command)) }
-{
-    text.push_str("Command 0x")?;
-    push_word(text, command)
+/// What a Command register holds.
+#[derive(Clone, Copy)]
+pub struct ShownCommand(pub u16);
+
+impl fmt::Display for ShownCommand {
+    ghost output = { λ c. Some (command_text c.0) };
+
+    fn fmt<W: fmt::Write>(&self, f: &mut fmt::Formatter<W>) -> fmt::Result {
+        write!(f, "Command 0x{}", FourDigits(self.0))
+    }
 }
 
-/// Appends what a window is for.
-fn push_name(text: &mut String, name: WindowName) -> Result<(), AllocError>
-    ensures { OnOk result (Adds text.old text.new (name_text (name_told name))) }
+/// What a window is for.
+fn window_name(name: WindowName) -> &'static str
+    ensures { result.now ≡ name_text (name_told name) }
 {
     match name {
-        WindowName::Io => text.push_str("I/O"),
-        WindowName::Memory => text.push_str("memory"),
-        WindowName::Prefetchable => text.push_str("prefetchable"),
+        WindowName::Io => "I/O",
+        WindowName::Memory => "memory",
+        WindowName::Prefetchable => "prefetchable",
     }
 }
 
-/// Appends the addresses of a window, or `shut`.
-fn push_range(text: &mut String, window: Option<Window>) -> Result<(), AllocError>
-    ensures { OnOk result (Adds text.old text.new
-        (option_map_or range_text (option_map window_of window) (codes "shut"))) }
-{
-    match window {
-        Some(window) => {
-            let first = window.first;
-            let last = window.last;
-            write!(text, "0x{first:x}..0x{last:x}")
+/// The addresses of a window, or `shut`.
+#[derive(Clone, Copy)]
+struct ShownRange(Option<Window>);
+
+impl fmt::Display for ShownRange {
+    ghost output = { λ r. Some (option_map_or range_text (option_map window_of r.0) (codes "shut")) };
+
+    fn fmt<W: fmt::Write>(&self, f: &mut fmt::Formatter<W>) -> fmt::Result {
+        match self.0 {
+            Some(window) => {
+                let first = window.first;
+                let last = window.last;
+                write!(f, "0x{first:x}..0x{last:x}")
+            }
+            None => write!(f, "shut"),
         }
-        None => text.push_str("shut"),
     }
 }
 
-/// Appends a window.
-fn push_window(text: &mut String, window: NamedWindow) -> Result<(), AllocError>
-    ensures { OnOk result (Adds text.old text.new (window_text (window_told window))) }
-{
-    push_name(text, window.name)?;
-    text.push_str(" ")?;
-    push_range(text, window.window)
+/// A window.
+#[derive(Clone, Copy)]
+struct ShownWindow(NamedWindow);
+
+impl fmt::Display for ShownWindow {
+    ghost output = { λ w. Some (window_text (window_told w.0)) };
+
+    fn fmt<W: fmt::Write>(&self, f: &mut fmt::Formatter<W>) -> fmt::Result {
+        let name = window_name(self.0.name);
+        write!(f, "{name} {}", ShownRange(self.0.window))
+    }
 }
 
-/// Appends the windows that a bridge has.
-pub(crate) fn push_windows(
-    text: &mut String,
-    one: Option<NamedWindow>,
-    other: Option<NamedWindow>,
-) -> Result<(), AllocError>
-    ensures { OnOk result (Adds text.old text.new (windows_text (windows_told one other))) }
-{
-    match (one, other) {
-        (None, None) => text.push_str("no window"),
-        (Some(window), None) | (None, Some(window)) => push_window(text, window),
-        (Some(one), Some(other)) => {
-            push_window(text, one)?;
-            text.push_str(", ")?;
-            push_window(text, other)
+/// The windows that a bridge has.
+#[derive(Clone, Copy)]
+pub(crate) struct ShownWindows {
+    pub(crate) one: Option<NamedWindow>,
+    pub(crate) other: Option<NamedWindow>,
+}
+
+impl fmt::Display for ShownWindows {
+    ghost output = { λ w. Some (windows_text (windows_told w.one w.other)) };
+
+    fn fmt<W: fmt::Write>(&self, f: &mut fmt::Formatter<W>) -> fmt::Result {
+        match (self.one, self.other) {
+            (None, None) => write!(f, "no window"),
+            (Some(window), None) | (None, Some(window)) => write!(f, "{}", ShownWindow(window)),
+            (Some(one), Some(other)) => write!(f, "{}, {}", ShownWindow(one), ShownWindow(other)),
         }
     }
 }

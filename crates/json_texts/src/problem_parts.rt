@@ -8,7 +8,7 @@ ghost use Rattle.json_texts.specs.AuditValue.{path_value, space_text, register_v
 use bars::Space;
 use findings::{Agent, RegionNow};
 use paths::{Bdf, Path};
-use report::push_path;
+use report::ShownPath;
 use serde_json::{Value, json};
 use std::alloc::{AllocError, Global};
 
@@ -16,8 +16,7 @@ use std::alloc::{AllocError, Global};
 pub(crate) fn path_value(alloc: Global, path: &Path) -> Result<Value, AllocError>
     ensures { IfOk result (λ v. view v ≡ path_value path.now) }
 {
-    let mut text = String::new(alloc);
-    push_path(&mut text, path)?;
+    let text = ShownPath(path).to_string(alloc)?;
     Ok(Value::from(text))
 }
 

@@ -137,7 +137,3 @@ pub record WorkedExamples : Type 0 where
   pub text_of_overlap :
       audit_text (routing_problems (two_bridges (between 0xc0000000 0xc02fffff) (between 0xc0200000 0xc03fffff)))
       ≡ text_of_lines (codes "audit: 2.0 and 3.0 both answer memory 0xc0200000" ∷ codes "audit: 1 problem" ∷ [])
-  pub text_of_same_place :
-      audit_text (routing_problems (card (on_root 1) 2 0xc0000000 ∷ card (on_root 2) 2 0xc0000000 ∷ []))
-      ≡ text_of_lines (
-      codes "audit: 1.0 bar0 and 2.0 bar0 both answer memory 0xc0000000" ∷ codes "audit: 1 problem" ∷ [])

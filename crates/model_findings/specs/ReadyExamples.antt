@@ -17,7 +17,7 @@ use Rattle.model_findings.specs.Problems.{routing_problems}
 use Rattle.model_findings.specs.AuditExamples.{between, card, card_at, on_root, behind, one_card}
 use Rattle.model_findings.specs.Lacks.{not_open, outside_apertures, prefetched_by, other_primary}
 use Rattle.model_findings.specs.Lacks.{routing_lacks, lacks, is_ready}
-use Rattle.model_findings.specs.ReadyText.{ready_text, ready_report}
+use Rattle.model_findings.specs.ReadyText.{ready_report}
 
 abbrev pub left : List BoardFunction
 left = (set_up_state main_board main_apertures).functions
@@ -79,17 +79,4 @@ pub record ReadyExamples : Type 0 where
       ∷ codes "ready: 2.0/0.0 bar0 at 0x0 size 0x100000 is closed"
       ∷ codes "ready: 2.0/0.0 bar1 at 0x0 size 0x8 is closed"
       ∷ codes "ready: 2.0/1.0 bar0 at 0x0 size 0x1000000 is closed"
-      ∷ codes "ready: 7 lacks" ∷ [])
-  pub text_of_outside :
-      ready_text [] (routing_lacks main_apertures (card (on_root 1) 2 0xdff80000 ∷ []))
-      ≡ text_of_lines (
-      codes "ready: 1.0 bar0 at 0xdff80000 size 0x100000: 0xe0000000 is outside the apertures"
-      ∷ codes "ready: 1 lack" ∷ [])
-  pub text_of_prefetched :
-      ready_text [] (routing_lacks main_apertures (one_card None (between 0xc0000000 0xc00fffff) 2 0xc0000000))
-      ≡ text_of_lines (
-      codes "ready: 2.0/0.0 bar0 at 0xc0000000 size 0x100000: 2.0 prefetches 0xc0000000"
-      ∷ codes "ready: 1 lack" ∷ [])
-  pub text_of_primary :
-      ready_report main_apertures (with_primary 7)
-      ≡ text_of_lines (codes "ready: 2.0: Primary is 07 on bus 00" ∷ codes "ready: 1 lack" ∷ [])
+      ∷ codes "ready: 2 problems, 5 lacks" ∷ [])

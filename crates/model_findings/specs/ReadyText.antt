@@ -1,14 +1,16 @@
--- The text of what a register state lacks: a line for each problem and each lack, and a last line that counts both.
+-- The text of what a register state lacks: a line for each problem and each lack, and a last line that counts problems and
+-- lacks apart.
 --     lack_text      a lack with its witness
---     lack_total n      how many problems and lacks there are
+--     lacks_text n      so many lacks
+--     ready_total m n      how many problems and how many lacks there are
 --     ready_text ps ls, ready_report a fs      the whole text of some problems and lacks, and of a register state
-use Rattle.std.specs.Prelude.{List, [], ◌∷◌, ◌++◌, ℕ, ◌+◌, ◌==◌, if◌then◌else◌, map, length, codes, decimal}
+use Rattle.std.specs.Prelude.{List, [], ◌∷◌, ◌++◌, ℕ, ◌==◌, if◌then◌else◌, map, length, codes, decimal}
 use Rattle.model_registers.specs.Apertures.{Apertures}
 use Rattle.model_board.specs.State.{BoardFunction}
 use Rattle.model_guests.specs.Text.{Text, text_of_lines}
 use Rattle.model_guests.specs.Replies.{hex_digits}
 use Rattle.model_guests.specs.PathTexts.{hexadecimal, path_text}
-use Rattle.model_findings.specs.AuditText.{region_text, problem_text, audit_line}
+use Rattle.model_findings.specs.AuditText.{region_text, problem_text, total_text, audit_line}
 use Rattle.model_findings.specs.Problems.{Problem, problems}
 use Rattle.model_findings.specs.Lacks.{Lack, not_open, outside_apertures, prefetched_by, other_primary, lacks}
 
@@ -20,8 +22,14 @@ lack_text (prefetched_by q bridge n) =
 lack_text (other_primary p held number) =
     path_text p ++ codes ": Primary is " ++ hex_digits 2 held ++ codes " on bus " ++ hex_digits 2 number
 
-abbrev pub lack_total : ℕ → Text
-lack_total n = if n == 0 then codes "ok" else decimal n ++ (if n == 1 then codes " lack" else codes " lacks")
+abbrev pub lacks_text : ℕ → Text
+lacks_text n = decimal n ++ (if n == 1 then codes " lack" else codes " lacks")
+
+abbrev pub ready_total : (problems lacks : ℕ) → Text
+ready_total m n =
+    if n == 0 then total_text m
+    else if m == 0 then lacks_text n
+    else total_text m ++ codes ", " ++ lacks_text n
 
 abbrev pub ready_line : Text → Text
 ready_line text = codes "ready: " ++ text
@@ -29,7 +37,7 @@ ready_line text = codes "ready: " ++ text
 abbrev pub ready_text : List Problem → List Lack → Text
 ready_text ps ls =
     text_of_lines (map (λ p. audit_line (problem_text p)) ps ++ map (λ l. ready_line (lack_text l)) ls
-    ++ ready_line (lack_total (length ps + length ls)) ∷ [])
+    ++ ready_line (ready_total (length ps) (length ls)) ∷ [])
 
 abbrev pub ready_report : Apertures → List BoardFunction → Text
 ready_report a fs = ready_text (problems fs) (lacks a fs)

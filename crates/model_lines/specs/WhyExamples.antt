@@ -1,18 +1,16 @@
 -- Worked examples: why an address or a configuration number finds what it finds.
 --     changed word v p      the main board after set-up, with a register word of a function written
 --     WhyExamples      what is told
-use Rattle.std.specs.Prelude.{List, [], ◌∷◌, ◌++◌, ◌≡◌, ℕ, None, codes}
+use Rattle.std.specs.Prelude.{List, [], ◌∷◌, ◌++◌, ◌≡◌, ℕ, codes}
 use Rattle.model_registers.specs.Registers.{config, write}
 use Rattle.model_registers.specs.ByteEnables.{lanes}
-use Rattle.model_registers.specs.Decoding.{io, memory}
+use Rattle.model_registers.specs.Decoding.{memory}
 use Rattle.model_board.specs.Paths.{Path}
 use Rattle.model_board.specs.State.{BoardFunction, with_file}
 use Rattle.model_board.specs.AtReset.{reset_state}
-use Rattle.model_board.specs.Examples.{main_board, main_board_with, memory_bridge, main_apertures}
-use Rattle.model_set_up.specs.SetUp.{set_up_state}
+use Rattle.model_board.specs.Examples.{main_board}
 use Rattle.model_guests.specs.Text.{text_of_lines}
-use Rattle.model_findings.specs.AuditExamples.{between, card_at, on_root, behind, at_bus}
-use Rattle.model_lines.specs.Why.{for_memory, for_prefetchable, named, closes, misses, closed_by, stopped_at, told}
+use Rattle.model_findings.specs.AuditExamples.{on_root, behind, at_bus}
 use Rattle.model_lines.specs.WhyText.{why_text, why_number_text}
 use Rattle.model_findings.specs.ReadyExamples.{left}
 
@@ -30,50 +28,16 @@ pub record WhyExamples : Type 0 where
   pub nowhere :
       why_text left memory 0xd0000000
       ≡ text_of_lines (codes "why: memory 0xd0000000: nobody answers" ∷ codes "why: 1 line" ∷ [])
-  -- the endpoint's Command is clear
-  pub closed :
-      told (changed 4 0 (behind 2 0)) memory 0xc0000000
-      ≡ record { region = card_at (behind 2 0) 0xc0000000; causes = closed_by 0 ∷ [] } ∷ []
-  -- the bridge opens I/O alone
-  pub command :
-      told (changed 4 1 (on_root 2)) memory 0xc0000000
-      ≡ record { region = card_at (behind 2 0) 0xc0000000; causes = stopped_at (on_root 2) (closes 1) ∷ [] } ∷ []
-  -- its memory window is shut
+  -- its bridge's memory window is shut
   pub window :
-      told (changed 0x20 0xfff0 (on_root 2)) memory 0xc0000000
-      ≡ record {
-        region = card_at (behind 2 0) 0xc0000000;
-        causes =
-            stopped_at (on_root 2)
-            (misses (named for_memory None ∷ named for_prefetchable (between 0x400000000 0x400ffffff) ∷ [])) ∷ [];
-      } ∷ []
-  -- what is said of them
-  pub text_of_closed :
-      why_text (changed 4 0 (behind 2 0)) memory 0xc0000000
-      ≡ text_of_lines (
-      codes "why: memory 0xc0000000: no region answers"
-      ∷ codes "why: 2.0 forwards it to bus 01"
-      ∷ codes "why: 2.0/0.0 bar0 at 0xc0000000 size 0x100000: closed, Command 0x0000"
-      ∷ codes "why: 3 lines" ∷ [])
-  pub text_of_command :
-      why_text (changed 4 1 (on_root 2)) memory 0xc0000000
-      ≡ text_of_lines (
-      codes "why: memory 0xc0000000: nobody answers"
-      ∷ (codes "why: 2.0/0.0 bar0 at 0xc0000000 size 0x100000: "
-      ++ codes "2.0 doesn't forward it, Command 0x0001 closes memory")
-      ∷ codes "why: 2 lines" ∷ [])
-  pub text_of_window :
       why_text (changed 0x20 0xfff0 (on_root 2)) memory 0xc0000000
       ≡ text_of_lines (
       codes "why: memory 0xc0000000: nobody answers"
       ∷ (codes "why: 2.0/0.0 bar0 at 0xc0000000 size 0x100000: "
       ++ codes "2.0 doesn't forward it, memory shut, prefetchable 0x400000000..0x400ffffff")
       ∷ codes "why: 2 lines" ∷ [])
-  -- both, the nearest to the function first
-  pub all_causes :
-      told (with_file (write (lanes 15) 1 (config 4)) (on_root 2) (changed 4 0 (behind 2 0))) memory 0xc0000000
-      ≡ record { region = card_at (behind 2 0) 0xc0000000; causes = closed_by 0 ∷ stopped_at (on_root 2) (closes 1) ∷ [] } ∷ []
-  pub text_of_all :
+  -- the endpoint's Command is clear, and the bridge opens I/O alone: the nearest to the function first
+  pub causes :
       why_text (with_file (write (lanes 15) 1 (config 4)) (on_root 2) (changed 4 0 (behind 2 0))) memory 0xc0000000
       ≡ text_of_lines (
       codes "why: memory 0xc0000000: nobody answers"
@@ -81,81 +45,33 @@ pub record WhyExamples : Type 0 where
       ++ codes "2.0 doesn't forward it, Command 0x0001 closes memory")
       ∷ codes "why: 2 lines" ∷ [])
   -- regions where reset leaves them are counted
-  pub text_at_reset :
+  pub at_reset :
       why_text (reset_state main_board).functions memory 0x10
       ≡ text_of_lines (
       codes "why: memory 0x10: nobody answers"
       ∷ codes "why: 3 regions at 0x0, closed as at reset"
       ∷ codes "why: 2 lines" ∷ [])
-  pub text_of_one_at_reset :
-      why_text (reset_state main_board).functions memory 0x100000
-      ≡ text_of_lines (
-      codes "why: memory 0x100000: nobody answers"
-      ∷ codes "why: 1 region at 0x0, closed as at reset"
-      ∷ codes "why: 2 lines" ∷ [])
   -- another region's register names its place
-  pub text_of_two :
+  pub two :
       why_text (changed 0x14 0xc0000000 (on_root 1)) memory 0xc0000010
       ≡ text_of_lines (
       codes "why: memory 0xc0000010: 1.0 bar1 offset 0x10 answers"
       ∷ codes "why: 2.0 forwards it to bus 01"
       ∷ codes "why: 2.0/0.0 bar0 at 0xc0000000 size 0x100000: would answer too"
       ∷ codes "why: 3 lines" ∷ [])
-  -- a bridge without an I/O window
-  pub text_of_none :
-      why_text (set_up_state (main_board_with memory_bridge) main_apertures).functions io 0x1000
-      ≡ text_of_lines (
-      codes "why: I/O 0x1000: nobody answers"
-      ∷ codes "why: 2.0/0.0 bar1 at 0x1000 size 0x8: 2.0 doesn't forward it, no window"
-      ∷ codes "why: 2 lines" ∷ [])
   -- numbers
-  pub text_of_root :
-      why_number_text left (at_bus 0 1)
-      ≡ text_of_lines (codes "why: 00:01.0 reaches 1.0" ∷ codes "why: 1 line" ∷ [])
-  pub text_of_number :
-      why_number_text left (at_bus 1 0)
-      ≡ text_of_lines (
-      codes "why: 01:00.0 reaches 2.0/0.0"
-      ∷ codes "why: 2.0 takes bus 01"
-      ∷ codes "why: 2 lines" ∷ [])
-  pub text_of_function :
+  pub no_function :
       why_number_text left (at_bus 1 5)
       ≡ text_of_lines (
       codes "why: 01:05.0 reaches nothing"
       ∷ codes "why: 2.0 takes bus 01"
       ∷ codes "why: no function 5.0 behind 2.0"
       ∷ codes "why: 3 lines" ∷ [])
-  pub text_of_bus :
-      why_number_text left (at_bus 3 0)
-      ≡ text_of_lines (
-      codes "why: 03:00.0 reaches nothing"
-      ∷ codes "why: no bridge on bus 00 takes bus 03"
-      ∷ codes "why: 2 lines" ∷ [])
-  pub text_of_root_function :
-      why_number_text left (at_bus 0 5)
-      ≡ text_of_lines (
-      codes "why: 00:05.0 reaches nothing"
-      ∷ codes "why: no function 5.0 on bus 00"
-      ∷ codes "why: 2 lines" ∷ [])
-  -- its bridge takes three buses, and none behind it takes the last of them
-  pub text_of_behind :
-      why_number_text (changed 0x18 0x030100 (on_root 2)) (at_bus 3 0)
-      ≡ text_of_lines (
-      codes "why: 03:00.0 reaches nothing"
-      ∷ codes "why: 2.0 takes bus 03"
-      ∷ codes "why: no bridge behind 2.0 takes bus 03"
-      ∷ codes "why: 3 lines" ∷ [])
   -- as long as the bridge holds 0, functions behind it have numbers of bus 0
-  pub text_of_not_found :
+  pub not_found :
       why_number_text (reset_state main_board).functions (at_bus 0 0)
       ≡ text_of_lines (
       codes "why: 00:00.0 reaches nothing"
       ∷ codes "why: no function 0.0 on bus 00"
       ∷ codes "why: 2.0/0.0 has this number behind 2.0"
       ∷ codes "why: 3 lines" ∷ [])
-  pub text_of_found_instead :
-      why_number_text (reset_state main_board).functions (at_bus 0 1)
-      ≡ text_of_lines (
-      codes "why: 00:01.0 reaches 1.0"
-      ∷ codes "why: 2.0/1.0 has this number behind 2.0"
-      ∷ codes "why: 2 lines" ∷ [])

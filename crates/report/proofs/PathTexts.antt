@@ -1,18 +1,16 @@
 -- The text of a path, part by part.
-use Rattle.std.proofs.Common.{◌≡◌, Bool, true, false, [], ◌∷◌, ◌++◌, cond, refl, sym, ap, append-nil, codes}
+use Rattle.std.proofs.Common.{◌≡◌, [], ◌∷◌, ◌++◌, sym, ap, ◌∙◌, append-nil, codes}
+use Rattle.std.specs.List.{flat_map}
 use Rattle.model_board.specs.Paths.{Part, Path}
 use Rattle.model_guests.specs.Text.{Text}
 use Rattle.model_guests.specs.PathTexts.{part_text, path_text}
 
--- what is left to write: the first part has no slash before it
-abbrev pub rest_text : Bool → Path → Text
-rest_text first [] = []
-rest_text first (p ∷ ps) = cond first [] (codes "/") ++ (part_text p ++ rest_text false ps)
+abbrev pub after_slash : Part → Text
+after_slash p = codes "/" ++ part_text p
 
-joined : (p : Part) (ps : Path) → path_text (p ∷ ps) ≡ part_text p ++ rest_text false ps
-joined p [] = sym (append-nil (part_text p))
-joined p (q ∷ qs) = ap (λ t. part_text p ++ (47 ∷ t)) (joined q qs)
+pub path_text_is : (p : Part) (ps : Path) → path_text (p ∷ ps) ≡ part_text p ++ flat_map after_slash ps
+path_text_is p [] = sym (append-nil (part_text p))
+path_text_is p (q ∷ qs) = ap (λ t. part_text p ++ (47 ∷ t)) (path_text_is q qs)
 
-pub path_text_is : (p : Path) → path_text p ≡ rest_text true p
-path_text_is [] = refl
-path_text_is (p ∷ ps) = joined p ps
+pub from_first : (whole : Path) (p : Part) (ps : Path) → whole ≡ p ∷ ps → part_text p ++ flat_map after_slash ps ≡ path_text whole
+from_first whole p ps e = sym (path_text_is p ps) ∙ ap path_text (sym e)

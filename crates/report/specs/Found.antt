@@ -8,7 +8,7 @@
 use Rattle.std.specs.Prelude.{List, [], ◌∷◌, ℕ, ◌++◌, if◌then◌else◌, nat_lt, ◌==◌, ◌||◌, Option, Some, None, flat_map, map, not, count_by, codes, decimal}
 use Rattle.model_registers.specs.EndpointTable.{BaseAddress}
 use Rattle.model_registers.specs.BridgeTable.{Window}
-use Rattle.model_board.specs.Paths.{Part, Path, last_part}
+use Rattle.model_board.specs.Paths.{Path, last_part}
 use Rattle.model_board.specs.Board.{Decl, endpoint, bridge, is_bridge}
 use Rattle.model_set_up.specs.FunctionTable.{BusRange, TableRow}
 use Rattle.model_set_up.specs.SetUpWrites.{Writes, to_endpoint, to_bridge, Setting}
@@ -23,11 +23,8 @@ abbrev pub ended : Text → Text
 ended l = l ++ 10 ∷ []
 
 -- BB:DD.F
-abbrev pub part_address : ℕ → Part → Text
-part_address bus p = hex_digits 2 bus ++ codes ":" ++ hex_digits 2 p.device ++ codes "." ++ decimal p.function
-
-abbrev pub numbers_and_path : ℕ → Path → Text
-numbers_and_path bus p = part_address bus (last_part p) ++ codes " " ++ path_text p
+abbrev pub numbers_text : (bus device function : ℕ) → Text
+numbers_text bus device function = hex_digits 2 bus ++ codes ":" ++ hex_digits 2 device ++ codes "." ++ decimal function
 
 abbrev pub base_line : BaseAddress → Text
 base_line r =
@@ -67,7 +64,8 @@ buses_text bus (Some behind) = range_text bus behind.first behind.last
 
 -- a function's first line, as far as endpoints and bridges have it in common
 abbrev pub head_text : ℕ → Path → Text → Text → Text
-head_text bus p kind identity = numbers_and_path bus p ++ kind ++ identity
+head_text bus p kind identity =
+    numbers_text bus (last_part p).device (last_part p).function ++ codes " " ++ path_text p ++ kind ++ identity
 
 abbrev pub endpoint_text : Path → ℕ → Writes → Text
 endpoint_text p pin w = codes "\n" ++ text_of_lines (base_lines w) ++ text_of_lines (known_pin_lines p pin)

@@ -1,16 +1,15 @@
-//! Texts of numbers, paths and kinds.
-ghost use Rattle.std.specs.Prelude.{◌≡◌, ◌<◌, OnOk, false};
+//! How numbers, paths and kinds are shown.
+ghost use Rattle.std.specs.Prelude.{◌≡◌, ◌<◌, Some, false};
 ghost use Rattle.std.specs.Fmt.{digit_glyph};
-ghost use Rattle.lists.specs.Texts.{Adds};
 ghost use Rattle.model_handoff.specs.Report.{kind_text, identity_text};
-ghost use Rattle.model_guests.specs.PathTexts.{path_text};
+ghost use Rattle.model_guests.specs.PathTexts.{part_text, path_text};
 ghost use Rattle.model_guests.specs.Replies.{hex_digits};
 ghost use Rattle.bars.specs.Kinds.{kind_of};
-ghost use Rattle.report.specs.Found.{part_address, numbers_and_path};
+ghost use Rattle.report.specs.Found.{numbers_text};
 
 use bars::Kind;
 use paths::{Part, Path};
-use std::alloc::AllocError;
+use std::fmt;
 
 /// The word for what a region's register opens.
 pub fn kind_text(kind: Kind) -> &'static str
@@ -23,22 +22,35 @@ pub fn kind_text(kind: Kind) -> &'static str
     }
 }
 
-/// Appends the text of a path: device and function number of each part, as in `2.0/1.0`. Without memory for
-/// it, some of it may stand there.
-pub fn push_path(text: &mut String, path: &Path) -> Result<(), AllocError>
-    ensures { OnOk result (Adds text.old text.new (path_text path.now)) }
-{
-    let mut is_first = true;
-    for part in path.parts() {
-        if !is_first {
-            text.push('/')?;
-        }
-        is_first = false;
-        let device = part.device();
-        let function = part.function();
-        write!(text, "{device}.{function}")?;
+/// A device and a function.
+#[derive(Clone, Copy)]
+struct ShownPart(Part);
+
+impl fmt::Display for ShownPart {
+    ghost output = { λ p. Some (part_text p.0) };
+
+    fn fmt<W: fmt::Write>(&self, f: &mut fmt::Formatter<W>) -> fmt::Result {
+        write!(f, "{}.{}", self.0.device(), self.0.function())
     }
-    Ok(())
+}
+
+/// A path: device and function of each part, as in `2.0/1.0`.
+#[derive(Clone, Copy)]
+pub struct ShownPath<'a>(pub &'a Path);
+
+impl<'a> fmt::Display for ShownPath<'a> {
+    ghost output = { λ p. Some (path_text p.0.now) };
+
+    fn fmt<W: fmt::Write>(&self, f: &mut fmt::Formatter<W>) -> fmt::Result {
+        let Some((first, rest)) = self.0.parts().split_first() else {
+            return Ok(());
+        };
+        write!(f, "{}", ShownPart(*first))?;
+        'rest: for part in rest {
+            write!(f, "/{}", ShownPart(*part))?;
+        }
+        Ok(())
+    }
 }
 
 /// A hexadecimal digit.
@@ -54,52 +66,61 @@ fn digit(value: u8) -> char
     })
 }
 
-/// Appends the two digits of a byte.
-pub fn push_byte(text: &mut String, byte: u8) -> Result<(), AllocError>
-    ensures { OnOk result (Adds text.old text.new (hex_digits 2 byte)) }
-{
-    text.push(digit(byte / 16))?;
-    text.push(digit(byte % 16))
+/// The two digits of a byte.
+#[derive(Clone, Copy)]
+pub struct TwoDigits(pub u8);
+
+impl fmt::Display for TwoDigits {
+    ghost output = { λ b. Some (hex_digits 2 b.0) };
+
+    fn fmt<W: fmt::Write>(&self, f: &mut fmt::Formatter<W>) -> fmt::Result {
+        let byte = self.0;
+        write!(f, "{}{}", digit(byte / 16), digit(byte % 16))
+    }
 }
 
-/// Appends the four digits of two bytes.
-pub fn push_word(text: &mut String, word: u16) -> Result<(), AllocError>
-    ensures { OnOk result (Adds text.old text.new (hex_digits 4 word)) }
-{
-    push_byte(text, (word / 256) as u8)?;
-    push_byte(text, (word % 256) as u8)
+/// The four digits of two bytes.
+#[derive(Clone, Copy)]
+pub struct FourDigits(pub u16);
+
+impl fmt::Display for FourDigits {
+    ghost output = { λ w. Some (hex_digits 4 w.0) };
+
+    fn fmt<W: fmt::Write>(&self, f: &mut fmt::Formatter<W>) -> fmt::Result {
+        let high = TwoDigits((self.0 / 256) as u8);
+        let low = TwoDigits((self.0 % 256) as u8);
+        write!(f, "{high}{low}")
+    }
 }
 
-/// Appends Vendor ID and Device ID.
-pub(crate) fn push_identity(text: &mut String, vendor: u16, device: u16) -> Result<(), AllocError>
-    ensures { OnOk result (Adds text.old text.new (identity_text vendor device)) }
-{
-    push_word(text, vendor)?;
-    text.push(':')?;
-    push_word(text, device)
+/// Vendor ID and Device ID.
+#[derive(Clone, Copy)]
+pub(crate) struct Identity {
+    pub(crate) vendor: u16,
+    pub(crate) device: u16,
 }
 
-/// Appends a function's bus, device and function numbers.
-fn push_address(text: &mut String, bus: u8, part: Part) -> Result<(), AllocError>
-    ensures { OnOk result (Adds text.old text.new (part_address bus part)) }
-{
-    let device = part.device();
-    let function = part.function();
-    push_byte(text, bus)?;
-    text.push(':')?;
-    push_byte(text, device)?;
-    write!(text, ".{function}")
+impl fmt::Display for Identity {
+    ghost output = { λ i. Some (identity_text i.vendor i.device) };
+
+    fn fmt<W: fmt::Write>(&self, f: &mut fmt::Formatter<W>) -> fmt::Result {
+        write!(f, "{}:{}", FourDigits(self.vendor), FourDigits(self.device))
+    }
 }
 
-/// Appends a function's numbers and its path.
-pub(crate) fn push_numbers_and_path(
-    text: &mut String,
-    bus: u8,
-    path: &Path,
-) -> Result<(), AllocError>
-    ensures { OnOk result (Adds text.old text.new (numbers_and_path bus path.now)) }
-{
-    push_address(text, bus, path.last())?;
-    text.push(' ')?;
-    push_path(text, path)
+/// Bus, device and function number of a function.
+#[derive(Clone, Copy)]
+pub struct Numbers {
+    pub bus: u8,
+    pub device: u8,
+    pub function: u8,
+}
+
+impl fmt::Display for Numbers {
+    ghost output = { λ n. Some (numbers_text n.bus n.device n.function) };
+
+    fn fmt<W: fmt::Write>(&self, f: &mut fmt::Formatter<W>) -> fmt::Result {
+        let function = self.function;
+        write!(f, "{}:{}.{function}", TwoDigits(self.bus), TwoDigits(self.device))
+    }
 }

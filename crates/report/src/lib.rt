@@ -9,5 +9,5 @@ mod fields;
 mod lines;
 
 pub use board_report::{bridges, endpoints, report_text};
-pub use fields::{kind_text, push_byte, push_path, push_word};
+pub use fields::{FourDigits, Numbers, ShownPath, TwoDigits, kind_text};
 pub use lines::pin_text;

@@ -1,14 +1,13 @@
 //! The lines of one function and of one guest.
-ghost use Rattle.std.specs.Prelude.{◌≡◌, ◌++◌, ◌≤◌, OnOk, codes, map};
+ghost use Rattle.std.specs.Prelude.{◌≡◌, ◌++◌, ◌≤◌, OnOk, map};
 ghost use Rattle.lists.specs.Texts.{Adds};
-ghost use Rattle.model_guests.specs.Replies.{hex_digits};
 ghost use Rattle.model_guests.specs.Text.{text_of_lines};
 ghost use Rattle.model_handoff.specs.Report.{pin_text, slot_lines};
 ghost use Rattle.bars.specs.Slots.{placed, bases_from};
 ghost use Rattle.window_packing.specs.Plans.{writes_of};
 ghost use Rattle.report.specs.Found.{ended, base_line, known_pin_lines, named_window_lines, base_lines, window_lines, range_text, pin_line, row_head, endpoint_text, windows_text, found_text, slot_line};
 
-use crate::fields::{kind_text, push_byte, push_identity, push_numbers_and_path, push_path};
+use crate::fields::{Identity, Numbers, ShownPath, TwoDigits, kind_text};
 use accesses::GuestDecl;
 use bars::BasedRegion;
 use bus_scan::{Found, FunctionRow};
@@ -116,17 +115,6 @@ fn push_windows(text: &mut String, writes: &Writes) -> Result<(), AllocError>
     }
 }
 
-/// Appends Secondary and Subordinate Bus Number.
-fn push_behind(text: &mut String, secondary: u8, subordinate: u8) -> Result<(), AllocError>
-    ensures { OnOk result (Adds text.old text.new
-        (codes " " ++ hex_digits 2 secondary ++ codes " " ++ hex_digits 2 subordinate)) }
-{
-    text.push(' ')?;
-    push_byte(text, secondary)?;
-    text.push(' ')?;
-    push_byte(text, subordinate)
-}
-
 /// Appends Primary, Secondary and Subordinate Bus Number.
 fn push_buses(
     text: &mut String,
@@ -136,18 +124,28 @@ fn push_buses(
 ) -> Result<(), AllocError>
     ensures { OnOk result (Adds text.old text.new (range_text primary secondary subordinate)) }
 {
-    text.push_str(" buses ")?;
-    push_byte(text, primary)?;
-    push_behind(text, secondary, subordinate)
+    let primary = TwoDigits(primary);
+    let secondary = TwoDigits(secondary);
+    let subordinate = TwoDigits(subordinate);
+    write!(text, " buses {primary} {secondary} {subordinate}")
 }
 
 /// Appends a function's numbers, its path, its kind and its identity.
 fn push_head(text: &mut String, row: &FunctionRow, kind: &str) -> Result<(), AllocError>
     ensures { OnOk result (Adds text.old text.new (row_head row.now kind.now)) }
 {
-    push_numbers_and_path(text, row.bus, &row.path)?;
-    text.push_str(kind)?;
-    push_identity(text, row.vendor, row.device)
+    let part = row.path.last();
+    let numbers = Numbers {
+        bus: row.bus,
+        device: part.device(),
+        function: part.function(),
+    };
+    let path = ShownPath(&row.path);
+    let identity = Identity {
+        vendor: row.vendor,
+        device: row.device,
+    };
+    write!(text, "{numbers} {path}{kind}{identity}")
 }
 
 /// Ends an endpoint's first line, and appends the lines of its regions and its pin.
@@ -204,9 +202,7 @@ pub(crate) fn push_function(
 fn push_slot(text: &mut String, name: &str, slot: usize, path: &Path) -> Result<(), AllocError>
     ensures { OnOk result (Adds text.old text.new (ended (slot_line name.now slot path.now))) }
 {
-    write!(text, "guest {name} slot {slot} ")?;
-    push_path(text, path)?;
-    text.push('\n')
+    writeln!(text, "guest {name} slot {slot} {}", ShownPath(path))
 }
 
 /// Appends the lines of a guest's slots.

@@ -9,17 +9,16 @@ ghost use Rattle.session.specs.Tellings.{cause_text};
 use findings::RegionNow;
 use findings_told::push_problem;
 use monitor::HandoverFault;
-use report::push_path;
+use report::ShownPath;
 use std::alloc::{AllocError, Global};
 
 /// Appends the line of a closed region.
 fn push_closed(text: &mut String, closed: &RegionNow) -> Result<(), AllocError>
     ensures { OnOk result (Adds text.old text.new (ended (closed_text closed.now))) }
 {
-    text.push_str("closed: ")?;
-    push_path(text, &closed.path)?;
+    let path = ShownPath(&closed.path);
     let index = closed.region.index;
-    writeln!(text, " bar{index}")
+    writeln!(text, "closed: {path} bar{index}")
 }
 
 /// Appends the line of what stands in the way of a handover, unless memory does.

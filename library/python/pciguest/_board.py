@@ -30,7 +30,7 @@ class Audit(NamedTuple):
 class Readiness(NamedTuple):
     """What is wrong and what is lacking in the registers of a board."""
 
-    #: a line for each problem and for each lack, and a last line that counts both
+    #: a line for each problem and for each lack, and a last line that counts them
     text: str
     #: how many problems and lacks there are: the board is ready where there is none
     lacks: int

@@ -559,10 +559,10 @@ DECLARED: Dict[str, Tuple[Any, Tuple[Any, ...]]] = {
     # 902: there is less room than the text needs, whose length alone is told. 299: out of memory. Since 0.3.0.
     "board_audit": (c_uint32, (POINTER(BoardHandle), POINTER(c_char), c_size_t, POINTER(c_size_t), POINTER(c_size_t))),
     # Writes what is wrong in the registers of a board as they stand, as pciguest_board_audit does but for its last
-    # line, then a line for each thing that they lack, and a last line `ready: ok` or `ready: N lacks`, which counts
-    # both. What is lacking is a region that is closed, outside the apertures or prefetched where it mustn't be, and a
-    # bridge with another Primary than its bus. It tells the text's length, and how many problems and lacks there are:
-    # the board is ready where that is 0. The board stays as it is.
+    # line, then a line for each thing that they lack, and a last line `ready: ok`, or as `ready: 1 problem, 2 lacks`
+    # what there is. What is lacking is a region that is closed, outside the apertures or prefetched where it mustn't
+    # be, and a bridge with another Primary than its bus. It tells the text's length, and how many problems and lacks
+    # there are: the board is ready where that is 0. The board stays as it is.
     # 902: there is less room than the text needs, whose length alone is told. 299: out of memory. Since 0.4.0.
     "board_ready": (c_uint32, (POINTER(BoardHandle), POINTER(c_char), c_size_t, POINTER(c_size_t), POINTER(c_size_t))),
     # Writes a row for each problem that pciguest_board_audit has a line of, in the same order, and tells how many there

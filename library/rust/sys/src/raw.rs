@@ -841,10 +841,10 @@ extern "C" {
         count: *mut usize,
     ) -> u32;
     /// Writes what is wrong in the registers of a board as they stand, as pciguest_board_audit does but for its last
-    /// line, then a line for each thing that they lack, and a last line `ready: ok` or `ready: N lacks`, which counts
-    /// both. What is lacking is a region that is closed, outside the apertures or prefetched where it mustn't be, and a
-    /// bridge with another Primary than its bus. It tells the text's length, and how many problems and lacks there are:
-    /// the board is ready where that is 0. The board stays as it is.
+    /// line, then a line for each thing that they lack, and a last line `ready: ok`, or as `ready: 1 problem, 2 lacks`
+    /// what there is. What is lacking is a region that is closed, outside the apertures or prefetched where it mustn't
+    /// be, and a bridge with another Primary than its bus. It tells the text's length, and how many problems and lacks
+    /// there are: the board is ready where that is 0. The board stays as it is.
     /// 902: there is less room than the text needs, whose length alone is told. 299: out of memory. Since 0.4.0.
     pub fn pciguest_board_ready(
         board: *mut BoardHandle,
