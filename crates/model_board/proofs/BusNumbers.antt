@@ -1,6 +1,6 @@
 -- Bus numbers as counts say where a bridge stands.
 use Rattle.std.proofs.lemmas.Grind.{common_steps}
-use Rattle.std.proofs.Common.{◌≡◌, ℕ, ◌+◌, ◌≤◌, Bool, true, false, ◌&&◌, [], ◌∷◌, refl, subst, arith}
+use Rattle.std.proofs.Common.{◌≡◌, ℕ, ◌+◌, ◌≤◌, Bool, true, false, ◌&&◌, [], ◌∷◌, refl, arith}
 use Rattle.std.specs.Prelude.{count_by, IsTrue}
 use Rattle.std.proofs.lemmas.List.Sums.{sum_by-cons}
 use Rattle.lists.specs.Elements.{Each, EachPair}
@@ -42,33 +42,18 @@ not_at : (t u : Bool) → u ≡ false → one (t && u) ≡ 0
 not_at t u h = grind arith
 
 differ : (p q : Path) → path_before p q ≡ true → path_eq q p ≡ false
-differ p q h = by_test (path_eq q p) refl
-  where
-    by_test : (t : Bool) → path_eq q p ≡ t → t ≡ false
-    by_test false e = refl
-    by_test true e =
-        let same : q ≡ p = path_same q p e in
-        let loop : path_before p p ≡ true = subst (λ (x : Path). path_before p x ≡ true) same h in
-        let bound : one (path_before p p) + one (path_eq p p) ≤ one (path_before p p) = before_trans p p p loop in
-        let self : path_eq p p ≡ true = subst (λ (x : Path). path_eq x p ≡ true) same e in
-        let bad : 1 + 1 ≤ 1 = rw (loop, self) at bound in
-        absurd (omega arith)
+differ p q h = grind (arith, path_same q p, one, before_trans p p p)
 
 none_later : (q : Path) (b : Board) → Each (λ s. IsTrue (path_before q s.path)) b → bridges (at q) b ≡ 0
 none_later q [] h = refl
 none_later q (s ∷ b) h = omega (arith, bridges-cons (at q) s b, not_at (is_bridge s.decl) (path_eq s.path q) (differ q s.path h.0), none_later q b h.1)
-
-one_most : (t : Bool) → one t ≤ 1
-one_most t = grind arith
 
 pub counted_once : (b : Board) (q : Path) → EachPair (λ (r s : Row). IsTrue (path_before r.path s.path)) b → bridges (at q) b ≤ 1
 counted_once [] q h = omega arith
 counted_once (r ∷ b) q h = by_row (path_eq r.path q) refl (counted_once b q h.1)
   where
     by_row : (t : Bool) → path_eq r.path q ≡ t → bridges (at q) b ≤ 1 → bridges (at q) (r ∷ b) ≤ 1
-    by_row true e more =
-        let none : bridges (at q) b ≡ 0 = subst (λ (x : Path). bridges (at x) b ≡ 0) (path_same r.path q e) (none_later r.path b h.0) in
-        omega (arith, bridges-cons (at q) r b, one_most (is_bridge r.decl && path_eq r.path q), none)
+    by_row true e more = grind (arith, path_same r.path q e, none_later r.path b h.0, bridges-cons (at q) r b)
     by_row false e more = omega (arith, bridges-cons (at q) r b, not_at (is_bridge r.decl) (path_eq r.path q) e, more)
 
 -- ---- numbers

@@ -1,6 +1,6 @@
 -- The last part of a path, and what leads to a path.
 use Rattle.std.proofs.lemmas.Grind.{common_steps}
-use Rattle.std.proofs.Common.{◌≡◌, ◌+◌, ◌≤◌, ◌<◌, ◌⊎◌, Bool, true, false, [], ◌∷◌, ◌++◌, length, refl, ap, arith}
+use Rattle.std.proofs.Common.{◌≡◌, ◌+◌, ◌<◌, ◌⊎◌, true, [], ◌∷◌, ◌++◌, length, refl, ap, arith}
 use Rattle.std.proofs.lemmas.Bool.Decides.{nat_tests}
 use Rattle.model_board.specs.Paths.{Part, Path, part_eq, path_eq, path_before, leads_to, parent, last_part}
 use Rattle.model_board.proofs.PathOrder.{one, before_trans, path_same, part_self}
@@ -43,9 +43,7 @@ leads_self (a ∷ q) p = rw (part_self a) (leads_self q p)
 
 -- no path is before itself
 pub not_before_itself : (p : Path) → path_before p p ≡ true → ⊥
-not_before_itself p h =
-    let bound : one (path_before p p) + one (path_eq p p) ≤ one (path_before p p) = before_trans p p p h in
-    grind (arith, path_self)
+not_before_itself p h = grind (arith, path_self, before_trans p p p h)
 
 -- paths of one bus are equal where their last parts are
 pub path_eq-snoc : (bus : Path) (p q : Part) → path_eq (bus ++ p ∷ []) (bus ++ q ∷ []) ≡ part_eq p q
@@ -76,8 +74,4 @@ leads_longer (x ∷ q) (y ∷ p) h = omega (arith, leads_longer q p (right_true 
 
 -- of two paths one alone is before the other
 pub no_turn : (p q : Path) → path_before p q ≡ true → path_before q p ≡ true → ⊥
-no_turn p q h k = by_own (path_before q q) refl (before_trans q p q h)
-  where
-    by_own : (t : Bool) → path_before q q ≡ t → one (path_before q p) + one (path_eq q p) ≤ one (path_before q q) → ⊥
-    by_own true e le = not_before_itself q e
-    by_own false e le = grind arith
+no_turn p q h k = grind (arith, before_trans q p q h, one, not_before_itself q)

@@ -11,9 +11,6 @@ one b = cond b 1 0
 
 -- ---- parts
 
-parts_apart : (a b : Part) → part_before a b ≡ true → part_eq a b ≡ false
-parts_apart a b h = grind (arith, nat_tests)
-
 pub part_same : (a b : Part) → part_eq a b ≡ true → a ≡ b
 part_same a b h = grind (arith, eqb-true, nat_tests)
 
@@ -38,14 +35,13 @@ head_three u v v' B E L C h e i = grind arith
 pub exclusive : (x r : Path) → one (path_before x r) + one (path_eq x r) + one (leads_to r x) ≤ 1
 exclusive [] c = grind arith
 exclusive (a ∷ x) [] = omega arith
-exclusive (a ∷ x) (c ∷ r) = grind (arith, exclusive x r, parts_apart, part_eq-sym)
+exclusive (a ∷ x) (c ∷ r) = grind (arith, exclusive x r, part_eq-sym)
 
 -- what is at or before q is before all that q is before
 before_heads : (a b c : Part) (t : Bool) → (part_before a b || part_eq a b) ≡ t → part_before b c ≡ true → (B E L C : Bool)
     → one (part_before a b || (part_eq a b && B)) + one (part_eq a b && E) + one (part_eq b a && L) ≤ 1
     → one (part_before a b || (part_eq a b && B)) + one (part_eq a b && E) + one (part_eq b a && L) ≤ one (part_before a c || (part_eq a c && C))
-before_heads a b c true e k B E L C i = grind (arith, nat_tests)
-before_heads a b c false e k B E L C i = grind (arith, common_steps, part_eq-sym)
+before_heads a b c t e k B E L C i = grind (arith, nat_tests, common_steps, part_eq-sym)
 
 two_of_three : (m n k l : ℕ) → m + n + k ≤ l → m + n ≤ l
 two_of_three m n k l h = omega arith
@@ -64,7 +60,7 @@ before_trans (a ∷ x) (b ∷ q) (c ∷ r) h = by_head (part_before b c) refl h 
     by_head true e k more =
         two_of_three (one (path_before (a ∷ x) (b ∷ q))) (one (path_eq (a ∷ x) (b ∷ q))) (one (leads_to (b ∷ q) (a ∷ x))) (one (path_before (a ∷ x) (c ∷ r)))
         (before_heads a b c (part_before a b || part_eq a b) refl e (path_before x q) (path_eq x q) (leads_to q x) (path_before x r) (exclusive (a ∷ x) (b ∷ q)))
-    by_head false e k more = search (rules, part_same, left_true, head_two, parts_apart, right_true)
+    by_head false e k more = search (rules, part_same, left_true, head_two, right_true)
 
 -- what is before r, at r or behind it is before all that r is before and doesn't lead to
 pub behind_trans : (x r q : Path) → path_before r q ≡ true → leads_to r q ≡ false → one (path_before x r) + one (path_eq x r) + one (leads_to r x) ≤ one (path_before x q)
@@ -78,7 +74,7 @@ behind_trans (a ∷ x) (b ∷ r) (c ∷ q) h l = by_head (part_before b c) refl 
         → one (path_before (a ∷ x) (b ∷ r)) + one (path_eq (a ∷ x) (b ∷ r)) + one (leads_to (b ∷ r) (a ∷ x)) ≤ one (path_before (a ∷ x) (c ∷ q))
     by_head true e k more =
         before_heads a b c (part_before a b || part_eq a b) refl e (path_before x r) (path_eq x r) (leads_to r x) (path_before x q) (exclusive (a ∷ x) (b ∷ r))
-    by_head false e k more = search (rules, left_true, part_same, head_three, parts_apart, part_eq-sym, right_true)
+    by_head false e k more = search (rules, left_true, part_same, head_three, part_eq-sym, right_true)
 
 -- what is at or before a path behind r is before r, at r or behind it
 pub behind_bound : (x r q : Path) → leads_to r q ≡ true → one (path_before x q) + one (path_eq x q) ≤ one (path_before x r) + one (path_eq x r) + one (leads_to r x)
@@ -86,7 +82,7 @@ behind_bound x [] [] h = cc
 behind_bound a [] (c ∷ q) h = grind (arith, exclusive)
 behind_bound x (b ∷ r) [] h = cc
 behind_bound [] (b ∷ r) (c ∷ q) h = omega arith
-behind_bound (a ∷ x) (b ∷ r) (c ∷ q) h = search (rules, part_same, left_true, parts_apart, part_eq-sym, behind_bound x r q, right_true)
+behind_bound (a ∷ x) (b ∷ r) (c ∷ q) h = search (rules, part_same, left_true, part_eq-sym, behind_bound x r q, right_true)
 
 pub leads_before : (r q : Path) → leads_to r q ≡ true → path_before r q ≡ true
 leads_before [] c h = grind arith

@@ -1,11 +1,11 @@
 -- Lawful places are those of a board: path order takes nothing away and adds nothing.
-use Rattle.std.proofs.Common.{◌≡◌, ◌+◌, ◌≤◌, Bool, true, false, ◌&&◌, ◌||◌, cond, List, [], ◌∷◌, map, refl, sym, ap, ◌∙◌, arith, ◌⊎◌, rules}
+use Rattle.std.proofs.Common.{◌≡◌, Bool, true, false, ◌||◌, cond, List, [], ◌∷◌, map, refl, sym, ap, ◌∙◌, arith, ◌⊎◌, rules}
 use Rattle.std.specs.List.{list_any}
 use Rattle.std.proofs.lemmas.Bool.Decides.{nat_tests}
 use Rattle.lists.specs.Elements.{Each, EachPair}
 use Rattle.lists.proofs.Tests.{left_true, right_true}
-use Rattle.model_board.specs.Paths.{Part, Path, part_eq, path_eq, path_before, leads_to, parent, function_zero, IsPath}
-use Rattle.model_board.specs.Board.{Row, Board, IsBoard, is_bridge, is_bridge_at, stands_at}
+use Rattle.model_board.specs.Paths.{Part, Path, part_eq, path_eq, path_before, parent, function_zero, IsPath}
+use Rattle.model_board.specs.Board.{Row, Board, IsBoard, is_bridge_at, stands_at}
 use Rattle.model_board.specs.Places.{Standing, standing, has_path, has_bridge, AreLawfulPlaces, row_inserted, board_of, LawfulPlacesAreBoards}
 use Rattle.model_board.proofs.PathOrder.{one, exclusive, before_trans}
 use Rattle.lists.proofs.EachLemmas.{each_map, each_both}
@@ -29,10 +29,7 @@ pub apart_turn : (p q : Path) → path_eq p q ≡ false → path_eq q p ≡ fals
 apart_turn p q h = grind (arith, path_turn)
 
 pub before_apart : (p q : Path) → path_before p q ≡ true → path_eq p q ≡ false
-before_apart p q h = by_case (path_eq p q) refl (exclusive p q)
-  where
-    by_case : (t : Bool) → path_eq p q ≡ t → one (path_before p q) + one (path_eq p q) + one (leads_to q p) ≤ 1 → path_eq p q ≡ false
-    by_case t e k = grind arith
+before_apart p q h = grind (arith, exclusive p q, one)
 
 -- ---- a row put in its place
 
@@ -70,10 +67,7 @@ Other r s = path_eq s.path r.path ≡ false
 
 all_after : (r s : Row) (ss : Board) → Before r s → Each (Before s) ss → Each (Before r) ss
 all_after r s [] h k = tt
-all_after r s (x ∷ xs) h k = (step (path_before r.path s.path) (path_before r.path x.path) h (before_trans r.path s.path x.path k.0), all_after r s xs h k.1)
-  where
-    step : (u v : Bool) → u ≡ true → one u + one (path_eq r.path s.path) ≤ one v → v ≡ true
-    step u v e le = grind arith
+all_after r s (x ∷ xs) h k = grind (arith, before_trans r.path s.path x.path k.0, all_after r s xs h k.1, one)
 
 order_in : (r : Row) (b : Board) → Each (Other r) b → EachPair Before b → EachPair Before (row_inserted r b)
 order_in r [] o h = (tt, tt)
@@ -98,9 +92,7 @@ to_order (r ∷ rs) h = order_in r (board_of rs) (each_to_board (Other r) rs h.0
 
 from_order : (rs : List Row) → EachPair Before (board_of rs) → EachPair Other rs
 from_order [] h = tt
-from_order (r ∷ rs) h =
-    let parts = order_out r (board_of rs) h in
-    (each_from_board (Other r) rs parts.0, from_order rs parts.1)
+from_order (r ∷ rs) h = grind (arith, order_out r (board_of rs) h, each_from_board (Other r) rs, from_order rs)
 
 -- ---- the same facts of standings and of rows
 
@@ -124,9 +116,6 @@ standing_pair : (rs : List Row) → EachPair Other rs → EachPair (λ (s t : St
 standing_pair [] h = tt
 standing_pair (r ∷ rs) h = (standing_each (λ t. path_eq t.path r.path ≡ false) rs h.0, standing_pair rs h.1)
 
-bridges_same : (rs : List Row) (p : Path) → has_bridge (map standing rs) p ≡ is_bridge_at (board_of rs) p
-bridges_same rs p = any_standing (λ s. s.is_bridge && path_eq s.path p) rs ∙ sym (any_board (λ r. is_bridge r.decl && path_eq r.path p) rs)
-
 paths_same : (rs : List Row) (p : Path) → has_path (map standing rs) p ≡ stands_at (board_of rs) p
 paths_same rs p = any_standing (λ s. path_eq s.path p) rs ∙ sym (any_board (λ r. path_eq r.path p) rs)
 
@@ -137,10 +126,10 @@ abbrev BehindB : List Row → Row → Type 0
 BehindB rs r = (parent r.path ≡ []) ⊎ (is_bridge_at (board_of rs) (parent r.path) ≡ true)
 
 behind_to : (rs : List Row) (r : Row) → BehindA rs r → BehindB rs r
-behind_to rs r h = grind (arith, bridges_same)
+behind_to rs r h = grind (arith, any_standing, any_board)
 
 behind_from : (rs : List Row) (r : Row) → BehindB rs r → BehindA rs r
-behind_from rs r h = grind (arith, bridges_same)
+behind_from rs r h = grind (arith, any_standing, any_board)
 
 pub lawful_places_are_boards : LawfulPlacesAreBoards
 lawful_places_are_boards rs = (to, from)

@@ -1,5 +1,5 @@
 -- Claims depend on routing registers alone.
-use Rattle.std.proofs.Common.{◌≡◌, ℕ, zero, suc, ◌+◌, ◌*◌, ◌/◌, ◌^◌, ◌≤◌, ◌<◌, Bool, true, cond, List, [], ◌∷◌, ◌++◌, Option, Some, None, refl, sym, ap, ap₂, ◌∙◌, arith, rules}
+use Rattle.std.proofs.Common.{◌≡◌, ℕ, zero, suc, ◌+◌, ◌*◌, ◌≤◌, ◌<◌, Bool, true, cond, List, [], ◌∷◌, ◌++◌, Option, Some, None, refl, sym, ap, ap₂, ◌∙◌, arith, rules}
 use Rattle.std.specs.Prelude.{map, flat_map, slice_get, IsTrue}
 use Rattle.std.specs.Option.{option_map_or, option_to_list}
 use Rattle.std.proofs.lemmas.Bool.Decides.{nat_tests}
@@ -11,7 +11,7 @@ use Rattle.model_registers.specs.Decoding.{Space, base_address, Hit}
 use Rattle.model_board.specs.Paths.{Path}
 use Rattle.model_board.specs.Board.{Decl, endpoint, bridge}
 use Rattle.model_board.specs.State.{BoardFunction}
-use Rattle.model_board.specs.Windows.{window, io_window, mem_window, pref_window}
+use Rattle.model_board.specs.Windows.{io_window, pref_window}
 use Rattle.model_board.specs.Claims.{Claim, claim_at, endpoint_hits, endpoint_hit, claims_of, claim_of, is_forwarded, claims, first_claim}
 use Rattle.model_board.specs.Routing.{regions, ranges_of, routing, row_claims}
 use Rattle.model_board.specs.Lawful.{IsLawfulDecl}
@@ -75,35 +75,26 @@ same_number (suc w) a f g h = ap₂ (λ x y. x + 256 * y) (h a (omega arith) (om
 abbrev SameBytes : Decl → File → File → Type 0
 SameBytes d f g = (n : ℕ) → IsTrue (is_routing_register d n) → (cell_at f (config n)).value ≡ (cell_at g (config n)).value
 
-in_bases : (d : Endpoint) (n : ℕ) → 16 ≤ n → n < 40 → is_routing_register (endpoint d) n ≡ true
-in_bases d n l u = grind (arith, nat_tests)
-
-in_io : (d : Bridge) (n : ℕ) → 28 ≤ n → n < 30 → is_routing_register (bridge d) n ≡ true
-in_io d n l u = grind (arith, nat_tests)
-
 in_memory_windows : (d : Bridge) (n : ℕ) → 32 ≤ n → n < 52 → is_routing_register (bridge d) n ≡ true
 in_memory_windows d n l u = grind (arith, nat_tests)
 
 same_regions : (d : Endpoint) (f g : File) → SameBytes (endpoint d) f g → (rs : List Region) → Each IsLawfulRegion rs → map (base_address f) rs ≡ map (base_address g) rs
 same_regions d f g h [] lawful = refl
-same_regions d f g h (r ∷ rs) lawful = search (rules, same_regions d f g h rs, same_number, in_bases)
+same_regions d f g h (r ∷ rs) lawful = search (rules, same_regions d f g h rs, same_number)
 
 module _ (d : Bridge) (f g : File) (h : SameBytes (bridge d) f g) where
   high : (a w : ℕ) → 32 ≤ a → a + w ≤ 52 → number f (config a) w ≡ number g (config a) w
   high a w l u = same_number w a f g (λ m k j. h m (in_memory_windows d m (omega arith) (omega arith)))
 
   same_io : (k : IoDecode) → io_window k f ≡ io_window k g
-  same_io k = search (rules, high, same_number, in_io)
-
-  same_mem : mem_window f ≡ mem_window g
-  same_mem = ap₂ (λ x y. window (x / 16 * 2 ^ 20) (y / 16 * 2 ^ 20 + 0xfffff)) (high 0x20 2 (omega arith) (omega arith)) (high 0x22 2 (omega arith) (omega arith))
+  same_io k = grind (arith, high, same_number)
 
   same_pref : (k : PrefDecode) → pref_window k f ≡ pref_window k g
   same_pref k = grind (arith, high)
 
 same_ranges : (d : Decl) (f g : File) → IsLawfulDecl d → SameBytes d f g → ranges_of f d ≡ ranges_of g d
 same_ranges (endpoint d) f g lawful h = ap regions (same_regions d f g h d.regions lawful.regions.each)
-same_ranges (bridge d) f g lawful h = grind (arith, same_io, same_mem, same_pref)
+same_ranges (bridge d) f g lawful h = grind (arith, same_io, high, same_pref)
 
 pub routing_of_cells : RoutingOfCells
 routing_of_cells [] g lawful h = grind arith

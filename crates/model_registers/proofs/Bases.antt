@@ -1,12 +1,12 @@
 -- Base address registers: what a write leaves, and what a read shows.
-use Rattle.std.proofs.Common.{◌≡◌, ℕ, ◌+◌, ◌-◌, ◌*◌, ◌/◌, ◌%◌, ◌^◌, ◌<◌, ◌≤◌, ◌⊎◌, inl, inr, Bool, false, ◌&&◌, List, [], ◌∷◌, ◌++◌, length, map, sym, ap, ap₂, ◌∙◌, subst, arith, eqb}
+use Rattle.std.proofs.Common.{◌≡◌, ℕ, ◌+◌, ◌-◌, ◌*◌, ◌/◌, ◌%◌, ◌^◌, ◌<◌, ◌≤◌, ◌⊎◌, inl, inr, Bool, false, List, [], ◌∷◌, ◌++◌, length, map, sym, ap, ap₂, ◌∙◌, subst, arith, eqb}
 use Rattle.std.specs.Prelude.{bit_and, bit_or}
 use Rattle.std.specs.Int.Bits.{or_zero_r, and_zero_r}
 use Rattle.std.proofs.lemmas.Nat.{and_mask, and_block, or_block, or_lt, and_le_l, and_le_r, and_comm, mod_low, pow-add, pow_pos, shr_split, mod_below, pow_below, shr_below, shl_below}
 use Rattle.std.proofs.lemmas.Bool.{cases_lt, cases_eq, cond-true, cond-false, eq-eqb, ne_eqb, and_from, and_left, and_right}
 use Rattle.std.proofs.Math.Nat.{mod-eq_of_lt, add-zero, mul-le-mul_right, mul_assoc}
 use Rattle.std.proofs.lemmas.Nat.Bits.{and_high}
-use Rattle.model_registers.specs.Registers.{config, File, read, write}
+use Rattle.model_registers.specs.Registers.{File, read, write}
 use Rattle.lists.specs.Elements.{Each}
 use Rattle.model_registers.specs.ByteEnables.{is_enabled, enabled_bits}
 use Rattle.model_registers.specs.Declarations.{Kind, registers_of, IsLawfulSize}
@@ -20,9 +20,7 @@ rest_of_blocks : (q d n : ℕ) → 0 < n → (q + 1 + d) * n - 1 - q * n ≡ d *
 rest_of_blocks q d n h = omega arith
 
 rest_of_mask : (j k q : ℕ) → q < 2 ^ j → 2 ^ (j + k) - 1 - q * 2 ^ k ≡ (2 ^ j - 1 - q) * 2 ^ k + (2 ^ k - 1)
-rest_of_mask j k q h =
-    let whole : 2 ^ j ≡ q + 1 + (2 ^ j - 1 - q) = omega arith in
-    ap (λ n. n - 1 - q * 2 ^ k) (pow-add 2 j k ∙ ap (λ n. n * 2 ^ k) whole) ∙ rest_of_blocks q (2 ^ j - 1 - q) (2 ^ k) (pow_pos k)
+rest_of_mask j k q h = grind (arith, pow-add 2 j k, rest_of_blocks q (2 ^ j - 1 - q) (2 ^ k) (pow_pos k), pow_pos k)
 
 -- where the mask has no bit below k, a write passes by the k low bits
 block_merged : (j k q b t x : ℕ) → q < 2 ^ j → t < 2 ^ k
@@ -37,10 +35,6 @@ block_merged j k q b t x hq ht =
     ∙ and_block k (x / 2 ^ k) q (x % 2 ^ k) 0 (mod_below x (2 ^ k) some) some ∙ ap (λ n. bit_and (x / 2 ^ k) q * 2 ^ k + n) (and_zero_r (x % 2 ^ k)) in
     ap₂ bit_or kept taken ∙ or_block k (bit_and b (2 ^ j - 1 - q)) (bit_and (x / 2 ^ k) q) t 0 ht some
     ∙ ap (λ n. bit_or (bit_and b (2 ^ j - 1 - q)) (bit_and (x / 2 ^ k) q) * 2 ^ k + n) (or_zero_r t)
-
--- the mask of a region's base: the bits at and above the size, where they are enabled
-mask_block : (j k e : ℕ) → bit_and (2 ^ (j + k) - 2 ^ k) e ≡ e / 2 ^ k % 2 ^ j * 2 ^ k
-mask_block j k e = and_comm (2 ^ (j + k) - 2 ^ k) e ∙ and_high e j k
 
 -- ---- a lawful base
 
@@ -79,8 +73,7 @@ base_room b lawful =
     let fits : b.base < 2 ^ (p.j + p.k) = subst (λ w. b.base < 2 ^ w) p.width lawful.fits in
     let whole : b.base ≡ b.base / 2 ^ p.k * 2 ^ p.k = omega (arith, shr_split b.base p.k) in
     let high : b.base / 2 ^ p.k + 1 ≤ 2 ^ p.j = omega (arith, shr_below b.base p.j p.k fits) in
-    let room : (b.base / 2 ^ p.k + 1) * 2 ^ p.k ≤ 2 ^ p.j * 2 ^ p.k = mul-le-mul_right (2 ^ p.k) high in
-    subst (λ w. b.base + b.size ≤ 2 ^ w) (sym p.width) (omega (arith, p.size, whole, room, pow-add 2 p.j p.k))
+    grind (arith, mul-le-mul_right, pow-add)
 
 -- a base is a multiple of each power of two up to its size
 pub base_multiple : (b : BaseAddress) → IsLawfulBase b → (i : ℕ) → 2 ^ i ≤ b.size → b.base % 2 ^ i ≡ 0
@@ -102,21 +95,17 @@ unfolding high_part
 merged_types j k base x e t aligned ht =
     let some : 0 < 2 ^ j = pow_pos j in
     let whole : base ≡ base / 2 ^ k * 2 ^ k = omega (arith, shr_split base k) in
-    ap₂ (λ n m. overwritten (j + k) (n + t) x m) whole (mask_block j k e)
-    ∙ block_merged j k (e / 2 ^ k % 2 ^ j) (base / 2 ^ k) t x (mod_below (e / 2 ^ k) (2 ^ j) some) ht
+    grind (arith, and_comm, and_high, block_merged, mod_below)
 
 -- a write leaves the type bits
 rebased_types : (b : BaseAddress) → IsLawfulBase b → (x e : ℕ) → overwritten (base_width b.kind) (b.base + type_bits b.kind) x (bit_and (2 ^ base_width b.kind - b.size) e) ≡ rebased b x e + type_bits b.kind
-rebased_types b lawful x e =
-    let p : Parts b = parts b lawful in
-    grind (arith, merged_types, add-zero, pow_pos)
+rebased_types b lawful x e = grind (arith, parts b lawful, merged_types, add-zero, pow_pos)
 
 -- and a base that its registers can hold
 pub rebased_lawful : (b : BaseAddress) → IsLawfulBase b → (x e : ℕ) → IsLawfulBase (record b { base = rebased b x e })
 unfolding high_part
 rebased_lawful b lawful x e =
     let p : Parts b = parts b lawful in
-    let aligned : b.base % 2 ^ p.k ≡ 0 = subst (λ n. b.base % n ≡ 0) p.size lawful.aligned in
     let fits : b.base < 2 ^ (p.j + p.k) = subst (λ w. b.base < 2 ^ w) p.width lawful.fits in
     let bare : rebased b x e ≡ high_part p.j p.k b.base x e * 2 ^ p.k + 0 = grind (arith, add-zero, merged_types, pow_pos) in
     grind (arith, shr_below, and_le_l, mod_below, pow_pos, and_le_r, or_lt, mod_low, shl_below)
@@ -144,12 +133,6 @@ upper a b c d = false ∷ false ∷ false ∷ false ∷ a ∷ b ∷ c ∷ d ∷ 
 upper_bits : (a b c d : Bool) → enabled_bits (upper a b c d) ≡ enabled_bits (four a b c d) * 2 ^ 32
 upper_bits a b c d = omega arith
 
-write_upper : (a b c d : Bool) (x n : ℕ) (file : File) → write (upper a b c d) (x * 2 ^ 32) (base_register n) file ≡ write (four a b c d) x (base_register (n + 1)) file
-write_upper a b c d x n file = ap₂ (λ y q. write (four a b c d) y (config q) file) (omega arith) (omega arith)
-
-read_upper : (a b c d : Bool) (n : ℕ) (file : File) → read file (base_register n) (upper a b c d) ≡ read file (base_register (n + 1)) (four a b c d) * 2 ^ 32
-read_upper a b c d n file = grind arith
-
 -- where a register of four bytes lies in a region's registers
 data Side (reg : ℕ) (b : BaseAddress) : Type 0 where
   low : reg ≡ b.index → Side reg b
@@ -175,24 +158,16 @@ rewritten_low reg ons x b e = ap (λ n. record b { base = n }) (cond-true (eqb r
 pub rewritten_high : (reg : ℕ) (ons : List Bool) (x : ℕ) (b : BaseAddress) → reg ≡ b.index + 1 → registers_of b.kind ≡ 2 → rewritten reg ons x b ≡ record b { base = rebased b (x * 2 ^ 32) (enabled_bits ons * 2 ^ 32) }
 rewritten_high reg ons x b e two = grind (arith, cond-false, ne_eqb, cond-true, and_from, eq-eqb)
 
-not_wide : (reg : ℕ) (b : BaseAddress) → (registers_of b.kind ≡ 2 → reg ≡ b.index + 1 → ⊥) → (eqb (registers_of b.kind) 2 && eqb reg (b.index + 1)) ≡ false
-not_wide reg b m = grind (arith, one_or_two, and_left, ne_eqb, and_right)
-
 pub rewritten_apart : (reg : ℕ) (ons : List Bool) (x : ℕ) (b : BaseAddress) → (reg ≡ b.index → ⊥) → (registers_of b.kind ≡ 2 → reg ≡ b.index + 1 → ⊥) → rewritten reg ons x b ≡ b
-rewritten_apart reg ons x b n m = grind (arith, cond-false, ne_eqb, not_wide)
+rewritten_apart reg ons x b n m = grind (arith, cond-false, ne_eqb, one_or_two, and_left, and_right)
 
 write_low : (b : BaseAddress) → IsLawfulBase b → (p q r s : Bool) (x : ℕ)
     → write (four p q r s) x (base_register b.index) (register_cells b) ≡ register_cells (record b { base = rebased b x (enabled_bits (four p q r s)) })
-write_low b lawful p q r s x = elim (one_or_two b.kind) [
-  | inl one ↦ write_whole b lawful (four p q r s) (omega arith) x
-  | inr two ↦ write_whole b lawful (lower p q r s) (omega arith) x
-]
+write_low b lawful p q r s x = grind (arith, one_or_two b.kind, write_whole b lawful (four p q r s), write_whole b lawful (lower p q r s))
 
 write_high : (b : BaseAddress) → IsLawfulBase b → registers_of b.kind ≡ 2 → (p q r s : Bool) (x : ℕ)
     → write (four p q r s) x (base_register (b.index + 1)) (register_cells b) ≡ register_cells (record b { base = rebased b (x * 2 ^ 32) (enabled_bits (four p q r s) * 2 ^ 32) })
-write_high b lawful two p q r s x =
-    sym (write_upper p q r s x b.index (register_cells b)) ∙ write_whole b lawful (upper p q r s) (omega arith) (x * 2 ^ 32)
-    ∙ ap (λ e. register_cells (record b { base = rebased b (x * 2 ^ 32) e })) (upper_bits p q r s)
+write_high b lawful two p q r s x = grind (arith, write_whole b lawful (upper p q r s), upper_bits p q r s)
 
 pub write_one : (b : BaseAddress) → IsLawfulBase b → (p q r s : Bool) (x reg : ℕ) → write (four p q r s) x (base_register reg) (register_cells b) ≡ register_cells (rewritten reg (four p q r s) x b)
 write_one b lawful p q r s x reg = elim (side reg b) [
@@ -222,10 +197,7 @@ read_whole : (b : BaseAddress) (rest : File) (ons : List Bool) → length ons �
 read_whole b rest ons len = grind (arith, read_field)
 
 pub read_low : (b : BaseAddress) (rest : File) (p q r s : Bool) → read (register_cells b ++ rest) (base_register b.index) (four p q r s) ≡ bit_and (shown b) (enabled_bits (four p q r s))
-read_low b rest p q r s = elim (one_or_two b.kind) [
-  | inl one ↦ read_whole b rest (four p q r s) (omega arith)
-  | inr two ↦ read_whole b rest (lower p q r s) (omega arith)
-]
+read_low b rest p q r s = grind (arith, one_or_two b.kind, read_whole b rest (four p q r s), read_whole b rest (lower p q r s))
 
 pub and_upper : (v e : ℕ) → bit_and v (e * 2 ^ 32) ≡ bit_and (v / 2 ^ 32) e * 2 ^ 32
 and_upper v e =
@@ -235,9 +207,7 @@ and_upper v e =
 pub read_high : (b : BaseAddress) → registers_of b.kind ≡ 2 → (rest : File) (p q r s : Bool) → read (register_cells b ++ rest) (base_register (b.index + 1)) (four p q r s) ≡ bit_and (shown b / 2 ^ 32) (enabled_bits (four p q r s))
 read_high b two rest p q r s =
     let whole : read (register_cells b ++ rest) (base_register b.index) (upper p q r s) ≡ bit_and (shown b) (enabled_bits (upper p q r s)) = read_whole b rest (upper p q r s) (omega arith) in
-    let turned : bit_and (shown b) (enabled_bits (upper p q r s)) ≡ bit_and (shown b / 2 ^ 32) (enabled_bits (four p q r s)) * 2 ^ 32 =
-    ap (bit_and (shown b)) (upper_bits p q r s) ∙ and_upper (shown b) (enabled_bits (four p q r s)) in
-    omega (arith, read_upper p q r s b.index (register_cells b ++ rest))
+    grind (arith, upper_bits p q r s, and_upper (shown b) (enabled_bits (four p q r s)))
 
 pub word_low : (reg : ℕ) (b : BaseAddress) (bs : List BaseAddress) → reg ≡ b.index → word_at reg (b ∷ bs) ≡ shown b
 word_low reg b bs e = cond-true (eqb reg b.index) _ _ (eq-eqb reg b.index e)
@@ -246,15 +216,14 @@ pub word_high : (reg : ℕ) (b : BaseAddress) (bs : List BaseAddress) → reg �
 word_high reg b bs e two = grind (arith, cond-false, ne_eqb, cond-true, and_from, eq-eqb)
 
 pub word_apart : (reg : ℕ) (b : BaseAddress) (bs : List BaseAddress) → (reg ≡ b.index → ⊥) → (registers_of b.kind ≡ 2 → reg ≡ b.index + 1 → ⊥) → word_at reg (b ∷ bs) ≡ word_at reg bs
-word_apart reg b bs n m = cond-false (eqb reg b.index) _ _ (ne_eqb reg b.index n) ∙ cond-false (eqb (registers_of b.kind) 2 && eqb reg (b.index + 1)) _ _ (not_wide reg b m)
+word_apart reg b bs n m = grind (arith, cond-false, ne_eqb, one_or_two, and_left, and_right)
 
 pub read_bases : (bs : List BaseAddress) (p q r s : Bool) (reg : ℕ) → read (base_file bs) (base_register reg) (four p q r s) ≡ bit_and (word_at reg bs) (enabled_bits (four p q r s))
 read_bases [] p q r s reg = read_none (four p q r s) (base_register reg)
 read_bases (b ∷ bs) p q r s reg = elim (side reg b) [
   | low e ↦ ap (λ n. read (register_cells b ++ base_file bs) (base_register n) (four p q r s)) e ∙ read_low b (base_file bs) p q r s
       ∙ ap (λ n. bit_and n (enabled_bits (four p q r s))) (sym (word_low reg b bs e))
-  | high e two ↦ ap (λ n. read (register_cells b ++ base_file bs) (base_register n) (four p q r s)) e ∙ read_high b two (base_file bs) p q r s
-      ∙ ap (λ n. bit_and n (enabled_bits (four p q r s))) (sym (word_high reg b bs e two))
+  | high e two ↦ grind (arith, read_high, word_high)
   | apart n m ↦ read_apart (four p q r s) (0x10 + 4 * reg) (4 * registers_of b.kind) (0x10 + 4 * b.index) (shown b) (2 ^ base_width b.kind - b.size) 0 (base_file bs) (apart_from reg b n m)
       ∙ read_bases bs p q r s reg ∙ ap (λ n. bit_and n (enabled_bits (four p q r s))) (sym (word_apart reg b bs n m))
 ]

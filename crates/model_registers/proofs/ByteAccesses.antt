@@ -45,12 +45,9 @@ write_enabled : (w k v : ℕ) (file : File) (p : Place) → write (replicate w t
 write_enabled zero k v file p = disabled_stay k v file p
 write_enabled (suc w) k v file p = write_enabled w k (v / 256) (changed (written (v % 256)) p file) (after p)
 
-quotient : (v l : ℕ) → v / 256 / 256 ^ l ≡ v / 256 ^ suc l
-quotient v l = div-div-eq-div-mul v 256 (256 ^ l) ∙ ap (λ n. v / n) (mul_comm 256 (256 ^ l) ∙ sym (pow-suc 256 l))
-
 write_lanes : (l w k v : ℕ) (file : File) (p : Place) → write (lanes_of l w k) v p file ≡ write (all_bytes w) (v / 256 ^ l) (further l p) file
 write_lanes zero w k v file p = write_enabled w k v file p ∙ ap (λ n. write (all_bytes w) n p file) (let same : v ≡ v / 1 = omega arith in same)
-write_lanes (suc l) w k v file p = write_lanes l w k (v / 256) file (after p) ∙ ap (λ n. write (all_bytes w) n (further l (after p)) file) (quotient v l)
+write_lanes (suc l) w k v file p = grind (arith, write_lanes l w k (v / 256) file (after p), div-div-eq-div-mul, mul_comm, pow-suc)
 
 -- ---- the enables of a number
 
@@ -90,16 +87,10 @@ further-block (suc l) n a = further-block l n (a + 1) ∙ ap (block n) (omega ar
 in_word : (p : Place) → further (offset_of p % 4) (word_of p) ≡ p
 in_word p = grind (arith, further-config, further-block)
 
-unshifted : (n l : ℕ) → n * 256 ^ l / 256 ^ l ≡ n
-unshifted n l = mul-div_cancel n (one-le-pow l 256 (omega arith))
-
 pub number_by_lanes : NumberByLanes
 number_by_lanes file p w within =
     let l : ℕ = offset_of p % 4 in
-    sym (ap (λ ons. read file (word_of p) ons / 256 ^ l) (tables l w 0 within).0
-    ∙ ap (λ n. n / 256 ^ l) (read_lanes l w (4 - (l + w)) file (word_of p))
-    ∙ unshifted (number file (further l (word_of p)) w) l
-    ∙ ap (λ q. number file q w) (in_word p))
+    grind (arith, tables l w 0 within, read_lanes l w (4 - (l + w)) file (word_of p), mul-div_cancel, one-le-pow, in_word p)
 
 -- ---- writes
 
@@ -125,15 +116,12 @@ enabled_low (suc w) k n = ap (λ m. n % 256 + 256 * m) (enabled_low w k (n / 256
 
 enabled_lanes : (l w k n : ℕ) → enabled_bytes (lanes_of l w k) n ≡ (n / 256 ^ l % 256 ^ w) * 256 ^ l
 enabled_lanes zero w k n = enabled_low w k n ∙ (let same : n % 256 ^ w ≡ (n / 1 % 256 ^ w) * 1 = ap (λ m. m % 256 ^ w) (let one : n ≡ n / 1 = omega arith in one) ∙ sym (omega arith) in same)
-enabled_lanes (suc l) w k n =
-    ap (λ m. 0 + 256 * m) (enabled_lanes l w k (n / 256)) ∙ shift_one (n / 256 / 256 ^ l % 256 ^ w) l ∙ ap (λ m. (m % 256 ^ w) * 256 ^ suc l) (quotient n l)
+enabled_lanes (suc l) w k n = grind (arith, enabled_lanes l w k (n / 256), shift_one, div-div-eq-div-mul, mul_comm, pow-suc)
 
 pub lanes_fit : LanesFit
 lanes_fit off w word within only =
     let l : ℕ = off % 4 in
-    let is : word ≡ (word / 256 ^ l % 256 ^ w) * 256 ^ l =
-    only ∙ ap (λ ons. enabled_bytes ons word) (tables l w 0 within).0 ∙ enabled_lanes l w (4 - (l + w)) word in
-    sym (ap (λ m. m / 256 ^ l) is ∙ unshifted (word / 256 ^ l % 256 ^ w) l)
+    grind (arith, tables l w 0 within, enabled_lanes l w (4 - (l + w)) word, mul-div_cancel, one-le-pow)
 
 pub number_from_word : NumberFromWord
 number_from_word file p w word within is only =

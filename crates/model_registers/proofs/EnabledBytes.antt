@@ -25,22 +25,16 @@ write_past (true ∷ ons) x a b c file h = grind (arith, below, write_past ons (
 abbrev byte_bits : Bool → ℕ
 byte_bits on = cond on 255 0
 
-byte_bits_fit : (on : Bool) → byte_bits on < 256
-byte_bits_fit on = grind arith
-
 enabled_low : (on : Bool) (ons : List Bool) → enabled_bits (on ∷ ons) % 256 ≡ byte_bits on
-enabled_low on ons = omega (arith, byte_bits_fit on)
+enabled_low on ons = grind arith
 
 enabled_high : (on : Bool) (ons : List Bool) → enabled_bits (on ∷ ons) / 256 ≡ enabled_bits ons
-enabled_high on ons = omega (arith, byte_bits_fit on)
+enabled_high on ons = grind arith
 
 -- ---- reading
 
 and_split : (v e on : ℕ) → on < 256 → bit_and v (on + 256 * e) ≡ bit_and (v % 256) on + 256 * bit_and (v / 256) e
-and_split v e on h =
-    let turned : on + 256 * e ≡ e * 256 + on = omega arith in
-    let split : v ≡ v / 256 * 256 + v % 256 = omega arith in
-    ap₂ bit_and split turned ∙ and_block 8 (v / 256) e (v % 256) on (omega arith) h ∙ omega arith
+and_split v e on h = grind (arith, and_block 8 (v / 256) e (v % 256) on)
 
 byte_read : (on : Bool) (v : ℕ) → cond on (v % 256) 0 ≡ bit_and (v % 256) (byte_bits on)
 byte_read true v = sym (and_mask (v % 256) 8 ∙ omega arith)
@@ -48,7 +42,7 @@ byte_read false v = sym (and_zero_r (v % 256))
 
 pub read_field : (ons : List Bool) (a v rw c : ℕ) (rest : File) → read (field (config a) (length ons) v rw c ++ rest) (config a) ons ≡ bit_and v (enabled_bits ons)
 read_field [] a v m c rest = sym (and_zero_r v)
-read_field (on ∷ ons) a v m c rest = grind (arith, read_here, byte_read, read_past, read_field ons (a + 1) (v / 256) (m / 256) (c / 256) rest, and_split, byte_bits_fit)
+read_field (on ∷ ons) a v m c rest = grind (arith, read_here, byte_read, read_past, read_field ons (a + 1) (v / 256) (m / 256) (c / 256) rest, and_split)
 
 -- ---- writing
 
@@ -75,8 +69,7 @@ byte_write : (on : Bool) (ons : List Bool) (v m x : ℕ) → m < 256 ^ suc (leng
     → cond on (low_value v x (m % 256)) (v % 256) ≡ merged (suc (length ons)) v x (bit_and m (enabled_bits (on ∷ ons))) % 256
 byte_write true ons v m x h =
     let mask : ℕ = bit_and m (enabled_bits (true ∷ ons)) in
-    let same : mask % 256 ≡ m % 256 = mask_low true ons m ∙ and_mask (m % 256) 8 ∙ omega arith in
-    ap (low_value v x) (sym same) ∙ merged_low (length ons) v x mask (omega (arith, and_le_l m (enabled_bits (true ∷ ons))))
+    grind (arith, mask_low true ons m, and_mask (m % 256) 8, merged_low (length ons) v x mask, and_le_l m (enabled_bits (true ∷ ons)))
 byte_write false ons v m x h =
     let mask : ℕ = bit_and m (enabled_bits (false ∷ ons)) in
     let none : mask % 256 ≡ 0 = mask_low false ons m ∙ and_zero_r (m % 256) in
@@ -84,10 +77,7 @@ byte_write false ons v m x h =
 
 rest_write : (on : Bool) (ons : List Bool) (v m x : ℕ) → m < 256 ^ suc (length ons)
     → merged (length ons) (v / 256) (x / 256) (bit_and (m / 256) (enabled_bits ons)) ≡ merged (suc (length ons)) v x (bit_and m (enabled_bits (on ∷ ons))) / 256
-rest_write on ons v m x h =
-    let mask : ℕ = bit_and m (enabled_bits (on ∷ ons)) in
-    ap (merged (length ons) (v / 256) (x / 256)) (sym (mask_high on ons m))
-    ∙ merged_high (length ons) v x mask (omega (arith, and_le_l m (enabled_bits (on ∷ ons))))
+rest_write on ons v m x h = grind (arith, mask_high on ons m, merged_high (length ons) v x, and_le_l m (enabled_bits (on ∷ ons)))
 
 pub write_field : (ons : List Bool) (a v rw x : ℕ) → rw < 256 ^ length ons
     → write ons x (config a) (field (config a) (length ons) v rw 0) ≡ field (config a) (length ons) (merged (length ons) v x (bit_and rw (enabled_bits ons))) rw 0

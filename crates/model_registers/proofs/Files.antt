@@ -103,17 +103,13 @@ pub region_has_no_other : RegionHasNoOther
 region_has_no_other [] n m a file h = tt
 region_has_no_other (on ∷ ons) n m a file h = (λ _. region_without_other file n m a h, region_has_no_other ons n m (a + 1) file h)
 
--- in a region an offset is that of configuration space
-at_offset : (q : Place) (n a : ℕ) → IsConfig q → place_eq (block n (offset_of q)) (block n a) ≡ place_eq q (config a)
-at_offset q n a h = grind (arith, eq-eqb)
-
 pub region_cells : RegionCells
 region_cells n a [] = refl
 region_cells n a (c ∷ cs) = ap (λ (file : File). record { place = block n a; cell = c } ∷ file) (region_cells n (a + 1) cs)
 
 pub region_cell : RegionCell
 region_cell n a [] h = refl
-region_cell n a (e ∷ es) h = ap₂ (λ (t : Bool) (c : Cell). cond t e.cell c) (at_offset e.place n a h.0) (region_cell n a es h.1)
+region_cell n a (e ∷ es) h = grind (arith, region_cell n a es h.1, eq-eqb)
 
 pub region_read : RegionRead
 region_read [] n a file h = refl
@@ -122,7 +118,7 @@ region_read (false ∷ ons) n a file h = ap (λ k. 0 + 256 * k) (region_read ons
 
 pub region_change : RegionChange
 region_change f n a [] h = refl
-region_change f n a (e ∷ es) h = grind (arith, at_offset, region_change f n a es)
+region_change f n a (e ∷ es) h = grind (arith, eq-eqb, region_change f n a es)
 
 pub region_write : RegionWrite
 region_write [] v n a file h = refl

@@ -61,8 +61,7 @@ numbers d h =
           each_map (λ (r : Region). IsTrue (leb (length r.cells) 4096)) (λ r. length r.cells ≤ 4096) d.regions (λ r p. leb-true _ _ p)
           (each_test (λ r. leb (length r.cells) 4096) d.regions (right_true (a && b && c && e) f abcef));
       blocks =
-          each_map (λ (x : ConfigBlock). IsTrue (is_config_block x)) IsConfigBlock d.blocks config_block
-          (each_test is_config_block d.blocks (right_true (a && b && c && e && f) g h));
+          grind (arith, each_map, config_block, each_test is_config_block d.blocks (right_true (a && b && c && e && f) g h), right_true (a && b && c && e && f) g h);
     }
 
 lawful_regions : (rs : List Region) → has_own_registers rs ≡ true → list_all (λ r. leb (length r.cells) r.size) rs ≡ true → Each (λ (r : Region). IsLawfulSize r.kind r.size) rs → Each IsLawfulRegion rs
@@ -79,14 +78,7 @@ sorted_is_lawful d ys fits sizes none perm sorted =
     let p = passes d none in
     let n = numbers d p.numbers in
     record {
-      fits = record {
-        device = fits.device;
-        revision = fits.revision;
-        subvendor = fits.subvendor;
-        subsystem = fits.subsystem;
-        min_gnt = fits.min_gnt;
-        max_lat = fits.max_lat;
-      };
+      fits = grind arith;
       vendor = n.vendor;
       class = n.class;
       pin = n.pin;

@@ -6,8 +6,8 @@ use Rattle.std.proofs.lemmas.Bool.{cases_lt, cases_Bool, or_parts, and_cases, eq
 use Rattle.lists.specs.Elements.{Each}
 use Rattle.model_registers.specs.Cell.{Cell, no_cell, written, raised}
 use Rattle.model_registers.specs.Registers.{Place, config, block, place_eq, after, File, cell_at, changed, read, write, all_bytes, field, cells_from}
-use Rattle.model_registers.specs.Declarations.{Endpoint, ConfigBlock, Kind, io_kind, mem32, mem64, Region, registers_of, IsLawfulRegion}
-use Rattle.model_registers.specs.EndpointTable.{BaseAddress, base_width, type_bits, base_file, command_cells, opened, closed, region_cells, block_cells, header_cells}
+use Rattle.model_registers.specs.Declarations.{ConfigBlock, Kind, Region, registers_of, IsLawfulRegion}
+use Rattle.model_registers.specs.EndpointTable.{BaseAddress, base_width, type_bits, base_file, command_cells, opened, closed, region_cells, block_cells}
 use Rattle.model_registers.specs.Decoding.{base, base_address}
 use Rattle.model_registers.specs.OwnCopies.{is_own, OwnCopies, own_file, HoldsOwn, handed_on, IsLawfulOwn, OwnReads, OwnWrites, OwnStay, bare, OwnHits, ResetHoldsOwn}
 use Rattle.model_registers.specs.CopiedFiles.{with_copies}
@@ -65,8 +65,7 @@ no_block (b ∷ bs) n q = block_outside (4 * registers_of b.kind) (0x10 + 4 * b.
 
 -- own copies have no other cell
 pub none_else : (own : OwnCopies) → IsLawfulOwn own → (p : Place) → is_own p ≡ false → cell_at (own_file own) p ≡ no_cell
-none_else own lawful (block n q) other = block_outside 2 4 own.command 0x0547 0 n q (base_file own.bases) ∙ no_block own.bases n q
-none_else own lawful (config q) other = grind (arith, cell_outside, no_base, or_parts, cases_lt, above, eqb-false, and_cases, leb-false, ltb-false)
+none_else own lawful p other = grind (arith, block_outside, no_block, cell_outside, no_base, or_parts, cases_lt, above, eqb-false, and_cases, leb-false, ltb-false)
 
 pub own_reads : OwnReads
 own_reads own lawful file holds p [] = refl
@@ -118,9 +117,7 @@ same_number own file holds (on ∷ ons) q low high =
     ap₂ (λ (c : Cell) (n : ℕ). cond on c.value 0 + 256 * n) (holds (config q) (base_is_own q low (omega arith))) (same_number own file holds ons (q + 1) (omega arith) (omega arith))
 
 same_base : (own : OwnCopies) (file : File) → HoldsOwn file own → (kind : Kind) (n : ℕ) → n + registers_of kind ≤ 6 → base file n kind ≡ base (own_file own) n kind
-same_base own file holds io_kind n h = ap (λ m. m / 4 * 4) (same_number own file holds (all_bytes 4) (0x10 + 4 * n) (omega arith) (omega arith))
-same_base own file holds (mem32 pref) n h = ap (λ m. m / 16 * 16) (same_number own file holds (all_bytes 4) (0x10 + 4 * n) (omega arith) (omega arith))
-same_base own file holds (mem64 pref) n h = ap (λ m. m / 16 * 16) (same_number own file holds (all_bytes 8) (0x10 + 4 * n) (omega arith) (omega arith))
+same_base own file holds kind n h = grind (arith, same_number own file holds (all_bytes 4) (0x10 + 4 * n), same_number own file holds (all_bytes 8) (0x10 + 4 * n))
 
 same_standing : (own : OwnCopies) (file : File) → HoldsOwn file own → (bs : List BaseAddress) → Each IsLawfulRegion (map opened bs) → map (base_address file) (map opened bs) ≡ map (base_address (own_file own)) (map opened bs)
 same_standing own file holds [] lawful = refl
@@ -175,10 +172,6 @@ unfolding lies_outside
 passed_by [] q rest h low high = refl
 passed_by (e ∷ es) q rest h low high = grind (arith, and_parts, outside_apart, passed_by es q rest)
 
-header_outside : (d : Endpoint) (command : ℕ) → lies_outside (header_cells d false command) ≡ true
-unfolding lies_outside is_outside
-header_outside d command = refl
-
 command_outside : (command : ℕ) → lies_outside (command_cells command) ≡ true
 unfolding lies_outside is_outside
 command_outside command = refl
@@ -190,4 +183,4 @@ low_base (b ∷ bs) q h =
 
 pub reset_holds_own : ResetHoldsOwn
 reset_holds_own d blocks (block n q) mine = cc
-reset_holds_own d blocks (config q) mine = grind (arith, or_cases, leb-true, and_parts, ltb-true, eqb-true, low_base, append_assoc, passed_by, header_outside, blocks_above, bases_of_regions, command_outside)
+reset_holds_own d blocks (config q) mine = grind (arith, or_cases, leb-true, and_parts, ltb-true, eqb-true, low_base, append_assoc, passed_by, blocks_above, bases_of_regions, command_outside)

@@ -1,5 +1,5 @@
 -- Files that are put together of parts: what a change of one part leaves of the others.
-use Rattle.std.proofs.Common.{◌≡◌, ℕ, zero, suc, ◌+◌, ◌*◌, ◌/◌, ◌%◌, ◌<◌, ◌≤◌, ◌⊎◌, inr, Bool, true, false, cond, List, [], ◌∷◌, ◌++◌, length, refl, ap, ap₂, ◌∙◌, arith, eqb, append_assoc}
+use Rattle.std.proofs.Common.{◌≡◌, ℕ, zero, suc, ◌+◌, ◌*◌, ◌/◌, ◌%◌, ◌<◌, ◌≤◌, ◌⊎◌, inr, Bool, true, false, cond, List, [], ◌∷◌, ◌++◌, length, refl, ap, ap₂, ◌∙◌, arith, append_assoc}
 use Rattle.model_registers.specs.Cell.{Cell, written}
 use Rattle.model_registers.specs.Registers.{Place, config, place_eq, after, File, cell_at, changed, read, write, field}
 use Rattle.model_registers.proofs.RegisterFiles.{above, below}
@@ -18,38 +18,32 @@ write_append (false ∷ ons) x p xs ys = write_append ons (x / 256) (after p) xs
 abbrev pub IsOutside : ℕ → ℕ → ℕ → Type 0
 IsOutside q a w = (q < a) ⊎ (a + w ≤ q)
 
-outside_first : (q a w : ℕ) → IsOutside q a (suc w) → eqb a q ≡ false
-outside_first q a w h = grind (arith, above, below)
-
 outside_rest : (q a w : ℕ) → IsOutside q a (suc w) → IsOutside q (a + 1) w
 outside_rest q a w h = grind arith
 
 pub change_outside : (f : Cell → Cell) (w a q v m c : ℕ) → IsOutside q a w → changed f (config q) (field (config a) w v m c) ≡ field (config a) w v m c
 change_outside f zero a q v m c h = refl
-change_outside f (suc w) a q v m c h = grind (arith, outside_first, change_outside f w (a + 1) q (v / 256) (m / 256) (c / 256), outside_rest)
+change_outside f (suc w) a q v m c h = grind (arith, above, below, change_outside f w (a + 1) q (v / 256) (m / 256) (c / 256), outside_rest)
 
 pub cell_outside : (w a q v m c : ℕ) (rest : File) → IsOutside q a w → cell_at (field (config a) w v m c ++ rest) (config q) ≡ cell_at rest (config q)
 cell_outside zero a q v m c rest h = refl
-cell_outside (suc w) a q v m c rest h = grind (arith, outside_first, cell_outside w (a + 1) q (v / 256) (m / 256) (c / 256) rest, outside_rest)
+cell_outside (suc w) a q v m c rest h = grind (arith, above, below, cell_outside w (a + 1) q (v / 256) (m / 256) (c / 256) rest, outside_rest)
 
 -- an access of n bytes at q that meets no byte of a register
 abbrev pub IsApart : ℕ → ℕ → ℕ → ℕ → Type 0
 IsApart n q a w = (q + n ≤ a) ⊎ (a + w ≤ q)
-
-apart_first : (n q a w : ℕ) → IsApart (suc n) q a w → IsOutside q a w
-apart_first n q a w h = grind arith
 
 apart_rest : (n q a w : ℕ) → IsApart (suc n) q a w → IsApart n (q + 1) a w
 apart_rest n q a w h = grind arith
 
 pub write_apart : (ons : List Bool) (x q w a v m c : ℕ) → IsApart (length ons) q a w → write ons x (config q) (field (config a) w v m c) ≡ field (config a) w v m c
 write_apart [] x q w a v m c h = refl
-write_apart (true ∷ ons) x q w a v m c h = grind (arith, write_apart ons (x / 256) (q + 1) w a v m c, change_outside, apart_first, apart_rest)
+write_apart (true ∷ ons) x q w a v m c h = grind (arith, write_apart ons (x / 256) (q + 1) w a v m c, change_outside, apart_rest)
 write_apart (false ∷ ons) x q w a v m c h = write_apart ons (x / 256) (q + 1) w a v m c (apart_rest (length ons) q a w h)
 
 pub read_apart : (ons : List Bool) (q w a v m c : ℕ) (rest : File) → IsApart (length ons) q a w → read (field (config a) w v m c ++ rest) (config q) ons ≡ read rest (config q) ons
 read_apart [] q w a v m c rest h = refl
-read_apart (on ∷ ons) q w a v m c rest h = grind (arith, read_apart ons (q + 1) w a v m c rest, cell_outside, apart_first, apart_rest)
+read_apart (on ∷ ons) q w a v m c rest h = grind (arith, read_apart ons (q + 1) w a v m c rest, cell_outside, apart_rest)
 
 pub write_none : (ons : List Bool) (x : ℕ) (p : Place) → write ons x p [] ≡ []
 write_none [] x p = refl

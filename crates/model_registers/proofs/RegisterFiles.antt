@@ -69,9 +69,6 @@ none_cleared v z = ap (λ t. bit_and t z) (and_zero_r v)
 rest_low : (w m : ℕ) → m < 256 ^ suc w → 255 - m % 256 ≡ (256 ^ suc w - 1 - m) % 256
 rest_low w m h = omega (arith, pow-suc 256 w)
 
-rest_high : (w m : ℕ) → m < 256 ^ suc w → 256 ^ w - 1 - m / 256 ≡ (256 ^ suc w - 1 - m) / 256
-rest_high w m h = omega (arith, pow-suc 256 w)
-
 pub merged_low : (w v x m : ℕ) → m < 256 ^ suc w
     → bit_or (bit_or (bit_and (bit_and (v % 256) (255 - m % 256)) 255) (bit_and (x % 256) (m % 256))) (bit_and (bit_and (v % 256) 0) (255 - x % 256)) ≡ merged (suc w) v x m % 256
 merged_low w v x m h =
@@ -84,8 +81,7 @@ merged_low w v x m h =
 pub merged_high : (w v x m : ℕ) → m < 256 ^ suc w → merged w (v / 256) (x / 256) (m / 256) ≡ merged (suc w) v x m / 256
 merged_high w v x m h =
     let rest : ℕ = 256 ^ suc w - 1 - m in
-    ap₂ bit_or (ap (bit_and (v / 256)) (rest_high w m h) ∙ sym (and_shr v rest 8)) (sym (and_shr x m 8))
-    ∙ sym (or_shr (bit_and v rest) (bit_and x m) 8)
+    grind (arith, pow-suc, and_shr v rest 8, and_shr x m 8, or_shr (bit_and v rest) (bit_and x m) 8)
 
 pub field_writes : FieldWrites
 field_writes zero a v m x h = refl

@@ -44,8 +44,7 @@ in_order_from zero a (r ∷ rs) up low high = let l : a ≤ r.index = low.0 in l
 in_order_from (suc k) a rs up low high =
     splits k a
     (λ ss u l h.
-    in_order_from k (a + 1) ss u (each_map (λ (s : Region). a < s.index) (λ s. a + 1 ≤ s.index) ss (λ s p. omega arith) l)
-    (each_map (λ (s : Region). s.index < a + suc k) (λ s. s.index < a + 1 + k) ss (λ s p. omega arith) h))
+    grind (arith, in_order_from k (a + 1) ss u, each_map))
     rs up low high
 
 -- ---- a permutation keeps a filter that finds one region at most
@@ -70,11 +69,7 @@ empty_filter p (r ∷ rs) h = let e : p r ≡ false = h.0 in rw e (empty_filter 
 
 only_cases : (p : Region → Bool) (r x : Region) (xs : List Region) (t : Bool) → p x ≡ t → cond t (x ∷ filter p xs) (filter p xs) ≡ r ∷ []
     → (filter p xs ≡ r ∷ [] → Each (λ (y : Region). p y ≡ true → y ≡ r) xs) → Each (λ (y : Region). p y ≡ true → y ≡ r) (x ∷ xs)
-only_cases p r x xs true e h more =
-    let none : filter p xs ≡ [] = cc in
-    let count : count_by p xs ≡ 0 = sym (length-filter p xs) ∙ ap length none in
-    (λ q. cc, each_map (λ (y : Region). p y ≡ false) (λ y. p y ≡ true → y ≡ r) xs (λ y n q. absurd (false≢true (sym n ∙ q))) (none_found p xs count))
-only_cases p r x xs false e h more = (λ q. absurd (false≢true (sym e ∙ q)), more h)
+only_cases p r x xs t e h more = grind (arith, length-filter p xs, each_map, false≢true, none_found p xs)
 
 only : (p : Region → Bool) (r : Region) (xs : List Region) → filter p xs ≡ r ∷ [] → Each (λ (y : Region). p y ≡ true → y ≡ r) xs
 only p r [] h = tt
@@ -88,9 +83,7 @@ same_filter_cases : (p : Region → Bool) (xs ys : List Region) → IsPermutatio
 same_filter_cases p xs ys perm [] e short =
     let count : count_by p ys ≡ 0 = sum_by-IsPermutation (λ x. counted (p x)) xs ys perm ∙ sym (length-filter p xs) ∙ ap length e in
     empty_filter p ys (none_found p ys count)
-same_filter_cases p xs ys perm (r ∷ []) e short =
-    let count : count_by p ys ≡ 1 = sum_by-IsPermutation (λ x. counted (p x)) xs ys perm ∙ sym (length-filter p xs) ∙ ap length e in
-    found p r ys (each_permutation (λ (y : Region). p y ≡ true → y ≡ r) xs ys perm (only p r xs e)) count
+same_filter_cases p xs ys perm (r ∷ []) e short = grind (arith, sum_by-IsPermutation, length-filter p xs, found p r ys, each_permutation, only p r xs e)
 same_filter_cases p xs ys perm (r ∷ s ∷ zs) e short = absurd (omega arith)
 
 same_filter : (p : Region → Bool) (xs ys : List Region) → IsPermutation xs ys → count_by p xs ≤ 1 → filter p ys ≡ filter p xs
@@ -122,8 +115,7 @@ each_used_once rs h (suc (suc (suc (suc (suc (suc n)))))) lt = absurd (omega ari
 used_once : (rs : List Region) → has_own_registers rs ≡ true → UsesOnce rs
 used_once rs h =
     each_used_once rs
-    (each_test (λ n. leb (count_by (uses n) rs) 1) (0 ∷ 1 ∷ 2 ∷ 3 ∷ 4 ∷ 5 ∷ [])
-    (right_true (list_all (λ (r : Region). leb (r.index + registers_of r.kind) 6) rs) (list_all (λ n. leb (count_by (uses n) rs) 1) (0 ∷ 1 ∷ 2 ∷ 3 ∷ 4 ∷ 5 ∷ [])) h))
+    (grind (arith, each_test, right_true))
 
 used_once_after : (xs ys : List Region) → IsPermutation xs ys → UsesOnce xs → UsesOnce ys
 used_once_after xs ys perm once n lt = rw (sum_by-IsPermutation (λ r. counted (uses n r)) xs ys perm) (once n lt)
@@ -191,28 +183,19 @@ same_from xs ys perm once (suc k) a h =
     ap₂ (λ (x y : List Region). x ++ y) (same_filter (stands_at a) xs ys perm (stands_once a xs (once a (omega arith))))
     (same_from xs ys perm once k (a + 1) (omega arith))
 
-ordered : (rs : List Region) → from_register 0 6 rs ≡ in_register_order rs
-ordered rs = refl
-
 pub sorted_is_in_register_order : (xs ys : List Region) → IsPermutation xs ys → IsNonDecreasingBy (λ (r : Region). r.index) ys → has_own_registers xs ≡ true → ys ≡ in_register_order xs
 sorted_is_in_register_order xs ys perm sorted own =
     let below : Each (λ (r : Region). r.index < 0 + 6) ys = each_map (λ (r : Region). r.index + registers_of r.kind ≤ 6) (λ r. r.index < 0 + 6) ys
     (λ r p. let some : 1 ≤ registers_of r.kind = at_least_one r in omega arith)
     (each_permutation (λ (r : Region). r.index + registers_of r.kind ≤ 6) xs ys perm (in_header xs own)) in
-    in_order_from 6 0 ys (ascending ys sorted) (each_map (λ (r : Region). r.index < 0 + 6) (λ r. 0 ≤ r.index) ys (λ r p. omega arith) below) below
-    ∙ same_from xs ys perm (used_once xs own) 6 0 (omega arith)
-    ∙ ordered xs
+    grind (arith, in_order_from 6 0 ys (ascending ys sorted), ascending ys sorted, each_map, same_from xs ys perm (used_once xs own) 6 0, used_once xs own)
 
 -- ---- lawful regions have registers of their own, and stand in order
-
-above_unused : (n i m j k : ℕ) → (leb i n && ltb n (i + m)) ≡ true → i + m ≤ j → (leb j n && ltb n (j + k)) ≡ false
-above_unused n i m j k h le = grind (arith, nat_tests)
 
 used_once_cases : (n : ℕ) (r : Region) (rs : List Region) (t : Bool) → uses n r ≡ t → Each (λ (s : Region). r.index + registers_of r.kind ≤ s.index) rs
     → count_by (uses n) rs ≤ 1 → count_by (uses n) (r ∷ rs) ≤ 1
 used_once_cases n r rs true e after once =
-    let unused : Each (λ (s : Region). uses n s ≡ false) rs = each_map (λ (s : Region). r.index + registers_of r.kind ≤ s.index) (λ s. uses n s ≡ false) rs
-    (λ s le. above_unused n r.index (registers_of r.kind) s.index (registers_of s.kind) e le) after in
+    let unused : Each (λ (s : Region). uses n s ≡ false) rs = grind (arith, each_map) in
     let none : count_by (uses n) rs ≡ 0 = sym (length-filter (uses n) rs) ∙ ap length (empty_filter (uses n) rs unused) in
     omega (arith, sum_by-cons (λ s. counted (uses n s)) r rs, ap counted e)
 used_once_cases n r rs false e after once = omega (arith, sum_by-cons (λ s. counted (uses n s)) r rs, ap counted e)
@@ -227,14 +210,9 @@ each_number P h = (h 0, (h 1, (h 2, (h 3, (h 4, (h 5, tt))))))
 pub lawful_have_own_registers : (rs : List Region) → HasLawfulRegions rs → has_own_registers rs ≡ true
 lawful_have_own_registers rs lawful =
     and_from (list_all (λ (r : Region). leb (r.index + registers_of r.kind) 6) rs) (list_all (λ n. leb (count_by (uses n) rs) 1) (0 ∷ 1 ∷ 2 ∷ 3 ∷ 4 ∷ 5 ∷ []))
-    (test_each (λ r. leb (r.index + registers_of r.kind) 6) rs
-    (each_map IsLawfulRegion (λ r. IsTrue (leb (r.index + registers_of r.kind) 6)) rs (λ r l. le-leb _ _ l.registers) lawful.each))
+    (grind (arith, test_each, each_map, le-leb))
     (test_each (λ n. leb (count_by (uses n) rs) 1) (0 ∷ 1 ∷ 2 ∷ 3 ∷ 4 ∷ 5 ∷ [])
     (each_number (λ n. IsTrue (leb (count_by (uses n) rs) 1)) (λ n. le-leb _ _ (used_once_in_order n rs lawful.in_order))))
 
 pub lawful_are_in_register_order : (rs : List Region) → HasLawfulRegions rs → in_register_order rs ≡ rs
-lawful_are_in_register_order rs lawful =
-    let up : IsAscending rs = pairs_map (λ (r s : Region). r.index + registers_of r.kind ≤ s.index) (λ r s. r.index ≤ s.index) rs (λ r s p. omega arith) lawful.in_order in
-    let below : Each (λ (r : Region). r.index < 0 + 6) rs = each_map IsLawfulRegion (λ r. r.index < 0 + 6) rs
-    (λ r l. let some : 1 ≤ registers_of r.kind = at_least_one r in omega (arith, l.registers)) lawful.each in
-    sym (in_order_from 6 0 rs up (each_map (λ (r : Region). r.index < 0 + 6) (λ r. 0 ≤ r.index) rs (λ r p. omega arith) below) below ∙ ordered rs)
+lawful_are_in_register_order rs lawful = grind (arith, pairs_map, each_map IsLawfulRegion, at_least_one, in_order_from 6 0 rs, each_map)
