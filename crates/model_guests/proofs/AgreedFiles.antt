@@ -1,15 +1,15 @@
 -- The file that agrees with a guest's file: what it holds, that it is the only one, and how it changes.
-use Rattle.std.proofs.Common.{◌≡◌, ◌/◌, ◌%◌, Bool, true, false, not, ◌&&◌, ◌||◌, cond, List, [], ◌∷◌, refl, sym, ap, ap₂, ◌∙◌, subst, arith}
+use Rattle.std.proofs.Common.{◌≡◌, ◌/◌, Bool, true, false, cond, List, [], ◌∷◌, refl, arith}
 use Rattle.std.specs.Prelude.{IsFalse}
 use Rattle.std.specs.List.{list_any}
 use Rattle.std.proofs.lemmas.Bool.Decides.{nat_tests}
-use Rattle.lists.specs.Elements.{Each, EachPair}
+use Rattle.lists.specs.Elements.{Each}
 use Rattle.lists.proofs.Members.{each_from}
-use Rattle.model_registers.specs.Cell.{Cell, no_cell, written}
-use Rattle.model_registers.specs.Registers.{Place, place_eq, after, PlacedCell, File, cell_at, changed, write}
+use Rattle.model_registers.specs.Cell.{Cell, no_cell}
+use Rattle.model_registers.specs.Registers.{Place, place_eq, after, PlacedCell, File, cell_at, changed}
 use Rattle.model_registers.proofs.RegisterFiles.{change_at_place, place_same, place_turned}
 use Rattle.model_registers.proofs.Owned.{raised_none, no_cell_stays}
-use Rattle.model_registers.specs.OwnCopies.{is_own, handed_on}
+use Rattle.model_registers.specs.OwnCopies.{is_own}
 use Rattle.model_registers.specs.CopiedFiles.{agreed_file, places_of}
 use Rattle.model_guests.proofs.DistinctPlaces.{HasDistinctPlaces}
 use Rattle.model_guests.specs.AgreedLaws.{HoldsFile, ShowsFile}
@@ -41,14 +41,7 @@ absent (e ∷ es) p h = grind (arith, absent es p)
 -- every other place
 pub agreed_where : (left own : File) (p : Place) → is_own p ≡ false → cell_at (agreed_file left own) p ≡ cond (stands p (places_of left)) (cell_at own p) no_cell
 agreed_where [] own p h = refl
-agreed_where (e ∷ es) own p h = cases (is_own e.place) refl (place_eq e.place p) refl (agreed_where es own p h)
-  where
-    cases : (t : Bool) → is_own e.place ≡ t → (u : Bool) → place_eq e.place p ≡ u → cell_at (agreed_file es own) p ≡ cond (stands p (places_of es)) (cell_at own p) no_cell
-        → cell_at (agreed_file (e ∷ es) own) p ≡ cond (u || stands p (places_of es)) (cell_at own p) no_cell
-    cases true i true k more = let same = ap is_own (place_same e.place p k) in cc
-    cases true i false k more = rw (i, k) more
-    cases false i true k more = rw (i, k) (ap (cell_at own) (place_same e.place p k))
-    cases false i false k more = rw (i, k) more
+agreed_where (e ∷ es) own p h = grind (arith, agreed_where es own p h, place_same e.place p)
 
 pub agreed_common : (left own : File) (p : Place) → places_of own ≡ places_of left → is_own p ≡ false → cell_at (agreed_file left own) p ≡ cell_at own p
 agreed_common left own p same h = grind (arith, agreed_where, absent)
@@ -73,23 +66,10 @@ pub same_files : (f g : File) → places_of f ≡ places_of g → HasDistinctPla
 same_files [] [] same distinct cells = refl
 same_files [] (d ∷ ds) same distinct cells = cc
 same_files (e ∷ es) [] same distinct cells = cc
-same_files (e ∷ es) (d ∷ ds) same distinct cells =
-    let place : e.place ≡ d.place = cc in
-    let places : places_of es ≡ places_of ds = cc in
-    let here : place_eq e.place e.place ≡ true = place_self e.place in
-    let there : place_eq d.place e.place ≡ true = ap (λ (q : Place). place_eq q e.place) (sym place) ∙ here in
-    let cell : e.cell ≡ d.cell = rw there at (rw here at cells.0) in
-    ap₂ (λ (x : PlacedCell) (xs : File). x ∷ xs) (λ i. record { place = place i; cell = cell i })
-    (same_files es ds places distinct.1 (tail_cells e d es ds place (places_of es) distinct.0 cells.1))
+same_files (e ∷ es) (d ∷ ds) same distinct cells = grind (arith, place_self, same_files es ds, tail_cells e d es ds)
 
 pub only_file : (left own now : File) → HasDistinctPlaces left → HoldsFile left own now → now ≡ agreed_file left own
-only_file left own now distinct holds =
-    same_files now (agreed_file left own) (holds.places ∙ sym (agreed_places left own))
-    (subst (λ (ps : List Place). EachPair (λ p q. IsFalse (place_eq p q)) ps) (sym holds.places) distinct)
-    (each_from (λ p. cell_at now p ≡ cell_at (agreed_file left own) p) (places_of now) (λ p m. cases p (is_own p) refl (stands p (places_of left)) refl))
-  where
-    cases : (p : Place) (t : Bool) → is_own p ≡ t → (u : Bool) → stands p (places_of left) ≡ u → cell_at now p ≡ cell_at (agreed_file left own) p
-    cases p t h u k = grind (arith, agreed_kept, agreed_where, absent)
+only_file left own now distinct holds = grind (arith, same_files, agreed_places, each_from, agreed_kept, agreed_where, absent)
 
 -- ---- changes
 
@@ -103,13 +83,7 @@ board_change f none p h (e ∷ es) own = grind (arith, board_change f none p h e
 
 pub writes_alike : WritesAlike
 writes_alike [] v p left own = refl
-writes_alike (on ∷ ons) v p left own =
-    writes_alike ons (v / 256) (after p) left (cond on (changed (written (v % 256)) p own) own)
-    ∙ ap (write (handed_on (after p) ons) (v / 256) (after p)) (first on (is_own p) refl)
-  where
-    first : (on t : Bool) → is_own p ≡ t
-        → agreed_file left (cond on (changed (written (v % 256)) p own) own) ≡ cond (on && not t) (changed (written (v % 256)) p (agreed_file left own)) (agreed_file left own)
-    first on t h = grind (arith, own_change, no_cell_stays, board_change)
+writes_alike (on ∷ ons) v p left own = grind (arith, writes_alike ons (v / 256) (after p) left, own_change, no_cell_stays, board_change)
 
 pub raises_alike : RaisesAlike
 raises_alike m p left own = grind (arith, own_change, raised_none, board_change)

@@ -1,5 +1,5 @@
 -- What a guest is told by a call, and holds after it, is that of its own.
-use Rattle.std.proofs.Common.{◌≡◌, Bool, true, false, cond, List, [], ◌∷◌, ◌++◌, refl, sym, ap, ◌∙◌, arith}
+use Rattle.std.proofs.Common.{◌≡◌, Bool, cond, List, [], ◌∷◌, ◌++◌, refl, ◌∙◌, arith}
 use Rattle.std.specs.Prelude.{map, IsSome}
 use Rattle.std.specs.Str.{bytes_eq}
 use Rattle.model_guests.specs.Accesses.{Reply, refused}
@@ -12,7 +12,7 @@ use Rattle.model_guests.specs.WorldNow.{WorldNow}
 use Rattle.model_guests.specs.Inputs.{Input, after_input, after_inputs}
 use Rattle.model_guests.proofs.Names.{equal_texts}
 use Rattle.model_guests.specs.DeviceEvents.{device_answer, after_device_event, device_after}
-use Rattle.model_guests.specs.Calls.{Call, asks, at_device, after_call, told, CallInput, own_event, own_bad, own_device, moved, inputs_of_call, alone_told, after_own_call, all_alone_told, after_own_calls}
+use Rattle.model_guests.specs.Calls.{Call, asks, at_device, after_call, told, CallInput, own_event, own_bad, own_device, moved, inputs_of_call, alone_told, all_alone_told, after_own_calls}
 use Rattle.model_guests.proofs.OneGuest.{lone_by, still, touched}
 
 -- ---- moves
@@ -29,8 +29,7 @@ holds_after w name there (asks nothing) = refl
 holds_after w name there (asks (guest_event n e)) = lone_by (guest_after e) (λ t. refl) (λ (g : LoneGuest). after_event g e) (λ t. refl) n name w.guests there ∙ cases (bytes_eq n name)
   where
     cases : (t : Bool) → cond t (after_event (lone_of w.guests name) e) (lone_of w.guests name) ≡ after_own_calls (lone_of w.guests name) (cond t (own_event e ∷ []) [])
-    cases true = refl
-    cases false = refl
+    cases t = grind arith
 holds_after w name there (asks (host_read r)) = refl
 holds_after w name there (asks (host_move m)) = grind (arith, touched, after_moved)
 holds_after w name there (asks (bad (guest n) k)) = grind arith
@@ -39,8 +38,7 @@ holds_after w name there (asks (bad nobody k)) = refl
 holds_after w name there (at_device n e) = lone_by (device_after e) (λ t. refl) (λ (g : LoneGuest). after_device_event g e) (λ t. refl) n name w.guests there ∙ cases (bytes_eq n name)
   where
     cases : (t : Bool) → cond t (after_device_event (lone_of w.guests name) e) (lone_of w.guests name) ≡ after_own_calls (lone_of w.guests name) (cond t (own_device e ∷ []) [])
-    cases true = refl
-    cases false = refl
+    cases t = grind arith
 
 pub there_after : (w : WorldNow) (name : Text) → IsSome (guest_named w.guests name) → (c : Call) → IsSome (guest_named (after_call w c).guests name)
 there_after w name there c = grind (arith, still)
@@ -53,13 +51,7 @@ Tells w name c = (more : List CallInput) → all_alone_told (lone_of w.guests na
 own_reply : (gs : GuestsNow) (n name : Text) (answer_of : LoneGuest → Reply) (i : CallInput) → ((g : LoneGuest) → alone_told g i ≡ answer_of g ∷ []) → (more : List CallInput)
     → all_alone_told (lone_of gs name) (cond (bytes_eq n name) (i ∷ []) [] ++ more)
     ≡ cond (bytes_eq n name) (answer_of (lone_of gs n) ∷ []) [] ++ all_alone_told (after_own_calls (lone_of gs name) (cond (bytes_eq n name) (i ∷ []) [])) more
-own_reply gs n name answer_of i tells more = cases (bytes_eq n name) refl
-  where
-    cases : (t : Bool) → bytes_eq n name ≡ t
-        → all_alone_told (lone_of gs name) (cond t (i ∷ []) [] ++ more) ≡ cond t (answer_of (lone_of gs n) ∷ []) [] ++ all_alone_told (after_own_calls (lone_of gs name) (cond t (i ∷ []) [])) more
-    cases true e =
-        ap (λ (rs : List Reply). rs ++ all_alone_told (after_own_call (lone_of gs name) i) more) (tells (lone_of gs name) ∙ ap (λ (x : Text). answer_of (lone_of gs x) ∷ []) (sym (equal_texts n name e)))
-    cases false e = refl
+own_reply gs n name answer_of i tells more = grind (arith, tells (lone_of gs name), equal_texts n name)
 
 pub tells : (w : WorldNow) (name : Text) (c : Call) → Tells w name c
 tells w name (asks nothing) more = refl

@@ -14,7 +14,7 @@ use Rattle.model_guests.specs.Text.{Text}
 use Rattle.model_guests.specs.Guests.{GuestsNow, file_of, function_in, guest_named, path_in, with_guest}
 use Rattle.model_registers.specs.CopiedFiles.{agreed_file}
 use Rattle.model_guests.specs.AgreedBoard.{agreed_function, state_over, with_change_at, with_files}
-use Rattle.model_guests.specs.Seated.{AreSeated, IsSeat}
+use Rattle.model_guests.specs.Seated.{AreSeated}
 use Rattle.model_guests.specs.ChangeLaws.{ChangesAlike, ChangesOneFunction, LatchKeepsBoard, OneFile, ResetsAlike, with_slot_changed, with_latch}
 use Rattle.model_guests.proofs.AgreedChanges.{changed_function, agreed_by, changed_here, unchanged}
 use Rattle.model_guests.proofs.GuestFiles.{slot_set, with_file_there}
@@ -51,17 +51,14 @@ module _ (b : Board) (s : GuestsNow) (seated : AreSeated b s) (name : Text) (n :
   abbrev new_guests : GuestsNow
   new_guests = with_guest (with_slot_changed change n) name s
 
-  found_there : function_of (guest_named s name) n ≡ Some f
-  found_there = sym (function_named s name n) ∙ there
-
   pub file_before : file_of s p ≡ Some f.file
-  file_before = file_found s seated.names_apart seated.paths_apart name n p f at found_there
+  file_before = grind (arith, file_found, function_named)
 
   abbrev changed_file : Function
   changed_file = record f { file = change f.file }
 
   found_changed : function_of (guest_named new_guests name) n ≡ Some changed_file
-  found_changed = grind (arith, named_with, found_there, found, same_text, with_file_there, slot_set)
+  found_changed = grind (arith, named_with, function_named, found, same_text, with_file_there, slot_set)
 
   pub file_after : file_of new_guests p ≡ Some (change f.file)
   file_after = file_found new_guests names apart name n p changed_file (paths_stay (with_slot_changed change n) (λ t. refl) (λ t. refl) name name n s ∙ at) found_changed
@@ -74,7 +71,7 @@ module _ (b : Board) (s : GuestsNow) (seated : AreSeated b s) (name : Text) (n :
           seated.paths_apart a c k m q (sym (paths_stay (with_slot_changed change n) (λ t. refl) (λ t. refl) name a k s) ∙ h) (sym (paths_stay (with_slot_changed change n) (λ t. refl) (λ t. refl) name c m s) ∙ i)
 
   pub file_others : (q : Path) → IsFalse (path_eq p q) → file_of new_guests q ≡ file_of s q
-  file_others q other = grind (arith, file_stays, found_there, with_file_there, file_beside)
+  file_others q other = grind (arith, file_stays, function_named, with_file_there, file_beside)
 
 -- whatever board the guests are seated on
 pub changes_slot : (b : Board) (s : State) (gs : GuestsNow) → AreSeated b gs → (name : Text) (n : ℕ) (p : Path) (f : Function) → path_in gs name n ≡ Some p → function_in gs name n ≡ Some f
@@ -86,10 +83,7 @@ changes_slot b s gs seated name n p f at is own_change board_change alike =
 
 -- a path's seat has a function
 there_in : (b : Board) (gs : GuestsNow) → AreSeated b gs → (name : Text) (n : ℕ) (p : Path) → path_in gs name n ≡ Some p → (f : Function) × (function_in gs name n ≡ Some f)
-there_in b gs seated name n p at = cases (path_in gs name n) at (function_in gs name n) refl (seat_in b gs seated.guests name n)
-  where
-    cases : (q : Option Path) → q ≡ Some p → (o : Option Function) → function_in gs name n ≡ o → IsSeat b q o → (f : Function) × (function_in gs name n ≡ Some f)
-    cases q e o i h = grind arith
+there_in b gs seated name n p at = grind (arith, seat_in b gs seated.guests name n)
 
 pub changes_one_function : ChangesOneFunction
 changes_one_function s gs seated name n p at own_change board_change alike =

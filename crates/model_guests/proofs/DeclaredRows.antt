@@ -1,11 +1,10 @@
 -- The rows of a board by their paths.
-use Rattle.std.proofs.Common.{◌≡◌, Bool, true, false, cond, [], ◌∷◌, Some, None, inl, inr, refl, arith}
-use Rattle.std.specs.Prelude.{find, IsTrue}
-use Rattle.std.specs.Option.{option_map_or}
+use Rattle.std.proofs.Common.{◌≡◌, true, false, [], ◌∷◌, Some, arith}
+use Rattle.std.specs.Prelude.{IsTrue}
 use Rattle.lists.specs.Elements.{Each, EachPair, IsIn}
 use Rattle.model_registers.specs.Declarations.{Endpoint}
 use Rattle.model_board.specs.Paths.{Path, path_eq, path_before}
-use Rattle.model_board.specs.Board.{Decl, endpoint, Row, Board}
+use Rattle.model_board.specs.Board.{endpoint, Row, Board}
 use Rattle.model_board.proofs.PathEnds.{path_self}
 use Rattle.model_board.proofs.PathOrder.{path_same}
 use Rattle.model_board.proofs.PlacesLaw.{before_apart}
@@ -29,12 +28,4 @@ endpoint_row p d = record { path = p; decl = endpoint d }
 -- what is declared at a path stands there
 pub declared_row : (b : Board) (p : Path) (d : Endpoint) → declared b p ≡ Some d → IsIn (endpoint_row p d) b
 declared_row [] p d h = cc
-declared_row (r ∷ rs) p d h = cases (path_eq r.path p) refl h (declared_row rs p d)
-  where
-    here : (decl : Decl) → r.decl ≡ decl → endpoint_of r ≡ Some d → r.path ≡ p → endpoint_row p d ≡ r
-    here decl e h same = grind arith
-
-    cases : (t : Bool) → path_eq r.path p ≡ t → option_map_or endpoint_of (cond t (Some r) (find (λ (x : Row). path_eq x.path p) rs)) None ≡ Some d
-        → (declared rs p ≡ Some d → IsIn (endpoint_row p d) rs) → IsIn (endpoint_row p d) (r ∷ rs)
-    cases true e h more = inl (here r.decl refl h (path_same r.path p e))
-    cases false e h more = inr (more h)
+declared_row (r ∷ rs) p d h = grind (arith, declared_row rs p d, path_same r.path p)

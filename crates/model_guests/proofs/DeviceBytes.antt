@@ -27,7 +27,7 @@ use Rattle.model_guests.specs.Seated.{AreSeated}
 use Rattle.model_guests.proofs.GuestFiles.{slot_set, with_file_there}
 use Rattle.model_guests.proofs.GuestsByName.{function_named}
 use Rattle.model_guests.proofs.Changes.{one_file_of, file_before, file_after, file_others}
-use Rattle.model_guests.specs.DeviceEvents.{DeviceByte, device_reads, device_writes, if_device_byte, device_place, byte_landing, byte_fault, byte_in, with_byte, device_fault, device_answer, after_device_event, device_after, after_guest_device}
+use Rattle.model_guests.specs.DeviceEvents.{DeviceByte, device_reads, device_writes, if_device_byte, device_place, byte_landing, byte_fault, byte_in, with_byte, device_fault, device_answer, after_device_event, after_guest_device}
 use Rattle.model_guests.specs.DeviceByteLaws.{ReadsLeaveGuests, ReadsWritten, byte_change, WriteReachesBoard}
 use Rattle.model_guests.proofs.OneGuest.{lone_found, with_alike, guest_of_function}
 
@@ -104,10 +104,7 @@ module _ (b : Board) (gs : GuestsNow) (seated : AreSeated b gs) (name : Text) (d
   x = guest_there.0
 
   as_written : after_guest_device name (device_writes d v) gs ≡ with_guest (with_slot_changed (set_value v q) d.slot) name gs
-  as_written =
-      with_alike gs seated.names_apart name x guest_there.1 (device_after (device_writes d v)) (with_slot_changed (set_value v q) d.slot)
-      (ap (λ (l : LoneGuest). let y : GuestNow = record x { lone = l } in y)
-      (written_there x.lone d (low_slot (lone_of gs name).slots d fault) f (ap (λ (l : LoneGuest). slot_at l.slots d.slot) (sym (lone_found gs name x guest_there.1)) ∙ is) q at v))
+  as_written = grind (arith, with_alike, written_there, low_slot, lone_found)
 
   -- over any state
   write_reaches : (s : State) → state_over s (after_guest_device name (device_writes d v) gs) ≡ with_change_at (byte_change f.file v q) p (state_over s gs)

@@ -1,13 +1,9 @@
 -- After an event at a device guests stay seated, and hold what the law says.
-use Rattle.std.proofs.Common.{◌≡◌, ℕ, List, Some, None, Option, refl, subst, arith}
-use Rattle.std.specs.Prelude.{slice_set}
-use Rattle.std.specs.Option.{option_map_or}
-use Rattle.model_registers.specs.Decoding.{Function}
+use Rattle.std.proofs.Common.{ℕ, List, Option, refl, arith}
 use Rattle.model_board.specs.Paths.{Path}
 use Rattle.model_board.specs.Board.{Board}
-use Rattle.model_guests.specs.Slots.{slot_at, reset_function}
-use Rattle.model_guests.specs.Lone.{LoneGuest, filled}
-use Rattle.model_guests.specs.Seated.{AreSeats, IsSeat}
+use Rattle.model_guests.specs.Lone.{LoneGuest}
+use Rattle.model_guests.specs.Seated.{AreSeats}
 use Rattle.model_guests.proofs.GuestsByName.{path_at}
 use Rattle.model_guests.proofs.Seats.{seats_at, seats_set, changed_shape, with_file_seats, names_stay, guests_stay, paths_stay, at_reset_there}
 use Rattle.model_guests.specs.DeviceEvents.{DeviceEvent, device_changed, reset_in, after_device_event, device_after}
@@ -19,14 +15,7 @@ use Rattle.model_guests.proofs.Along.{names_with}
 -- ---- one guest's slots
 
 reset_seats : (b : Board) (qs : List (Option Path)) (n : ℕ) (g : LoneGuest) → AreSeats b qs g.slots → AreSeats b qs (reset_in n g).slots
-reset_seats b qs n g h = cases (slot_at g.slots n) refl
-  where
-    cases : (o : Option Function) → slot_at g.slots n ≡ o → AreSeats b qs (option_map_or (λ (f : Function). filled n f.decl g) o g).slots
-    cases None e = h
-    cases (Some f) e =
-        let seat : IsSeat b (path_at qs n) (Some f) = subst (IsSeat b (path_at qs n)) e (seats_at b qs g.slots n h) in
-        subst (λ (x : List (Option Path)). AreSeats b x (slice_set g.slots n (reset_function (Some f.decl)))) (put_back qs n)
-        (seats_set b qs g.slots n (path_at qs n) (reset_function (Some f.decl)) h (at_reset_there b (path_at qs n) f seat))
+reset_seats b qs n g h = grind (arith, path_at qs n, seats_at b qs g.slots n h, put_back qs n, seats_set b qs g.slots n (path_at qs n), at_reset_there b (path_at qs n))
 
 changed_seats : (b : Board) (qs : List (Option Path)) (g : LoneGuest) (e : DeviceEvent) → AreSeats b qs g.slots → AreSeats b qs (device_changed g e).slots
 changed_seats b qs g e h = grind (arith, reset_seats, with_file_seats, changed_shape)

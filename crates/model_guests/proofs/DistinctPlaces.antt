@@ -127,7 +127,7 @@ pairs_append (p ∷ ps) qs h k apart = (each_append (Apart p) ps qs h.0 apart.0,
 
 -- ---- the runs of an endpoint
 
-places_append : (a b : File) → places_of (a ++ b) ≡ places_of a ++ places_of b
+pub places_append : (a b : File) → places_of (a ++ b) ≡ places_of a ++ places_of b
 places_append [] b = refl
 places_append (e ∷ es) b = ap (λ (ps : List Place). e.place ∷ ps) (places_append es b)
 

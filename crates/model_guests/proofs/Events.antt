@@ -1,8 +1,7 @@
 -- What an event of a guest does to the board.
-use Rattle.std.proofs.Common.{◌≡◌, ℕ, [], Some, None, Option, refl, sym, ap, ◌∙◌, subst, arith}
-use Rattle.std.specs.Prelude.{slice_set}
+use Rattle.std.proofs.Common.{◌≡◌, [], Some, None, Option, refl, ap, ◌∙◌, arith}
 use Rattle.std.specs.Option.{option_map_or}
-use Rattle.model_registers.specs.Registers.{Place, File}
+use Rattle.model_registers.specs.Registers.{Place}
 use Rattle.model_registers.specs.Decoding.{Function}
 use Rattle.model_board.specs.Paths.{Path}
 use Rattle.model_board.specs.Board.{Board}
@@ -10,7 +9,7 @@ use Rattle.model_board.specs.AtReset.{board_at}
 use Rattle.model_board.specs.State.{State}
 use Rattle.model_guests.specs.Accesses.{Event, access, raises}
 use Rattle.model_guests.specs.Slots.{Landing, Slots, slot_at, with_file}
-use Rattle.model_guests.specs.Lone.{LoneGuest, after_event, reset_guest}
+use Rattle.model_guests.specs.Lone.{after_event, reset_guest}
 use Rattle.model_guests.specs.Text.{Text}
 use Rattle.model_guests.specs.Guests.{GuestNow, GuestsNow, file_in, function_in, guest_after, guest_named, lone_of, path_in, with_guest}
 use Rattle.model_guests.specs.AgreedBoard.{state_over, with_change_at}
@@ -30,13 +29,7 @@ part_alike (raises r) p left own = raises_alike r.mask p left own
 abbrev after_landing : Event → Slots → Option Landing → Slots
 after_landing e slots o = option_map_or (λ (l : Landing). with_file (own_effect e l.place) l.slot slots) o slots
 
-event_slots : (g : LoneGuest) (e : Event) → (after_event g e).slots ≡ after_landing e g.slots (lands g e)
-event_slots g e = grind arith
-
 -- ---- the board after it
-
-with_none : (change : File → File) (n : ℕ) (slots : Slots) → slot_at slots n ≡ None → with_file change n slots ≡ slots
-with_none change n slots h = ap (λ (o : Option Function). option_map_or (λ (f : Function). slice_set slots n (Some (record f { file = change f.file }))) o slots) h
 
 none_there : (b : Board) (o : Option Function) → IsSeat b None o → o ≡ None
 none_there b o h = grind arith
@@ -49,18 +42,14 @@ module _ (s : State) (gs : GuestsNow) (seated : AreSeated (board_at s.functions)
   alone_is t i = ap (λ (o : Option GuestNow). option_map_or (λ (u : GuestNow). u.lone) o (reset_guest [])) i
 
   slots_are : (t : GuestNow) → guest_named gs name ≡ Some t → (o : Option Landing) → lands (lone_of gs name) e ≡ o → (after_event t.lone e).slots ≡ after_landing e t.lone.slots o
-  slots_are t i o h = event_slots t.lone e ∙ ap (after_landing e t.lone.slots) (ap (λ (g : LoneGuest). lands g e) (sym (alone_is t i)) ∙ h)
+  slots_are t i o h = grind (arith, alone_is)
 
   by_path : (l : Landing) → lands (lone_of gs name) e ≡ Some l → (q : Option Path) → path_in gs name l.slot ≡ q
       → state_over s (with_guest after_it name gs) ≡ option_map_or (λ (p : Path). with_change_at (board_effect e l.place) p (state_over s gs)) q (state_over s gs)
-  by_path l h None i =
-      same_files_over s gs (with_guest after_it name gs)
-      (λ q. file_stays after_it name q gs seated.names_apart (λ t at. ap (λ (x : Slots). file_in t.paths x q) (slots_are t at (Some l) h ∙ with_none (own_effect e l.place) l.slot t.lone.slots (empty t at))))
+  by_path l h None i = grind (arith, same_files_over s gs (with_guest after_it name gs), file_stays after_it name, slots_are, empty)
     where
       empty : (t : GuestNow) → guest_named gs name ≡ Some t → slot_at t.lone.slots l.slot ≡ None
-      empty t at =
-          ap (λ (g : LoneGuest). slot_at g.slots l.slot) (sym (alone_is t at))
-          ∙ none_there (board_at s.functions) (function_in gs name l.slot) (subst (λ (x : Option Path). IsSeat (board_at s.functions) x (function_in gs name l.slot)) i (seat_in (board_at s.functions) gs seated.guests name l.slot))
+      empty t at = grind (arith, alone_is t, none_there (board_at s.functions) (function_in gs name l.slot), seat_in (board_at s.functions) gs seated.guests name l.slot)
   by_path l h (Some p) i =
       let changed : GuestNow → GuestNow = with_slot_changed (own_effect e l.place) l.slot in
       same_files_over s (with_guest changed name gs) (with_guest after_it name gs)

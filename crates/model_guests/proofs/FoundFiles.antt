@@ -53,11 +53,7 @@ pub file_beside : (qs : List (Option Path)) (fs : Slots) (n : ℕ) (f : Option F
 file_beside qs fs n f q h = sym (ap (λ (ps : List (Option Path)). file_in ps (slice_set fs n f) q) (put_back qs n)) ∙ file_past qs fs n (path_at qs n) f q h h
 
 no_such : (o : Option Path) (p : Path) → (o ≡ Some p → ⊥) → (r : Path) → o ≡ Some r → path_eq r p ≡ false
-no_such o p h r e = cases (path_eq r p) refl
-  where
-    cases : (t : Bool) → path_eq r p ≡ t → t ≡ false
-    cases false i = refl
-    cases true i = absurd (h (e ∙ ap (λ (x : Path). Some x) (path_same r p i)))
+no_such o p h r e = grind (arith, path_same r p)
 
 file_own : (qs : List (Option Path)) (fs : Slots) (n : ℕ) (p : Path) (f : Function) → ((m : ℕ) → path_at qs m ≡ Some p → n ≡ m) → path_at qs n ≡ Some p → slot_at fs n ≡ Some f → file_in qs fs p ≡ Some f.file
 file_own [] fs n p f once at there = cc

@@ -1,5 +1,6 @@
 -- Slots, paths and names, one by one: which are the same, and what is in a slot after a change.
-use Rattle.std.proofs.Common.{◌≡◌, ℕ, zero, suc, Bool, true, false, cond, List, [], ◌∷◌, Some, Option, refl, ap, subst}
+use Rattle.std.proofs.Common.{arith}
+use Rattle.std.proofs.Common.{◌≡◌, ℕ, zero, suc, false, List, [], ◌∷◌, Some, Option, refl, ap}
 use Rattle.std.specs.Prelude.{map, find, flat_map, slice_get, slice_set, IsFalse}
 use Rattle.std.specs.Option.{option_map_or}
 use Rattle.std.specs.Str.{bytes_eq}
@@ -32,21 +33,9 @@ abbrev pub PathsApart : List Guest → Type 0
 PathsApart gs = EachPair (λ p q. IsFalse (path_eq p q)) (flat_map (λ (g : Guest). g.slots) gs)
 
 pub other_name : (a b : Text) → bytes_eq a b ≡ false → bytes_eq b a ≡ false
-other_name a b h = cases (bytes_eq b a) refl
-  where
-    cases : (t : Bool) → bytes_eq b a ≡ t → t ≡ false
-    cases false e = refl
-    cases true e = let other = subst (λ (x : Text). bytes_eq a x ≡ false) (equal_texts b a e) h in cc (same_text a)
+other_name a b h = grind (arith, equal_texts b a, same_text a)
 
 -- what holds of every slot's path holds of a path in a slot
 pub of_slot : (P : Path → Type 0) (gs : List Guest) (name : Text) (n : ℕ) (p : Path) → Each P (flat_map (λ (g : Guest). g.slots) gs) → slice_get (slots_among gs name) n ≡ Some p → P p
 of_slot P [] name n p all at = cc
-of_slot P (g ∷ gs) name n p all at = cases (bytes_eq g.name name) at (of_slot P gs name n p parts.1)
-  where
-    parts : Each P g.slots × Each P (flat_map (λ (h : Guest). h.slots) gs)
-    parts = each_parts P g.slots (flat_map (λ (h : Guest). h.slots) gs) all
-
-    cases : (t : Bool) → slice_get (option_map_or (λ (h : Guest). h.slots) (cond t (Some g) (find (λ h. bytes_eq h.name name) gs)) []) n ≡ Some p
-        → (slice_get (slots_among gs name) n ≡ Some p → P p) → P p
-    cases true at more = each_at P g.slots n p parts.0 at
-    cases false at more = more at
+of_slot P (g ∷ gs) name n p all at = grind (arith, of_slot P gs name n p, each_parts P g.slots, each_at P g.slots n p)

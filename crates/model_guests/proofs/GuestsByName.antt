@@ -1,7 +1,6 @@
 -- A guest by its name, after a change of one guest.
-use Rattle.std.proofs.Common.{◌≡◌, ℕ, zero, suc, Bool, true, false, cond, List, [], ◌∷◌, ◌++◌, Some, None, Option, refl, ap, ◌∙◌, arith}
+use Rattle.std.proofs.Common.{◌≡◌, ℕ, zero, suc, false, cond, List, [], ◌∷◌, Some, None, Option, refl, arith}
 use Rattle.std.specs.Prelude.{map, replicate, slice_get, unwrap_or, option_map, option_and_then, IsFalse}
-use Rattle.std.specs.Option.{option_map_or}
 use Rattle.std.specs.Str.{bytes_eq}
 use Rattle.lists.specs.Elements.{Each}
 use Rattle.model_registers.specs.Decoding.{Function}
@@ -25,14 +24,7 @@ one_name g keeps n t = grind arith
 
 pub named_with : (g : GuestNow → GuestNow) → Keeps g → (n name : Text) (s : GuestsNow) → guest_named (with_guest g n s) name ≡ option_map (one g n) (guest_named s name)
 named_with g keeps n name [] = refl
-named_with g keeps n name (t ∷ ts) =
-    ap (λ (x : Text). cond (bytes_eq x name) (Some (one g n t)) (guest_named (with_guest g n ts) name)) (one_name g keeps n t)
-    ∙ cases (bytes_eq t.name name) (named_with g keeps n name ts)
-  where
-    cases : (v : Bool) → guest_named (with_guest g n ts) name ≡ option_map (one g n) (guest_named ts name)
-        → cond v (Some (one g n t)) (guest_named (with_guest g n ts) name) ≡ option_map (one g n) (cond v (Some t) (guest_named ts name))
-    cases true more = refl
-    cases false more = more
+named_with g keeps n name (t ∷ ts) = grind (arith, one_name, named_with g keeps n name ts)
 
 -- the guest that is found has the name, and what all have
 pub record Found (P : GuestNow → Type 0) (name : Text) (t : GuestNow) : Type 0 where
@@ -56,11 +48,7 @@ abbrev pub function_of : Option GuestNow → ℕ → Option Function
 function_of o n = option_and_then (λ (t : GuestNow). slot_at t.lone.slots n) o
 
 pub function_named : (s : GuestsNow) (name : Text) (n : ℕ) → function_in s name n ≡ function_of (guest_named s name) n
-function_named s name n = cases (guest_named s name)
-  where
-    cases : (o : Option GuestNow) → slot_at (option_map_or (λ (t : GuestNow). t.lone) o (record { slots = map reset_function ([] ++ replicate 32 None); latch = 0 })).slots n ≡ function_of o n
-    cases None = none_at 32 n
-    cases (Some t) = refl
+function_named s name n = grind (arith, none_at 32 n)
 
 -- a guest of the rest is found past the first
 pub past_first : (t : GuestNow) (ts : GuestsNow) (name : Text) (u : GuestNow) → Each (λ (v : GuestNow). IsFalse (bytes_eq t.name v.name)) ts → guest_named ts name ≡ Some u → bytes_eq t.name name ≡ false

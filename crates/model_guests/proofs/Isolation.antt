@@ -1,5 +1,5 @@
 -- Each guest's reply lines, and what it holds, are those of its inputs.
-use Rattle.std.proofs.Common.{◌≡◌, Bool, true, false, cond, List, [], ◌∷◌, ◌++◌, Some, None, Option, refl, sym, ap, ◌∙◌, subst, eqb, arith}
+use Rattle.std.proofs.Common.{◌≡◌, Bool, true, false, cond, List, [], ◌∷◌, ◌++◌, Some, None, Option, refl, sym, ap, ◌∙◌, eqb, arith}
 use Rattle.std.specs.Prelude.{codes, IsTrue, drop, filter, map, find}
 use Rattle.std.specs.List.{starts_with}
 use Rattle.std.specs.Option.{option_map_or}
@@ -16,9 +16,9 @@ use Rattle.model_guests.specs.Grammar.{HostRead, event_of, guest, has_first_word
 use Rattle.model_guests.specs.World.{Guest, World, declared, is_name, names}
 use Rattle.model_guests.specs.Guests.{GuestsNow, Move, guest_after, guest_at_first, lone_of}
 use Rattle.model_guests.specs.Lines.{Meaning, bad, event_or_bad, guest_event, host_move, host_read, meaning, meaning_of_words, move_of, nothing, read_or_move}
-use Rattle.model_guests.specs.Replies.{line_text, reply_text}
+use Rattle.model_guests.specs.Replies.{reply_text}
 use Rattle.model_guests.specs.WorldNow.{WorldNow, world_over, names_of, names_now, host_reply, move_reply, written_by, after_meaning, after_line, after_lines}
-use Rattle.model_guests.specs.Inputs.{Input, after_input, after_inputs, after_own, inputs, inputs_of_meaning, lone_event, lone_output, lone_reply, own_line}
+use Rattle.model_guests.specs.Inputs.{Input, after_input, after_inputs, after_own, inputs, inputs_of_meaning, lone_event, lone_output, own_line}
 use Rattle.model_guests.specs.Isolation.{Isolated, TwoWorlds}
 use Rattle.model_guests.proofs.Names.{lacks, NameFacts, named_facts, begins, equal_texts, same_text}
 use Rattle.model_guests.proofs.GuestFiles.{other_name}
@@ -46,19 +46,7 @@ replies_in name ls = filter (λ l. starts_with eqb l (name ++ codes ": ")) ls
 own_words : (ns : List Text) (name : Text) (ws : List Text) → NameFacts name → has_name ns name ≡ true → has_first_word name ws ≡ true
     → meaning_of_words ns ws ≡ event_or_bad name (event_of (drop 1 ws))
 own_words ns name [] facts h first = cc
-own_words ns name (w ∷ ws) facts h first =
-    let e : w ≡ name = equal_texts w name first in
-    let host_not : bytes_eq name (codes "host") ≡ false = facts.not_host in
-    let plain : is_comment name ≡ false = facts.not_comment in
-    rw (e, plain, host_not, h)
-
-own_meaning : (ns : List Text) (name l : Text) → NameFacts name → has_name ns name ≡ true → is_own_line name l ≡ true
-    → meaning ns l ≡ event_or_bad name (lone_event l)
-own_meaning ns name l facts h own = grind (arith, not-true, left_true, own_words, right_true)
-
-own_written : (w : WorldNow) (name : Text) (o : Option Event) → NameFacts name
-    → replies_in name (written_by w (event_or_bad name o)) ≡ line_text (guest name) (lone_reply (lone_of w.guests name) o) ∷ []
-own_written w name o facts = grind (arith, begins, same_text)
+own_words ns name (w ∷ ws) facts h first = grind (arith, equal_texts w name first)
 
 own_after : (w : WorldNow) (name : Text) (o : Option Event) → has w.guests name ≡ true → lone_of (after_meaning w (event_or_bad name o)).guests name ≡ after_own (lone_of w.guests name) o
 own_after w name None h = refl
@@ -86,9 +74,6 @@ foreign_words : (ns : List Text) (name : Text) (ws : List Text) → Each (λ m. 
 foreign_words ns name [] all first = tt
 foreign_words ns name (w ∷ ws) all first =
     foreign_cases name w (event_of ws) (host_read_of ws) (move_of ns ws) (is_comment w) (bytes_eq w (codes "host")) (has_name ns w) (other_name w name first) (λ h. (named_facts ns w all h).no_colon)
-
-foreign_line : (ns : List Text) (name l : Text) → Each (λ m. IsTrue (is_name m)) ns → is_own_line name l ≡ false → Foreign name (meaning ns l)
-foreign_line ns name l all own = grind (arith, foreign_words)
 
 other_line : (name n r : Text) → lacks 58 name ≡ true → lacks 58 n ≡ true → bytes_eq name n ≡ false → replies_in name (((n ++ codes ": ") ++ r) ∷ []) ≡ []
 other_line name n r h k d = let e : starts_with eqb ((n ++ codes ": ") ++ r) (name ++ codes ": ") ≡ false = begins n name r k h ∙ d in rw e
@@ -130,10 +115,10 @@ module _ (ns : List Text) (name : Text) (lawful : Each (λ n. IsTrue (is_name n)
   stands_after w l h = (names_stay w l ∙ h.0, ap (λ (xs : List Text). has_name xs name) (names_stay w l) ∙ h.1)
 
   own_means : (w : WorldNow) → Stands w → (l : Text) → is_own_line name l ≡ true → meaning (names_now w) l ≡ event_or_bad name (lone_event l)
-  own_means w h l e = ap (λ (x : List Text). meaning x l) h.0 ∙ own_meaning ns name l facts k e
+  own_means w h l e = grind (arith, not-true, left_true, own_words, right_true)
 
   other_means : (w : WorldNow) → Stands w → (l : Text) → is_own_line name l ≡ false → Foreign name (meaning (names_now w) l)
-  other_means w h l e = subst (λ (x : List Text). Foreign name (meaning x l)) (sym h.0) (foreign_line ns name l lawful e)
+  other_means w h l e = grind (arith, foreign_words)
 
   after_inputs_of : (w : WorldNow) → Stands w → (l : Text) (own : Bool) → is_own_line name l ≡ own
       → lone_of (after_line w l).guests name ≡ after_inputs (lone_of w.guests name) (cond own (own_line l ∷ []) (inputs_of_meaning name w.guests (meaning (names_now w) l)))
@@ -141,19 +126,13 @@ module _ (ns : List Text) (name : Text) (lawful : Each (λ n. IsTrue (is_name n)
 
   replies_from : (ls : List Text) (w : WorldNow) → Stands w → replies_in name (written_along w ls) ≡ lone_output name (lone_of w.guests name) (inputs w.guests name ls)
   replies_from [] w h = refl
-  replies_from (l ∷ ls) w h =
-      filter-append (λ t. starts_with eqb t (name ++ codes ": ")) (written_by w (meaning (names_now w) l)) (written_along (after_line w l) ls)
-      ∙ step (is_own_line name l) refl (replies_from ls (after_line w l) (stands_after w l h))
+  replies_from (l ∷ ls) w h = grind (arith, filter-append, written_along, step, replies_from ls (after_line w l) (stands_after w l h), stands_after)
     where
       step : (own : Bool) → is_own_line name l ≡ own
           → replies_in name (written_along (after_line w l) ls) ≡ lone_output name (lone_of (after_line w l).guests name) (inputs (after_line w l).guests name ls)
           → replies_in name (written_by w (meaning (names_now w) l)) ++ replies_in name (written_along (after_line w l) ls)
           ≡ lone_output name (lone_of w.guests name) (cond own (own_line l ∷ []) (inputs_of_meaning name w.guests (meaning (names_now w) l)) ++ inputs (after_line w l).guests name ls)
-      step true e rest =
-          let line = ap (λ (x : Meaning). replies_in name (written_by w x)) (own_means w h l e) ∙ own_written w name (lone_event l) facts in
-          ap (λ (x : List Text). x ++ replies_in name (written_along (after_line w l) ls)) line
-          ∙ ap (λ (x : List Text). line_text (guest name) (lone_reply (lone_of w.guests name) (lone_event l)) ∷ x)
-          (rest ∙ ap (λ (g : LoneGuest). lone_output name g (inputs (after_line w l).guests name ls)) (after_inputs_of w h l true e))
+      step true e rest = grind (arith, own_means w h l e, begins, same_text, written_along (after_line w l) ls, after_inputs_of w h l true e)
       step false e rest =
           ap (λ (x : List Text). x ++ replies_in name (written_along (after_line w l) ls)) (nothing_written w name (meaning (names_now w) l) facts (other_means w h l e))
           ∙ rest ∙ ap (λ (g : LoneGuest). lone_output name g (inputs (after_line w l).guests name ls)) (after_inputs_of w h l false e)
@@ -172,12 +151,7 @@ isolated_over w lawful s name script h =
     let same : names_now now ≡ names w = names_at_first w in
     let there : has now.guests name ≡ true = ap (λ (ns : List Text). has_name ns name) same ∙ h in
     let first = first_lone w w.guests name in
-    record {
-      replies = ap (replies_in name) (lines_written now (names w) lawful same (lines script))
-          ∙ replies_from (names w) name lawful facts h (lines script) now (same, there)
-          ∙ ap (λ (g : LoneGuest). lone_output name g (inputs now.guests name (lines script))) first;
-      holds = grind (arith, holds_from);
-    }
+    grind (arith, lines_written now (names w) lawful same (lines script), replies_from (names w) name lawful facts h (lines script) now (same, there), holds_from)
 
 pub two_worlds_agree : TwoWorlds
 two_worlds_agree name v w one other lawful_v lawful_w agree s t = grind (arith, isolated_over)

@@ -1,9 +1,7 @@
 -- A device raises no bits of the registers of which a guest has copies; and a path finds the file of its slot.
-use Rattle.std.proofs.Common.{false, [], ◌∷◌, Some, None, Option, sym, ◌∙◌, subst}
-use Rattle.std.specs.Prelude.{⊤, MatchOption}
+use Rattle.std.proofs.Common.{arith}
+use Rattle.std.proofs.Common.{false, [], ◌∷◌, Some, Option, sym, ◌∙◌, subst}
 use Rattle.model_registers.specs.Registers.{File}
-use Rattle.model_registers.specs.Declarations.{Endpoint}
-use Rattle.model_registers.specs.DeclarationRules.{IsLawfulEndpoint}
 use Rattle.model_registers.specs.Decoding.{Function}
 use Rattle.model_registers.specs.EndpointTable.{endpoint_reset}
 use Rattle.model_board.specs.Paths.{Path}
@@ -27,10 +25,7 @@ low_shape [] h = tt
 low_shape (e ∷ es) h = (h.0, low_shape es h.1)
 
 seat_low : (b : Board) → HasLawfulDecls b → (q : Option Path) (f : Function) → IsSeat b q (Some f) → StaysLow f.file
-seat_low b decls None f h = absurd h
-seat_low b decls (Some p) f h =
-    let lawful : IsLawfulEndpoint f.decl = subst (λ (o : Option Endpoint). MatchOption o ⊤ IsLawfulEndpoint) h.decl (declared_lawful b decls p) in
-    low_shape f.file (subst StaysLow (sym h.shape) (shape_low (endpoint_reset f.decl false) (reset_low f.decl lawful)))
+seat_low b decls q f h = grind (arith, declared_lawful b decls, low_shape f.file, shape_low (endpoint_reset f.decl false), reset_low f.decl)
 
 pub copies_never_rise : CopiesNeverRise
 copies_never_rise b decls s seated name n f is m p own =

@@ -8,7 +8,7 @@ use Rattle.std.proofs.lemmas.List.{set-set}
 use Rattle.model_registers.specs.Decoding.{Function}
 use Rattle.model_board.specs.Paths.{Path}
 use Rattle.model_board.specs.Board.{Board}
-use Rattle.model_guests.specs.Guests.{GuestNow, GuestsNow, guest_named, path_in, function_in, with_guest, Move, move_fault, with_slot_emptied, with_slot_filled, after_move}
+use Rattle.model_guests.specs.Guests.{GuestNow, GuestsNow, guest_named, path_in, function_in, with_guest, Move, with_slot_emptied, with_slot_filled, after_move}
 use Rattle.model_guests.specs.Seated.{AreSeated, IsSeat}
 use Rattle.model_guests.specs.MoveLaws.{IsDone, MoveWithin, MoveBetween, InputsWithin, IsMoved, MovedFunction}
 use Rattle.model_guests.proofs.Along.{by_index}
@@ -17,11 +17,6 @@ use Rattle.model_guests.proofs.GuestsByName.{function_named}
 use Rattle.model_guests.proofs.Seats.{names_stay}
 use Rattle.model_guests.proofs.SeatedMoves.{seat_in, Placed, put_there, was_there, placed, place_left}
 use Rattle.model_guests.proofs.MovedFunctions.{NoFault, no_fault, moved, moved_seated, takes}
-
--- a move that is not refused hands the function over
-done_move : (gs : GuestsNow) (m : Move) (p : Path) (f : Function) → move_fault gs m ≡ None → path_in gs m.from m.slot ≡ Some p → function_in gs m.from m.slot ≡ Some f
-    → after_move gs m ≡ with_guest (with_slot_filled m.target (Some p) f.decl) m.to (with_guest (with_slot_emptied m.slot) m.from gs)
-done_move gs m p f fault at is = grind arith
 
 module _ (gs : GuestsNow) (m : Move) (p : Path) (f : Function) (i : ℕ) (g : GuestNow) (is : IsDone gs m p f i g) where
   abbrev emptied : GuestNow
@@ -37,9 +32,7 @@ module _ (gs : GuestsNow) (m : Move) (p : Path) (f : Function) (i : ℕ) (g : Gu
   left_names = subst (λ (xs : GuestsNow). EachPair (λ (x y : GuestNow). IsFalse (bytes_eq x.name y.name)) xs) left (names_stay (with_slot_emptied m.slot) (λ x. refl) m.from gs is.names_apart)
 
   pub moves : (j : ℕ) (h : GuestNow) → slice_get (slice_set gs i emptied) j ≡ Some h → m.to ≡ h.name → after_move gs m ≡ slice_set (slice_set gs i emptied) j (filling h)
-  moves j h at to =
-      done_move gs m p f is.not_refused is.path is.function ∙ ap (λ (xs : GuestsNow). with_guest filling m.to xs) left
-      ∙ ap (λ n. with_guest filling n (slice_set gs i emptied)) to ∙ (by_index (slice_set gs i emptied) left_names j h at).1 filling
+  moves j h at to = grind (arith, left, by_index (slice_set gs i emptied) left_names j h, left_names)
 
 pub move_within : MoveWithin
 move_within gs m p f i g is to =
@@ -59,22 +52,15 @@ module _ (b : Board) (gs : GuestsNow) (seated : AreSeated b gs) (m : Move) (f : 
   abbrev after : GuestsNow
   after = moved b gs seated m f is p at to_there can
 
-  -- the target was empty, and the source was not
-  apart : m.from ≡ m.to → m.slot ≡ m.target → ⊥
-  apart h k = grind arith
-
   no_path : (q : Path) → path_in after m.from m.slot ≡ Some q → ⊥
-  no_path q h =
-      by_place (placed (with_slot_filled m.target (path_in gs m.from m.slot) f.decl) m.target (path_in gs m.from m.slot) (λ g. refl) (λ g. refl)
-      (with_guest (with_slot_emptied m.slot) m.from gs) m.to m.from m.slot q h)
+  no_path q h = grind (arith, by_place, placed (with_slot_filled m.target (path_in gs m.from m.slot) f.decl) m.target (path_in gs m.from m.slot))
     where
       by_left : Placed gs m.from m.from m.slot m.slot None q → ⊥
       by_left (put_there x y z) = cc
       by_left (was_there x y) = y refl refl
 
       by_place : Placed (with_guest (with_slot_emptied m.slot) m.from gs) m.to m.from m.target m.slot (path_in gs m.from m.slot) q → ⊥
-      by_place (put_there x y z) = apart x y
-      by_place (was_there x y) = by_left (place_left b gs seated m f is m.from m.slot q x)
+      by_place h = grind (arith, by_left, place_left)
 
   left_empty : IsSeat b (path_in after m.from m.slot) (function_in after m.from m.slot)
   left_empty = seat_in b after (moved_seated b gs seated m f is p at to_there can).guests m.from m.slot
@@ -88,8 +74,7 @@ module _ (b : Board) (gs : GuestsNow) (seated : AreSeated b gs) (m : Move) (f : 
   }
     where
       none : (o : Option Path) → ((q : Path) → o ≡ Some q → ⊥) → o ≡ None
-      none None h = refl
-      none (Some q) h = absurd (h q refl)
+      none o h = grind arith
 
       no_seat : (o : Option Path) (g : Option Function) → IsSeat b o g → ((q : Path) → o ≡ Some q → ⊥) → g ≡ None
       no_seat o g s h = grind arith

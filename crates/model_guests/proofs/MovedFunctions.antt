@@ -1,5 +1,5 @@
 -- A move resets one function of the board, but for what guests have copies of.
-use Rattle.std.proofs.Common.{◌≡◌, ℕ, ◌<◌, true, false, cond, List, length, Some, None, Option, refl, sym, ap, ◌∙◌, subst, arith}
+use Rattle.std.proofs.Common.{◌≡◌, ℕ, ◌<◌, true, false, cond, List, length, Some, None, Option, sym, ap, ◌∙◌, arith}
 use Rattle.std.specs.Prelude.{slice_get, slice_set, unwrap_or, is_some, option_map, IsFalse, IsSome}
 use Rattle.std.proofs.lemmas.Bool.Decides.{nat_tests}
 use Rattle.std.proofs.lemmas.List.{get_or-set_same}
@@ -9,16 +9,15 @@ use Rattle.model_registers.specs.EndpointTable.{endpoint_reset}
 use Rattle.model_board.specs.Paths.{Path, path_eq}
 use Rattle.model_board.specs.Board.{Board}
 use Rattle.model_board.specs.AtReset.{board_at}
-use Rattle.model_guests.specs.Slots.{Slots, slot_at}
 use Rattle.model_guests.specs.Guests.{GuestNow, GuestsNow, Move, file_of, function_in, guest_named, handed_over, move_fault, path_in, with_guest, with_slot_emptied, with_slot_filled}
 use Rattle.model_registers.specs.CopiedFiles.{after_reset}
 use Rattle.model_guests.specs.AgreedBoard.{state_over}
-use Rattle.model_guests.specs.Seated.{AreSeated, AreSeats, IsSeat}
+use Rattle.model_guests.specs.Seated.{AreSeated}
 use Rattle.model_guests.specs.ChangeLaws.{MoveResetsOneFunction}
 use Rattle.model_guests.proofs.Names.{same_text}
 use Rattle.model_guests.proofs.Seats.{as_many}
 use Rattle.model_guests.proofs.GuestsByName.{one, named_with, found, path_of, function_of, function_named}
-use Rattle.model_guests.proofs.SeatedMoves.{seat_in, Placed, put_there, was_there, place_left, left_names, left_guests, seated_handed}
+use Rattle.model_guests.proofs.SeatedMoves.{seat_in, Placed, place_left, left_names, left_guests, seated_handed}
 use Rattle.model_guests.proofs.FoundFiles.{file_past, file_found, file_stays}
 use Rattle.model_guests.proofs.Changes.{one_file, resets_alike}
 
@@ -31,13 +30,6 @@ no_fault s m h = grind (arith, nat_tests)
 
 pub put_at : {A : Type 0} (xs : List (Option A)) (n : ℕ) (x : Option A) → n < length xs → unwrap_or (slice_get (slice_set xs n x) n) None ≡ x
 put_at xs n x h = unwrap_or-slice_get (slice_set xs n x) n None ∙ get_or-set_same xs n x None h
-
-slot_put : (b : Board) (qs : List (Option Path)) (fs : Slots) (n : ℕ) (f : Option Function) → AreSeats b qs fs → n < length qs → slot_at (slice_set fs n f) n ≡ f
-slot_put b qs fs n f h k = put_at fs n f (subst (λ (l : ℕ). n < l) (sym (as_many b qs fs h)) k)
-
--- an empty slot has no path
-no_seat : (b : Board) (q : Option Path) (o : Option Function) (r : Path) → IsSeat b q o → is_some o ≡ false → q ≡ Some r → ⊥
-no_seat b q o r h e i = grind arith
 
 module _ (b : Board) (s : GuestsNow) (seated : AreSeated b s) (m : Move) (f : Function) (is : function_in s m.from m.slot ≡ Some f) (p : Path) (at : path_in s m.from m.slot ≡ Some p)
     (to_there : IsSome (guest_named s m.to)) (can : NoFault s m) where
@@ -62,17 +54,14 @@ module _ (b : Board) (s : GuestsNow) (seated : AreSeated b s) (m : Move) (f : Fu
     pub function_is : function_of o m.target ≡ Some fresh
 
   pub takes : Takes (guest_named moved m.to)
-  takes =
-      subst Takes (sym (named_with filled (λ t. refl) m.to m.to left))
-      (cases (guest_named left m.to) refl (ap is_some (named_with (with_slot_emptied m.slot) (λ t. refl) m.from m.to s) ∙ some (guest_named s m.to) to_there))
+  takes = grind (arith, named_with, cases, some)
     where
       some : (o : Option GuestNow) → IsSome o → is_some (option_map (one (with_slot_emptied m.slot) m.from) o) ≡ true
-      some None h = cc
-      some (Some t) h = refl
+      some o h = grind arith
 
       cases : (o : Option GuestNow) → guest_named left m.to ≡ o → is_some o ≡ true → Takes (option_map (one filled m.to) o)
       cases None e h = cc
-      cases (Some t) e h = grind (arith, found, left_guests, same_text, put_at, slot_put)
+      cases (Some t) e h = grind (arith, found, left_guests, same_text, put_at, as_many)
 
   pub moved_seated : AreSeated b moved
   moved_seated = seated_handed b s seated m f is
@@ -87,8 +76,7 @@ module _ (b : Board) (s : GuestsNow) (seated : AreSeated b s) (m : Move) (f : Fu
   only_path q other o e r i = let same : r ≡ p = cc in ap (λ (x : Path). path_eq x q) same ∙ other
 
   was_empty : (r : Path) → Placed s m.from m.to m.slot m.target None r → ⊥
-  was_empty r (put_there x y z) = cc
-  was_empty r (was_there x y) = no_seat b (path_in s m.to m.target) (function_in s m.to m.target) r (seat_in b s seated.guests m.to m.target) can.is_empty x
+  was_empty r h = grind (arith, seat_in b s seated.guests m.to m.target)
 
   pub moved_others : (q : Path) → IsFalse (path_eq p q) → file_of moved q ≡ file_of s q
   moved_others q other =
@@ -96,8 +84,7 @@ module _ (b : Board) (s : GuestsNow) (seated : AreSeated b s) (m : Move) (f : Fu
       (λ t e. file_past t.paths t.lone.slots m.target the_path (Some fresh) q
       (λ r i. absurd (was_empty r (place_left b s seated m f is m.to m.target r (ap (λ (o : Option GuestNow). path_of o m.target) e ∙ i)))) (only_path q other the_path at))
       ∙ file_stays (with_slot_emptied m.slot) m.from q s seated.names_apart
-      (λ t e. file_past t.paths t.lone.slots m.slot None None q
-      (λ r i. only_path q other the_path at r (ap (λ (o : Option GuestNow). path_of o m.slot) e ∙ i)) (λ r i. none None refl r i))
+      (grind (arith, file_past, only_path, path_of, none))
     where
       none : (o : Option Path) → o ≡ None → (r : Path) → o ≡ Some r → path_eq r q ≡ false
       none o e r i = cc

@@ -1,5 +1,5 @@
 -- What a lawful name is not: no name of another, no comment, and without colon or line feed.
-use Rattle.std.proofs.Common.{◌≡◌, ℕ, Bool, true, false, not, ◌||◌, List, [], ◌∷◌, ◌++◌, refl, subst, arith, eqb}
+use Rattle.std.proofs.Common.{◌≡◌, ℕ, Bool, true, false, not, List, [], ◌∷◌, ◌++◌, refl, arith, eqb}
 use Rattle.std.specs.Prelude.{codes, IsTrue}
 use Rattle.std.specs.List.{list_all, starts_with}
 use Rattle.std.specs.Str.{bytes_eq}
@@ -18,12 +18,9 @@ lacks b text = list_all (λ c. not (eqb c b)) text
 
 -- ---- names are made of letters and digits
 
-differs : (b c : ℕ) → is_name_byte b ≡ false → is_name_byte c ≡ true → eqb c b ≡ false
-differs b c h k = grind (arith, eqb-true)
-
 bytes_lack : (b : ℕ) (cs : Text) → is_name_byte b ≡ false → list_all is_name_byte cs ≡ true → lacks b cs ≡ true
 bytes_lack b [] h k = refl
-bytes_lack b (c ∷ cs) h k = grind (arith, bytes_lack b cs h, and_from, differs, left_true, right_true)
+bytes_lack b (c ∷ cs) h k = grind (arith, bytes_lack b cs h, and_from, eqb-true, left_true, right_true)
 
 pub record NameFacts (n : Text) : Type 0 where
   pub no_colon : lacks 58 n ≡ true
@@ -33,7 +30,7 @@ pub record NameFacts (n : Text) : Type 0 where
   pub not_comment : is_comment n ≡ false
 
 pub name_facts : (n : Text) → is_name n ≡ true → NameFacts n
-name_facts n h = grind (arith, left_true, and_from, right_true, differs, bytes_lack, not-true)
+name_facts n h = grind (arith, left_true, and_from, right_true, eqb-true, bytes_lack, not-true)
 
 pub equal_texts : (a b : Text) → bytes_eq a b ≡ true → a ≡ b
 equal_texts a b h = (bytes_eq-Decides a b).0 h
@@ -44,11 +41,7 @@ same_text a = (bytes_eq-Decides a a).1 refl
 -- a name that stands among lawful ones is lawful
 pub named_facts : (ns : List Text) (n : Text) → Each (λ m. IsTrue (is_name m)) ns → has_name ns n ≡ true → NameFacts n
 named_facts [] n all h = cc
-named_facts (m ∷ ns) n all h = cases (bytes_eq m n) refl h (named_facts ns n all.1)
-  where
-    cases : (b : Bool) → bytes_eq m n ≡ b → (b || has_name ns n) ≡ true → (has_name ns n ≡ true → NameFacts n) → NameFacts n
-    cases true e k more = subst NameFacts (equal_texts m n e) (name_facts m all.0)
-    cases false e k more = more k
+named_facts (m ∷ ns) n all h = grind (arith, named_facts ns n all.1, equal_texts m n, name_facts m all.0)
 
 -- ---- lines that begin with a name
 

@@ -61,11 +61,7 @@ lone_other f keeps name other gs apart = grind (arith, named_with, name_found)
 
 pub lone_by : (f : GuestNow → GuestNow) → Keeps f → (k : LoneGuest → LoneGuest) → ((t : GuestNow) → (f t).lone ≡ k t.lone) → (n name : Text) (gs : GuestsNow) → IsSome (guest_named gs name)
     → lone_of (with_guest f n gs) name ≡ cond (bytes_eq n name) (k (lone_of gs name)) (lone_of gs name)
-lone_by f keeps k does n name gs there = cases (bytes_eq n name) refl
-  where
-    cases : (t : Bool) → bytes_eq n name ≡ t → lone_of (with_guest f n gs) name ≡ cond t (k (lone_of gs name)) (lone_of gs name)
-    cases true e = ap (λ (x : Text). lone_of (with_guest f x gs) name) (equal_texts n name e) ∙ lone_own f keeps k does name gs there
-    cases false e = lone_other f keeps n name gs e
+lone_by f keeps k does n name gs there = grind (arith, equal_texts n name, lone_own f keeps k does name gs there, lone_other f keeps n name gs)
 
 pub still : (f : GuestNow → GuestNow) → Keeps f → (n name : Text) (gs : GuestsNow) → IsSome (guest_named gs name) → IsSome (guest_named (with_guest f n gs) name)
 still f keeps n name gs there = grind (arith, named_with)

@@ -20,12 +20,12 @@ use Rattle.model_guests.specs.AgreedBoard.{state_over}
 use Rattle.model_guests.specs.ChangeLaws.{with_slot_changed}
 use Rattle.model_guests.specs.Seated.{AreSeated, IsSeat}
 use Rattle.model_guests.specs.MoveLaws.{IsMoved}
-use Rattle.model_guests.proofs.GuestsByName.{path_at, path_of, function_of, function_named, one, named_with}
+use Rattle.model_guests.proofs.GuestsByName.{path_of, function_of, function_named, one, named_with}
 use Rattle.model_guests.proofs.GuestFiles.{with_file_there}
 use Rattle.model_guests.proofs.SeatedMoves.{seat_in, Placed, put_there, was_there, place_left, left_names, left_guests}
 use Rattle.model_guests.proofs.MoveIndices.{moved_function}
 use Rattle.model_guests.proofs.Changes.{changes_one_function, resets_alike}
-use Rattle.model_guests.specs.DeviceEvents.{resets, slot_fault, after_device_event, device_answer, device_after, after_guest_device}
+use Rattle.model_guests.specs.DeviceEvents.{resets, slot_fault, after_device_event, device_answer, after_guest_device}
 use Rattle.model_guests.specs.DeviceLaws.{between, IsMoveAndBack, ResetByMoves, ResetReachesBoard}
 use Rattle.model_guests.proofs.OneGuest.{lone_found, with_alike, with_none, with_twice, guest_of_function}
 use Rattle.model_guests.proofs.Seats.{no_path, some_path}
@@ -53,16 +53,6 @@ reset_there g n f low at = grind (arith, taken_passes)
 
 pub answer_there : (g : LoneGuest) (n : ℕ) (f : Function) → nat_le 32 n ≡ false → slot_at g.slots n ≡ Some f → device_answer g (resets n) ≡ done
 answer_there g n f low at = ap (λ (o : Option ℕ). option_map_or refused o done) (taken_passes g.slots n f low at)
-
--- out of a slot and in again
-in_again : (x : GuestNow) (n : ℕ) (p : Path) (f : Function) → nat_le 32 n ≡ false → path_at x.paths n ≡ Some p → slot_at x.lone.slots n ≡ Some f
-    → with_slot_filled n (Some p) f.decl (with_slot_emptied n x) ≡ device_after (resets n) x
-in_again x n p f low path at = grind (arith, set-set, put_back, reset_there)
-
--- into an empty slot and out again
-out_again : (y : GuestNow) (m : ℕ) (p : Option Path) (f : Function) → path_at y.paths m ≡ None → slot_at y.lone.slots m ≡ None
-    → with_slot_emptied m (with_slot_filled m p f.decl y) ≡ y
-out_again y m p f path at = grind (arith, set_back)
 
 -- ---- moves
 
@@ -106,16 +96,13 @@ module _ (b : Board) (gs : GuestsNow) (seated : AreSeated b gs) (name : Text) (n
   function_here = sym (ap (λ (o : Option GuestNow). function_of o n) one_there.1) ∙ sym (function_named gs name n) ∙ is
 
   pub again : nat_le 32 n ≡ false → with_guest (with_slot_filled n (Some p) f.decl) name (with_guest (with_slot_emptied n) name gs) ≡ after_guest_device name (resets n) gs
-  again low = grind (arith, with_twice, with_alike, in_again, function_here)
+  again low = grind (arith, with_twice, with_alike, set-set, put_back, reset_there, function_here)
 
   pub answered_here : nat_le 32 n ≡ false → device_answer (lone_of gs name) (resets n) ≡ done
   answered_here low = ap (λ (g : LoneGuest). device_answer g (resets n)) (lone_found gs name x one_there.1) ∙ answer_there x.lone n f low function_here
 
   pub as_changed : nat_le 32 n ≡ false → after_guest_device name (resets n) gs ≡ with_guest (with_slot_changed (λ (own : File). endpoint_reset f.decl false) n) name gs
-  as_changed low =
-      with_alike gs seated.names_apart name x one_there.1 (device_after (resets n)) (with_slot_changed (λ (own : File). endpoint_reset f.decl false) n)
-      (ap (λ (l : LoneGuest). let y : GuestNow = record x { lone = l } in y) (reset_there x.lone n f low function_here)
-      ∙ ap (λ (ss : Slots). let y : GuestNow = record x { lone = record x.lone { slots = ss } } in y) (sym (with_file_there (λ (own : File). endpoint_reset f.decl false) n x.lone.slots f function_here)))
+  as_changed low = grind (arith, with_alike, reset_there, function_here, with_file_there)
 
 pub reset_reaches_board : ResetReachesBoard
 reset_reaches_board s gs seated name n fault p f path is =
@@ -179,9 +166,7 @@ module _ (b : Board) (gs : GuestsNow) (seated : AreSeated b gs) (name to : Text)
   third =
       with_twice (with_slot_emptied m) (with_slot_filled m (Some p) f.decl) (λ t. refl) to left
       ∙ with_none left (left_names b gs seated away f the_function.1) to taker.0 taker.1 (λ t. with_slot_emptied m (with_slot_filled m (Some p) f.decl t))
-      (out_again taker.0 m (Some p) f
-      (sym (ap (λ (o : Option GuestNow). path_of o m) taker.1) ∙ free_path)
-      (sym (ap (λ (o : Option GuestNow). function_of o m) taker.1) ∙ sym (function_named left to m) ∙ free_function))
+      (grind (arith, set_back, path_of, free_path, function_of, function_named, free_function))
 
   pub there_and_back : IsMoveAndBack gs name n to m
   there_and_back = grind (arith, answered_here, back_fault, second, third, again, moved_as)

@@ -1,5 +1,5 @@
 -- Guests stay seated when a function is moved.
-use Rattle.std.proofs.Common.{◌≡◌, ℕ, zero, suc, Bool, true, false, cond, List, [], ◌∷◌, length, Some, None, Option, refl, sym, ap, ◌∙◌, subst, arith}
+use Rattle.std.proofs.Common.{◌≡◌, ℕ, zero, suc, Bool, cond, List, [], ◌∷◌, Some, None, Option, refl, sym, ap, ◌∙◌, subst, arith}
 use Rattle.std.specs.Prelude.{slice_set, is_some, option_map, IsFalse}
 use Rattle.std.specs.Str.{bytes_eq}
 use Rattle.std.proofs.lemmas.List.{length-set}
@@ -47,21 +47,9 @@ placed g n x keeps sets s name a k q h = cases (guest_named s a) refl (sym (ap (
         each_unit (u ∷ us) = (tt, each_unit us)
 
     cases : (o : Option GuestNow) → guest_named s a ≡ o → path_of (option_map (one g name) o) k ≡ Some q → Placed s name a n k x q
-    cases None e h = cc
-    cases (Some t) e h = by_name (bytes_eq name t.name) refl h
-      where
-        by_name : (u : Bool) → bytes_eq name t.name ≡ u → path_at (cond u (g t) t).paths k ≡ Some q → Placed s name a n k x q
-        by_name true i h = of_where (where_set t.paths n k x q (sym (ap (λ (qs : List (Option Path)). path_at qs k) (sets t)) ∙ h))
-          where
-            of_where : Where t.paths n k x q → Placed s name a n k x q
-            of_where (put c d) = put_there (sym (there t e) ∙ sym (equal_texts name t.name i)) c d
-            of_where (stays c d) = was_there (ap (λ (o : Option GuestNow). path_of o k) e ∙ c) (λ z. d)
-        by_name false i h = grind (arith, there, same_text)
+    cases o e h = grind (arith, path_at, where_set, there, equal_texts name, path_of, same_text)
 
 -- ---- a move
-
-same_count : (qs : List (Option Path)) (n : ℕ) (x : Option Path) → length qs ≡ 32 → length (slice_set qs n x) ≡ 32
-same_count qs n x h = simp length-set h
 
 module _ (b : Board) (s : GuestsNow) (seated : AreSeated b s) (m : Move) (f : Function) (is : function_in s m.from m.slot ≡ Some f) where
   abbrev left : GuestsNow
@@ -84,19 +72,16 @@ module _ (b : Board) (s : GuestsNow) (seated : AreSeated b s) (m : Move) (f : Fu
 
   -- what is at a path of the function that left
   gone : (a : Text) (k : ℕ) (q : Path) → Placed s m.from a m.slot k None q → the_path ≡ Some q → ⊥
-  gone a k q (put_there c d e) h = cc
-  gone a k q (was_there c d) h = let same = seated.paths_apart a m.from k m.slot q c h in d same.0 same.1
+  gone a k q h e = grind (arith, seated.paths_apart)
 
   pub left_names : EachPair (λ (t u : GuestNow). IsFalse (bytes_eq t.name u.name)) left
   left_names = names_stay (with_slot_emptied m.slot) (λ t. refl) m.from s seated.names_apart
 
   pub left_guests : Each (IsSeatedGuest b) left
-  left_guests =
-      guests_stay (IsSeatedGuest b) (with_slot_emptied m.slot)
-      (λ t h. record { count = same_count t.paths m.slot None h.count; seats = seats_set b t.paths t.lone.slots m.slot None None h.seats tt }) m.from s seated.guests
+  left_guests = grind (arith, guests_stay, length-set, seats_set)
 
   pub seated_handed : AreSeated b (with_guest filled m.to left)
-  seated_handed = grind (arith, names_stay, left_names, guests_stay, same_count, seats_set, at_reset_there, seat, left_guests, place, gone, place_left)
+  seated_handed = grind (arith, names_stay, left_names, guests_stay, length-set, seats_set, at_reset_there, seat, left_guests, place, gone, place_left)
 
 pub seated_after_moves : SeatedAfterMoves
 seated_after_moves b s seated m = cases (is_some (move_fault s m)) (function_in s m.from m.slot) refl

@@ -1,12 +1,11 @@
 -- The table of an endpoint after set-up and at reset: the same places, and the same cells but for those of which a guest has copies.
-use Rattle.std.proofs.Common.{◌≡◌, ℕ, ◌+◌, ◌≤◌, Bool, true, false, List, [], ◌∷◌, ◌++◌, refl, ap₂, arith}
+use Rattle.std.proofs.Common.{◌≡◌, ℕ, Bool, false, List, [], ◌∷◌, ◌++◌, refl, ap₂, arith}
 use Rattle.std.specs.Prelude.{flat_map, ⊤, IsFalse}
 use Rattle.lists.specs.Elements.{Each}
 use Rattle.model_registers.proofs.Owned.{base_is_own}
-use Rattle.model_registers.specs.Cell.{Cell}
-use Rattle.model_registers.specs.Registers.{Place, config, place_eq, PlacedCell, File, cell_at}
-use Rattle.model_registers.specs.Declarations.{Kind, registers_of, Region, Endpoint, IsLawfulRegion}
-use Rattle.model_registers.specs.EndpointTable.{base_cells, region_cells, endpoint_file, endpoint_reset}
+use Rattle.model_registers.specs.Registers.{Place, place_eq, PlacedCell, File, cell_at}
+use Rattle.model_registers.specs.Declarations.{Region, Endpoint, IsLawfulRegion}
+use Rattle.model_registers.specs.EndpointTable.{region_cells, endpoint_file, endpoint_reset}
 use Rattle.model_registers.specs.OwnCopies.{is_own}
 use Rattle.model_registers.specs.CopiedFiles.{agreed_file, places_of}
 use Rattle.model_guests.proofs.DistinctPlaces.{HasDistinctPlaces}
@@ -37,19 +36,13 @@ alike_places [] l h = grind arith
 alike_places (o ∷ os) [] h = absurd h
 alike_places (o ∷ os) (l ∷ ls) h = ap₂ (λ (p : Place) (ps : List Place). p ∷ ps) h.0.place (alike_places os ls h.1)
 
-alike_bases : (n : ℕ) (kind : Kind) (size b c : ℕ) → n + registers_of kind ≤ 6 → Alike (base_cells n kind size b) (base_cells n kind size c)
-alike_bases n kind size b c h = grind (arith, base_is_own)
-
 alike_regions : (bases : Region → ℕ) (rs : List Region) → Each IsLawfulRegion rs → Alike (flat_map (region_cells (λ r. 0)) rs) (flat_map (region_cells bases) rs)
 alike_regions bases [] all = tt
-alike_regions bases (r ∷ rs) all = grind (arith, alike_regions bases rs, alike_append, alike_bases, alike_self)
-
-own_entry : {a : ℕ} {c d : Cell} → is_own (config a) ≡ true → AlikeEntries (record { place = config a; cell = c }) (record { place = config a; cell = d })
-own_entry own = record { place = refl; cell = λ h. cc }
+alike_regions bases (r ∷ rs) all = grind (arith, alike_regions bases rs, alike_append, base_is_own, alike_self)
 
 pub alike_tables : (d : Endpoint) (multifunction : Bool) (command : ℕ) (bases : Region → ℕ) → Each IsLawfulRegion d.regions
     → Alike (endpoint_reset d false) (endpoint_file d multifunction command bases)
-alike_tables d multifunction command bases registers = grind (arith, alike_append, alike_self, alike_regions, own_entry)
+alike_tables d multifunction command bases registers = grind (arith, alike_append, alike_self, alike_regions)
 
 -- ---- a file at reset, put into the table that set-up left
 
