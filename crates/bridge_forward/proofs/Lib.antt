@@ -18,3 +18,4 @@ pub mod BlocksReset
 pub mod RoutingRows
 pub mod Devices
 pub mod Known
+mod HeldBytes

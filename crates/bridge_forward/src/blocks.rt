@@ -2,6 +2,7 @@
 ghost use Rattle.std.specs.Prelude.{◌≡◌, ◌≤◌, ◌<◌, ℕ, IfOk, length, map, slice_get, Some, [], ◌∷◌};
 ghost use Rattle.std.specs.Option.{option_copied};
 ghost use Rattle.lists.specs.Elements.{Each};
+ghost use Rattle.model_registers.specs.AccessLaws.{HoldsBytes};
 ghost use Rattle.model_registers.specs.Registers.{config, cells_from};
 ghost use Rattle.bridge_forward.specs.EndpointParts.{region_at, declared_bar, declared_block, as_made, blocks_after};
 
@@ -77,5 +78,16 @@ pub(crate) fn reset_all(blocks: &mut [Cells])
 {
     for block in blocks.iter_mut() {
         block.reset();
+    }
+}
+
+/// Looks at each cell of blocks: what all hold are bytes.
+pub(crate) fn hold_bytes(blocks: &[Cells])
+    ensures { Each (λ f. HoldsBytes f.now) blocks.now }
+{
+    let mut left = blocks;
+    while let Some((block, rest)) = left.split_first() {
+        block.hold_bytes();
+        left = rest;
     }
 }

@@ -1,5 +1,6 @@
 //! A bridge of the board, with its registers.
 ghost use Rattle.std.specs.Prelude.{◌≡◌, ◌%◌, ◌&&◌, IfOk, Option, option_map};
+ghost use Rattle.model_registers.specs.AccessLaws.{HoldsBytes};
 ghost use Rattle.model_registers.specs.Registers.{config, number, read, write};
 ghost use Rattle.model_registers.specs.ByteEnables.{lanes};
 ghost use Rattle.model_registers.specs.DeclarationRules.{IsLawfulBridge};
@@ -109,6 +110,13 @@ impl BridgeFn {
     {
         self.cells.write(u16::from(off), enables, data);
         self.decoded = decode(&self.cells, &self.decl);
+    }
+
+    /// Looks at each cell: what all hold are bytes.
+    pub(crate) fn hold_bytes(&self)
+        ensures { HoldsBytes self.now.file }
+    {
+        self.cells.hold_bytes();
     }
 
     /// Whether an address is forwarded: Command opens its space, and a window of that space holds it

@@ -2,11 +2,13 @@
 ghost use Rattle.std.specs.Prelude.{◌≡◌, ◌%◌, ◌<◌, IfOk, IfSome, IsSome, IsTrue, find, length, slice_get};
 ghost use Rattle.std.specs.Borrow.{sem};
 ghost use Rattle.std.specs.Option.{option_and_then, option_copied_mut};
-ghost use Rattle.lists.specs.Elements.{EachPair};
+ghost use Rattle.lists.specs.Elements.{Each, EachPair};
+ghost use Rattle.model_registers.specs.AccessLaws.{HoldsBytes};
 ghost use Rattle.model_board.specs.Routing.{routing};
 ghost use Rattle.bars.specs.Slots.{bases_from};
 ghost use Rattle.bridge_forward.specs.BasesNow.{bases_nth};
 ghost use Rattle.bridge_forward.specs.Cycled.{reached_by};
+ghost use Rattle.bridge_forward.specs.Layout.{functions_of};
 ghost use Rattle.bridge_forward.specs.RoutingRows.{primary_nth, secondary_nth};
 ghost use Rattle.model_board.specs.Paths.{path_before, path_eq};
 ghost use Rattle.model_board.specs.Board.{IsBoard};
@@ -104,6 +106,17 @@ impl Node {
         } else {
             i
         }
+    }
+}
+
+/// Looks at each cell of the functions of nodes: what all hold are bytes.
+fn hold_bytes(nodes: &[Node])
+    ensures { Each (λ f. HoldsBytes f.file) (functions_of nodes.now) }
+{
+    let mut left = nodes;
+    while let Some((node, rest)) = left.split_first() {
+        node.function.hold_bytes();
+        left = rest;
     }
 }
 
@@ -247,6 +260,14 @@ impl Bus {
         }
         let node = &mut self.nodes[at];
         node.function.endpoint_mut()
+    }
+
+    /// Looks at each cell of each function: what all hold are bytes. So it is in any state, since cells are kept in
+    /// bytes.
+    pub fn hold_bytes(&self)
+        ensures { Each (λ f. HoldsBytes f.file) self.now }
+    {
+        hold_bytes(&self.nodes);
     }
 
     /// Resets the endpoint at a path. Its Command and base address registers stay as they are, and so do

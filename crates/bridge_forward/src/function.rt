@@ -2,6 +2,7 @@
 ghost use Rattle.std.specs.Prelude.{◌≡◌, ◌%◌, ◌&&◌, ◌==◌, nat_le, IfOk};
 ghost use Rattle.std.specs.Borrow.{sem};
 ghost use Rattle.std.specs.Option.{option_copied, option_copied_mut};
+ghost use Rattle.model_registers.specs.AccessLaws.{HoldsBytes};
 ghost use Rattle.model_registers.specs.Registers.{config, number, read, write};
 ghost use Rattle.model_registers.specs.ByteEnables.{LiesInWord, lanes};
 ghost use Rattle.model_registers.specs.Decoding.{command_word};
@@ -100,6 +101,16 @@ impl Function {
         match self {
             Function::Endpoint(endpoint) => endpoint.config_write(off, enables, data),
             Function::Bridge(bridge) => bridge.config_write(off, enables, data),
+        }
+    }
+
+    /// Looks at each cell: what all hold are bytes.
+    pub(crate) fn hold_bytes(&self)
+        ensures { HoldsBytes (file_of self.now) }
+    {
+        match self {
+            Function::Endpoint(endpoint) => endpoint.hold_bytes(),
+            Function::Bridge(bridge) => bridge.hold_bytes(),
         }
     }
 

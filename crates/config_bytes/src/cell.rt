@@ -1,5 +1,6 @@
 //! One byte of configuration space or of a region.
 ghost use Rattle.std.specs.Prelude.{◌≡◌, ◌↔◌, IsOk, IfOk, bit_and};
+ghost use Rattle.lists.specs.Elements.{Each};
 ghost use Rattle.model_registers.specs.Cell.{IsCell, constant, written, raised};
 ghost use Rattle.model_registers.specs.DeviceBytes.{with_value};
 
@@ -116,5 +117,16 @@ impl Cell {
             value: byte,
             ..self
         }
+    }
+}
+
+/// Looks at cells, and changes nothing: each of their numbers is a byte.
+pub fn are_cells(cells: &[Cell])
+    ensures { Each IsCell cells.now }
+{
+    let mut left = cells;
+    while let Some((cell, rest)) = left.split_first() {
+        let _byte = cell.value();
+        left = rest;
     }
 }

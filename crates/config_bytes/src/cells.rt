@@ -5,11 +5,12 @@ ghost use Rattle.model_registers.specs.Cell.{written};
 ghost use Rattle.lists.specs.Elements.{Each, all_pairs};
 ghost use Rattle.model_registers.specs.Registers.{config, changed, read, write, raise, cell_at};
 ghost use Rattle.model_registers.specs.DeviceBytes.{set_value};
+ghost use Rattle.model_registers.specs.AccessLaws.{HoldsBytes};
 ghost use Rattle.model_registers.specs.ByteEnables.{enabled_bytes, is_enabled, lanes};
 ghost use Rattle.model_registers.specs.FileLaws.{IsConfigFile};
 ghost use Rattle.config_bytes.specs.CellFile.{HasDistinctOffsets, differ, KeepsPlaces, file_of, placed, placed_outside, reset_outside};
 
-use crate::cell::Cell;
+use crate::cell::{Cell, are_cells};
 use byteorder::{ByteOrder, LittleEndian};
 use std::alloc::{AllocError, Global};
 use std::marker::Model;
@@ -255,6 +256,13 @@ impl Cells {
         }
         let at = usize::from(off);
         self.table[at] = self.table[at].with_value(value);
+    }
+
+    /// Looks at each cell: what all hold are bytes.
+    pub fn hold_bytes(&self)
+        ensures { HoldsBytes self.now.now }
+    {
+        are_cells(&self.table);
     }
 
     /// Goes back to the cells that `new` was given.

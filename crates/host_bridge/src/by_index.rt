@@ -2,6 +2,8 @@
 //! No call takes memory.
 ghost use Rattle.std.specs.Prelude.{◌≡◌, ◌%◌, IsSome, IsTrue, length, option_map, slice_get};
 ghost use Rattle.std.specs.Option.{option_copied};
+ghost use Rattle.lists.specs.Elements.{Each};
+ghost use Rattle.model_registers.specs.AccessLaws.{HoldsBytes};
 ghost use Rattle.model_registers.specs.Registers.{cell_at, config, number, raise, read, write};
 ghost use Rattle.model_registers.specs.ByteEnables.{LiesInWord, lanes};
 ghost use Rattle.model_registers.specs.DeviceBytes.{is_device_byte, set_value};
@@ -24,6 +26,13 @@ impl Host {
         ensures { result ≡ length self.now.state.functions }
     {
         self.root.count()
+    }
+
+    /// Looks at each cell of each function: what all hold are bytes.
+    pub fn hold_bytes(&self)
+        ensures { Each (λ f. HoldsBytes f.file) self.now.state.functions }
+    {
+        self.root.hold_bytes();
     }
 
     /// The path of the function at an index, in path order.

@@ -8,26 +8,16 @@ ghost use Rattle.model_board.specs.State.{BoardFunction};
 ghost use Rattle.model_images.specs.ByteLaws.{IsDeclared};
 ghost use Rattle.model_images.specs.MachineByteLaws.{AreDeclared, CanBeDeclared};
 
-use config_bytes::Cell;
+use config_bytes::are_cells;
 use headers::{ConfigBlock, EndpointDecl, Region};
 use host_bridge::Host;
-
-fn has_cells(cells: &[Cell])
-    ensures { Each IsCell cells.now }
-{
-    let mut left = cells;
-    while let Some((cell, rest)) = left.split_first() {
-        let _byte = cell.value();
-        left = rest;
-    }
-}
 
 fn regions_have_cells(regions: &[Region])
     ensures { Each (λ r. Each IsCell r.cells) regions.now }
 {
     let mut left = regions;
     while let Some((region, rest)) = left.split_first() {
-        has_cells(&region.block);
+        are_cells(&region.block);
         left = rest;
     }
 }
@@ -37,7 +27,7 @@ fn blocks_have_cells(blocks: &[ConfigBlock])
 {
     let mut left = blocks;
     while let Some((block, rest)) = left.split_first() {
-        has_cells(&block.block);
+        are_cells(&block.block);
         left = rest;
     }
 }

@@ -1,7 +1,7 @@
 use Rattle.std.proofs.Common.{length}
 use Rattle.lists.specs.Elements.{Each}
 use Rattle.model_registers.specs.Cell.{IsCell}
-use Rattle.images.proofs.declarations.has_cells.Given as goal
+use Rattle.config_bytes.proofs.cell.are_cells.Given as goal
 
 abbrev pub invariant-loop-cell : goal.invariant-loop-cell
 invariant-loop-cell l = Each IsCell l.left → Each IsCell l.cells
