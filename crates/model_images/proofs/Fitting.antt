@@ -92,7 +92,7 @@ restored_fits s h = record {
 
 -- ---- all guests
 
-fitting_kept : AreKept HoldsFitting
+pub fitting_kept : AreKept HoldsFitting
 fitting_kept = record { write = write_keeps; raise = raise_keeps; put = set_keeps; reset = reset_holds }
   where
     reset_holds : (o : Option Endpoint) → HoldsFitting (reset_function o)
@@ -114,7 +114,7 @@ image_slots (None ∷ ss) (None ∷ fs) h = (tt, image_slots ss fs h.1)
 image_slots (Some s ∷ ss) (Some f ∷ fs) h = (restored_fits s h.0.values, image_slots ss fs h.1)
 image_slots ss fs h = grind arith
 
-image_fits : (i : Image) (g : LoneGuest) → Fits i g → Has HoldsFitting (lone_of_image i)
+pub image_fits : (i : Image) (g : LoneGuest) → Fits i g → Has HoldsFitting (lone_of_image i)
 image_fits i g h = record { latch = h.latch; functions = image_slots i.slots g.slots h.slots }
 
 pub fitting_after : FittingAfter

@@ -60,11 +60,11 @@ module _ (H : Option Function → Type 0) (kept : AreKept H) where
 
   -- ---- events
 
-  effect_holds : (v w : ℕ) (fs : Slots) (o : Option Landing) → Each H fs → Each H (effect (writes v) w fs o)
+  pub effect_holds : (v w : ℕ) (fs : Slots) (o : Option Landing) → Each H fs → Each H (effect (writes v) w fs o)
   effect_holds v w fs None h = h
   effect_holds v w fs (Some l) h = with_file_holds (write (all_bytes w) v l.place) (kept.write (all_bytes w) v l.place) l.slot fs h
 
-  access_holds : (g : LoneGuest) (op : Op) (w : ℕ) (d : Destination) → Has H g → Has H (after_access_at g op w d)
+  pub access_holds : (g : LoneGuest) (op : Op) (w : ℕ) (d : Destination) → Has H g → Has H (after_access_at g op w d)
   access_holds g reads w d h = h
   access_holds g (writes v) w own_latch h = record { latch = latched_twice v; functions = h.functions }
   access_holds g (writes v) w no_function h = h
@@ -81,7 +81,7 @@ module _ (H : Option Function → Type 0) (kept : AreKept H) where
   either_holds : (t : Bool) (g k : LoneGuest) → Has H g → Has H k → Has H (cond t g k)
   either_holds t g k h i = grind arith
 
-  event_holds : (g : LoneGuest) (e : Event) → Has H g → Has H (after_event g e)
+  pub event_holds : (g : LoneGuest) (e : Event) → Has H g → Has H (after_event g e)
   event_holds g e h = either_holds (is_some (event_fault g.slots e)) g (changed_by g e) h (event_changes g e h)
 
   filled_holds : (n : ℕ) (d : Endpoint) (g : LoneGuest) → Has H g → Has H (filled n d g)

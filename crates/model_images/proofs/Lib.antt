@@ -32,4 +32,6 @@ mod SavableMachines
 mod DecidedMachines
 mod SavedMachines
 mod SavedWorlds
+mod FewFunctions
+pub mod WritableWorlds
 mod ByteExamples

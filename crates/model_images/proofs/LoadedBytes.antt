@@ -18,7 +18,7 @@ use Rattle.model_images.specs.Layouts.{Layout, Parsed, parsed, le_bytes, number,
 use Rattle.model_images.specs.ImageBytes.{endpoint_layout, function_layout, declaration_bytes, image_bytes}
 use Rattle.model_images.specs.ByteLaws.{IsLayout, HasBytes, HoldsSavable, IsSavableGuest}
 use Rattle.model_images.specs.LoadedBytes.{Left, then_read, after_version, after_beginning, after_bytes, after_values, after_slot, after_slots_front, at_end, after_slots, after_number, after_latch, after_image_front, after_image, fault_of, load_fault}
-use Rattle.model_images.specs.LoadedLaws.{ImagesDecided, OwnAccepted, IsOfOthers}
+use Rattle.model_images.specs.LoadedLaws.{AlikeAccepted, ImagesDecided, IsOfOthers}
 use Rattle.model_images.specs.TakenBytes.{HoldsDeclared, IsDeclaredGuest}
 use Rattle.model_images.proofs.Numbers.{number_again}
 use Rattle.model_images.proofs.ImageLayouts.{endpoint_is}
@@ -213,6 +213,6 @@ pub savable_fits : (fs : Slots) → Each HoldsSavable fs → Each HoldsFitting f
 savable_fits [] h = tt
 savable_fits (f ∷ fs) h = grind (arith, savable_fits fs)
 
-pub own_accepted : OwnAccepted
-own_accepted g savable =
-    fitting_accepted g (image_of_lone g) (guests_have_bytes g savable) (record { latch = savable.latch; slots = saved_slots g.slots g.slots (savable_fits g.slots savable.functions) refl })
+pub taken_by_all : AlikeAccepted
+taken_by_all g savable other same =
+    fitting_accepted other (image_of_lone g) (guests_have_bytes g savable) (record { latch = savable.latch; slots = saved_slots g.slots other.slots (savable_fits g.slots savable.functions) same })

@@ -1,6 +1,6 @@
 -- The image of a machine whose functions hold bytes has bytes.
 use Rattle.std.proofs.Common.{◌≡◌, ℕ, ◌<◌, ◌^◌, Bool, true, false, ◌&&◌, cond, List, [], ◌∷◌, length, Some, None, Option, refl, sym, ap, subst, arith}
-use Rattle.std.specs.Prelude.{map}
+use Rattle.std.specs.Prelude.{map, option_map}
 use Rattle.std.specs.Option.{option_map_or}
 use Rattle.std.proofs.lemmas.Bool.{and_from, lt-ltb}
 use Rattle.std.proofs.lemmas.List.{length-map}
@@ -27,8 +27,8 @@ use Rattle.model_guests.specs.Guests.{GuestNow, GuestsNow}
 use Rattle.model_guests.specs.AgreedBoard.{agreed_function}
 use Rattle.model_guests.specs.Seated.{AreSeats, IsSeatedGuest}
 use Rattle.model_guests.specs.WorldNow.{WorldNow, names_of}
-use Rattle.model_handoff.specs.Handoffs.{declared_cells, HasDeclaredShape, IsHandoff}
-use Rattle.model_handoff.specs.ViewLaws.{seated_files, with_seated_reset}
+use Rattle.model_handoff.specs.Handoffs.{declared_cells, file_at_reset, HasDeclaredShape, IsHandoff}
+use Rattle.model_handoff.specs.ViewLaws.{seated_files, sits, with_seated_reset}
 use Rattle.model_images.specs.Images.{values_of, image_of_lone}
 use Rattle.model_images.specs.MachineImages.{SavedGuest, values_in, saved_handoff, saved_guest}
 use Rattle.model_images.specs.MachineLaws.{IsSavableWorld}
@@ -38,7 +38,7 @@ use Rattle.model_images.specs.Layouts.{number, both, through, fit_times, counted
 use Rattle.model_images.specs.ImageBytes.{image_layout}
 use Rattle.model_images.specs.ByteLaws.{IsDeclared, IsSavableGuest}
 use Rattle.model_images.specs.MachineBytes.{path_layout, io_number, pref_number, third, bridge_layout, decl_layout, row_layout, board_layout, name_layout, paths_layout, guest_layout, cells_layout, on_board}
-use Rattle.model_images.specs.MachineByteLaws.{HasMachineBytes, CanBeDeclared, IsWritableName, IsWritableMachine, MachinesHaveBytes}
+use Rattle.model_images.specs.MachineByteLaws.{AreWritable, HasMachineBytes, CanBeDeclared, IsWritableName, IsWritableMachine, MachinesHaveBytes}
 use Rattle.model_images.proofs.ByteCells.{hold_bytes, reset_bytes}
 use Rattle.model_images.proofs.Savable.{times_fit, counted_fit, endpoint_fits, values_fit, as_long, guests_have_bytes}
 
@@ -82,13 +82,17 @@ cells_fit (f ∷ fs) shapes can =
 
 pub record IsWritableState (s : State) : Type 0 where
   pub handoff : IsHandoff s
-  pub declared : Each (λ (f : BoardFunction). CanBeDeclared f.decl) s.functions
-  pub bytes : Each (λ (f : BoardFunction). HoldsBytes f.file) s.functions
+  pub functions : AreWritable s.functions
   pub many : length s.functions < 2 ^ 32
   pub latch : s.latch < 2 ^ 32
 
 pub writable_now : (w : WorldNow) → IsSavableWorld w → IsWritableMachine w → IsWritableState w.handoff
-writable_now w h can = record { handoff = h.lawful.handoff; declared = can.known.compared.declared; bytes = can.bytes; many = can.known.many; latch = can.latch }
+writable_now w h can = record {
+  handoff = h.lawful.handoff;
+  functions = record { declared = can.known.compared.declared; bytes = can.bytes };
+  many = can.known.many;
+  latch = can.latch;
+}
 
 pub board_fits : (s : State) → IsHandoff s → Each (λ (f : BoardFunction). CanBeDeclared f.decl) s.functions → length s.functions < 2 ^ 32 → board_layout.fits (board_at s.functions) ≡ true
 board_fits s h declared few =
@@ -98,8 +102,8 @@ board_fits s h declared few =
 pub state_fits : (s : State) → IsWritableState s → (gs : List SavedGuest) → (counted 2 guest_layout).fits gs ≡ true → HasMachineBytes (record { handoff = saved_handoff s; guests = gs })
 state_fits s h gs guests =
     let b = board_at s.functions in
-    let board = board_fits s h.handoff h.declared h.many in
-    let cells = cells_fit s.functions h.handoff.shapes h.bytes in
+    let board = board_fits s h.handoff h.functions.declared h.many in
+    let cells = cells_fit s.functions h.handoff.shapes h.functions.bytes in
     let latch = lt-ltb s.latch (256 ^ 4) h.latch in
     and_from (board_layout.fits b) ((on_board b).fits (gs, (values_in s, s.latch))) board
     (and_from ((counted 2 guest_layout).fits gs) (fit_each cells_layout b (values_in s) && (number 4).fits s.latch) guests
@@ -114,7 +118,7 @@ declared_written fs can p d h =
 abbrev IsByte : PlacedCell → Type 0
 IsByte e = e.cell.value < 256
 
-agreed_bytes : (left own : File) → HoldsBytes left → HoldsBytes own → HoldsBytes (agreed_file left own)
+pub agreed_bytes : (left own : File) → HoldsBytes left → HoldsBytes own → HoldsBytes (agreed_file left own)
 agreed_bytes [] own h k = tt
 agreed_bytes (e ∷ es) own h k = (of (is_own e.place), agreed_bytes es own h.1 k)
   where
@@ -122,25 +126,40 @@ agreed_bytes (e ∷ es) own h k = (of (is_own e.place), agreed_bytes es own h.1 
     of true = h.0
     of false = let one = number_fits own k e.place 1 in omega arith
 
-written_at_reset : (d : Endpoint) → IsDeclared d → HoldsBytes (endpoint_reset d false)
+pub written_at_reset : (d : Endpoint) → IsDeclared d → HoldsBytes (endpoint_reset d false)
 written_at_reset d h = hold_bytes (endpoint_reset d false) (reset_bytes d h.cells)
+
+-- with the functions at reset that are picked
+module _ (fs : List BoardFunction) (h : AreWritable fs) (picked : Path → Bool) where
+  abbrev pub picked_files : Path → Option File
+  picked_files p = cond (picked p) (option_map file_at_reset (declared (board_at fs) p)) None
+
+  decl_stays : (o : Option File) (f : BoardFunction) → (option_map_or (λ (own : File). record f { file = agreed_file f.file own }) o f).decl ≡ f.decl
+  decl_stays o f = grind arith
+
+  written : (f : BoardFunction) → HoldsBytes f.file → HoldsBytes (agreed_function picked_files f).file
+  written f k = of (picked f.path) (declared (board_at fs) f.path) refl
+    where
+      of : (t : Bool) (o : Option Endpoint) → declared (board_at fs) f.path ≡ o → HoldsBytes (option_map_or (λ (own : File). record f { file = agreed_file f.file own }) (cond t (option_map file_at_reset o) None) f).file
+      of false o e = k
+      of true None e = k
+      of true (Some d) e = agreed_bytes f.file (file_at_reset d) k (written_at_reset d (declared_written fs h.declared f.path d e))
+
+  pub writable_picked : AreWritable (map (agreed_function picked_files) fs)
+  writable_picked = record {
+    declared = each_of_map (λ (f : BoardFunction). CanBeDeclared f.decl) (agreed_function picked_files) fs
+        (each_map (λ (f : BoardFunction). CanBeDeclared f.decl) (λ (f : BoardFunction). CanBeDeclared (agreed_function picked_files f).decl) fs (λ f k. subst CanBeDeclared (sym (decl_stays (picked_files f.path) f)) k) h.declared);
+    bytes = each_of_map (λ (f : BoardFunction). HoldsBytes f.file) (agreed_function picked_files) fs
+        (each_map (λ (f : BoardFunction). HoldsBytes f.file) (λ (f : BoardFunction). HoldsBytes (agreed_function picked_files f).file) fs written h.bytes);
+  }
 
 pub writable_under : (s : State) → IsWritableState s → (gs : GuestsNow) → IsWritableState (with_seated_reset s gs)
 writable_under s h gs = record {
   handoff = handoff_stays s h.handoff gs;
-  declared = each_of_map (λ (f : BoardFunction). CanBeDeclared f.decl) (agreed_function (seated_files s gs)) s.functions
-      (each_map (λ (f : BoardFunction). CanBeDeclared f.decl) (λ (f : BoardFunction). CanBeDeclared (agreed_function (seated_files s gs) f).decl) s.functions (λ f k. subst CanBeDeclared (sym (decl_stays (seated_files s gs f.path) f)) k) h.declared);
-  bytes = each_of_map (λ (f : BoardFunction). HoldsBytes f.file) (agreed_function (seated_files s gs)) s.functions
-      (each_map (λ (f : BoardFunction). HoldsBytes f.file) (λ (f : BoardFunction). HoldsBytes (agreed_function (seated_files s gs) f).file) s.functions written h.bytes);
+  functions = writable_picked s.functions h.functions (sits gs);
   many = subst (λ n. n < 2 ^ 32) (sym (length-map s.functions (agreed_function (seated_files s gs)))) h.many;
   latch = h.latch;
 }
-  where
-    decl_stays : (o : Option File) (f : BoardFunction) → (option_map_or (λ (own : File). record f { file = agreed_file f.file own }) o f).decl ≡ f.decl
-    decl_stays o f = grind arith
-
-    written : (f : BoardFunction) → HoldsBytes f.file → HoldsBytes (agreed_function (seated_files s gs) f).file
-    written f k = grind (arith, agreed_bytes, written_at_reset, declared_written)
 
 -- ---- guests
 

@@ -13,11 +13,12 @@ use Rattle.model_registers.specs.EndpointTable.{endpoint_reset}
 use Rattle.model_registers.specs.Registers.{File}
 use Rattle.model_board.specs.Paths.{Path, path_eq}
 use Rattle.model_board.specs.AtReset.{board_at}
-use Rattle.model_board.specs.State.{BoardFunction, State, with_file}
+use Rattle.model_board.specs.State.{BoardFunction, State}
 use Rattle.model_guests.specs.Text.{Text}
 use Rattle.model_guests.specs.Slots.{Slots}
 use Rattle.model_guests.specs.World.{World, declared}
 use Rattle.model_guests.specs.AgreedBoard.{agreed_function, with_change_at}
+use Rattle.model_guests.specs.Calls.{asks, at_device}
 use Rattle.model_guests.specs.Guests.{GuestNow, GuestsNow, guest_named, lone_of, path_in, guests_at_first}
 use Rattle.model_guests.specs.Lone.{LoneGuest}
 use Rattle.model_guests.specs.Seated.{AreSeats, IsSeatedGuest}
@@ -64,46 +65,42 @@ agreed_declared files fs h = kept_declared (agreed_function files) (λ f. stays 
     stays : (o : Option File) (f : BoardFunction) → (option_map_or (λ (own : File). record f { file = agreed_file f.file own }) o f).decl ≡ f.decl
     stays o f = grind arith
 
-changed_declared : (change : File → File) (p : Path) (fs : List BoardFunction) → AreDeclared fs → AreDeclared (with_file change p fs)
-changed_declared change p fs h = kept_declared (λ (f : BoardFunction). cond (path_eq f.path p) (record f { file = change f.file }) f) (λ f. stays (path_eq f.path p) f) fs h
+pub reset_declared : (s : State) (p : Path) → AreDeclared s.functions → AreDeclared (with_reset_at p s).functions
+reset_declared s p h = of (declared (board_at s.functions) p)
   where
-    stays : (t : Bool) (f : BoardFunction) → (cond t (record f { file = change f.file }) f).decl ≡ f.decl
-    stays true f = refl
-    stays false f = refl
+    changed : (d : Endpoint) (f : BoardFunction) (t : Bool) → (cond t (record f { file = after_reset d f.file }) f).decl ≡ f.decl
+    changed d f t = grind arith
 
-abbrev OverDeclared : WorldNow → Type 0
-OverDeclared w = AreDeclared w.handoff.functions
+    of : (o : Option Endpoint) → AreDeclared (option_map_or (λ (d : Endpoint). with_change_at (after_reset d) p s) o s).functions
+    of None = h
+    of (Some d) = kept_declared (λ (f : BoardFunction). cond (path_eq f.path p) (record f { file = after_reset d f.file }) f) (λ f. changed d f (path_eq f.path p)) s.functions h
 
-reset_declared : (s : State) (p : Path) (o : Option Endpoint) → AreDeclared s.functions → AreDeclared (option_map_or (λ (d : Endpoint). with_change_at (after_reset d) p s) o s).functions
-reset_declared s p None h = h
-reset_declared s p (Some d) h = changed_declared (after_reset d) p s.functions h
+-- what stays of a handoff when a function is reset stays along requests
+module _ (R : State → Type 0) (resets : (s : State) (p : Path) → R s → R (with_reset_at p s)) where
+  either_over : (t : Bool) (v w : WorldNow) → R v.handoff → R w.handoff → R (cond t v w).handoff
+  either_over true v w h k = h
+  either_over false v w h k = k
 
-either_declared : (t : Bool) (v w : WorldNow) → OverDeclared v → OverDeclared w → OverDeclared (cond t v w)
-either_declared true v w h k = h
-either_declared false v w h k = k
+  given_over : (w : WorldNow) (g : Gift) (o : Option Endpoint) → R w.handoff → R (given g o w).handoff
+  given_over w g None h = h
+  given_over w g (Some d) h = resets w.handoff g.path h
 
-given_declared : (w : WorldNow) (g : Gift) (o : Option Endpoint) → OverDeclared w → OverDeclared (given g o w)
-given_declared w g None h = h
-given_declared w g (Some d) h = reset_declared w.handoff g.path (declared (board_at w.handoff.functions) g.path) h
+  taken_over_there : (w : WorldNow) (o : Option Path) → R w.handoff → R (option_map_or (λ (p : Path). with_reset_at p w.handoff) o w.handoff)
+  taken_over_there w None h = h
+  taken_over_there w (Some p) h = resets w.handoff p h
 
-taken_declared : (w : WorldNow) (o : Option Path) → OverDeclared w → AreDeclared (option_map_or (λ (p : Path). with_reset_at p w.handoff) o w.handoff).functions
-taken_declared w None h = h
-taken_declared w (Some p) h = reset_declared w.handoff p (declared (board_at w.handoff.functions) p) h
-
-declared_after : (w : WorldNow) → OverDeclared w → (r : Request) → OverDeclared (after_request w r)
-declared_after w h (acts (calls c)) = subst AreDeclared (handoff_stays c) h
-  where
-    handoff_stays : (c : _) → w.handoff.functions ≡ (after_action w (calls c)).handoff.functions
-    handoff_stays c = grind arith
-declared_after w h (acts (gives g)) =
-    either_declared (is_some (give_fault w g)) w (given g (declared (board_at w.handoff.functions) g.path) w) h (given_declared w g (declared (board_at w.handoff.functions) g.path) h)
-declared_after w h (acts (takes n k)) = either_declared (is_some (take_fault w n k)) w (taken n k w) h (taken_declared w (path_in w.guests n k) h)
-declared_after w h (loads n i) = h
-declared_after w h (restarts n) = h
+  pub handoff_after : (w : WorldNow) → R w.handoff → (r : Request) → R (after_request w r).handoff
+  handoff_after w h (acts (calls (asks m))) = h
+  handoff_after w h (acts (calls (at_device n e))) = h
+  handoff_after w h (acts (gives g)) =
+      either_over (is_some (give_fault w g)) w (given g (declared (board_at w.handoff.functions) g.path) w) h (given_over w g (declared (board_at w.handoff.functions) g.path) h)
+  handoff_after w h (acts (takes n k)) = either_over (is_some (take_fault w n k)) w (taken n k w) h (taken_over_there w (path_in w.guests n k) h)
+  handoff_after w h (loads n i) = h
+  handoff_after w h (restarts n) = h
 
 -- ---- guests that can be saved
 
-abbrev HaveBytes : GuestsNow → Type 0
+abbrev pub HaveBytes : GuestsNow → Type 0
 HaveBytes gs = Each (λ (t : GuestNow). Has HoldsByteCells t.lone) gs
 
 module _ (fs : List BoardFunction) (declared : AreDeclared fs) where
@@ -126,12 +123,12 @@ module _ (fs : List BoardFunction) (declared : AreDeclared fs) where
     all_savable gs seated.1 fit.1 bytes.1,
   )
 
-slots_have : (os : Slots) → Each HoldsSavable os → Each HoldsByteCells os
+pub slots_have : (os : Slots) → Each HoldsSavable os → Each HoldsByteCells os
 slots_have [] h = tt
 slots_have (None ∷ os) h = (tt, slots_have os h.1)
 slots_have (Some f ∷ os) h = (λ cells. of_shape f.file (endpoint_reset f.decl false) h.0.fits.shape (reset_bytes f.decl cells) h.0.bytes, slots_have os h.1)
 
-have_bytes : (gs : GuestsNow) → Each (λ (g : GuestNow). IsSavableGuest g.lone) gs → HaveBytes gs
+pub have_bytes : (gs : GuestsNow) → Each (λ (g : GuestNow). IsSavableGuest g.lone) gs → HaveBytes gs
 have_bytes gs h = each_map (λ (g : GuestNow). IsSavableGuest g.lone) (λ (t : GuestNow). Has HoldsByteCells t.lone) gs (λ t k. record { latch = k.latch; functions = slots_have t.lone.slots k.functions }) h
 
 saved_over : (w : World) (s : State) → AreDeclared s.functions → IsLawfulOver (world_over w s) → CanBeSaved (world_over w s)
@@ -168,7 +165,7 @@ image_slots (suc n) (Some s ∷ ss) h =
       image_slots n ss (right_true ((optional function_layout).fits (Some s)) (fit_times (optional function_layout).fits n ss) h),
     )
 
-image_has : (i : Image) → HasBytes i → Has HoldsByteCells (lone_of_image i)
+pub image_has : (i : Image) → HasBytes i → Has HoldsByteCells (lone_of_image i)
 image_has i has = let parts = parts_of i has in record { latch = parts.latched; functions = image_slots 32 i.slots parts.slots }
 
 bytes_after : (w : WorldNow) → HaveBytes w.guests → (r : Request) → IsWritableRequest w r → HaveBytes (after_request w r).guests
@@ -176,14 +173,14 @@ bytes_after w h (acts a) fits = action_holds HoldsByteCells byte_cells_kept w a 
 bytes_after w h (loads n i) fits = load_holds HoldsByteCells byte_cells_kept w n i (image_has i fits.bytes) h
 bytes_after w h (restarts n) fits = restart_holds HoldsByteCells byte_cells_kept w n h
 
-fits_after : (w : WorldNow) (r : Request) → IsWritableRequest w r → IsFittingRequest w r
+pub fits_after : (w : WorldNow) (r : Request) → IsWritableRequest w r → IsFittingRequest w r
 fits_after w (acts a) fits = tt
 fits_after w (loads n i) fits = fits.fits
 fits_after w (restarts n) fits = tt
 
 saved_after : (w : WorldNow) → IsLawfulOver w → CanBeSaved w → (r : Request) → IsWritableRequest w r → CanBeSaved (after_request w r)
 saved_after w h can r fits =
-    let declared = declared_after w can.declared r in
+    let declared = handoff_after (λ s. AreDeclared s.functions) reset_declared w can.declared r in
     let lawful = lawful_along_requests w h (r ∷ []) (fits_after w r fits, tt) in
     record {
       declared = declared;

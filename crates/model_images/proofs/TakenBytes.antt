@@ -30,7 +30,7 @@ use Rattle.model_images.proofs.Numbers.{number_again, number_is, number_spells}
 use Rattle.model_images.proofs.Layouts.{fit_count}
 use Rattle.model_images.proofs.ImageBytes.{bytes_are_read, parts_of, FunctionParts, function_parts, parts_fit, slot_fits}
 use Rattle.model_images.proofs.Savable.{times_fit, endpoint_fits, guests_have_bytes}
-use Rattle.model_images.proofs.LoadedBytes.{begun, own_beginning, own_bytes, read_before, same_left, follows, function_bytes, slot_bytes, slots_bytes, values_taken, fitting_slot, slots_end, image_ends, own_accepted, savable_is_declared}
+use Rattle.model_images.proofs.LoadedBytes.{begun, own_beginning, own_bytes, read_before, same_left, follows, function_bytes, slot_bytes, slots_bytes, values_taken, fitting_slot, slots_end, image_ends, savable_is_declared, taken_by_all}
 
 -- ---- values
 
@@ -295,5 +295,5 @@ refused_stays w name bytes k some = ap (λ (o : Option ℕ). cond (is_some o) w 
 pub keeps_saved_bytes : KeepsSavedBytes
 keeps_saved_bytes b w seated name savable =
     let i = image_of_guest name w in
-    taken_now w name (image_bytes i) i (own_accepted (lone_of w.guests name) savable) (bytes_are_read i (guests_have_bytes (lone_of w.guests name) savable))
+    taken_now w name (image_bytes i) i (taken_by_all (lone_of w.guests name) savable (lone_of w.guests name) refl) (bytes_are_read i (guests_have_bytes (lone_of w.guests name) savable))
     ∙ keeps_what_was_saved b w seated name

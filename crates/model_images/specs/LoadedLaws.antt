@@ -1,7 +1,7 @@
 -- Laws of bytes that are loaded into a guest.
 --     AcceptedIsImage      bytes that are not refused are an image that fits the guest
 --     ImagesDecided      an image is taken where it fits, and else refused as one of other functions
---     OwnAccepted      the bytes of a guest's own image are taken
+--     IsTakenByAll g, AlikeAccepted      the bytes of a guest's own image are taken by each guest of equal declarations
 --     LoadsImage, RefusedStays      so the world after it is that after the load of an image that fits, or as it was
 --     KeepsSavedBytes      bytes that were saved change nothing
 use Rattle.std.specs.Prelude.{◌≡◌, ◌⊎◌, ℕ, List, Some, None}
@@ -12,6 +12,7 @@ use Rattle.model_guests.specs.Guests.{lone_of}
 use Rattle.model_guests.specs.Seated.{AreSeated}
 use Rattle.model_guests.specs.WorldNow.{WorldNow}
 use Rattle.model_images.specs.Images.{Image, image_of_lone, image_of_guest, after_load, Fits}
+use Rattle.model_images.specs.FitLaws.{declarations_of}
 use Rattle.model_images.specs.ImageBytes.{image_bytes, image_of}
 use Rattle.model_images.specs.ByteLaws.{AreBytes, IsSavableGuest}
 use Rattle.model_images.specs.LoadedBytes.{load_fault, after_load_bytes}
@@ -33,8 +34,13 @@ abbrev pub ImagesDecided : Type 0
 ImagesDecided = (g : LoneGuest) → IsSavableGuest g → (bytes : List ℕ) (i : Image) → image_of bytes ≡ Some i
     → ((load_fault g bytes ≡ None) × Fits i g) ⊎ IsOfOthers g bytes i
 
-abbrev pub OwnAccepted : Type 0
-OwnAccepted = (g : LoneGuest) → IsSavableGuest g → load_fault g (image_bytes (image_of_lone g)) ≡ None
+-- itself among them
+abbrev pub IsTakenByAll : LoneGuest → Type 0
+IsTakenByAll g = (other : LoneGuest) → declarations_of g ≡ declarations_of other
+    → load_fault other (image_bytes (image_of_lone g)) ≡ None
+
+abbrev pub AlikeAccepted : Type 0
+AlikeAccepted = (g : LoneGuest) → IsSavableGuest g → IsTakenByAll g
 
 -- ---- in a world
 

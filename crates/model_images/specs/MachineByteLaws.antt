@@ -11,12 +11,16 @@
 --                            be saved
 --     MachinesHaveBytes      the image of such a world has bytes
 --     AreDeclared fs      the declaration of each function of a board can be written
+--     AreWritable fs      so it is, and each function holds bytes
+--     FewFunctions      a board of such functions, all of which are found, has no more than there are addresses
 --     CanBeSaved w      so it is of a world's board, and each of its guests can be saved, whatever its handoff holds
-use Rattle.std.specs.Prelude.{◌≡◌, ◌<◌, ◌^◌, ℕ, List, Some, IsTrue, ⊤, length}
+use Rattle.std.specs.Prelude.{◌≡◌, ◌≤◌, ◌<◌, ◌*◌, ◌^◌, ℕ, List, Some, IsTrue, ⊤, length}
 use Rattle.lists.specs.Elements.{Each}
 use Rattle.model_registers.specs.AccessLaws.{HoldsBytes}
 use Rattle.model_board.specs.Board.{Decl, endpoint, bridge}
 use Rattle.model_board.specs.State.{BoardFunction}
+use Rattle.model_findings.specs.Found.{IsNumbered}
+use Rattle.model_findings.specs.Orderly.{IsStateOfBoard}
 use Rattle.model_guests.specs.Guests.{GuestNow}
 use Rattle.model_guests.specs.Text.{Text}
 use Rattle.model_guests.specs.WorldNow.{WorldNow, names_now}
@@ -56,6 +60,15 @@ pub record IsWritableName (name : Text) : Type 0 where
 
 abbrev pub AreDeclared : List BoardFunction → Type 0
 AreDeclared fs = Each (λ (f : BoardFunction). CanBeDeclared f.decl) fs
+
+pub record AreWritable (fs : List BoardFunction) : Type 0 where
+  pub declared : AreDeclared fs
+  pub bytes : Each (λ (f : BoardFunction). HoldsBytes f.file) fs
+
+-- 256 buses of 16 devices of 8 functions
+abbrev pub FewFunctions : Type 0
+FewFunctions = (fs : List BoardFunction) → IsStateOfBoard fs → IsNumbered fs
+    → Each (λ (f : BoardFunction). HoldsBytes f.file) fs → length fs ≤ 256 * (16 * 8)
 
 -- the declarations and the names that bytes of guests are compared with
 pub record CanBeCompared (w : WorldNow) : Type 0 where

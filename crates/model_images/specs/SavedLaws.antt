@@ -4,6 +4,7 @@
 --                                   be written
 --     IsWritableRequest, AreWritableRequests      requests whose images fit the guests that get them, and have bytes
 --     CanBeSavedAlong      along such requests it can be saved
+--     WritableAtFirst, WritableAlong      and so can the whole machine, over a board that can be written
 --     IsForAnother w from v to      a guest of a world that can be saved, and one of equal declarations, in this world or
 --                                   another
 --     IsTakenBy w from v to, TakesSavedGuest      the bytes that were saved of the first are taken by the second, which
@@ -15,9 +16,10 @@
 use Rattle.std.specs.Prelude.{◌≡◌, ℕ, List, [], ◌∷◌, Some, None, IsFalse, IsSome, ⊤}
 use Rattle.std.specs.Str.{bytes_eq}
 use Rattle.lists.specs.Elements.{Each}
+use Rattle.model_board.specs.AtReset.{board_at}
 use Rattle.model_board.specs.State.{State}
 use Rattle.model_guests.specs.Text.{Text}
-use Rattle.model_guests.specs.World.{World}
+use Rattle.model_guests.specs.World.{World, HasLawfulGuests}
 use Rattle.model_guests.specs.Lone.{LoneGuest}
 use Rattle.model_guests.specs.Guests.{guest_named, lone_of}
 use Rattle.model_guests.specs.WorldNow.{WorldNow, world_over}
@@ -34,7 +36,7 @@ use Rattle.model_images.specs.ByteLaws.{HasBytes, IsSavableGuest}
 use Rattle.model_images.specs.LoadedBytes.{load_fault, after_load_bytes}
 use Rattle.model_images.specs.LoadedLaws.{IsFittingImage}
 use Rattle.model_images.specs.LoadedMachineLaws.{IsTaken}
-use Rattle.model_images.specs.MachineByteLaws.{AreDeclared, CanBeSaved}
+use Rattle.model_images.specs.MachineByteLaws.{AreDeclared, AreWritable, CanBeSaved, IsWritableWorld}
 
 -- over a handoff, and over what guests get of one
 pub record IsSavedAtFirst (w : World) (s : State) : Type 0 where
@@ -61,6 +63,14 @@ AreWritableRequests w (r ∷ more) = IsWritableRequest w r × AreWritableRequest
 abbrev pub CanBeSavedAlong : Type 0
 CanBeSavedAlong = (w : WorldNow) → IsLawfulOver w → CanBeSaved w → (requests : List Request)
     → AreWritableRequests w requests → CanBeSaved (after_requests w requests)
+
+abbrev pub WritableAtFirst : Type 0
+WritableAtFirst = (w : World) (s : State) → board_at s.functions ≡ w.board → AreWritable s.functions
+    → HasLawfulGuests w → IsLawfulOver (world_over w (taken_over w s)) → IsWritableWorld (world_over w (taken_over w s))
+
+abbrev pub WritableAlong : Type 0
+WritableAlong = (w : WorldNow) → IsLawfulOver w → IsWritableWorld w → (requests : List Request)
+    → AreWritableRequests w requests → IsWritableWorld (after_requests w requests)
 
 -- ---- what was saved of a guest
 

@@ -19,12 +19,12 @@ ghost use Rattle.model_images.specs.StepLaws.{LoadsBySteps};
 ghost use Rattle.model_images.specs.ByteExamples.{ByteExamples};
 ghost use Rattle.model_images.specs.ByteLaws.{BytesAreBytes, BytesAreRead, GuestsHaveBytes, OneImage, ReadAreBytes, ReadIsOfAGuest};
 ghost use Rattle.model_images.specs.FrontBytes.{FrontIsTaken, SizeIsTold};
-ghost use Rattle.model_images.specs.LoadedLaws.{AcceptedIsImage, ImagesDecided, KeepsSavedBytes, LoadsImage, OwnAccepted, RefusedStays};
+ghost use Rattle.model_images.specs.LoadedLaws.{AcceptedIsImage, AlikeAccepted, ImagesDecided, KeepsSavedBytes, LoadsImage, RefusedStays};
 ghost use Rattle.model_images.specs.LoadedMachineLaws.{AcceptedIsMachine, FittingIsAccepted, FittingIsLoaded, MachinesDecided, NoMachineIsRefused};
 ghost use Rattle.model_images.specs.LoadedMachineLaws.{ReadFits, ReadStandsThere, RefusedKeeps, TakesSavedMachine};
 ghost use Rattle.model_images.specs.MachineByteExamples.{MachineByteExamples};
-ghost use Rattle.model_images.specs.MachineByteLaws.{MachineBytesAreBytes, MachineBytesAreRead, MachineReadAreBytes, MachinesHaveBytes, OneMachineImage};
-ghost use Rattle.model_images.specs.SavedLaws.{CanBeSavedAlong, CanBeSavedAtFirst, NoImageIsRefused, SavesWhatWasTaken, TakesItsOwn, TakesSavedGuest};
+ghost use Rattle.model_images.specs.MachineByteLaws.{FewFunctions, MachineBytesAreBytes, MachineBytesAreRead, MachineReadAreBytes, MachinesHaveBytes, OneMachineImage};
+ghost use Rattle.model_images.specs.SavedLaws.{CanBeSavedAlong, CanBeSavedAtFirst, NoImageIsRefused, SavesWhatWasTaken, TakesItsOwn, TakesSavedGuest, WritableAlong, WritableAtFirst};
 ghost use Rattle.model_images.specs.TakenBytes.{AcceptedIsTaken, ImageIsTaken, SlotsAreTaken};
 
 /// A guest that is loaded with an image holds what the guest held that was saved, in whatever
@@ -138,11 +138,11 @@ pub fn guests_have_bytes()
 {}
 
 /// Bytes that a guest takes are an image that fits it. An image that doesn't is refused as one of
-/// other functions, and a guest takes its own.
+/// other functions, and a guest takes its own, as does each of equal declarations.
 pub fn fitting_bytes_are_taken()
     ensures images { AcceptedIsImage }
     ensures decided { ImagesDecided }
-    ensures own { OwnAccepted }
+    ensures alike { AlikeAccepted }
     ensures load { LoadsImage }
     ensures refused { RefusedStays }
     ensures saved { KeepsSavedBytes }
@@ -185,9 +185,14 @@ pub fn machine_images_are_bytes()
     ensures one { OneMachineImage }
 {}
 
-/// The image of each machine whose functions are lawful and hold bytes has bytes.
+/// The image of each machine whose functions are lawful and hold bytes has bytes. So it is of a
+/// machine over a board that can be written, at first and along any requests; no board that can be
+/// handed over has more functions than numbers of them.
 pub fn machines_have_bytes()
-    ensures { MachinesHaveBytes }
+    ensures bytes { MachinesHaveBytes }
+    ensures first { WritableAtFirst }
+    ensures along { WritableAlong }
+    ensures few { FewFunctions }
 {}
 
 /// Bytes that a machine doesn't refuse are the image of a machine that fits it, and it is loaded.

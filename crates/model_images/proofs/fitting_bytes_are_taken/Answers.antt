@@ -1,4 +1,4 @@
-use Rattle.model_images.proofs.LoadedBytes.{images_decided, own_accepted}
+use Rattle.model_images.proofs.LoadedBytes.{images_decided, taken_by_all}
 use Rattle.model_images.proofs.TakenBytes.{accepted_is_image, loads_image, refused_stays, keeps_saved_bytes}
 use Rattle.model_images.proofs.fitting_bytes_are_taken.Goals as goal
 
@@ -6,7 +6,7 @@ pub returns : goal.returns
 returns c = record {
   images = accepted_is_image;
   decided = images_decided;
-  own = own_accepted;
+  alike = taken_by_all;
   load = loads_image;
   refused = refused_stays;
   saved = keeps_saved_bytes;

@@ -1,0 +1,87 @@
+-- A board whose functions are all found has no more of them than there are addresses.
+use Rattle.std.proofs.Common.{◌≡◌, ◌⊎◌, inl, inr, ◌+◌, ◌*◌, ◌≤◌, ◌<◌, ℕ, zero, suc, true, List, [], ◌∷◌, ◌++◌, length, Option, Some, None, refl, sym, ap, ◌∙◌, subst, length-append, arith}
+use Rattle.std.specs.Prelude.{flat_map, map}
+use Rattle.std.specs.List.{range_with_len}
+use Rattle.std.specs.Option.{option_to_list}
+use Rattle.std.proofs.lemmas.List.{length-map}
+use Rattle.std.proofs.lemmas.List.FromFn.{length-range_with_len}
+use Rattle.lists.specs.Elements.{Each, EachPair, IsIn}
+use Rattle.lists.proofs.EachLemmas.{each_both, each_map, pairs_from_map, pairs_map}
+use Rattle.lists.proofs.Members.{front_or_back, in_back, in_front}
+use Rattle.model_registers.specs.AccessLaws.{HoldsBytes}
+use Rattle.model_registers.specs.Registers.{config}
+use Rattle.model_registers.proofs.ByteAccesses.{number_fits}
+use Rattle.model_board.specs.Board.{Row}
+use Rattle.model_board.specs.Cycles.{BusAddress, reached, secondary_register}
+use Rattle.model_board.specs.Paths.{path_before}
+use Rattle.model_board.specs.State.{BoardFunction, row_at}
+use Rattle.model_board.proofs.PathEnds.{not_before_itself}
+use Rattle.model_findings.specs.Found.{address_at, scan_order, scanned}
+use Rattle.model_findings.proofs.Scan.{scan_finds_all}
+use Rattle.model_images.specs.MachineByteLaws.{FewFunctions}
+
+-- ---- elements of which no two are equal, and all are among others
+
+module _ {A : Type 0} where
+  record Parted (x : A) (ys : List A) : Type 0 where
+    before : List A
+    after : List A
+    is : ys ≡ before ++ x ∷ after
+
+  parted : (x : A) (ys : List A) → IsIn x ys → Parted x ys
+  parted x [] m = absurd m
+  parted x (y ∷ ys) (inl e) = record { before = []; after = ys; is = ap (λ z. z ∷ ys) (sym e) }
+  parted x (y ∷ ys) (inr m) = let p = parted x ys m in record { before = y ∷ p.before; after = p.after; is = ap (λ zs. y ∷ zs) p.is }
+
+  beside : (x z : A) (before after : List A) → IsIn z (before ++ x ∷ after) → (x ≡ z → ⊥) → IsIn z (before ++ after)
+  beside x z before after m apart = of (front_or_back z before (x ∷ after) m)
+    where
+      of : IsIn z before ⊎ IsIn z (x ∷ after) → IsIn z (before ++ after)
+      of (inl k) = in_front z before after k
+      of (inr (inl e)) = absurd (apart (sym e))
+      of (inr (inr k)) = in_back z before after k
+
+  no_more : (xs ys : List A) → EachPair (λ x y. x ≡ y → ⊥) xs → Each (λ x. IsIn x ys) xs → length xs ≤ length ys
+  no_more [] ys apart all = omega arith
+  no_more (x ∷ xs) ys apart all =
+      let p = parted x ys all.0 in
+      let others = each_map (λ z. (x ≡ z → ⊥) × IsIn z ys) (λ z. IsIn z (p.before ++ p.after)) xs (λ z k. beside x z p.before p.after (subst (IsIn z) p.is k.1) k.0)
+      (each_both (λ z. x ≡ z → ⊥) (λ z. IsIn z ys) xs apart.0 all.1) in
+      let more = no_more xs (p.before ++ p.after) apart.1 others in
+      let whole = ap (λ (zs : List A). length zs) p.is ∙ length-append p.before (x ∷ p.after) in
+      let two = length-append p.before p.after in omega arith
+
+-- ---- all that a scan finds
+
+few_reached : (fs : List BoardFunction) (ats : List BusAddress) → length (flat_map (λ at. option_to_list (reached fs at)) ats) ≤ length ats
+few_reached fs [] = omega arith
+few_reached fs (at ∷ ats) =
+    let both = length-append (option_to_list (reached fs at)) (flat_map (λ at. option_to_list (reached fs at)) ats) in
+    let one = at_most (reached fs at) in
+    let more = few_reached fs ats in omega arith
+  where
+    at_most : (o : Option BoardFunction) → length (option_to_list o) ≤ 1
+    at_most None = omega arith
+    at_most (Some f) = omega arith
+
+of_each : (f : ℕ → List BusAddress) → ((n : ℕ) → length (f n) ≡ 128) → (ns : List ℕ) → length (flat_map f ns) ≡ length ns * 128
+of_each f h [] = refl
+of_each f h (n ∷ ns) =
+    let both = length-append (f n) (flat_map f ns) in
+    let one = h n in
+    let more = of_each f h ns in omega arith
+
+all_addresses : length scan_order ≡ 256 * (16 * 8)
+all_addresses =
+    of_each (λ bus. map (address_at bus) (range_with_len 0 128)) (λ bus. length-map (range_with_len 0 128) (address_at bus) ∙ length-range_with_len 0 128) (range_with_len 0 256)
+    ∙ ap (λ n. n * 128) (length-range_with_len 0 256)
+
+pub few_functions : FewFunctions
+few_functions fs state numbered bytes =
+    let small = each_map (λ (f : BoardFunction). HoldsBytes f.file) (λ (f : BoardFunction). secondary_register f.file < 256) fs (λ f h. number_fits f.file h (config 0x19) 1) bytes in
+    let apart = pairs_map (λ (f g : BoardFunction). path_before f.path g.path ≡ true) (λ f g. f ≡ g → ⊥) fs
+    (λ f g before same. not_before_itself f.path (subst (λ (x : BoardFunction). path_before f.path x.path ≡ true) (sym same) before))
+    (pairs_from_map (λ (r s : Row). path_before r.path s.path ≡ true) row_at fs state.places.in_order) in
+    let found = no_more fs (scanned fs) apart (scan_finds_all fs state numbered small) in
+    let few = few_reached fs scan_order in
+    let all = all_addresses in omega arith

@@ -1,0 +1,197 @@
+-- A machine that can be written whole, at first and after each request.
+--     HoldsWritable, AllHold      a function holds what it can hold, in bytes; all functions of guests
+--     rewritten      so a world can be written after any change that keeps its names, and after which all hold so
+use Rattle.std.proofs.Common.{◌≡◌, ◌<◌, ◌≤◌, ◌^◌, ℕ, suc, ◌&&◌, List, [], ◌∷◌, Bool, true, false, cond, length, Option, Some, None, refl, sym, ap, ◌∙◌, subst, arith}
+use Rattle.std.specs.Prelude.{map, not, IsTrue, codes, nat_le}
+use Rattle.std.specs.Str.{bytes_eq}
+use Rattle.std.specs.List.{list_all}
+use Rattle.std.specs.Option.{option_map_or}
+use Rattle.std.proofs.lemmas.Bool.Decides.{nat_tests}
+use Rattle.std.proofs.lemmas.List.{length-map}
+use Rattle.lists.specs.Elements.{Each}
+use Rattle.lists.proofs.EachLemmas.{each_both, each_map, each_of_map}
+use Rattle.lists.proofs.Tests.{left_true, right_true}
+use Rattle.model_registers.specs.AccessLaws.{HoldsBytes}
+use Rattle.model_registers.specs.CopiedFiles.{after_reset}
+use Rattle.model_registers.specs.Declarations.{Endpoint}
+use Rattle.model_registers.specs.Decoding.{Function}
+use Rattle.model_registers.specs.EndpointTable.{endpoint_reset}
+use Rattle.model_board.specs.AtReset.{board_at}
+use Rattle.model_board.specs.Board.{Board}
+use Rattle.model_board.specs.Paths.{Path, path_eq}
+use Rattle.model_board.specs.State.{BoardFunction, State, with_file}
+use Rattle.model_guests.specs.AgreedBoard.{agreed_function, with_change_at}
+use Rattle.model_guests.specs.Guests.{GuestNow, GuestsNow, guests_at_first, lone_of}
+use Rattle.model_guests.specs.Text.{Text}
+use Rattle.model_guests.specs.World.{World, declared, given_paths, is_letter, is_name, is_name_byte, HasLawfulGuests}
+use Rattle.model_guests.specs.WorldNow.{WorldNow, names_now, world_over}
+use Rattle.model_guests.proofs.Along.{names_at_first}
+use Rattle.model_handoff.specs.Actions.{Action, after_action}
+use Rattle.model_handoff.specs.Giving.{with_reset_at}
+use Rattle.model_handoff.specs.Handoffs.{files_given, is_given, taken_over}
+use Rattle.model_handoff.specs.Kept.{IsLawfulOver}
+use Rattle.model_images.specs.Images.{Image, Fits, after_load, after_restart, lone_of_image}
+use Rattle.model_images.specs.FitLaws.{AreFitting, HoldsFitting, IsFitting}
+use Rattle.model_images.specs.Requests.{Request, acts, loads, restarts, after_request, after_requests}
+use Rattle.model_images.specs.ByteLaws.{HasBytes, HoldsSavable, IsSavableGuest}
+use Rattle.model_images.specs.MachineByteLaws.{AreWritable, CanBeSaved, IsWritableName, IsWritableWorld}
+use Rattle.model_images.specs.SavedLaws.{AreWritableRequests, IsWritableRequest, WritableAlong, WritableAtFirst}
+use Rattle.model_images.proofs.ByteCells.{HoldsByteCells, byte_cells_kept}
+use Rattle.model_images.proofs.Counts.{lawful_along_requests, names_stay}
+use Rattle.model_images.proofs.FewFunctions.{few_functions}
+use Rattle.model_images.proofs.Fitting.{fitting_kept, image_fits}
+use Rattle.model_images.proofs.KeptFunctions.{AreKept, Has, action_holds, load_holds, restart_holds}
+use Rattle.model_images.proofs.LoadedBytes.{savable_fits}
+use Rattle.model_images.proofs.SavableMachines.{agreed_bytes, declared_written, writable_picked, written_at_reset}
+use Rattle.model_images.proofs.SavedWorlds.{all_savable, can_be_saved_at_first, fits_after, handoff_after, image_has, reset_declared, slots_have}
+
+abbrev pub HoldsWritable : Option Function → Type 0
+HoldsWritable o = HoldsFitting o × HoldsByteCells o
+
+pub writable_kept : AreKept HoldsWritable
+writable_kept = record {
+  write = λ ons v p f h. (fitting_kept.write ons v p f h.0, byte_cells_kept.write ons v p f h.1);
+  raise = λ m p f h. (fitting_kept.raise m p f h.0, byte_cells_kept.raise m p f h.1);
+  put = λ v p device f h. (fitting_kept.put v p device f h.0, byte_cells_kept.put v p device f h.1);
+  reset = λ o. (fitting_kept.reset o, byte_cells_kept.reset o);
+}
+
+abbrev pub AllHold : GuestsNow → Type 0
+AllHold gs = Each (λ (t : GuestNow). Has HoldsWritable t.lone) gs
+
+-- ---- a world that can be written
+
+module _ (w : WorldNow) (h : IsWritableWorld w) where
+  pub all_hold : AllHold w.guests
+  all_hold =
+      each_map (λ (g : GuestNow). IsSavableGuest g.lone) (λ (g : GuestNow). Has HoldsWritable g.lone) w.guests
+      (λ g k. record { latch = k.latch; functions = each_both HoldsFitting HoldsByteCells g.lone.slots (savable_fits g.lone.slots k.functions) (slots_have g.lone.slots k.functions) }) h.guests
+
+  pub functions_writable : AreWritable w.handoff.functions
+  functions_writable = record { declared = h.machine.known.compared.declared; bytes = h.machine.bytes }
+
+-- whatever was changed
+record Holds (w : WorldNow) : Type 0 where
+  functions : AreWritable w.handoff.functions
+  latch : w.handoff.latch < 2 ^ 32
+  names : Each IsWritableName (names_now w)
+  few : length (names_now w) < 2 ^ 16
+  guests : Each (λ (g : GuestNow). IsSavableGuest g.lone) w.guests
+
+written : (w : WorldNow) → IsLawfulOver w → Holds w → IsWritableWorld w
+written w lawful h =
+    let many : length w.handoff.functions < 2 ^ 32 = let few = few_functions w.handoff.functions lawful.handoff.board lawful.order.numbers h.functions.bytes in omega arith in
+    record {
+      machine = record {
+        known = record { compared = record { declared = h.functions.declared; names = h.names }; many = many; few = h.few };
+        bytes = h.functions.bytes;
+        latch = h.latch;
+      };
+      guests = h.guests;
+    }
+
+savable : (w : WorldNow) → IsLawfulOver w → AreWritable w.handoff.functions → AllHold w.guests → Each (λ (g : GuestNow). IsSavableGuest g.lone) w.guests
+savable w lawful functions h =
+    all_savable w.handoff.functions functions.declared w.guests lawful.seated.guests
+    (each_map (λ (g : GuestNow). Has HoldsWritable g.lone) (λ (g : GuestNow). IsFitting g.lone) w.guests (λ g k. record { latch = k.latch; functions = each_map HoldsWritable HoldsFitting g.lone.slots (λ o t. t.0) k.functions }) h)
+    (each_map (λ (g : GuestNow). Has HoldsWritable g.lone) (λ (g : GuestNow). Has HoldsByteCells g.lone) w.guests (λ g k. record { latch = k.latch; functions = each_map HoldsWritable HoldsByteCells g.lone.slots (λ o t. t.1) k.functions }) h)
+
+pub rewritten : (w v : WorldNow) → IsWritableWorld w → IsLawfulOver v → AreWritable v.handoff.functions → v.handoff.latch < 2 ^ 32 → names_now v ≡ names_now w → AllHold v.guests → IsWritableWorld v
+rewritten w v h lawful functions latch names guests =
+    written v lawful (record {
+      functions = functions;
+      latch = latch;
+      names = subst (Each IsWritableName) (sym names) h.machine.known.compared.names;
+      few = subst (λ (ns : List Text). length ns < 2 ^ 16) (sym names) h.machine.known.few;
+      guests = savable v lawful functions guests;
+    })
+
+-- ---- requests
+
+reset_writable : (s : State) (p : Path) → AreWritable s.functions × (s.latch < 2 ^ 32) → AreWritable (with_reset_at p s).functions × ((with_reset_at p s).latch < 2 ^ 32)
+reset_writable s p h = (record { declared = reset_declared s p h.0.declared; bytes = of (declared (board_at s.functions) p) refl }, latch (declared (board_at s.functions) p))
+  where
+    changed : (d : Endpoint) (f : BoardFunction) (t : Bool) → HoldsBytes (after_reset d f.file) → HoldsBytes f.file → HoldsBytes (cond t (record f { file = after_reset d f.file }) f).file
+    changed d f true k l = k
+    changed d f false k l = l
+
+    of : (o : Option Endpoint) → declared (board_at s.functions) p ≡ o → Each (λ (f : BoardFunction). HoldsBytes f.file) (option_map_or (λ (d : Endpoint). with_change_at (after_reset d) p s) o s).functions
+    of None e = h.0.bytes
+    of (Some d) e =
+        let own = written_at_reset d (declared_written s.functions h.0.declared p d e) in
+        each_of_map (λ (f : BoardFunction). HoldsBytes f.file) (λ (f : BoardFunction). cond (path_eq f.path p) (record f { file = after_reset d f.file }) f) s.functions
+        (each_map (λ (f : BoardFunction). HoldsBytes f.file) (λ (f : BoardFunction). HoldsBytes (cond (path_eq f.path p) (record f { file = after_reset d f.file }) f).file) s.functions
+        (λ f k. changed d f (path_eq f.path p) (agreed_bytes f.file (endpoint_reset d false) k own) k) h.0.bytes)
+
+    latch : (o : Option Endpoint) → (option_map_or (λ (d : Endpoint). with_change_at (after_reset d) p s) o s).latch < 2 ^ 32
+    latch None = h.1
+    latch (Some d) = h.1
+
+module _ (w : WorldNow) (h : IsWritableWorld w) where
+  after_any : (r : Request) → IsLawfulOver (after_request w r) → AllHold (after_request w r).guests → IsWritableWorld (after_request w r)
+  after_any r lawful guests =
+      let handoff = handoff_after (λ s. AreWritable s.functions × (s.latch < 2 ^ 32)) reset_writable w (functions_writable w h, h.machine.latch) r in
+      rewritten w (after_request w r) h lawful handoff.0 handoff.1 (names_stay w r) guests
+
+  pub action_written : (a : Action) → IsLawfulOver (after_action w a) → IsWritableWorld (after_action w a)
+  action_written a lawful = after_any (acts a) lawful (action_holds HoldsWritable writable_kept w a (all_hold w h))
+
+  pub load_written : (n : Text) (i : Image) → HasBytes i → Fits i (lone_of w.guests n) → IsLawfulOver (after_load n i w) → IsWritableWorld (after_load n i w)
+  load_written n i has fits lawful =
+      let fitting = image_fits i (lone_of w.guests n) fits in
+      let bytes = image_has i has in
+      after_any (loads n i) lawful
+      (load_holds HoldsWritable writable_kept w n i (record { latch = fitting.latch; functions = each_both HoldsFitting HoldsByteCells (lone_of_image i).slots fitting.functions bytes.functions }) (all_hold w h))
+
+  pub restart_written : (n : Text) → IsLawfulOver (after_restart n w) → IsWritableWorld (after_restart n w)
+  restart_written n lawful = after_any (restarts n) lawful (restart_holds HoldsWritable writable_kept w n (all_hold w h))
+
+  writable_after : (r : Request) → IsWritableRequest w r → IsLawfulOver (after_request w r) → IsWritableWorld (after_request w r)
+  writable_after (acts a) fits lawful = action_written a lawful
+  writable_after (loads n i) fits lawful = load_written n i fits.bytes fits.fits lawful
+  writable_after (restarts n) fits lawful = restart_written n lawful
+
+pub writable_along : WritableAlong
+writable_along w lawful h [] fits = h
+writable_along w lawful h (r ∷ rs) fits =
+    let next = lawful_along_requests w lawful (r ∷ []) (fits_after w r fits.0, tt) in
+    writable_along (after_request w r) next (writable_after w h r fits.0 next) rs fits.1
+
+-- ---- at first
+
+letter_byte : (c : ℕ) → is_letter c ≡ true → c < 256
+letter_byte c h = grind (arith, nat_tests)
+
+name_byte : (c : ℕ) → is_name_byte c ≡ true → c < 256
+name_byte c h = grind (arith, nat_tests)
+
+name_bytes : (cs : Text) → list_all is_name_byte cs ≡ true → Each (λ c. c < 256) cs
+name_bytes [] h = tt
+name_bytes (c ∷ cs) h = (name_byte c (left_true (is_name_byte c) (list_all is_name_byte cs) h), name_bytes cs (right_true (is_name_byte c) (list_all is_name_byte cs) h))
+
+few_bytes : (n : ℕ) → nat_le n 15 ≡ true → suc n < 256
+few_bytes n h = grind (arith, nat_tests)
+
+name_written : (name : Text) → IsTrue (is_name name) → IsWritableName name
+name_written [] h = cc
+name_written (c ∷ cs) h =
+    let both = left_true (is_letter c && list_all is_name_byte cs && nat_le (length cs) 15) (not (bytes_eq (c ∷ cs) (codes "host"))) h in
+    let bytes = left_true (is_letter c && list_all is_name_byte cs) (nat_le (length cs) 15) both in
+    record {
+      are_bytes = (letter_byte c (left_true (is_letter c) (list_all is_name_byte cs) bytes), name_bytes cs (right_true (is_letter c) (list_all is_name_byte cs) bytes));
+      short = few_bytes (length cs) (right_true (is_letter c && list_all is_name_byte cs) (nat_le (length cs) 15) both);
+    }
+
+pub writable_at_first : WritableAtFirst
+writable_at_first w s board functions guests lawful =
+    let can = (can_be_saved_at_first w s functions.declared).taken_over lawful in
+    let same = names_at_first w in
+    let names = each_map (λ n. IsTrue (is_name n)) IsWritableName _ name_written guests.lawful_names in
+    let count = length-map w.guests (λ g. g.name) in
+    written (world_over w (taken_over w s)) lawful (record {
+      functions = subst (λ (b : Board). AreWritable (map (agreed_function (λ p. files_given b (given_paths w) p)) s.functions)) board (writable_picked s.functions functions (is_given w));
+      latch = omega arith;
+      names = subst (Each IsWritableName) (sym same) names;
+      few = subst (λ (ns : List Text). length ns < 2 ^ 16) (sym same) (let few = guests.few_guests in omega arith);
+      guests = can.guests;
+    })
