@@ -25,7 +25,8 @@ struct ShownHindrance {
 }
 
 impl fmt::Display for ShownHindrance {
-    ghost output = { λ h. Some (hindrance_text (named_space h.space) (hindrance_told h.hindrance)) };
+    ghost output = { λ h. Some
+        (hindrance_text (named_space h.space) (hindrance_told h.hindrance)) };
 
     fn fmt<W: fmt::Write>(&self, f: &mut fmt::Formatter<W>) -> fmt::Result {
         match self.hindrance {
@@ -171,5 +172,9 @@ pub(crate) fn push_forwarder(text: &mut String, forwarder: &Forwarder) -> Result
         (forwarder_text (forwarder_told forwarder.now))) }
 {
     let path = ShownPath(&forwarder.path);
-    write!(text, "{path} forwards it to bus {}", TwoDigits(forwarder.bus))
+    write!(
+        text,
+        "{path} forwards it to bus {}",
+        TwoDigits(forwarder.bus)
+    )
 }

@@ -72,5 +72,10 @@ pub(crate) fn push_not_found(text: &mut String, path: &Path) -> Result<(), Alloc
     ensures { OnOk result (Adds text.old text.new (not_found_text path.now)) }
 {
     let above = bridge_above(path);
-    write!(text, "{} has this number {}", ShownPath(path), ShownBus(&above))
+    write!(
+        text,
+        "{} has this number {}",
+        ShownPath(path),
+        ShownBus(&above)
+    )
 }

@@ -38,7 +38,8 @@ fn window_name(name: WindowName) -> &'static str
 struct ShownRange(Option<Window>);
 
 impl fmt::Display for ShownRange {
-    ghost output = { λ r. Some (option_map_or range_text (option_map window_of r.0) (codes "shut")) };
+    ghost output = { λ r. Some
+        (option_map_or range_text (option_map window_of r.0) (codes "shut")) };
 
     fn fmt<W: fmt::Write>(&self, f: &mut fmt::Formatter<W>) -> fmt::Result {
         match self.0 {

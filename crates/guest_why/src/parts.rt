@@ -44,9 +44,7 @@ impl fmt::Display for ShownHit {
         let slot = self.0.slot;
         let offset = self.0.offset;
         match self.0.place {
-            Place::Cfg => {
-                write!(f, "slot {slot} configuration offset 0x{offset:x} answers")
-            }
+            Place::Cfg => { write!(f, "slot {slot} configuration offset 0x{offset:x} answers") }
             Place::Bar(register) => {
                 write!(f, "slot {slot} bar{register} offset 0x{offset:x} answers")
             }
@@ -88,7 +86,10 @@ fn push_closed(text: &mut String, closed: &ClosedInSlot) -> Result<(), AllocErro
     let first = closed.first;
     let size = closed.size;
     let command = ShownCommand(closed.command);
-    writeln!(text, "why: slot {slot} bar{register} at 0x{first:x} size 0x{size:x}: closed, {command}")
+    writeln!(
+        text,
+        "why: slot {slot} bar{register} at 0x{first:x} size 0x{size:x}: closed, {command}"
+    )
 }
 
 /// Appends the lines of closed regions.

@@ -121,6 +121,11 @@ impl fmt::Display for Numbers {
 
     fn fmt<W: fmt::Write>(&self, f: &mut fmt::Formatter<W>) -> fmt::Result {
         let function = self.function;
-        write!(f, "{}:{}.{function}", TwoDigits(self.bus), TwoDigits(self.device))
+        write!(
+            f,
+            "{}:{}.{function}",
+            TwoDigits(self.bus),
+            TwoDigits(self.device)
+        )
     }
 }
