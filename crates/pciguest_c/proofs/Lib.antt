@@ -10,4 +10,3 @@ mod OpenFaults
 mod Options
 mod Places
 mod Rows
-mod Words

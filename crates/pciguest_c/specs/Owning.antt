@@ -6,13 +6,12 @@ use base.Stored.{Coded}
 use denote.RawPtr.{Ptr}
 use Rattle.std.specs.Prelude.{Option, Some, None}
 use Rattle.std.specs.Box.Ownership.{box_owns}
-use Rattle.std.specs.Global.{Global}
-use Rattle.std_heap.specs.contracts.GlobalAllocator.TheImpl.{ghosts}
+use Rattle.libc.specs.Heap.{chunk}
 use Rattle.session.specs.contracts.session.Session as Session
 
 abbrev pub session_coded : Coded Session.the_row.Denot
 session_coded = Session.the_row.coded
 
-abbrev pub owner_owns : Global → Ptr → Option Session.the_row.Denot → Fml
-owner_owns alloc p None = ftrue
-owner_owns alloc p (Some s) = box_owns (ghosts.dealloc_token alloc) Session.the_row p s
+abbrev pub owner_owns : Ptr → Option Session.the_row.Denot → Fml
+owner_owns p None = ftrue
+owner_owns p (Some s) = box_owns chunk Session.the_row p s

@@ -26,12 +26,12 @@ impl Handle {
     ghost use Rattle.pciguest_c.specs.Handles.{session_of, machine_of, board_of};
 
     /// No session.
-    fn none(alloc: Global) -> Handle
+    fn none() -> Handle
         ensures { session_of result ≡ None }
     {
         Handle {
             live: false,
-            owner: Owner::empty(alloc),
+            owner: Owner::empty(),
         }
     }
 
@@ -59,11 +59,11 @@ impl Handle {
         ensures session { IfSome result (λ b. session_of self.old ≡ Some b.value) }
         ensures nothing { IfNone result (session_of self.old ≡ None) }
     {
-        let old = replace(self, Handle::none(alloc));
+        let old = replace(self, Handle::none());
         if !old.live {
             return None;
         }
-        Some(old.owner.into_unboxed().into_box())
+        Some(old.owner.into_box(alloc))
     }
 
     /// What the machine answers, or 901 where there is none.

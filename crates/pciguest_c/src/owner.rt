@@ -10,52 +10,42 @@ use std::alloc::Global;
 use std::marker::Model;
 use std::ptr::null_mut;
 
-/// A session on the heap, or nothing. Its fields name no type that holds a `Vec`, since C may hold no
+/// A session on the heap, or nothing. Its field names no type that holds a `Vec`, since C may hold no
 /// pointer to one. Dropping it frees nothing: a session that is to be freed is taken out before.
 #[repr(C)]
 #[derive(Drop)]
 pub struct Owner {
     at: *mut (),
-    alloc: Global,
     pub ghost value: { Option SessionNow } by { coded_option session_coded },
 }
 
 impl Model for Owner {
-    ghost also_owns = { λ o. owner_owns o.alloc o.at o.value };
+    ghost also_owns = { λ o. owner_owns o.at o.value };
 }
 
 impl Owner {
     /// Nothing.
-    pub fn empty(alloc: Global) -> Owner
+    pub fn empty() -> Owner
         ensures { result.value ≡ None }
     {
-        Owner {
-            at: null_mut(),
-            alloc,
-        }
+        Owner { at: null_mut() }
     }
 
     /// A session.
-    pub fn of(session: Unboxed<Session, Global>) -> Owner
+    pub fn of(session: Unboxed<Session>) -> Owner
         ensures { result.value ≡ Some session.value }
     {
-        let Unboxed { at, alloc } = session;
-        Owner {
-            at: at as *mut (),
-            alloc,
-        }
+        let Unboxed { at } = session;
+        Owner { at: at as *mut () }
     }
 
     /// The session.
-    pub fn into_unboxed(self) -> Unboxed<Session, Global>
+    pub fn into_box(self, alloc: Global) -> Box<Session>
         requires { IsSome self.value }
         ensures { self.value ≡ Some result.value }
     {
-        let Owner { at, alloc } = self;
-        Unboxed {
-            at: at as *mut Session,
-            alloc,
-        }
+        let Owner { at } = self;
+        unsafe { Box::from_raw(alloc, at as *mut Session) }
     }
 }
 
