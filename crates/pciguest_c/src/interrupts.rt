@@ -1,5 +1,6 @@
 //! Which interrupt pin a function has, where that reaches bus 0, and whether its Command disables it.
 ghost use Rattle.std.specs.Prelude.{◌≡◌};
+ghost use Rattle.model_registers.specs.ByteEnables.{LiesInWord};
 ghost use Rattle.model_registers.specs.Registers.{config, number};
 ghost use Rattle.model_board.specs.Ports.{file_at};
 ghost use Rattle.model_guests.specs.WorldNow.{board_state};
@@ -30,26 +31,15 @@ pub const NO_INTERRUPT: Interrupt = Interrupt {
     is_disabled: 0,
 };
 
-/// What Interrupt Pin holds of the function at a path.
-fn pin_at(machine: &Monitor, path: &Path) -> u32
+/// What a register holds on the board of the function at a path.
+fn number_at(machine: &Monitor, path: &Path, offset: u8, width: u64) -> u32
+    requires { LiesInWord offset width }
     ensures { let fs = (board_state machine.now.world).functions in
-        result ≡ number (file_at fs path.now) (config 0x3d) 1 }
+        result ≡ number (file_at fs path.now) (config offset) width }
 {
     let host = machine.host();
     match host.index_of(path) {
-        Some(index) => host.number_nth(index, 0x3d, 1).unwrap_or(0),
-        None => 0,
-    }
-}
-
-/// What Command holds on the board of the function at a path.
-fn command_at(machine: &Monitor, path: &Path) -> u32
-    ensures { let fs = (board_state machine.now.world).functions in
-        result ≡ number (file_at fs path.now) (config 4) 2 }
-{
-    let host = machine.host();
-    match host.index_of(path) {
-        Some(index) => host.number_nth(index, 4, 2).unwrap_or(0),
+        Some(index) => host.number_nth(index, offset, width).unwrap_or(0),
         None => 0,
     }
 }
@@ -73,7 +63,7 @@ fn command_now(machine: &Monitor, function: &FunctionNow) -> u32
 {
     match function.seat {
         Some(seat) => own_command(machine, seat),
-        None => command_at(machine, &function.path),
+        None => number_at(machine, &function.path, 4, 2),
     }
 }
 
@@ -93,7 +83,8 @@ fn pin_route(path: &Path, pin: u32) -> (u32, u32, u32)
 pub fn interrupt_of(machine: &Monitor, function: &FunctionNow) -> Interrupt
     ensures { result ≡ interrupt_of machine.now.world (function_named function.now) }
 {
-    let (pin, root_device, root_pin) = pin_route(&function.path, pin_at(machine, &function.path));
+    let pin = number_at(machine, &function.path, 0x3d, 1);
+    let (pin, root_device, root_pin) = pin_route(&function.path, pin);
     Interrupt {
         pin,
         root_device,
