@@ -1,5 +1,5 @@
 -- What C asks of a machine or of a board that firmware drives, as data, and what each call answers.
---     Call, BoardCall      a call with what it is given
+--     Call, BoardCall      a call with what it is given; one of 1 to 8 bytes is a device's or, of a region, a guest's
 --     Told      what a call tells, and what stands where it goes: nothing, a number, a row of some kind; a text, a line's reply or
 --         a machine's image, which go to a buffer, and with it how many bytes that takes; a text with a count beside it; and rows,
 --         with how many there are, or, where they stand before as after, how many of them moved
@@ -54,7 +54,6 @@ use Rattle.pciguest_c.specs.ProblemsTold.{problem_row}
 use Rattle.pciguest_c.specs.TextsTold.{at_front}
 use Rattle.pciguest_c.specs.Handles.{session_of, machine_of, board_of}
 use Rattle.pciguest_c.specs.declared.asking.Side.{Side}
-use Rattle.pciguest_c.specs.declared.asking.Side.TheVariants.{Device, Guest}
 use Rattle.pciguest_c.specs.declared.handle.Handle.{Handle}
 use Rattle.pciguest_c.specs.declared.querying.RegionTold.{RegionTold}
 use Rattle.pciguest_c.specs.declared.querying.HitTold.{HitTold}
@@ -75,10 +74,8 @@ pub data Call : Type 0 where
   reset_guest : (guest : ℕ) → Call
   device_read : (guest slot part offset : ℕ) → Call
   device_write : (guest slot part offset value : ℕ) → Call
-  device_read_wide : (guest slot part offset width : ℕ) → Call
-  device_write_wide : (guest slot part offset width value : ℕ) → Call
-  region_read : (guest slot part offset width : ℕ) → Call
-  region_write : (guest slot part offset width value : ℕ) → Call
+  read_wide : (side : Side) (guest slot part offset width : ℕ) → Call
+  write_wide : (side : Side) (guest slot part offset width value : ℕ) → Call
   region : (guest slot register : ℕ) → Call
   locate : (guest space slot place : ℕ) → Call
   changed : (guest : ℕ) → Call
@@ -164,16 +161,6 @@ device_asked m guest e = doing (reply_at_device m.world guest e) (given (after_a
 abbrev pub byte_at : ℕ → RaisePlace → ℕ → DeviceByte
 byte_at slot part offset = record { slot = slot; part = part; offset = offset }
 
--- 1 to 8 bytes, by a device or by a guest
-abbrev pub reading_wide : Side → MachineNow → ℕ → ℕ → ℕ → ℕ → ℕ → Outcome
-reading_wide side m guest slot part offset width = where_lawful (where_guest m guest (part_told part)) (λ p.
-    telling number (wide_read side m.world guest (byte_at slot p offset) width) (given m))
-
-abbrev pub writing_wide : Side → MachineNow → ℕ → ℕ → ℕ → ℕ → ℕ → ℕ → Outcome
-writing_wide side m guest slot part offset width value = where_lawful (where_guest m guest (part_told part)) (λ p.
-    telling (λ n. nothing) (wide_read side m.world guest (byte_at slot p offset) width)
-    (given (after_wide side m guest (byte_at slot p offset) width value)))
-
 -- words that tactics leave closed, as replies of the host and what is found on a board compute long
 unfoldable pub host_asked : MachineNow → Option HostTarget → ℕ → Option Reply
 host_asked m o width = option_map (λ t. host_reply m.world (record { target = t; width = width })) o
@@ -226,10 +213,11 @@ outcome (device_read guest slot part offset) m = where_lawful (where_guest m gue
     reading (reply_at_device m.world guest (device_reads (byte_at slot p offset))) (given m))
 outcome (device_write guest slot part offset value) m = where_lawful (where_guest m guest (part_told part)) (λ p.
     device_asked m guest (device_writes (byte_at slot p offset) value))
-outcome (device_read_wide guest slot part offset width) m = reading_wide Device m guest slot part offset width
-outcome (device_write_wide guest slot part offset width value) m = writing_wide Device m guest slot part offset width value
-outcome (region_read guest slot part offset width) m = reading_wide Guest m guest slot part offset width
-outcome (region_write guest slot part offset width value) m = writing_wide Guest m guest slot part offset width value
+outcome (read_wide side guest slot part offset width) m = where_lawful (where_guest m guest (part_told part)) (λ p.
+    telling number (wide_read side m.world guest (byte_at slot p offset) width) (given m))
+outcome (write_wide side guest slot part offset width value) m = where_lawful (where_guest m guest (part_told part)) (λ p.
+    telling (λ n. nothing) (wide_read side m.world guest (byte_at slot p offset) width)
+    (given (after_wide side m guest (byte_at slot p offset) width value)))
 outcome (region guest slot register) m =
     of_guest m guest (telling (λ r. a_region (region_told r)) (region_asked m.world guest slot register) (given m))
 outcome (locate guest space slot place) m = where_lawful (where_guest m guest (target_told space slot place)) (λ t.

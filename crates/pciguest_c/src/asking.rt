@@ -25,6 +25,18 @@ pub struct Byte {
     pub offset: u64,
 }
 
+/// The byte at an offset of a part of the function in a slot.
+pub fn byte_at(side: Side, slot: u64, place: Place, offset: u64) -> Byte
+    ensures { result ≡ record { side = side; slot = slot; place = place; offset = offset } }
+{
+    Byte {
+        side,
+        slot,
+        place,
+        offset,
+    }
+}
+
 /// How many guests there are.
 pub fn guest_count(machine: &Monitor) -> usize
     ensures { result ≡ length machine.now.world.guests }

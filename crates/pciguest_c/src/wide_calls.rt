@@ -1,0 +1,104 @@
+//! What a device itself reads and writes of several bytes of a guest's function at once; and the guest of a region that is
+//! named by its slot and its register, as whoever maps the regions hands an access on.
+ghost use Rattle.pciguest_c.specs.Calls.{Answers, read_wide, write_wide, nothing, number};
+ghost use Rattle.pciguest_c.specs.declared.asking.Side.TheVariants.{Device, Guest};
+
+use crate::asking::{Side, byte_at, part_for};
+use crate::device_bytes::{wide_read, wide_write};
+use crate::handle::Handle;
+use crate::numbers::{number_of_done, put_result};
+use std::alloc::Global;
+
+/// Reads 1 to 8 bytes of a guest's function as its device, all of one region or of configuration space, the lowest
+/// first. Nothing changes.
+#[unsafe(no_mangle)]
+pub extern "C" fn pciguest_raw_device_read_wide(
+    alloc: Global,
+    handle: &mut Handle,
+    guest: usize,
+    slot: u64,
+    part: u32,
+    offset: u64,
+    width: u32,
+    value: &mut u64,
+) -> u32
+    ensures { Answers (read_wide Device guest slot part offset width) handle.old handle.new result
+        (number value.old) (number value.new) }
+{
+    let answer = handle.ask_machine(alloc, |machine| {
+        let place = part_for(machine, guest, part)?;
+        let byte = byte_at(Side::Device, slot, place, offset);
+        wide_read(machine, guest, byte, width)
+    });
+    put_result(answer, value)
+}
+
+/// Writes the low 1 to 8 bytes of a value so, whatever a guest may change of them. Where one of them can't be read,
+/// none is written.
+#[unsafe(no_mangle)]
+pub extern "C" fn pciguest_raw_device_write_wide(
+    alloc: Global,
+    handle: &mut Handle,
+    guest: usize,
+    slot: u64,
+    part: u32,
+    offset: u64,
+    width: u32,
+    value: u64,
+) -> u32
+    ensures { Answers (write_wide Device guest slot part offset width value)
+        handle.old handle.new result nothing nothing }
+{
+    number_of_done(handle.ask_machine(alloc, |machine| {
+        let place = part_for(machine, guest, part)?;
+        let byte = byte_at(Side::Device, slot, place, offset);
+        wide_write(machine, guest, byte, width, value)
+    }))
+}
+
+/// Reads 1 to 8 bytes of a region as the guest, the lowest first: by slot, base address register and offset, at whatever
+/// address the region stands. Nothing changes.
+#[unsafe(no_mangle)]
+pub extern "C" fn pciguest_raw_region_read(
+    alloc: Global,
+    handle: &mut Handle,
+    guest: usize,
+    slot: u64,
+    part: u32,
+    offset: u64,
+    width: u32,
+    value: &mut u64,
+) -> u32
+    ensures { Answers (read_wide Guest guest slot part offset width) handle.old handle.new result
+        (number value.old) (number value.new) }
+{
+    let answer = handle.ask_machine(alloc, |machine| {
+        let place = part_for(machine, guest, part)?;
+        let byte = byte_at(Side::Guest, slot, place, offset);
+        wide_read(machine, guest, byte, width)
+    });
+    put_result(answer, value)
+}
+
+/// Writes the low 1 to 8 bytes of a value so, what a guest may change of them. Where one of them is refused, none is
+/// written.
+#[unsafe(no_mangle)]
+pub extern "C" fn pciguest_raw_region_write(
+    alloc: Global,
+    handle: &mut Handle,
+    guest: usize,
+    slot: u64,
+    part: u32,
+    offset: u64,
+    width: u32,
+    value: u64,
+) -> u32
+    ensures { Answers (write_wide Guest guest slot part offset width value)
+        handle.old handle.new result nothing nothing }
+{
+    number_of_done(handle.ask_machine(alloc, |machine| {
+        let place = part_for(machine, guest, part)?;
+        let byte = byte_at(Side::Guest, slot, place, offset);
+        wide_write(machine, guest, byte, width, value)
+    }))
+}
