@@ -29,10 +29,7 @@ fn why_of(
         unless_out n (telling_why machine.now guest (target_told space slot place)) ≡ refusal n) }
 {
     let at = target_for(machine, guest, space, slot, place)?;
-    match guest_why_text(alloc, machine, guest, at) {
-        Ok(text) => Ok(text),
-        Err(fault) => Err(u32::from(fault.number())),
-    }
+    guest_why_text(alloc, machine, guest, at).map_err(|fault| u32::from(fault.number()))
 }
 
 /// Writes why an access of a guest at a place finds what it finds to the front of `out`, and tells how long the text is,
