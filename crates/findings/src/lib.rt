@@ -51,7 +51,7 @@ pub use host_bridge::{Bdf, Host, Space};
 pub use identities::{Identity, identity_nth};
 pub use lack::Lack;
 pub use number_why::{Missing, WhyNumber, why_number};
-pub use path_texts::{PathText, path_text};
+pub use path_texts::{PathBytes, path_text};
 pub use port_why::{PortUse, port_use};
 pub use problem::Problem;
 pub use readiness::{is_ready, lacks};

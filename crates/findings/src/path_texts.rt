@@ -7,7 +7,7 @@ use arrayvec::ArrayVec;
 use paths::{Part, Path};
 
 /// The longest text has sixteen parts of four bytes, and a slash between each two.
-pub type PathText = ArrayVec<u8, 79>;
+pub type PathBytes = ArrayVec<u8, 79>;
 
 /// The decimal digits of a device or a function.
 fn number_text(number: u8) -> &'static [u8]
@@ -36,7 +36,7 @@ fn number_text(number: u8) -> &'static [u8]
     }
 }
 
-fn push_all(text: &mut PathText, bytes: &[u8])
+fn push_all(text: &mut PathBytes, bytes: &[u8])
     requires { length text.old.items + length bytes.now ≤ 79 }
     ensures items { text.new.items ≡ text.old.items ++ bytes.now }
     ensures len { length text.new.items ≡ length text.old.items + length bytes.now }
@@ -45,7 +45,7 @@ fn push_all(text: &mut PathText, bytes: &[u8])
 }
 
 /// Appends a device and a function with a dot between them.
-fn push_part(text: &mut PathText, part: Part)
+fn push_part(text: &mut PathBytes, part: Part)
     requires { length text.old.items + 4 ≤ 79 }
     ensures items { text.new.items ≡ text.old.items ++ part_text part }
     ensures len { length text.new.items ≤ length text.old.items + 4 }
@@ -56,7 +56,7 @@ fn push_part(text: &mut PathText, part: Part)
 }
 
 /// Appends parts with a slash between each two.
-fn push_parts(text: &mut PathText, parts: &[Part])
+fn push_parts(text: &mut PathBytes, parts: &[Part])
     requires { length text.old.items + 5 * length parts.now ≤ 80 }
     ensures { text.new.items ≡ text.old.items ++ join_with_byte 47 (map part_text parts.now) }
 {
@@ -72,10 +72,10 @@ fn push_parts(text: &mut PathText, parts: &[Part])
 }
 
 /// The text of a path, without memory.
-pub fn path_text(path: &Path) -> PathText
+pub fn path_text(path: &Path) -> PathBytes
     ensures { result.items ≡ path_text path.now }
 {
-    let mut text = PathText::new();
+    let mut text = PathBytes::new();
     push_parts(&mut text, path.parts());
     text
 }

@@ -12,7 +12,7 @@ use paths::Path;
 use report::{kind_text, pin_text};
 use serde_json::{Value, json};
 use std::alloc::{AllocError, Global};
-use window_packing::{Window, Writes};
+use window_packing::{WindowSetting, Writes};
 
 /// A region, whose first register has this index.
 fn region_value(alloc: Global, index: usize, region: &BasedRegion) -> Result<Value, AllocError>
@@ -71,7 +71,7 @@ pub(crate) fn known_interrupt(alloc: Global, path: &Path, pin: u8) -> Result<Val
 }
 
 /// A window, or `null` if it has no items.
-fn named_window(alloc: Global, window: &Window) -> Result<Value, AllocError>
+fn named_window(alloc: Global, window: &WindowSetting) -> Result<Value, AllocError>
     ensures { IfOk result (λ v. view v ≡ named_window window.now) }
 {
     let first = window.first;
@@ -85,9 +85,9 @@ fn named_window(alloc: Global, window: &Window) -> Result<Value, AllocError>
 /// The windows of a bridge.
 fn windows_value(
     alloc: Global,
-    io: &Window,
-    mem: &Window,
-    pref: &Window,
+    io: &WindowSetting,
+    mem: &WindowSetting,
+    pref: &WindowSetting,
 ) -> Result<Value, AllocError>
     ensures { IfOk result (λ v. view v
         ≡ windows_value (named_window io.now) (named_window mem.now) (named_window pref.now)) }

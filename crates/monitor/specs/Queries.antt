@@ -11,7 +11,7 @@ use Rattle.model_guests.specs.WorldNow.{WorldNow}
 use Rattle.model_handoff.specs.GuestRegions as model
 use Rattle.monitor.specs.declared.guest.Held.{Held}
 use Rattle.monitor.specs.declared.guest.Guest.{Guest}
-use Rattle.monitor.specs.declared.regions.RegionNow.{RegionNow}
+use Rattle.monitor.specs.declared.regions.GuestRegion.{GuestRegion}
 use Rattle.monitor.specs.declared.locating.Hit.{Hit}
 use Rattle.monitor.specs.Keeping.{AreSlots}
 use Rattle.monitor.specs.ByIndex.{guest_nth, name_nth, lone_nth}
@@ -22,7 +22,7 @@ pub record IsGuestNth (w : WorldNow) (i : ℕ) (g : Guest) : Type 0 where
   pub slots : AreSlots w.handoff (guest_nth w i).paths (lone_nth w i).slots g.slots.items
   pub lawful : (n : ℕ) (h : Held) → slice_get g.slots.items n ≡ Some (Some h) → IsLawfulOwn h.own
 
-abbrev pub region_named : RegionNow → model.RegionNow
+abbrev pub region_named : GuestRegion → model.RegionNow
 region_named r = record {
   space = named_space r.space;
   first = r.first;

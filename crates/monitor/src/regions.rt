@@ -26,7 +26,7 @@ use host_bridge::Route;
 /// A region of a guest's function, by the guest's own registers as they stand. It takes `size` addresses
 /// of its space from `first` on, and is decoded there where Command opens the space.
 #[derive(Clone, Copy, Debug, PartialEq, Eq)]
-pub struct RegionNow {
+pub struct GuestRegion {
     pub space: Space,
     pub first: u64,
     pub size: u64,
@@ -73,7 +73,7 @@ fn opens(held: &Held, space: Space) -> bool
 }
 
 /// The region of a function in a slot that begins at a base address register, if one does.
-pub(crate) fn region_kept(held: &Held, bar: usize) -> Option<RegionNow>
+pub(crate) fn region_kept(held: &Held, bar: usize) -> Option<GuestRegion>
     ensures { (s : State) (p : Path) (f : Function) → IsHeld s p f held.now
         → IsLawfulOwn held.now.own →
         option_map region_named result ≡ option_map (region_now f.file) (region_at f bar) }
@@ -82,7 +82,7 @@ pub(crate) fn region_kept(held: &Held, bar: usize) -> Option<RegionNow>
         Some(Some(region)) => {
             let kind = region.decl.kind();
             let space = kind.space();
-            Some(RegionNow {
+            Some(GuestRegion {
                 space,
                 first: base_of(held, bar as u16, kind),
                 size: region.decl.size(),
@@ -96,7 +96,7 @@ pub(crate) fn region_kept(held: &Held, bar: usize) -> Option<RegionNow>
 }
 
 /// The same of a slot of a guest, or why it is refused.
-fn region_in(guest: &Guest, slot: u64, bar: u64) -> Result<RegionNow, Refusal>
+fn region_in(guest: &Guest, slot: u64, bar: u64) -> Result<GuestRegion, Refusal>
     ensures { (w : WorldNow) (i : ℕ) → IsGuestNth w i guest.now
         → result_map_both region_named number_of result
         ≡ region_answer (lone_nth w i) slot bar }
@@ -115,7 +115,7 @@ impl<R: Route> Engine<R> {
     /// Where a region of a guest's function stands now, in the guest's own view: the region that begins at
     /// a base address register, by its index. Or refuses: 303 for a slot above 31, else 601 for an empty
     /// slot, else 303 for a register at which no region begins. No memory is taken.
-    pub fn region(&self, guest: usize, slot: u64, bar: u64) -> Result<RegionNow, Refusal>
+    pub fn region(&self, guest: usize, slot: u64, bar: u64) -> Result<GuestRegion, Refusal>
         requires { guest < length self.now.world.guests }
         ensures { result_map_both region_named number_of result
             ≡ region_answer (lone_of self.now.world.guests

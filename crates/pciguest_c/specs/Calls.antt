@@ -57,7 +57,7 @@ use Rattle.pciguest_c.specs.declared.asking.Side.{Side}
 use Rattle.pciguest_c.specs.declared.handle.Handle.{Handle}
 use Rattle.pciguest_c.specs.declared.querying.RegionTold.{RegionTold}
 use Rattle.pciguest_c.specs.declared.querying.HitTold.{HitTold}
-use Rattle.pciguest_c.specs.declared.function_row.FunctionRow.{FunctionRow}
+use Rattle.pciguest_c.specs.declared.function_row.FunctionTold.{FunctionTold}
 use Rattle.pciguest_c.specs.declared.driven_calls.DrivenRow.{DrivenRow}
 use Rattle.pciguest_c.specs.declared.problem_rows.ProblemRow.{ProblemRow}
 use Rattle.pciguest_c.specs.declared.moves.PlaceRow.{PlaceRow}
@@ -106,7 +106,7 @@ pub data Told : Type 0 where
   number : ℕ → Told
   a_region : RegionTold → Told
   a_hit : HitTold → Told
-  a_function : FunctionRow → Told
+  a_function : FunctionTold → Told
   a_driven : DrivenRow → Told
   text : Text → Told
   reply : Text → Told

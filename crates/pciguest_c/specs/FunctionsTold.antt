@@ -24,7 +24,7 @@ use Rattle.pciguest_c.specs.QueriesTold.{one_if, space_number}
 use Rattle.pciguest_c.specs.declared.interrupts.Interrupt.{Interrupt}
 use Rattle.pciguest_c.specs.declared.function_row.RegionRow.{RegionRow}
 use Rattle.pciguest_c.specs.declared.function_row.WindowRow.{WindowRow}
-use Rattle.pciguest_c.specs.declared.function_row.FunctionRow.{FunctionRow}
+use Rattle.pciguest_c.specs.declared.function_row.FunctionTold.{FunctionTold}
 
 abbrev pub no_region : RegionRow
 no_region = record { first = 0; size = 0; space = 0; prefetchable = 0; is_64_bit = 0 }
@@ -65,7 +65,7 @@ text_room = 80
 abbrev pub text_row : Text → List ℕ
 text_row t = t ++ replicate (text_room - length t) 0
 
-abbrev pub function_row : FunctionNow → Interrupt → FunctionRow
+abbrev pub function_row : FunctionNow → Interrupt → FunctionTold
 function_row f interrupt = record {
   path = text_row (path_text f.path);
   path_length = length (path_text f.path);
@@ -88,7 +88,7 @@ function_row f interrupt = record {
   reserved = replicate 4 0;
 }
 
-abbrev pub function_told : WorldNow → FunctionNow → FunctionRow
+abbrev pub function_told : WorldNow → FunctionNow → FunctionTold
 function_told w f = function_row f (interrupt_of w f)
 
 abbrev pub slot_asked : WorldNow → ℕ → ℕ → Result FunctionNow ℕ

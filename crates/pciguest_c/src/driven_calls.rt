@@ -4,7 +4,7 @@ ghost use Rattle.session.specs.DrivenFunctions.{driven_function_named};
 ghost use Rattle.pciguest_c.specs.DrivenTold.{driven_row};
 ghost use Rattle.pciguest_c.specs.Calls.{AnswersBoard, board_count, board_function, number, a_driven};
 
-use crate::function_row::{FunctionRow, function_row};
+use crate::function_row::{FunctionTold, function_row};
 use crate::handle::Handle;
 use crate::interrupts::NO_INTERRUPT;
 use crate::numbers::{ARGUMENT, put_result};
@@ -15,7 +15,7 @@ use std::alloc::Global;
 #[repr(C)]
 #[derive(Clone, Copy)]
 pub struct DrivenRow {
-    pub function: FunctionRow,
+    pub function: FunctionTold,
     pub is_found: u32,
     pub opens_io: u32,
     pub opens_memory: u32,

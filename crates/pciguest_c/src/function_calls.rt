@@ -7,7 +7,7 @@ ghost use Rattle.monitor.specs.FunctionsTold.{function_named};
 ghost use Rattle.pciguest_c.specs.FunctionsTold.{function_told};
 
 use crate::asking::check_guest;
-use crate::function_row::{FunctionRow, function_row};
+use crate::function_row::{FunctionTold, function_row};
 use crate::handle::Handle;
 use crate::interrupts::interrupt_of;
 use crate::numbers::{ARGUMENT, put_result};
@@ -15,7 +15,7 @@ use monitor::{FunctionNow, Monitor};
 use std::alloc::Global;
 
 /// What is told of a function, with its interrupt.
-fn told_row(machine: &Monitor, function: &FunctionNow) -> FunctionRow
+fn told_row(machine: &Monitor, function: &FunctionNow) -> FunctionTold
     ensures { result ≡ function_told machine.now.world (function_named function.now) }
 {
     function_row(function, interrupt_of(machine, function))
@@ -23,7 +23,7 @@ fn told_row(machine: &Monitor, function: &FunctionNow) -> FunctionRow
 
 /// What is told of the function in a slot of a guest, or the number of why there is none.
 #[tactic(auto, unfolding(crate::specs::Calls::telling_slot))]
-fn slot_function(machine: &Monitor, guest: usize, slot: u64) -> Result<FunctionRow, u32>
+fn slot_function(machine: &Monitor, guest: usize, slot: u64) -> Result<FunctionTold, u32>
     ensures told { IfOk result (λ f.
         telling_slot machine.now guest slot ≡ tells (a_function f) (given machine.now)) }
     ensures refused { IfErr result (λ n. telling_slot machine.now guest slot ≡ refusal n) }
@@ -53,7 +53,7 @@ pub extern "C" fn pciguest_raw_function(
     alloc: Global,
     handle: &mut Handle,
     index: usize,
-    told: &mut FunctionRow,
+    told: &mut FunctionTold,
 ) -> u32
     ensures { Answers (function_at index) handle.old handle.new result
         (a_function told.old) (a_function told.new) }
@@ -72,7 +72,7 @@ pub extern "C" fn pciguest_raw_slot(
     handle: &mut Handle,
     guest: usize,
     slot: u64,
-    told: &mut FunctionRow,
+    told: &mut FunctionTold,
 ) -> u32
     ensures { Answers (function_in guest slot) handle.old handle.new result
         (a_function told.old) (a_function told.new) }

@@ -45,7 +45,7 @@ pub struct WindowRow {
 /// A function of the board, as C is told of it. `guest` and `slot` are 0 where no guest has it.
 #[repr(C)]
 #[derive(Clone, Copy)]
-pub struct FunctionRow {
+pub struct FunctionTold {
     pub path: [u8; 80],
     pub path_length: usize,
     pub bus: u32,
@@ -182,13 +182,13 @@ pub fn text_row(text: &[u8]) -> [u8; 80]
 }
 
 /// A function for C.
-pub fn function_row(function: &FunctionNow, interrupt: Interrupt) -> FunctionRow
+pub fn function_row(function: &FunctionNow, interrupt: Interrupt) -> FunctionTold
     ensures { result ≡ function_row (function_named function.now) interrupt }
 {
     let text = path_text(&function.path);
     let identity = function.identity;
     let seat = function.seat.unwrap_or(Seat { guest: 0, slot: 0 });
-    FunctionRow {
+    FunctionTold {
         path: text_row(&text),
         path_length: text.len(),
         bus: u32::from(function.at.bus),

@@ -13,7 +13,7 @@ ghost use Rattle.pciguest_c.specs.TextsTold.{IsTold};
 use crate::function_row::text_row;
 use crate::numbers::ARGUMENT;
 use bars::Space;
-use findings::{Agent, PathText, Problem, RegionNow, path_text};
+use findings::{Agent, PathBytes, Problem, RegionNow, path_text};
 use host_bridge::{Bdf, Path};
 
 /// A problem, as C is told of it: `kind` is 1 for a byte that a bridge doesn't forward, 2 for an address that two
@@ -122,12 +122,12 @@ fn not_found_row(path: &Path, at: Bdf, instead: &Option<Path>) -> ProblemRow
 }
 
 /// The text of what is reached, which is empty where nothing is.
-fn reached_text(path: &Option<Path>) -> PathText
+fn reached_text(path: &Option<Path>) -> PathBytes
     ensures { result.items ≡ reached_text path.now }
 {
     match path {
         Some(path) => path_text(path),
-        None => PathText::new(),
+        None => PathBytes::new(),
     }
 }
 

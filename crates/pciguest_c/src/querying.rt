@@ -10,7 +10,7 @@ use crate::asking::{check_guest, target_for};
 use crate::handle::Handle;
 use crate::numbers::put_result;
 use accesses::Place;
-use monitor::{Hit, RegionNow, Space};
+use monitor::{GuestRegion, Hit, Space};
 use std::alloc::Global;
 
 /// A region of a guest's function, as C is told of it: `space` is 1 for ports and 2 for memory.
@@ -45,7 +45,7 @@ pub const NO_REGION: RegionTold = RegionTold {
 };
 
 /// A region for C.
-pub fn region_for(region: RegionNow) -> RegionTold
+pub fn region_for(region: GuestRegion) -> RegionTold
     ensures { result ≡ region_told (region_named region) }
 {
     RegionTold {

@@ -14,7 +14,7 @@ use bus_scan::{Found, FunctionRow};
 use intx_swizzle::at_root;
 use paths::Path;
 use std::alloc::AllocError;
-use window_packing::{Window, Writes};
+use window_packing::{WindowSetting, Writes};
 
 /// Appends the line of a region, whose first register has this index.
 fn push_region(text: &mut String, index: usize, region: &BasedRegion) -> Result<(), AllocError>
@@ -77,7 +77,7 @@ fn push_known_pin(text: &mut String, path: &Path, pin: u8) -> Result<(), AllocEr
 }
 
 /// Appends the line of a window, if it has items.
-fn push_window(text: &mut String, name: &str, window: &Window) -> Result<(), AllocError>
+fn push_window(text: &mut String, name: &str, window: &WindowSetting) -> Result<(), AllocError>
     ensures { OnOk result (Adds text.old text.new
         (text_of_lines (named_window_lines name.now window.now))) }
 {

@@ -44,5 +44,5 @@ pub use planning::plan;
 pub use pool::Pool;
 pub use programming::program;
 pub use ready::{Ready, enumerate, set_up};
-pub use setting::{Setting, Window, Writes};
+pub use setting::{Setting, WindowSetting, Writes};
 pub use uses::{PoolUse, pool_use};

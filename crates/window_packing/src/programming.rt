@@ -10,7 +10,7 @@ ghost use Rattle.paths.specs.BusAddresses.{bus_address_of};
 ghost use Rattle.window_packing.specs.WordWrites.{word, after_word, after_words, base_words, endpoint_words, bridge_words, window_word, io_word, io_upper_word, words_of, host_after};
 
 use crate::board_plan::Plan;
-use crate::setting::{Setting, Window, Writes};
+use crate::setting::{Setting, WindowSetting, Writes};
 use bars::BasedRegion;
 use host_bridge::{Bdf, Host};
 
@@ -97,7 +97,13 @@ fn write_base(host: &mut Host, at: Bdf, index: u8, region: BasedRegion)
 /// Writes the windows, and then Command. A bridge without an I/O or a prefetchable window, or with
 /// narrow ones, drops what is written to the registers that it doesn't implement, and the bits that tell
 /// its decode are read-only: so the words are the same for each bridge.
-fn write_bridge(host: &mut Host, at: Bdf, io: Window, mem: Window, pref: Window)
+fn write_bridge(
+    host: &mut Host,
+    at: Bdf,
+    io: WindowSetting,
+    mem: WindowSetting,
+    pref: WindowSetting,
+)
     ensures { let words = bridge_words (record { io = io; mem = mem; pref = pref }) in
         host.new ≡ host_after
         (after_words (bus_address_of at) words host.old.state.functions) host.old }
@@ -125,7 +131,7 @@ fn write_word(host: &mut Host, at: Bdf, off: u8, enables: u8, value: u32)
 
 /// A window's base, and above it its limit, of two bytes each: bits 15 to 4 are the bits of an address
 /// from 20 on.
-fn window_word(span: Window) -> u32
+fn window_word(span: WindowSetting) -> u32
     ensures { result ≡ window_word span }
 {
     let base = (span.first >> 20 & 0xfff) as u32 * 16;
@@ -135,7 +141,7 @@ fn window_word(span: Window) -> u32
 
 /// The base and the limit of the I/O window, of one byte each: bits 7 to 4 are the bits 15 to 12 of an
 /// address.
-fn io_word(span: Window) -> u32
+fn io_word(span: WindowSetting) -> u32
     ensures { result ≡ io_word span }
 {
     let base = (span.first >> 12 & 0xf) as u32 * 16;
@@ -144,7 +150,7 @@ fn io_word(span: Window) -> u32
 }
 
 /// The bits 31 to 16 of the I/O window's base, and above them those of its limit.
-fn io_upper_word(span: Window) -> u32
+fn io_upper_word(span: WindowSetting) -> u32
     ensures { result ≡ io_upper_word span }
 {
     let base = (span.first >> 16 & 0xffff) as u32;

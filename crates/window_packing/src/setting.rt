@@ -6,12 +6,12 @@ use std::marker::Model;
 /// The first and the last address that the registers of a window name. A window without items has its
 /// first address above its last.
 #[derive(Clone, Copy, Debug, PartialEq, Eq)]
-pub struct Window {
+pub struct WindowSetting {
     pub first: u64,
     pub last: u64,
 }
 
-impl Model for Window {
+impl Model for WindowSetting {
     ghost use Rattle.model_registers.specs.BridgeTable.{Window};
 
     ghost Value = { Window };
@@ -30,9 +30,9 @@ pub enum Writes {
         bases: [Option<BasedRegion>; 6],
     },
     Bridge {
-        io: Window,
-        mem: Window,
-        pref: Window,
+        io: WindowSetting,
+        mem: WindowSetting,
+        pref: WindowSetting,
     },
 }
 

@@ -25,7 +25,7 @@ use crate::pack::{BusPack, round_up};
 use crate::pool::{Pool, pool_of};
 use crate::pool_placement::{PlacedPool, Placement};
 use crate::search::offset_of;
-use crate::setting::{Setting, Window, Writes};
+use crate::setting::{Setting, WindowSetting, Writes};
 use bars::{BarDecl, BasedRegion, Space};
 use bridge_forward::Part;
 use bus_scan::{Found, FunctionRow};
@@ -139,7 +139,7 @@ fn bases_of(
 
 /// The window of a bus that begins at `first`. Without items it has its first address in the last unit
 /// that its register names, and its last address at 0.
-fn window_of(pool: Pool, closed: u64, first: u64, pack: &BusPack) -> Window
+fn window_of(pool: Pool, closed: u64, first: u64, pack: &BusPack) -> WindowSetting
     requires closed { closed < 2 ^ 12 }
     requires some { Each (λ s. 0
         < round_up (unit_of (named_pool pool)) pack.now.end) pack.now.spots }
@@ -150,12 +150,12 @@ fn window_of(pool: Pool, closed: u64, first: u64, pack: &BusPack) -> Window
 {
     let unit = pool.unit();
     if pack.spots.is_empty() {
-        return Window {
+        return WindowSetting {
             first: closed * unit,
             last: 0,
         };
     }
-    Window {
+    WindowSetting {
         first,
         last: first + round_up(unit, pack.end) - 1,
     }
@@ -169,7 +169,7 @@ fn window_behind(
     closed: u64,
     apertures: &Apertures,
     placed: &PlacedPool,
-) -> Window
+) -> WindowSetting
     requires board { IsBoard (board_in rows.now) }
     requires declarations { HasLawfulDecls (board_in rows.now) }
     requires placed { IsPlaced (board_in rows.now) apertures.now (named_pool pool) placed.now }
