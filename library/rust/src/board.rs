@@ -22,7 +22,7 @@ pub struct Audit {
 /// What is wrong and what is lacking in the registers of a board.
 #[derive(Clone, Debug, PartialEq, Eq)]
 pub struct Readiness {
-    /// A line for each problem and for each lack, and a last line that counts both.
+    /// A line for each problem and for each lack, and a last line that counts them.
     pub text: String,
     /// How many problems and lacks there are: the board is ready where there is none.
     pub lacks: usize,
