@@ -8,6 +8,9 @@ left_true a b h = grind arith
 pub right_true : (a b : Bool) → (a && b) ≡ true → b ≡ true
 right_true a b h = grind arith
 
+pub second_false : (a b : Bool) → (a && b) ≡ false → a ≡ true → b ≡ false
+second_false a b h k = grind arith
+
 -- two tests that hold at the same time are one
 pub same_test : (a b : Bool) → (a ≡ true → b ≡ true) → (b ≡ true → a ≡ true) → a ≡ b
 same_test a b f g = grind arith

@@ -24,11 +24,11 @@ use Rattle.model_set_up.specs.Reach.{address_of}
 use Rattle.model_set_up.specs.SetUp.{first_of, set_up_file, set_up_state}
 use Rattle.model_set_up.specs.UniqueClaimant.{CanBePlaced}
 use Rattle.model_set_up.specs.WindowLaws.{placed_window, ForwardsPlaced, HasPlacedWindows}
-use Rattle.model_set_up.proofs.Holders.{Holds, holds_is}
+use Rattle.model_set_up.proofs.Holders.{Holds, holds_is, self_space}
 use Rattle.model_set_up.proofs.PlacedApart.{pool_of_space}
 use Rattle.model_set_up.proofs.PlacedReads.{InAperture}
 use Rattle.model_set_up.proofs.PlacedRegions.{region_there}
-use Rattle.model_set_up.proofs.SetUpNumbers.{numbers_small, set_up_has_numbers}
+use Rattle.model_set_up.proofs.SetUpNumbers.{byte, numbers_small, set_up_has_numbers}
 use Rattle.model_set_up.proofs.SetUpRegisters.{endpoint_opens}
 use Rattle.model_set_up.proofs.UniqueClaimant.{bases}
 use Rattle.model_set_up.proofs.LawfulPlacement.{layout_is_lawful}
@@ -68,9 +68,6 @@ mem_not_pref i m (Some p) r s n apart h k a b c d = grind arith
 by_and : (o p m : Bool) → p ≡ false → (o && p && m) ≡ false
 by_and o p m h = grind arith
 
-byte : (k : ℕ) → k < 256 → k % 256 + 256 * 0 ≡ k
-byte k l = omega arith
-
 module _ (b : Board) (a : Apertures) (few : Enumerates b) (can : CanBePlaced b a) (lawful : IsLawful b a (layout b a)) (has : HasRows b a) (given : Each (λ r. HasPlacedWindows b a r.path r.decl) b) where
   abbrev fs : List BoardFunction
   fs = (set_up_state b a).functions
@@ -88,10 +85,7 @@ module _ (b : Board) (a : Apertures) (few : Enumerates b) (can : CanBePlaced b a
   -- ---- open
 
   placed_opens : (p : Path) (d : Endpoint) (g : Region) → IsIn g d.regions → opens_space (row_of (left b a (record { path = p; decl = endpoint d }))).command (space_of g.kind) ≡ true
-  placed_opens p d g k = endpoint_opens d (is_multifunction b p) (first_of b a p) (space_of g.kind) ∙ any_in (λ (x : Region). same_space (space_of x.kind) (space_of g.kind)) g d.regions k (self (space_of g.kind))
-    where
-      self : (space : Space) → same_space space space ≡ true
-      self space = grind arith
+  placed_opens p d g k = endpoint_opens d (is_multifunction b p) (first_of b a p) (space_of g.kind) ∙ any_in (λ (x : Region). same_space (space_of x.kind) (space_of g.kind)) g d.regions k (self_space (space_of g.kind))
 
   opened : (p : Path) (d : Decl) → IsIn (record { path = p; decl = d }) b → Each (λ q. IsTrue (opens_space (row_of (left b a (record { path = p; decl = d }))).command q.space)) (regions_of (row_of (left b a (record { path = p; decl = d }))))
   opened p (bridge d) m = tt

@@ -84,9 +84,7 @@ module _ (s : State) (state : IsStateOfBoard s.functions) (gs : GuestsNow) (seat
   pub block_shown : Each HasDeclaredShape s.functions → (k a w : ℕ) → claim_reply (state_over s gs).functions w (Some (record { path = p; index = k; offset = a })) ≡ number f.file (block k a) w
   block_shown shapes k a w =
       let ons : List Bool = all_bytes w in
-      ap (λ (o : Option BoardFunction). number (option_map_or (λ (g : BoardFunction). g.file) o []) (block k a) w) found_now
-      ∙ ap (read (agreed_file left f.file) (block k a)) (sym (all_handed k a ons)) ∙ shows_file left f.file (places_are shapes) (block k a) ons
-      ∙ ap (read f.file (block k a)) (all_handed k a ons)
+      grind (arith, found_now, all_handed k a ons, shows_file left f.file (places_are shapes) (block k a) ons, places_are shapes)
 
   -- the cycle for its address
   pub reached_is : IsNumbered s.functions → reached (state_over s gs).functions (address_now s.functions p) ≡ Some (endpoint_at p f.decl (agreed_file left f.file))
@@ -128,9 +126,7 @@ hit_acts s handoff orderly gs seated served name k p f has space n h e = (reach,
     reach = hit_reaches_over s handoff.board orderly gs seated served name k p f has space n h e
 
     acts : (w v : ℕ) → ActsOver s gs name k f space h (base_in s p (hit_reaches_over s handoff.board orderly gs seated served name k p f has space n h e).region + h.offset) w v
-    acts w v =
-        let claimed = (hit_reaches_over s handoff.board orderly gs seated served name k p f has space n h e).claimed in
-        grind (arith, block_shown, changes_slot, region_alike)
+    acts w v = grind (arith, hit_reaches_over s handoff.board orderly gs seated served name k p f has space n h e, block_shown, changes_slot, region_alike)
 
 pub memory_by_space : MemoryBySpace
 memory_by_space s a w v = (refl, refl)

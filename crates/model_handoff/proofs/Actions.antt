@@ -30,8 +30,7 @@ holds_after w name there (calls c) = device_calls.holds_after w name there c
 holds_after w name there (gives g) = cases (is_some (give_fault w g)) (declared (board_at w.handoff.functions) g.path)
   where
     by : (d : Endpoint) (t : Bool) → cond t (filled g.slot d (lone_of w.guests name)) (lone_of w.guests name) ≡ after_own_calls (lone_of w.guests name) (cond t (moved (gets g.slot d) ∷ []) [])
-    by d true = refl
-    by d false = refl
+    by d t = grind arith
 
     cases : (t : Bool) (o : Option Endpoint) → lone_of (cond t w (given g o w)).guests name ≡ after_own_calls (lone_of w.guests name) (cond t [] (inputs_of_gift name g o))
     cases true o = refl

@@ -1,5 +1,5 @@
 -- There is one state that agrees with seated guests over a handoff.
-use Rattle.std.proofs.Common.{◌≡◌, false, List, [], ◌∷◌, Some, None, Option, refl, sym, ap, ap₂, ◌∙◌, subst, arith}
+use Rattle.std.proofs.Common.{◌≡◌, false, List, [], ◌∷◌, Some, None, Option, refl, sym, ap₂, subst, arith}
 use Rattle.std.specs.Prelude.{map}
 use Rattle.lists.specs.Elements.{Each, EachPair}
 use Rattle.model_registers.specs.Registers.{Place, File}
@@ -7,12 +7,11 @@ use Rattle.model_registers.specs.Declarations.{Endpoint}
 use Rattle.model_registers.specs.EndpointTable.{endpoint_reset}
 use Rattle.model_registers.specs.CopiedFiles.{agreed_file, places_of, shape_of}
 use Rattle.model_board.specs.Board.{Decl, endpoint, bridge, Board}
-use Rattle.model_board.specs.AtReset.{board_at}
 use Rattle.model_board.specs.Lawful.{IsLawfulDecl}
 use Rattle.model_board.specs.State.{BoardFunction}
 use Rattle.model_guests.specs.World.{declared, endpoint_of}
 use Rattle.model_guests.specs.Guests.{GuestsNow, file_of}
-use Rattle.model_guests.specs.AgreedBoard.{agreed_function, state_over}
+use Rattle.model_guests.specs.AgreedBoard.{agreed_function}
 use Rattle.model_guests.specs.AgreedLaws.{AgreesAt, AgreesAtEach}
 use Rattle.model_guests.specs.Seated.{IsSeatedGuest}
 use Rattle.model_guests.proofs.AgreedChanges.{agreed_by}
@@ -36,10 +35,7 @@ distinct_left d lawful left shape =
 has_places : (b : Board) (f : BoardFunction) (d : Decl) → f.decl ≡ d → declared b f.path ≡ endpoint_of (record { path = f.path; decl = d }) → IsLawfulDecl d → shape_of f.file ≡ shape_of (declared_cells d)
     → (own : File) → IsFileOf shape_of b f.path own → HasPlaces f.file own
 has_places b f (bridge d) e found lawful shape own is = cc (is.declares, found)
-has_places b f (endpoint d) e found lawful shape own is =
-    let same : is.decl ≡ d = cc (is.declares, found) in
-    let whole : shape_of own ≡ shape_of f.file = is.same ∙ ap (λ (x : Endpoint). shape_of (endpoint_reset x false)) same ∙ sym shape in
-    record { same = same_places own f.file whole; distinct = distinct_left d lawful f.file shape }
+has_places b f (endpoint d) e found lawful shape own is = grind (arith, same_places own f.file, distinct_left d lawful f.file shape)
 
 module _ (b : Board) (gs : GuestsNow) (all : Each (IsSeatedGuest b) gs) where
   pub places_in : (f : BoardFunction) → Facts b f → HasDeclaredShape f → (own : File) → file_of gs f.path ≡ Some own → HasPlaces f.file own
@@ -65,7 +61,4 @@ pub state_agrees : StateAgrees
 state_agrees s handoff gs seated = grind (arith, functions_agree, facts)
 
 pub state_is_only : StateIsOnly
-state_is_only s handoff gs seated now agrees =
-    let functions : now.functions ≡ (state_over s gs).functions =
-    functions_are_only (board_at s.functions) gs seated.guests s.functions (facts s.functions handoff.board) handoff.shapes now.functions agrees.functions in
-    λ i. record { functions = functions i; latch = agrees.latch i }
+state_is_only s handoff gs seated now agrees = grind (arith, functions_are_only, facts, agrees.latch)

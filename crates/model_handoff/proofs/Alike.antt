@@ -1,5 +1,5 @@
 -- A handoff with the files of seated guests in it is a handoff of the same board, and so is what guests get of one.
-use Rattle.std.proofs.Common.{◌≡◌, ◌+◌, ◌*◌, List, [], Some, None, Option, refl, sym, ap, ap₂, ◌∙◌, subst, arith}
+use Rattle.std.proofs.Common.{◌≡◌, ◌+◌, ◌*◌, List, [], Option, refl, sym, ap, ap₂, ◌∙◌, subst, arith}
 use Rattle.std.specs.Prelude.{map, filter, find, option_map}
 use Rattle.std.specs.Option.{option_map_or}
 use Rattle.model_registers.specs.Registers.{File, config}
@@ -44,8 +44,7 @@ command_stays left own = ap₂ (λ (x y : Cell). x.value + 256 * (y.value + 256 
 module _ (files : Path → Option File) where
   command_found : (o : Option BoardFunction)
       → command_word (option_map_or (λ (f : BoardFunction). f.file) (option_map (agreed_function files) o) []) ≡ command_word (option_map_or (λ (f : BoardFunction). f.file) o [])
-  command_found None = refl
-  command_found (Some f) = grind (arith, command_stays)
+  command_found o = grind (arith, command_stays)
 
   pub command_at : (fs : List BoardFunction) (p : Path) → command_word (file_at (map (agreed_function files) fs) p) ≡ command_word (file_at fs p)
   command_at fs p =

@@ -75,10 +75,7 @@ module _ (w : WorldNow) (h : IsLawfulOver w) (name : Text) (there : IsSome (gues
           (lone_by (guest_after (access a)) (λ t. refl) (λ (g : LoneGuest). after_event g (access a)) (λ t. refl) who name w.guests there
           ∙ kept_if (bytes_eq who name) (after_event (lone_of w.guests name) (access a))
           (ap (λ (t : Bool). cond t (lone_of w.guests name) (changed_by (lone_of w.guests name) (access a))) e))
-      cases false e =
-          untouched (asks (guest_event who (access a)))
-          (λ slot. of_slot slot (bytes_eq who name)
-          (quiet_write (lone_of w.guests name) slot a e (ap (λ (n : Text). moves_own (lone_of w.guests n) (access a)) (sym is) ∙ none)))
+      cases false e = grind (arith, untouched (asks (guest_event who (access a))), of_slot, quiet_write (lone_of w.guests name))
 
   stay_by_call : (c : Call) → moves_by_call name w.guests c ≡ false → Stays (after_call w c)
   stay_by_call (asks nothing) none = untouched (asks nothing) (λ slot. refl)
@@ -105,9 +102,7 @@ module _ (w : WorldNow) (h : IsLawfulOver w) (name : Text) (there : IsSome (gues
       after false e still = cc
 
       cases : (t : Bool) → bytes_eq who name ≡ t → (t && not (is_some (slot_fault (lone_of w.guests who).slots k))) ≡ false → Stays (after_call w (at_device who (resets k)))
-      cases true same still =
-          after (is_some (slot_fault (lone_of w.guests name).slots k)) refl
-          (ap (λ (n : Text). not (is_some (slot_fault (lone_of w.guests n).slots k))) (sym (equal_texts who name same)) ∙ still)
+      cases true same still = grind (arith, after (is_some (slot_fault (lone_of w.guests name).slots k)) refl, equal_texts who name same)
       cases false other still = untouched (at_device who (resets k)) (λ slot. ap (λ (t : Bool). t && eqb k slot) other)
   stay_by_call (at_device who (device_reads d)) none = untouched (at_device who (device_reads d)) (λ slot. refl)
   stay_by_call (at_device who (device_writes d v)) none = untouched (at_device who (device_writes d v)) (λ slot. refl)
@@ -149,9 +144,7 @@ touched_write name who w a same moves = by (is_write a.op) (not (is_some (fault_
     by true true None e f k = cc
     by true true (Some l) e f k = (
       l.slot,
-      ap₂ (λ (t u : Bool). t && (u && option_map_or (λ (x : Landing). eqb x.slot l.slot && any_tells a.width x.place) (located (lone_of w.guests name) a.target) false)) same e
-          ∙ ap (λ (o : Option Landing). option_map_or (λ (x : Landing). eqb x.slot l.slot && any_tells a.width x.place) o false) f
-          ∙ ap₂ (λ (t u : Bool). t && u) (self l.slot) k,
+      grind (arith, self l.slot),
     )
 
 pub changes_touch_slots : ChangesTouchSlots
@@ -172,11 +165,7 @@ changes_touch_slots name w (asks (host_move m)) moves = by (not (is_some (move_f
       ap₂ (λ (t u : Bool). t && ((u && eqb m.slot m.slot) || (bytes_eq m.to name && eqb m.target m.slot))) e f
           ∙ ap (λ (u : Bool). u || (bytes_eq m.to name && eqb m.target m.slot)) (self m.slot),
     )
-    by true false true e f g k = (
-      m.target,
-      ap₂ (λ (t u : Bool). t && ((u && eqb m.slot m.target) || (bytes_eq m.to name && eqb m.target m.target))) e f
-          ∙ ap₂ (λ (t u : Bool). t && u) g (self m.target),
-    )
+    by true false true e f g k = grind (arith, self m.target)
 changes_touch_slots name w (asks (bad who k)) moves = cc
 changes_touch_slots name w (at_device who (resets k)) moves =
     let parts = and_parts (bytes_eq who name) (not (is_some (slot_fault (lone_of w.guests who).slots k))) moves in
@@ -201,11 +190,7 @@ wrapped_fits t n fits = grind arith
 
 pub counted_by : (m : MachineNow) (v : WorldNow) → names_now v ≡ names_now m.world → (test : Text → Bool) (i : ℕ) (name : Text) (n : ℕ) → IsCounted m i name n
     → IsCounted (record { world = v; counts = counts_where test (names_now m.world) m.counts }) i name (after_change (test name) n)
-counted_by m v stay test i name n is = record {
-  named = ap (λ (ts : List Text). slice_get ts i) stay ∙ is.named;
-  counted = count_where test (names_now m.world) m.counts i name n is.named is.counted;
-  fits = wrapped_fits (test name) n is.fits;
-}
+counted_by m v stay test i name n is = grind (arith, count_where test (names_now m.world) m.counts i name n is.named is.counted, wrapped_fits (test name) n is.fits)
 
 counted_after : (m : MachineNow) (i : ℕ) (name : Text) (n : ℕ) → IsCounted m i name n → (a : Action)
     → IsCounted (after_on_machine m a) i name (after_change (changes name m.world a) n)
@@ -225,10 +210,7 @@ world_along [] m = refl
 world_along (a ∷ more) m = world_along more (after_on_machine m a)
 
 pub none_counted : (m v : MachineNow) (i : ℕ) (name : Text) (n k : ℕ) → IsCounted m i name n → IsCounted v i name ((n + k) % 2 ^ 64) → k < 2 ^ 64 → IsCounted v i name n → k ≡ 0
-none_counted m v i name n k is grew few later =
-    let fits = is.fits in
-    let same : (n + k) % 2 ^ 64 ≡ n = let a = grew.counted in let b = later.counted in cc in
-    omega arith
+none_counted m v i name n k is grew few later = grind arith
 
 pub there_by_index : (gs : GuestsNow) (i : ℕ) (name : Text) → slice_get (names_of gs) i ≡ Some name → IsSome (guest_named gs name)
 there_by_index [] i name named = cc

@@ -1,5 +1,5 @@
 -- Before any event each given function is at reset.
-use Rattle.std.proofs.Common.{◌≡◌, ℕ, zero, suc, Bool, true, false, ◌||◌, cond, List, [], ◌∷◌, ◌++◌, Some, None, Option, refl, ap, ap₂, ◌∙◌, arith}
+use Rattle.std.proofs.Common.{◌≡◌, ℕ, zero, suc, Bool, false, ◌||◌, cond, List, [], ◌∷◌, ◌++◌, Some, None, Option, refl, ap, ap₂, ◌∙◌, arith}
 use Rattle.std.specs.Prelude.{map, flat_map, replicate, option_map, IsTrue}
 use Rattle.std.specs.List.{list_any}
 use Rattle.std.specs.Option.{option_map_or}
@@ -86,12 +86,5 @@ module _ (b : Board) (p : Path) where
   pub one_given : (o : Option Endpoint) → declared b p ≡ o → (fs : List BoardFunction)
       → map (agreed_function (files_given b (p ∷ []))) fs ≡ option_map_or (λ (d : Endpoint). with_file (after_reset d) p fs) o fs
   one_given d e [] = grind arith
-  one_given None e (f ∷ fs) =
-      ap₂ (λ (x : BoardFunction) (xs : List BoardFunction). x ∷ xs)
-      (ap (λ (o : Option File). agreed_by o f) (given_here f ∙ ap (λ (o : Option Endpoint). file_here o (path_eq f.path p)) e) ∙ one_by None f (path_eq f.path p) ∙ same (path_eq f.path p))
-      (one_given None e fs)
-    where
-      same : (t : Bool) → cond t f f ≡ f
-      same true = refl
-      same false = refl
+  one_given None e (f ∷ fs) = grind (arith, agreed_by, given_here f, one_by None f (path_eq f.path p), one_given None e fs)
   one_given (Some d) e (f ∷ fs) = grind (arith, one_given (Some d) e fs, given_here, one_by)

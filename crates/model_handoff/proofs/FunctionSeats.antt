@@ -45,9 +45,7 @@ abbrev path_in : GuestNow → ℕ → Option Path
 path_in g n = unwrap_or (slice_get g.paths n) None
 
 held_in : (p : Path) (g : GuestNow) (n : ℕ) → position (is_there p) g.paths ≡ Some n → path_in g n ≡ Some p
-held_in p g n e =
-    let first = first_at (is_there p) 0 g.paths n (sym (position_from-zero (is_there p) g.paths) ∙ e) in
-    grind (arith, is_it)
+held_in p g n e = grind (arith, first_at (is_there p) 0 g.paths n (sym (position_from-zero (is_there p) g.paths) ∙ e), position_from-zero (is_there p) g.paths, is_it)
 
 not_in : (p : Path) (g : GuestNow) → position (is_there p) g.paths ≡ None → (n : ℕ) → path_in g n ≡ Some p → ⊥
 not_in p g e n = grind (arith, none_at, position_from-zero, path_self)
@@ -74,10 +72,7 @@ holds_from p i (g ∷ gs) s e = by (position (is_there p) g.paths) refl e (holds
     by o here f more = grind (arith, later, held_in)
 
 pub seats_hold : SeatsHold
-seats_hold gs p s e =
-    let m = holds_from p 0 gs s e in
-    let same : s.guest ≡ m.place = omega (arith, m.from) in
-    ap (λ k. path_in_seat gs (record { guest = k; slot = s.slot })) same ∙ m.holds
+seats_hold gs p s e = grind (arith, holds_from p 0 gs s e)
 
 none_from : (p : Path) (i : ℕ) (gs : GuestsNow) → seat_from p i gs ≡ None → (k n : ℕ) → path_in_seat gs (record { guest = k; slot = n }) ≡ Some p → ⊥
 none_from p i [] e k n h = cc

@@ -1,5 +1,5 @@
 -- The functions of a state of a lawful board, with the guests that are seated there.
-use Rattle.std.proofs.Common.{◌≡◌, true, List, Some, None, Option, refl, ap, ◌∙◌, arith}
+use Rattle.std.proofs.Common.{◌≡◌, true, List, Some, None, Option, refl, ap, arith}
 use Rattle.lists.specs.Elements.{Each}
 use Rattle.lists.proofs.EachLemmas.{each_both, each_map, each_from_map}
 use Rattle.model_registers.specs.Registers.{File}
@@ -44,9 +44,7 @@ module _ (b : Board) (gs : GuestsNow) (all : Each (IsSeatedGuest b) gs) where
     where
       by : (own : Option File) → file_of gs f.path ≡ own → agreed_by own f ≡ f
       by None e = refl
-      by (Some file) e =
-          let is = file_is f file e in
-          let none : declared b f.path ≡ None = facts.found ∙ no_bridge_declared f f.decl refl h in cc (is.declares, none)
+      by (Some file) e = grind (arith, file_is f file e, no_bridge_declared f f.decl refl h)
 
 -- whoever tells the files
 pub path_stays : (own : Option File) (f : BoardFunction) → (agreed_by own f).path ≡ f.path

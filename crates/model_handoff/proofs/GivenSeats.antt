@@ -56,11 +56,11 @@ none_in (Some q ∷ qs) p h = by (path_eq q p) refl (none_in qs p (λ m. h (suc 
     by true e more = absurd (h zero (ap Some (path_same q p e)))
     by false e more = more
 
-nobody : (gs : GuestsNow) (p : Path) → EachPair (λ (t u : GuestNow). IsFalse (bytes_eq t.name u.name)) gs → ((a : Text) (m : ℕ) → path_in gs a m ≡ Some p → ⊥) → sits gs p ≡ false
-nobody [] p names free = refl
-nobody (t ∷ ts) p names free =
+pub none_sits : (gs : GuestsNow) (p : Path) → EachPair (λ (t u : GuestNow). IsFalse (bytes_eq t.name u.name)) gs → ((a : Text) (m : ℕ) → path_in gs a m ≡ Some p → ⊥) → sits gs p ≡ false
+none_sits [] p names free = refl
+none_sits (t ∷ ts) p names free =
     ap₂ ◌||◌ (none_in t.paths p (λ m h. free t.name m (ap (λ v. path_of (cond v (Some t) (guest_named ts t.name)) m) (same_text t.name) ∙ h)))
-    (nobody ts p names.1 (λ a m h. free a m (in_rest t ts a m p names.0 h)))
+    (none_sits ts p names.1 (λ a m h. free a m (in_rest t ts a m p names.0 h)))
 
 none_found : (o : Option File) → is_some o ≡ false → o ≡ None
 none_found o h = grind arith
@@ -138,7 +138,7 @@ module _ (b : Board) (gs : GuestsNow) (seated : AreSeated b gs) (name : Text) (n
     gone a m h = grind (arith, left_place, put_there, none_is_some, was_there)
 
     pub left_file : file_of left p ≡ None
-    left_file = no_file b left left_seated.guests p (nobody left p left_seated.names_apart gone)
+    left_file = no_file b left left_seated.guests p (none_sits left p left_seated.names_apart gone)
 
     pub left_others : (q : Path) → path_eq p q ≡ false → file_of left q ≡ file_of gs q
     left_others q other = grind (arith, file_stays, file_past, other_path, none_such)

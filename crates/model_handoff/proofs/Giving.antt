@@ -21,7 +21,7 @@ use Rattle.model_guests.specs.Text.{Text}
 use Rattle.model_guests.specs.World.{declared}
 use Rattle.model_guests.specs.Guests.{GuestNow, GuestsNow, file_of, function_in, guest_named, path_in, with_guest, with_slot_emptied, with_slot_filled}
 use Rattle.model_guests.specs.AgreedBoard.{agreed_function, with_files, state_over, with_change_at}
-use Rattle.model_guests.specs.Seated.{AreSeated, IsSeat}
+use Rattle.model_guests.specs.Seated.{AreSeated}
 use Rattle.model_guests.proofs.AgreedChanges.{agreed_by, changed_function}
 use Rattle.model_guests.proofs.Changes.{one_file, resets_alike}
 use Rattle.model_guests.proofs.GuestsByName.{function_named, path_at}
@@ -54,15 +54,7 @@ IsFresh d o = (o ≡ None) ⊎ (o ≡ Some (endpoint_reset d false))
 
 module _ (d : Endpoint) where
   over_reset : (left : File) (old new : Option File) → IsFresh d new → put_in new (after_reset d left) ≡ after_reset d (put_in old left)
-  over_reset left old new h = new_is new h ∙ old_is old
-    where
-      new_is : (o : Option File) → IsFresh d o → put_in o (after_reset d left) ≡ after_reset d left
-      new_is o (inl e) = ap (λ (x : Option File). put_in x (after_reset d left)) e
-      new_is o (inr e) = ap (λ (x : Option File). put_in x (after_reset d left)) e ∙ sym (resets_alike d left (endpoint_reset d false))
-
-      old_is : (o : Option File) → after_reset d left ≡ after_reset d (put_in o left)
-      old_is None = refl
-      old_is (Some own) = resets_alike d left own
+  over_reset left old new h = grind (arith, left, resets_alike d left (endpoint_reset d false), resets_alike d left)
 
   module _ (p : Path) (old new : Path → Option File) (here : IsFresh d (new p)) (others : (q : Path) → path_eq p q ≡ false → new q ≡ old q) where
     put_by : (o : Option File) (f : BoardFunction) → agreed_by o f ≡ record f { file = put_in o f.file }
@@ -74,12 +66,7 @@ module _ (d : Endpoint) where
         by : (t : Bool) → path_eq f.path p ≡ t → agreed_function new (changed_function (after_reset d) p f) ≡ changed_function (after_reset d) p (agreed_function old f)
         by true e =
             let at : f.path ≡ p = path_same f.path p e in
-            let g : BoardFunction = record f { file = after_reset d f.file } in
-            let change : changed_function (after_reset d) p f ≡ g = ap (λ t. cond t g f) e in
-            let now : agreed_function old f ≡ record f { file = put_in (old f.path) f.file } = put_by (old f.path) f in
-            ap (agreed_function new) change ∙ put_by (new f.path) g
-            ∙ ap (λ (x : File). record f { file = x }) (over_reset f.file (old f.path) (new f.path) (subst (λ (x : Path). IsFresh d (new x)) (sym at) here))
-            ∙ sym (ap (changed_function (after_reset d) p) now ∙ ap (λ t. cond t (record f { file = after_reset d (put_in (old f.path) f.file) }) (record f { file = put_in (old f.path) f.file })) e)
+            grind (arith, changed_function, put_by (old f.path) f, put_by (new f.path), over_reset f.file (old f.path) (new f.path), changed_function (after_reset d) p)
         by false e = grind (arith, path_eq-sym, path_stays)
 
     all_over : (fs : List BoardFunction) → map (agreed_function new) (with_file (after_reset d) p fs) ≡ with_file (after_reset d) p (map (agreed_function old) fs)
@@ -111,9 +98,6 @@ module _ (s : State) (handoff : IsHandoff s) (p : Path) (d : Endpoint) (declares
 
   sits_others : (q : Path) → path_eq p q ≡ false → sits now q ≡ sits gs q
   sits_others q other = sym (sits_is b now seated_now.guests q) ∙ ap is_some (others q other) ∙ sits_is b gs seated.guests q
-
-  abbrev file_by : Board → Path → Bool → Option File
-  file_by c q v = cond v (option_map file_at_reset (declared c q)) None
 
   rows_seated : board_at (with_seated_reset s gs).functions ≡ b
   rows_seated = rows_stay (seated_files s gs) s.functions
@@ -289,10 +273,7 @@ lawful_after_taking w h name n = by (take_fault w name n) refl
   where
     by : (o : Option ℕ) → take_fault w name n ≡ o → IsLawfulOver (after_take w name n)
     by (Some k) i = subst IsLawfulOver (sym (ap (λ (o : Option ℕ). cond (is_some o) w (taken name n w)) i)) h
-    by None i =
-        let can = can_take w name n i in
-        let q = some_path (board_at w.handoff.functions) (path_in w.guests name n) can.f (subst (IsSeat (board_at w.handoff.functions) (path_in w.guests name n)) can.there (seat_in (board_at w.handoff.functions) w.guests h.seated.guests name n)) in
-        subst IsLawfulOver (sym (taken_is w name n i q.0 q.1)) (lawful_lower w h name n can q.0 q.1)
+    by None i = grind (arith, can_take w name n i, some_path (board_at w.handoff.functions) (path_in w.guests name n), seat_in (board_at w.handoff.functions) w.guests h.seated.guests name n, taken_is w name n i, lawful_lower w h name n)
 
 -- ---- other guests
 
@@ -313,7 +294,6 @@ given_back w h g there fault =
     let d = can.0 in
     let v : WorldNow = record { handoff = with_reset_at g.path w.handoff; guests = with_guest (with_slot_filled g.slot (Some g.path) d) g.to w.guests } in
     let is : after_give w g ≡ v = given_is w g d fault can.1.declares in
-    let path : path_in v.guests g.to g.slot ≡ Some g.path = path_now w h g d can.1 there in
     let x = some_there (guest_named w.guests g.to) there in
     let was : path_in w.guests g.to g.slot ≡ None = no_path (board_at w.handoff.functions) (path_in w.guests g.to g.slot) (function_in w.guests g.to g.slot) (seat_in (board_at w.handoff.functions) w.guests h.seated.guests g.to g.slot) can.1.empty in
-    grind (arith, taken_is, with_twice, with_none, out_again, function_named, function_now)
+    grind (arith, taken_is, with_twice, with_none, out_again, function_named, function_now, path_now)

@@ -1,5 +1,5 @@
 -- A hit lies in a region that is told there, and each address of an open region hits something.
-use Rattle.std.proofs.Common.{◌≡◌, ◌≤◌, ◌<◌, inl, inr, ℕ, zero, suc, ◌+◌, ◌-◌, true, eqb, List, [], ◌∷◌, Some, None, Option, Ok, refl, sym, ap, ◌∙◌, subst, arith}
+use Rattle.std.proofs.Common.{◌≡◌, ◌≤◌, ◌<◌, inl, inr, ℕ, zero, suc, ◌+◌, ◌-◌, true, eqb, List, [], ◌∷◌, Some, None, Option, Ok, refl, ap, ◌∙◌, subst, arith}
 use Rattle.std.specs.Prelude.{find, option_map, is_some}
 use Rattle.std.proofs.lemmas.Bool.Decides.{nat_tests}
 use Rattle.lists.specs.Elements.{IsIn, EachPair, first_of_two}
@@ -61,8 +61,7 @@ lands_at space a n (Some f ∷ fs) l e = by_claim (lone_claim f space a) refl e 
         record { k = suc more.k; f = more.f; h = more.h; there = more.there; claim = more.claim; landing = more.landing ∙ ap (λ (m : ℕ). let x : Landing = record { slot = m; place = block more.h.index more.h.offset } in x) one }
     by_claim (Some h) claim is rest =
         let none : n ≡ n + 0 = omega arith in
-        let same : record { slot = n; place = block h.index h.offset } ≡ l = cc in
-        record { k = 0; f = f; h = h; there = refl; claim = claim; landing = sym same ∙ ap (λ (m : ℕ). let x : Landing = record { slot = m; place = block h.index h.offset } in x) none }
+        grind arith
 
 answer_there : (g : LoneGuest) (n m : ℕ) (f : Function) (r : Region) → n < 32 → slot_at g.slots n ≡ Some f → region_at f m ≡ Some r
     → region_answer g n m ≡ Ok (region_now f.file r)
@@ -124,12 +123,4 @@ some_landing space a k (x ∷ fs) (suc n) f there h = some_second (landing_in k 
 pub inside_is_hit : InsideIsHit
 inside_is_hit g n m r told opened a low high =
     let is = told_there g n m r told in
-    let file : File = is.f.file in
-    let same : region_now file is.region ≡ r = is.is in
-    let its_open : is_open file (space_of is.region.kind) ≡ true = ap (λ (x : RegionNow). x.is_open) same ∙ opened in
-    let its_low : base file is.region.index is.region.kind ≤ a = subst (λ (x : RegionNow). x.first ≤ a) (sym same) low in
-    let its_high : a < base file is.region.index is.region.kind + is.region.size = subst (λ (x : RegionNow). a < x.first + x.size) (sym same) high in
-    let space : space_of is.region.kind ≡ r.space = ap (λ (x : RegionNow). x.space) same in
-    subst (λ (s : Space). is_some (landing_from 0 s a g.slots) ≡ true) space
-    (some_landing (space_of is.region.kind) a 0 g.slots n is.f is.there
-    (some_first_hit file (space_of is.region.kind) a is.region is.f.decl.regions is.at (some_hit file a is.region its_open its_low its_high)))
+    grind (arith, some_landing (space_of is.region.kind) a 0 g.slots n is.f is.there, some_first_hit, some_hit)

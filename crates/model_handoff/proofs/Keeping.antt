@@ -1,8 +1,8 @@
 -- What guests can't change of a handoff: its board, its routing registers, what configuration cycles reach, and what an
 -- audit tells.
-use Rattle.std.proofs.Common.{◌≡◌, ℕ, Bool, true, false, ◌&&◌, cond, List, [], ◌∷◌, ◌++◌, Some, None, Option, refl, sym, ap, ap₂, ◌∙◌, subst, eqb, arith}
+use Rattle.std.proofs.Common.{◌≡◌, ℕ, Bool, true, false, ◌&&◌, List, [], ◌∷◌, ◌++◌, Some, None, Option, refl, sym, ap, ap₂, ◌∙◌, subst, arith}
 use Rattle.std.specs.Prelude.{map, find}
-use Rattle.std.specs.Option.{option_map, option_map_or}
+use Rattle.std.specs.Option.{option_map}
 use Rattle.lists.specs.Elements.{Each}
 use Rattle.lists.proofs.EachLemmas.{each_both, each_map, each_of_map}
 use Rattle.lists.proofs.Tests.{and_false}
@@ -12,18 +12,18 @@ use Rattle.model_registers.specs.Declarations.{Endpoint}
 use Rattle.model_registers.specs.CopiedFiles.{agreed_file}
 use Rattle.std.proofs.lemmas.Bool.Decides.{nat_tests}
 use Rattle.std.proofs.Common.{arith}
-use Rattle.model_board.specs.Paths.{Part, Path, path_eq}
+use Rattle.model_board.specs.Paths.{Part, Path}
 use Rattle.model_board.specs.Board.{Decl, endpoint, bridge, Row, Board, is_bridge}
 use Rattle.model_board.specs.AtReset.{board_at}
 use Rattle.model_board.specs.BusNumbers.{secondary, subordinate}
-use Rattle.model_board.specs.Cycles.{secondary_register, subordinate_register, takes, is_route, ends_in, reached_type0, reached_type1, BusAddress, reached}
+use Rattle.model_board.specs.Cycles.{secondary_register, subordinate_register, takes, is_route, BusAddress, reached}
 use Rattle.model_board.specs.Lawful.{IsLawfulDecl}
 use Rattle.model_board.specs.Routing.{routing}
 use Rattle.model_board.specs.RoutingLaws.{is_routing_register, HasSameRouting}
 use Rattle.model_board.specs.State.{BoardFunction, State, row_at}
 use Rattle.model_board.proofs.Routing.{routing_of_change}
 use Rattle.model_findings.specs.Found.{address_now, path_reached}
-use Rattle.model_findings.specs.Problems.{Problem, not_found, numbering_problems}
+use Rattle.model_findings.specs.Problems.{numbering_problems}
 use Rattle.model_findings.proofs.Witnesses.{problems_decide}
 use Rattle.model_guests.specs.Guests.{GuestsNow, file_of}
 use Rattle.model_guests.specs.AgreedBoard.{agreed_function, state_over}
@@ -53,11 +53,7 @@ module _ (b : Board) (gs : GuestsNow) (all : Each (IsSeatedGuest b) gs) where
   now_of = agreed_function (file_of gs)
 
   function_routes : (f : BoardFunction) → Facts b f → HasSameRouting f (now_of f)
-  function_routes f facts = record {
-    path = sym (path_stays (file_of gs f.path) f);
-    decl = sym (decl_stays (file_of gs f.path) f);
-    registers = by_decl f.decl refl;
-  }
+  function_routes f facts = grind (arith, path_stays (file_of gs f.path) f, decl_stays (file_of gs f.path) f, by_decl f.decl refl)
     where
       of_endpoint : (d : Endpoint) (own : Option File) (n : ℕ) → is_routing_register (endpoint d) n ≡ true → (cell_at f.file (config n)).value ≡ (cell_at (agreed_by own f).file (config n)).value
       of_endpoint d None n h = refl
@@ -104,31 +100,13 @@ module _ (g : BoardFunction → BoardFunction) (paths : (f : BoardFunction) → 
     route_stays n above (p ∷ q ∷ r ∷ ps) = ap₂ (λ (x y : Bool). x && y) (takes_stays above n p false) (route_stays n (above ++ p ∷ []) (q ∷ r ∷ ps))
 
     pub reach_stays : (at : BusAddress) → reached now at ≡ option_map g (reached fs at)
-    reach_stays at =
-        ap₂ (λ (x y : Option BoardFunction). cond (eqb at.bus 0) x y)
-        (find_path (λ f. path_eq f.path (at.part ∷ [])) (λ f. path_eq f.path (at.part ∷ [])) (λ f. ap (λ (p : Path). path_eq p (at.part ∷ [])) (paths f)) fs)
-        (find_path (λ f. ends_in f.path at.part && is_route now at.bus [] f.path) (λ f. ends_in f.path at.part && is_route fs at.bus [] f.path)
-        (λ f. ap (λ (p : Path). ends_in p at.part && is_route now at.bus [] p) (paths f) ∙ ap (λ v. ends_in f.path at.part && v) (route_stays at.bus [] f.path)) fs)
-        ∙ by (eqb at.bus 0)
-      where
-        by : (v : Bool) → cond v (option_map g (reached_type0 fs at.part)) (option_map g (reached_type1 fs at.bus at.part)) ≡ option_map g (cond v (reached_type0 fs at.part) (reached_type1 fs at.bus at.part))
-        by true = refl
-        by false = refl
+    reach_stays at = grind (arith, find_path, route_stays at.bus)
 
     pub address_stays : (p : Path) → address_now now p ≡ address_now fs p
     address_stays p = grind (arith, find_bridge)
 
     found_path_stays : (p : Path) → path_reached now p ≡ path_reached fs p
-    found_path_stays p =
-        ap (λ (at : BusAddress). option_map (λ (f : BoardFunction). f.path) (reached now at)) (address_stays p)
-        ∙ ap (option_map (λ (f : BoardFunction). f.path)) (reach_stays (address_now fs p)) ∙ by (reached fs (address_now fs p))
-      where
-        by : (o : Option BoardFunction) → option_map (λ (f : BoardFunction). f.path) (option_map g o) ≡ option_map (λ (f : BoardFunction). f.path) o
-        by None = refl
-        by (Some f) = ap Some (paths f)
-
-    abbrev told : Path → BusAddress → Option Path → List Problem
-    told p at o = cond (option_map_or (λ q. path_eq q p) o false) [] (not_found p at o ∷ [])
+    found_path_stays p = grind (arith, address_stays p, reach_stays (address_now fs p))
 
     pub numbering_stays : numbering_problems now ≡ numbering_problems fs
     numbering_stays = grind (arith, flat_map_map, address_stays, found_path_stays)

@@ -13,12 +13,7 @@ pub lawful_at_first : LawfulAtFirst
 lawful_at_first w s handoff same guests can = grind (arith, seated_at_first, served_at_first)
 
 pub lawful_after_meaning : (w : WorldNow) (m : Meaning) → IsLawfulOver w → IsLawfulOver (after_meaning w m)
-lawful_after_meaning w m h = record {
-  handoff = h.handoff;
-  order = h.order;
-  seated = seated_meaning (board_at w.handoff.functions) w.guests m h.seated;
-  served = served m;
-}
+lawful_after_meaning w m h = grind (arith, seated_meaning (board_at w.handoff.functions) w.guests m h.seated, served, served m)
   where
     served : (m : Meaning) → AreServed w.handoff (guests_after w.guests m)
     served nothing = h.served

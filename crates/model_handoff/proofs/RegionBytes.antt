@@ -1,14 +1,14 @@
 -- Where an address of a guest lands, a byte of an open region stands.
-use Rattle.std.proofs.Common.{◌≡◌, ℕ, ◌-◌, ◌<◌, true, Some, Option, Ok, sym, ap, ◌∙◌, arith}
+use Rattle.std.proofs.Common.{◌≡◌, ℕ, ◌-◌, ◌<◌, true, Some, Ok, arith}
 use Rattle.std.proofs.lemmas.Bool.Decides.{nat_tests}
 use Rattle.model_registers.specs.Decoding.{Space, io, memory}
-use Rattle.model_guests.specs.Accesses.{Op, reads, writes, in_region, Target, port, address}
-use Rattle.model_guests.specs.Slots.{Landing, landing, landing_from, perform, effect}
+use Rattle.model_guests.specs.Accesses.{Op, in_region, Target, port, address}
+use Rattle.model_guests.specs.Slots.{Landing, landing, landing_from}
 use Rattle.model_guests.specs.Lone.{LoneGuest, at_target, reply_at, after_access_at}
 use Rattle.model_guests.specs.DeviceEvents.{DeviceByte}
 use Rattle.model_handoff.specs.GuestRegions.{RegionNow, region_answer}
 use Rattle.model_handoff.specs.QueryLaws.{HasLawfulFunctions}
-use Rattle.model_handoff.specs.RegionBytes.{byte_opening, byte_landing, byte_reply, after_byte, reply_there, after_there, IsByteThere, BytesByAddress}
+use Rattle.model_handoff.specs.RegionBytes.{byte_opening, byte_landing, byte_reply, after_byte, IsByteThere, BytesByAddress}
 use Rattle.model_handoff.proofs.Inside.{hit_is_inside}
 
 -- a region that is told, and that is open, opens to each of its bytes
@@ -18,14 +18,10 @@ opens_there g slot n off r told opened inside = grind (arith, nat_tests)
 
 module _ (g : LoneGuest) (t : Target) (l : Landing) (lands : landing g.slots t ≡ Some l) (d : DeviceByte) (opened : byte_opening g d ≡ Ok true) (place : byte_landing d true ≡ Some l) where
   replies : (op : Op) → byte_reply g op d ≡ reply_at g op 1 (at_target t)
-  replies reads = ap (reply_there g reads d) opened ∙ ap (perform reads 1 g.slots) (place ∙ sym lands)
-  replies (writes v) = ap (reply_there g (writes v) d) opened
+  replies op = grind arith
 
   leaves : (op : Op) → after_byte g op d ≡ after_access_at g op 1 (at_target t)
-  leaves reads = ap (after_there g reads d) opened
-  leaves (writes v) =
-      ap (after_there g (writes v) d) opened
-      ∙ ap (λ (o : Option Landing). record g { slots = effect (writes v) 1 g.slots o }) (place ∙ sym lands)
+  leaves op = grind arith
 
   there : IsByteThere g t l
   there = record { byte = d; place = place; reply = replies; after = leaves }
@@ -36,8 +32,7 @@ by_space g lawful t l lands space a from =
     let off : ℕ = a - is.region.first in
     let inside : off < is.region.size = let low = is.low in let high = is.high in omega arith in
     let d : DeviceByte = record { slot = l.slot; part = in_region is.register; offset = off } in
-    let place : byte_landing d true ≡ Some l = ap (λ p. Some (record { slot = l.slot; place = p })) (sym is.place) in
-    there g t l lands d (opens_there g l.slot is.register off is.region is.told is.opened inside) place
+    grind (arith, there g t l lands d, opens_there g l.slot is.register off is.region is.told is.opened inside)
 
 pub bytes_by_address : BytesByAddress
 bytes_by_address g lawful a l = (λ e. by_space g lawful (port a) l e io a e, λ e. by_space g lawful (address a) l e memory a e)

@@ -3,7 +3,6 @@ use Rattle.std.proofs.Common.{◌≡◌, ℕ, zero, suc, Bool, true, false, not,
 use Rattle.std.specs.Prelude.{map, flat_map, replicate, is_some, IsTrue}
 use Rattle.lists.specs.Elements.{IsIn}
 use Rattle.lists.proofs.Members.{each_from, any_in, in_front, in_back, in_map, in_filter, in_flat_map}
-use Rattle.model_registers.specs.Registers.{File}
 use Rattle.model_registers.specs.Declarations.{Region}
 use Rattle.model_registers.specs.Decoding.{Function, base_address, opens_space, command_word}
 use Rattle.model_board.specs.Paths.{Path, path_eq}
@@ -46,9 +45,6 @@ no_member x xs e m = grind arith
 pub served_at_first : ServedAtFirst
 served_at_first w s state none name n p at d declares = each_from (λ r. IsTrue (opens_region s p r)) d.regions one
   where
-    file : File
-    file = file_at s.functions p
-
     given : is_given w p ≡ true
     given = any_in (λ q. path_eq q p) p (given_paths w) (among w w.guests name n p at) (path_self p)
 
@@ -79,9 +75,6 @@ served_after_events s gs served name e = served_with (guest_after e) (λ t. refl
 pub served_after_moves : ServedAfterMoves
 served_after_moves s gs served m = by (is_some (move_fault gs m)) (function_in gs m.from m.slot)
   where
-    left : GuestsNow
-    left = with_guest (with_slot_emptied m.slot) m.from gs
-
     emptied : (a : Text) (n : ℕ) (p : Path) → path_in (with_guest (with_slot_emptied m.slot) m.from gs) a n ≡ Some p → path_in gs a n ≡ Some p
     emptied a n p at = of (placed (with_slot_emptied m.slot) m.slot None (λ t. refl) (λ t. refl) gs m.from a n p at)
       where
@@ -99,8 +92,7 @@ served_after_moves s gs served m = by (is_some (move_fault gs m)) (function_in g
         of (was_there x y) = served a n p (emptied a n p x)
 
     by : (t : Bool) (o : Option Function) → AreServed s (cond t gs (handed_over m (path_in gs m.from m.slot) o gs))
-    by true o = served
-    by false o = after o
+    by t o = grind (arith, after)
 
 -- ---- faults
 

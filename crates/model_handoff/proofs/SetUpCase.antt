@@ -9,7 +9,7 @@ use Rattle.model_registers.specs.Registers.{File}
 use Rattle.model_registers.specs.EndpointTable.{BaseAddress, endpoint_reset}
 use Rattle.model_registers.specs.Declarations.{Region, Endpoint}
 use Rattle.model_registers.specs.CopiedFiles.{shape_of}
-use Rattle.model_registers.specs.Decoding.{space_of, base, base_address, opens_space, command_word, is_open}
+use Rattle.model_registers.specs.Decoding.{space_of, base_address, opens_space, command_word, is_open}
 use Rattle.model_registers.specs.Apertures.{Apertures}
 use Rattle.model_board.specs.Paths.{Path}
 use Rattle.model_board.specs.Board.{Decl, endpoint, bridge, Board, IsBoard, is_multifunction}
@@ -77,10 +77,7 @@ set_up_places b a can p d row r m =
     let is : file_at fs p ≡ file = ap (λ (o : Option BoardFunction). option_map_or (λ (g : BoardFunction). g.file) o []) (found fs (state_is b a can.places can.declarations) f (in_map (left b a) (record { path = p; decl = endpoint d }) b row)) in
     let placed_there : region_now p (base_address file r) ≡ placed b a p r =
     maps_at (region_now p) (base_address file) (placed b a p) d.regions
-    (regions_placed b a can (layout_is_lawful b a can.places can.declarations can.room) (rows_are_declared b a can.places can.declarations) p (endpoint d) row) r m in (
-      ap (λ (x : File). base x r.index r.kind) is ∙ ap (λ (q : PlacedRegion). q.first) placed_there,
-      ap (λ (x : File). is_open x (space_of r.kind)) is ∙ opens_own b a p d r m,
-    )
+    (regions_placed b a can (layout_is_lawful b a can.places can.declarations can.room) (rows_are_declared b a can.places can.declarations) p (endpoint d) row) r m in grind (arith, opens_own b a p d r m)
 
 module _ (b : Board) (a : Apertures) where
   none_closed : (p : Path) (d : Decl) (q : PlacedRegion) → IsIn q (closed_of (row_of (left b a (record { path = p; decl = d })))) → ⊥

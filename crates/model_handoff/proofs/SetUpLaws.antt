@@ -1,5 +1,5 @@
 -- What holds over any handoff holds over what set-up leaves.
-use Rattle.std.proofs.Common.{◌≡◌, ℕ, ◌+◌, ◌≤◌, true, false, List, sym, ap, ◌∙◌, subst, arith}
+use Rattle.std.proofs.Common.{◌≡◌, ℕ, ◌+◌, ◌≤◌, true, false, List, sym, ap, ◌∙◌, arith}
 use Rattle.std.proofs.lemmas.Bool.Decides.{nat_tests}
 use Rattle.lists.specs.Elements.{IsIn}
 use Rattle.lists.proofs.EachLemmas.{each_of_map, each_map}
@@ -9,12 +9,11 @@ use Rattle.model_registers.specs.Apertures.{Apertures}
 use Rattle.model_registers.specs.EndpointTable.{endpoint_reset}
 use Rattle.model_registers.proofs.HitRegions.{hit_is_of_region}
 use Rattle.model_board.specs.Paths.{Path}
-use Rattle.model_board.specs.Board.{Decl, endpoint, bridge, Row, Board}
+use Rattle.model_board.specs.Board.{Decl, endpoint, bridge, Board}
 use Rattle.model_board.specs.Lawful.{IsLawfulDecl}
 use Rattle.model_board.specs.Ports.{ordinary, port_target}
 use Rattle.model_board.specs.Routing.{routing}
 use Rattle.model_board.specs.State.{BoardFunction, State}
-use Rattle.model_set_up.specs.Reach.{HasNumbers}
 use Rattle.model_set_up.specs.SetUp.{set_up_file, set_up_state}
 use Rattle.model_set_up.proofs.PlacedRegions.{placed_within}
 use Rattle.model_set_up.proofs.SetUpNumbers.{set_up_has_numbers}
@@ -22,7 +21,6 @@ use Rattle.model_set_up.proofs.UniqueClaimant.{claim_of_region, left}
 use Rattle.model_guests.specs.Guests.{GuestsNow}
 use Rattle.model_guests.specs.AgreedBoard.{state_over}
 use Rattle.model_guests.specs.AgreedLaws.{Agrees}
-use Rattle.model_guests.specs.Seated.{AreSeated}
 use Rattle.model_guests.proofs.AgreedFiles.{agreed_common}
 use Rattle.model_guests.proofs.DeclaredRows.{declared_row}
 use Rattle.model_guests.proofs.DistinctPlaces.{distinct_places}
@@ -52,10 +50,7 @@ set_up_keeps_routing =
 pub set_up_keeps_numbers : SetUpKeepsNumbers
 set_up_keeps_numbers b a board decls gs seated few =
     let s : State = set_up_state b a in
-    let handoff = set_up_is_handoff b a board decls in
-    subst (λ (x : Board). HasNumbers x (state_over s gs).functions) handoff.1
-    (keeps_numbers s handoff.0.board gs (subst (λ (x : Board). AreSeated x gs) (sym handoff.1) seated)
-    (subst (λ (x : Board). HasNumbers x s.functions) (sym handoff.1) (set_up_has_numbers b a few)))
+    grind (arith, set_up_is_handoff b a board decls, keeps_numbers s, set_up_has_numbers b a few)
 
 -- ---- at first
 
@@ -73,8 +68,7 @@ set_up_at_first w lawful =
     let handoff = set_up_is_handoff w.board w.apertures lawful.board lawful.functions in
     first_is_handoff w (set_up_state w.board w.apertures) handoff.0 handoff.1
     (each_of_map (λ (f : BoardFunction). is_given w f.path ≡ true → HoldsReset f.decl f.file) (left w.board w.apertures) w.board
-    (each_map (λ (r : Row). IsLawfulDecl r.decl) (λ (r : Row). is_given w r.path ≡ true → HoldsReset r.decl (set_up_file w.board w.apertures r.path r.decl)) w.board
-    (λ r h given. holds_reset w.board w.apertures r.path r.decl h) lawful.functions))
+    (grind (arith, each_map, holds_reset w.board w.apertures)))
 
 -- ---- regions
 
@@ -89,6 +83,5 @@ hit_reaches_region b a can gs seated p f seat space n h e =
     let at = hit_is_of_region f.file f.decl.regions space n h e in
     let row : IsIn (record { path = p; decl = endpoint f.decl }) b = declared_row b p f.decl seat.decl in
     let fs : List BoardFunction = (state_over (set_up_state b a) gs).functions in
-    let within = placed_within b a can p f.decl row at.0 at.1 in
     let claim = claim_of_region b a can fs (set_up_keeps_routing b a can.places can.declarations gs seated) p f.decl row at.0 at.1 h.offset at.2.inside in
-    grind (arith, lanes_of, beyond_the_latch, no_less)
+    grind (arith, lanes_of, beyond_the_latch, no_less, placed_within b a can p f.decl row at.0 at.1)

@@ -5,13 +5,12 @@ use Rattle.std.specs.Prelude.{map, flat_map}
 use Rattle.lists.specs.Elements.{Each, EachPair}
 use Rattle.model_registers.specs.Cell.{Cell}
 use Rattle.model_registers.specs.Registers.{Place, after, PlacedCell, File, cell_at, field}
-use Rattle.model_registers.specs.Declarations.{IoDecode, no_io, io16, io32, PrefDecode, no_pref, pref32, pref64, Region, Endpoint, Bridge}
+use Rattle.model_registers.specs.Declarations.{IoDecode, PrefDecode, Region, Endpoint, Bridge}
 use Rattle.model_registers.specs.EndpointTable.{region_cells, config_cells, endpoint_file, endpoint_reset}
 use Rattle.model_registers.specs.BridgeTable.{Window, BridgeValues, no_window, bridge_header, mem_cells, io_cells, pref_cells, bridge_file, bridge_reset}
 use Rattle.model_registers.specs.CopiedFiles.{shape_of, agreed_file}
 use Rattle.model_board.specs.Paths.{Path}
 use Rattle.model_board.specs.Board.{Decl, endpoint, bridge, Board}
-use Rattle.model_board.specs.Lawful.{IsLawfulDecl}
 use Rattle.model_board.specs.State.{BoardFunction}
 use Rattle.model_guests.specs.World.{declared, endpoint_of}
 use Rattle.model_guests.specs.AgreedBoard.{agreed_function}
@@ -20,7 +19,7 @@ use Rattle.model_guests.proofs.DistinctPlaces.{Apart, HasDistinctPlaces}
 use Rattle.model_guests.proofs.FoundFiles.{shape_places}
 use Rattle.model_guests.proofs.SlotPlaces.{IsFileOf}
 use Rattle.model_guests.proofs.TablePlaces.{found_entries}
-use Rattle.model_handoff.specs.Handoffs.{declared_cells, HasDeclaredShape}
+use Rattle.model_handoff.specs.Handoffs.{HasDeclaredShape}
 use Rattle.model_handoff.proofs.Agreement.{distinct_left}
 use Rattle.model_handoff.proofs.Functions.{Facts}
 
@@ -44,14 +43,10 @@ endpoint_shape d m command bases =
     ∙ sym (shape_append (config_cells d false 0) (flat_map (region_cells (λ r. 0)) d.regions))
 
 io_shape : (x : IoDecode) (s t : Window) → shape_of (io_cells x s) ≡ shape_of (io_cells x t)
-io_shape no_io s t = refl
-io_shape io16 s t = refl
-io_shape io32 s t = refl
+io_shape x s t = grind arith
 
 pref_shape : (x : PrefDecode) (s t : Window) → shape_of (pref_cells x s) ≡ shape_of (pref_cells x t)
-pref_shape no_pref s t = refl
-pref_shape pref32 s t = refl
-pref_shape pref64 s t = refl
+pref_shape x s t = grind arith
 
 pub bridge_shape : (d : Bridge) (m : Bool) (r : BridgeValues) → shape_of (bridge_file d m r) ≡ shape_of (bridge_reset d false)
 bridge_shape d m r =
@@ -85,18 +80,10 @@ module _ (b : Board) (f : BoardFunction) (is : Facts b f) (h : HasDeclaredShape 
   with_shape : (own : File) → IsFileOf shape_of b f.path own → (d : Decl) → f.decl ≡ d → HasDeclaredShape (agreed_by (Some own) f)
   with_shape own file (bridge d) e =
       let none : declared b f.path ≡ None = is.found ∙ ap (λ (x : Decl). endpoint_of (record { path = f.path; decl = x })) e in cc (file.declares, none)
-  with_shape own file (endpoint d) e =
-      let there : declared b f.path ≡ Some d = is.found ∙ ap (λ (x : Decl). endpoint_of (record { path = f.path; decl = x })) e in
-      let same : file.decl ≡ d = cc (file.declares, there) in
-      let left : shape_of f.file ≡ shape_of (endpoint_reset d false) = h ∙ ap (λ (x : Decl). shape_of (declared_cells x)) e in
-      let lawful : IsLawfulDecl (endpoint d) = subst IsLawfulDecl e is.lawful in
-      agreed_shape f.file own (file.same ∙ ap (λ (x : Endpoint). shape_of (endpoint_reset x false)) same ∙ sym left)
-      (distinct_left d lawful f.file left)
-      ∙ h
+  with_shape own file (endpoint d) e = grind (arith, agreed_shape f.file own, distinct_left d)
 
   pub shape_with : (o : Option File) → ((own : File) → o ≡ Some own → IsFileOf shape_of b f.path own) → HasDeclaredShape (agreed_by o f)
-  shape_with None told = h
-  shape_with (Some own) told = with_shape own (told own refl) f.decl refl
+  shape_with o told = grind (arith, with_shape)
 
 -- where all files have the shapes that are declared at their paths
 pub shapes_with : (b : Board) (files : Path → Option File) → ((p : Path) (own : File) → files p ≡ Some own → IsFileOf shape_of b p own)

@@ -1,6 +1,6 @@
 -- Where a region stands changes by nothing else than writes of its registers, moves and resets of its function.
-use Rattle.std.proofs.Common.{◌≡◌, ◌≤◌, ℕ, zero, suc, ◌+◌, ◌*◌, ◌/◌, ◌%◌, Bool, true, false, ◌&&◌, ◌||◌, cond, eqb, List, [], ◌∷◌, length, Some, None, Option, Err, Result, refl, sym, ap, ◌∙◌, subst, arith}
-use Rattle.std.specs.Prelude.{nat_le, slice_set, IsSome, ⊤, MatchOption}
+use Rattle.std.proofs.Common.{◌≡◌, ◌≤◌, ℕ, zero, suc, ◌+◌, ◌*◌, ◌/◌, ◌%◌, Bool, true, false, ◌&&◌, ◌||◌, cond, eqb, List, [], ◌∷◌, length, Some, None, Option, Err, Result, refl, ap, ◌∙◌, arith}
+use Rattle.std.specs.Prelude.{nat_le, slice_set, IsSome}
 use Rattle.std.specs.Option.{option_map_or}
 use Rattle.std.specs.Str.{bytes_eq}
 use Rattle.std.proofs.lemmas.Bool.{or_parts, eqb-true}
@@ -8,9 +8,8 @@ use Rattle.std.proofs.lemmas.Bool.Decides.{nat_tests}
 use Rattle.lists.specs.Elements.{Each}
 use Rattle.lists.proofs.Indices.{found_at, each_at}
 use Rattle.model_registers.specs.Cell.{written}
-use Rattle.model_registers.specs.Registers.{Place, config, block, place_eq, after, File, cell_at, changed, read, write, raise, all_bytes}
-use Rattle.model_registers.specs.Declarations.{Kind, io_kind, mem32, mem64, Endpoint, registers_of, IsLawfulRegion}
-use Rattle.model_registers.specs.DeclarationRules.{IsLawfulEndpoint}
+use Rattle.model_registers.specs.Registers.{Place, config, place_eq, after, File, cell_at, changed, read, write, raise, all_bytes}
+use Rattle.model_registers.specs.Declarations.{Kind, Endpoint, registers_of, IsLawfulRegion}
 use Rattle.model_registers.specs.Decoding.{Function, base}
 use Rattle.model_registers.specs.OwnCopies.{is_own}
 use Rattle.model_registers.proofs.RegisterFiles.{place_same, change_at_place}
@@ -22,9 +21,9 @@ use Rattle.model_guests.specs.Accesses.{Event, access, raises, Access, Raise, Op
 use Rattle.model_guests.specs.Slots.{Slots, slot_at, with_file, Landing, effect, raise_place, raise_landing, affected}
 use Rattle.model_guests.specs.Text.{Text}
 use Rattle.model_guests.specs.Lone.{LoneGuest, own_latch, destination, after_access_at, after_event, filled, emptied}
-use Rattle.model_guests.specs.Guests.{GuestNow, GuestsNow, guest_named, lone_of, with_guest, guest_after, path_in, Move, handed_over, with_slot_emptied, with_slot_filled}
+use Rattle.model_guests.specs.Guests.{GuestNow, GuestsNow, guest_named, lone_of, with_guest, guest_after, Move, handed_over, with_slot_emptied, with_slot_filled}
 use Rattle.model_guests.specs.Lines.{nothing, guest_event, host_read, host_move, bad}
-use Rattle.model_guests.specs.Seated.{AreSeated, IsSeat}
+use Rattle.model_guests.specs.Seated.{AreSeated}
 use Rattle.model_guests.proofs.GuestFiles.{slot_set}
 use Rattle.model_guests.proofs.GuestsByName.{Keeps}
 use Rattle.model_guests.proofs.SeatedMoves.{seat_in}
@@ -36,6 +35,7 @@ use Rattle.model_registers.specs.DeviceBytes.{is_device_byte, with_value, set_va
 use Rattle.model_registers.proofs.DeviceBytes.{device_not_own, change_beside}
 use Rattle.model_guests.proofs.DeviceBytes.{reached, read_leaves}
 use Rattle.model_guests.proofs.OneGuest.{lone_by, still}
+use Rattle.lists.proofs.Tests.{second_false}
 use Rattle.model_handoff.specs.GuestRegions.{RegionNow, region_of, region_answer}
 use Rattle.model_handoff.specs.StayLaws.{tells_regions, any_tells, rewrites, RegionsStay}
 use Rattle.model_handoff.proofs.Landings.{same_destination, byte_goes, changed_there}
@@ -50,9 +50,7 @@ same_number f g alike [] q low high = refl
 same_number f g alike (on ∷ ons) q low high = grind (arith, same_number f g alike ons (q + 1), nat_tests)
 
 same_base : (f g : File) → Alike f g → (kind : Kind) (n : ℕ) → n + registers_of kind ≤ 6 → base f n kind ≡ base g n kind
-same_base f g alike io_kind n h = ap (λ m. m / 4 * 4) (same_number f g alike (all_bytes 4) (0x10 + 4 * n) (omega arith) (omega arith))
-same_base f g alike (mem32 pref) n h = ap (λ m. m / 16 * 16) (same_number f g alike (all_bytes 4) (0x10 + 4 * n) (omega arith) (omega arith))
-same_base f g alike (mem64 pref) n h = ap (λ m. m / 16 * 16) (same_number f g alike (all_bytes 8) (0x10 + 4 * n) (omega arith) (omega arith))
+same_base f g alike kind n h = grind (arith, same_number f g alike (all_bytes 4) (0x10 + 4 * n), same_number f g alike (all_bytes 8) (0x10 + 4 * n))
 
 -- ---- a function whose file is changed
 
@@ -83,8 +81,7 @@ kept_by_write zero x p q file none tells = refl
 kept_by_write (suc w) x p q file none tells = grind (arith, or_parts, kept_by_write w (x / 256) (after p) q (changed (written (x % 256)) p file), change_at_place, no_cell_stays, place_same)
 
 pub tells_own : (q : Place) → tells_regions q ≡ true → is_own q ≡ true
-tells_own (config off) h = grind arith
-tells_own (block n off) h = cc
+tells_own q h = grind arith
 
 -- ---- one guest
 
@@ -96,13 +93,7 @@ module _ (b : Board) (decls : HasLawfulDecls b) (gs : GuestsNow) (seated : AreSe
   Stays h = region_answer h slot n ≡ region_answer g slot n
 
   lawful_regions : (k : ℕ) (f : Function) → slot_at g.slots k ≡ Some f → Each IsLawfulRegion f.decl.regions
-  lawful_regions k f there = of_seat (path_in gs name k) (subst (IsSeat b (path_in gs name k)) there (seat_in b gs seated.guests name k))
-    where
-      of_seat : (q : Option Path) → IsSeat b q (Some f) → Each IsLawfulRegion f.decl.regions
-      of_seat None h = absurd h
-      of_seat (Some p) h =
-          let lawful : IsLawfulEndpoint f.decl = subst (λ (o : Option Endpoint). MatchOption o ⊤ IsLawfulEndpoint) h.decl (declared_lawful b decls p) in
-          lawful.regions.each
+  lawful_regions k f there = grind (arith, seat_in b gs seated.guests name k, declared_lawful b decls)
 
   by_write : (w v : ℕ) (o : Option Landing) → option_map_or (λ (l : Landing). eqb l.slot slot && any_tells w l.place) o false ≡ false
       → answer_of slot n (slot_at (effect (writes v) w g.slots o) slot) ≡ answer_of slot n (slot_at g.slots slot)
@@ -110,8 +101,7 @@ module _ (b : Board) (decls : HasLawfulDecls b) (gs : GuestsNow) (seated : AreSe
   by_write w v (Some l) none =
       changed_answer (write (all_bytes w) v l.place) l.slot slot n g.slots
       (λ here f there.
-      let other : any_tells w l.place ≡ false = ap (λ (t : Bool). t && any_tells w l.place) (sym here) ∙ none in
-      same_of f (lawful_regions slot f there) (write (all_bytes w) v l.place f.file) (λ q tells. kept_by_write w v l.place q f.file other tells) n)
+      grind (arith, same_of f (lawful_regions slot f there) (write (all_bytes w) v l.place f.file), lawful_regions slot f there, kept_by_write w v l.place))
 
   at_latch : (op : Op) (w : ℕ) → Stays (after_access_at g op w own_latch)
   at_latch op w = grind arith
@@ -129,10 +119,7 @@ module _ (b : Board) (decls : HasLawfulDecls b) (gs : GuestsNow) (seated : AreSe
   by_raise r = cases (raise_landing (slot_at g.slots r.slot) r)
     where
       cases : (o : Option Place) → answer_of slot n (slot_at (option_map_or (λ (p : Place). with_file (raise r.mask p) r.slot g.slots) o g.slots) slot) ≡ answer_of slot n (slot_at g.slots slot)
-      cases None = refl
-      cases (Some p) =
-          changed_answer (raise r.mask p) r.slot slot n g.slots
-          (λ here f there. same_of f (lawful_regions slot f there) (raise r.mask p f.file) (raised_alike r.mask p f there) n)
+      cases o = grind (arith, changed_answer, same_of, lawful_regions slot, raised_alike r.mask)
 
   -- a device writes none of the bytes that tell of regions
   by_byte : (d : DeviceByte) (v : ℕ) → answer_of slot n (slot_at (with_byte d v g.slots) slot) ≡ answer_of slot n (slot_at g.slots slot)
@@ -147,9 +134,7 @@ module _ (b : Board) (decls : HasLawfulDecls b) (gs : GuestsNow) (seated : AreSe
       cases None e = refl
       cases (Some p) e =
           let other : is_own p ≡ false = device_not_own p (place_of (slot_at g.slots d.slot) p e) in
-          changed_answer (set_value v p) d.slot slot n g.slots
-          (λ here f there. same_of f (lawful_regions slot f there) (set_value v p f.file)
-          (λ q tells. change_beside (with_value (v % 256)) f.file p q (own_elsewhere p q other tells)) n)
+          grind (arith, changed_answer (set_value v p) d.slot slot n g.slots, same_of, lawful_regions slot, change_beside (with_value (v % 256)), own_elsewhere p)
 
   pub by_device_read : (d : DeviceByte) → Stays (after_device_event g (device_reads d))
   by_device_read d = ap (λ (h : LoneGuest). region_answer h slot n) (read_leaves g d)
@@ -177,15 +162,7 @@ reset_beside g k slot n apart = grind (arith, filled_beside)
 beside : (f : GuestNow → GuestNow) → Keeps f → (k : LoneGuest → LoneGuest) → ((t : GuestNow) → (f t).lone ≡ k t.lone) → (who name : Text) (gs : GuestsNow) → IsSome (guest_named gs name) → (slot n : ℕ)
     → (bytes_eq who name ≡ true → region_answer (k (lone_of gs name)) slot n ≡ region_answer (lone_of gs name) slot n)
     → region_answer (lone_of (with_guest f who gs) name) slot n ≡ region_answer (lone_of gs name) slot n
-beside f keeps k does who name gs there slot n same =
-    ap (λ (h : LoneGuest). region_answer h slot n) (lone_by f keeps k does who name gs there) ∙ cases (bytes_eq who name) refl
-  where
-    cases : (t : Bool) → bytes_eq who name ≡ t → region_answer (cond t (k (lone_of gs name)) (lone_of gs name)) slot n ≡ region_answer (lone_of gs name) slot n
-    cases true e = same e
-    cases false e = refl
-
-asked : (a b : Bool) → (a && b) ≡ false → a ≡ true → b ≡ false
-asked a b h e = grind arith
+beside f keeps k does who name gs there slot n same = grind (arith, lone_by f keeps k does who name gs there)
 
 moved : (name : Text) (m : Move) (p : Option Path) (o : Option Function) (gs : GuestsNow) → IsSome (guest_named gs name) → (slot n : ℕ)
     → ((bytes_eq m.from name && eqb m.slot slot) || (bytes_eq m.to name && eqb m.target slot)) ≡ false
@@ -195,21 +172,21 @@ moved name m p (Some f) gs there slot n apart =
     let parts = or_parts (bytes_eq m.from name && eqb m.slot slot) (bytes_eq m.to name && eqb m.target slot) apart in
     let left : GuestsNow = with_guest (with_slot_emptied m.slot) m.from gs in
     beside (with_slot_filled m.target p f.decl) (λ t. refl) (filled m.target f.decl) (λ t. refl) m.to name left (still (with_slot_emptied m.slot) (λ t. refl) m.from name gs there) slot n
-    (λ here. filled_beside (lone_of left name) f.decl m.target slot n (asked (bytes_eq m.to name) (eqb m.target slot) parts.1 here))
+    (λ here. filled_beside (lone_of left name) f.decl m.target slot n (second_false (bytes_eq m.to name) (eqb m.target slot) parts.1 here))
     ∙ beside (with_slot_emptied m.slot) (λ t. refl) (emptied m.slot) (λ t. refl) m.from name gs there slot n
-    (λ here. emptied_beside (lone_of gs name) m.slot slot n (asked (bytes_eq m.from name) (eqb m.slot slot) parts.0 here))
+    (λ here. emptied_beside (lone_of gs name) m.slot slot n (second_false (bytes_eq m.from name) (eqb m.slot slot) parts.0 here))
 
 pub regions_stay : RegionsStay
 regions_stay b decls w seated name there slot n (asks nothing) none = refl
 regions_stay b decls w seated name there slot n (asks (guest_event who e)) none =
     beside (guest_after e) (λ t. refl) (λ (g : LoneGuest). after_event g e) (λ t. refl) who name w.guests there slot n
-    (λ here. by_event b decls w.guests seated name slot n e (asked (bytes_eq who name) (rewrites slot (lone_of w.guests name) e) none here))
+    (λ here. by_event b decls w.guests seated name slot n e (second_false (bytes_eq who name) (rewrites slot (lone_of w.guests name) e) none here))
 regions_stay b decls w seated name there slot n (asks (host_read r)) none = refl
 regions_stay b decls w seated name there slot n (asks (host_move m)) none = grind (arith, moved)
 regions_stay b decls w seated name there slot n (asks (bad who k)) none = refl
 regions_stay b decls w seated name there slot n (at_device who (resets k)) none =
     beside (device_after (resets k)) (λ t. refl) (λ (g : LoneGuest). after_device_event g (resets k)) (λ t. refl) who name w.guests there slot n
-    (λ here. reset_beside (lone_of w.guests name) k slot n (asked (bytes_eq who name) (eqb k slot) none here))
+    (λ here. reset_beside (lone_of w.guests name) k slot n (second_false (bytes_eq who name) (eqb k slot) none here))
 regions_stay b decls w seated name there slot n (at_device who (device_reads d)) none =
     beside (device_after (device_reads d)) (λ t. refl) (λ (g : LoneGuest). after_device_event g (device_reads d)) (λ t. refl) who name w.guests there slot n
     (λ here. by_device_read b decls w.guests seated name slot n d)

@@ -6,7 +6,6 @@ use Rattle.std.proofs.lemmas.List.Folds.{list_any-append}
 use Rattle.lists.specs.Elements.{Each}
 use Rattle.model_registers.specs.Registers.{File}
 use Rattle.model_registers.specs.Decoding.{Function}
-use Rattle.model_registers.specs.Declarations.{Endpoint}
 use Rattle.model_board.specs.Paths.{Path, path_eq}
 use Rattle.model_board.specs.Board.{Board}
 use Rattle.model_board.specs.AtReset.{board_at}
@@ -14,8 +13,8 @@ use Rattle.model_board.specs.State.{BoardFunction, State}
 use Rattle.model_guests.specs.Slots.{Slots}
 use Rattle.model_guests.specs.World.{Guest, World, declared}
 use Rattle.model_guests.specs.Guests.{GuestNow, GuestsNow, Move, file_in, file_of, function_in, guest_after, guest_at_first, guest_named, guests_at_first, handed_over, move_fault, path_in, with_guest, after_move}
-use Rattle.model_guests.specs.AgreedBoard.{agreed_function, with_files, state_over}
-use Rattle.model_guests.specs.Seated.{AreSeated, AreSeats, IsSeatedGuest, IsSeat}
+use Rattle.model_guests.specs.AgreedBoard.{agreed_function, with_files}
+use Rattle.model_guests.specs.Seated.{AreSeated, AreSeats, IsSeatedGuest}
 use Rattle.model_guests.proofs.AgreedChanges.{agreed_by}
 use Rattle.model_guests.proofs.Changes.{files_same, agreed_twice}
 use Rattle.model_guests.proofs.MovedFunctions.{NoFault, no_fault, moved, moved_seated, moved_before, moved_after, moved_others}
@@ -64,9 +63,7 @@ module _ (s : State) (gs : GuestsNow) (seated : AreSeated (board_at s.functions)
 
   declares : (p : Path) (o : Option File) → file_of gs p ≡ o → is_some o ≡ true → is_some (option_map file_at_reset (declared b p)) ≡ true
   declares p None e h = cc
-  declares p (Some file) e h =
-      let is = seated_file b gs p file seated.guests e in
-      ap (λ (o : Option Endpoint). is_some (option_map file_at_reset o)) is.declares
+  declares p (Some file) e h = grind (arith, seated_file b gs p file seated.guests e)
 
   has_seated : (p : Path) → is_some (file_of gs p) ≡ true → is_some (seated_files s gs p) ≡ true
   has_seated p h = grind (arith, sits_is, declares)
@@ -75,9 +72,7 @@ pub over_reset : OverReset
 over_reset s gs seated = grind (arith, functions_twice, seated_has)
 
 pub reset_shown : ResetShown
-reset_shown s gs seated =
-    ap (λ (x : Board). with_files (λ p. cond (sits gs p) (option_map file_at_reset (declared x p)) None) (state_over s gs)) (keeps_board s gs)
-    ∙ ap (λ (fs : List BoardFunction). record s { functions = fs }) (functions_twice (file_of gs) (seated_files s gs) (has_seated s gs seated) s.functions)
+reset_shown s gs seated = grind (arith, keeps_board s gs, functions_twice (file_of gs) (seated_files s gs) (has_seated s gs seated) s.functions, has_seated s gs seated)
 
 -- ---- at first
 
@@ -96,9 +91,7 @@ same_reset : (s : State) (one other : Path → Option File) → ((p : Path) → 
 same_reset s one other same = ap (λ (fs : List BoardFunction). record s { functions = fs }) (files_same one other same s.functions)
 
 pub reset_at_first : ResetAtFirst
-reset_at_first w s same =
-    same_reset s (reset_files w) (seated_files s (guests_at_first w))
-    (λ p. ap₂ (λ (t : Bool) (x : Board). cond t (option_map file_at_reset (declared x p)) None) (sits_first w w.guests p) same)
+reset_at_first w s same = grind (arith, same_reset s (reset_files w) (seated_files s (guests_at_first w)), sits_first w w.guests)
 
 -- ---- afterwards
 
@@ -133,12 +126,7 @@ module _ (s : State) (gs : GuestsNow) (seated : AreSeated (board_at s.functions)
 
   handed : (o : Option Function) → function_in gs m.from m.slot ≡ o → (x : Option Path) → path_in gs m.from m.slot ≡ x → NoFault gs m → (q : Path) → sits (handed_over m (path_in gs m.from m.slot) o gs) q ≡ sits gs q
   handed None e x i can q = refl
-  handed (Some f) e None i can q =
-      absurd (no_seat (subst (λ (y : Option Path). IsSeat (board_at s.functions) y (Some f)) i
-      (subst (IsSeat (board_at s.functions) (path_in gs m.from m.slot)) e (seat_in (board_at s.functions) gs seated.guests m.from m.slot))))
-    where
-      no_seat : IsSeat (board_at s.functions) None (Some f) → ⊥
-      no_seat h = h
+  handed (Some f) e None i can q = grind (arith, seat_in (board_at s.functions) gs seated.guests m.from m.slot)
   handed (Some f) e (Some p) i can q = sits_moved f e p i can q
 
   by_fault : (x : Option ℕ) → move_fault gs m ≡ x → (q : Path) → sits (cond (is_some x) gs (handed_over m (path_in gs m.from m.slot) (function_in gs m.from m.slot) gs)) q ≡ sits gs q

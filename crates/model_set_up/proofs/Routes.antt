@@ -46,6 +46,11 @@ next_equal (a ∷ above) x p rest h = next_equal above x p rest (right_true (par
 positive : (n : ℕ) → 0 < n → eqb n 0 ≡ false
 positive n h = grind (arith, nat_tests)
 
+pub ends_last : (p : Path) (q : Part) → ends_in (p ++ q ∷ []) q ≡ true
+ends_last [] q = part_self q
+ends_last (a ∷ []) q = part_self q
+ends_last (a ∷ c ∷ p) q = ends_last (c ∷ p) q
+
 -- ---- at most one route, in any register state
 
 flags : (c e d : Bool) → cond c e (not e) ≡ true → cond c d (not d) ≡ true → e ≡ d
@@ -187,11 +192,6 @@ module _ (b : Board) (lawful : IsBoard b) (fs : List BoardFunction) (rows : map 
     route : (rs : Path) (p t : Part) (above : Path) → target ≡ above ++ p ∷ rs → is_route fs goal above (p ∷ rs ++ t ∷ []) ≡ true
     route [] p t above e = grind (arith, self, takes_by, taken)
     route (s ∷ rs) p t above e = search (rules, takes_next, moved, and_from, route rs s t (above ++ p ∷ []) (e ∙ moved above p (s ∷ rs)))
-
-    ends_last : (p : Path) (q : Part) → ends_in (p ++ q ∷ []) q ≡ true
-    ends_last [] q = part_self q
-    ends_last (a ∷ []) q = part_self q
-    ends_last (a ∷ c ∷ p) q = ends_last (c ∷ p) q
 
     -- a cycle for the target's bus goes to no other place
     only_there : (a : Part) (rs : Path) → target ≡ a ∷ rs → (t : Part) (x : Path) → (ends_in x t && is_route fs goal [] x) ≡ path_eq x (target ++ t ∷ [])

@@ -33,7 +33,7 @@ numbers_small b few p h =
 abbrev pub HoldsNumbers : Board → Path → File → Type 0
 HoldsNumbers b p file = (secondary_register file ≡ secondary b p) × (subordinate_register file ≡ subordinate b p)
 
-byte : (k : ℕ) → k < 256 → k % 256 + 256 * 0 ≡ k
+pub byte : (k : ℕ) → k < 256 → k % 256 + 256 * 0 ≡ k
 byte k l = omega arith
 
 module _ (b : Board) (a : Apertures) (few : Enumerates b) where

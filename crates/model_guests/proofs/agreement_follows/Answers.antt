@@ -5,13 +5,4 @@ use Rattle.model_guests.proofs.Events.{event_reaches_board}
 use Rattle.model_guests.proofs.agreement_follows.Goals as goal
 
 pub returns : goal.returns
-returns c = record {
-  writes = writes_alike;
-  raises = raises_alike;
-  resets = resets_alike;
-  file = one_file;
-  function = changes_one_function;
-  latch = latch_keeps_board;
-  moves = move_resets_one_function;
-  events = event_reaches_board;
-}
+returns c = search (writes_alike, raises_alike, resets_alike, one_file, changes_one_function, latch_keeps_board, move_resets_one_function, event_reaches_board)

@@ -5,13 +5,4 @@ use Rattle.model_guests.proofs.Along.{seated_along, handoff_stays, names_stay, n
 use Rattle.model_guests.proofs.guests_stay_seated.Goals as goal
 
 pub returns : goal.returns
-returns c = record {
-  first = seated_at_first;
-  events = seated_after_events;
-  moves = seated_after_moves;
-  along = seated_along;
-  names = names_stay;
-  names_along = names_along;
-  handoff = handoff_stays;
-  index = by_index;
-}
+returns c = search (seated_at_first, seated_after_events, seated_after_moves, seated_along, names_stay, names_along, handoff_stays, by_index)

@@ -2,12 +2,4 @@ use Rattle.model_handoff.proofs.Accesses.{region_reads, region_writes, hit_acts,
 use Rattle.model_handoff.proofs.accesses_reach_files.Goals as goal
 
 pub returns : goal.returns
-returns c = record {
-  reads = region_reads;
-  writes = region_writes;
-  hits = hit_acts;
-  memory = memory_by_space;
-  ports = ports_by_space;
-  cycle_reads = cycle_reads;
-  cycle_writes = cycle_writes;
-}
+returns c = search (region_reads, region_writes, hit_acts, memory_by_space, ports_by_space, cycle_reads, cycle_writes)

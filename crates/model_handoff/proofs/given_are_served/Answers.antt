@@ -3,12 +3,4 @@ use Rattle.model_handoff.proofs.Kept.{lawful_at_first, lawful_after, lawful_alon
 use Rattle.model_handoff.proofs.given_are_served.Goals as goal
 
 pub returns : goal.returns
-returns c = record {
-  first = served_at_first;
-  events = served_after_events;
-  moves = served_after_moves;
-  faults = fault_decides;
-  lawful_first = lawful_at_first;
-  lawful_after = lawful_after;
-  lawful_along = lawful_along;
-}
+returns c = search (served_at_first, served_after_events, served_after_moves, fault_decides, lawful_at_first, lawful_after, lawful_along)

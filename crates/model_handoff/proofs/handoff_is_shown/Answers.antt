@@ -2,10 +2,4 @@ use Rattle.model_handoff.proofs.Views.{over_reset, reset_shown, reset_at_first, 
 use Rattle.model_handoff.proofs.handoff_is_shown.Goals as goal
 
 pub returns : goal.returns
-returns c = record {
-  over = over_reset;
-  shown = reset_shown;
-  first = reset_at_first;
-  events = reset_after_events;
-  moves = reset_after_moves;
-}
+returns c = search (over_reset, reset_shown, reset_at_first, reset_after_events, reset_after_moves)

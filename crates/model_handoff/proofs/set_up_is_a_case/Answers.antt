@@ -2,10 +2,4 @@ use Rattle.model_handoff.proofs.SetUpCase.{set_up_is_handoff, set_up_is_in_order
 use Rattle.model_handoff.proofs.set_up_is_a_case.Goals as goal
 
 pub returns : goal.returns
-returns c = record {
-  handoff = set_up_is_handoff;
-  order = set_up_is_in_order;
-  given = set_up_can_be_given;
-  places = set_up_places;
-  addresses = set_up_addresses;
-}
+returns c = search (set_up_is_handoff, set_up_is_in_order, set_up_can_be_given, set_up_places, set_up_addresses)
