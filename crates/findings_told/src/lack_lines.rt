@@ -1,17 +1,17 @@
 //! The lines of lacks, and the line that counts them and problems.
-ghost use Rattle.std.specs.Prelude.{OnOk, Some};
+ghost use Rattle.std.specs.Prelude.{OnOk};
 ghost use Rattle.lists.specs.Texts.{Adds};
-ghost use Rattle.model_findings.specs.ReadyText.{lack_text, lacks_text, ready_total, ready_line};
+ghost use Rattle.model_findings.specs.ReadyText.{lack_text, ready_total, ready_line};
 ghost use Rattle.findings.specs.Findings.{lack_of};
 ghost use Rattle.findings_told.specs.Lines.{lack_lines};
 ghost use Rattle.report.specs.Found.{ended};
 
+use crate::counts::Counted;
 use crate::places::ShownRegion;
 use crate::problem_lines::ProblemCount;
 use findings::Lack;
 use report::{ShownPath, TwoDigits};
 use std::alloc::AllocError;
-use std::fmt;
 
 /// Appends what is lacking.
 fn push_told(text: &mut String, lack: &Lack) -> Result<(), AllocError>
@@ -61,22 +61,6 @@ pub(crate) fn push_lacks(text: &mut String, lacks: &[Lack]) -> Result<(), AllocE
     Ok(())
 }
 
-/// Some lacks by their count.
-#[derive(Clone, Copy)]
-struct LackCount(usize);
-
-impl fmt::Display for LackCount {
-    ghost output = { λ n. Some (lacks_text n.0) };
-
-    fn fmt<W: fmt::Write>(&self, f: &mut fmt::Formatter<W>) -> fmt::Result {
-        let count = self.0;
-        if count == 1 {
-            return write!(f, "{count} lack");
-        }
-        write!(f, "{count} lacks")
-    }
-}
-
 /// Appends the line that counts problems and lacks.
 pub(crate) fn push_ready_count(
     text: &mut String,
@@ -87,7 +71,11 @@ pub(crate) fn push_ready_count(
         (ended (ready_line (ready_total problems lacks)))) }
 {
     let found = ProblemCount(problems);
-    let lacking = LackCount(lacks);
+    let lacking = Counted {
+        count: lacks,
+        one: " lack",
+        more: " lacks",
+    };
     match (problems, lacks) {
         (_, 0) => writeln!(text, "ready: {found}"),
         (0, _) => writeln!(text, "ready: {lacking}"),

@@ -8,6 +8,7 @@
 #![tactic(auto)]
 
 mod counted;
+mod counts;
 mod lack_lines;
 mod places;
 mod problem_lines;

@@ -8,6 +8,7 @@ ghost use Rattle.findings.specs.Findings.{problem_of};
 ghost use Rattle.findings_told.specs.Lines.{problem_lines};
 ghost use Rattle.report.specs.Found.{ended};
 
+use crate::counts::Counted;
 use crate::places::{Hexadecimal, Reached, ShownRegion, space_name};
 use findings::{Agent, Bdf, Problem, RegionNow};
 use paths::Path;
@@ -135,14 +136,15 @@ impl fmt::Display for ProblemCount {
     ghost output = { λ n. Some (total_text n.0) };
 
     fn fmt<W: fmt::Write>(&self, f: &mut fmt::Formatter<W>) -> fmt::Result {
-        let count = self.0;
-        if count == 0 {
-            return write!(f, "ok");
+        let problems = Counted {
+            count: self.0,
+            one: " problem",
+            more: " problems",
+        };
+        match self.0 {
+            0 => write!(f, "ok"),
+            _ => write!(f, "{problems}"),
         }
-        if count == 1 {
-            return write!(f, "{count} problem");
-        }
-        write!(f, "{count} problems")
     }
 }
 

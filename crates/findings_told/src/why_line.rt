@@ -1,11 +1,12 @@
 //! A line of why an address, a configuration number or an I/O port finds what it finds.
-ghost use Rattle.std.specs.Prelude.{OnOk, Some, map};
+ghost use Rattle.std.specs.Prelude.{OnOk, map};
 ghost use Rattle.lists.specs.Texts.{Adds};
 ghost use Rattle.model_guests.specs.Text.{text_of_lines};
-ghost use Rattle.model_lines.specs.WhyText.{total_text, why_line};
+ghost use Rattle.model_lines.specs.WhyText.{why_line};
 ghost use Rattle.report.specs.Found.{ended};
-ghost use Rattle.findings_told.specs.WhyLines.{line_text, at_reset_text};
+ghost use Rattle.findings_told.specs.WhyLines.{line_text};
 
+use crate::counts::Counted;
 use crate::places::{Reached, numbers};
 use crate::why_address_lines::{ShownAddress, ShownTold, push_forwarder};
 use crate::why_number_lines::{ShownMissing, push_not_found};
@@ -15,7 +16,6 @@ use bridge_forward::Path;
 use findings::{Bdf, Forwarder, Missing, PortUse, Told, Why, WhyNumber};
 use report::{ShownPath, TwoDigits};
 use std::alloc::AllocError;
-use std::fmt;
 
 /// A line, beside its first word.
 #[derive(Clone, Copy)]
@@ -42,36 +42,6 @@ pub(crate) enum Line<'a> {
     Total(usize),
 }
 
-/// How many regions are as at reset.
-#[derive(Clone, Copy)]
-struct AtReset(usize);
-
-impl fmt::Display for AtReset {
-    ghost output = { λ n. Some (at_reset_text n.0) };
-
-    fn fmt<W: fmt::Write>(&self, f: &mut fmt::Formatter<W>) -> fmt::Result {
-        let count = self.0;
-        let regions = if count == 1 { "region" } else { "regions" };
-        write!(f, "{count} {regions} at 0x0, closed as at reset")
-    }
-}
-
-/// How many lines there are.
-#[derive(Clone, Copy)]
-struct LineCount(usize);
-
-impl fmt::Display for LineCount {
-    ghost output = { λ n. Some (total_text n.0) };
-
-    fn fmt<W: fmt::Write>(&self, f: &mut fmt::Formatter<W>) -> fmt::Result {
-        let count = self.0;
-        if count == 1 {
-            return write!(f, "{count} line");
-        }
-        write!(f, "{count} lines")
-    }
-}
-
 /// Appends what a line says.
 fn push_said(text: &mut String, line: Line) -> Result<(), AllocError>
     ensures { OnOk result (Adds text.old text.new (line_text line.entry)) }
@@ -81,7 +51,14 @@ fn push_said(text: &mut String, line: Line) -> Result<(), AllocError>
         Line::Address(space, addr, why) => write!(text, "{}", ShownAddress { space, addr, why }),
         Line::Forwarder(forwarder) => push_forwarder(text, forwarder),
         Line::Region(space, told) => write!(text, "{}", ShownTold { space, told }),
-        Line::AtReset(count) => write!(text, "{}", AtReset(count)),
+        Line::AtReset(count) => {
+            let regions = Counted {
+                count,
+                one: " region",
+                more: " regions",
+            };
+            write!(text, "{regions} at 0x0, closed as at reset")
+        }
         Line::Number(at, why) => {
             write!(text, "{} reaches {}", numbers(*at), Reached(&why.reached))
         }
@@ -90,7 +67,14 @@ fn push_said(text: &mut String, line: Line) -> Result<(), AllocError>
         }
         Line::Missing(missing) => write!(text, "{}", ShownMissing(missing)),
         Line::NotFound(path) => push_not_found(text, path),
-        Line::Total(count) => write!(text, "{}", LineCount(count)),
+        Line::Total(count) => {
+            let lines = Counted {
+                count,
+                one: " line",
+                more: " lines",
+            };
+            write!(text, "{lines}")
+        }
     }
 }
 
