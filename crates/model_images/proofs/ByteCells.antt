@@ -73,11 +73,7 @@ written_byte b low c h =
     let kept = below (bit_and c.value (except c.writable)) (except c.clearable) (below c.value (except c.writable) h.value) in
     let taken = below b c.writable low in
     let cleared = below (bit_and c.value c.clearable) (except b) (below c.value c.clearable h.value) in
-    let most = or_lt 8 (bit_and (bit_and c.value (except c.writable)) (except c.clearable)) (bit_and b c.writable) kept taken in
-    record {
-      value = or_lt 8 (bit_or (bit_and (bit_and c.value (except c.writable)) (except c.clearable)) (bit_and b c.writable)) (bit_and (bit_and c.value c.clearable) (except b)) most cleared;
-      clearable = h.clearable;
-    }
+    grind (arith, or_lt 8 (bit_and (bit_and c.value (except c.writable)) (except c.clearable)) (bit_and b c.writable) kept taken, or_lt 8)
 
 raised_byte : (m : ℕ) → KeepsBytes (raised m)
 raised_byte m c h = record { value = or_lt 8 c.value (bit_and m c.clearable) h.value (above m c.clearable h.clearable); clearable = h.clearable }
@@ -87,11 +83,7 @@ put_byte v low c h = record { value = low; clearable = h.clearable }
 
 changed_bytes : (f : Cell → Cell) → KeepsBytes f → (p : Place) (file : File) → AreByteCells file → AreByteCells (changed f p file)
 changed_bytes f keeps p [] h = tt
-changed_bytes f keeps p (e ∷ es) h = (of (place_eq e.place p), changed_bytes f keeps p es h.1)
-  where
-    of : (t : Bool) → IsByteCell (cond t (record e { cell = f e.cell }) e).cell
-    of true = keeps e.cell h.0
-    of false = h.0
+changed_bytes f keeps p (e ∷ es) h = grind (arith, changed_bytes f keeps p es h.1)
 
 write_bytes : (ons : List Bool) (v : ℕ) (p : Place) (file : File) → AreByteCells file → AreByteCells (write ons v p file)
 write_bytes [] v p file h = h
@@ -106,13 +98,4 @@ HoldsByteCells None = ⊤
 HoldsByteCells (Some f) = HasCells f.decl → AreByteCells f.file
 
 pub byte_cells_kept : AreKept HoldsByteCells
-byte_cells_kept = record {
-  write = λ ons v p f h cells. write_bytes ons v p f.file (h cells);
-  raise = λ m p f h cells. changed_bytes (raised m) (raised_byte m) p f.file (h cells);
-  put = λ v p device f h cells. changed_bytes (with_value (v % 256)) (put_byte (v % 256) (omega arith)) p f.file (h cells);
-  reset = at_reset;
-}
-  where
-    at_reset : (o : Option Endpoint) → HoldsByteCells (reset_function o)
-    at_reset None = tt
-    at_reset (Some d) = reset_bytes d
+byte_cells_kept = grind (arith, write_bytes, changed_bytes, raised_byte, put_byte, reset_bytes)

@@ -239,11 +239,7 @@ module _ (w : WorldNow) (h : IsSavableWorld w) (k : HasKnownBytes w) (i : Machin
         ∙ sym (length-append (bytes_each cells_layout i.handoff.board i.handoff.values) (le_bytes 4 i.handoff.latch))
 
     held_judged : Judged read (read_held w (parsed i.guests (held_in i)))
-    held_judged = of (as_many_decide 907 (held_bytes under) (held_in i) as_long_held)
-      where
-        of : (after_bytes 907 (held_bytes under) (held_in i) ≡ Ok []) ⊎ (after_bytes 907 (held_bytes under) (held_in i) ≡ Err 907) → Judged read (read_held w (parsed i.guests (held_in i)))
-        of (inl e) = inl (ap (λ l. and_then (λ (rest : List ℕ). Ok read) (and_then at_end l)) e)
-        of (inr e) = inr (inr (ap (λ l. and_then (λ (rest : List ℕ). Ok read) (and_then at_end l)) e))
+    held_judged = grind (arith, as_many_decide 907 (held_bytes under) (held_in i) as_long_held, held_in i, as_long_held)
 
   machine_judged : Judged read (read_machine w (machine_bytes i))
   machine_judged = of known_decided
@@ -266,10 +262,7 @@ no_machine_is_refused w h k bytes refused = of (machine_of bytes) refl
   where
     of : (o : Option MachineImage) → machine_of bytes ≡ o → o ≡ None
     of None e = refl
-    of (Some i) e =
-        let spelled = machine_read_are_bytes bytes i e in
-        let judged = machine_judged w h k i spelled.1 in
-        let own : load_all_fault w (machine_bytes i) ≡ Some 905 = ap (load_all_fault w) (sym spelled.0) ∙ refused in absurd (grind arith)
+    of (Some i) e = grind (arith, machine_read_are_bytes bytes i e, machine_judged w h k i)
 
 pub machines_decided : MachinesDecided
 machines_decided w h can bytes i e = of (machine_judged w h can.known i spelled.1)

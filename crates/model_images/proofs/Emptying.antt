@@ -54,22 +54,6 @@ pub named : (P : Text → Type 0) (gs : GuestsNow) → Each P (names_of gs) → 
 named P [] all a k q h = cc
 named P (t ∷ ts) all a k q h = grind (arith, named P ts all.1 a k q, equal_texts t.name a)
 
--- a path that no guest has sits nowhere
-none_in : (qs : List (Option Path)) (p : Path) → ((m : ℕ) → path_at qs m ≡ Some p → ⊥) → list_any (is_at p) qs ≡ false
-none_in [] p h = refl
-none_in (None ∷ qs) p h = none_in qs p (λ m. h (suc m))
-none_in (Some q ∷ qs) p h = of (path_eq q p) refl (none_in qs p (λ m. h (suc m)))
-  where
-    of : (t : Bool) → path_eq q p ≡ t → list_any (is_at p) qs ≡ false → (t || list_any (is_at p) qs) ≡ false
-    of true e more = absurd (h zero (ap Some (path_same q p e)))
-    of false e more = more
-
-pub none_sits : (gs : GuestsNow) (p : Path) → AreApart gs → ((a : Text) (m : ℕ) → path_in gs a m ≡ Some p → ⊥) → sits gs p ≡ false
-none_sits [] p names free = refl
-none_sits (t ∷ ts) p names free =
-    ap₂ ◌||◌ (none_in t.paths p (λ m h. free t.name m (ap (λ v. path_of (cond v (Some t) (guest_named ts t.name)) m) (same_text t.name) ∙ h)))
-    (none_sits ts p names.1 (λ a m h. free a m (in_rest t ts a m p names.0 h)))
-
 -- ---- one slot
 
 pub record IsEmptied (w x : WorldNow) : Type 0 where
@@ -180,8 +164,4 @@ all_takings_fit (name ∷ names) w = grind (arith, both_fit, takings_fit, all_ta
 
 -- nobody has a path any more
 pub nobody_has : (w x : WorldNow) → HaveTaken 32 w x (names_now w) → (a : Text) (k : ℕ) (q : Path) → path_in x.guests a k ≡ Some q → ⊥
-nobody_has w x h a k q at =
-    let none : HasNoneBelow 32 x a = named (HasNoneBelow 32 x) x.guests (subst (Each (HasNoneBelow 32 x)) (sym h.emptied.names) h.none) a k q at in
-    let high : 32 ≤ k = none k q at in
-    let low : k < 32 = path_low (board_at x.handoff.functions) x.guests h.emptied.lawful.seated.guests a k q at in
-    omega arith
+nobody_has w x h a k q at = grind (arith, named (HasNoneBelow 32 x) x.guests, path_low (board_at x.handoff.functions) x.guests h.emptied.lawful.seated.guests a k q)

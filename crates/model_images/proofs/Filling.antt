@@ -34,7 +34,7 @@ use Rattle.model_handoff.specs.Regions.{AreServed, opens_region}
 use Rattle.model_handoff.specs.ViewLaws.{sits, seated_files, with_seated_reset}
 use Rattle.model_handoff.proofs.Actions.{there_after}
 use Rattle.model_handoff.proofs.Counting.{names_after}
-use Rattle.model_handoff.proofs.GivenSeats.{declared_there, some_function}
+use Rattle.model_handoff.proofs.GivenSeats.{declared_there, some_function, none_sits}
 use Rattle.model_handoff.proofs.Giving.{can_give, files_over, given_function, given_is, lawful_after_gift, shown_after_gift, shown_reset}
 use Rattle.model_handoff.proofs.OneReset.{alike}
 use Rattle.model_handoff.proofs.Views.{sits_is}
@@ -43,7 +43,7 @@ use Rattle.model_images.specs.FitLaws.{AreFittingRequests}
 use Rattle.model_images.specs.MachineImages.{SavedGuest, IsShown}
 use Rattle.model_images.specs.MachineLaws.{gifts}
 use Rattle.model_images.proofs.Machines.{OpensAlike, alike_beneath}
-use Rattle.model_images.proofs.Emptying.{after_both, both_fit, none_sits, path_low}
+use Rattle.model_images.proofs.Emptying.{after_both, both_fit, path_low}
 
 -- ---- a path that is put into an empty slot
 
@@ -57,11 +57,7 @@ kept_with : (g : GuestNow → GuestNow) (n : ℕ) (x : Option Path) → ((t : Gu
 kept_with g n x keeps sets gs name empty a k q at = ap (λ (o : Option GuestNow). path_of o k) (named_with g keeps name a gs) ∙ of (guest_named gs a) refl at
   where
     of : (o : Option GuestNow) → guest_named gs a ≡ o → path_of o k ≡ Some q → path_of (option_map (one g name) o) k ≡ Some q
-    of None e h = cc
-    of (Some t) e h =
-        let none : name ≡ t.name → path_at t.paths n ≡ None =
-        λ is. sym (ap (λ (o : Option GuestNow). path_of o n) e) ∙ ap (λ (y : Text). path_in gs y n) (sym (is ∙ name_found gs a t e)) ∙ empty in
-        grind (arith, none, equal_texts name t.name, kept_set t.paths n k x q, sets t)
+    of o e h = grind (arith, path_at, path_of, name_found gs a, equal_texts name, kept_set)
 
 -- ---- a function that has a seat is at reset beneath
 
@@ -69,11 +65,7 @@ reset_beneath : (s : State) → IsHandoff s → (gs : GuestsNow) (p : Path) (d :
     → with_seated_reset (with_reset_at p s) gs ≡ with_seated_reset s gs
 reset_beneath s handoff gs p d declares there =
     let told : seated_files s gs p ≡ Some (endpoint_reset d false) = ap₂ (λ (v : Bool) (o : Option Endpoint). cond v (option_map file_at_reset o) None) there declares in
-    let change : with_reset_at p s ≡ with_change_at (after_reset d) p s = ap (λ (o : Option Endpoint). option_map_or (λ (e : Endpoint). with_change_at (after_reset e) p s) o s) declares in
-    ap (λ (b : Board). with_files (λ q. cond (sits gs q) (option_map file_at_reset (declared b q)) None) (with_reset_at p s)) (alike s handoff p d declares).board
-    ∙ ap (with_files (seated_files s gs)) change
-    ∙ files_over d p (seated_files s gs) (seated_files s gs) (inr told) (λ q other. refl) s
-    ∙ shown_reset s gs p d declares there
+    grind (arith, declares, alike s handoff p d declares, files_over d p (seated_files s gs) (seated_files s gs) (inr told), shown_reset s gs p d declares there)
 
 pub none_closed : (s : State) (p : Path) (rs : List Region) → Each (λ (r : Region). IsTrue (opens_region s p r)) rs → list_any (λ (r : Region). not (opens_region s p r)) rs ≡ false
 none_closed s p [] h = refl
@@ -125,10 +117,7 @@ module _ (base : State) (target : GuestsNow) (seated : AreSeated (board_at base.
         (sym (function_named target name n) ∙ its_function.1))
 
     opened : has_closed_region x.handoff p d ≡ false
-    opened =
-        none_closed x.handoff p d.regions
-        (each_map (λ (r : Region). IsTrue (opens_region base p r)) (λ (r : Region). IsTrue (opens_region x.handoff p r)) d.regions (λ r k. sym (same.opens p r) ∙ k)
-        (served name n p at d declares_base))
+    opened = grind (arith, none_closed x.handoff p d.regions, each_map, same.opens p, declares_base)
 
     -- where the slot is empty, nobody else has the function, so nothing refuses it
     nobody_sits : path_in x.guests name n ≡ None → sits x.guests p ≡ false
@@ -172,13 +161,7 @@ module _ (base : State) (target : GuestsNow) (seated : AreSeated (board_at base.
 
     pub one_filled : Fills x now
     one_filled = record {
-      filled = record {
-        lawful = lawful_after_gift x h.lawful the_gift;
-        shown = shown_now;
-        beneath = beneath_now;
-        names = names_after x (gives the_gift) ∙ h.names;
-        within = within_now;
-      };
+      filled = grind (arith, lawful_after_gift x h.lawful the_gift, shown_now, beneath_now, names_after x (gives the_gift), within_now);
       keeps = keeps_now;
     }
 
@@ -205,13 +188,7 @@ module _ (base : State) (target : GuestsNow) (seated : AreSeated (board_at base.
     slots_filled : (qs : List (Option Path)) (n : ℕ) (x : WorldNow) → IsFilled x → IsSome (guest_named x.guests name)
         → ((k : ℕ) → path_in target name (n + k) ≡ path_at qs k) → FillSlots x (after_requests x (gifts name n qs)) name n qs
     slots_filled [] n x h there paths = record { fills = record { filled = h; keeps = λ a k q at. at }; has = λ k q at. cc }
-    slots_filled (None ∷ qs) n x h there paths =
-        let more = slots_filled qs (suc n) x h there (λ k. later name n k target ∙ paths (suc k)) in
-        record { fills = more.fills; has = has_rest more.has }
-      where
-        has_rest : ((k : ℕ) (q : Path) → path_at qs k ≡ Some q → path_in (after_requests x (gifts name (suc n) qs)).guests name (suc n + k) ≡ Some q)
-            → (k : ℕ) (q : Path) → path_at (None ∷ qs) k ≡ Some q → path_in (after_requests x (gifts name (suc n) qs)).guests name (n + k) ≡ Some q
-        has_rest more k q at = grind arith
+    slots_filled (None ∷ qs) n x h there paths = grind (arith, slots_filled qs (suc n) x h there, later name n, path_at)
     slots_filled (Some p ∷ qs) n x h there paths =
         let first : n + 0 ≡ n = omega arith in
         let at : path_in target name n ≡ Some p = sym (ap (path_in target name) first) ∙ paths 0 in

@@ -48,10 +48,7 @@ changed_fits f p keeps (r ∷ rs) (e ∷ es) same h = grind (arith, and_from, en
 changed_fits f p keeps rs es same h = cc
 
 change_keeps : (f : Cell → Cell) → ((c : Cell) → record (f c) { value = 0 } ≡ record c { value = 0 }) → (p : Place) → KeepsFixed f p → Keeps HoldsFitting (changed f p)
-change_keeps f bare p keeps g h = record {
-  shape = changed_shape f bare p g.file ∙ h.shape;
-  values = changed_fits f p keeps (endpoint_reset g.decl false) g.file h.shape h.values;
-}
+change_keeps f bare p keeps g h = grind (arith, changed_shape f bare p g.file, changed_fits f p keeps (endpoint_reset g.decl false) g.file h.shape h.values)
 
 fixed_kept : (f : Cell → Cell) (p : Place) → ((c : Cell) → fixed_bits c (f c).value ≡ fixed_bits c c.value) → KeepsFixed f p
 fixed_kept f p stays c = grind (arith, self)
@@ -85,10 +82,7 @@ values_with (v ∷ vs) (r ∷ rs) h = ap (λ (x : List ℕ). v ∷ x) (values_wi
 values_with vs rs h = cc
 
 restored_fits : (s : SavedFunction) → fit_cells (endpoint_reset s.decl false) s.values ≡ true → IsFittingFunction (restored s)
-restored_fits s h = record {
-  shape = shape_with s.values (endpoint_reset s.decl false);
-  values = ap (fit_cells (endpoint_reset s.decl false)) (values_with s.values (endpoint_reset s.decl false) h) ∙ h;
-}
+restored_fits s h = grind (arith, shape_with s.values (endpoint_reset s.decl false), values_with s.values (endpoint_reset s.decl false) h)
 
 -- ---- all guests
 

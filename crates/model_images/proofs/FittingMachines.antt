@@ -223,11 +223,7 @@ read_written w i written fits =
     subst (λ h. read_machine w (machine_bytes (record { handoff = h; guests = i.guests })) ≡ Ok (record { handoff = h; guests = i.guests })) fits.handoff (told_again w i fits written)
 
 read_again : (w : WorldNow) (i : MachineImage) → HasMachineBytes i → FitsMachine i w → read_machine w (machine_bytes i) ≡ Ok i
-read_again w i has fits =
-    let b = i.handoff.board in
-    let guests = left_true ((counted 2 guest_layout).fits i.guests) (fit_each cells_layout b i.handoff.values && (number 4).fits i.handoff.latch)
-    (right_true (board_layout.fits b) ((on_board b).fits (i.guests, (i.handoff.values, i.handoff.latch))) has) in
-    read_written w i (written_each (length i.guests) i.guests (right_true ((number 2).fits (length i.guests)) (fit_times guest_layout.fits (length i.guests) i.guests) guests)) fits
+read_again w i has fits = grind (arith, left_true, right_true, board_layout.fits, read_written w i, written_each)
 
 pub fitting_is_accepted : FittingIsAccepted
 fitting_is_accepted w i has fits = ap result_err (read_again w i has fits)

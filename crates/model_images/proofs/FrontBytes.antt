@@ -39,16 +39,7 @@ run_there g bytes rest h =
     }
 
 pub front_is_taken : FrontIsTaken
-front_is_taken g bytes rest h =
-    let r = run_there g bytes rest h in
-    let size = r.size in
-    let front : take (image_size g) bytes ≡ r.own = ap₂ (λ (k : ℕ) (bs : List ℕ). take k bs) (sym size) r.are ∙ take-append_seam r.own rest in
-    record {
-      enough = subst (λ (bs : List ℕ). image_size g ≤ length bs) (sym r.are) (let a = length-append r.own rest in omega (arith, a, size));
-      left = ap₂ (λ (k : ℕ) (bs : List ℕ). drop k bs) (sym size) r.are ∙ drop-append_seam r.own rest;
-      taken = ap (load_fault g) front ∙ r.accepted;
-      image = ap (taken_image g) front ∙ r.same;
-    }
+front_is_taken g bytes rest h = grind (arith, run_there g bytes rest h, take-append_seam, length-append, drop-append_seam)
 
 -- ---- of the guest's own image
 

@@ -62,10 +62,7 @@ slots_back zero (s ∷ ss) h = cc
 slots_back (suc n) (None ∷ ss) h = let more = slots_back n ss h in (ap (λ (x : List (Option SavedFunction)). None ∷ x) more.0, (tt, more.1))
 slots_back (suc n) (Some s ∷ ss) h =
     let more = slots_back n ss (right_true ((optional function_layout).fits (Some s)) (fit_times (optional function_layout).fits n ss) h) in
-    let parts = function_parts s (slot_fits s (left_true ((optional function_layout).fits (Some s)) (fit_times (optional function_layout).fits n ss) h)) in (
-      ap₂ (λ (x : SavedFunction) (xs : List (Option SavedFunction)). Some x ∷ xs) (saved_back s parts.values) more.0,
-      (record { decl = refl; values = parts.values }, more.1),
-    )
+    grind (arith, function_parts s, slot_fits s, left_true ((optional function_layout).fits (Some s)) (fit_times (optional function_layout).fits n ss) h, saved_back s)
 
 pub image_back : (i : Image) → HasBytes i → image_of_lone (lone_of_image i) ≡ i
 image_back i has = ap (λ (ss : List (Option SavedFunction)). record { latch = i.latch; slots = ss }) (slots_back 32 i.slots (parts_of i has).slots).0

@@ -65,10 +65,7 @@ module _ (H : Option Function → Type 0) (kept : AreKept H) where
   effect_holds v w fs (Some l) h = with_file_holds (write (all_bytes w) v l.place) (kept.write (all_bytes w) v l.place) l.slot fs h
 
   pub access_holds : (g : LoneGuest) (op : Op) (w : ℕ) (d : Destination) → Has H g → Has H (after_access_at g op w d)
-  access_holds g reads w d h = h
-  access_holds g (writes v) w own_latch h = record { latch = latched_twice v; functions = h.functions }
-  access_holds g (writes v) w no_function h = h
-  access_holds g (writes v) w (at_target t) h = record { latch = h.latch; functions = effect_holds v w g.slots (landing g.slots t) h.functions }
+  access_holds g op w d h = grind (arith, latched_twice, effect_holds)
 
   raised_holds : (r : Raise) (fs : Slots) (o : Option Place) → Each H fs → Each H (option_map_or (λ (p : Place). with_file (raise r.mask p) r.slot fs) o fs)
   raised_holds r fs None h = h

@@ -71,10 +71,7 @@ module _ {A : Type 0} (L : Layout A) (l : IsLayout L) where
 
   times_spells : (n : ℕ) (bs : List ℕ) (p : Parsed (List A)) → parse_times L.parse n bs ≡ Some p → Spells (repeated n L) bs p
   times_spells zero bs p h = subst (Spells (repeated 0 L) bs) (same_Some (parsed [] bs) p h) (record { fits = refl; bytes = refl })
-  times_spells (suc n) bs p h =
-      let q = from_next (λ (p : Parsed A). option_map (before p.value) (parse_times L.parse n p.rest)) (L.parse bs) p h in
-      let r = from_map (before q.0.value) (parse_times L.parse n q.0.rest) p q.2 in
-      subst (Spells (repeated (suc n) L) bs) r.2 (times_more n bs q.0 r.0 (l.spells bs q.0 q.1) (times_spells n q.0.rest r.0 r.1))
+  times_spells (suc n) bs p h = grind (arith, from_next, L.parse bs, from_map, times_more n bs, l.spells bs, times_spells n)
 
   pub repeated_is : (n : ℕ) → IsLayout (repeated n L)
   repeated_is n = record { are_bytes = times_bytes; again = times_again n; spells = times_spells n }
@@ -129,10 +126,7 @@ module _ {A B : Type 0} (L : A → Layout B) (l : (x : A) → IsLayout (L x)) wh
 
   each_spells : (xs : List A) (bs : List ℕ) (p : Parsed (List B)) → parse_each L xs bs ≡ Some p → Spells (for_each L xs) bs p
   each_spells [] bs p h = subst (Spells (for_each L []) bs) (same_Some (parsed [] bs) p h) (record { fits = refl; bytes = refl })
-  each_spells (x ∷ xs) bs p h =
-      let q = from_next (λ (p : Parsed B). option_map (before p.value) (parse_each L xs p.rest)) ((L x).parse bs) p h in
-      let r = from_map (before q.0.value) (parse_each L xs q.0.rest) p q.2 in
-      subst (Spells (for_each L (x ∷ xs)) bs) r.2 (each_more x xs bs q.0 r.0 ((l x).spells bs q.0 q.1) (each_spells xs q.0.rest r.0 r.1))
+  each_spells (x ∷ xs) bs p h = grind (arith, from_next, from_map, each_more x xs bs, each_spells xs)
 
   pub for_each_is : (xs : List A) → IsLayout (for_each L xs)
   for_each_is xs = record { are_bytes = each_bytes xs; again = each_again xs; spells = each_spells xs }
@@ -160,12 +154,4 @@ module _ {A : Type 0} (L : Layout A) (l : IsLayout L) where
       ap (λ (bs : List ℕ). whole L bs) (sym (append-nil (L.bytes x))) ∙ ap (option_and_then (λ (p : Parsed A). if_no_rest p.value p.rest)) (l.again x [] h)
 
   pub whole_spells : (bs : List ℕ) (x : A) → whole L bs ≡ Some x → (bs ≡ L.bytes x) × IsTrue (L.fits x)
-  whole_spells bs x h =
-      let p = from_next (λ (q : Parsed A). if_no_rest q.value q.rest) (L.parse bs) x h in
-      let s = l.spells bs p.0 p.1 in of p.0.value p.0.rest s.bytes s.fits p.2
-    where
-      of : (y : A) (rest : List ℕ) → bs ≡ L.bytes y ++ rest → IsTrue (L.fits y) → if_no_rest y rest ≡ Some x → (bs ≡ L.bytes x) × IsTrue (L.fits x)
-      of y (b ∷ rest) e f i = cc
-      of y [] e f i =
-          let same : y ≡ x = same_Some y x i in
-          (e ∙ append-nil (L.bytes y) ∙ ap (λ (z : A). L.bytes z) same, subst (λ (z : A). IsTrue (L.fits z)) same f)
+  whole_spells bs x h = grind (arith, from_next, L.parse bs, l.spells bs, L.fits, same_Some, append-nil, L.bytes)

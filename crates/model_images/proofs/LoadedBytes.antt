@@ -81,11 +81,7 @@ prefix_decided {A} L l x y fits too k rest = of (compared k (L.bytes y) (L.bytes
 
     of : ((r : List ℕ) × Follows k (L.bytes y) (L.bytes x ++ rest) r) ⊎ ((after_bytes k (L.bytes y) (L.bytes x ++ rest) ≡ Err k) ⊎ FallsShort (L.bytes y) (L.bytes x ++ rest))
         → (x ≡ y) ⊎ (after_bytes k (L.bytes y) (L.bytes x ++ rest) ≡ Err k)
-    of (inl m) = inl (ap (λ (p : Parsed A). p.value) (read x y rest m.0 fits too m.1.are))
-    of (inr (inl e)) = inr e
-    of (inr (inr m)) =
-        absurd (none_left rest m.rest m.next (ap (λ (p : Parsed A). p.rest)
-        (read y x [] (rest ++ m.next ∷ m.rest) too fits (append-nil (L.bytes y) ∙ m.are ∙ append_assoc (L.bytes x) rest (m.next ∷ m.rest)))))
+    of h = grind (arith, read x y rest, none_left rest, read y x, append-nil (L.bytes y), L.bytes y, append_assoc (L.bytes x) rest, L.bytes x)
 
 -- ---- values
 
@@ -114,14 +110,7 @@ slot_decided : (s : Option SavedFunction) (f : Option Function) (rest : List ℕ
 slot_decided None None rest h k = inl tt
 slot_decided None (Some f) rest h k = inr refl
 slot_decided (Some s) None rest h k = inr refl
-slot_decided (Some s) (Some f) rest h k = of (prefix_decided endpoint_layout endpoint_is s.decl f.decl parts.decl (endpoint_fits f.decl k) 906 (s.values ++ rest))
-  where
-    parts : FunctionParts s
-    parts = function_parts s (slot_fits s h)
-
-    of : (s.decl ≡ f.decl) ⊎ (after_bytes 906 (declaration_bytes f.decl) (declaration_bytes s.decl ++ (s.values ++ rest)) ≡ Err 906) → FitsSlot (Some s) (Some f) ⊎ (after_slot (Some f) (slot_bytes (Some s) ++ rest) ≡ Err 906)
-    of (inl same) = inl (record { decl = same; values = parts.values })
-    of (inr e) = inr (ap (after_slot (Some f)) (function_bytes s rest parts) ∙ ap (then_read (after_values (endpoint_reset f.decl false))) e)
+slot_decided (Some s) (Some f) rest h k = grind (arith, prefix_decided endpoint_layout endpoint_is s.decl f.decl, endpoint_is, endpoint_fits f.decl k, function_parts s (slot_fits s h), slot_fits s h, function_bytes s rest)
 
 -- slots that fit are taken, whatever follows
 pub fitting_slot : (s : Option SavedFunction) (f : Option Function) (rest : List ℕ) → (optional function_layout).fits s ≡ true → FitsSlot s f → after_slot f (slot_bytes s ++ rest) ≡ Ok rest
@@ -165,14 +154,7 @@ fitting_front g i has fits rest =
 
 -- what doesn't fit is refused as another guest's
 pub front_decided : (g : LoneGuest) → IsDeclaredGuest g → (i : Image) → HasBytes i → (rest : List ℕ) → Fits i g ⊎ (after_image_front g (image_bytes i ++ rest) ≡ Err 906)
-front_decided g declared i has rest = of (slots_decided 32 i.slots g.slots rest parts.slots declared.count declared.functions)
-  where
-    parts : HasParts i
-    parts = parts_of i has
-
-    of : FitSlots i.slots g.slots ⊎ (after_slots_front g.slots (slots_bytes i.slots ++ rest) ≡ Err 906) → Fits i g ⊎ (after_image_front g (image_bytes i ++ rest) ≡ Err 906)
-    of (inl m) = inl (record { latch = parts.latched; slots = m })
-    of (inr m) = inr (ap (then_read (after_slots_front g.slots)) (latch_taken i.latch (slots_bytes i.slots ++ rest) parts.latch_fits parts.latched) ∙ m)
+front_decided g declared i has rest = grind (arith, slots_decided 32 i.slots g.slots rest, parts_of i has, latch_taken i.latch (slots_bytes i.slots ++ rest))
 
 -- nothing follows
 pub slots_end : (fs : Slots) (bytes : List ℕ) → after_slots fs bytes ≡ then_read at_end (after_slots_front fs bytes)

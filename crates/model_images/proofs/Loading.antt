@@ -68,10 +68,7 @@ fitting_seats b (q ∷ qs) (s ∷ ss) (f ∷ fs) k h = (seat q s f k.0 h.0, fitt
   where
     seat : (q : Option Path) (s : Option SavedFunction) (f : Option Function) → FitsSlot s f → IsSeat b q f → IsSeat b q (option_map restored s)
     seat q None None k h = h
-    seat (Some p) (Some s) (Some f) k h = record {
-      decl = h.decl ∙ ap (λ x. Some x) (sym k.decl);
-      shape = shape_with s.values (endpoint_reset s.decl false);
-    }
+    seat (Some p) (Some s) (Some f) k h = grind (arith, shape_with s.values (endpoint_reset s.decl false))
     seat q s f k h = grind arith
 
 -- ---- one guest of a world
@@ -144,12 +141,7 @@ pub seated_after_load : SeatedAfterLoad
 seated_after_load b w h name i fits = grind (arith, names_stay, each_with, fitting_seats, lone_found, paths_after_load)
 
 pub lawful_after_load : LawfulAfterLoad
-lawful_after_load w h name i fits = record {
-  handoff = h.handoff;
-  order = h.order;
-  seated = seated_after_load (board_at w.handoff.functions) w h.seated name i fits;
-  served = served_with (loaded i) (λ t. refl) (λ t. refl) w.handoff w.guests h.served name;
-}
+lawful_after_load w h name i fits = grind (arith, seated_after_load (board_at w.handoff.functions) w h.seated name i fits, served_with (loaded i))
 
 pub shown_after_load : ShownAfterLoad
 shown_after_load w name i = reset_with (loaded i) (λ t. refl) w.handoff w.guests name

@@ -99,12 +99,7 @@ abbrev pub held_in : MachineImage → List ℕ
 held_in i = bytes_each cells_layout i.handoff.board i.handoff.values ++ le_bytes 4 i.handoff.latch
 
 pub parts_bytes : (i : MachineImage) → machine_bytes i ≡ machine_header ++ ((board_layout.bytes i.handoff.board ++ le_bytes 2 (length i.guests)) ++ (flat_map guest_layout.bytes i.guests ++ held_in i))
-parts_bytes i =
-    let board = board_layout.bytes i.handoff.board in
-    let count = le_bytes 2 (length i.guests) in
-    let guests = flat_map guest_layout.bytes i.guests in
-    ap (λ (bs : List ℕ). machine_header ++ (board ++ bs)) (append_assoc count guests (held_in i))
-    ∙ ap (λ (bs : List ℕ). machine_header ++ bs) (sym (append_assoc board count (guests ++ held_in i)))
+parts_bytes i = grind (arith, board_layout.bytes, append_assoc)
 
 module _ (s : State) (gs : List SavedGuest) where
   abbrev pub told : MachineImage

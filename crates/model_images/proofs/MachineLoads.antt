@@ -35,7 +35,8 @@ use Rattle.model_images.proofs.Counts.{lawful_along_requests, world_along}
 use Rattle.model_images.proofs.Loading.{others_after_load}
 use Rattle.model_images.proofs.Fitting.{fitting_along}
 use Rattle.model_images.proofs.Machines.{OpensAlike, opens_alike, served_alike, shown_after_load_all}
-use Rattle.model_images.proofs.Emptying.{after_both, both_fit, none_sits, HaveTaken, all_takings, all_emptied, all_takings_fit, nobody_has}
+use Rattle.model_handoff.proofs.GivenSeats.{none_sits}
+use Rattle.model_images.proofs.Emptying.{after_both, both_fit, HaveTaken, all_takings, all_emptied, all_takings_fit, nobody_has}
 use Rattle.model_images.proofs.Filling.{IsFilled, FillGuests, HasAll, IsWanted, all_gifts, all_gifts_fit, guests_filled}
 
 -- ---- files put in where nobody sits, and where the same paths sit
@@ -231,13 +232,7 @@ module _ (i : MachineImage) (w : WorldNow) (h : IsLawfulOver w) (fits : FitsMach
   names_there = names_restored i.guests ∙ fits.names
 
   start : IsFilled base target seated served x
-  start = record {
-    lawful = taken.emptied.lawful;
-    shown = shown_there;
-    beneath = ap (λ (s : State). with_seated_reset s target) (sym shown_there ∙ taken.emptied.shown);
-    names = taken.emptied.names ∙ sym names_there;
-    within = λ a k q at. absurd (nobody_has w x taken a k q at);
-  }
+  start = grind (arith, shown_there, names_there, nobody_has w x taken, taken)
 
   apart : ApartSaved i.guests
   apart = saved_apart i.guests fits.seated.names_apart

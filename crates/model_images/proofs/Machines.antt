@@ -49,13 +49,7 @@ opens_alike files s = grind (arith, rows_stay, command_at)
 
 -- two states that are the same with files in them
 pub alike_beneath : (one other : Path → Option File) (s t : State) → with_files one s ≡ with_files other t → OpensAlike s t
-alike_beneath one other s t same =
-    let first = opens_alike one s in
-    let second = opens_alike other t in
-    record {
-      board = sym first.board ∙ ap (λ (x : State). board_at x.functions) same ∙ second.board;
-      opens = λ p r. sym (first.opens p r) ∙ ap (λ (x : State). opens_region x p r) same ∙ second.opens p r;
-    }
+alike_beneath one other s t same = grind (arith, opens_alike one s, opens_alike other t)
 
 each_open : (s t : State) → OpensAlike s t → (p : Path) (rs : List Region) → Each (λ (r : Region). IsTrue (opens_region s p r)) rs → Each (λ (r : Region). IsTrue (opens_region t p r)) rs
 each_open s t alike p rs h = grind (arith, each_map)
@@ -70,10 +64,7 @@ put_twice o f = grind (arith, agreed_twice)
 
 functions_twice : (files : Path → Option File) (fs : List BoardFunction) → map (agreed_function files) (map (agreed_function files) fs) ≡ map (agreed_function files) fs
 functions_twice files [] = refl
-functions_twice files (f ∷ fs) =
-    ap₂ (λ (x : BoardFunction) (xs : List BoardFunction). x ∷ xs)
-    (ap (λ (p : Path). agreed_by (files p) (agreed_by (files f.path) f)) (path_stays (files f.path) f) ∙ put_twice (files f.path) f)
-    (functions_twice files fs)
+functions_twice files (f ∷ fs) = grind (arith, agreed_by, agreed_by (files f.path) f, path_stays (files f.path) f, put_twice (files f.path) f, functions_twice files fs)
 
 pub reset_twice : (s : State) (gs : GuestsNow) → with_seated_reset (with_seated_reset s gs) gs ≡ with_seated_reset s gs
 reset_twice s gs = grind (arith, rows_stay, functions_twice)
@@ -169,15 +160,4 @@ saved_machine_fits w v h k fitting like =
     let back : gs ≡ w.guests = saved_guests_back w h.lawful in
     let over = opens_alike (seated_files (shown_handoff v) gs) (shown_handoff v) in
     let under = opens_alike (seated_files v.handoff v.guests) v.handoff in
-    let same : handoff_under (image_of_machine w) v ≡ w.handoff = handoff_alike w v h k like in
-    let alike : OpensAlike w.handoff v.handoff = record {
-      board = ap (λ (x : State). board_at x.functions) (sym same) ∙ over.board ∙ under.board;
-      opens = λ p r. ap (λ (x : State). opens_region x p r) (sym same) ∙ over.opens p r ∙ under.opens p r;
-    } in
-    record {
-      handoff = like.handoff;
-      names = names_saved w.guests ∙ like.names;
-      seated = subst (λ (b : Board). AreSeated b gs) alike.board (subst (AreSeated (board_at w.handoff.functions)) (sym back) h.lawful.seated);
-      served = subst (AreServed v.handoff) (sym back) (served_alike w.handoff v.handoff alike w.guests h.lawful.served);
-      held = guests_hold w.guests fitting;
-    }
+    grind (arith, handoff_alike w v h k like, over.opens, under.opens, names_saved w.guests, served_alike w.handoff v.handoff, guests_hold w.guests fitting)

@@ -28,18 +28,7 @@ spells_more k b bs q low s = grind (arith, ltb-true, pow-suc, lt-ltb)
 pub number_spells : (k : ℕ) (bs : List ℕ) (p : Parsed ℕ) → parse_number k bs ≡ Some p → Spells (number k) bs p
 number_spells zero bs p h = subst (Spells (number 0) bs) (same_Some (parsed 0 bs) p h) (record { fits = refl; bytes = refl })
 number_spells (suc k) [] p h = cc
-number_spells (suc k) (b ∷ bs) p h = cases (nat_lt b 256) refl h (number_spells k bs)
-  where
-    cases : (t : Bool) → nat_lt b 256 ≡ t → cond t (option_map (raised_number b) (parse_number k bs)) None ≡ Some p → ((q : Parsed ℕ) → parse_number k bs ≡ Some q → Spells (number k) bs q)
-        → Spells (number (suc k)) (b ∷ bs) p
-    cases false e i more = cc
-    cases true e i more =
-        let q = from_map (raised_number b) (parse_number k bs) p i in
-        subst (Spells (number (suc k)) (b ∷ bs)) q.2 (spells_more k b bs q.0 (ltb-true b 256 e) (more q.0 q.1))
+number_spells (suc k) (b ∷ bs) p h = grind (arith, number_spells k bs, from_map (raised_number b) (parse_number k bs) p, spells_more k b bs, ltb-true b 256)
 
 pub number_is : (k : ℕ) → IsLayout (number k)
-number_is k = record {
-  are_bytes = number_bytes k;
-  again = λ n rest h. number_again k n rest (ltb-true n (256 ^ k) h);
-  spells = number_spells k;
-}
+number_is k = grind (arith, number_bytes k, number_again k, ltb-true, number_spells k)

@@ -40,16 +40,7 @@ pub record Decides (w : WorldNow) (name : Text) (r : Request) (more : List OwnIn
   pub tells : all_told_alone (lone_of w.guests name) (inputs_of_request name w r ++ more) ≡ told_of name w r ++ all_told_alone (lone_of (after_request w r).guests name) more
 
 action_decides : (w : WorldNow) (name : Text) → IsSome (guest_named w.guests name) → (a : Action) (more : List OwnInput) → Decides w name (acts a) more
-action_decides w name there a more =
-    let one = isolated_by_actions w name there (a ∷ []) in
-    let is : List CallInput = inputs_of_action name w a in
-    let same = append-nil is in
-    let holds : lone_of (after_action w a).guests name ≡ after_own_calls (lone_of w.guests name) is = one.holds ∙ ap (after_own_calls (lone_of w.guests name)) same in
-    let tells : told_by name w a ≡ all_alone_told (lone_of w.guests name) is = sym (append-nil (told_by name w a)) ∙ one.replies ∙ ap (all_alone_told (lone_of w.guests name)) same in
-    record {
-      holds = acted_holds is (lone_of w.guests name) more ∙ ap (λ (g : LoneGuest). after_all_own g more) (sym holds);
-      tells = acted_tells is (lone_of w.guests name) more ∙ cc (holds, tells);
-    }
+action_decides w name there a more = grind (arith, isolated_by_actions w name there (a ∷ []), append-nil, append-nil (told_by name w a), acted_holds, acted_tells)
 
 loaded_now : (w : WorldNow) (n name : Text) (i : Image) → IsSome (guest_named w.guests name) → lone_of (after_request w (loads n i)).guests name ≡ cond (bytes_eq n name) (lone_of_image i) (lone_of w.guests name)
 loaded_now w n name i there = lone_by (loaded i) (λ t. refl) (λ (g : LoneGuest). lone_of_image i) (λ t. refl) n name w.guests there
@@ -64,19 +55,7 @@ restarted_now w n name there = loaded_now w n name (image_of_lone (at_reset (lon
     by t e = grind (arith, lone_reset_back, equal_texts)
 
 restart_decides : (w : WorldNow) (name : Text) → IsSome (guest_named w.guests name) → (n : Text) (more : List OwnInput) → Decides w name (restarts n) more
-restart_decides w name there n more = record {
-  holds = by (bytes_eq n name) ∙ ap (λ (g : LoneGuest). after_all_own g more) (sym now);
-  tells = told (bytes_eq n name) ∙ ap (λ (g : LoneGuest). all_told_alone g more) (sym now);
-}
-  where
-    now : lone_of (after_request w (restarts n)).guests name ≡ cond (bytes_eq n name) (at_reset (lone_of w.guests name)) (lone_of w.guests name)
-    now = restarted_now w n name there
-
-    by : (t : Bool) → after_all_own (lone_of w.guests name) (cond t (restarted ∷ []) [] ++ more) ≡ after_all_own (cond t (at_reset (lone_of w.guests name)) (lone_of w.guests name)) more
-    by t = grind arith
-
-    told : (t : Bool) → all_told_alone (lone_of w.guests name) (cond t (restarted ∷ []) [] ++ more) ≡ all_told_alone (cond t (at_reset (lone_of w.guests name)) (lone_of w.guests name)) more
-    told t = grind arith
+restart_decides w name there n more = grind (arith, restarted_now w n name there)
 
 decides : (w : WorldNow) (name : Text) → IsSome (guest_named w.guests name) → (r : Request) (more : List OwnInput) → Decides w name r more
 decides w name there (acts a) more = action_decides w name there a more
@@ -103,7 +82,4 @@ isolated_by_requests w name there rs = record { replies = all_tell rs w name the
 pub answers_as_saved : AnswersAsSaved
 answers_as_saved w v from to is ones others same =
     let there = still (loaded (image_of_lone (lone_of w.guests from))) (λ t. refl) to to v.guests is.second in
-    let lone : lone_of (copied from w to v).guests to ≡ lone_of w.guests from = holds_as_saved w v from to is in
-    let one = isolated_by_requests w from is.first ones in
-    let other = isolated_by_requests (copied from w to v) to there others in
-    record { replies = cc (one.replies, other.replies); holds = cc (one.holds, other.holds) }
+    grind (arith, holds_as_saved w v from to is, isolated_by_requests w from is.first ones, isolated_by_requests (copied from w to v) to there others)

@@ -9,7 +9,7 @@ use Rattle.model_registers.specs.Registers.{Place, after, PlacedCell, File, chan
 use Rattle.model_registers.specs.DeviceBytes.{with_value}
 use Rattle.model_registers.specs.CopiedFiles.{places_of}
 use Rattle.model_registers.proofs.RegisterFiles.{place_turned, self}
-use Rattle.model_guests.proofs.DistinctPlaces.{Apart}
+use Rattle.model_guests.proofs.DistinctPlaces.{Apart, places_append}
 use Rattle.model_images.specs.Images.{with_values, can_hold, fit_cells}
 use Rattle.model_images.specs.StepLaws.{run, written_run, put_run}
 use Rattle.model_images.proofs.Settling.{Way, keeps, writes, puts, becomes, Settles, from}
@@ -47,10 +47,6 @@ change_none f p (e ∷ es) apart = grind (arith, place_turned, change_none f p e
 
 change_first : (f : Cell → Cell) (p : Place) (e : PlacedCell) (es : File) → e.place ≡ p → ApartFrom (places_of es) e.place → changed f p (e ∷ es) ≡ record e { cell = f e.cell } ∷ es
 change_first f p e es at apart = grind (arith, change_none, self)
-
-places_append : (es file : File) → places_of (es ++ file) ≡ places_of es ++ places_of file
-places_append [] file = refl
-places_append (e ∷ es) file = ap (λ (ps : List Place). e.place ∷ ps) (places_append es file)
 
 segment_changes : (way : Way) (vs : List ℕ) (p : Place) (es file : File) → places_of es ≡ from p (length vs) → Each (Settles way) es → EachPair Apart (places_of (es ++ file)) → fit_cells es vs ≡ true → AreBytes vs
     → changing (becomes way) vs p (es ++ file) ≡ with_values vs es ++ file

@@ -60,11 +60,7 @@ region_fits r h =
     (and_from ((number 8).fits r.size) ((counted 2 cell_layout).fits r.cells) (lt-ltb r.size (256 ^ 8) size) cells))
 
 block_fits : (b : ConfigBlock) → IsConfigBlock b → Each IsCell b.cells → block_layout.fits b ≡ true
-block_fits b h k =
-    let offset : b.offset < 256 = let a = h.not_empty in let c = h.ends in omega arith in
-    let few : length b.cells < 256 ^ 1 = let a = h.begins in let c = h.ends in omega arith in
-    and_from ((number 1).fits b.offset) ((counted 1 cell_layout).fits b.cells) (lt-ltb b.offset 256 offset)
-    (counted_fit 1 cell_layout b.cells few (each_map IsCell (λ c. cell_layout.fits c ≡ true) b.cells cell_fits k))
+block_fits b h k = grind (arith, and_from, lt-ltb, counted_fit 1 cell_layout b.cells, each_map IsCell, cell_layout.fits, cell_fits)
 
 -- ---- how many there are
 
@@ -111,12 +107,7 @@ masked : (n m : ℕ) → bit_and n m ≡ n → n < m + 1
 masked n m h = let a = and_le_r n m in let low : n ≤ m = subst (λ x. x ≤ m) h a in omega arith
 
 pub endpoint_fits : (d : Endpoint) → IsDeclared d → endpoint_layout.fits d ≡ true
-endpoint_fits d h =
-    let many_regions : length d.regions < 256 ^ 1 = let a = region_count d h.lawful in omega arith in
-    let many_blocks : length d.blocks < 256 ^ 1 = let a = block_count d h.lawful in omega arith in
-    let regions = counted_fit 1 region_layout d.regions many_regions (regions_fit d.regions h.lawful.regions.each h.lawful.region_blocks h.cells.regions) in
-    let blocks = counted_fit 1 block_layout d.blocks many_blocks (blocks_fit d.blocks h.lawful.config_blocks h.cells.blocks) in
-    numbers regions blocks
+endpoint_fits d h = grind (arith, region_count d h.lawful, block_count d h.lawful, counted_fit 1 region_layout, regions_fit, counted_fit 1 block_layout, blocks_fit, numbers)
   where
     regions_fit : (rs : List Region) → Each IsLawfulRegion rs → Each (λ r. length r.cells ≤ 4096) rs → Each (λ (r : Region). Each IsCell r.cells) rs → Each (λ r. region_layout.fits r ≡ true) rs
     regions_fit [] a b c = tt

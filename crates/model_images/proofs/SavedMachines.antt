@@ -1,4 +1,5 @@
 -- A machine that was saved is loaded.
+use Rattle.std.proofs.Common.{arith}
 use Rattle.std.proofs.Common.{◌≡◌, List, [], ◌∷◌, ◌∙◌, refl, sym, ap, map}
 use Rattle.std.specs.Result.{result_err}
 use Rattle.lists.specs.Elements.{Each}
@@ -14,6 +15,7 @@ use Rattle.model_handoff.proofs.Counting.{names_after}
 use Rattle.model_images.specs.FitLaws.{AreFitting}
 use Rattle.model_images.specs.Images.{image_of_lone, at_reset}
 use Rattle.model_images.specs.Requests.{Request, acts, loads, restarts, after_request, after_requests}
+use Rattle.model_images.proofs.Counts.{names_stay}
 use Rattle.model_images.proofs.Loading.{names_after_load}
 use Rattle.model_images.specs.MachineImages.{image_of_machine, saved_guest}
 use Rattle.model_images.proofs.Machines.{load_after_save, saved_machine_fits, shown_alike}
@@ -43,17 +45,7 @@ takes_saved_machine w v h can k like =
 -- ---- the same machine later
 
 handoff_kept : (w : WorldNow) (r : Request) → KeepsHandoff r → (after_request w r).handoff ≡ w.handoff
-handoff_kept w (acts (calls (asks m))) keeps = refl
-handoff_kept w (acts (calls (at_device n e))) keeps = refl
-handoff_kept w (acts (gives g)) keeps = absurd keeps
-handoff_kept w (acts (takes n k)) keeps = absurd keeps
-handoff_kept w (loads n i) keeps = refl
-handoff_kept w (restarts n) keeps = refl
-
-names_kept : (w : WorldNow) (r : Request) → names_now (after_request w r) ≡ names_now w
-names_kept w (acts a) = names_after w a
-names_kept w (loads n i) = names_after_load w n i
-names_kept w (restarts n) = names_after_load w n (image_of_lone (at_reset (lone_of w.guests n)))
+handoff_kept w r keeps = grind arith
 
 record IsLike (w v : WorldNow) : Type 0 where
   pub handoff : v.handoff ≡ w.handoff
@@ -63,7 +55,7 @@ like_along : (w : WorldNow) (rs : List Request) → Each KeepsHandoff rs → IsL
 like_along w [] keep = record { handoff = refl; names = refl }
 like_along w (r ∷ rs) keep =
     let more = like_along (after_request w r) rs keep.1 in
-    record { handoff = more.handoff ∙ handoff_kept w r keep.0; names = more.names ∙ names_kept w r }
+    record { handoff = more.handoff ∙ handoff_kept w r keep.0; names = more.names ∙ names_stay w r }
 
 pub takes_its_own : TakesItsOwn
 takes_its_own w h can rs keep k =

@@ -83,10 +83,7 @@ module _ (s : State) where
   each_opens p (r ∷ rs) h = grind (arith, each_opens p rs)
 
   opens_there : (taken : List Path) (p : Path) → CanSit taken p → HasOpenRegions s p
-  opens_there taken p c d e =
-      let there = c.declares in
-      let same : c.decl ≡ d = cc (there, e) in
-      subst (λ (x : Endpoint). Each (λ (r : Region). IsTrue (opens_region s p r)) x.regions) same (each_opens p c.decl.regions c.opened)
+  opens_there taken p c d e = grind (arith, each_opens p c.decl.regions c.opened)
 
   slot_opens : (qs : List (Option Path)) (taken : List Path) → AllFree s taken qs → (k : ℕ) (p : Path) → path_at qs k ≡ Some p → HasOpenRegions s p
   slot_opens (Some q ∷ qs) taken free zero p h = let same : q ≡ p = cc in subst (HasOpenRegions s) same (opens_there taken q (can_sit taken q free.0))

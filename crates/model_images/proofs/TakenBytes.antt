@@ -107,10 +107,7 @@ module _ (f : Function) (values : List ℕ) (count : length values ≡ length (e
     fits = subst (λ (o : Option SavedFunction). FitsSlot o (Some f)) (sym (is rest)) (record { decl = refl; values = fit });
     spelled = λ all declared.
         let p = parts (each_parts (λ b. b < 256) tagged values (each_parts (λ b. b < 256) (tagged ++ values) rest all).0).1 declared in
-        let its = function_bytes s [] p in (
-          sym (ap (λ (o : Option SavedFunction). slot_bytes o) (is rest) ∙ sym (append-nil (slot_bytes (Some s))) ∙ its ∙ ap (λ (vs : List ℕ). tagged ++ vs) (append-nil values)),
-          ap (λ (o : Option SavedFunction). (optional function_layout).fits o) (is rest) ∙ ap (λ t. (t && true) && true) (parts_fit s p),
-        );
+        let its = function_bytes s [] p in grind (arith, slot_bytes, is rest, append-nil (slot_bytes (Some s)), slot_bytes (Some s), append-nil values, parts_fit s p);
   }
 
 pub taken : (f : Option Function) (bytes rest : List ℕ) → after_slot f bytes ≡ Ok rest → IsTaken f bytes rest
@@ -213,18 +210,7 @@ pub opened : (g : LoneGuest) (bytes rest : List ℕ) → after_image_front g byt
 opened g bytes rest h =
     let first = read_before (after_slots_front g.slots) (then_read after_latch (after_beginning magic version bytes)) rest h in
     let begin = read_before after_latch (after_beginning magic version bytes) first.0 first.1 in
-    let l = latch_there begin.0 first.0 begin.2 in
-    let are : bytes ≡ header ++ (le_bytes 4 l.0 ++ first.0) = begun magic version bytes begin.0 begin.1 ∙ ap (λ (xs : List ℕ). header ++ xs) l.1 in
-    record {
-      latch = l.0;
-      last = first.0;
-      are = are;
-      fits = l.2;
-      latched = l.3;
-      front = first.2;
-      slots = slots_taken g.slots first.0 rest first.2;
-      is = ap (taken_image g) are ∙ ap (λ n. record { latch = n; slots = taken_slots g.slots first.0 }) (number_back 4 l.0 first.0 (ltb-true l.0 (256 ^ 4) l.2));
-    }
+    grind (arith, latch_there begin.0 first.0 begin.2, begun magic version bytes begin.0 begin.1, slots_taken g.slots first.0 rest first.2, is, number_back 4, ltb-true)
 
 none_at_end : (l : Left) → fault_of (then_read at_end l) ≡ None → l ≡ Ok []
 none_at_end l e = grind arith
@@ -235,34 +221,14 @@ front_of g bytes h = none_at_end (after_image_front g bytes) (sym (ap fault_of (
 pub image_is_taken : ImageIsTaken
 image_is_taken g bytes h =
     let o = opened g bytes [] (front_of g bytes h) in
-    let its : List ℕ = header ++ (le_bytes 4 o.latch ++ o.last) in
-    let latch : (taken_image g its).latch ≡ o.latch = number_back 4 o.latch o.last (ltb-true o.latch (256 ^ 4) o.fits) in
-    subst (IsTakenImage g) (sym o.are)
-    (record {
-      enough = omega arith;
-      begins = own_beginning magic version (le_bytes 4 o.latch ++ o.last);
-      read = subst (λ n. parse_number 4 (le_bytes 4 o.latch ++ o.last) ≡ Some (parsed n o.last)) (sym latch) (number_again 4 o.latch o.last (ltb-true o.latch (256 ^ 4) o.fits));
-      latch = subst (λ n. latched n ≡ n) (sym latch) o.latched;
-      slots = slots_end g.slots o.last ∙ ap (then_read at_end) o.front;
-    })
+    grind (arith, number_back 4, ltb-true, own_beginning magic version, number_again 4, slots_end g.slots o.last)
 
 -- it fits, and where it can be written, it stands at the front
 pub front_fits : (g : LoneGuest) (bytes rest : List ℕ) → after_image_front g bytes ≡ Ok rest → Fits (taken_image g bytes) g
 front_fits g bytes rest h = let o = opened g bytes rest h in subst (λ (i : Image). Fits i g) (sym o.is) (record { latch = o.latched; slots = o.slots.fit })
 
 pub front_spelled : (g : LoneGuest) → IsDeclaredGuest g → (bytes rest : List ℕ) → AreBytes bytes → after_image_front g bytes ≡ Ok rest → Spells image_layout bytes (parsed (taken_image g bytes) rest)
-front_spelled g declared bytes rest all h =
-    let o = opened g bytes rest h in
-    let later = (each_parts (λ b. b < 256) header (le_bytes 4 o.latch ++ o.last) (subst AreBytes o.are all)).1 in
-    let s = o.slots.spelled (each_parts (λ b. b < 256) (le_bytes 4 o.latch) o.last later).1 declared.functions in
-    let slots : List (Option SavedFunction) = taken_slots g.slots o.last in
-    subst (λ (i : Image). Spells image_layout bytes (parsed i rest)) (sym o.is)
-    (record {
-      fits = and_from ((number 4).fits o.latch && eqb (latched o.latch) o.latch) (fit_times (optional function_layout).fits 32 slots)
-          (and_from ((number 4).fits o.latch) (eqb (latched o.latch) o.latch) o.fits (eq-eqb (latched o.latch) o.latch o.latched))
-          (subst (λ n. fit_times (optional function_layout).fits n slots ≡ true) declared.count s.1);
-      bytes = o.are ∙ ap (λ (xs : List ℕ). header ++ (le_bytes 4 o.latch ++ xs)) (o.slots.are ∙ ap (λ (xs : List ℕ). xs ++ rest) s.0);
-    })
+front_spelled g declared bytes rest all h = grind (arith, opened g bytes rest h, each_parts, and_from, eq-eqb)
 
 pub taken_again : (g : LoneGuest) (i : Image) → HasBytes i → Fits i g → (rest : List ℕ) → taken_image g (image_bytes i ++ rest) ≡ i
 taken_again g i has fits rest =

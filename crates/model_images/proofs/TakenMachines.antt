@@ -65,18 +65,7 @@ machine_read w bytes i e =
     let n = from_then at_end (after_bytes 907 held q.0.rest) m.0 m.1 in
     let good = guests_good w.handoff (names_now w) [] l.0 q.0 l.2 in
     subst (IsRead w bytes) (same_ok image i m.2)
-    (record {
-      begin = k.0;
-      front = l.0;
-      rest = q.0.rest;
-      header = k.1;
-      known = k.2;
-      guests = l.2;
-      held = all_there held q.0.rest n.0 m.0 n.1 n.2;
-      handoff = refl;
-      names_are = good.0;
-      good = good.1;
-    })
+    (grind (arith, all_there held q.0.rest n.0 m.0 n.1 n.2))
 
 pub read_fits : ReadFits
 read_fits w h bytes i e =
@@ -147,12 +136,7 @@ written w h can bytes all i e =
     let count = many w can.known.compared bytes all i r in
     let few : length gs < 256 ^ 2 = let c = can.known.few in omega arith in
     let fits = and_from ((number 2).fits (length gs)) (fit_times guest_layout.fits (length gs) gs) (lt-ltb (length gs) (256 ^ 2) few) (fit w can.known.compared bytes all i r) in
-    subst (λ h. IsWritten bytes (record { handoff = h; guests = gs })) r.handoff
-    (record {
-      are = are w can.known.compared bytes all i r
-          ∙ ap₂ (λ (c : Board) (n : ℕ). machine_header ++ ((board_layout.bytes c ++ le_bytes 2 n) ++ (flat_map guest_layout.bytes gs ++ held_bytes under))) (sym board) (sym count) ∙ sym (told_bytes under gs);
-      has = state_fits under (writable_under (shown_handoff w) (writable_under w.handoff (writable_now w h can) w.guests) (map restored_guest gs)) gs fits;
-    })
+    grind (arith, are, are w can.known.compared bytes all i r, board_layout.bytes, board, told_bytes under gs, state_fits under, writable_under (shown_handoff w), writable_under w.handoff, writable_now w)
 
 from_none : (r : Result MachineImage ℕ) → result_err r ≡ None → (i : MachineImage) × (r ≡ Ok i)
 from_none r h = grind arith

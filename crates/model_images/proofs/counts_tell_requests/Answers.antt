@@ -2,9 +2,4 @@ use Rattle.model_images.proofs.Counts.{lawful_along_requests, answers_stay_along
 use Rattle.model_images.proofs.counts_tell_requests.Goals as goal
 
 pub returns : goal.returns
-returns c = record {
-  lawful = lawful_along_requests;
-  along = answers_stay_along;
-  counts = request_counts_grow;
-  stay = answers_stay_by_count;
-}
+returns c = search (lawful_along_requests, answers_stay_along, request_counts_grow, answers_stay_by_count)

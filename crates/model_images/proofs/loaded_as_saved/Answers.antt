@@ -3,10 +3,4 @@ use Rattle.model_images.proofs.Requests.{answers_as_saved}
 use Rattle.model_images.proofs.loaded_as_saved.Goals as goal
 
 pub returns : goal.returns
-returns c = record {
-  nothing = keeps_what_was_saved;
-  loaded = loaded_holds;
-  restarted = restarted_holds;
-  holds = holds_as_saved;
-  answers = answers_as_saved;
-}
+returns c = search (keeps_what_was_saved, loaded_holds, restarted_holds, holds_as_saved, answers_as_saved)

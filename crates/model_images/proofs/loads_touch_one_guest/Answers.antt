@@ -3,12 +3,4 @@ use Rattle.model_images.proofs.BesideLoads.{board_after_load, board_beside_load,
 use Rattle.model_images.proofs.loads_touch_one_guest.Goals as goal
 
 pub returns : goal.returns
-returns c = record {
-  others = others_after_load;
-  names = names_after_load;
-  paths = paths_after_load;
-  handoff = handoff_after_load;
-  beside = board_beside_load;
-  board = board_after_load;
-  alike = loads_alike;
-}
+returns c = search (others_after_load, names_after_load, paths_after_load, handoff_after_load, board_beside_load, board_after_load, loads_alike)

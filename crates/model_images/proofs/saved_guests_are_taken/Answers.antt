@@ -2,10 +2,4 @@ use Rattle.model_images.proofs.SavedWorlds.{can_be_saved_at_first, can_be_saved_
 use Rattle.model_images.proofs.saved_guests_are_taken.Goals as goal
 
 pub returns : goal.returns
-returns c = record {
-  first = can_be_saved_at_first;
-  along = can_be_saved_along;
-  taken = takes_saved_guest;
-  again = saves_what_was_taken;
-  refused = no_image_is_refused;
-}
+returns c = search (can_be_saved_at_first, can_be_saved_along, takes_saved_guest, saves_what_was_taken, no_image_is_refused)
