@@ -8,7 +8,7 @@
 #[allow(dead_code)]
 mod pciguest;
 
-use pciguest::{At, Fault, Hit, Machine, Part};
+use pciguest::{At, Fault, Hit, Machine, Part, Places};
 use std::process::ExitCode;
 
 /// The registers of the device's region: bit 0 of STATUS says that a ring was served, and writing a one clears it; COUNT
@@ -26,10 +26,11 @@ struct Trap {
     written: Option<u64>,
 }
 
-/// The machine of the board, and the guest whose processor it is.
+/// The machine of the board, the guest whose processor it is, and where its regions were told to stand.
 struct Board {
     machine: Machine,
     guest: usize,
+    places: Places,
 }
 
 impl Board {
@@ -62,10 +63,10 @@ impl Board {
         Ok(())
     }
 
-    /// Tells which addresses of a slot's function have to be trapped from here on.
-    fn tell_traps(&mut self, slot: u64) {
-        let regions = (0..6).filter_map(|register| self.machine.region(self.guest, slot, register).ok());
-        for region in regions.filter(|region| region.is_open) {
+    /// Tells which addresses have to be trapped from here on.
+    fn tell_traps(&mut self) -> Result<(), Fault> {
+        let regions = self.machine.moved(self.guest, &mut self.places)?;
+        for region in regions.iter().filter(|region| region.is_open) {
             let space = if region.is_io { "port" } else { "memory" };
             println!(
                 "trap {space} {:#x} to {:#x}",
@@ -73,19 +74,15 @@ impl Board {
                 region.first + region.size - 1
             );
         }
+        Ok(())
     }
 
-    /// After a write: regions stand elsewhere where Command or a base address register was hit, and the device acts where
-    /// its doorbell was. An access that begins before the doorbell may ring it too.
+    /// After a write: regions may stand elsewhere where configuration space was hit, and the device acts where its doorbell
+    /// was. An access that begins before the doorbell may ring it too.
     fn act(&mut self, trap: Trap, hit: Hit) -> Result<(), Fault> {
         let rings = hit.offset < DOORBELL + 4 && hit.offset + u64::from(trap.width) > DOORBELL;
         match hit.part {
-            Part::Config => {
-                if matches!(hit.offset, 0x04..=0x05 | 0x10..=0x27) {
-                    self.tell_traps(hit.slot);
-                }
-                Ok(())
-            }
+            Part::Config => self.tell_traps(),
             Part::Region(_) if rings => self.ring(hit),
             Part::Region(_) => Ok(()),
         }
@@ -173,7 +170,8 @@ fn accesses() -> Vec<Trap> {
 fn open(bytes: &[u8]) -> Result<Board, Fault> {
     let mut machine = Machine::new(bytes)?;
     let guest = machine.guest("a")?;
-    Ok(Board { machine, guest })
+    let places = Places::new();
+    Ok(Board { machine, guest, places })
 }
 
 /// Runs the accesses, and asks by a line of a script what the last ring left.

@@ -13,15 +13,24 @@ struct Handle {
     at: *mut c_void,
 }
 
-/// The structs of the header in which a region and a hit are told.
+/// The structs of the header in which a region, where it stands now and stood before, and a hit are told.
 #[repr(C)]
-#[derive(Default)]
+#[derive(Clone, Copy, Default)]
 struct RegionTold {
     first: u64,
     size: u64,
     space: u32,
     prefetchable: u32,
     is_open: u32,
+}
+
+#[repr(C)]
+#[derive(Clone, Copy, Default)]
+struct PlaceTold {
+    now: RegionTold,
+    before: RegionTold,
+    has_moved: u32,
+    reserved: u32,
 }
 
 #[repr(C)]
@@ -37,23 +46,23 @@ extern "C" {
     fn pciguest_new(handle: *mut Handle, board: *const u8, length: usize) -> u32;
     fn pciguest_free(handle: *mut Handle);
     fn pciguest_guest(handle: *mut Handle, name: *const u8, length: usize, guest: *mut usize) -> u32;
-    fn pciguest_read(
+    fn pciguest_read_wide(
         handle: *mut Handle,
         guest: usize,
         space: u32,
         slot: u64,
         place: u64,
         width: u32,
-        value: *mut u32,
+        value: *mut u64,
     ) -> u32;
-    fn pciguest_write(
+    fn pciguest_write_wide(
         handle: *mut Handle,
         guest: usize,
         space: u32,
         slot: u64,
         place: u64,
         width: u32,
-        value: u32,
+        value: u64,
     ) -> u32;
     fn pciguest_raise(handle: *mut Handle, guest: usize, slot: u64, part: u32, offset: u64, mask: u8) -> u32;
     fn pciguest_device_read_wide(
@@ -85,7 +94,13 @@ extern "C" {
         value: *mut u32,
     ) -> u32;
     fn pciguest_move(handle: *mut Handle, from: usize, slot: u64, to: usize, target: u64) -> u32;
-    fn pciguest_region(handle: *mut Handle, guest: usize, slot: u64, bar: u32, region: *mut RegionTold) -> u32;
+    fn pciguest_moved(
+        handle: *mut Handle,
+        guest: usize,
+        places: *mut PlaceTold,
+        room: usize,
+        count: *mut usize,
+    ) -> u32;
     fn pciguest_locate(
         handle: *mut Handle,
         guest: usize,
@@ -106,9 +121,7 @@ extern "C" {
     fn pciguest_words(number: u32, text: *mut u8, room: usize, needed: *mut usize) -> u32;
 }
 
-/// The numbers of a width, of a place that is out of range, and of a text that needs more room.
-const WIDTH: u32 = 302;
-const RANGE: u32 = 303;
+/// The number of a text that needs more room.
 const ARGUMENT: u32 = 902;
 
 /// The number of a refusal.
@@ -173,37 +186,6 @@ impl At {
             At::Memory { address } => (2, 0, address),
         }
     }
-
-    /// The place so many bytes further on; none where it would be past its space.
-    fn further(self, bytes: u32) -> Option<At> {
-        let (_, _, place) = self.parts();
-        let place = place.checked_add(u64::from(bytes))?;
-        match self {
-            At::Config { slot, .. } if place <= 0xff => Some(At::Config { slot, offset: place }),
-            At::Io { .. } if place <= 0xffff => Some(At::Io { port: place }),
-            At::Memory { .. } => Some(At::Memory { address: place }),
-            _ => None,
-        }
-    }
-}
-
-/// The lawful accesses that one of 1 to 8 bytes at any place is split into, as a bridge does: how far on each begins, and
-/// how wide it is.
-fn pieces(at: At, width: u32) -> Result<Vec<(u32, u32)>, Fault> {
-    if !(1..=8).contains(&width) {
-        return Err(Fault(WIDTH));
-    }
-    at.further(width - 1).ok_or(Fault(RANGE))?;
-    let (_, _, place) = at.parts();
-    let mut pieces = Vec::new();
-    let mut done = 0;
-    while done < width {
-        let fits = |bytes: u32| (place + u64::from(done)) % u64::from(bytes) == 0 && width - done >= bytes;
-        let piece = [4, 2].into_iter().find(|&bytes| fits(bytes)).unwrap_or(1);
-        pieces.push((done, piece));
-        done += piece;
-    }
-    Ok(pieces)
 }
 
 /// Where a device raises bits, reads and writes, and what an access hits: configuration space, or the region of a base address register,
@@ -233,6 +215,27 @@ pub struct Region {
     pub size: u64,
     pub is_prefetchable: bool,
     pub is_open: bool,
+}
+
+impl From<RegionTold> for Region {
+    fn from(told: RegionTold) -> Region {
+        Region {
+            is_io: told.space == 1,
+            first: told.first,
+            size: told.size,
+            is_prefetchable: told.prefetchable == 1,
+            is_open: told.is_open == 1,
+        }
+    }
+}
+
+/// Where the regions of a guest were told to stand, six for each of its slots.
+pub struct Places([PlaceTold; 192]);
+
+impl Places {
+    pub fn new() -> Places {
+        Places([PlaceTold::default(); 192])
+    }
 }
 
 /// The byte that an access hits: of a part of the function in a slot.
@@ -286,47 +289,26 @@ impl Machine {
         Ok(guest)
     }
 
-    /// Reads 1, 2 or 4 bytes as a guest.
-    pub fn read(&mut self, guest: usize, at: At, width: u32) -> Result<u32, Fault> {
+    /// Reads 1 to 8 bytes at any place as a guest; the byte at the lowest address is the lowest.
+    pub fn read_wide(&mut self, guest: usize, at: At, width: u32) -> Result<u64, Fault> {
         let (space, slot, place) = at.parts();
         let mut value = 0;
-        answered(unsafe { pciguest_read(&mut self.handle, guest, space, slot, place, width, &mut value) })?;
+        answered(unsafe { pciguest_read_wide(&mut self.handle, guest, space, slot, place, width, &mut value) })?;
         Ok(value)
-    }
-
-    /// Writes the low 1, 2 or 4 bytes of a value as a guest.
-    pub fn write(&mut self, guest: usize, at: At, width: u32, value: u32) -> Result<(), Fault> {
-        let (space, slot, place) = at.parts();
-        answered(unsafe { pciguest_write(&mut self.handle, guest, space, slot, place, width, value) })
-    }
-
-    /// Reads 1 to 8 bytes at any place, split as a bridge does; the byte at the lowest address is the lowest.
-    pub fn read_wide(&mut self, guest: usize, at: At, width: u32) -> Result<u64, Fault> {
-        pieces(at, width)?.into_iter().try_fold(0, |value, (done, piece)| {
-            let at = at.further(done).ok_or(Fault(RANGE))?;
-            Ok(value | u64::from(self.read(guest, at, piece)?) << (8 * done))
-        })
     }
 
     /// Writes so the low bytes of a value, as many as it is wide.
     pub fn write_wide(&mut self, guest: usize, at: At, width: u32, value: u64) -> Result<(), Fault> {
-        pieces(at, width)?.into_iter().try_for_each(|(done, piece)| {
-            let at = at.further(done).ok_or(Fault(RANGE))?;
-            self.write(guest, at, piece, (value >> (8 * done)) as u32)
-        })
+        let (space, slot, place) = at.parts();
+        answered(unsafe { pciguest_write_wide(&mut self.handle, guest, space, slot, place, width, value) })
     }
 
-    /// Where the region that begins at a base address register, 0 to 5, stands now, in the guest's own view.
-    pub fn region(&mut self, guest: usize, slot: u64, register: u8) -> Result<Region, Fault> {
-        let mut told = RegionTold::default();
-        answered(unsafe { pciguest_region(&mut self.handle, guest, slot, u32::from(register), &mut told) })?;
-        Ok(Region {
-            is_io: told.space == 1,
-            first: told.first,
-            size: told.size,
-            is_prefetchable: told.prefetchable == 1,
-            is_open: told.is_open == 1,
-        })
+    /// The regions of a guest that stand elsewhere, or are open or closed otherwise, than these places were told before.
+    pub fn moved(&mut self, guest: usize, places: &mut Places) -> Result<Vec<Region>, Fault> {
+        let (at, room, mut count) = (places.0.as_mut_ptr(), places.0.len(), 0);
+        answered(unsafe { pciguest_moved(&mut self.handle, guest, at, room, &mut count) })?;
+        let moved = places.0.iter().filter(|it| it.has_moved == 1 && it.now.size > 0);
+        Ok(moved.map(|it| Region::from(it.now)).collect())
     }
 
     /// What an access of the guest hits: a byte of a function in one of its slots, or nothing.

@@ -100,6 +100,9 @@ pub extern "C" fn pciguest_raw_guest(
     ensures { Answers (guest_named name.now) handle.old handle.new result
         (number guest.old) (number guest.new) }
 {
-    let answer = handle.ask_machine(alloc, |machine| index_named(machine, name).ok_or(ARGUMENT));
+    let answer = handle.ask_machine(alloc, |machine| match index_named(machine, name) {
+        Some(index) => Ok(index),
+        None => Err(ARGUMENT),
+    });
     put_result(answer, guest)
 }

@@ -1,7 +1,7 @@
 //! A box as the pointer to what it holds.
 ghost use Rattle.std.specs.Prelude.{◌≡◌};
 ghost use Rattle.std.specs.Box.Ownership.{box_owns};
-ghost use Rattle.libc.specs.Heap.{chunk};
+ghost use Rattle.pciguest_c.specs.Owning.{may_free};
 
 use std::marker::Model;
 
@@ -12,7 +12,7 @@ pub struct Unboxed<T> {
 }
 
 impl<T> Model for Unboxed<T> {
-    ghost also_owns = { λ u. box_owns chunk T.row u.at u.value };
+    ghost also_owns = { λ u. box_owns may_free T.row u.at u.value };
 }
 
 impl<T: Drop> Unboxed<T> {

@@ -31,7 +31,6 @@ use denote.Triple.Walked.{Stays, stay_dropped, walk_of, says, ends_at}
 use Rattle.std.proofs.raw_atomic.Walks.{proved}
 use Rattle.core.proofs.alloc.Calls.{Goes-blank}
 use Rattle.std.specs.Box.Ownership.{box_owns}
-use Rattle.libc.specs.Heap.{chunk}
 use Rattle.std_alloc.proofs.ResultValues.{and_tt}
 use Rattle.std_alloc.specs.contracts.boxed.Box as Box
 use Rattle.std_alloc.proofs.boxed.Box.TheLaws as box
@@ -42,6 +41,7 @@ use Rattle.std_heap.specs.contracts.GlobalAllocator.TheImpl.{ghosts, dict}
 use Rattle.std_heap.proofs.Global.TheLaws as heap
 use Rattle.std_heap.proofs.GlobalAllocator.TheImpl.Met.{passed}
 use denote.Param.NoDrop.{glues}
+use Rattle.pciguest_c.specs.Owning.{may_free}
 use Rattle.pciguest_c.proofs.Moved.{Passed, passed_laws, drops}
 use Rattle.pciguest_c.proofs.Destruct++none.drop.Code as none
 use Rattle.pciguest_c.specs.contracts.unboxed.Unboxed as Unboxed
@@ -78,7 +78,7 @@ of_spec {M} 𝓤 𝓛 𝓜 𝓡 wired X lawful drop_x glue =
     (glues "pciguest_c::Destruct++none::drop" 𝓡.env (code.calls-pciguest_c::Destruct++none::drop 𝓡.env wired) Freer freer_laws M 𝓤 𝓛 𝓜 𝓡) glue)
     z (and_then ! (get ! refl) (no_more !)) (λ u.
     use1 𝓛 (later (some (λ (r : Ptr). (ts ⊛ ‵ (RawPtr.own_val r (u ∷ []))) ⊛
-    some (λ (_ : (Unit {0} × (Unit {0} × Unit {0})) × Unit {0}). ‵ (fsep (fsep ftrue (fsep ftrue ftrue)) ftrue) ⊛ ‵ (box_owns chunk R r d.value))))) (id⊢ 𝓤 _) $
+    some (λ (_ : (Unit {0} × (Unit {0} × Unit {0})) × Unit {0}). ‵ (fsep (fsep ftrue (fsep ftrue ftrue)) ftrue) ⊛ ‵ (box_owns may_free R r d.value))))) (id⊢ 𝓤 _) $
     await ! tt $ pick ! (λ r. split ! $ move ! (1 ∷ []) $ pick ! (λ _. split ! $ drop ! $ move ! (1 ∷ []) $ split ! $ move ! (1 ∷ []) $ feq_l ! (λ told.
     -- [the tokens; what the pointer owns]
     let pointer = (rawptr_Lawful 𝓛).typed r _ refl in let made : To.Denot = record { at = r; value = d.value } in let v = vstruct (vcons (ptr_val r) vnil) in
