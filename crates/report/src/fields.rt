@@ -1,7 +1,7 @@
 //! How numbers, paths and kinds are shown.
 ghost use Rattle.std.specs.Prelude.{◌≡◌, ◌<◌, Some, false};
 ghost use Rattle.std.specs.Fmt.{digit_glyph};
-ghost use Rattle.model_handoff.specs.Report.{kind_text, identity_text};
+ghost use Rattle.model_handoff.specs.Report.{kind_text};
 ghost use Rattle.model_guests.specs.PathTexts.{part_text, path_text};
 ghost use Rattle.model_guests.specs.Replies.{hex_digits};
 ghost use Rattle.bars.specs.Kinds.{kind_of};
@@ -90,21 +90,6 @@ impl fmt::Display for FourDigits {
         let high = TwoDigits((self.0 / 256) as u8);
         let low = TwoDigits((self.0 % 256) as u8);
         write!(f, "{high}{low}")
-    }
-}
-
-/// Vendor ID and Device ID.
-#[derive(Clone, Copy)]
-pub(crate) struct Identity {
-    pub(crate) vendor: u16,
-    pub(crate) device: u16,
-}
-
-impl fmt::Display for Identity {
-    ghost output = { λ i. Some (identity_text i.vendor i.device) };
-
-    fn fmt<W: fmt::Write>(&self, f: &mut fmt::Formatter<W>) -> fmt::Result {
-        write!(f, "{}:{}", FourDigits(self.vendor), FourDigits(self.device))
     }
 }
 

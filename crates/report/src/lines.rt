@@ -7,7 +7,7 @@ ghost use Rattle.bars.specs.Slots.{placed, bases_from};
 ghost use Rattle.window_packing.specs.Plans.{writes_of};
 ghost use Rattle.report.specs.Found.{ended, base_line, known_pin_lines, named_window_lines, base_lines, window_lines, range_text, pin_line, row_head, endpoint_text, windows_text, found_text, slot_line};
 
-use crate::fields::{Identity, Numbers, ShownPath, TwoDigits, kind_text};
+use crate::fields::{FourDigits, Numbers, ShownPath, TwoDigits, kind_text};
 use accesses::GuestDecl;
 use bars::BasedRegion;
 use bus_scan::{Found, FunctionRow};
@@ -141,11 +141,9 @@ fn push_head(text: &mut String, row: &FunctionRow, kind: &str) -> Result<(), All
         function: part.function(),
     };
     let path = ShownPath(&row.path);
-    let identity = Identity {
-        vendor: row.vendor,
-        device: row.device,
-    };
-    write!(text, "{numbers} {path}{kind}{identity}")
+    let vendor = FourDigits(row.vendor);
+    let device = FourDigits(row.device);
+    write!(text, "{numbers} {path}{kind}{vendor}:{device}")
 }
 
 /// Ends an endpoint's first line, and appends the lines of its regions and its pin.
