@@ -20,9 +20,15 @@ fn survey_of(alloc: Global, board: &mut Board, with_lacks: bool) -> Result<Count
     ensures kept { board.new ≡ board.old }
 {
     if with_lacks {
-        board.ready(alloc).map_err(|_| MEMORY)
+        match board.ready(alloc) {
+            Ok(told) => Ok(told),
+            Err(_) => Err(MEMORY),
+        }
     } else {
-        board.audit(alloc).map_err(|_| MEMORY)
+        match board.audit(alloc) {
+            Ok(told) => Ok(told),
+            Err(_) => Err(MEMORY),
+        }
     }
 }
 
