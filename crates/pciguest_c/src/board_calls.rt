@@ -7,8 +7,8 @@ ghost use Rattle.pciguest_c.specs.Calls.{AnswersBoard, board_read, board_write, 
 ghost use Rattle.pciguest_c.specs.Calls.{nothing, number};
 
 use crate::handle::Handle;
-use crate::host_calls::host_target_for;
-use crate::numbers::{number_of, put_value};
+use crate::host_calls::host_at;
+use crate::numbers::{ARGUMENT, number_of, put_value};
 use accesses::{HostAccess, Op, Reply};
 use session::Board;
 use std::alloc::Global;
@@ -34,7 +34,7 @@ fn board_asked(
     ensures kept { IfErr result (λ _. board.new ≡ board.old) }
     ensures unchanged { IfOk result (λ r. IsRefusal r → board.new ≡ board.old) }
 {
-    let at = host_target_for(space, bus, device, function, place)?;
+    let at = host_at(space, bus, device, function, place).ok_or(ARGUMENT)?;
     match op {
         Op::Read => Ok(board.read(HostAccess { at, width })),
         Op::Write(value) => Ok(board.write(HostAccess { at, width }, value)),

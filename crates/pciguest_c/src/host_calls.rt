@@ -34,26 +34,6 @@ pub fn host_at(space: u32, bus: u8, device: u8, function: u8, place: u64) -> Opt
     }
 }
 
-/// The same, or 902 where there is none.
-pub fn host_target_for(
-    space: u32,
-    bus: u8,
-    device: u8,
-    function: u8,
-    place: u64,
-) -> Result<HostAt, u32>
-    ensures told { IfOk result (λ at.
-        host_target_told space (at_bus bus device function) place ≡ Some (host_target_of at)) }
-    ensures none { IfErr result (λ n. n ≡ 902) }
-    ensures nowhere { IfErr result (λ _.
-        host_target_told space (at_bus bus device function) place ≡ None) }
-{
-    match host_at(space, bus, device, function, place) {
-        Some(at) => Ok(at),
-        None => Err(ARGUMENT),
-    }
-}
-
 /// Reads as the host, or 902 where there is no such place.
 #[tactic(auto, unfolding(crate::specs::Calls::host_asked))]
 fn host_asked(
@@ -73,7 +53,7 @@ fn host_asked(
         (host_target_told space (at_bus bus device function) place) width ≡ None) }
     ensures kept { machine.new ≡ machine.old }
 {
-    let at = host_target_for(space, bus, device, function, place)?;
+    let at = host_at(space, bus, device, function, place).ok_or(ARGUMENT)?;
     Ok(machine.host_read(HostAccess { at, width }))
 }
 
