@@ -21,10 +21,7 @@ fn problems_of(alloc: Global, board: &mut Board) -> Result<Vec<Problem>, u32>
     ensures memory { IfErr result (λ n. unless_out n (finding board.old) ≡ refusal n) }
     ensures kept { board.new ≡ board.old }
 {
-    match board.problems(alloc) {
-        Ok(found) => Ok(found),
-        Err(_) => Err(MEMORY),
-    }
+    board.problems(alloc).map_err(|_| MEMORY)
 }
 
 /// Writes a row for each problem in the registers of a board as they stand to the front of `out`, in the order of

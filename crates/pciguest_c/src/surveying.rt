@@ -20,15 +20,9 @@ fn survey_of(alloc: Global, board: &mut Board, with_lacks: bool) -> Result<Count
     ensures kept { board.new ≡ board.old }
 {
     if with_lacks {
-        match board.ready(alloc) {
-            Ok(told) => Ok(told),
-            Err(_) => Err(MEMORY),
-        }
+        board.ready(alloc).map_err(|_| MEMORY)
     } else {
-        match board.audit(alloc) {
-            Ok(told) => Ok(told),
-            Err(_) => Err(MEMORY),
-        }
+        board.audit(alloc).map_err(|_| MEMORY)
     }
 }
 
