@@ -2,8 +2,8 @@
 --     slot_row      what C is told of a register, from the program's word
 --     row_told      that it is what the definitions tell of the register
 --     six_alike      six such rows
-use Rattle.std.proofs.Common.{◌≡◌, ◌≢◌, ℕ, zero, suc, ◌+◌, ◌<◌, List, [], ◌∷◌, Option, Some, None, true, false, length, get_or, refl, sym, ◌∙◌, arith}
-use Rattle.std.proofs.lemmas.Bool.Decides.{nat_tests}
+use Rattle.std.proofs.Common.{◌≡◌, ℕ, zero, suc, ◌+◌, ◌<◌, List, [], ◌∷◌, Option, Some, None, true, false, length, get_or, refl, sym, ◌∙◌, arith}
+use Rattle.std.proofs.lemmas.Bool.{eq-eqb, ne_eqb}
 use Rattle.std.specs.Prelude.{find, ◌==◌}
 use Rattle.std.specs.Option.{option_map_or}
 use Rattle.model_registers.specs.EndpointTable.{BaseAddress}
@@ -15,19 +15,13 @@ use Rattle.pciguest_c.specs.FunctionsTold.{region_row, no_region, region_row_at}
 abbrev pub slot_row : Option BasedRegion → RegionRow
 slot_row slot = option_map_or (λ (r : BasedRegion). region_row (placed 0 r)) slot no_region
 
-same : (k j : ℕ) → j ≡ k → (k == j) ≡ true
-same k j is = grind (arith, nat_tests)
-
-differs : (k j : ℕ) → j ≢ k → (k == j) ≡ false
-differs k j not = grind (arith, nat_tests)
-
 -- no register before the first of a list
 none_from : (slots : List (Option BasedRegion)) (k j : ℕ) → j < k
     → find (λ (b : BaseAddress). b.index == j) (bases_from k slots) ≡ None
 none_from [] k j before = refl
 none_from (None ∷ slots) k j before = none_from slots (k + 1) j (omega arith)
 none_from (Some r ∷ slots) k j before =
-    rw (differs k j (λ e. omega arith)) (none_from slots (k + 1) j (omega arith))
+    rw (ne_eqb k j (λ e. omega arith)) (none_from slots (k + 1) j (omega arith))
 
 -- k is the index of the first register of the list
 row_from : (slots : List (Option BasedRegion)) (k j n : ℕ) (d : Option BasedRegion) → j ≡ k + n → n < length slots
@@ -35,9 +29,9 @@ row_from : (slots : List (Option BasedRegion)) (k j n : ℕ) (d : Option BasedRe
 row_from [] k j n d is within = absurd (omega arith)
 row_from (None ∷ slots) k j zero d is within = rw (none_from slots (k + 1) j (omega arith)) refl
 row_from (None ∷ slots) k j (suc n) d is within = row_from slots (k + 1) j n d (omega arith) (omega arith)
-row_from (Some r ∷ slots) k j zero d is within = rw (same k j (omega arith)) refl
+row_from (Some r ∷ slots) k j zero d is within = rw (eq-eqb k j (omega arith)) refl
 row_from (Some r ∷ slots) k j (suc n) d is within =
-    rw (differs k j (λ e. omega arith)) (row_from slots (k + 1) j n d (omega arith) (omega arith))
+    rw (ne_eqb k j (λ e. omega arith)) (row_from slots (k + 1) j n d (omega arith) (omega arith))
 
 pub row_told : (slots : List (Option BasedRegion)) → length slots ≡ 6 → (j : ℕ) → j < 6 → (d : Option BasedRegion) (row : RegionRow)
     → row ≡ slot_row (get_or slots j d) → row ≡ region_row_at (bases_from 0 slots) j
