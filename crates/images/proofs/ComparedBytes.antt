@@ -74,10 +74,6 @@ pub ends_of : {A : Type 0} (f : A → List ℕ) (x : A) (left others : List A) (
     → after_bytes k (flat_map f left) bytes ≡ Err n
 ends_of f x left others k n own bytes first are h = grind (arith, ends)
 
--- what holds of the first and of the others holds of all
-pub each_of : {A : Type 0} (P : A → Type 0) (x : A) (left others all : List A) → left ≡ x ∷ others → P x → (Each P left → Each P all) → Each P others → Each P all
-each_of P x left others all first here more h = more (subst (Each P) (sym first) (here, h))
-
 -- ---- a declaration
 
 pub rest_goes_on : (d : Endpoint) (rs : List Region) (bs : List ConfigBlock) (bytes rest : List ℕ) → rs ≡ d.regions → bs ≡ d.blocks → after_bytes 906 (flat_map region_bytes rs) bytes ≡ Ok rest

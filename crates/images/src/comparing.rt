@@ -1,11 +1,9 @@
 //! Bytes of an image that are compared with what a function declares.
 ghost use Rattle.std.specs.Prelude.{◌≡◌, ◌≤◌, ◌<◌, Ok, Err, IfErr, IfOk, flat_map, length};
 ghost use Rattle.lists.specs.Elements.{Each};
-ghost use Rattle.model_registers.specs.Cell.{IsCell};
 ghost use Rattle.model_registers.specs.Declarations.{IsLawfulRegion};
 ghost use Rattle.model_registers.specs.DeclarationRules.{IsConfigBlock, IsLawfulEndpoint};
 ghost use Rattle.model_images.specs.ImageBytes.{declaration_bytes};
-ghost use Rattle.model_images.specs.ByteLaws.{HasCells, IsDeclared};
 ghost use Rattle.model_images.specs.LoadedBytes.{after_bytes};
 ghost use Rattle.images.specs.Faults.{number_of};
 ghost use Rattle.images.specs.Parts.{block_bytes, cell_bytes, counted_blocks, declared_bytes, region_bytes, rest_bytes};
@@ -36,7 +34,6 @@ fn after_cells<'a>(cells: &[Cell], bytes: &'a [u8]) -> Result<&'a [u8], ImageFau
         after_bytes 906 (flat_map cell_bytes cells.now) bytes.now ≡ Ok rest.now) }
     ensures refused { IfErr result (λ why.
         after_bytes 906 (flat_map cell_bytes cells.now) bytes.now ≡ Err (number_of why)) }
-    ensures cells { IfOk result (λ _. Each IsCell cells.now) }
 {
     let mut left = cells;
     let mut bytes = bytes;
@@ -54,7 +51,6 @@ fn after_region<'a>(region: &Region, bytes: &'a [u8]) -> Result<&'a [u8], ImageF
         after_bytes 906 (region_bytes region.now) bytes.now ≡ Ok rest.now) }
     ensures refused { IfErr result (λ why.
         after_bytes 906 (region_bytes region.now) bytes.now ≡ Err (number_of why)) }
-    ensures cells { IfOk result (λ _. Each IsCell region.now.cells) }
 {
     let bytes = after(&region_head(region), bytes)?;
     after_cells(&region.block, bytes)
@@ -67,7 +63,6 @@ fn after_regions<'a>(regions: &[Region], bytes: &'a [u8]) -> Result<&'a [u8], Im
         after_bytes 906 (flat_map region_bytes regions.now) bytes.now ≡ Ok rest.now) }
     ensures refused { IfErr result (λ why.
         after_bytes 906 (flat_map region_bytes regions.now) bytes.now ≡ Err (number_of why)) }
-    ensures cells { IfOk result (λ _. Each (λ r. Each IsCell r.cells) regions.now) }
 {
     let mut left = regions;
     let mut bytes = bytes;
@@ -84,7 +79,6 @@ fn after_block<'a>(block: &ConfigBlock, bytes: &'a [u8]) -> Result<&'a [u8], Ima
         after_bytes 906 (block_bytes block.now) bytes.now ≡ Ok rest.now) }
     ensures refused { IfErr result (λ why.
         after_bytes 906 (block_bytes block.now) bytes.now ≡ Err (number_of why)) }
-    ensures cells { IfOk result (λ _. Each IsCell block.now.cells) }
 {
     let bytes = after(&block_head(block), bytes)?;
     after_cells(&block.block, bytes)
@@ -96,7 +90,6 @@ fn after_blocks<'a>(blocks: &[ConfigBlock], bytes: &'a [u8]) -> Result<&'a [u8],
         after_bytes 906 (flat_map block_bytes blocks.now) bytes.now ≡ Ok rest.now) }
     ensures refused { IfErr result (λ why.
         after_bytes 906 (flat_map block_bytes blocks.now) bytes.now ≡ Err (number_of why)) }
-    ensures cells { IfOk result (λ _. Each (λ b. Each IsCell b.cells) blocks.now) }
 {
     let mut left = blocks;
     let mut bytes = bytes;
@@ -115,7 +108,6 @@ fn after_counted<'a>(blocks: &[ConfigBlock], bytes: &'a [u8]) -> Result<&'a [u8]
         after_bytes 906 (counted_blocks blocks.now) bytes.now ≡ Ok rest.now) }
     ensures refused { IfErr result (λ why.
         after_bytes 906 (counted_blocks blocks.now) bytes.now ≡ Err (number_of why)) }
-    ensures cells { IfOk result (λ _. Each (λ b. Each IsCell b.cells) blocks.now) }
 {
     let bytes = after(&[blocks.len() as u8], bytes)?;
     after_blocks(blocks, bytes)
@@ -128,7 +120,6 @@ fn after_rest<'a>(values: &EndpointValues, bytes: &'a [u8]) -> Result<&'a [u8], 
         after_bytes 906 (rest_bytes values.now) bytes.now ≡ Ok rest.now) }
     ensures refused { IfErr result (λ why.
         after_bytes 906 (rest_bytes values.now) bytes.now ≡ Err (number_of why)) }
-    ensures cells { IfOk result (λ _. HasCells values.now) }
 {
     let bytes = after_regions(&values.bar, bytes)?;
     after_counted(&values.config, bytes)
@@ -140,7 +131,6 @@ fn after_parts<'a>(decl: &EndpointDecl, bytes: &'a [u8]) -> Result<&'a [u8], Ima
         after_bytes 906 (declared_bytes decl.now) bytes.now ≡ Ok rest.now) }
     ensures refused { IfErr result (λ why.
         after_bytes 906 (declared_bytes decl.now) bytes.now ≡ Err (number_of why)) }
-    ensures declared { IfOk result (λ _. IsDeclared decl.now) }
 {
     let values = decl.values();
     let bytes = after(&endpoint_head(decl), bytes)?;
@@ -148,14 +138,13 @@ fn after_parts<'a>(decl: &EndpointDecl, bytes: &'a [u8]) -> Result<&'a [u8], Ima
 }
 
 /// The bytes after those of this very declaration, with which they have to begin. Refuses too few
-/// bytes, and those of another declaration. Where they are taken, it is one that can be written.
+/// bytes, and those of another declaration.
 #[tactic(auto, using(crate::proofs::DeclaredBytes::declared_is))]
 pub fn after_declaration<'a>(decl: &EndpointDecl, bytes: &'a [u8]) -> Result<&'a [u8], ImageFault>
     ensures left { IfOk result (λ rest.
         after_bytes 906 (declaration_bytes decl.now) bytes.now ≡ Ok rest.now) }
     ensures refused { IfErr result (λ why.
         after_bytes 906 (declaration_bytes decl.now) bytes.now ≡ Err (number_of why)) }
-    ensures declared { IfOk result (λ _. IsDeclared decl.now) }
 {
     after_parts(decl, bytes)
 }

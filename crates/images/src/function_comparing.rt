@@ -1,6 +1,5 @@
 //! Bytes of an image that are compared with a function that a guest has.
 ghost use Rattle.std.specs.Prelude.{◌≡◌, Ok, Err, IfErr, IfOk};
-ghost use Rattle.model_images.specs.ByteLaws.{IsDeclared};
 ghost use Rattle.images.specs.Faults.{number_of};
 ghost use Rattle.images.specs.Shown.{after_filled};
 
@@ -11,14 +10,12 @@ use crate::values::after_values;
 use bridge_forward::EndpointFn;
 
 /// The bytes after those of a slot that is filled with this very function, whatever the values that its cells can
-/// hold. Refuses too few bytes, a value that its cell can't hold, an empty slot, and another declaration. Where it
-/// takes them, the function's declaration is one that can be written.
+/// hold. Refuses too few bytes, a value that its cell can't hold, an empty slot, and another declaration.
 pub fn after_function<'a>(endpoint: &EndpointFn, bytes: &'a [u8]) -> Result<&'a [u8], ImageFault>
     ensures left { IfOk result (λ rest.
         after_filled endpoint.now.decl bytes.now ≡ Ok rest.now) }
     ensures refused { IfErr result (λ why.
         after_filled endpoint.now.decl bytes.now ≡ Err (number_of why)) }
-    ensures declared { IfOk result (λ _. IsDeclared endpoint.now.decl) }
 {
     let decl = endpoint.decl();
     let bytes = after_tag(true, bytes)?;

@@ -89,5 +89,5 @@ module _ (old : MachineNow) {bytes : List ℕ} {seats : List (Option ℕ)} {runs
             fits = subst (λ (v : WorldNow). AreFittingRequests v loading) (sym world) later;
           }
 
-      pub loaded : IsSavableWorld old.world → AreBytes bytes → {last : MachineNow} → last ≡ after_all_requests n loading → LoadsAll old bytes last
-      loaded savable all done = let is = is_image savable all in grind (arith, both_along)
+      pub loaded : IsSavableWorld old.world → IsWritableMachine old.world → AreBytes bytes → {last : MachineNow} → last ≡ after_all_requests n loading → LoadsAll old bytes last
+      loaded savable can all done = let is = is_image savable all can in grind (arith, both_along)

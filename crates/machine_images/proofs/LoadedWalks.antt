@@ -24,8 +24,6 @@ use Rattle.model_images.specs.MachineLaws.{gift, gifts, load_of, takings}
 use Rattle.model_images.specs.LoadedBytes.{load_fault}
 use Rattle.model_images.specs.LoadedMachines.{guest_at}
 use Rattle.model_images.specs.LoadedLaws.{IsFittingImage}
-use Rattle.images.specs.Faults.{number_of}
-use Rattle.images.specs.declared.fault.ImageFault.{ImageFault}
 use Rattle.monitor.specs.ByIndex.{name_nth}
 use Rattle.monitor.specs.Loads.{IsLoaded}
 use Rattle.machine_images.specs.Judging.{IsRunOf, AreRuns, functions_now, path_seated, paths_seated}
@@ -172,40 +170,69 @@ one_loaded b g run is m new own same fits loaded =
     (subst (λ (t : Text). IsFittingImage (lone_of m.world.guests t) run loaded.image) same loaded.is_image) in
     loaded.machine ∙ ap₂ (λ (t : Text) i. after_request_on_machine m (loads t i)) same (sym (is.image ∙ image))
 
-module _ (m new : MachineNow) (i : ℕ) (run : List ℕ) (left rest : List (List ℕ)) (at : left ≡ run ∷ rest) (inside : i < length m.world.guests)
-    (loads_it : load_fault (lone_of m.world.guests (name_nth m.world i)) run ≡ None → IsLoaded m (name_nth m.world i) run new) where
-  pub record GoesOn (gs : List SavedGuest) : Type 0 where
-    pub others : List SavedGuest
-    pub later : LoadsRuns new (i + 1) rest others
-    pub same : after_all_requests new (map load_of others) ≡ after_all_requests m (map load_of gs)
+pub loaded_many : (m new : MachineNow) (name : Text) (run : List ℕ) → IsLoaded m name run new → length new.world.guests ≡ length m.world.guests
+loaded_many m new name run h = same_many new.world m.world (same_along (loads name h.image ∷ []) m new h.machine).names
 
-  goes_on_by : (gs : List SavedGuest) → map (λ (g : SavedGuest). g.name) gs ≡ drop i (names_now m.world) → AreRuns (board_of m.world) gs (run ∷ rest) → AreFittingRequests m.world (map load_of gs) → GoesOn gs
-  goes_on_by [] names runs fits = absurd runs
-  goes_on_by (g ∷ gs) names runs fits =
+-- the guest of the first of these runs
+module _ (m : MachineNow) (i : ℕ) (run : List ℕ) (left rest : List (List ℕ)) (at : left ≡ run ∷ rest) (inside : i < length m.world.guests) where
+  record IsFirst (gs : List SavedGuest) : Type 0 where
+    g : SavedGuest
+    others : List SavedGuest
+    all : gs ≡ g ∷ others
+    own : name_nth m.world i ≡ g.name
+    names : map (λ (h : SavedGuest). h.name) others ≡ drop (i + 1) (names_now m.world)
+    holds : IsRunOf (board_of m.world) g run
+    runs : AreRuns (board_of m.world) others rest
+    fits : AreFittingRequests m.world (load_of g ∷ map load_of others)
+
+  first_by : (gs : List SavedGuest) → map (λ (g : SavedGuest). g.name) gs ≡ drop i (names_now m.world) → AreRuns (board_of m.world) gs (run ∷ rest) → AreFittingRequests m.world (map load_of gs) → IsFirst gs
+  first_by [] names runs fits = absurd runs
+  first_by (g ∷ gs) names runs fits =
       let d = at_drop (names_now m.world) (map (λ (h : SavedGuest). h.name) gs) i g.name (sym names) in
-      let own : name_nth m.world i ≡ g.name = same_at (names_now m.world) i (name_nth m.world i) g.name (name_at m.world i inside) d.0 in
-      let accepted = ap (λ (t : Text). load_fault (lone_of m.world.guests t) run) own ∙ one_accepted (board_of m.world) g run runs.0 (lone_of m.world.guests g.name) fits.0 in
-      let now = one_loaded (board_of m.world) g run runs.0 m new (name_nth m.world i) own fits.0 (loads_it accepted) in
-      let same = same_along (load_of g ∷ []) m new now in
       record {
+        g = g;
         others = gs;
-        later = record {
-          names = sym d.1 ∙ ap (drop (i + 1)) (sym same.names);
-          are = subst (λ (b : Board). AreRuns b gs rest) (sym same.board) runs.1;
-          fits = subst (λ (x : MachineNow). AreFittingRequests x.world (map load_of gs)) (sym now) fits.1;
-        };
-        same = ap (λ (x : MachineNow). after_all_requests x (map load_of gs)) now;
+        all = refl;
+        own = same_at (names_now m.world) i (name_nth m.world i) g.name (name_at m.world i inside) d.0;
+        names = sym d.1;
+        holds = runs.0;
+        runs = runs.1;
+        fits = fits;
       }
 
-  pub goes_on : (gs : List SavedGuest) → LoadsRuns m i left gs → GoesOn gs
-  goes_on gs h = goes_on_by gs h.names (subst (AreRuns (board_of m.world) gs) at h.are) h.fits
+  first : (gs : List SavedGuest) → LoadsRuns m i left gs → IsFirst gs
+  first gs h = first_by gs h.names (subst (AreRuns (board_of m.world) gs) at h.are) h.fits
+
+  pub accepted : (gs : List SavedGuest) → LoadsRuns m i left gs → load_fault (lone_of m.world.guests (name_nth m.world i)) run ≡ None
+  accepted gs h =
+      let f = first gs h in
+      ap (λ (t : Text). load_fault (lone_of m.world.guests t) run) f.own ∙ one_accepted (board_of m.world) f.g run f.holds (lone_of m.world.guests f.g.name) f.fits.0
+
+  -- and the machine once it was loaded
+  module _ (new : MachineNow) (loaded : IsLoaded m (name_nth m.world i) run new) where
+    pub record GoesOn (gs : List SavedGuest) : Type 0 where
+      pub others : List SavedGuest
+      pub later : LoadsRuns new (i + 1) rest others
+      pub same : after_all_requests new (map load_of others) ≡ after_all_requests m (map load_of gs)
+
+    pub goes_on : (gs : List SavedGuest) → LoadsRuns m i left gs → GoesOn gs
+    goes_on gs h =
+        let f = first gs h in
+        let now = one_loaded (board_of m.world) f.g run f.holds m new (name_nth m.world i) f.own f.fits.0 loaded in
+        let same = same_along (load_of f.g ∷ []) m new now in
+        record {
+          others = f.others;
+          later = record {
+            names = f.names ∙ ap (drop (i + 1)) (sym same.names);
+            are = subst (λ (b : Board). AreRuns b f.others rest) (sym same.board) f.runs;
+            fits = subst (λ (x : MachineNow). AreFittingRequests x.world (map load_of f.others)) (sym now) f.fits.1;
+          };
+          same = ap (λ (x : MachineNow). after_all_requests x (map load_of f.others)) now ∙ ap (λ (hs : List SavedGuest). after_all_requests m (map load_of hs)) (sym f.all);
+        }
 
 pub none_left : (m : MachineNow) (i : ℕ) (left : List (List ℕ)) (gs : List SavedGuest) → length left ≡ 0 → LoadsRuns m i left gs → m ≡ after_all_requests m (map load_of gs)
 none_left m i left [] none h = refl
 none_left m i left gs none h = grind arith
-
-pub no_fault : (o : Option ImageFault) (n : Option ℕ) → option_map number_of o ≡ n → n ≡ None → o ≡ None
-no_fault o n same none = grind arith
 
 -- as many names as guests, along requests
 pub still_there : {A : Type 0} (v w : WorldNow) (f : A → Text) (xs : List A) → map f xs ≡ names_now w → names_now v ≡ names_now w → length xs ≡ length v.guests

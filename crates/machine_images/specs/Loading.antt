@@ -11,7 +11,6 @@ use Rattle.model_images.specs.FitLaws.{AreFittingRequests}
 use Rattle.model_images.specs.MachineImages.{SavedGuest, MachineImage, FitsMachine}
 use Rattle.model_images.specs.MachineLaws.{after_load_all_on_machine, load_of}
 use Rattle.model_images.specs.MachineBytes.{machine_of}
-use Rattle.model_images.specs.MachineByteLaws.{IsWritableMachine}
 use Rattle.model_images.specs.LoadedMachines.{read_machine}
 use Rattle.machine_images.specs.Judging.{AreRuns, functions_now, paths_seated}
 
@@ -19,7 +18,7 @@ pub record LoadsAll (m : MachineNow) (bytes : List ℕ) (new : MachineNow) : Typ
   pub image : MachineImage
   pub read : read_machine m.world bytes ≡ Ok image
   pub fits : FitsMachine image m.world
-  pub is_image : IsWritableMachine m.world → machine_of bytes ≡ Some image
+  pub is_image : machine_of bytes ≡ Some image
   pub machine : new ≡ after_load_all_on_machine image m
 
 -- the runs of these guests, the first of whom has this index, and whose images fit

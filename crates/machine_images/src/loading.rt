@@ -7,7 +7,6 @@ ghost use Rattle.model_images.specs.MachineLaws.{gift, gifts, load_of, takings};
 ghost use Rattle.model_images.specs.RequestLaws.{after_all_requests};
 ghost use Rattle.model_images.specs.LoadedMachines.{load_all_fault};
 ghost use Rattle.model_images.specs.MachineBytes.{machine_of};
-ghost use Rattle.model_images.specs.MachineByteLaws.{HasKnownBytes};
 ghost use Rattle.images.specs.MachineFaults.{number_of};
 ghost use Rattle.monitor.specs.ByIndex.{name_nth};
 ghost use Rattle.machine_images.specs.Judging.{functions_now, path_seated, paths_seated};
@@ -87,17 +86,19 @@ fn give_all(monitor: &mut Monitor, guest: usize, seats: &[Option<usize>])
     give_all(monitor, guest + 1, others);
 }
 
-/// Loads guests from the bytes that hold their images, this guest from the first.
+/// Loads guests from the bytes that hold their images, this guest from the first. They were compared before.
 fn load_all(monitor: &mut Monitor, guest: usize, runs: &[&[u8]])
     requires within { guest + length runs.now ≤ length monitor.old.world.guests }
     requires few { length monitor.old.world.guests ≤ 32 }
+    requires loads { (gs : List SavedGuest)
+        × LoadsRuns monitor.old guest (map (λ r. r.now) runs.now) gs }
     ensures { (gs : List SavedGuest) → LoadsRuns monitor.old guest (map (λ r. r.now) runs.now) gs
         → monitor.new ≡ after_all_requests monitor.old (map load_of gs) }
 {
     let Some((run, others)) = runs.split_first() else {
         return;
     };
-    let _loaded = monitor.load(guest, run);
+    monitor.load_taken(guest, run);
     load_all(monitor, guest + 1, others);
 }
 
@@ -108,8 +109,8 @@ fn load_all(monitor: &mut Monitor, guest: usize, runs: &[&[u8]])
 /// that fails decides, and of an image it is 906 or 907. No memory is taken.
 pub fn load_machine(monitor: &mut Monitor, bytes: &[u8]) -> Option<MachineFault>
     ensures fault { option_map number_of result ≡ load_all_fault monitor.old.world bytes.now }
-    ensures no_image { IfSome result (λ why. number_of why ≡ 905
-        → HasKnownBytes monitor.old.world → machine_of bytes.now ≡ None) }
+    ensures no_image { IfSome result (λ why.
+        number_of why ≡ 905 → machine_of bytes.now ≡ None) }
     ensures refused { IsSome result → monitor.new ≡ monitor.old }
     ensures loaded { result ≡ None → LoadsAll monitor.old bytes.now monitor.new }
 {

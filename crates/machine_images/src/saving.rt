@@ -1,8 +1,9 @@
 //! The image of a machine as it is now: how many bytes it has, and writing it into a buffer. No call takes memory.
 ghost use Rattle.std.specs.Prelude.{◌≡◌, ◌≤◌, ◌<◌, ◌+◌, length, flat_map};
-ghost use Rattle.model_guests.specs.WorldNow.{board_state};
+ghost use Rattle.model_guests.specs.WorldNow.{WorldNow, board_state};
 ghost use Rattle.model_images.specs.MachineImages.{image_of_machine};
-ghost use Rattle.model_images.specs.MachineLaws.{IsSavableWorld};
+ghost use Rattle.model_images.specs.LoadedMachineLaws.{IsTaken};
+ghost use Rattle.model_images.specs.MachineLaws.{AreAlike, IsSavableWorld};
 ghost use Rattle.model_images.specs.MachineBytes.{machine_bytes};
 ghost use Rattle.images.specs.Puts.{put};
 ghost use Rattle.images.specs.BoardBytes.{row_bytes};
@@ -12,6 +13,7 @@ ghost use Rattle.machine_images.specs.SavedParts.{IsPut, board_bytes, capped, gu
 use crate::heading::{four, header, two};
 use host_bridge::Host;
 use images::{held_size, path_bytes, put, row_size, write_held, write_row};
+use model_images::machine_bytes_are_taken;
 use monitor::Monitor;
 use paths::Path;
 
@@ -282,11 +284,14 @@ fn put_machine(monitor: &Monitor, host: &Host, out: &mut [u8])
 }
 
 /// Saves a machine: puts the bytes of its image at the beginning of a buffer, which has room for them. What stands
-/// behind them stays.
+/// behind them stays. Each machine of the same guests over an equal board takes these bytes, and is then this one.
 #[tactic(auto, using(crate::proofs::SavedBytes::saved_is))]
 pub fn save_machine(monitor: &Monitor, out: &mut [u8])
     requires room { length (machine_bytes (image_of_machine monitor.now.world)) ≤ length out.old }
-    ensures { out.new ≡ put 0 (machine_bytes (image_of_machine monitor.now.world)) out.old }
+    ensures bytes { out.new ≡ put 0 (machine_bytes (image_of_machine monitor.now.world)) out.old }
+    ensures taken { (other : WorldNow) → IsSavableWorld other → AreAlike monitor.now.world other
+        → IsTaken monitor.now.world other }
 {
+    machine_bytes_are_taken();
     put_machine(monitor, monitor.host(), out)
 }

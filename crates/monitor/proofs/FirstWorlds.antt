@@ -1,8 +1,10 @@
 -- The world over a handoff that a monitor takes over, with its guests, is kept at first; what set-up leaves is a case.
 use Rattle.std.proofs.Common.{◌≡◌, List, refl, sym, ap, ◌∙◌, subst, rules}
 use Rattle.std.specs.Prelude.{map}
+use Rattle.lists.specs.Elements.{Each}
+use Rattle.model_registers.specs.AccessLaws.{HoldsBytes}
 use Rattle.model_board.specs.Routing.{routing}
-use Rattle.model_board.specs.State.{State}
+use Rattle.model_board.specs.State.{BoardFunction, State}
 use Rattle.model_set_up.specs.SetUp.{set_up_state}
 use Rattle.model_guests.specs.Text.{Text}
 use Rattle.model_guests.specs.World.{Guest as Declared, World, HasLawfulGuests}
@@ -15,6 +17,9 @@ use Rattle.model_handoff.proofs.Alike.{IsAlike, taken_alike, taken_lawful, taken
 use Rattle.model_handoff.proofs.First.{first_is_reset}
 use Rattle.model_handoff.proofs.SetUpCase.{set_up_is_handoff, set_up_can_be_given}
 use Rattle.model_handoff.proofs.SetUpLaws.{set_up_at_first}
+use Rattle.model_images.specs.MachineByteLaws.{AreDeclared, IsWritableWorld}
+use Rattle.model_images.proofs.Machines.{savable_at_first}
+use Rattle.model_images.proofs.WritableWorlds.{writable_at_first}
 use Rattle.host_bridge.specs.HostState.{HostState}
 use Rattle.window_packing.specs.Readies.{ReadyBoard, IsReady}
 use Rattle.monitor.specs.declared.guest.Guest.{Guest}
@@ -42,6 +47,10 @@ module _ (h : HostState) (ds : List Declared) (handoff : IsHandoff h.state) (law
   alike : IsAlike s t
   alike = taken_alike w s handoff refl lawful
 
+  -- of what the board declares and holds
+  pub writable_over : AreDeclared s.functions → Each (λ (f : BoardFunction). HoldsBytes f.file) s.functions → IsWritableWorld (world_over w t)
+  writable_over declared bytes = writable_at_first w s refl (record { declared = declared; bytes = bytes }) lawful (savable_at_first w s handoff refl lawful can).lawful
+
   -- the host k that was taken over
   module _ (k : HostState) (taken : k ≡ record h { state = t }) where
     pub routing_on : routing h.state.functions ≡ routing k.state.functions
@@ -51,8 +60,8 @@ module _ (h : HostState) (ds : List Declared) (handoff : IsHandoff h.state) (law
       pub kept_at_first : IsKept (world_over w t) k names kept_guests
       kept_at_first = search (rules, alike, guests_carried, taken_agrees, taken_lawful, taken_shown)
 
-      pub sound_at_first : IsSound k names kept_guests
-      sound_at_first = is_sound (world_over w t) k names kept_guests kept_at_first
+      pub sound_at_first : IsWritableWorld (world_over w t) → IsSound k names kept_guests
+      sound_at_first writable = is_sound (world_over w t) k names kept_guests kept_at_first writable
 
       pub shown_at_first : world_shown k names kept_guests ≡ world_over w t
       shown_at_first = is_shown (world_over w t) k names kept_guests kept_at_first

@@ -284,6 +284,6 @@ module _ {h : HostState} {gs : List Guest} {i n : ℕ} (k : KeepsFunction h gs i
       ∙ ap (λ (fs : Slots). with_lone_nth i (record (lone_nth k.world i) { slots = fs }) k.world) (with_file_there (write (all_bytes 1) v (config off)) n (lone_nth k.world i).slots slot.f slot.function) in
       record {
         kept = subst (λ (f : Function). IsKept (with_slot_nth i n (Some (record f { file = write (all_bytes 1) v (config off) f.file })) k.world) new k.names left) (same_function k)
-            (subst (λ (w : WorldNow). IsKept w new k.names left) (gone.world ∙ as_written) gone.sound);
+            (subst (λ (w : WorldNow). IsKept w new k.names left) as_written gone.kept);
         holds = still_holds;
       }

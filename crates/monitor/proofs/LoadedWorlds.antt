@@ -10,12 +10,12 @@
 --     can_so_far, rest_so_far      what the next slot takes, and what it leaves
 --     loadable_at_reset, all_loaded_is      a guest at reset takes what it took, and holds then what the image says
 --     latch_kept, latch_read      the world after the latch is written, and what is written
---     is_declared_guest, takes_there, image_fits      bytes that passed: the guest takes them, and they are an image of it
+--     takes_named, image_fits      bytes that the guest of this name takes; they are an image of it
 --     loaded_is, keeps_lent, load_left, is_loaded      the guest by its name, and what the call leaves
-use Rattle.std.proofs.Common.{◌≡◌, ◌<◌, ◌+◌, ℕ, suc, true, false, List, [], length, take, drop, Some, None, Option, Ok, slice_get, slice_set, refl, sym, ap, ap₂, ◌∙◌, subst, arith}
+use Rattle.std.proofs.Common.{◌≡◌, ◌<◌, ◌+◌, ℕ, suc, true, false, List, length, take, drop, Some, None, Option, Ok, slice_get, slice_set, refl, sym, ap, ap₂, ◌∙◌, subst, arith}
 use Rattle.std.specs.Prelude.{map, option_map, unwrap_or}
 use Rattle.std.proofs.lemmas.Option.{same_Some}
-use Rattle.std.proofs.lemmas.List.{drop-drop, length-map}
+use Rattle.std.proofs.lemmas.List.{drop-drop}
 use Rattle.lists.specs.Elements.{Each}
 use Rattle.model_registers.specs.ConfigAddress.{latched}
 use Rattle.model_registers.specs.EndpointTable.{endpoint_reset}
@@ -27,10 +27,11 @@ use Rattle.model_guests.specs.Guests.{GuestsNow, lone_of}
 use Rattle.model_guests.specs.WorldNow.{WorldNow}
 use Rattle.model_handoff.specs.Changes.{MachineNow}
 use Rattle.model_images.specs.Images.{Image, SavedFunction, restored, loaded, lone_of_image, after_load, at_reset, fits_declaration}
-use Rattle.model_images.specs.ByteLaws.{AreBytes}
-use Rattle.model_images.specs.LoadedBytes.{after_image, after_latch, fault_of, load_fault}
+use Rattle.model_images.specs.ByteLaws.{AreBytes, IsSavableGuest}
+use Rattle.model_images.specs.LoadedBytes.{after_latch, load_fault}
 use Rattle.model_images.specs.LoadedLaws.{IsFittingImage}
-use Rattle.model_images.specs.TakenBytes.{HoldsDeclared, IsDeclaredGuest, values_begin, slot_size, taken_function, taken_slot, taken_image, le_number}
+use Rattle.model_images.specs.TakenBytes.{values_begin, slot_size, taken_function, taken_slot, taken_image, le_number}
+use Rattle.model_images.proofs.LoadedBytes.{savable_is_declared}
 use Rattle.model_images.proofs.TakenBytes.{accepted_is_taken, image_is_taken, slots_are_taken}
 use Rattle.host_bridge.specs.HostState.{HostState}
 use Rattle.monitor.specs.declared.guest.Held.{Held}
@@ -40,7 +41,6 @@ use Rattle.monitor.specs.Configs.{HoldsAt}
 use Rattle.monitor.specs.Counts.{counted_nth, counts_of}
 use Rattle.monitor.specs.Keeping.{IsKept, IsSound}
 use Rattle.monitor.specs.Views.{machine_shown, slot_shown}
-use Rattle.monitor.specs.ShownImages.{lone_shown}
 use Rattle.monitor.specs.Loadings.{KeepsFunction, Becomes, IsLoadable, filled_with, with_slot_nth}
 use Rattle.monitor.specs.Loads.{AreLoadable, CanLoad, IsLoaded, KeepsWorld, Takes, slot_loaded, slots_loaded, value_span}
 use Rattle.monitor.proofs.Landed.{same_count}
@@ -48,7 +48,7 @@ use Rattle.monitor.proofs.Steps.{GuestAt, kept_latch, lone_named, slot_empty, sl
 use Rattle.monitor.proofs.Exchanges.{holds_nth}
 use Rattle.monitor.proofs.Calls.{Leaves, leaves}
 use Rattle.monitor.proofs.RestartSteps.{lone_set, none_set, requested, set_again}
-use Rattle.monitor.proofs.SavedImages.{few_slots, lone_by_name_is, lone_is}
+use Rattle.monitor.proofs.SavedImages.{few_slots, lone_is}
 use Rattle.monitor.proofs.LoadedSlots.{all_loaded, bytes_after, bytes_before, can_load, latch_there, loaded_lone, next_rest, one_more, reset_taken, reset_takes, reset_twice, rest_at, still_there}
 
 -- ---- a slot
@@ -245,22 +245,18 @@ latch_read l bytes from n accepted are reads =
 -- ---- the guest by its name
 
 module _ {w : WorldNow} {h : HostState} {names : List Text} {gs : List Guest} {i : ℕ} {g : Guest} (at : GuestAt w h names gs i g) where
-  pub is_declared_guest : Each HoldsDeclared (lone_shown h.state.functions g).slots → IsDeclaredGuest (lone_of w.guests (name_nth w i))
-  is_declared_guest declared =
-      subst IsDeclaredGuest (sym (lone_by_name_is at)) (record { count = length-map g.slots.items (slot_shown h.state.functions) ∙ few_slots at; functions = declared })
-
   pub loaded_is : (image : Image) → with_lone_nth i (lone_of_image image) w ≡ after_load (name_nth w i) image w
   loaded_is image = ap (λ (xs : GuestsNow). record w { guests = xs }) (sym (with_named at (loaded image)))
 
-  pub takes_there : (bytes : List ℕ) → after_image (lone_shown h.state.functions g) bytes ≡ Ok [] → AreBytes bytes → Takes (lone_nth w i) bytes
-  takes_there bytes all are = record { accepted = ap (λ (l : LoneGuest). load_fault l bytes) (lone_is at) ∙ ap fault_of all; are_bytes = are }
+  pub takes_named : (bytes : List ℕ) → load_fault (lone_of w.guests (name_nth w i)) bytes ≡ None → AreBytes bytes → Takes (lone_nth w i) bytes
+  takes_named bytes accepted are = record { accepted = ap (λ (l : LoneGuest). load_fault l bytes) (sym (lone_named at)) ∙ accepted; are_bytes = are }
 
-  pub image_fits : (bytes : List ℕ) → Takes (lone_nth w i) bytes → Each HoldsDeclared (lone_shown h.state.functions g).slots
+  pub image_fits : (bytes : List ℕ) → Takes (lone_nth w i) bytes → IsSavableGuest (lone_of w.guests (name_nth w i))
       → IsFittingImage (lone_of w.guests (name_nth w i)) bytes (taken_image (lone_nth w i) bytes)
-  image_fits bytes takes declared =
+  image_fits bytes takes savable =
       let l : LoneGuest = lone_of w.guests (name_nth w i) in
       let accepted : load_fault l bytes ≡ None = ap (λ (x : LoneGuest). load_fault x bytes) (lone_named at) ∙ takes.accepted in
-      subst (λ (x : LoneGuest). IsFittingImage l bytes (taken_image x bytes)) (lone_named at) (accepted_is_taken l (is_declared_guest declared) bytes takes.are_bytes accepted)
+      subst (λ (x : LoneGuest). IsFittingImage l bytes (taken_image x bytes)) (lone_named at) (accepted_is_taken l (savable_is_declared l savable) bytes takes.are_bytes accepted)
 
   -- as code lends the guests
   abbrev pub keeps_lent : {lent : List Guest} → lent ≡ gs → KeepsWorld h lent

@@ -122,7 +122,7 @@ module _ {w : WorldNow} {h : HostState} {names : List Text} {gs : List Guest} {i
     pub kept_one : {new : HostState} {back : List Guest} → HandsOver h gs i n i n new back → IsKept (with_lone_nth i (reset_in n (lone_nth w i)) w) new names back
     kept_one {new} {back} over =
         let left = reset_left at slot low over in
-        subst (λ (v : WorldNow). IsKept v new names back) (left.world ∙ reset_is) left.sound
+        subst (λ (v : WorldNow). IsKept v new names back) reset_is left.kept
 
   pub kept_none : {n : ℕ} {back : List Guest} → IsExchanged gs i n None None back → IsKept (with_lone_nth i (reset_in n (lone_nth w i)) w) h names back
   kept_none {n} {back} is = subst (λ (v : WorldNow). IsKept v h names back) world (subst (IsKept w h names) (sym is.after) kept)

@@ -5,7 +5,6 @@
 --     places_kept, few_slots      each function has the places that it declares, and there are 32 slots
 --     filled_bytes, empty_bytes, slot_size_is      the bytes of a slot with a function, and of one without
 --     filled_after, empty_after      bytes that are compared with such a slot
---     none_declared, declared_goes_on      declarations that can be written: none, and those of one slot more
 --     slots_go_on, slots_end, slots_done      with slots, one after the other
 --     header_ends, slots_decide      with a whole image
 --     fault_told      what is told of that
@@ -37,7 +36,6 @@ use Rattle.model_images.specs.Images.{Image, image_of_lone, image_of_guest}
 use Rattle.model_images.specs.Layouts.{le_bytes}
 use Rattle.model_images.specs.ImageBytes.{image_bytes, magic, version}
 use Rattle.model_images.specs.LoadedBytes.{Left, after_beginning, after_bytes, after_image, after_latch, after_slot, after_slots, at_end, fault_of, header, load_fault, then_read}
-use Rattle.model_images.specs.TakenBytes.{HoldsDeclared}
 use Rattle.images.specs.declared.fault.ImageFault.{ImageFault}
 use Rattle.images.specs.Faults.{number_of}
 use Rattle.images.specs.Puts.{put}
@@ -146,19 +144,11 @@ filled_after o f bytes is = filled_is f bytes ∙ ap (λ (x : Option Function). 
 pub empty_after : (o : Option Function) (bytes : List ℕ) → None ≡ o → after_bytes 906 (0 ∷ []) bytes ≡ after_slot o bytes
 empty_after o bytes is = ap (λ (x : Option Function). after_slot x bytes) is
 
-pub none_declared : {A : Type 0} (r : Result A ImageFault) (o : Option Function) → None ≡ o → IfOk r (λ _. HoldsDeclared o)
-none_declared (Ok a) o is = subst HoldsDeclared is tt
-none_declared (Err why) o is = tt
-
 module _ (fs : List BoardFunction) where
   pub slots_go_on : (o : Option Held) (left others : List (Option Held)) (bytes rest : List ℕ) → left ≡ o ∷ others → after_slot (slot_shown fs o) bytes ≡ Ok rest
       → after_slots (map (slot_shown fs) others) rest ≡ after_slots (map (slot_shown fs) left) bytes
   slots_go_on o left others bytes rest first h =
       sym (ap (λ (xs : List (Option Held)). after_slots (map (slot_shown fs) xs) bytes) first ∙ ap (then_read (after_slots (map (slot_shown fs) others))) h)
-
-  pub declared_goes_on : (o : Option Held) (left others : List (Option Held)) → left ≡ o ∷ others → HoldsDeclared (slot_shown fs o)
-      → Each HoldsDeclared (map (slot_shown fs) others) → Each HoldsDeclared (map (slot_shown fs) left)
-  declared_goes_on o left others first one more = subst (λ (xs : List (Option Held)). Each HoldsDeclared (map (slot_shown fs) xs)) (sym first) (one, more)
 
   pub slots_end : (o : Option Held) (left others : List (Option Held)) (bytes : List ℕ) (n : ℕ) → left ≡ o ∷ others → after_slot (slot_shown fs o) bytes ≡ Err n
       → after_slots (map (slot_shown fs) left) bytes ≡ Err n

@@ -37,6 +37,7 @@ use Rattle.model_handoff.specs.Handoffs.{IsHandoff, HasDeclaredShape}
 use Rattle.model_handoff.specs.ViewLaws.{with_seated_reset}
 use Rattle.model_handoff.proofs.Standing.{endpoint_at, found, StandsAt, stands}
 use Rattle.model_handoff.proofs.Views.{reset_shown}
+use Rattle.model_images.specs.MachineByteLaws.{IsWritableWorld}
 use Rattle.host_bridge.specs.HostState.{HostState}
 use Rattle.monitor.specs.declared.guest.Held.{Held}
 use Rattle.monitor.specs.declared.guest.Guest.{Guest}
@@ -134,8 +135,8 @@ module _ (w : WorldNow) (h : HostState) (names : List Text) (gs : List Guest) (k
   pub is_shown : world_shown h names gs ≡ w
   is_shown = search (rules, all_shown, by_index, each_at, reset_shown, shown_as_handed)
 
-  pub is_sound : IsSound h names gs
-  is_sound = subst (λ (v : WorldNow). IsKept v h names gs) (sym is_shown) kept
+  pub is_sound : IsWritableWorld w → IsSound h names gs
+  is_sound writable = record { kept = subst (λ (v : WorldNow). IsKept v h names gs) (sym is_shown) kept; writable = subst IsWritableWorld (sym is_shown) writable }
 
 -- ---- what is asked of it
 

@@ -1,10 +1,9 @@
 -- The functions of a world that is kept, by their index on the board.
 use Rattle.std.proofs.Common.{◌≡◌, ℕ, zero, suc, Bool, not, ◌&&◌, List, [], ◌∷◌, Some, None, Option, refl, sym, ap, ◌∙◌, subst, arith}
-use Rattle.std.specs.Prelude.{find, map, option_map, slice_get, unwrap_or}
+use Rattle.std.specs.Prelude.{map, option_map, slice_get, unwrap_or}
 use Rattle.std.specs.List.{list_any}
 use Rattle.std.specs.Option.{option_map_or}
 use Rattle.lists.proofs.Indices.{each_at, index_in, map_at}
-use Rattle.model_registers.specs.Declarations.{Endpoint}
 use Rattle.model_registers.specs.Registers.{File}
 use Rattle.model_registers.specs.Decoding.{Function, base_address, command_word}
 use Rattle.model_board.specs.Paths.{Path}
@@ -20,7 +19,7 @@ use Rattle.model_guests.specs.WorldNow.{WorldNow, board_state}
 use Rattle.model_handoff.specs.ViewLaws.{sits}
 use Rattle.model_handoff.proofs.Functions.{Facts, facts}
 use Rattle.model_handoff.proofs.Regions.{state_stays}
-use Rattle.model_handoff.proofs.Standing.{at_path, found}
+use Rattle.model_handoff.proofs.Standing.{found}
 use Rattle.model_images.specs.LoadedMachines.{is_open_there}
 use Rattle.bridge_forward.specs.BasesNow.{bases_of}
 use Rattle.host_bridge.specs.HostState.{HostState}

@@ -2,7 +2,7 @@
 --     IsHeld      a function in a slot: its place on the board, its regions where the handoff has them, and the copies
 --     IsSlot, AreSlots, IsGuest, AreGuests      the same slot by slot, and guest by guest
 --     IsKept      the board is in the one state that agrees with the guests over the handoff
---     IsSound      a host and guests keep the world that they show
+--     IsSound      a host and guests keep the world that they show, of which images can be written
 use Rattle.std.specs.Prelude.{List, [], ◌∷◌, ◌≡◌, Option, None, Some, ⊤, map, slice_get}
 use Rattle.model_registers.specs.EndpointTable.{opened}
 use Rattle.model_registers.specs.OwnCopies.{HoldsOwn, bare}
@@ -18,6 +18,7 @@ use Rattle.model_guests.specs.Guests.{GuestNow, GuestsNow}
 use Rattle.model_handoff.specs.Kept.{IsLawfulOver}
 use Rattle.model_handoff.specs.ViewLaws.{with_seated_reset}
 use Rattle.model_guests.specs.WorldNow.{WorldNow, board_state}
+use Rattle.model_images.specs.MachineByteLaws.{IsWritableWorld}
 use Rattle.bars.specs.Slots.{bases_from}
 use Rattle.host_bridge.specs.HostState.{HostState}
 use Rattle.monitor.specs.declared.guest.Held.{Held}
@@ -60,5 +61,6 @@ pub record IsKept (w : WorldNow) (h : HostState) (names : List Text) (gs : List 
   pub agrees : h.state ≡ board_state w
   pub guests : AreGuests w.handoff names w.guests gs
 
-abbrev pub IsSound : HostState → List Text → List Guest → Type 0
-IsSound h names gs = IsKept (world_shown h names gs) h names gs
+pub record IsSound (h : HostState) (names : List Text) (gs : List Guest) : Type 0 where
+  pub kept : IsKept (world_shown h names gs) h names gs
+  pub writable : IsWritableWorld (world_shown h names gs)

@@ -15,7 +15,6 @@ use crate::taking::take_over;
 use accesses::GuestDecl;
 use host_bridge::{Host, Route};
 use images::read_declarations;
-use model_images::saved_guests_are_taken;
 use std::alloc::{AllocError, Global};
 use window_packing::Ready;
 
@@ -23,7 +22,7 @@ impl<R: Route + Drop> Engine<R> {
     /// Gives functions of a board that is in order to guests, over a route that fits the board. No region of
     /// theirs is closed. Each of them is reset first, but for what guests have copies of, and the address
     /// latch is cleared. Only where memory is out it refuses, and then it gives the board back as it was. That
-    /// the guests can be saved is seen of what the board declares.
+    /// the guests can be saved, and the machine, is seen of what the board declares and holds.
     pub fn over_by_route(
         alloc: Global,
         host: Host,
@@ -40,7 +39,7 @@ impl<R: Route + Drop> Engine<R> {
         ensures kept { IfErr result (λ h. h ≡ host) }
     {
         read_declarations(&host);
-        saved_guests_are_taken();
+        host.hold_bytes();
         let Ok(kept) = guests_of(alloc, &host, guests) else {
             return Err(host);
         };

@@ -1,8 +1,9 @@
 //! Images that are loaded into guests: slot after slot, and then the latch. No call takes memory.
-ghost use Rattle.std.specs.Prelude.{◌≡◌, ◌<◌, List, ℕ, None, Ok, IsSome, true, length, map, option_map, take, drop};
+ghost use Rattle.std.specs.Prelude.{◌≡◌, ◌<◌, List, ℕ, None, Ok, IfSome, IsSome, true, length, map, option_map, take, drop};
 ghost use Rattle.model_guests.specs.Slots.{slot_at};
 ghost use Rattle.model_guests.specs.Guests.{lone_of};
 ghost use Rattle.model_images.specs.Images.{lone_of_image};
+ghost use Rattle.model_images.specs.ImageBytes.{image_of};
 ghost use Rattle.model_images.specs.LoadedBytes.{after_latch, load_fault};
 ghost use Rattle.model_images.specs.TakenBytes.{le_number, slot_size, taken_image};
 ghost use Rattle.images.specs.Faults.{number_of};
@@ -21,6 +22,7 @@ use crate::restarting::restart;
 use crate::saving::{compare_image, slot_shown};
 use host_bridge::{Host, Route};
 use images::{ImageFault, after_latch, declaration_size, values_size};
+use model_images::saved_guests_are_taken;
 
 /// So many bytes at the front, or all where they are fewer.
 fn front(bytes: &[u8], count: usize) -> &[u8]
@@ -128,6 +130,17 @@ fn load_image(host: &mut Host, guests: &mut [Guest], guest: usize, bytes: &[u8])
 }
 
 impl<R: Route> Engine<R> {
+    /// The same from bytes that the guest takes, as a comparison told.
+    pub fn load_taken(&mut self, guest: usize, bytes: &[u8])
+        requires there { guest < length self.old.world.guests }
+        requires accepted { let g = lone_of self.old.world.guests (name_nth self.old.world guest) in
+            load_fault g bytes.now ≡ None }
+        ensures { IsLoaded self.old (name_nth self.old.world guest) bytes.now self.new }
+    {
+        let _ = &self.names;
+        load_image(&mut self.host, &mut self.guests, guest, bytes);
+    }
+
     /// Loads a guest from bytes. Its functions and its latch then hold what the image says that these bytes are:
     /// they come to it from reset, by steps that the guest and its devices can take themselves. The guest is counted
     /// once, and what others have stays. Or refuses the bytes and changes nothing: 905 where they are no image, or
@@ -137,15 +150,18 @@ impl<R: Route> Engine<R> {
         requires { guest < length self.old.world.guests }
         ensures fault { let g = lone_of self.old.world.guests (name_nth self.old.world guest) in
             option_map number_of result ≡ load_fault g bytes.now }
+        ensures no_image { IfSome result (λ why.
+            number_of why ≡ 905 → image_of bytes.now ≡ None) }
         ensures refused { IsSome result → self.new ≡ self.old }
         ensures loaded { result ≡ None
             → IsLoaded self.old (name_nth self.old.world guest) bytes.now self.new }
     {
+        saved_guests_are_taken();
         let _ = &self.names;
         if let Err(why) = compare_image(&self.host, &self.guests[guest], bytes) {
             return Some(why);
         }
-        load_image(&mut self.host, &mut self.guests, guest, bytes);
+        self.load_taken(guest, bytes);
         None
     }
 }

@@ -1,13 +1,11 @@
 //! Images of guests: how many bytes a guest's image has, writing it into a buffer, and whether bytes can be loaded
 //! into a guest. No call takes memory.
 ghost use Rattle.std.specs.Prelude.{◌≡◌, ◌≤◌, ◌<◌, ◌+◌, [], Ok, Err, IfErr, IfOk, length, map, option_map};
-ghost use Rattle.lists.specs.Elements.{Each};
 ghost use Rattle.model_guests.specs.Guests.{lone_of};
 ghost use Rattle.model_images.specs.Images.{image_of_guest, image_of_lone};
-ghost use Rattle.model_images.specs.ByteLaws.{AreBytes};
 ghost use Rattle.model_images.specs.ImageBytes.{image_bytes};
+ghost use Rattle.model_images.specs.LoadedLaws.{IsTakenByAll};
 ghost use Rattle.model_images.specs.LoadedBytes.{after_image, after_slot, after_slots, load_fault};
-ghost use Rattle.model_images.specs.TakenBytes.{HoldsDeclared};
 ghost use Rattle.images.specs.Faults.{number_of};
 ghost use Rattle.images.specs.Puts.{put};
 ghost use Rattle.images.specs.Shown.{seen};
@@ -115,14 +113,12 @@ fn put_image(host: &Host, guest: &Guest, out: &mut [u8])
 }
 
 /// The bytes after those of a slot. Refuses too few bytes, a value that its cell can't hold, and a
-/// slot that is filled otherwise. Where it takes them, a declaration in the slot can be written.
+/// slot that is filled otherwise.
 fn after_slot<'a>(host: &Host, slot: &Option<Held>, bytes: &'a [u8]) -> Result<&'a [u8], ImageFault>
     ensures left { let f = slot_shown host.now.state.functions slot.now in
         IfOk result (λ rest. after_slot f bytes.now ≡ Ok rest.now) }
     ensures refused { let f = slot_shown host.now.state.functions slot.now in
         IfErr result (λ why. after_slot f bytes.now ≡ Err (number_of why)) }
-    ensures declared { let f = slot_shown host.now.state.functions slot.now in
-        IfOk result (λ _. HoldsDeclared f) }
 {
     match slot_shown(host, slot) {
         Some((endpoint, _)) => after_function(endpoint, bytes),
@@ -136,8 +132,6 @@ fn compare_slots(host: &Host, slots: &[Option<Held>], bytes: &[u8]) -> Result<()
         IfOk result (λ _. after_slots fs bytes.now ≡ Ok []) }
     ensures refused { let fs = map (slot_shown host.now.state.functions) slots.now in
         IfErr result (λ why. after_slots fs bytes.now ≡ Err (number_of why)) }
-    ensures declared { let fs = map (slot_shown host.now.state.functions) slots.now in
-        IfOk result (λ _. Each HoldsDeclared fs) }
 {
     let mut left = slots;
     let mut bytes = bytes;
@@ -154,9 +148,6 @@ pub(crate) fn compare_image(host: &Host, guest: &Guest, bytes: &[u8]) -> Result<
         IfOk result (λ _. after_image g bytes.now ≡ Ok []) }
     ensures refused { let g = lone_shown host.now.state.functions guest.now in
         IfErr result (λ why. after_image g bytes.now ≡ Err (number_of why)) }
-    ensures declared { let g = lone_shown host.now.state.functions guest.now in
-        IfOk result (λ _. Each HoldsDeclared g.slots) }
-    ensures are_bytes { AreBytes bytes.now }
 {
     let bytes = after_header(bytes)?;
     let (_, bytes) = after_latch(bytes)?;
@@ -176,13 +167,15 @@ impl<R: Route> Engine<R> {
     }
 
     /// Saves a guest: puts the bytes of its image at the beginning of a buffer, which has room for them. What
-    /// stands behind them stays.
+    /// stands behind them stays. Each guest of equal declarations takes these bytes, of whatever machine.
     pub fn save(&self, guest: usize, out: &mut [u8])
         requires there { guest < length self.now.world.guests }
         requires room { let image = image_of_guest (name_nth self.now.world guest) self.now.world in
             length (image_bytes image) ≤ length out.old }
-        ensures { let image = image_of_guest (name_nth self.now.world guest) self.now.world in
+        ensures bytes { let image = image_of_guest (name_nth self.now.world guest) self.now.world in
             out.new ≡ put 0 (image_bytes image) out.old }
+        ensures taken { let name = name_nth self.now.world guest in
+            IsTakenByAll (lone_of self.now.world.guests name) }
     {
         let _ = &self.names;
         put_image(&self.host, &self.guests[guest], out)

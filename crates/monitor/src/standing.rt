@@ -6,6 +6,7 @@ ghost use Rattle.model_guests.specs.World.{declared};
 ghost use Rattle.model_guests.specs.WorldNow.{board_state};
 ghost use Rattle.model_handoff.specs.Handoffs.{IsHandoff};
 ghost use Rattle.model_handoff.specs.ViewLaws.{sits};
+ghost use Rattle.model_images.specs.MachineByteLaws.{IsWritableWorld};
 ghost use Rattle.model_images.specs.MachineLaws.{IsSavableWorld};
 ghost use Rattle.model_images.specs.LoadedMachines.{is_open_there};
 ghost use Rattle.monitor.specs.ByIndex.{guest_nth};
@@ -22,6 +23,7 @@ impl<R: Route> Engine<R> {
         ensures state { result.now.state ≡ board_state self.now.world }
         ensures handoff { IsHandoff result.now.state }
         ensures savable { IsSavableWorld self.now.world }
+        ensures writable { IsWritableWorld self.now.world }
         ensures clear { self.now.world.handoff.latch ≡ 0 }
     {
         let _ = &self.names;

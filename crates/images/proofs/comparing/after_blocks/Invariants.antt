@@ -2,8 +2,6 @@ use Rattle.std.proofs.Common.{◌≡◌, length}
 use Rattle.std.specs.Prelude.{flat_map}
 use Rattle.lists.specs.Elements.{Each}
 use Rattle.model_registers.specs.DeclarationRules.{IsConfigBlock}
-use Rattle.model_registers.specs.Cell.{IsCell}
-use Rattle.model_registers.specs.Declarations.{ConfigBlock}
 use Rattle.model_images.specs.LoadedBytes.{after_bytes}
 use Rattle.images.specs.Parts.{block_bytes}
 use Rattle.images.proofs.comparing.after_blocks.Given as goal
@@ -13,7 +11,6 @@ abbrev pub invariant-loop-block : goal.invariant-loop-block
 invariant-loop-block l = record {
   lawful : Each IsConfigBlock l.left;
   same : after_bytes 906 (flat_map block_bytes l.left) l.bytes ≡ after_bytes 906 (flat_map block_bytes l.blocks) l.fn.bytes;
-  cells : Each (λ (b : ConfigBlock). Each IsCell b.cells) l.left → Each (λ (b : ConfigBlock). Each IsCell b.cells) l.blocks;
 }
 
 abbrev pub decreases-loop-block : goal.decreases-loop-block

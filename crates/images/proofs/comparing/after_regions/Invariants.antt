@@ -1,8 +1,7 @@
 use Rattle.std.proofs.Common.{◌≡◌, ◌≤◌, length}
 use Rattle.std.specs.Prelude.{flat_map}
 use Rattle.lists.specs.Elements.{Each}
-use Rattle.model_registers.specs.Declarations.{Region, IsLawfulRegion}
-use Rattle.model_registers.specs.Cell.{IsCell}
+use Rattle.model_registers.specs.Declarations.{IsLawfulRegion}
 use Rattle.model_images.specs.LoadedBytes.{after_bytes}
 use Rattle.images.specs.Parts.{region_bytes}
 use Rattle.images.proofs.comparing.after_regions.Given as goal
@@ -13,7 +12,6 @@ invariant-loop-region l = record {
   lawful : Each IsLawfulRegion l.left;
   counts : Each (λ r. length r.cells ≤ 4096) l.left;
   same : after_bytes 906 (flat_map region_bytes l.left) l.bytes ≡ after_bytes 906 (flat_map region_bytes l.regions) l.fn.bytes;
-  cells : Each (λ (r : Region). Each IsCell r.cells) l.left → Each (λ (r : Region). Each IsCell r.cells) l.regions;
 }
 
 abbrev pub decreases-loop-region : goal.decreases-loop-region

@@ -9,3 +9,9 @@ put_machine-requires-clause-room c =
     let w = c.args.monitor.now.world in
     let is = saved_is w c.host.ensures.savable.lawful c.host.ensures.clear ∙ ap (λ (s : State). saved_bytes s.functions w.guests) (sym c.host.ensures.state) in
     subst (λ (xs : List ℕ). length xs ≤ length c.args.out.now) is c.requires.room
+
+pub returns-clause-taken : goal.returns-clause-taken
+returns-clause-taken c = λ other savable alike.
+    let can = c.host.ensures.writable in
+    c.machine_bytes_are_taken.ensures.saved c.args.monitor.now.world other c.host.ensures.savable
+    (record { declared = can.machine.known.compared.declared; guests = can.guests }) savable alike

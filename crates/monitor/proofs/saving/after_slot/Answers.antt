@@ -1,11 +1,9 @@
-use Rattle.std.proofs.Common.{◌≡◌, Ok, Err, Option, subst}
+use Rattle.std.proofs.Common.{◌≡◌, Ok, Err, subst}
 use Rattle.std.specs.Prelude.{IfErr, IfOk}
-use Rattle.model_registers.specs.Decoding.{Function}
 use Rattle.model_images.specs.LoadedBytes.{Left}
-use Rattle.model_images.specs.TakenBytes.{HoldsDeclared}
 use Rattle.images.specs.Faults.{number_of}
 use Rattle.monitor.specs.Views.{slot_shown}
-use Rattle.monitor.proofs.SavedImages.{empty_after, filled_after, none_declared}
+use Rattle.monitor.proofs.SavedImages.{empty_after, filled_after}
 use Rattle.monitor.proofs.saving.after_slot.Goals as goal
 
 pub returns-in-Some-clause-left : goal.returns-in-Some-clause-left
@@ -23,10 +21,3 @@ returns-in-None-clause-left c =
 pub returns-in-None-clause-refused : goal.returns-in-None-clause-refused
 returns-in-None-clause-refused c =
     subst (λ (x : Left). IfErr c.after_tag.result (λ why. x ≡ Err (number_of why))) (empty_after (slot_shown c.args.host.now.state.functions c.args.slot.now) c.args.bytes.now c.in-None.ensures) c.after_tag.ensures.refused
-
-pub returns-in-Some-clause-declared : goal.returns-in-Some-clause-declared
-returns-in-Some-clause-declared c =
-    subst (λ (o : Option Function). IfOk c.after_function.result (λ _. HoldsDeclared o)) c.in-Some.ensures c.after_function.ensures.declared
-
-pub returns-in-None-clause-declared : goal.returns-in-None-clause-declared
-returns-in-None-clause-declared c = none_declared c.after_tag.result (slot_shown c.args.host.now.state.functions c.args.slot.now) c.in-None.ensures

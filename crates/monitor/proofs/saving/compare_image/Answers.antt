@@ -1,8 +1,6 @@
 use Rattle.std.proofs.Common.{◌≡◌, ◌∙◌, Ok, Err, List, Option, [], ap, subst, arith}
 use Rattle.std.specs.Prelude.{IfErr, IfOk, map}
-use Rattle.lists.specs.Elements.{Each}
 use Rattle.model_images.specs.LoadedBytes.{Left, after_slots}
-use Rattle.model_images.specs.TakenBytes.{HoldsDeclared}
 use Rattle.images.specs.Faults.{number_of}
 use Rattle.monitor.specs.declared.guest.Held.{Held}
 use Rattle.monitor.specs.ShownImages.{lone_shown}
@@ -28,8 +26,3 @@ returns-clause-all c =
     let same = ap (λ (os : List (Option Held)). after_slots (map (slot_shown fs) os) c.in_ok-bytes-2.bytes.now) c.deref.ensures.value in
     let decides = slots_decide (lone_shown fs c.args.guest.now) c.args.bytes.now c.in_ok-bytes.bytes.now c.in_ok-bytes.ensures.left c.in_ok-bytes-2.bytes.now c.in_ok-bytes-2.ensures.left in
     subst (λ (x : Left). IfOk c.compare_slots.result (λ _. x ≡ Ok [])) (same ∙ decides) c.compare_slots.ensures.all
-
-pub returns-clause-declared : goal.returns-clause-declared
-returns-clause-declared c =
-    let fs = c.args.host.now.state.functions in
-    subst (λ (os : List (Option Held)). IfOk c.compare_slots.result (λ _. Each HoldsDeclared (map (slot_shown fs) os))) c.deref.ensures.value c.compare_slots.ensures.declared

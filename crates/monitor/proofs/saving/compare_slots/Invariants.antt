@@ -1,17 +1,13 @@
 use Rattle.std.proofs.Common.{◌≡◌, length}
 use Rattle.std.specs.Prelude.{map}
-use Rattle.lists.specs.Elements.{Each}
 use Rattle.model_images.specs.LoadedBytes.{after_slots}
-use Rattle.model_images.specs.TakenBytes.{HoldsDeclared}
 use Rattle.monitor.specs.Views.{slot_shown}
 use Rattle.monitor.proofs.saving.compare_slots.Given as goal
 
 -- what is left decides as all does
 abbrev pub invariant-loop-slot : goal.invariant-loop-slot
-invariant-loop-slot l = record {
-  same : after_slots (map (slot_shown l.host.state.functions) l.left) l.bytes ≡ after_slots (map (slot_shown l.host.state.functions) l.slots) l.fn.bytes;
-  declared : Each HoldsDeclared (map (slot_shown l.host.state.functions) l.left) → Each HoldsDeclared (map (slot_shown l.host.state.functions) l.slots);
-}
+invariant-loop-slot l =
+    after_slots (map (slot_shown l.host.state.functions) l.left) l.bytes ≡ after_slots (map (slot_shown l.host.state.functions) l.slots) l.fn.bytes
 
 abbrev pub decreases-loop-slot : goal.decreases-loop-slot
 decreases-loop-slot l = length l.left

@@ -2,6 +2,8 @@ use Rattle.std.proofs.Common.{◌∙◌, ℕ, List, ap, sym, subst, arith}
 use Rattle.std.specs.Prelude.{IsSome}
 use Rattle.model_registers.specs.ByteEnables.{enables_of, into_lanes}
 use Rattle.model_registers.specs.Registers.{config}
+use Rattle.model_guests.specs.Accesses.{configuration, writes}
+use Rattle.model_guests.specs.Lone.{at_target}
 use Rattle.model_handoff.specs.StayLaws.{any_tells}
 use Rattle.bridge_forward.specs.Lending.{endpoint_nth}
 use Rattle.host_bridge.specs.Landings.{IsReached}
@@ -14,6 +16,7 @@ use Rattle.monitor.proofs.Calls.{back_in, guest_in, inside_guests}
 use Rattle.monitor.proofs.Steps.{empty_lent, slot_lent}
 use Rattle.monitor.proofs.Exchanges.{holds_nth}
 use Rattle.monitor.proofs.Reached.{endpoint_held, reached_held}
+use Rattle.monitor.proofs.Writable.{after_access_sound}
 use Rattle.monitor.proofs.engine.Engine.config_write.Goals as goal
 
 pub index-requires : goal.index-requires
@@ -54,7 +57,7 @@ invariant_of-self g c =
     (config_written at slot c.args.off c.args.width c.args.value c.requires.width c.requires.aligned
     (c.enables_of-enables.ensures ∙ ap (λ x. enables_of x c.args.width) c.from-from.ensures) (c.into_lanes-moved.ensures ∙ ap (λ x. into_lanes x c.args.value) c.from-from.ensures)
     written c.config_write_nth.ensures) in
-    (g.met.R.Route.by_routing e.route e.host c.config_write_nth.new.self left.routes c.self.invariant.0, left.sound)
+    (g.met.R.Route.by_routing e.route e.host c.config_write_nth.new.self left.routes c.self.invariant.0, after_access_sound c.self.invariant.1 c.self.view_is c.args.guest c.requires.there (writes c.args.value) c.args.width (at_target (configuration c.args.slot c.args.off)) left)
 
 pub returns : goal.returns
 returns g c =

@@ -5,6 +5,7 @@ use Rattle.monitor.proofs.Machines.{happens, refused_all, stood}
 use Rattle.monitor.proofs.ResetSteps.{device_refused, nothing_changed}
 use Rattle.monitor.proofs.DeviceSteps.{device_written, endpoint_reached, refused_there, write_left}
 use Rattle.monitor.proofs.Calls.{guest_in, inside_guests}
+use Rattle.monitor.proofs.Writable.{after_action_sound}
 use Rattle.monitor.proofs.engine.Engine.device_write.Goals as goal
 
 pub index-requires : goal.index-requires
@@ -19,7 +20,7 @@ pub invariant_of-self : goal.invariant_of-self
 invariant_of-self g c =
     let at = guest_in c.self.invariant.1 c.self.view_is c.args.guest c.requires c.index.ensures in
     let left = write_left at c.deref.ensures.value c.in-Ok.ensures.index c.args.value c.set_device_value_nth.ensures in
-    (g.met.R.Route.by_routing c.self.inside.route c.self.inside.host c.set_device_value_nth.new.self left.routes c.self.invariant.0, left.sound)
+    (g.met.R.Route.by_routing c.self.inside.route c.self.inside.host c.set_device_value_nth.new.self left.routes c.self.invariant.0, after_action_sound c.self.invariant.1 c.self.view_is (happens c.args.self.now c.args.guest (device_writes (device_byte c.args.slot c.args.place c.args.off) c.args.value)) left)
 
 pub returns-in-Ok-clause-reply : goal.returns-in-Ok-clause-reply
 returns-in-Ok-clause-reply g c =

@@ -1,16 +1,15 @@
 use Rattle.std.proofs.Common.{◌<◌, ◌∙◌, List, length, true, sym, subst}
-use Rattle.lists.proofs.Indices.{at_below}
 use Rattle.monitor.specs.declared.guest.Guest.{Guest}
 use Rattle.model_handoff.specs.Actions.{gives}
 use Rattle.monitor.specs.ByIndex.{name_nth}
 use Rattle.monitor.specs.Counts.{counted_nth}
 use Rattle.monitor.specs.Moves.{HasSlot}
 use Rattle.monitor.specs.Seatings.{gift_nth}
-use Rattle.monitor.proofs.Calls.{back_in, inside_guests, kept_in}
+use Rattle.monitor.proofs.Calls.{back_in, guest_at, inside_guests, kept_in}
 use Rattle.monitor.proofs.Given.{board_kept, give_left, has_room, makes_gift, nothing_given}
 use Rattle.monitor.proofs.Machines.{counts_lent, grew, is_counted, not_counted, refused_all}
 use Rattle.monitor.proofs.Exchanges.{exchange_lent}
-use Rattle.monitor.proofs.Steps.{kept_nth}
+use Rattle.monitor.proofs.Writable.{after_action_sound}
 use Rattle.monitor.proofs.engine.Engine.give.Goals as goal
 
 pub gift-requires-clause-board : goal.gift-requires-clause-board
@@ -23,17 +22,17 @@ gift-requires-clause-inside g c =
 pub exchange_in-empty-requires : goal.exchange_in-empty-requires
 exchange_in-empty-requires g c =
     let kept = kept_in c.self.invariant.1 c.self.view_is in
-    let one = at_below c.self.inside.guests.items c.args.guest (inside_guests c.self.invariant.1 c.self.view_is c.args.guest c.requires) in
-    subst (λ (gs : List Guest). HasSlot gs c.args.guest c.args.slot) (sym c.deref_mut.ensures.value) (has_room (kept_nth kept one.1) (makes_gift kept c.deref.ensures.value c.in-Ok.ensures))
+    let at = (guest_at c.self.invariant.1 c.self.view_is c.args.guest c.requires).1 in
+    subst (λ (gs : List Guest). HasSlot gs c.args.guest c.args.slot) (sym c.deref_mut.ensures.value) (has_room at (makes_gift kept c.deref.ensures.value c.in-Ok.ensures))
 
 pub invariant_of-self : goal.invariant_of-self
 invariant_of-self g c =
     let kept = kept_in c.self.invariant.1 c.self.view_is in
-    let one = at_below c.self.inside.guests.items c.args.guest (inside_guests c.self.invariant.1 c.self.view_is c.args.guest c.requires) in
+    let at = (guest_at c.self.invariant.1 c.self.view_is c.args.guest c.requires).1 in
     let e = c.self.inside in
     let left = back_in e.guests.items e.guests.len (c.exchange_in-empty.auto.guests ∙ c.deref_mut.ensures.len)
-    (give_left (kept_nth kept one.1) (makes_gift kept c.deref.ensures.value c.in-Ok.ensures) (exchange_lent c.deref_mut.ensures.value c.exchange_in-empty.ensures.exchanged) c.reset_nth.ensures) in
-    (g.met.R.Route.by_routing e.route e.host c.reset_nth.new.self left.routes c.self.invariant.0, left.sound)
+    (give_left at (makes_gift kept c.deref.ensures.value c.in-Ok.ensures) (exchange_lent c.deref_mut.ensures.value c.exchange_in-empty.ensures.exchanged) c.reset_nth.ensures) in
+    (g.met.R.Route.by_routing e.route e.host c.reset_nth.new.self left.routes c.self.invariant.0, after_action_sound c.self.invariant.1 c.self.view_is (gives (gift_nth c.args.self.now.world c.args.path.now c.args.guest c.args.slot)) left)
 
 pub returns-in-Err-clause-after : goal.returns-in-Err-clause-after
 returns-in-Err-clause-after g c =
@@ -46,12 +45,12 @@ pub returns-clause-after : goal.returns-clause-after
 returns-clause-after g c =
     let now = c.args.self.now in
     let kept = kept_in c.self.invariant.1 c.self.view_is in
-    let one = at_below c.self.inside.guests.items c.args.guest (inside_guests c.self.invariant.1 c.self.view_is c.args.guest c.requires) in
+    let at = (guest_at c.self.invariant.1 c.self.view_is c.args.guest c.requires).1 in
     let e = c.self.inside in
     let makes = makes_gift kept c.deref.ensures.value c.in-Ok.ensures in
     let count = c.exchange_in-empty.auto.guests ∙ c.deref_mut.ensures.len in
     grew c.self.invariant.1 c.self.view_is (gives (gift_nth now.world c.args.path.now c.args.guest c.args.slot)) c.args.guest c.requires
     (back_in e.guests.items e.guests.len count
-    (give_left (kept_nth kept one.1) makes (exchange_lent c.deref_mut.ensures.value c.exchange_in-empty.ensures.exchanged) c.reset_nth.ensures))
+    (give_left at makes (exchange_lent c.deref_mut.ensures.value c.exchange_in-empty.ensures.exchanged) c.reset_nth.ensures))
     (counts_lent _ (counted_nth c.args.guest true) c.deref_mut.ensures.value c.exchange_in-empty.ensures.counts e.guests.len count)
     (is_counted (name_nth now.world c.args.guest) (sym makes.fault))

@@ -14,6 +14,7 @@ use Rattle.monitor.proofs.PortSteps.{latch_lent, latch_written}
 use Rattle.monitor.proofs.Counts.{set_counted}
 use Rattle.monitor.proofs.Lands.{latch_unchanged}
 use Rattle.monitor.proofs.Machines.{accessed, counts_lent, same_machine}
+use Rattle.monitor.proofs.Writable.{after_access_sound}
 use Rattle.monitor.proofs.engine.Engine.latch_access.Goals as goal
 
 pub index-requires : goal.index-requires
@@ -39,8 +40,9 @@ invariant_of-self g c =
     let kept = kept_in c.self.invariant.1 c.self.view_is in
     let one = at_below e.guests.items c.args.guest (inside_guests c.self.invariant.1 c.self.view_is c.args.guest c.requires) in (
       c.self.invariant.0,
-      (back_in e.guests.items e.guests.len (c.write_latch.auto.guests ∙ c.deref_mut.ensures.len)
-          (latch_written (kept_nth kept one.1) c.in-Write.value (latch_lent c.args.guest c.in-Write.value c.deref_mut.ensures.value one.1 c.write_latch.ensures))).sound,
+      after_access_sound c.self.invariant.1 c.self.view_is c.args.guest c.requires (writes c.in-Write.value) 4 own_latch
+          (back_in e.guests.items e.guests.len (c.write_latch.auto.guests ∙ c.deref_mut.ensures.len)
+          (latch_written (kept_nth kept one.1) c.in-Write.value (latch_lent c.args.guest c.in-Write.value c.deref_mut.ensures.value one.1 c.write_latch.ensures))),
     )
 
 pub returns-in-Write-clause-after : goal.returns-in-Write-clause-after

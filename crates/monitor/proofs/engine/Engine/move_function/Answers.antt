@@ -13,6 +13,7 @@ use Rattle.monitor.proofs.Calls.{back_in, guest_in, inside_guests}
 use Rattle.monitor.proofs.Machines.{both_grew, counts_lent, refused_all}
 use Rattle.monitor.proofs.MoveSteps.{fault_is, has_moved, holds_moved, move_done, move_left, move_refused, nothing_moved}
 use Rattle.monitor.proofs.Exchanges.{over_lent}
+use Rattle.monitor.proofs.Writable.{after_action_sound}
 use Rattle.monitor.proofs.engine.Engine.move_function.Goals as goal
 
 pub index-requires : goal.index-requires
@@ -62,7 +63,7 @@ invariant_of-self g c =
     let to = guest_in c.self.invariant.1 c.self.view_is c.args.to c.requires.to c.index-2.ensures in
     let left = back_in e.guests.items e.guests.len (c.hand_over.auto.guests ∙ c.deref_mut.ensures.len)
     (move_left from to c.args.slot c.args.target c.deref.ensures.value c.deref-2.ensures.value c.in_default.ensures (over_lent c.deref_mut.ensures.value c.hand_over.ensures.over)) in
-    (g.met.R.Route.by_routing e.route e.host c.hand_over.new.host left.routes c.self.invariant.0, left.sound)
+    (g.met.R.Route.by_routing e.route e.host c.hand_over.new.host left.routes c.self.invariant.0, after_action_sound c.self.invariant.1 c.self.view_is (calls (asks (host_move (move_nth c.args.self.now.world c.args.from c.args.slot c.args.to c.args.target)))) left)
 
 pub returns-clause-after : goal.returns-clause-after
 returns-clause-after g c =

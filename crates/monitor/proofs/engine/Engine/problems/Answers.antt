@@ -10,6 +10,6 @@ use Rattle.monitor.proofs.engine.Engine.problems.Goals as goal
 pub returns-clause-in_order : goal.returns-clause-in_order
 returns-clause-in_order g c =
     let m : MachineNow = machine_shown c.self.inside.host (texts c.self.inside.names) c.self.inside.guests.items in
-    let lawful = c.self.invariant.1.lawful in
+    let lawful = c.self.invariant.1.kept.lawful in
     subst (λ (x : MachineNow). problems (board_state x.world).functions ≡ []) c.self.view_is
     (keeps_problems m.world.handoff lawful.handoff.board m.world.guests lawful.seated ∙ (problems_decide m.world.handoff.functions).1 lawful.order)

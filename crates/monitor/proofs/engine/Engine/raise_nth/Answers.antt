@@ -1,9 +1,11 @@
 use Rattle.std.proofs.Common.{◌∙◌, false, refl, sym, arith}
+use Rattle.model_guests.specs.Accesses.{raises}
 use Rattle.monitor.proofs.Machines.{accessed, untouched}
 use Rattle.monitor.proofs.RaiseSteps.{raise_of, no_place, nothing_raised, raise_done, raise_refused, raise_slot_refused, raise_written}
 use Rattle.monitor.proofs.Reached.{endpoint_held}
 use Rattle.monitor.proofs.Calls.{guest_in, inside_guests}
 use Rattle.monitor.proofs.Steps.{slot_lent}
+use Rattle.monitor.proofs.Writable.{after_event_sound}
 use Rattle.monitor.proofs.engine.Engine.raise_nth.Goals as goal
 
 pub index-requires : goal.index-requires
@@ -45,7 +47,7 @@ invariant_of-self g c =
     let at = guest_in c.self.invariant.1 c.self.view_is c.args.guest c.requires c.index.ensures in
     let slot = slot_lent at c.deref.ensures.value c.in-Ok.ensures.there.there in
     let left = raise_written at slot c.in-Ok.ensures.there.low c.args.place c.args.off c.args.mask (λ s p f held. sym c.if-not-has_place.false ∙ c.has_place.ensures s p f held) c.raise_on_board.ensures in
-    (g.met.R.Route.by_routing c.self.inside.route c.self.inside.host c.raise_on_board.new.host left.routes c.self.invariant.0, left.sound)
+    (g.met.R.Route.by_routing c.self.inside.route c.self.inside.host c.raise_on_board.new.host left.routes c.self.invariant.0, after_event_sound c.self.invariant.1 c.self.view_is c.args.guest c.requires (raises (raise_of c.args.slot c.args.place c.args.off c.args.mask)) left)
 
 pub returns-clause-reply : goal.returns-clause-reply
 returns-clause-reply g c =

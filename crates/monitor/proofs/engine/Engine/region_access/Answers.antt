@@ -13,6 +13,7 @@ use Rattle.monitor.proofs.RegionSteps.{after_nowhere, holds_landed, landing_at, 
 use Rattle.monitor.proofs.Calls.{guest_in, inside_guests}
 use Rattle.monitor.proofs.Lands.{region_unchanged}
 use Rattle.monitor.proofs.Machines.{accessed, same_machine, untouched}
+use Rattle.monitor.proofs.Writable.{after_access_sound}
 use Rattle.monitor.proofs.engine.Engine.region_access.Goals as goal
 
 pub index-requires : goal.index-requires
@@ -60,7 +61,7 @@ pub invariant_of-self-in-Write : goal.invariant_of-self-in-Write
 invariant_of-self-in-Write g c =
     let at = guest_in c.self.invariant.1 c.self.view_is c.args.guest c.requires.there c.index.ensures in
     let left = region_written at (named_space c.args.space) c.args.addr c.deref.ensures.value c.in-Some.ensures.there c.deref-2.ensures.value c.located-at.ensures c.args.width c.in-Some.ensures.landing c.in-Write.value c.region_write.ensures in
-    (g.met.R.Route.by_routing c.self.inside.route c.self.inside.host c.region_write.new.self left.routes c.self.invariant.0, left.sound)
+    (g.met.R.Route.by_routing c.self.inside.route c.self.inside.host c.region_write.new.self left.routes c.self.invariant.0, after_access_sound c.self.invariant.1 c.self.view_is c.args.guest c.requires.there (writes c.in-Write.value) c.args.width (at_target (target_in (named_space c.args.space) c.args.addr)) left)
 
 pub returns-in-Write-clause-after : goal.returns-in-Write-clause-after
 returns-in-Write-clause-after g c =

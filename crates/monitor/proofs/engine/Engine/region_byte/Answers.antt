@@ -1,5 +1,7 @@
-use Rattle.std.proofs.Common.{◌∙◌, ap, refl, sym, arith, false, Ok}
+use Rattle.std.proofs.Common.{◌∙◌, ap, refl, sym, arith, false, Ok, Some}
+use Rattle.model_registers.specs.Registers.{block}
 use Rattle.model_guests.specs.Accesses.{reads, writes}
+use Rattle.model_guests.specs.Slots.{Landing}
 use Rattle.model_handoff.specs.RegionBytes.{byte_reply, reply_there, after_there, register_of}
 use Rattle.config_bytes.specs.declared.op.Op.{Op}
 use Rattle.accesses.specs.Accesses.{op_of, part_of}
@@ -13,6 +15,7 @@ use Rattle.monitor.proofs.Machines.{accessed}
 use Rattle.monitor.proofs.RegionBytes.{byte_refused, byte_closed, lands, opening_is, read_stays, slot_refused}
 use Rattle.monitor.proofs.RegionSteps.{read_there, written_there}
 use Rattle.monitor.proofs.Steps.{slot_lent}
+use Rattle.monitor.proofs.Writable.{after_write_sound}
 use Rattle.monitor.proofs.engine.Engine.region_byte.Goals as goal
 
 pub index-requires : goal.index-requires
@@ -87,8 +90,11 @@ returns-in-Read-clause-read g c =
 pub invariant_of-self-in-Write : goal.invariant_of-self-in-Write
 invariant_of-self-in-Write g c =
     let at = guest_in c.self.invariant.1 c.self.view_is c.args.guest c.requires c.index.ensures in
-    let left = written_there at (slot_lent at c.deref.ensures.value c.in-Ok.ensures.there.there) (register_of (part_of c.args.place)) c.args.off c.byte_at-at.ensures 1 c.in-Write.value c.region_write.ensures in
-    (g.met.R.Route.by_routing c.self.inside.route c.self.inside.host c.region_write.new.self left.routes c.self.invariant.0, left.sound)
+    let left = written_there at (slot_lent at c.deref.ensures.value c.in-Ok.ensures.there.there) (register_of (part_of c.args.place)) c.args.off c.byte_at-at.ensures 1 c.in-Write.value c.region_write.ensures in (
+      g.met.R.Route.by_routing c.self.inside.route c.self.inside.host c.region_write.new.self left.routes c.self.invariant.0,
+      after_write_sound c.self.invariant.1 c.self.view_is c.args.guest c.requires c.in-Write.value 1
+          (Some (let l : Landing = record { slot = c.args.slot; place = block (register_of (part_of c.args.place)) c.args.off } in l)) left,
+    )
 
 pub returns-in-Write-clause-reply : goal.returns-in-Write-clause-reply
 returns-in-Write-clause-reply g c =

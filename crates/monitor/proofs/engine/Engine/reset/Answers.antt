@@ -11,6 +11,7 @@ use Rattle.monitor.proofs.Machines.{both_one, counts_lent, grew, happens, is_cou
 use Rattle.monitor.proofs.TakingSteps.{fault_named, may_take}
 use Rattle.monitor.proofs.Steps.{fault_lent, slot_lent}
 use Rattle.monitor.proofs.Exchanges.{has_nth, holds_nth, over_lent}
+use Rattle.monitor.proofs.Writable.{after_action_sound}
 use Rattle.monitor.proofs.engine.Engine.reset.Goals as goal
 
 pub index-requires : goal.index-requires
@@ -51,7 +52,7 @@ invariant_of-self g c =
     let slot = slot_lent at c.deref.ensures.value c.in-Ok.ensures.there.there in
     let left = back_in e.guests.items e.guests.len (c.hand_over.auto.guests ∙ c.deref_mut.ensures.len)
     (reset_left at slot c.in-Ok.ensures.there.low (over_lent c.deref_mut.ensures.value c.hand_over.ensures.over)) in
-    (g.met.R.Route.by_routing e.route e.host c.hand_over.new.host left.routes c.self.invariant.0, left.sound)
+    (g.met.R.Route.by_routing e.route e.host c.hand_over.new.host left.routes c.self.invariant.0, after_action_sound c.self.invariant.1 c.self.view_is (happens c.args.self.now c.args.guest (resets c.args.slot)) left)
 
 pub returns-in-Ok-clause-after : goal.returns-in-Ok-clause-after
 returns-in-Ok-clause-after g c =

@@ -1,43 +1,41 @@
 use Rattle.std.proofs.Common.{◌∙◌, List, true, refl, subst, sym, arith}
-use Rattle.lists.proofs.Indices.{at_below}
 use Rattle.model_guests.specs.WorldNow.{WorldNow}
 use Rattle.monitor.specs.declared.guest.Guest.{Guest}
 use Rattle.monitor.specs.Counts.{counted_nth}
 use Rattle.monitor.specs.Keeping.{IsKept}
 use Rattle.monitor.specs.Moves.{HasSlot}
 use Rattle.monitor.specs.Views.{texts}
-use Rattle.monitor.proofs.Calls.{back_in, inside_guests, kept_in, leaves}
+use Rattle.monitor.proofs.Calls.{back_in, guest_at, kept_in, leaves}
 use Rattle.monitor.proofs.Exchanges.{has_nth}
 use Rattle.monitor.proofs.Machines.{counts_lent}
-use Rattle.monitor.proofs.Steps.{kept_nth}
 use Rattle.monitor.proofs.RestartSteps.{restarted, restarted_is}
+use Rattle.monitor.proofs.Writable.{after_restart_sound}
 use Rattle.monitor.proofs.engine.Engine.reset_guest.Goals as goal
 
 pub restart-requires : goal.restart-requires
 restart-requires g c =
-    let kept = kept_in c.self.invariant.1 c.self.view_is in
-    let one = at_below c.self.inside.guests.items c.args.guest (inside_guests c.self.invariant.1 c.self.view_is c.args.guest c.requires) in
-    subst (λ (gs : List Guest). HasSlot gs c.args.guest 31) (sym c.deref_mut.ensures.value) (has_nth (kept_nth kept one.1) (omega arith))
+    let at = (guest_at c.self.invariant.1 c.self.view_is c.args.guest c.requires).1 in
+    subst (λ (gs : List Guest). HasSlot gs c.args.guest 31) (sym c.deref_mut.ensures.value) (has_nth at (omega arith))
 
 pub invariant_of-self : goal.invariant_of-self
 invariant_of-self g c =
     let e = c.self.inside in
     let now = c.args.self.now in
     let kept = kept_in c.self.invariant.1 c.self.view_is in
-    let one = at_below e.guests.items c.args.guest (inside_guests c.self.invariant.1 c.self.view_is c.args.guest c.requires) in
+    let at = (guest_at c.self.invariant.1 c.self.view_is c.args.guest c.requires).1 in
     let lent = subst (λ (gs : List Guest). IsKept now.world e.host (texts e.names) gs) (sym c.deref_mut.ensures.value) kept in
-    let after = subst (λ (v : WorldNow). IsKept v c.restart.new.host (texts e.names) c.restart.new.guests) (restarted_is (kept_nth kept one.1)) (c.restart.ensures.kept now.world (texts e.names) lent) in
+    let after = subst (λ (v : WorldNow). IsKept v c.restart.new.host (texts e.names) c.restart.new.guests) (restarted_is at) (c.restart.ensures.kept now.world (texts e.names) lent) in
     let left = back_in e.guests.items e.guests.len (c.restart.auto.guests ∙ c.deref_mut.ensures.len) (leaves kept after refl) in
-    (g.met.R.Route.by_routing e.route e.host c.restart.new.host left.routes c.self.invariant.0, left.sound)
+    (g.met.R.Route.by_routing e.route e.host c.restart.new.host left.routes c.self.invariant.0, after_restart_sound c.self.invariant.1 c.self.view_is c.args.guest c.requires left)
 
 pub returns : goal.returns
 returns g c =
     let e = c.self.inside in
     let now = c.args.self.now in
     let kept = kept_in c.self.invariant.1 c.self.view_is in
-    let one = at_below e.guests.items c.args.guest (inside_guests c.self.invariant.1 c.self.view_is c.args.guest c.requires) in
+    let at = (guest_at c.self.invariant.1 c.self.view_is c.args.guest c.requires).1 in
     let lent = subst (λ (gs : List Guest). IsKept now.world e.host (texts e.names) gs) (sym c.deref_mut.ensures.value) kept in
-    let after = subst (λ (v : WorldNow). IsKept v c.restart.new.host (texts e.names) c.restart.new.guests) (restarted_is (kept_nth kept one.1)) (c.restart.ensures.kept now.world (texts e.names) lent) in
+    let after = subst (λ (v : WorldNow). IsKept v c.restart.new.host (texts e.names) c.restart.new.guests) (restarted_is at) (c.restart.ensures.kept now.world (texts e.names) lent) in
     let count = c.restart.auto.guests ∙ c.deref_mut.ensures.len in
     restarted c.self.invariant.1 c.self.view_is c.args.guest c.requires (back_in e.guests.items e.guests.len count (leaves kept after refl))
     (counts_lent _ (counted_nth c.args.guest true) c.deref_mut.ensures.value c.restart.ensures.counts e.guests.len count)

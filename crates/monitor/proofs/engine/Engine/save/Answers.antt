@@ -1,9 +1,11 @@
 use Rattle.std.proofs.Common.{◌≤◌, ◌∙◌, length, ap, sym, subst, arith}
 use Rattle.model_images.specs.Images.{Image}
 use Rattle.model_images.specs.ImageBytes.{image_bytes}
+use Rattle.model_images.proofs.LoadedBytes.{taken_by_all}
 use Rattle.images.specs.Puts.{put}
 use Rattle.monitor.proofs.Calls.{guest_in, inside_guests}
 use Rattle.monitor.proofs.SavedImages.{image_is, places_kept}
+use Rattle.monitor.proofs.Writable.{savable_nth}
 use Rattle.monitor.proofs.engine.Engine.save.Goals as goal
 
 pub index-requires : goal.index-requires
@@ -17,7 +19,10 @@ put_image-requires-clause-room g c =
     let at = guest_in c.self.invariant.1 c.self.view_is c.args.guest c.requires.there c.index.ensures in
     subst (λ (i : Image). length (image_bytes i) ≤ length c.args.out.now) (image_is at) c.requires.room
 
-pub returns : goal.returns
-returns g c =
+pub returns-clause-bytes : goal.returns-clause-bytes
+returns-clause-bytes g c =
     let at = guest_in c.self.invariant.1 c.self.view_is c.args.guest c.requires.there c.index.ensures in
     c.put_image.ensures ∙ ap (λ (i : Image). put 0 (image_bytes i) c.args.out.now) (sym (image_is at))
+
+pub returns-clause-taken : goal.returns-clause-taken
+returns-clause-taken g c = taken_by_all _ (savable_nth c.self.invariant.1 c.self.view_is c.args.guest c.requires.there)

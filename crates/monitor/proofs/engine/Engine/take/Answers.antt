@@ -9,6 +9,7 @@ use Rattle.monitor.proofs.TakingSteps.{fault_named, may_take, nothing_taken, tak
 use Rattle.monitor.proofs.Calls.{back_in, guest_in, inside_guests}
 use Rattle.monitor.proofs.Exchanges.{exchange_lent, has_nth}
 use Rattle.monitor.proofs.Steps.{fault_lent, slot_lent}
+use Rattle.monitor.proofs.Writable.{after_action_sound}
 use Rattle.monitor.proofs.engine.Engine.take.Goals as goal
 
 pub index-requires : goal.index-requires
@@ -44,7 +45,7 @@ invariant_of-self g c =
     let slot = slot_lent at c.deref.ensures.value c.in-Ok.ensures.there.there in
     let left = back_in e.guests.items e.guests.len (c.exchange_in-taken.auto.guests ∙ c.deref_mut.ensures.len)
     (take_left at c.args.slot slot c.in-Ok.ensures.there.low (exchange_lent c.deref_mut.ensures.value c.exchange_in-taken.ensures.exchanged) c.reset_nth.ensures) in
-    (g.met.R.Route.by_routing e.route e.host c.reset_nth.new.self left.routes c.self.invariant.0, left.sound)
+    (g.met.R.Route.by_routing e.route e.host c.reset_nth.new.self left.routes c.self.invariant.0, after_action_sound c.self.invariant.1 c.self.view_is (takes (name_nth c.args.self.now.world c.args.guest) c.args.slot) left)
 
 pub returns-clause-after : goal.returns-clause-after
 returns-clause-after g c =

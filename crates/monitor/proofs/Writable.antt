@@ -1,0 +1,77 @@
+-- A machine that a call leaves, of which images can be written as of the one before.
+use Rattle.std.proofs.Common.{◌≡◌, ◌<◌, ℕ, zero, suc, List, [], ◌∷◌, Option, length, slice_set, sym, ◌∙◌, subst}
+use Rattle.lists.proofs.Indices.{each_at}
+use Rattle.model_guests.specs.Accesses.{Event, Op, writes}
+use Rattle.model_guests.specs.Guests.{GuestNow, GuestsNow, lone_of}
+use Rattle.model_guests.specs.Lone.{Destination, LoneGuest, after_access_at, after_event}
+use Rattle.model_guests.specs.Slots.{Landing, effect}
+use Rattle.model_guests.specs.Text.{Text}
+use Rattle.model_guests.specs.WorldNow.{WorldNow}
+use Rattle.model_handoff.specs.Actions.{Action, after_action}
+use Rattle.model_handoff.specs.Changes.{MachineNow}
+use Rattle.model_images.specs.ByteLaws.{IsSavableGuest}
+use Rattle.model_images.specs.Images.{Image, after_load, after_restart}
+use Rattle.model_images.specs.LoadedLaws.{IsFittingImage}
+use Rattle.model_images.specs.MachineByteLaws.{IsWritableWorld}
+use Rattle.model_images.proofs.ImageBytes.{read_are_bytes}
+use Rattle.model_images.proofs.KeptFunctions.{Has, access_holds, effect_holds, event_holds}
+use Rattle.model_images.proofs.WritableWorlds.{AllHold, HoldsWritable, action_written, all_hold, functions_writable, load_written, restart_written, rewritten, writable_kept}
+use Rattle.host_bridge.specs.HostState.{HostState}
+use Rattle.monitor.specs.declared.guest.Guest.{Guest}
+use Rattle.monitor.specs.ByIndex.{guest_nth, lone_nth, name_nth, with_lone_nth}
+use Rattle.monitor.specs.Keeping.{IsSound}
+use Rattle.monitor.specs.Views.{machine_shown}
+use Rattle.monitor.proofs.Calls.{Leaves, kept_in, writable_in}
+use Rattle.monitor.proofs.Named.{lone_by_name, nth_stands}
+use Rattle.monitor.proofs.Shown.{is_sound, names_kept}
+
+set_holds : (gs : GuestsNow) (i : ℕ) (x : GuestNow) → AllHold gs → Has HoldsWritable x.lone → AllHold (slice_set gs i x)
+set_holds [] i x all h = tt
+set_holds (g ∷ gs) zero x all h = (h, all.1)
+set_holds (g ∷ gs) (suc i) x all h = (all.0, set_holds gs i x all.1 h)
+
+module _ {h : HostState} {names : List Text} {gs : List Guest} (sound : IsSound h names gs) {now : MachineNow} (view : machine_shown h names gs ≡ now) where
+  abbrev w : WorldNow
+  w = now.world
+
+  writable : IsWritableWorld w
+  writable = writable_in sound view
+
+  pub after_action_sound : (a : Action) {new : HostState} {back : List Guest} → Leaves (after_action w a) h new names back → IsSound new names back
+  after_action_sound a {new} {back} left = is_sound (after_action w a) new names back left.kept (action_written w writable a left.kept.lawful)
+
+  -- ---- a guest by its index
+
+  module _ (i : ℕ) (inside : i < length w.guests) where
+    holds : Has HoldsWritable (lone_nth w i)
+    holds = each_at (λ (g : GuestNow). Has HoldsWritable g.lone) w.guests i (guest_nth w i) (all_hold w writable) (nth_stands w i inside)
+
+    pub savable_nth : IsSavableGuest (lone_of w.guests (name_nth w i))
+    savable_nth =
+        subst IsSavableGuest (lone_by_name (kept_in sound view) i inside)
+        (each_at (λ (g : GuestNow). IsSavableGuest g.lone) w.guests i (guest_nth w i) writable.guests (nth_stands w i inside))
+
+    with_lone : (l : LoneGuest) → Has HoldsWritable l → {new : HostState} {back : List Guest} → Leaves (with_lone_nth i l w) h new names back → IsSound new names back
+    with_lone l has {new} {back} left =
+        let v = with_lone_nth i l w in
+        let same = names_kept v.handoff names v.guests back left.kept.guests ∙ sym (names_kept w.handoff names w.guests gs (kept_in sound view).guests) in
+        is_sound v new names back left.kept
+        (rewritten w v writable left.kept.lawful (functions_writable w writable) writable.machine.latch same (set_holds w.guests i (record (guest_nth w i) { lone = l }) (all_hold w writable) has))
+
+    pub after_access_sound : (op : Op) (width : ℕ) (d : Destination) {new : HostState} {back : List Guest} → Leaves (with_lone_nth i (after_access_at (lone_nth w i) op width d) w) h new names back → IsSound new names back
+    after_access_sound op width d = with_lone (after_access_at (lone_nth w i) op width d) (access_holds HoldsWritable writable_kept (lone_nth w i) op width d holds)
+
+    pub after_event_sound : (e : Event) {new : HostState} {back : List Guest} → Leaves (with_lone_nth i (after_event (lone_nth w i) e) w) h new names back → IsSound new names back
+    after_event_sound e = with_lone (after_event (lone_nth w i) e) (event_holds HoldsWritable writable_kept (lone_nth w i) e holds)
+
+    pub after_write_sound : (v width : ℕ) (o : Option Landing) {new : HostState} {back : List Guest} → Leaves (with_lone_nth i (record (lone_nth w i) { slots = effect (writes v) width (lone_nth w i).slots o }) w) h new names back → IsSound new names back
+    after_write_sound v width o =
+        with_lone (record (lone_nth w i) { slots = effect (writes v) width (lone_nth w i).slots o })
+        (record { latch = holds.latch; functions = effect_holds HoldsWritable writable_kept v width (lone_nth w i).slots o holds.functions })
+
+    pub after_load_sound : (bytes : List ℕ) (image : Image) → IsFittingImage (lone_of w.guests (name_nth w i)) bytes image → {new : HostState} {back : List Guest} → Leaves (after_load (name_nth w i) image w) h new names back → IsSound new names back
+    after_load_sound bytes image is {new} {back} left =
+        is_sound (after_load (name_nth w i) image w) new names back left.kept (load_written w writable (name_nth w i) image (read_are_bytes bytes image is.image).1 is.fits left.kept.lawful)
+
+    pub after_restart_sound : {new : HostState} {back : List Guest} → Leaves (after_restart (name_nth w i) w) h new names back → IsSound new names back
+    after_restart_sound {new} {back} left = is_sound (after_restart (name_nth w i) w) new names back left.kept (restart_written w writable (name_nth w i) left.kept.lawful)
