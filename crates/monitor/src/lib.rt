@@ -60,6 +60,6 @@ pub use images::ImageFault;
 pub use locating::Hit;
 pub use monitor::Monitor;
 pub use own::OwnRegisters;
-pub use regions::RegionNow;
+pub use regions::GuestRegion;
 pub use seat::Seat;
 pub use withheld::Withheld;
