@@ -7,7 +7,7 @@ ghost use Rattle.accesses.specs.Accesses.{target_of};
 ghost use Rattle.report.specs.Found.{ended};
 ghost use Rattle.monitor.specs.Queries.{hit_named};
 ghost use Rattle.guest_why.specs.Findings.{finding_told};
-ghost use Rattle.guest_why.specs.Lines.{head_text, closed_line, told_lines, lines_of_closed};
+ghost use Rattle.guest_why.specs.Lines.{head_text, place_line, closed_line, told_lines, lines_of_closed};
 
 use crate::closed::ClosedInSlot;
 use crate::finding::Finding;
@@ -77,19 +77,27 @@ pub(crate) fn push_head(text: &mut String, at: At, finding: &Finding) -> Result<
     writeln!(text, "why: {}: {}", ShownPlace(at), ShownFinding(finding))
 }
 
-/// Appends the line of a closed region.
-fn push_closed(text: &mut String, closed: &ClosedInSlot) -> Result<(), AllocError>
-    ensures { OnOk result (Adds text.old text.new (closed_line closed.now)) }
+/// Appends the slot, the register and the place of a closed region.
+fn push_place(text: &mut String, closed: &ClosedInSlot) -> Result<(), AllocError>
+    ensures { OnOk result (Adds text.old text.new (place_line closed.now)) }
 {
     let slot = closed.slot;
     let register = closed.register;
     let first = closed.first;
     let size = closed.size;
-    let command = ShownCommand(closed.command);
-    writeln!(
+    write!(
         text,
-        "why: slot {slot} bar{register} at 0x{first:x} size 0x{size:x}: closed, {command}"
+        "why: slot {slot} bar{register} at 0x{first:x} size 0x{size:x}: closed, "
     )
+}
+
+/// Appends the line of a closed region.
+fn push_closed(text: &mut String, closed: &ClosedInSlot) -> Result<(), AllocError>
+    ensures { OnOk result (Adds text.old text.new (closed_line closed.now)) }
+{
+    push_place(text, closed)?;
+    write!(text, "{}", ShownCommand(closed.command))?;
+    text.push('\n')
 }
 
 /// Appends the lines of closed regions.
