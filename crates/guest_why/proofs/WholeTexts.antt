@@ -1,12 +1,10 @@
 -- The lines of a text, one after the other.
 use Rattle.std.proofs.Common.{◌≡◌, ◌++◌, List, [], ◌∷◌, map, sym, ap, ◌∙◌, append_assoc}
-use Rattle.std.specs.Prelude.{Result, Ok, Err, OnOk, is_ok, if◌then◌else◌}
 use Rattle.std.proofs.lemmas.List.{map-append}
 use Rattle.model_guests.specs.Text.{Text, text_of_lines}
 use Rattle.model_lines.specs.WhyText.{why_line}
 use Rattle.report.specs.Found.{ended}
 use Rattle.model_guests.proofs.WrittenLines.{text_of_lines-append}
-use Rattle.findings_told.proofs.Chains.{onto}
 
 pub text_whole : (before after : List Text) (head zero one two three : Text) → zero ≡ [] → one ≡ zero ++ text_of_lines (map why_line before) → two ≡ one ++ ended (why_line head)
     → three ≡ two ++ text_of_lines (map why_line after) → three ≡ text_of_lines (map why_line (before ++ head ∷ after))
@@ -14,8 +12,3 @@ text_whole before after head zero one two three z e f g =
     g ∙ ap (λ (x : Text). x ++ text_of_lines (map why_line after)) (f ∙ ap (λ (x : Text). x ++ ended (why_line head)) (e ∙ ap (λ (x : Text). x ++ text_of_lines (map why_line before)) z))
     ∙ append_assoc (text_of_lines (map why_line before)) (ended (why_line head)) (text_of_lines (map why_line after))
     ∙ sym (ap text_of_lines (map-append why_line before (head ∷ after)) ∙ text_of_lines-append (map why_line before) (map why_line (head ∷ after)))
-
--- constant words at the end
-pub then_words : {T E : Type 0} (r : Result T E) (old a b t u : Text) → t ≡ old ++ a → u ≡ (if is_ok r then t ++ b else t) → OnOk r (u ≡ old ++ (a ++ b))
-then_words (Ok x) old a b t u e f = f ∙ onto old a b t e
-then_words (Err x) old a b t u e f = tt
