@@ -1,22 +1,22 @@
 -- After set-up the windows of a board's bridges are those that placement gave them: a pool's items stand behind bridges that can name its addresses alone.
-use Rattle.std.proofs.Common.{◌≡◌, ℕ, zero, suc, ◌+◌, ◌-◌, ◌%◌, ◌^◌, ◌≤◌, ◌<◌, inl, Bool, true, ◌||◌, not, List, [], ◌∷◌, ◌++◌, length, Option, Some, None, MatchOption, refl, sym, ap, ◌∙◌, subst, arith, rules, inr}
+use Rattle.std.proofs.Common.{◌≡◌, ℕ, zero, suc, ◌+◌, ◌-◌, ◌%◌, ◌^◌, ◌≤◌, ◌<◌, inl, Bool, true, ◌||◌, not, List, [], ◌∷◌, ◌++◌, length, Option, Some, MatchOption, refl, sym, ap, ◌∙◌, subst, arith, rules, inr}
 use Rattle.std.specs.Prelude.{filter, IsTrue, ⊤}
 use Rattle.std.specs.List.{list_all}
 use Rattle.std.proofs.lemmas.Bool.{ltb-true, and_parts, or_right, or_left, le-leb}
 use Rattle.lists.specs.Elements.{Each, IsIn}
-use Rattle.model_registers.specs.Declarations.{Kind, Region, Endpoint, IoDecode, PrefDecode, Bridge}
+use Rattle.model_registers.specs.Declarations.{Kind, Region, Endpoint, IoDecode, Bridge}
 use Rattle.model_registers.specs.BridgeTable.{Window, BridgeValues, bridge_file}
-use Rattle.model_registers.specs.Apertures.{IsLawfulApertures, IsPrefOption, Aperture, Apertures}
+use Rattle.model_registers.specs.Apertures.{IsLawfulApertures, Aperture, Apertures}
 use Rattle.model_board.specs.Board.{Board, Row, Decl, endpoint, bridge, rows_on, IsBoard}
 use Rattle.model_board.specs.Paths.{Path, leads_to, last_part, IsPath}
-use Rattle.model_set_up.specs.Pools.{Pool, io_pool, mem_pool, pref_pool, same_pool, unit_of, bridge_of, bridges_above, has_pref, pref_reaches, pref_or_mem, pool_of, is_io, opens_io, has_io, has_io_paths, aperture_of}
+use Rattle.model_set_up.specs.Pools.{Pool, io_pool, mem_pool, pref_pool, same_pool, unit_of, bridge_of, bridges_above, pref_reaches, pool_of, is_io, opens_io, has_io, has_io_paths, aperture_of}
 use Rattle.model_set_up.specs.Placement.{Item, need, window_items, items_of, items_within, items_on, fits, bus_first, a_region, a_window}
 use Rattle.model_set_up.specs.Layout.{IsAligned, IsLawful, pool_rows, LayoutRow, layout}
 use Rattle.model_set_up.specs.Extents.{IsInside}
 use Rattle.model_set_up.specs.PlacementLaws.{window_row, window_rows, IsRowFor, HasRows}
 use Rattle.model_board.specs.Lawful.{HasLawfulDecls}
 use Rattle.model_set_up.specs.SetUp.{window_of, set_up_file}
-use Rattle.model_board.specs.Windows.{io_window, mem_window, pref_window, is_in, is_in_window}
+use Rattle.model_board.specs.Windows.{io_window, mem_window, pref_window, is_in_window}
 use Rattle.model_set_up.specs.WindowLaws.{io_reach, pref_reach, IsWhole, window_over, HasPlacedWindows, SetUpWindows, ForwardsPlaced}
 use Rattle.lists.proofs.Members.{each_in, each_from, from_flat_map, in_filter, in_flat_map, any_in, all_in}
 use Rattle.model_board.proofs.PathEnds.{leads_self, leads_trans}
@@ -63,9 +63,7 @@ module _ (b : Board) (a : Apertures) (pool : Pool) (paths : Each (λ r. IsPath r
           deeper h = grind (arith, leads, leads_trans)
 
           by_decl : (d : Decl) → r.decl ≡ d → IsIn i (items_of b a pool (items_within b a pool n) (record { path = r.path; decl = d })) → Behind b a pool p
-          by_decl (endpoint d) e k =
-              let g = region_of_item b a pool r.path d i k in
-              record { row = r; there = on.0; leads = leads; decl = d; decl_is = e; region = g.0; declared = g.1; in_pool = g.2 }
+          by_decl (endpoint d) e k = grind (arith, region_of_item b a pool r.path d i k, on, leads)
           by_decl (bridge d) e k = let j = window_item (unit_of pool) (items_within b a pool n r.path) r.path i k in deeper (more r.path j.0 j.1)
 
 -- a bridge of the board that leads to a path is above it
@@ -74,30 +72,19 @@ above b r d p m e leads = in_flat_map bridge_of r d (filter (λ r. leads_to r.pa
 
 -- ---- what the pool of a region says of the bridges above it
 
-io_of_pref : (o : Option Aperture) (ds : List Bridge) (wide : Bool) → same_pool (pref_or_mem o ds wide) io_pool ≡ true → ⊥
-io_of_pref None ds wide h = cc
-io_of_pref (Some ap) ds wide h = grind arith
-
 is_io_of : (a : Apertures) (ds : List Bridge) (k : Kind) → same_pool (pool_of a ds k) io_pool ≡ true → is_io k ≡ true
-is_io_of a ds k h = grind (arith, io_of_pref)
+is_io_of a ds k h = grind arith
 
 abbrev Reached : Option Aperture → List Bridge → Type 0
 Reached o ds = (ap : Aperture) × (wide : Bool) × (o ≡ Some ap) × (pref_reaches ap ds wide ≡ true)
 
-reached_of : (o : Option Aperture) (ds : List Bridge) (wide : Bool) → same_pool (pref_or_mem o ds wide) pref_pool ≡ true → Reached o ds
-reached_of None ds wide h = cc
-reached_of (Some ap) ds wide h = grind arith
-
 pref_of : (a : Apertures) (ds : List Bridge) (k : Kind) → same_pool (pool_of a ds k) pref_pool ≡ true → Reached a.pref ds
-pref_of a ds k h = grind (arith, reached_of)
+pref_of a ds k h = grind arith
 
 -- ---- each bridge above can name the pool's addresses
 
-reach_low : (k : PrefDecode) (n : ℕ) → n < 2 ^ 32 → has_pref k ≡ true → n < pref_reach k
-reach_low k n h has = grind arith
-
 pref_reached : (ap : Aperture) (ds : List Bridge) (wide : Bool) (d : Bridge) → IsIn d ds → ap.last < 2 ^ 63 → pref_reaches ap ds wide ≡ true → ap.last < pref_reach d.pref
-pref_reached ap ds wide d m limit h = grind (arith, reach_low, ltb-true, all_in, and_parts)
+pref_reached ap ds wide d m limit h = grind (arith, ltb-true, all_in, and_parts)
 
 io_reached : (k : IoDecode) (n : ℕ) → n < 2 ^ 16 → has_io k ≡ true → n < io_reach k
 io_reached k n h has = grind arith
@@ -116,12 +103,7 @@ module _ (b : Board) (a : Apertures) (board : IsBoard b) (apertures : IsLawfulAp
       io_reached d.io a.io.last (omega (arith, apertures.io.ends)) (all_in (λ (x : Bridge). has_io x.io) d (bridges_above b h.row.path) all (above b r d h.row.path there decl h.leads))
 
   pref_above : HasItems b a pref_pool r.path → MatchOption a.pref ⊤ (λ ap. ap.last < pref_reach d.pref)
-  pref_above (i, m) =
-      let h : Behind b a pref_pool r.path = behind b a pref_pool board.paths 16 r.path i m in
-      by_aperture (bridges_above b h.row.path) a.pref apertures.pref (pref_of a (bridges_above b h.row.path) h.region.kind h.in_pool) (above b r d h.row.path there decl h.leads)
-    where
-      by_aperture : (ds : List Bridge) (o : Option Aperture) → IsPrefOption a.mem o → Reached o ds → IsIn d ds → MatchOption o ⊤ (λ ap. ap.last < pref_reach d.pref)
-      by_aperture ds o lawful reached m = grind (arith, pref_reached)
+  pref_above (i, m) = grind (arith, behind b a pref_pool board.paths 16 r.path i m, pref_of a, above b r d, pref_reached)
 
 -- ---- the window of a bus
 
@@ -149,12 +131,6 @@ placed_here b a pool board lawful fit p long (i, m) =
           (each_in (λ r. MatchOption (aperture_of a r.pool) ⊥ (λ ap. IsInside ap.first (ap.last + 1) r.first r.size)) (window_row b a pool p) (pool_rows b a pool) whole.in_apertures there);
     }
 
-io_whole : (first size last reach : ℕ) → first % 2 ^ 12 ≡ 0 → size % 2 ^ 12 ≡ 0 → 0 < size → first + size ≤ last + 1 → last < reach → IsWhole (2 ^ 12) reach (record { first = first; last = first + size - 1 })
-io_whole first size last reach f s some h k = record { first = f; end = omega arith; in_order = omega arith; reached = omega arith }
-
-memory_whole : (first size last reach : ℕ) → first % 2 ^ 20 ≡ 0 → size % 2 ^ 20 ≡ 0 → 0 < size → first + size ≤ last + 1 → last < reach → IsWhole (2 ^ 20) reach (record { first = first; last = first + size - 1 })
-memory_whole first size last reach f s some h k = record { first = f; end = omega arith; in_order = omega arith; reached = omega arith }
-
 -- registers that hold the window of a bus with these items name its window
 abbrev placed_from : ℕ → ℕ → List Item → Window
 placed_from first unit is = record { first = first; last = first + need unit is - 1 }
@@ -178,24 +154,13 @@ module _ (b : Board) (a : Apertures) (board : IsBoard b) (lawful : HasLawfulDecl
     whole pool has = placed_here b a pool board lawful (fit pool) r.path (each_in (λ (x : Row). IsPath x.path) r b board.paths there).some has
 
     io_placed : HasItems b a io_pool r.path → IsWhole (2 ^ 12) (io_reach d.io) (placed_from (bus_first b a io_pool r.path) (2 ^ 12) (items_on b a io_pool r.path))
-    io_placed has =
-        let s = whole io_pool has in
-        io_whole (bus_first b a io_pool r.path) (need (2 ^ 12) (items_on b a io_pool r.path)) a.io.last (io_reach d.io) s.first_whole s.size_whole s.some s.inside (io_above b a board apertures r there d decl ways has)
+    io_placed has = grind (arith, whole io_pool has, io_above b a board apertures r there d decl ways has)
 
     mem_placed : HasItems b a mem_pool r.path → IsWhole (2 ^ 20) (2 ^ 32) (placed_from (bus_first b a mem_pool r.path) (2 ^ 20) (items_on b a mem_pool r.path))
-    mem_placed has =
-        let s = whole mem_pool has in
-        memory_whole (bus_first b a mem_pool r.path) (need (2 ^ 20) (items_on b a mem_pool r.path)) a.mem.last (2 ^ 32) s.first_whole s.size_whole s.some s.inside apertures.mem.ends
+    mem_placed has = grind (arith, whole mem_pool has)
 
     pref_placed : HasItems b a pref_pool r.path → IsWhole (2 ^ 20) (pref_reach d.pref) (placed_from (bus_first b a pref_pool r.path) (2 ^ 20) (items_on b a pref_pool r.path))
-    pref_placed has = by_aperture a.pref (whole pref_pool has).inside (pref_above b a board apertures r there d decl has)
-      where
-        by_aperture : (o : Option Aperture) → MatchOption o ⊥ (λ ap. bus_first b a pref_pool r.path + need (2 ^ 20) (items_on b a pref_pool r.path) ≤ ap.last + 1) → MatchOption o ⊤ (λ ap. ap.last < pref_reach d.pref)
-            → IsWhole (2 ^ 20) (pref_reach d.pref) (placed_from (bus_first b a pref_pool r.path) (2 ^ 20) (items_on b a pref_pool r.path))
-        by_aperture None inside reach = absurd inside
-        by_aperture (Some x) inside reach =
-            let s = whole pref_pool has in
-            memory_whole (bus_first b a pref_pool r.path) (need (2 ^ 20) (items_on b a pref_pool r.path)) x.last (pref_reach d.pref) s.first_whole s.size_whole s.some inside reach
+    pref_placed has = grind (arith, whole pref_pool has, pref_above b a board apertures r there d decl has)
 
   windows : (r : Row) → IsIn r b → (d : Decl) → r.decl ≡ d → HasPlacedWindows b a r.path d
   windows r m (endpoint d) e = tt
@@ -222,17 +187,12 @@ of_function b a pool w p (endpoint d) what m = let e : w.what ≡ a_region m.0.i
 of_function b a pool w p (bridge d) what m = of_row b a pool w p (items_on b a pool p) refl m
 
 pub bridge_window : (b : Board) (a : Apertures) → HasRows b a → (w : LayoutRow) → IsIn w (layout b a) → w.what ≡ a_window → IsBridgeWindow b a w
-bridge_window b a has w m what =
-    let f = from_flat_map (pool_rows b a) w (io_pool ∷ mem_pool ∷ pref_pool ∷ []) m in
-    grind (arith, each_in, of_function)
+bridge_window b a has w m what = grind (arith, from_flat_map (pool_rows b a) w (io_pool ∷ mem_pool ∷ pref_pool ∷ []) m, each_in, of_function)
 
 -- ---- a window with items holds the addresses inside it
 
-in_window : (unit first : ℕ) (is : List Item) (i : Item) (n : ℕ) → IsIn i is → first ≤ n → n < first + need unit is → is_in n (window_over unit first is) ≡ true
-in_window unit first is i n m l u = grind (arith, le-leb)
-
 module _ (b : Board) (a : Apertures) (p : Path) (d : Bridge) (forwards : ForwardsPlaced b a p d) (i : Item) (n : ℕ) where
   pub window_holds : (pool : Pool) → IsIn i (items_on b a pool p) → bus_first b a pool p ≤ n → n < bus_first b a pool p + need (unit_of pool) (items_on b a pool p) → is_in_window d (set_up_file b a p (bridge d)) (pool_space pool) n ≡ true
-  window_holds io_pool m l u = ap (is_in n) forwards.io ∙ in_window (unit_of io_pool) (bus_first b a io_pool p) (items_on b a io_pool p) i n m l u
-  window_holds mem_pool m l u = grind (arith, or_left, in_window)
-  window_holds pref_pool m l u = grind (arith, or_right, in_window)
+  window_holds io_pool m l u = grind (arith, le-leb)
+  window_holds mem_pool m l u = grind (arith, or_left, le-leb)
+  window_holds pref_pool m l u = grind (arith, or_right, le-leb)

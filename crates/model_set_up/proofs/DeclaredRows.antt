@@ -1,6 +1,6 @@
 -- The rows of compact placement are those of the regions and windows that the board declares, one each.
 use Rattle.std.proofs.lemmas.Grind.{common_steps}
-use Rattle.std.proofs.Common.{◌≡◌, ℕ, ◌+◌, ◌<◌, inl, Bool, true, false, ◌&&◌, List, [], ◌∷◌, ◌++◌, length, refl, sym, ap, ap₂, ◌∙◌, subst, arith, rules}
+use Rattle.std.proofs.Common.{◌≡◌, ℕ, ◌+◌, ◌<◌, inl, Bool, true, false, ◌&&◌, List, [], ◌∷◌, ◌++◌, length, refl, sym, ap, ◌∙◌, subst, arith, rules}
 use Rattle.std.specs.Prelude.{filter}
 use Rattle.std.proofs.lemmas.Bool.{and_parts}
 use Rattle.std.proofs.lemmas.Bool.Decides.{nat_tests}
@@ -10,7 +10,7 @@ use Rattle.model_board.specs.Board.{Board, Row, Decl, endpoint, bridge, IsBoard}
 use Rattle.model_board.specs.Paths.{Part, Path, path_eq, parent, last_part, IsPath}
 use Rattle.model_registers.specs.Apertures.{Apertures}
 use Rattle.model_set_up.specs.Pools.{Pool, same_pool, bridges_above, pool_of}
-use Rattle.model_set_up.specs.Placement.{Placed, a_region, a_window, same_placed, Item, Spot, spots, region_item, items_on, offset_on, bus_first, region_first}
+use Rattle.model_set_up.specs.Placement.{Placed, a_region, a_window, same_placed, Item, Spot, spots, region_item, items_on, bus_first, region_first}
 use Rattle.model_set_up.specs.Layout.{LayoutRow, row_of, bus_rows, buses, pool_rows}
 use Rattle.model_board.specs.Lawful.{HasLawfulDecls}
 use Rattle.model_set_up.specs.PlacementLaws.{pool_at, region_row, window_row, window_rows, rows_at, HasOwnRows, IsRowFor, RowsAreDeclared}
@@ -18,15 +18,12 @@ use Rattle.lists.proofs.Members.{each_in, each_from, from_map, in_map, in_filter
 use Rattle.model_set_up.proofs.PlacedApart.{pool_is}
 use Rattle.model_board.proofs.PathOrder.{path_same}
 use Rattle.model_board.proofs.PathEnds.{snoc, path_self, parent_snoc, path_eq-snoc, path_eq-sym}
-use Rattle.model_set_up.proofs.Items.{spot_of, item_of, spots_differ, same_placed-sym, items_for, region_of_item, Origin, origin, on_own_bus, items_differ}
+use Rattle.model_set_up.proofs.Items.{spot_of, item_of, spots_differ, same_placed-sym, items_for, region_of_item, origin, on_own_bus, items_differ}
 use Rattle.model_set_up.proofs.Nesting.{HasItems, WindowOn, offset_of, window_of, window_above}
 use Rattle.model_set_up.proofs.LawfulPlacement.{buses_differ, pool_self, OnBus, on_bus_row, row_in}
 
 abbrev pub row_with : Pool → Path → Placed → ℕ → ℕ → LayoutRow
 row_with pool p w n k = record { path = p; what = w; pool = pool; first = n; size = k }
-
-same_row : {p q : Path} {v w : Placed} {m n k l : ℕ} (pool : Pool) → p ≡ q → v ≡ w → m ≡ n → k ≡ l → row_with pool p v m k ≡ row_with pool q w n l
-same_row pool e f g h = λ i. record { path = e i; what = f i; pool = pool; first = g i; size = h i }
 
 -- the row of a region, were it in this pool
 abbrev pub row_in_pool : Board → Apertures → Pool → Path → Region → LayoutRow
@@ -36,9 +33,6 @@ row_in_pool b a pool p k = row_with pool p (a_region k.index) (region_first b a 
 
 abbrev pub RowsDiffer : LayoutRow → LayoutRow → Type 0
 RowsDiffer r s = (path_eq r.path s.path && same_placed r.what s.what) ≡ false
-
-differ_sym : (r s : LayoutRow) → RowsDiffer r s → RowsDiffer s r
-differ_sym r s h = ap₂ ◌&&◌ (path_eq-sym s.path r.path) (same_placed-sym s.what r.what) ∙ h
 
 placed_self : (w : Placed) → same_placed w w ≡ true
 placed_self w = grind (arith, nat_tests)
@@ -62,23 +56,16 @@ module _ (b : Board) (a : Apertures) (pool : Pool) (board : IsBoard b) (lawful :
 
   -- a row is the only one for its region or window
   pub only_row : (x : LayoutRow) → IsIn x (pool_rows b a pool) → filter (λ r. path_eq r.path x.path && same_placed r.what x.what) (pool_rows b a pool) ≡ x ∷ []
-  only_row x m = grind (arith, one_passes, rows_differ, differ_sym, path_self, placed_self)
+  only_row x m = grind (arith, one_passes, rows_differ, path_eq-sym, same_placed-sym, path_self, placed_self)
 
   -- ---- the row at a spot
 
   pub region_row_at : (p : Path) (k : Region) (bus : Path) (s : Spot) → IsIn s (spots (items_on b a pool bus)) → p ≡ bus ++ s.item.part ∷ [] → s.item ≡ region_item (last_part p) k
       → the_row bus s ≡ row_in_pool b a pool p k
-  region_row_at p k bus s m path item =
-      let up : parent p ≡ bus = ap parent path ∙ parent_snoc bus s.item.part in
-      same_row pool (sym path) (ap (λ (i : Item). i.what) item)
-      (ap (λ n. bus_first b a pool bus + n) (sym (offset_of b a pool board lawful bus s m)) ∙ ap (λ (i : Item). bus_first b a pool bus + offset_on b a pool bus i.part i.what) item
-      ∙ ap (λ (x : Path). bus_first b a pool x + offset_on b a pool x (last_part p) (a_region k.index)) (sym up))
-      (ap (λ (i : Item). i.size) item)
+  region_row_at p k bus s m path item = grind (arith, parent_snoc bus s.item.part, offset_of b a pool board lawful bus s m)
 
   pub window_row_at : (p : Path) (bus : Path) (s : Spot) → IsIn s (spots (items_on b a pool bus)) → p ≡ bus ++ s.item.part ∷ [] → s.item.what ≡ a_window → the_row bus s ≡ window_row b a pool p
-  window_row_at p bus s m path what =
-      let w = window_of b a pool board lawful bus s m what in
-      grind (arith, same_row)
+  window_row_at p bus s m path what = grind (arith, window_of b a pool board lawful bus s m what)
 
   -- ---- each region and each window has its row
 
@@ -110,8 +97,7 @@ module _ (b : Board) (a : Apertures) (pool : Pool) (board : IsBoard b) (lawful :
   window_has p x m h = of_spot (on_bus_row b a pool x m)
     where
       is_window : (w : Placed) → same_placed w a_window ≡ true → w ≡ a_window
-      is_window (a_region n) k = cc
-      is_window a_window k = refl
+      is_window w k = grind arith
 
       of_spot : OnBus b a pool x → HasItems b a pool p
       of_spot o =
@@ -145,8 +131,7 @@ module _ (b : Board) (a : Apertures) (pool : Pool) (board : IsBoard b) (lawful :
     where
       of_spot : (x : LayoutRow) → OnBus b a pool x → (r : Row) × IsIn r b × IsRowFor b a pool x r.path r.decl
       of_spot x o =
-          let f : Origin b a pool o.bus o.spot.item = origin b a pool board o.bus o.spot.item (item_of o.spot (items_on b a pool o.bus) o.on) in
-          (f.row, f.there, row_for f.row.path f.row.decl x o.bus o.spot o.on o.row_is f.path_is f.item)
+          grind (arith, origin b a pool board o.bus o.spot.item (item_of o.spot (items_on b a pool o.bus) o.on), item_of o.spot (items_on b a pool o.bus) o.on, row_for)
 
 pub rows_are_declared : RowsAreDeclared
 rows_are_declared b a board lawful = record {

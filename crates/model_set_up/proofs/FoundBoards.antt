@@ -1,5 +1,5 @@
 -- A board as it was found: each row keeps its path, whether it is a bridge, its regions but for their cells, and its decodes.
-use Rattle.std.proofs.Common.{◌≡◌, ℕ, ◌+◌, ◌≤◌, Bool, ◌&&◌, ◌||◌, cond, List, [], ◌∷◌, ◌++◌, length, Some, refl, sym, ap, ap₂, ◌∙◌, subst, arith, rules, zero, suc}
+use Rattle.std.proofs.Common.{◌≡◌, ℕ, ◌+◌, ◌≤◌, Bool, ◌&&◌, ◌||◌, cond, List, [], ◌∷◌, length, refl, sym, ap, ap₂, ◌∙◌, subst, arith, rules, zero, suc}
 use Rattle.std.specs.Prelude.{map, filter, flat_map, count_by}
 use Rattle.std.specs.List.{list_all, list_any}
 use Rattle.std.proofs.lemmas.List.{map-append}
@@ -22,9 +22,9 @@ use Rattle.model_board.proofs.PathOrder.{one}
 use Rattle.model_registers.specs.Decoding.{io, memory, space_of, same_space}
 use Rattle.model_registers.specs.EndpointTable.{BaseAddress}
 use Rattle.model_registers.proofs.BareRegions.{bare_each, bare_order}
-use Rattle.model_set_up.specs.Placement.{Item, a_region, a_window, region_item, window_items, items_of, items_within, items_on, root_first, fits, fits_items, spots, offset_in, offset_on, first_below, bus_first, region_first}
-use Rattle.model_set_up.specs.Layout.{row_of, bus_rows, buses, pool_rows, layout}
-use Rattle.model_set_up.specs.SetUp.{first_of, command_of, window_of, set_up_window}
+use Rattle.model_set_up.specs.Placement.{Item, a_region, region_item, window_items, items_of, items_within, items_on, root_first, spots, offset_in, first_below, bus_first, region_first}
+use Rattle.model_set_up.specs.Layout.{buses, pool_rows}
+use Rattle.model_set_up.specs.SetUp.{first_of, command_of}
 use Rattle.model_set_up.specs.SetUpWrites.{placed_base, windows_of, writes_of, planned, placement_rules}
 
 abbrev pub found_endpoint : Endpoint → Endpoint
@@ -55,9 +55,6 @@ found_is_bridge d = grind arith
 pub bare_twice : (rs : List Region) → map bare (map bare rs) ≡ map bare rs
 bare_twice [] = refl
 bare_twice (r ∷ rs) = ap (λ (ss : List Region). bare r ∷ ss) (bare_twice rs)
-
-pub found_twice : (d : Decl) → found_decl (found_decl d) ≡ found_decl d
-found_twice d = grind (arith, bare_twice)
 
 bare_blocks : (rs : List Region) → Each (λ r. length r.cells ≤ 4096) (map bare rs)
 bare_blocks [] = tt
@@ -100,11 +97,10 @@ pub found_bus : (b : Board) (p : Path) → bus_of (found_board b) p ≡ bus_of b
 found_bus b p = found_behind b (parent p)
 
 pub found_range : (b : Board) (p : Path) (d : Decl) → range_behind (found_board b) p (found_decl d) ≡ range_behind b p d
-found_range b p (endpoint d) = refl
-found_range b p (bridge d) = ap₂ (λ m n. Some (record { first = m; last = n })) (found_secondary b p) (found_subordinate b p)
+found_range b p d = grind (arith, found_secondary b p, found_subordinate b p)
 
 pub found_table_row : (b : Board) (r : Row) → table_row (found_board b) found_decl (found_row r) ≡ table_row b found_decl r
-found_table_row b r = λ i. record { path = r.path; bus = found_bus b r.path i; behind = found_range b r.path r.decl i; decl = found_twice r.decl i }
+found_table_row b r = grind (arith, found_bus b r.path, found_range b r.path r.decl, bare_twice)
 
 -- ---- a map of rows, and a map over what was found
 
@@ -128,11 +124,8 @@ found_bridges (r ∷ b) = grind (arith, found_bridges b, map-append)
 pub found_above : (b : Board) (p : Path) → bridges_above (found_board b) p ≡ map found_bridge (bridges_above b p)
 found_above b p = ap (flat_map bridge_of) (filter_found (λ r. leads_to r.path p) (λ r. leads_to r.path p) (λ r. refl) b) ∙ found_bridges (filter (λ r. leads_to r.path p) b)
 
-pub all_found : (t : Bridge → Bool) → ((d : Bridge) → t (found_bridge d) ≡ t d) → (ds : List Bridge) → list_all t (map found_bridge ds) ≡ list_all t ds
-all_found t h ds = list_all-map t found_bridge ds ∙ (λ i. list_all (λ (d : Bridge). h d i) ds)
-
 pub found_pool : (b : Board) (a : Apertures) (p : Path) (k : Kind) → pool_of a (bridges_above (found_board b) p) k ≡ pool_of a (bridges_above b p) k
-found_pool b a p k = grind (arith, found_above, all_found)
+found_pool b a p k = grind (arith, found_above, list_all-map)
 
 -- ---- a board as it was found is placed as the board is: placement looks at paths, kinds, sizes and decodes alone
 
@@ -160,25 +153,13 @@ items_found b a pool (suc n) bus =
 
 module _ (b c : Board) (a : Apertures) (pool : Pool) (same : (bus : Path) → items_on c a pool bus ≡ items_on b a pool bus) where
   first_below_same : (n : ℕ) (above : Path) (ps : Path) → first_below c a pool n above ps ≡ first_below b a pool n above ps
-  first_below_same n above [] = refl
-  first_below_same n above (p ∷ ps) = grind (arith, first_below_same (n + offset_on c a pool above p a_window) (above ++ p ∷ []) ps)
+  first_below_same n above ps = grind arith
 
   pub bus_first_same : (bus : Path) → bus_first c a pool bus ≡ bus_first b a pool bus
-  bus_first_same bus =
-      first_below_same (root_first a pool (items_on c a pool [])) [] bus
-      ∙ ap (λ (is : List Item). first_below b a pool (root_first a pool is) [] bus) (same [])
+  bus_first_same bus = grind (arith, first_below_same (root_first a pool (items_on c a pool [])) [] bus, same [])
 
   pub region_first_same : (p : Path) (k : ℕ) → region_first c a pool p k ≡ region_first b a pool p k
   region_first_same p k = ap₂ (λ n (is : List Item). n + offset_in (spots is) (last_part p) (a_region k)) (bus_first_same (parent p)) (same (parent p))
-
-  pub bus_rows_same : (bus : Path) → bus_rows c a pool bus ≡ bus_rows b a pool bus
-  bus_rows_same bus = ap₂ (λ n (is : List Item). map (row_of pool bus n) (spots is)) (bus_first_same bus) (same bus)
-
-  pub set_up_window_same : (closed : ℕ) (p : Path) → set_up_window c a pool closed p ≡ set_up_window b a pool closed p
-  set_up_window_same closed p = ap₂ (λ n (is : List Item). window_of (unit_of pool) closed n is) (bus_first_same p) (same p)
-
-  pub fits_same : fits c a pool ≡ fits b a pool
-  fits_same = ap (fits_items a pool) (same [])
 
 -- ---- the rows of the layout
 
@@ -193,10 +174,7 @@ module _ (b : Board) (a : Apertures) where
       ∙ map_found (λ r. r.path) (λ r. r.path) (λ r. refl) (filter (λ r. is_bridge r.decl) b))
 
   rows_found : (pool : Pool) → pool_rows (found_board b) a pool ≡ pool_rows b a pool
-  rows_found pool = λ i. flat_map (λ bus. bus_rows_same b (found_board b) a pool (on_bus pool) bus i) (buses_found i)
-
-  layout_found : layout (found_board b) a ≡ layout b a
-  layout_found = λ i. flat_map (λ pool. rows_found pool i) (io_pool ∷ mem_pool ∷ pref_pool ∷ [])
+  rows_found pool = grind (arith, bus_first_same, on_bus pool, buses_found)
 
   -- ---- what set-up writes
 
@@ -210,11 +188,7 @@ module _ (b : Board) (a : Apertures) where
   bases_found p (r ∷ rs) = ap₂ (λ n (bs : List BaseAddress). record { index = r.index; kind = r.kind; size = r.size; base = n } ∷ bs) (first_of_found p r) (bases_found p rs)
 
   windows_found : (p : Path) → windows_of (found_board b) a p ≡ windows_of b a p
-  windows_found p = λ i. record {
-    io = set_up_window_same b (found_board b) a io_pool (on_bus io_pool) 0xf p i;
-    mem = set_up_window_same b (found_board b) a mem_pool (on_bus mem_pool) 0xfff p i;
-    pref = set_up_window_same b (found_board b) a pref_pool (on_bus pref_pool) 0xfff p i;
-  }
+  windows_found p = grind (arith, bus_first_same, on_bus io_pool, on_bus mem_pool, on_bus pref_pool)
 
   any_bare : (t : Kind → Bool) (rs : List Region) → list_any (λ r. t r.kind) (map bare rs) ≡ list_any (λ r. t r.kind) rs
   any_bare t [] = refl
@@ -227,7 +201,7 @@ module _ (b : Board) (a : Apertures) where
   writes_found p d = grind (arith, command_found, bases_found, windows_found)
 
   pub planned_found : planned (found_board b) a ≡ planned b a
-  planned_found = grind (arith, layout_found, map_found, writes_found, found_bus)
+  planned_found = grind (arith, rows_found, map_found, writes_found, found_bus)
 
   -- ---- what is refused
 
@@ -236,13 +210,13 @@ module _ (b : Board) (a : Apertures) where
   opens_found (bridge d) = refl
 
   io_test : (p : Path) → list_all (λ d. has_io d.io) (bridges_above (found_board b) p) ≡ list_all (λ d. has_io d.io) (bridges_above b p)
-  io_test p = ap (list_all (λ d. has_io d.io)) (found_above b p) ∙ all_found (λ d. has_io d.io) (λ d. refl) (bridges_above b p)
+  io_test p = grind (arith, found_above b p, list_all-map)
 
   io_paths_found : has_io_paths (found_board b) ≡ has_io_paths b
   io_paths_found = grind (arith, opens_found, io_test, list_all-map)
 
   pub rules_found : placement_rules (found_board b) a ≡ placement_rules b a
-  rules_found = λ i. (202, io_paths_found i) ∷ (203, fits_same b (found_board b) a io_pool (on_bus io_pool) i) ∷ (204, fits_same b (found_board b) a mem_pool (on_bus mem_pool) i) ∷ (205, fits_same b (found_board b) a pref_pool (on_bus pref_pool) i) ∷ []
+  rules_found = grind (arith, io_paths_found, on_bus io_pool, on_bus mem_pool, on_bus pref_pool)
 
 -- ---- the law
 
@@ -260,6 +234,4 @@ of_found b board lawful c e =
     subst P (sym e) (found_places b board, found_decls b lawful, map_found _ _ (found_table_row b) b, planned_found b, rules_found b)
 
 pub placed_as_found : PlacedAsFound
-placed_as_found b board lawful =
-    let h = of_found b board lawful (board_in (sized_table b)) (board_in_table b) in
-    record { board = h.0; declarations = h.1; few = found_few b; table = h.2; plan = h.3; rules = h.4 }
+placed_as_found b board lawful = grind (arith, of_found b board lawful (board_in (sized_table b)) (board_in_table b), board_in_table b, found_few b)

@@ -1,7 +1,6 @@
 -- Regions that share no address: one at most holds an address, so their order doesn't count.
-use Rattle.std.proofs.Common.{◌≡◌, ℕ, ◌+◌, ◌≤◌, ◌<◌, inl, inr, Bool, true, false, List, [], ◌∷◌, None, refl, sym, ◌∙◌, rules, arith}
+use Rattle.std.proofs.Common.{◌≡◌, ℕ, ◌+◌, ◌≤◌, ◌<◌, inl, inr, true, false, List, [], ◌∷◌, None, refl, rules, arith}
 use Rattle.std.specs.Prelude.{flat_map}
-use Rattle.std.specs.List.{list_any}
 use Rattle.std.specs.Option.{option_to_list}
 use Rattle.std.proofs.lemmas.Bool.Decides.{nat_tests}
 use Rattle.std.proofs.lemmas.Bool.{leb-true, ltb-true}
@@ -25,17 +24,13 @@ holds_is space n q h = search (rules, left_true, leb-true, right_true, ltb-true)
 pub is_held : (space : Space) (n : ℕ) (q : PlacedRegion) → Holds space n q → holds space n q ≡ true
 is_held space n q h = search (rules, nat_tests)
 
--- what shares no address with a holder doesn't hold it
-not_held : (space : Space) (n : ℕ) (q t : PlacedRegion) → Holds space n q → ShareNone q t → holds space n t ≡ false
-not_held space n q t h apart = grind (arith, holds_is)
-
 -- all claims of placed regions
 abbrev pub claims_in : Space → ℕ → List PlacedRegion → List Claim
 claims_in space n qs = flat_map (λ q. option_to_list (claim_in space n q)) qs
 
 none_held : (space : Space) (n : ℕ) (q : PlacedRegion) (ts : List PlacedRegion) → Holds space n q → Each (ShareNone q) ts → claims_in space n ts ≡ []
 none_held space n q [] h apart = refl
-none_held space n q (t ∷ ts) h apart = let e : holds space n t ≡ false = not_held space n q t h apart.0 in rw e (none_held space n q ts h apart.1)
+none_held space n q (t ∷ ts) h apart = grind (arith, holds_is, none_held space n q ts h apart.1)
 
 pub one_at_most : (space : Space) (n : ℕ) (qs : List PlacedRegion) → EachPair ShareNone qs → claims_in space n qs ≡ option_to_list (first_some (claim_in space n) qs)
 one_at_most space n [] apart = refl
@@ -44,7 +39,7 @@ one_at_most space n (q ∷ qs) apart = search (rules, none_held, holds_is, one_a
 -- the holder is the first
 pub holder_first : (space : Space) (n : ℕ) (q : PlacedRegion) (qs : List PlacedRegion) → EachPair ShareNone qs → IsIn q qs → Holds space n q → first_some (claim_in space n) qs ≡ claim_in space n q
 holder_first space n q [] apart m h = absurd m
-holder_first space n q (t ∷ qs) apart m h = grind (arith, is_held, holder_first space n q qs, not_held, holds_is, each_in)
+holder_first space n q (t ∷ qs) apart m h = grind (arith, is_held, holder_first space n q qs, holds_is, each_in)
 
 pub self_space : (space : Space) → same_space space space ≡ true
 self_space space = grind arith
@@ -53,7 +48,7 @@ self_space space = grind arith
 
 -- two holders are one
 one_holder : (space : Space) (n : ℕ) (q t : PlacedRegion) (qs : List PlacedRegion) → EachPair ShareNone qs → IsIn q qs → IsIn t qs → Holds space n q → Holds space n t → q ≡ t
-one_holder space n q t qs apart m k h l = search (rules, pair_in, is_held, not_held)
+one_holder space n q t qs apart m k h l = grind (arith, pair_in, is_held, holds_is)
 
 -- a list whose holders are all q, and that has q, has q's claim first
 first_is : (space : Space) (n : ℕ) (q : PlacedRegion) (ts : List PlacedRegion) → Holds space n q → ((t : PlacedRegion) → IsIn t ts → Holds space n t → t ≡ q) → IsIn q ts → first_some (claim_in space n) ts ≡ claim_in space n q
@@ -66,11 +61,5 @@ none_first space n (t ∷ ts) h = let e : holds space n t ≡ false = h t (inl r
 
 -- lists with the same regions have the same claim of an address
 pub same_members : (space : Space) (n : ℕ) (qs ts : List PlacedRegion) → EachPair ShareNone qs → ((q : PlacedRegion) → IsIn q qs → IsIn q ts) → ((q : PlacedRegion) → IsIn q ts → IsIn q qs) → first_some (claim_in space n) ts ≡ first_some (claim_in space n) qs
-same_members space n qs ts apart into from = by_test (list_any (holds space n) qs) refl
-  where
-    by_holder : (q : PlacedRegion) → IsIn q qs → Holds space n q → first_some (claim_in space n) ts ≡ first_some (claim_in space n) qs
-    by_holder q m h = first_is space n q ts h (λ t k l. one_holder space n t q qs apart (from t k) m l h) (into q m) ∙ sym (holder_first space n q qs apart m h)
-
-    by_test : (u : Bool) → list_any (holds space n) qs ≡ u → first_some (claim_in space n) ts ≡ first_some (claim_in space n) qs
-    by_test true e = let f = from_any (holds space n) qs e in by_holder f.0 f.1 (holds_is space n f.0 f.2)
-    by_test false e = grind (arith, none_first, any_in)
+same_members space n qs ts apart into from =
+    grind (arith, first_is space n, one_holder space n, holder_first space n, from_any (holds space n) qs, holds_is space n, none_first, any_in)

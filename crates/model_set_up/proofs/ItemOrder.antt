@@ -5,13 +5,12 @@ use Rattle.std.proofs.lemmas.Bool.Decides.{nat_tests}
 use Rattle.std.proofs.lemmas.List.Sorted.{IsPermutation-refl, IsPermutation-cons, IsPermutation-swap, IsPermutation-trans, IsPermutation-sym}
 use Rattle.std.proofs.lemmas.Map.Keys.{IsDistinct-IsPermutation}
 use Rattle.lists.specs.Elements.{EachPair, IsIn}
-use Rattle.model_registers.specs.Declarations.{Region}
-use Rattle.model_board.specs.Paths.{Part, Path, part_eq}
+use Rattle.model_board.specs.Paths.{Path, part_eq}
 use Rattle.model_board.specs.Board.{Board, IsBoard}
 use Rattle.model_set_up.specs.Pools.{Pool}
 use Rattle.model_registers.specs.Apertures.{Apertures}
 use Rattle.model_board.specs.Lawful.{HasLawfulDecls}
-use Rattle.model_set_up.specs.Placement.{Item, register_of, region_item, stands_before, inserted, in_order, items_on}
+use Rattle.model_set_up.specs.Placement.{Item, register_of, stands_before, inserted, in_order, items_on}
 use Rattle.model_set_up.specs.OrderLaws.{IsInOrder, OrderIsSorted, OneOrder}
 use Rattle.lists.proofs.Members.{each_in, each_from}
 use Rattle.model_board.proofs.PathOrder.{part_self}
@@ -117,14 +116,10 @@ same_list (x ∷ xs) (y ∷ ys) h k to from =
     later_to e z m (inl f) = let loop : Strictly x x = subst (Strictly x) (f ∙ sym e) (each_in (Strictly x) z xs h.0 m) in absurd (never x x loop loop)
 
     later_from : x ≡ y → (z : Item) → IsIn z ys → (z ≡ x) ⊎ IsIn z xs → IsIn z xs
-    later_from e z m (inr n) = n
-    later_from e z m (inl f) = let loop : Strictly y y = subst (Strictly y) (f ∙ e) (each_in (Strictly y) z ys k.0 m) in absurd (never y y loop loop)
-
-regions_ranked : (p : Part) (r s : Region) → r.index < s.index → Ranked (region_item p r) (region_item p s)
-regions_ranked p r s l = let other : eqb r.index s.index ≡ false = grind (arith, nat_tests) in rw (part_self p, other)
+    later_from e z m h = grind (arith, each_in (Strictly y) z ys k.0 m, never y y)
 
 ranked : (b : Board) (a : Apertures) (pool : Pool) (bus : Path) → IsBoard b → HasLawfulDecls b → EachPair Ranked (items_on b a pool bus)
-ranked b a pool bus board lawful = items_pairs b a pool board Ranked (λ i j e. rw e) regions_ranked lawful bus
+ranked b a pool bus board lawful = grind (arith, items_pairs b a pool board Ranked, nat_tests, part_self)
 
 -- the items of a bus stand in strict order
 pub items_strict : (b : Board) (a : Apertures) (pool : Pool) (bus : Path) → IsBoard b → HasLawfulDecls b → EachPair Strictly (in_order (items_on b a pool bus))

@@ -1,5 +1,5 @@
 -- What stands on a bus: each item has a power of two for its alignment and some size, and no two are of the same region or window.
-use Rattle.std.proofs.Common.{◌≡◌, ℕ, zero, suc, ◌+◌, ◌%◌, ◌≤◌, ◌<◌, max, ◌⊎◌, inl, inr, Bool, true, false, ◌&&◌, cond, List, [], ◌∷◌, ◌++◌, refl, sym, ap, ap₂, ◌∙◌, subst, arith, eqb, rules}
+use Rattle.std.proofs.Common.{◌≡◌, ℕ, zero, suc, ◌+◌, ◌%◌, ◌≤◌, ◌<◌, max, ◌⊎◌, inl, inr, Bool, true, false, cond, List, [], ◌∷◌, ◌++◌, refl, sym, ap, ap₂, ◌∙◌, subst, arith, rules}
 use Rattle.std.specs.Prelude.{filter}
 use Rattle.std.proofs.lemmas.Bool.{cases_lt}
 use Rattle.std.proofs.lemmas.Bool.Decides.{nat_tests}
@@ -50,12 +50,6 @@ Differ i j = is_item j.part j.what i ≡ false
 pub same_placed-sym : (v w : Placed) → same_placed v w ≡ same_placed w v
 same_placed-sym v w = grind (arith, nat_tests)
 
-pub differ_sym : (i j : Item) → Differ i j → Differ j i
-differ_sym i j h = ap₂ ◌&&◌ (part_eq-sym j.part i.part) (same_placed-sym j.what i.what) ∙ h
-
-pub item_self : (i : Item) → is_item i.part i.what i ≡ true
-item_self i = grind (arith, nat_tests, part_self)
-
 pairs_inserted : (R : Item → Item → Type 0) → ((i j : Item) → R i j → R j i) → (i : Item) (js : List Item) → Each (R i) js → EachPair R js → EachPair R (inserted i js)
 pairs_inserted R turn i [] h k = (tt, tt)
 pairs_inserted R turn i (j ∷ js) h k = by_test (stands_before j i) (pairs_inserted R turn i js h.1 k.1)
@@ -65,8 +59,7 @@ pairs_inserted R turn i (j ∷ js) h k = by_test (stands_before j i) (pairs_inse
     of_part x (inr m) = each_in (R j) x js k.0 m
 
     by_test : (t : Bool) → EachPair R (inserted i js) → EachPair R (cond t (j ∷ inserted i js) (i ∷ j ∷ js))
-    by_test true more = (each_from (R j) (inserted i js) (λ x m. of_part x (from_inserted x i js m)), more)
-    by_test false more = (h, k)
+    by_test t more = grind (arith, each_from (R j) (inserted i js), of_part, from_inserted)
 
 -- what holds of any two items, whichever comes first, holds of them in order
 pub pairs_in_order : (R : Item → Item → Type 0) → ((i j : Item) → R i j → R j i) → (is : List Item) → EachPair R is → EachPair R (in_order is)
@@ -84,21 +77,17 @@ differ_from n (i ∷ is) h = (
 )
 
 pub spots_differ : (is : List Item) → EachPair Differ is → EachPair SpotsDiffer (spots is)
-spots_differ is h = differ_from 0 (in_order is) (pairs_in_order Differ differ_sym is h)
+spots_differ is h = grind (arith, differ_from, pairs_in_order, part_eq-sym, same_placed-sym)
 
 -- where no two are of the same region or window, the look-up of a spot's item finds the spot
 pub offset_of_spot : (s : Spot) (ss : List Spot) → EachPair SpotsDiffer ss → IsIn s ss → offset_in ss s.item.part s.item.what ≡ s.first
 offset_of_spot s [] h m = absurd m
-offset_of_spot s (t ∷ ss) h m = grind (arith, item_self, each_in, offset_of_spot s ss)
+offset_of_spot s (t ∷ ss) h m = grind (arith, nat_tests, part_self, each_in, offset_of_spot s ss)
 
 -- ---- alignments
 
 max_power : (m n : ℕ) → IsPowerOfTwo m → IsPowerOfTwo n → IsPowerOfTwo (max m n)
-max_power m n p q = by_order (cases_lt m n)
-  where
-    by_order : (m < n) ⊎ (n ≤ m) → IsPowerOfTwo (max m n)
-    by_order (inl h) = let e : n ≡ max m n = omega arith in subst IsPowerOfTwo e q
-    by_order (inr h) = let e : m ≡ max m n = omega arith in subst IsPowerOfTwo e p
+max_power m n p q = grind (arith, cases_lt m n)
 
 pub alignment_power : (unit : ℕ) (is : List Item) → IsPowerOfTwo unit → Each (λ i. IsPowerOfTwo i.align) is → IsPowerOfTwo (alignment unit is)
 alignment_power unit [] p h = p
@@ -158,8 +147,7 @@ module _ (b : Board) (a : Apertures) (pool : Pool) (lawful : HasLawfulDecls b) w
     where
       of_region : (i : Item) → (r : Region) × IsIn r (filter (λ (s : Region). same_pool (pool_of a (bridges_above b p) s.kind) pool) d.regions) × (i ≡ region_item (last_part p) r) → IsPlaceable (unit_of pool) i
       of_region i (r, m, e) =
-          let there : IsIn r d.regions = (from_filter (λ (s : Region). same_pool (pool_of a (bridges_above b p) s.kind) pool) r d.regions m).0 in
-          subst (IsPlaceable (unit_of pool)) (sym e) (region_placeable (unit_of pool) (last_part p) r (each_in IsLawfulRegion r d.regions h.regions.each there))
+          grind (arith, from_filter, region_placeable (unit_of pool) (last_part p) r, each_in IsLawfulRegion r d.regions h.regions.each)
   row_placeable behind p (bridge d) h k = window_placeable (unit_of pool) (last_part p) (behind p) (unit_power pool) k
 
   within_placeable : (n : ℕ) (bus : Path) → Each (IsPlaceable (unit_of pool)) (items_within b a pool n bus)
@@ -196,25 +184,17 @@ pub record Origin (b : Board) (a : Apertures) (pool : Pool) (bus : Path) (i : It
   pub item : IsIn i (items_for b a pool row.path row.decl)
 
 pub on_bus : (b : Board) (bus : Path) (r : Row) → Each (λ s. IsPath s.path) b → IsIn r (rows_on b bus) → IsIn r b × (r.path ≡ bus ++ last_part r.path ∷ [])
-on_bus b bus r paths m =
-    let k = from_filter (λ (s : Row). path_eq (parent s.path) bus) r b m in
-    let split : r.path ≡ parent r.path ++ last_part r.path ∷ [] = snoc r.path (each_in (λ (s : Row). IsPath s.path) r b paths k.0).some in
-    (k.0, split ∙ ap (λ (x : Path). x ++ last_part r.path ∷ []) (path_same (parent r.path) bus k.1))
+on_bus b bus r paths m = grind (arith, from_filter, snoc r.path, each_in, path_same (parent r.path) bus)
 
 module _ (b : Board) (a : Apertures) (pool : Pool) (board : IsBoard b) where
   pub origin : (bus : Path) (i : Item) → IsIn i (items_on b a pool bus) → Origin b a pool bus i
-  origin bus i m = by_row (from_flat_map (items_of b a pool (items_on b a pool)) i (rows_on b bus) (subst (IsIn i) (items_by_bus b board a pool bus) m))
-    where
-      by_row : (r : Row) × IsIn r (rows_on b bus) × IsIn i (items_for b a pool r.path r.decl) → Origin b a pool bus i
-      by_row (r, k, l) =
-          let on = on_bus b bus r board.paths k in
-          record { row = r; there = on.0; path_is = on.1 ∙ ap (λ (x : Part). bus ++ x ∷ []) (sym (part_of_item b a pool r.path r.decl i l)); item = l }
+  origin bus i m =
+      grind (arith, from_flat_map (items_of b a pool (items_on b a pool)) i (rows_on b bus) (subst (IsIn i) (items_by_bus b board a pool bus) m), items_by_bus b board a pool bus, on_bus b bus, region_of_item)
 
   -- and the items of each function of the board stand on its bus
   pub on_own_bus : (r : Row) → IsIn r b → (i : Item) → IsIn i (items_for b a pool r.path r.decl) → IsIn i (items_on b a pool (parent r.path))
   on_own_bus r m i k =
-      subst (IsIn i) (sym (items_by_bus b board a pool (parent r.path)))
-      (in_flat_map (items_of b a pool (items_on b a pool)) r i (rows_on b (parent r.path)) (in_filter (λ (s : Row). path_eq (parent s.path) (parent r.path)) r b m (path_self (parent r.path))) k)
+      grind (arith, items_by_bus b board a pool (parent r.path), in_flat_map (items_of b a pool (items_on b a pool)) r i (rows_on b (parent r.path)), in_filter, path_self (parent r.path))
 
   abbrev PartsDiffer : Row → Row → Type 0
   PartsDiffer r s = part_eq (last_part r.path) (last_part s.path) ≡ false
@@ -225,8 +205,7 @@ module _ (b : Board) (a : Apertures) (pool : Pool) (board : IsBoard b) where
   -- what holds of items of different parts, and of the regions of one endpoint, holds of any two items of a bus
   module _ (R : Item → Item → Type 0) (parts : (i j : Item) → part_eq i.part j.part ≡ false → R i j) (regions : (p : Part) (r s : Region) → r.index < s.index → R (region_item p r) (region_item p s)) where
     of_one : (p : Path) (d : Decl) → IsLawfulDecl d → EachPair R (items_for b a pool p d)
-    of_one p (endpoint d) h = grind (arith, pairs_of_map, pairs_weaker, pairs_filter, regions)
-    of_one p (bridge d) h = grind arith
+    of_one p d h = grind (arith, pairs_of_map, pairs_weaker, pairs_filter)
 
     pub items_pairs : HasLawfulDecls b → (bus : Path) → EachPair R (items_on b a pool bus)
     items_pairs lawful bus =
@@ -237,10 +216,4 @@ module _ (b : Board) (a : Apertures) (pool : Pool) (board : IsBoard b) where
 
   -- no two items of a bus are of the same region or window
   pub items_differ : HasLawfulDecls b → (bus : Path) → EachPair Differ (items_on b a pool bus)
-  items_differ lawful bus = items_pairs Differ parts regions lawful bus
-    where
-      parts : (i j : Item) → part_eq i.part j.part ≡ false → Differ i j
-      parts i j h = rw h
-
-      regions : (p : Part) (r s : Region) → r.index < s.index → Differ (region_item p r) (region_item p s)
-      regions p r s h = let other : eqb r.index s.index ≡ false = grind (arith, nat_tests) in rw (part_self p, other)
+  items_differ lawful bus = grind (arith, items_pairs Differ, nat_tests, part_self)

@@ -1,10 +1,10 @@
 -- Layouts that are not lawful, one rule at a time; and the main board keeps what the laws of placement ask for.
-use Rattle.std.proofs.Common.{◌≡◌, ℕ, ◌≤◌, ◌<◌, ◌⊎◌, inl, inr, List, [], ◌∷◌, true, false, refl, arith, lit<, lit≤}
+use Rattle.std.proofs.Common.{◌≡◌, ℕ, ◌≤◌, ◌<◌, ◌⊎◌, List, [], ◌∷◌, true, false, refl, arith, lit<, lit≤}
 use Rattle.std.specs.Prelude.{IsTrue}
 use Rattle.model_registers.specs.Apertures.{IsLawfulApertures}
 use Rattle.model_board.specs.Paths.{Path}
 use Rattle.model_board.specs.Board.{Board, bridge}
-use Rattle.model_set_up.specs.Pools.{Pool, io_pool, mem_pool, pref_pool}
+use Rattle.model_set_up.specs.Pools.{Pool, io_pool, mem_pool}
 use Rattle.model_set_up.specs.Placement.{a_region, a_window, fits}
 use Rattle.model_set_up.specs.Layout.{LayoutRow, IsLawful, layout}
 use Rattle.model_board.specs.Examples.{part, function_at, main_board, main_apertures, memory_bridge}
@@ -22,8 +22,7 @@ Refused rows = IsLawful [] main_apertures rows → ⊥
 
 -- two rows that meet
 meet : (a b c d : ℕ) → a < b → c < d → (b ≤ a) ⊎ (d ≤ c) → ⊥
-meet a b c d h k (inl l) = omega arith
-meet a b c d h k (inr l) = omega arith
+meet a b c d h k e = grind arith
 
 -- ---- alignment
 
@@ -87,9 +86,7 @@ pub main_apertures_lawful : IsLawfulApertures main_apertures
 main_apertures_lawful = grind (arith, lit≤, lit<)
 
 main_pools_fit : (pool : Pool) → IsTrue (fits main_board main_apertures pool)
-main_pools_fit io_pool = refl
-main_pools_fit mem_pool = refl
-main_pools_fit pref_pool = refl
+main_pools_fit pool = grind arith
 
 pub main_layout_lawful : IsLawful main_board main_apertures (layout main_board main_apertures)
 main_layout_lawful = layout_is_lawful main_board main_apertures main_is_board main_decls_lawful main_pools_fit

@@ -7,10 +7,10 @@ use Rattle.std.proofs.lemmas.Bool.{leb-true, and_parts}
 use Rattle.std.proofs.Math.Nat.{mul-mod_left}
 use Rattle.lists.specs.Elements.{Each, EachPair, IsIn}
 use Rattle.model_board.specs.Board.{Board, Row, is_bridge, IsBoard}
-use Rattle.model_board.specs.Paths.{Part, Path, path_eq, path_before, leads_to, parent, last_part, IsPath}
+use Rattle.model_board.specs.Paths.{Path, path_eq, path_before, leads_to, parent, last_part, IsPath}
 use Rattle.model_registers.specs.Apertures.{Apertures, Aperture}
 use Rattle.model_set_up.specs.Pools.{Pool, io_pool, mem_pool, pref_pool, same_pool, unit_of, aperture_of}
-use Rattle.model_set_up.specs.Placement.{Placed, a_region, a_window, Item, Spot, spot_end, spots, in_order, end_from, round_up, items_on, root_first, fits_items, fits, bus_first}
+use Rattle.model_set_up.specs.Placement.{Placed, a_region, a_window, Item, Spot, spot_end, spots, in_order, round_up, items_on, fits, bus_first}
 use Rattle.model_set_up.specs.Layout.{LayoutRow, IsAligned, is_window_over, IsUnderWindows, IsLawful, row_of, bus_rows, buses, pool_rows, layout}
 use Rattle.model_set_up.specs.Extents.{IsInside, AreApart}
 use Rattle.model_set_up.specs.Packing.{IsPowerOfTwo}
@@ -36,8 +36,7 @@ buses_differ b board = (
 )
   where
     nonempty : (p : Path) → 0 < length p → path_eq [] p ≡ false
-    nonempty [] h = absurd (omega arith)
-    nonempty (x ∷ p) h = refl
+    nonempty p h = grind arith
 
     not_root : (y : Path) → (r : Row) × IsIn r (filter (λ r. is_bridge r.decl) b) × (y ≡ r.path) → path_eq [] y ≡ false
     not_root y (r, m, e) = subst (λ (x : Path). path_eq [] x ≡ false) (sym e) (nonempty r.path (each_in (λ (s : Row). IsPath s.path) r b board.paths (from_filter (λ (s : Row). is_bridge s.decl) r b m).0).some)
@@ -72,13 +71,7 @@ pub record OnBus (b : Board) (a : Apertures) (pool : Pool) (row : LayoutRow) : T
   pub row_is : row ≡ row_of pool bus (bus_first b a pool bus) spot
 
 pub on_bus_row : (b : Board) (a : Apertures) (pool : Pool) (row : LayoutRow) → IsIn row (pool_rows b a pool) → OnBus b a pool row
-on_bus_row b a pool row m = by_bus (from_flat_map (bus_rows b a pool) row (buses b) m)
-  where
-    by_spot : (bus : Path) → IsIn bus (buses b) → (s : Spot) × IsIn s (spots (items_on b a pool bus)) × (row ≡ row_of pool bus (bus_first b a pool bus) s) → OnBus b a pool row
-    by_spot bus k (s, l, e) = record { bus = bus; is_bus = k; spot = s; on = l; row_is = e }
-
-    by_bus : (bus : Path) × IsIn bus (buses b) × IsIn row (bus_rows b a pool bus) → OnBus b a pool row
-    by_bus (bus, k, l) = by_spot bus k (from_map (row_of pool bus (bus_first b a pool bus)) row (spots (items_on b a pool bus)) l)
+on_bus_row b a pool row m = grind (arith, from_flat_map (bus_rows b a pool) row (buses b) m, from_map)
 
 module _ (b : Board) (a : Apertures) (pool : Pool) (board : IsBoard b) (lawful : HasLawfulDecls b) where
   abbrev the_row : Path → Spot → LayoutRow
@@ -116,11 +109,8 @@ module _ (b : Board) (a : Apertures) (pool : Pool) (board : IsBoard b) (lawful :
   from_root bus = grind arith
 
   row_in_aperture : fits b a pool ≡ true → (bus : Path) (s : Spot) → IsIn s (spots (items_on b a pool bus)) → MatchOption (aperture_of a pool) ⊥ (λ ap. IsInside ap.first (ap.last + 1) (the_row bus s).first (the_row bus s).size)
-  row_in_aperture fit bus s m = by_items (items_on b a pool []) (items_placeable b a pool lawful []) (root_has b a pool board lawful bus (spot_has bus s m)) fit (row_inside bus s m [] (from_root bus))
-    where
-      by_items : (is : List Item) → Each (IsPlaceable (unit_of pool)) is → (i : Item) × IsIn i is → fits_items a pool is ≡ true → IsInside (root_first a pool is) (root_first a pool is + end_from 0 (in_order is)) (the_row bus s).first (the_row bus s).size
-          → MatchOption (aperture_of a pool) ⊥ (λ ap. IsInside ap.first (ap.last + 1) (the_row bus s).first (the_row bus s).size)
-      by_items is h i fit inside = grind (arith, in_aperture, unit_below, unit_positive, some_end)
+  row_in_aperture fit bus s m =
+      grind (arith, items_placeable b a pool lawful [], root_has b a pool board lawful bus (spot_has bus s m), spot_has bus s m, row_inside bus s m [] (from_root bus), from_root bus, in_aperture, unit_below, unit_positive, some_end)
 
   row_under : (bus : Path) (s : Spot) → IsIn s (spots (items_on b a pool bus)) → IsUnderWindows b (pool_rows b a pool) (the_row bus s)
   row_under bus s m = record {
@@ -135,30 +125,20 @@ module _ (b : Board) (a : Apertures) (pool : Pool) (board : IsBoard b) (lawful :
           of_spot : (x : Path) (t : Spot) → IsIn t (spots (items_on b a pool x)) → is_window_over (the_row bus s) (the_row x t) ≡ true → IsInside (bus_first b a pool x + t.first) (bus_first b a pool x + t.first + t.item.size) (the_row bus s).first (the_row bus s).size
           of_spot x t k over =
               let k' = window_over (the_row bus s) t.item.what (same_pool pool pool && leads_to (x ++ t.item.part ∷ []) (bus ++ s.item.part ∷ [])) over in
-              let leads : leads_to (x ++ t.item.part ∷ []) (bus ++ s.item.part ∷ []) ≡ true = (and_parts (same_pool pool pool) (leads_to (x ++ t.item.part ∷ []) (bus ++ s.item.part ∷ [])) k'.1).1 in
-              let w = window_of b a pool board lawful x t k k'.0 in
-              let inside = row_inside bus s m (x ++ t.item.part ∷ []) (leads_up (x ++ t.item.part ∷ []) bus s.item.part leads) in
-              grind (arith, end_below_need, unit_positive)
+              grind (arith, and_parts (same_pool pool pool) (leads_to (x ++ t.item.part ∷ []) (bus ++ s.item.part ∷ [])) k'.1, window_of b a pool board lawful x t k k'.0, row_inside bus s m (x ++ t.item.part ∷ []), leads_up (x ++ t.item.part ∷ []) bus s.item.part, end_below_need, unit_positive)
 
       of_bridge : (q : Path) → 0 < length q → leads_to q (bus ++ s.item.part ∷ []) ≡ true → list_any (λ w. is_window_over (the_row bus s) w && path_eq w.path q) (pool_rows b a pool) ≡ true
       of_bridge q some leads =
           let has : HasItems b a pool q = items_above b a pool board lawful bus (spot_has bus s m) q (leads_up q bus s.item.part leads) in
           let w : WindowOn b a pool (parent q) (last_part q) = window_above b a pool board lawful q has some in
-          let path : parent q ++ w.spot.item.part ∷ [] ≡ q = ap (λ (x : Part). parent q ++ x ∷ []) w.part_is ∙ sym (snoc q some) in
-          any_in (λ x. is_window_over (the_row bus s) x && path_eq x.path q) (the_row (parent q) w.spot) (pool_rows b a pool) (row_in (parent q) w.spot w.on)
-          (rw (w.what_is, path, pool_self pool, leads, path_self q))
+          grind (arith, snoc q some, any_in, row_in (parent q) w.spot w.on, pool_self pool, path_self q)
 
   abbrev ApartOnBus : LayoutRow → LayoutRow → Type 0
   ApartOnBus r s = IsTrue (same_pool r.pool s.pool && path_eq (parent r.path) (parent s.path)) → AreApart r.first r.size s.first s.size
 
   bus_apart : (bus : Path) → EachPair ApartOnBus (bus_rows b a pool bus)
   bus_apart bus =
-      pairs_of_map ApartOnBus (row_of pool bus (bus_first b a pool bus)) (spots (items_on b a pool bus))
-      (pairs_weaker (λ (s t : Spot). spot_end s ≤ t.first) (λ s t. ApartOnBus (the_row bus s) (the_row bus t)) (spots (items_on b a pool bus)) (bus_run b a pool board lawful bus).apart
-      (λ s t k l before same. of_spots s t before))
-    where
-      of_spots : (s t : Spot) → spot_end s ≤ t.first → AreApart (the_row bus s).first (the_row bus s).size (the_row bus t).first (the_row bus t).size
-      of_spots s t before = inl (omega arith)
+      grind (arith, pairs_of_map ApartOnBus (row_of pool bus (bus_first b a pool bus)) (spots (items_on b a pool bus)), pairs_weaker, bus_run b a pool board lawful bus)
 
   rows_apart : EachPair ApartOnBus (pool_rows b a pool)
   rows_apart =
@@ -234,8 +214,7 @@ module _ (b : Board) (a : Apertures) (each_lawful : (pool : Pool) → IsLawful b
     where
       of_two : (p q : Pool) → same_pool p q ≡ false → (r s : LayoutRow) → IsIn r (pool_rows b a p) → IsIn s (pool_rows b a q) → (same_pool r.pool s.pool && path_eq (parent r.path) (parent s.path)) ≡ true → AreApart r.first r.size s.first s.size
       of_two p q other r s m k same =
-          let equal : same_pool r.pool s.pool ≡ true = (and_parts (same_pool r.pool s.pool) (path_eq (parent r.path) (parent s.path)) same).0 in
-          let no : true ≡ false = sym equal ∙ ap₂ same_pool (row_pool p r m) (row_pool q s k) ∙ other in cc
+          grind (arith, and_parts (same_pool r.pool s.pool) (path_eq (parent r.path) (parent s.path)) same, row_pool p r m, row_pool q s k)
 
   all_lawful : IsLawful b a (layout b a)
   all_lawful = record {

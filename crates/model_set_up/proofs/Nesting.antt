@@ -2,7 +2,7 @@
 use Rattle.std.proofs.Common.{◌≡◌, ℕ, zero, suc, ◌+◌, ◌-◌, ◌/◌, ◌%◌, ◌≤◌, ◌<◌, ◌⊎◌, inl, inr, true, List, [], ◌∷◌, ◌++◌, length, Option, Some, None, refl, sym, ap, ◌∙◌, subst, arith, append_assoc, append-nil, div-add-mod'}
 use Rattle.std.specs.Prelude.{IsTrue}
 use Rattle.std.specs.Option.{option_map_or}
-use Rattle.lists.specs.Elements.{Each, IsIn}
+use Rattle.lists.specs.Elements.{IsIn}
 use Rattle.lists.proofs.Tests.{left_true, right_true}
 use Rattle.model_board.specs.Board.{Board, Row, Decl, endpoint, bridge, is_bridge, is_bridge_at, IsBoard}
 use Rattle.model_board.specs.Paths.{Part, Path, leads_to, parent, last_part}
@@ -147,17 +147,14 @@ module _ (b : Board) (a : Apertures) (pool : Pool) (board : IsBoard b) (lawful :
   pub root_has : (bus : Path) → HasItems b a pool bus → HasItems b a pool []
   root_has bus has = down_buses (λ q. HasItems b a pool []) (λ h. h) (λ q p w h. h) bus has
 
-  placeable : (bus : Path) → Each (IsPlaceable (unit_of pool)) (items_on b a pool bus)
-  placeable bus = items_placeable b a pool lawful bus
-
   pub spot_placeable : (bus : Path) (s : Spot) → IsIn s (spots (items_on b a pool bus)) → IsPlaceable (unit_of pool) s.item
-  spot_placeable bus s m = each_in (IsPlaceable (unit_of pool)) s.item (items_on b a pool bus) (placeable bus) (item_of s (items_on b a pool bus) m)
+  spot_placeable bus s m = each_in (IsPlaceable (unit_of pool)) s.item (items_on b a pool bus) (items_placeable b a pool lawful bus) (item_of s (items_on b a pool bus) m)
 
   pub bus_run : (bus : Path) → IsRun 0 (bus_end b a pool bus) (spots (items_on b a pool bus))
-  bus_run bus = run_of (unit_of pool) (items_on b a pool bus) (placeable bus)
+  bus_run bus = run_of (unit_of pool) (items_on b a pool bus) (items_placeable b a pool lawful bus)
 
   pub bus_power : (bus : Path) → IsPowerOfTwo (alignment (unit_of pool) (items_on b a pool bus))
-  bus_power bus = alignment_power (unit_of pool) (items_on b a pool bus) (unit_power pool) (powers (unit_of pool) (items_on b a pool bus) (placeable bus))
+  bus_power bus = alignment_power (unit_of pool) (items_on b a pool bus) (unit_power pool) (powers (unit_of pool) (items_on b a pool bus) (items_placeable b a pool lawful bus))
 
   -- a spot's alignment divides its address, if that of its bus divides the bus's
   pub spot_aligned : (bus : Path) → Divides (alignment (unit_of pool) (items_on b a pool bus)) (bus_first b a pool bus) → (s : Spot) → IsIn s (spots (items_on b a pool bus)) → Divides s.item.align (bus_first b a pool bus + s.first)
@@ -211,5 +208,4 @@ module _ (b : Board) (a : Apertures) (pool : Pool) (board : IsBoard b) (lawful :
       root h (x ∷ q) (inr k) = cc
 
       step : (x : Path) (p : Part) → WindowOn b a pool x p → ((q : Path) → (q ≡ x) ⊎ (leads_to q x ≡ true) → HasItems b a pool q) → (q : Path) → (q ≡ x ++ p ∷ []) ⊎ (leads_to q (x ++ p ∷ []) ≡ true) → HasItems b a pool q
-      step x p w more q (inl e) = subst (HasItems b a pool) (sym e) w.behind
-      step x p w more q (inr h) = more q (leads_up q x p h)
+      step x p w more q h = grind (arith, leads_up)

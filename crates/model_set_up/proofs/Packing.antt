@@ -11,7 +11,7 @@ use Rattle.std.proofs.Math.Pow.{pow-lt, pow_pos}
 use Rattle.lists.specs.Elements.{Each, EachPair}
 use Rattle.lists.proofs.EachLemmas.{each_append, each_of_map, pairs_filter, each_filter, each_map, each_both, filter_passes, pairs_map}
 use Rattle.lists.proofs.Members.{each_from}
-use Rattle.model_board.specs.Board.{Board, Row, Decl, endpoint, bridge, is_bridge, rows_on}
+use Rattle.model_board.specs.Board.{Board, Row, Decl, is_bridge, rows_on}
 use Rattle.model_board.specs.Paths.{Path, path_eq, parent}
 use Rattle.model_registers.specs.Apertures.{Apertures}
 use Rattle.model_set_up.specs.Pools.{Pool, unit_of}
@@ -79,8 +79,7 @@ total-cons : (i : Item) (is : List Item) → total (i ∷ is) ≡ i.size + total
 total-cons i is = sum_by-cons (λ (k : Item). k.size) i is
 
 total_inserted_cases : (i j : Item) (js : List Item) (b : Bool) → total (inserted i js) ≡ i.size + total js → total (cond b (j ∷ inserted i js) (i ∷ j ∷ js)) ≡ i.size + (j.size + total js)
-total_inserted_cases i j js true h = omega (arith, h, total-cons j (inserted i js))
-total_inserted_cases i j js false h = omega (arith, total-cons i (j ∷ js), total-cons j js)
+total_inserted_cases i j js b h = grind (arith, total-cons j (inserted i js), total-cons i (j ∷ js), total-cons j js)
 
 total_inserted : (i : Item) (js : List Item) → total (inserted i js) ≡ i.size + total js
 total_inserted i [] = total-cons i []
@@ -106,10 +105,7 @@ pub divides_chain : (a b n : ℕ) → Divides a b → Divides b n → Divides a 
 divides_chain a b n h k = (k.0 * h.0, k.1 ∙ ap (λ x. k.0 * x) h.1 ∙ sym (mul_assoc k.0 h.0 a))
 
 smaller_cases : (j k : ℕ) (b : Bool) → nat_le j k ≡ b → 2 ^ j ≤ 2 ^ k → Divides (2 ^ j) (2 ^ k)
-smaller_cases j k true e h =
-    let le : j ≤ k = leb-true j k e in
-    let split : k ≡ k - j + j = omega arith in
-    (2 ^ (k - j), ap (λ x. 2 ^ x) split ∙ pow-add 2 (k - j) j)
+smaller_cases j k true e h = grind (arith, leb-true j k e, pow-add 2 (k - j) j)
 smaller_cases j k false e h = grind (arith, leb-false, pow-lt)
 
 pub smaller_divides : (j k : ℕ) → 2 ^ j ≤ 2 ^ k → Divides (2 ^ j) (2 ^ k)
@@ -174,8 +170,7 @@ each_flat_map P f (x ∷ xs) h = each_append P (f x) (flat_map f xs) h.0 (each_f
 
 row_items_are : (b : Board) (a : Apertures) (pool : Pool) (behind : Path → List Item) (p : Path) (d : Decl) → is_bridge d ≡ false → HasPowerSizes d
     → Each IsRegion (items_of b a pool behind (record { path = p; decl = d }))
-row_items_are b a pool behind p (endpoint d) e h = grind (arith, each_of_map, each_map, each_filter)
-row_items_are b a pool behind p (bridge d) e h = cc
+row_items_are b a pool behind p d e h = grind (arith, each_of_map, each_map, each_filter)
 
 pub flat_need_on_bus : FlatNeedOnBus
 flat_need_on_bus b a pool bus plain sizes =
@@ -201,9 +196,7 @@ end_not_before n (i ∷ is) h = omega (arith, round_up_not_before i.align n h.0,
 run_from : (n : ℕ) (is : List Item) → Each (λ i. 0 < i.align) is → IsRun n (end_from n is) (spots_from n is)
 run_from n [] h = record { aligned = tt; within = tt; apart = tt }
 run_from n (i ∷ is) h =
-    let first : ℕ = round_up i.align n in
-    let rest : IsRun (first + i.size) (end_from (first + i.size) is) (spots_from (first + i.size) is) = run_from (first + i.size) is h.1 in
-    grind (arith, round_up_not_before, end_not_before, round_up_is_multiple, each_map)
+    grind (arith, round_up_not_before, end_not_before, round_up_is_multiple, each_map, run_from ((round_up i.align n) + i.size) is h.1)
 
 pub run_in_order : (is : List Item) → Each (λ i. 0 < i.align) is → IsRun 0 (end_from 0 (in_order is)) (spots is)
 run_in_order is positive = run_from 0 (in_order is) (each_in_order (λ i. 0 < i.align) is positive)

@@ -1,6 +1,5 @@
 -- Where the paths of two functions of a board part.
-use Rattle.std.proofs.Common.{◌≡◌, ℕ, zero, suc, ◌+◌, ◌≤◌, ◌<◌, ◌⊎◌, inl, inr, Bool, true, false, [], ◌∷◌, ◌++◌, length, refl, sym, ap, ap₂, ◌∙◌, subst, arith, rules}
-use Rattle.std.specs.Prelude.{IsTrue}
+use Rattle.std.proofs.Common.{◌≡◌, ℕ, zero, suc, ◌+◌, ◌≤◌, ◌<◌, Bool, true, false, [], ◌∷◌, ◌++◌, length, refl, sym, ap, ap₂, ◌∙◌, arith, rules}
 use Rattle.std.proofs.lemmas.Bool.{and_from}
 use Rattle.lists.specs.Elements.{IsIn}
 use Rattle.lists.proofs.Tests.{left_true, right_true}
@@ -53,18 +52,7 @@ module _ (b : Board) (lawful : IsBoard b) where
   above_within : (n : ℕ) (r : Row) (q : Path) → length r.path ≤ n → IsIn r b → leads_to q r.path ≡ true → 0 < length q → BridgeAt q
   above_within zero r q few m h some = absurd (omega (arith, leads_longer q r.path h))
   above_within (suc n) r q few m h some =
-      by_parent (each_in (λ s. (parent s.path ≡ []) ⊎ IsTrue (is_bridge_at b (parent s.path))) r b lawful.behind_bridges m)
-      (λ d there l. above_within n d q there.0 there.1 l some)
-    where
-      split : r.path ≡ parent r.path ++ last_part r.path ∷ []
-      split = snoc r.path (omega (arith, leads_longer q r.path h))
-
-      up : (q ≡ parent r.path) ⊎ (leads_to q (parent r.path) ≡ true)
-      up = leads_up q (parent r.path) (last_part r.path) (subst (λ (p : Path). leads_to q p ≡ true) split h)
-
-      by_parent : (parent r.path ≡ []) ⊎ IsTrue (is_bridge_at b (parent r.path)) → ((d : Row) → (length d.path ≤ n) × IsIn d b → leads_to q d.path ≡ true → BridgeAt q) → BridgeAt q
-      by_parent (inl none) more = grind (arith, up, leads_longer)
-      by_parent (inr there) more = grind (arith, bridge_at, up, split, length_snoc)
+      grind (arith, each_in, above_within n, snoc r.path (omega (arith, leads_longer q r.path h)), leads_longer q r.path h, leads_up q (parent r.path) (last_part r.path), bridge_at, length_snoc)
 
   pub bridge_above : (r : Row) (q : Path) → IsIn r b → leads_to q r.path ≡ true → 0 < length q → BridgeAt q
   bridge_above r q m h some = above_within (length r.path) r q (omega arith) m h some

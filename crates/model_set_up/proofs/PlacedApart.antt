@@ -1,5 +1,5 @@
 -- Two regions of a board share no address: where their paths part, two rows of one bus would both hold it.
-use Rattle.std.proofs.Common.{◌≡◌, ℕ, ◌+◌, ◌⊎◌, inl, inr, Bool, true, false, ◌&&◌, Option, List, [], ◌∷◌, ◌++◌, refl, sym, ap, ◌∙◌, subst, arith, rules}
+use Rattle.std.proofs.Common.{◌≡◌, ℕ, ◌+◌, ◌⊎◌, inr, Bool, true, false, ◌&&◌, Option, List, [], ◌∷◌, ◌++◌, refl, sym, ap, ◌∙◌, subst, arith, rules}
 use Rattle.std.specs.Prelude.{IsTrue, MatchOption}
 use Rattle.std.specs.List.{list_any}
 use Rattle.model_registers.specs.Declarations.{Kind, Bridge}
@@ -8,7 +8,7 @@ use Rattle.lists.proofs.Tests.{left_true, right_true}
 use Rattle.model_registers.specs.Apertures.{IsLawfulApertures, IsPrefOption, Aperture, Apertures}
 use Rattle.lists.specs.Elements.{IsIn}
 use Rattle.model_board.specs.Board.{Board, Row, is_bridge, IsBoard}
-use Rattle.model_board.specs.Paths.{Part, Path, part_eq, path_eq, leads_to, parent, last_part}
+use Rattle.model_board.specs.Paths.{Part, Path, path_eq, leads_to, parent}
 use Rattle.model_set_up.specs.Pools.{Pool, io_pool, mem_pool, pref_pool, same_pool, pref_or_mem, pool_of, aperture_of}
 use Rattle.model_set_up.specs.Layout.{LayoutRow, is_window_over, IsUnderWindows, IsLawful}
 use Rattle.model_set_up.specs.Extents.{IsInside, AreApart}
@@ -17,7 +17,7 @@ use Rattle.model_set_up.specs.PlacedRegions.{pool_space}
 use Rattle.lists.proofs.Members.{each_in, from_any}
 use Rattle.model_board.proofs.PathOrder.{path_same, part_self}
 use Rattle.model_board.proofs.PathEnds.{path_self, parent_snoc, last_snoc, length_snoc}
-use Rattle.model_set_up.proofs.Partings.{Meeting, Same, Above, Below, Parting, meet, leads_down, one_row, BridgeAt, bridge_above}
+use Rattle.model_set_up.proofs.Partings.{Meeting, Same, Above, Below, Parting, meet, leads_down, one_row, bridge_above}
 use Rattle.lists.proofs.Members.{pair_in}
 
 -- ---- pools
@@ -76,12 +76,7 @@ module _ (b : Board) (a : Apertures) (board : IsBoard b) (rows : List LayoutRow)
   holder : (r : LayoutRow) (s : Row) → IsIn r rows → IsIn s b → s.path ≡ r.path → (bus : Path) (x : Part) (ps : Path) → r.path ≡ bus ++ x ∷ ps → Holder r (bus ++ x ∷ [])
   holder r s m k e bus x [] p = record { row = r; there = m; pool_is = refl; path_is = p; inside = (omega arith, omega arith) }
   holder r s m k e bus x (z ∷ zs) p =
-      let leads : leads_to (bus ++ x ∷ []) r.path ≡ true = ap (leads_to (bus ++ x ∷ [])) p ∙ leads_down bus x z zs in
-      let d : BridgeAt b board (bus ++ x ∷ []) = bridge_above b board s (bus ++ x ∷ []) k (subst (λ (q : Path). leads_to (bus ++ x ∷ []) q ≡ true) (sym e) leads) (omega (arith, length_snoc bus x)) in
-      of_window d.0.path d.3 (window_over r d.0 m d.1 (subst (λ (q : Path). leads_to q r.path ≡ true) (sym d.3) leads))
-    where
-      of_window : (q : Path) → q ≡ bus ++ x ∷ [] → WindowOver rows r q → Holder r (bus ++ x ∷ [])
-      of_window q f w = record { row = w.row; there = w.there; pool_is = w.pool_is; path_is = w.path_is ∙ f; inside = w.inside }
+      grind (arith, leads_down bus x z zs, bridge_above b board s (bus ++ x ∷ []) k, length_snoc bus x, window_over r, pool_is)
 
   -- two rows of one bus and one pool are one, or apart
   one_bus : (r s : LayoutRow) → IsIn r rows → IsIn s rows → r.pool ≡ s.pool → parent r.path ≡ parent s.path → (r ≡ s) ⊎ AreApart r.first r.size s.first s.size
@@ -106,19 +101,8 @@ module _ (b : Board) (a : Apertures) (board : IsBoard b) (rows : List LayoutRow)
       by_paths (Same e) = one_bus r s f.there g.there same (ap parent e)
       by_paths (Above h) = absurd (not_above r s f g h)
       by_paths (Below h) = absurd (not_above s r g f h)
-      by_paths (Parting bus x y ps qs p q n) = inr (by_bus (one_bus w.row v.row w.there v.there (w.pool_is ∙ same ∙ sym v.pool_is) (ap parent w.path_is ∙ parent_snoc bus x ∙ sym (parent_snoc bus y) ∙ sym (ap parent v.path_is))))
-        where
-          w : Holder r (bus ++ x ∷ [])
-          w = holder r f.function f.there f.on_board f.path_is bus x ps p
-
-          v : Holder s (bus ++ y ∷ [])
-          v = holder s g.function g.there g.on_board g.path_is bus y qs q
-
-          by_bus : (w.row ≡ v.row) ⊎ AreApart w.row.first w.row.size v.row.first v.row.size → AreApart r.first r.size s.first s.size
-          by_bus (inl e) =
-              let one : x ≡ y = sym (last_snoc bus x) ∙ ap last_part (sym w.path_is ∙ ap (λ (l : LayoutRow). l.path) e ∙ v.path_is) ∙ last_snoc bus y in
-              let bad : true ≡ false = sym (part_self x) ∙ ap (part_eq x) one ∙ n in cc
-          by_bus (inr h) = apart_inside w.row v.row r s w.inside v.inside h
+      by_paths (Parting bus x y ps qs p q n) =
+          grind (arith, one_bus, parent_snoc bus x, parent_snoc bus y, holder r f.function f.there f.on_board f.path_is bus x ps p, holder s g.function g.there g.on_board g.path_is bus y qs q, last_snoc bus x, last_snoc bus y, part_self x, apart_inside)
 
   -- two rows of one space are apart where their pools differ: memory and prefetchable apertures are
   pools_apart : (o : Option Aperture) (r s : LayoutRow) → IsPrefOption a.mem o → IsInside a.mem.first (a.mem.last + 1) r.first r.size → MatchOption o ⊥ (λ ap. IsInside ap.first (ap.last + 1) s.first s.size) → AreApart r.first r.size s.first s.size

@@ -1,5 +1,5 @@
 -- The placed regions of a board: each has its row in the layout, and no two of one space share an address.
-use Rattle.std.proofs.Common.{◌≡◌, ℕ, ◌+◌, ◌≤◌, ◌⊎◌, inl, inr, true, ◌&&◌, [], ◌∷◌, refl, sym, ap, subst, arith, ◌%◌, ◌^◌, Option}
+use Rattle.std.proofs.Common.{◌≡◌, ℕ, ◌+◌, ◌≤◌, ◌⊎◌, true, [], ◌∷◌, refl, sym, ap, subst, arith, ◌%◌, ◌^◌, Option}
 use Rattle.std.specs.Prelude.{IsTrue}
 use Rattle.lists.specs.Elements.{EachPair, IsIn}
 use Rattle.model_registers.specs.Declarations.{Kind, Region, registers_of, HasLawfulRegions, Endpoint, least_size, IsLawfulRegion}
@@ -7,14 +7,14 @@ use Rattle.model_registers.specs.Decoding.{Space, space_of, same_space, io, memo
 use Rattle.model_registers.specs.Apertures.{IsLawfulApertures, Apertures, Aperture}
 use Rattle.model_board.specs.Board.{Board, Row, Decl, endpoint, bridge, is_bridge, IsBoard}
 use Rattle.model_registers.specs.DeclarationRules.{IsLawfulEndpoint}
-use Rattle.model_board.specs.Paths.{Path, path_eq, path_before}
+use Rattle.model_board.specs.Paths.{Path, path_before}
 use Rattle.model_set_up.specs.Pools.{Pool, io_pool, mem_pool, pref_pool, bridges_above}
-use Rattle.model_set_up.specs.Placement.{Placed, a_region, a_window, same_placed}
+use Rattle.model_set_up.specs.Placement.{Placed, a_region, a_window}
 use Rattle.model_set_up.specs.SetUp.{first_of}
 use Rattle.model_set_up.specs.Layout.{LayoutRow, IsLawful, pool_rows, layout, IsAligned}
 use Rattle.model_set_up.specs.Extents.{AreApart}
 use Rattle.model_board.specs.Lawful.{IsLawfulDecl, HasLawfulDecls}
-use Rattle.model_set_up.specs.PlacementLaws.{pool_at, region_row, rows_at, HasOwnRows, IsRowFor, HasRows}
+use Rattle.model_set_up.specs.PlacementLaws.{pool_at, region_row, IsRowFor, HasRows}
 use Rattle.model_set_up.specs.PlacedRegions.{PlacedRegion, placed, placed_at, placed_regions, pool_space, placed_row, placed_rows}
 use Rattle.lists.proofs.Members.{each_in, in_map, in_flat_map, from_flat_map, from_map, from_filter, pairs_weaker, pairs_flat_map, pairs_of_map}
 use Rattle.model_set_up.specs.UniqueClaimant.{ShareNone, CanBePlaced, IsPlacedWithin, PlacedWithin}
@@ -58,10 +58,7 @@ spaces_same x y z w e f h = subst (λ v. same_space x v ≡ true) (sym f) (subst
 -- a region's row stands in the layout
 pub region_there : (b : Board) (a : Apertures) → HasRows b a → (r : Row) (d : Endpoint) (g : Region) → IsIn r b → r.decl ≡ endpoint d → IsIn g d.regions → IsIn (region_row b a r.path g) (layout b a)
 region_there b a has r d g m e k =
-    let own : HasOwnRows b a r.path (endpoint d) = subst (HasOwnRows b a r.path) e (each_in (λ (s : Row). HasOwnRows b a s.path s.decl) r b has.each_has m) in
-    let one : rows_at b a (pool_at b a r.path g) r.path (a_region g.index) ≡ region_row b a r.path g ∷ [] = each_in (λ (h : Region). rows_at b a (pool_at b a r.path h) r.path (a_region h.index) ≡ region_row b a r.path h ∷ []) g d.regions own k in
-    in_flat_map (pool_rows b a) (pool_at b a r.path g) (region_row b a r.path g) (io_pool ∷ mem_pool ∷ pref_pool ∷ []) (each_pool (pool_at b a r.path g))
-    (from_filter (λ (l : LayoutRow). path_eq l.path r.path && same_placed l.what (a_region g.index)) (region_row b a r.path g) (pool_rows b a (pool_at b a r.path g)) (subst (IsIn (region_row b a r.path g)) (sym one) (inl refl))).0
+    grind (arith, each_in, in_flat_map (pool_rows b a) (pool_at b a r.path g) (region_row b a r.path g) (io_pool ∷ mem_pool ∷ pref_pool ∷ []) (each_pool (pool_at b a r.path g)), each_pool (pool_at b a r.path g), from_filter)
 
 module _ (b : Board) (a : Apertures) (board : IsBoard b) (decls : HasLawfulDecls b) (apertures : IsLawfulApertures a) (lawful : IsLawful b a (layout b a)) (has : HasRows b a) where
   row_of : (q : PlacedRegion) (s : Source b a q) → OfEndpoint b a board (layout b a) lawful (region_row b a s.row.path s.region)
@@ -88,8 +85,7 @@ module _ (b : Board) (a : Apertures) (board : IsBoard b) (decls : HasLawfulDecls
 
       by_rows : (region_row b a s.row.path s.region ≡ region_row b a u.row.path u.region) ⊎ AreApart (region_row b a s.row.path s.region).first (region_row b a s.row.path s.region).size (region_row b a u.row.path u.region).first (region_row b a u.row.path u.region).size
           → AreApart (region_row b a s.row.path s.region).first (region_row b a s.row.path s.region).size (region_row b a u.row.path u.region).first (region_row b a u.row.path u.region).size
-      by_rows (inl e) = absurd (differ (ap (λ (l : LayoutRow). l.path) e) (ap (λ (l : LayoutRow). register l.what) e))
-      by_rows (inr h) = h
+      by_rows h = grind (arith, register)
 
   -- the regions of one function have registers of their own
   one_function : (p : Path) (d : Decl) → IsIn (record { path = p; decl = d }) b → EachPair ShareNone (placed_at b a (record { path = p; decl = d }))
@@ -142,8 +138,7 @@ module _ (b : Board) (a : Apertures) (has : HasRows b a) where
   placed_to_rows q m =
       let s : Source b a q = source b a q m in
       let row : LayoutRow = region_row b a s.row.path s.region in
-      in_flat_map placed_row row q (layout b a) (region_there b a has s.row s.decl s.region s.there s.decl_is s.declared)
-      (subst (IsIn q) (sym (row_is_placed b a s.row.path s.region)) (inl s.is))
+      grind (arith, in_flat_map placed_row row q (layout b a), region_there b a has s.row s.decl s.region s.there s.decl_is s.declared, row_is_placed b a s.row.path s.region)
 
 -- ---- where the regions of a board are placed: inside the apertures, at multiples of 4
 

@@ -12,11 +12,10 @@ use Rattle.lists.proofs.Tests.{left_true, right_true, same_test}
 use Rattle.lists.proofs.EachLemmas.{each_map}
 use Rattle.lists.proofs.FirstFound.{found_passes, each_found, found}
 use Rattle.model_board.specs.Board.{Board, Row, is_bridge, is_bridge_at, IsBoard}
-use Rattle.model_board.specs.Paths.{Part, Path, part_eq, path_eq, path_before, leads_to, parent, last_part, IsPath}
+use Rattle.model_board.specs.Paths.{Part, Path, part_eq, path_eq, leads_to, parent, last_part, IsPath}
 use Rattle.model_board.specs.BusNumbers.{secondary, subordinate, bus_behind, bus_of}
 use Rattle.model_board.specs.State.{BoardFunction, row_at}
 use Rattle.model_board.specs.Cycles.{is_route, takes, taker, covers, ends_in, secondary_register, subordinate_register, reached, reached_type0}
-use Rattle.model_board.specs.Numbering.{NumbersLead}
 use Rattle.model_set_up.specs.Reach.{HasNumbers, ReachedByNumbers, address_of, OnlyNamed}
 use Rattle.lists.proofs.Members.{each_in, in_map, from_map, any_in, from_any}
 use Rattle.model_registers.proofs.RegisterFiles.{self, below}
@@ -62,9 +61,7 @@ one_taker : (o : Option BoardFunction) (above : Path) (n : ℕ) (p q : Part) (e 
     → (p ≡ q) × (e ≡ d)
 one_taker None above n p q e d h k = cc
 one_taker (Some f) above n p q e d h k =
-    let c : Bool = eqb (secondary_register f.file) n in
-    let at_p : f.path ≡ above ++ p ∷ [] = path_same f.path (above ++ p ∷ []) (left_true (path_eq f.path (above ++ p ∷ [])) (cond c e (not e)) h) in
-    grind (arith, left_true, part_same, next_equal, flags, right_true)
+    grind (arith, path_same f.path (above ++ p ∷ []), left_true (path_eq f.path (above ++ p ∷ [])), part_same, next_equal, flags, right_true)
 
 module _ (fs : List BoardFunction) (n : ℕ) (t : Part) where
   pub one_route : (p q above : Path) → is_route fs n above p ≡ true → is_route fs n above q ≡ true → ends_in p t ≡ true → ends_in q t ≡ true → p ≡ q
@@ -73,8 +70,7 @@ module _ (fs : List BoardFunction) (n : ℕ) (t : Part) where
   one_route (a ∷ c ∷ []) [] above h k e d = cc
   one_route (a ∷ c ∷ []) (x ∷ []) above h k e d = cc
   one_route (a ∷ c ∷ []) (x ∷ y ∷ []) above h k e d =
-      let s = one_taker (taker fs above n) above n a x true true h k in
-      ap₂ (λ (u v : Part). u ∷ v ∷ []) s.0 (part_same c t e ∙ sym (part_same y t d))
+      grind (arith, one_taker (taker fs above n) above n a x true true h k, part_same c t e, part_same y t d)
   one_route (a ∷ c ∷ []) (x ∷ y ∷ z ∷ q) above h k e d = grind (arith, one_taker, left_true)
   one_route (a ∷ c ∷ b ∷ p) [] above h k e d = cc
   one_route (a ∷ c ∷ b ∷ p) (x ∷ []) above h k e d = cc
@@ -109,26 +105,13 @@ module _ (b : Board) (lawful : IsBoard b) (fs : List BoardFunction) (rows : map 
 
     -- a bridge whose numbers cover the target's is the target or leads to it
     over : (p : Path) → is_bridge_at b p ≡ true → secondary b p ≤ goal → goal ≤ subordinate b p → (path_eq p target ≡ true) ⊎ (leads_to p target ≡ true)
-    over p h low high = by_equal (path_eq p target) refl
-      where
-        numbers : NumbersLead b p target
-        numbers = numbering b lawful p target h is_target
-
-        by_leads : (t u : Bool) → leads_to p target ≡ t → path_before p target ≡ u → path_eq p target ≡ false → (path_eq p target ≡ true) ⊎ (leads_to p target ≡ true)
-        by_leads true u e k d = inr e
-        by_leads false true e k d = absurd (omega (arith, numbers.later k e))
-        by_leads false false e k d = absurd (omega (arith, numbers.earlier (path_total p target k d)))
-
-        by_equal : (t : Bool) → path_eq p target ≡ t → (path_eq p target ≡ true) ⊎ (leads_to p target ≡ true)
-        by_equal true e = inl e
-        by_equal false e = by_leads (leads_to p target) (path_before p target) refl refl e
+    over p h low high = grind (arith, numbering b lawful p target h is_target, path_total p target)
 
     -- each beginning of the target is a bridge's path
     bridge_on_way : (above : Path) (p : Part) (rest : Path) → target ≡ above ++ p ∷ rest → BridgeAt b lawful (above ++ p ∷ [])
     bridge_on_way above p [] e = bridge_at b lawful (above ++ p ∷ []) (subst (λ (x : Path). is_bridge_at b x ≡ true) e is_target)
     bridge_on_way above p (q ∷ rest) e =
-        let t = bridge_at b lawful target is_target in
-        bridge_above b lawful t.0 (above ++ p ∷ []) t.1 (subst (λ (x : Path). leads_to (above ++ p ∷ []) x ≡ true) (sym (t.3 ∙ e)) (leads_down above p q rest)) (snoc_some above p)
+        grind (arith, bridge_at b lawful target is_target, bridge_above b lawful, leads_down above p q rest, snoc_some above p)
 
     stands_on_way : (above : Path) (p : Part) (rest : Path) → target ≡ above ++ p ∷ rest → (f : BoardFunction) × IsIn f fs × (is_bridge f.decl ≡ true) × (f.path ≡ above ++ p ∷ [])
     stands_on_way above p rest e = search (rules, bridge_on_way, function_of)
@@ -136,10 +119,7 @@ module _ (b : Board) (lawful : IsBoard b) (fs : List BoardFunction) (rows : map 
     covering : (above : Path) (p : Part) (rest : Path) → target ≡ above ++ p ∷ rest → is_bridge_at b (above ++ p ∷ []) ≡ true
         → (secondary b (above ++ p ∷ []) ≤ goal) × (goal ≤ subordinate b (above ++ p ∷ []))
     covering above p [] e h = subst (λ (x : Path). (secondary b x ≤ goal) × (goal ≤ subordinate b x)) e (omega arith, omega arith)
-    covering above p (q ∷ rest) e h =
-        let leads : leads_to (above ++ p ∷ []) target ≡ true = subst (λ (x : Path). leads_to (above ++ p ∷ []) x ≡ true) (sym e) (leads_down above p q rest) in
-        let i = (numbering b lawful (above ++ p ∷ []) target h is_target).inside leads in
-        (omega (arith, i.0), i.1)
+    covering above p (q ∷ rest) e h = grind (arith, leads_down above p q rest, numbering b lawful (above ++ p ∷ []) target h is_target)
 
     abbrev test_on : Path → BoardFunction → Bool
     test_on above f = path_eq (parent f.path) above && covers goal f
@@ -167,11 +147,7 @@ module _ (b : Board) (lawful : IsBoard b) (fs : List BoardFunction) (rows : map 
         let bridge_is : is_bridge f.0.decl ≡ true = left_true (is_bridge f.0.decl) (leb (secondary_register f.0.file) goal) low in
         let numbers = (named f.0 f.2 bridge_is).covered cover in
         let path_some : 0 < length f.0.path = (each_in (λ (r : Row). IsPath r.path) (row_at f.0) b lawful.paths (row_in f.0 f.2)).some in
-        let split : f.0.path ≡ above ++ last_part f.0.path ∷ [] = snoc f.0.path path_some ∙ ap (λ (x : Path). x ++ last_part f.0.path ∷ []) parent_is in
-        let is_over = subst (λ (x : Path). (path_eq x (above ++ p ∷ rest) ≡ true) ⊎ (leads_to x (above ++ p ∷ rest) ≡ true)) split
-        (subst (λ (x : Path). (path_eq f.0.path x ≡ true) ⊎ (leads_to f.0.path x ≡ true)) e (over f.0.path (bridge_of f.0 f.2 bridge_is) numbers.0 numbers.1)) in
-        let path_is : f.0.path ≡ above ++ p ∷ [] = split ∙ ap (λ (x : Part). above ++ x ∷ []) (next_part above (last_part f.0.path) p rest is_over) in
-        (f.0, f.1, path_is, numbers.2 ∙ ap (secondary b) path_is)
+        grind (arith, snoc f.0.path path_some, over f.0.path (bridge_of f.0 f.2 bridge_is) numbers.0 numbers.1, bridge_of f.0 f.2 bridge_is, next_part above (last_part f.0.path) p rest)
 
     -- ---- the route
 
@@ -183,11 +159,7 @@ module _ (b : Board) (lawful : IsBoard b) (fs : List BoardFunction) (rows : map 
 
     takes_next : (above : Path) (p q : Part) (rest : Path) → target ≡ above ++ p ∷ q ∷ rest → takes fs above goal p false ≡ true
     takes_next above p q rest e =
-        let g = stands_on_way above p (q ∷ rest) e in
-        let h : is_bridge_at b (above ++ p ∷ []) ≡ true = subst (λ (x : Path). is_bridge_at b x ≡ true) g.3 (bridge_of g.0 g.1 g.2) in
-        let leads : leads_to (above ++ p ∷ []) target ≡ true = subst (λ (x : Path). leads_to (above ++ p ∷ []) x ≡ true) (sym e) (leads_down above p q rest) in
-        let other : eqb (secondary b (above ++ p ∷ [])) goal ≡ false = below goal (secondary b (above ++ p ∷ [])) ((numbering b lawful (above ++ p ∷ []) target h is_target).inside leads).0 in
-        takes_by above p false (taken above p (q ∷ rest) e) (rw other)
+        grind (arith, stands_on_way above p (q ∷ rest) e, bridge_of, leads_down above p q rest, below goal (secondary b (above ++ p ∷ [])), numbering b lawful (above ++ p ∷ []) target, takes_by above p false (taken above p (q ∷ rest) e), taken above p (q ∷ rest) e)
 
     route : (rs : Path) (p t : Part) (above : Path) → target ≡ above ++ p ∷ rs → is_route fs goal above (p ∷ rs ++ t ∷ []) ≡ true
     route [] p t above e = grind (arith, self, takes_by, taken)
@@ -216,9 +188,7 @@ pub reached_by_names : (b : Board) (lawful : IsBoard b) (fs : List BoardFunction
 reached_by_names b lawful fs rows [] there names t = refl
 reached_by_names b lawful fs rows (a ∷ rs) (inl none) names t = cc
 reached_by_names b lawful fs rows (a ∷ rs) (inr there) names t =
-    let not_zero : eqb (secondary b (a ∷ rs)) 0 ≡ false = positive (secondary b (a ∷ rs)) (omega arith) in
-    rw not_zero (find_same (λ (f : BoardFunction). ends_in f.path t && is_route fs (secondary b (a ∷ rs)) [] f.path) (λ (f : BoardFunction). path_eq f.path (a ∷ rs ++ t ∷ []))
-    (λ f. only_there b lawful fs rows (a ∷ rs) there names a rs refl t f.path) fs)
+    grind (arith, positive (secondary b (a ∷ rs)) (omega arith), find_same, only_there b lawful fs rows (a ∷ rs) there names a rs refl t)
 
 -- a bridge that holds the numbers c and d covers what lies between them
 pub covers_between : (n c d : ℕ) (f : BoardFunction) → is_bridge f.decl ≡ true → secondary_register f.file ≡ c → subordinate_register f.file ≡ d → c ≤ n → n ≤ d → covers n f ≡ true
@@ -295,9 +265,7 @@ module _ (b : Board) (fs : List BoardFunction) (has : HasNumbers b fs) (n : ℕ)
   on_bus p h = let ends = way_ends [] p h in behind_bridge (parent p) ends.1.0 ends.1.1 ends.1.2 ends.0
 
 only_by_type0 : (b : Board) (fs : List BoardFunction) (t : Part) (f : BoardFunction) → reached_type0 fs t ≡ Some f → (bus_of b f.path ≡ 0) × (last_part f.path ≡ t)
-only_by_type0 b fs t f e =
-    let at : f.path ≡ t ∷ [] = path_same f.path (t ∷ []) (found_passes (λ g. path_eq g.path (t ∷ [])) fs f e) in
-    (ap (bus_of b) at, ap last_part at)
+only_by_type0 b fs t f e = grind (arith, path_same f.path (t ∷ []), found_passes)
 
 pub only_named : OnlyNamed
 only_named b lawful fs has at f e = grind (arith, eqb-true, only_by_type0, found_passes, on_bus, right_true, ends_is_last, left_true)

@@ -80,8 +80,7 @@ module _ (b : Board) (lawful : IsBoard b) where
 
   -- what is at a path or behind it goes on from there
   goes_on : (p x : Path) → (path_eq x p || leads_to p x) ≡ true → (rest : Path) × (x ≡ p ++ rest)
-  goes_on [] [] h = ([], refl)
-  goes_on [] (u ∷ x) h = (u ∷ x, refl)
+  goes_on [] x h = grind arith
   goes_on (a ∷ p) [] h = cc
   goes_on (a ∷ p) (u ∷ x) h = search (rules, nat_tests, part_same, goes_on p x)
 
@@ -126,8 +125,7 @@ module _ (b : Board) (lawful : IsBoard b) where
   }
     where
       or_assoc : (s t u : Bool) → (s || t || u) ≡ (s || (t || u))
-      or_assoc true t u = refl
-      or_assoc false t u = refl
+      or_assoc s t u = grind arith
 
   -- ---- bus numbers in order
 

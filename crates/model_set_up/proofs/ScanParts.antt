@@ -31,8 +31,7 @@ before_first (u ∷ x) [] = nothing (part_before u (nth_part 0)) (part_eq u (nth
     none (u ∷ x) = refl
 
     nothing : (c d e : Bool) → c ≡ false → e ≡ false → (c || (d && e)) ≡ false
-    nothing c true e h k = rw (h, k)
-    nothing c false e h k = rw h
+    nothing c d e h k = grind arith
 before_first (u ∷ x) (a ∷ p) = either (part_before u a) (part_eq u a) (path_before x (on p 0)) (path_before x p) (path_eq x p) (before_first x p)
 
 pub leads_place : (x p : Path) (q : Part) → leads_to x (p ++ q ∷ []) ≡ (leads_to x p || path_eq x p)
@@ -44,8 +43,7 @@ leads_place (u ∷ x) [] q = nothing (part_eq u q) (leads_to x []) (none x)
     none (u ∷ x) = refl
 
     nothing : (d e : Bool) → e ≡ false → (d && e) ≡ false
-    nothing true e h = h
-    nothing false e h = refl
+    nothing d e h = grind arith
 leads_place (u ∷ x) (a ∷ p) q = either false (part_eq u a) (leads_to x (p ++ q ∷ [])) (leads_to x p) (path_eq x p) (leads_place x p q)
 
 -- ---- past the last part of a bus
@@ -117,9 +115,7 @@ module _ (b : Board) (lawful : IsBoard b) where
   -- what stands at or behind a part has a function at that part
   stands_there : (r : Row) → IsIn r b → (p : Path) (u : Part) (rest : Path) → r.path ≡ p ++ u ∷ rest → (s : Row) × IsIn s b × (s.path ≡ p ++ u ∷ [])
   stands_there r m p u [] e = (r, m, e)
-  stands_there r m p u (q ∷ rest) e =
-      let above = bridge_above b lawful r (p ++ u ∷ []) m (subst (λ (x : Path). leads_to (p ++ u ∷ []) x ≡ true) (sym e) (leads_down p u q rest)) (snoc_some p u) in
-      (above.0, above.1, above.3)
+  stands_there r m p u (q ∷ rest) e = grind (arith, bridge_above b lawful r (p ++ u ∷ []) m, leads_down p u q rest, snoc_some p u)
 
   abbrev AtOrBehind : Row → Path → Type 0
   AtOrBehind r p = (path_eq r.path p ≡ true) ⊎ (leads_to p r.path ≡ true)

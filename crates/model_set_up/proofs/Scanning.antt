@@ -1,11 +1,11 @@
 -- While a scan runs, configuration cycles reach the functions of the buses that it has met.
-use Rattle.std.proofs.Common.{◌≡◌, ◌+◌, ◌≤◌, ◌<◌, inl, inr, Bool, true, false, cond, List, [], ◌∷◌, ◌++◌, refl, sym, ap, ◌∙◌, subst, arith, lit<, ◌&&◌, rules}
+use Rattle.std.proofs.Common.{◌≡◌, ◌+◌, ◌≤◌, ◌<◌, inl, inr, Bool, true, false, cond, List, [], ◌∷◌, ◌++◌, refl, sym, ap, ◌∙◌, subst, arith, lit<, rules}
 use Rattle.std.specs.Prelude.{map, IsTrue}
 use Rattle.lists.specs.Elements.{Each, IsIn}
 use Rattle.model_registers.specs.Declarations.{Bridge}
 use Rattle.model_registers.specs.BridgeTable.{bridge_file}
 use Rattle.model_board.specs.Paths.{Path, path_eq, path_before, leads_to, parent, last_part}
-use Rattle.model_board.specs.Board.{Board, Row, Decl, endpoint, bridge, is_bridge, is_bridge_at, is_multifunction, IsBoard}
+use Rattle.model_board.specs.Board.{Board, Row, is_bridge, is_bridge_at, IsBoard}
 use Rattle.model_board.specs.BusNumbers.{secondary, subordinate, bus_behind, bus_of}
 use Rattle.model_board.specs.State.{BoardFunction}
 use Rattle.model_board.specs.Numbering.{NumbersLead}
@@ -55,15 +55,7 @@ module _ (b : Board) (lawful : IsBoard b) (here : Path) (few : secondary b here 
 
   -- a bridge above the part has all numbers that were given since its own
   open_covers : (p : Path) → is_bridge_at b p ≡ true → leads_to p here ≡ true → secondary b p ≤ secondary b bus → secondary b bus ≤ subordinate b p
-  open_covers p h k low = by_equal (path_eq p bus) refl
-    where
-      by_before : (t : Bool) → path_before p bus ≡ t → path_eq p bus ≡ false → secondary b bus ≤ subordinate b p
-      by_before true e d = ((numbers p h).inside (leads_between p bus here k met e)).1
-      by_before false e d = absurd (omega (arith, (numbers p h).earlier (path_total p bus e d)))
-
-      by_equal : (t : Bool) → path_eq p bus ≡ t → secondary b bus ≤ subordinate b p
-      by_equal true e = subst (λ (x : Path). secondary b x ≤ subordinate b p) (path_same p bus e) (omega arith)
-      by_equal false e = by_before (path_before p bus) refl e
+  open_covers p h k low = grind (arith, numbers p h, leads_between p bus here k met, path_total p bus, path_same p bus)
 
   names_by : (f : BoardFunction) → is_bridge f.decl ≡ true → is_bridge_at b f.path ≡ true → (t u : Bool) → leads_to f.path here ≡ t → path_before f.path here ≡ u
       → numbers_in f.file ≡ cond t (open_numbers b f.path) (cond u (board_numbers b f.path) no_numbers)
@@ -117,14 +109,7 @@ module _ (b : Board) (here : Path) (few : secondary b here ≤ 256) where
 
   numbers_from : (rs : List Row) → ((r : Row) → IsIn r rs → IsIn r b) → Each (λ (f : BoardFunction). IsTrue (is_bridge f.decl) → numbers_in f.file ≡ scan_numbers b here f.path) (map (λ (r : Row). record { path = r.path; decl = r.decl; file = numbered_file b (scan_numbers b here) r.path r.decl }) rs)
   numbers_from [] h = tt
-  numbers_from (r ∷ rs) h = (by_decl r.decl refl, numbers_from rs (λ s m. h s (inr m)))
-    where
-      by_decl : (d : Decl) → r.decl ≡ d → IsTrue (is_bridge d) → numbers_in (numbered_file b (scan_numbers b here) r.path d) ≡ scan_numbers b here r.path
-      by_decl (endpoint d) e k = cc
-      by_decl (bridge d) e k =
-          let bridge_is : is_bridge r.decl ≡ true = ap is_bridge e in
-          numbers_read d (is_multifunction b r.path) (scan_numbers b here r.path)
-          (numbers_fit r.path (any_in (λ (s : Row). is_bridge s.decl && path_eq s.path r.path) r b (h r (inl refl)) (rw bridge_is (path_self r.path))) (leads_to r.path here) (path_before r.path here) refl refl)
+  numbers_from (r ∷ rs) h = grind (arith, numbers_from rs, numbers_read, numbers_fit r.path, any_in, h r (inl refl), path_self r.path)
 
 pub numbers_of_scan_state : NumbersOfScanState
 numbers_of_scan_state b here few = record { rows = rows_of (numbered_file b (scan_numbers b here)) b; numbers = numbers_from b here few b (λ r m. m) }

@@ -1,9 +1,9 @@
 -- Set-up leaves the board's numbers in its bridges.
-use Rattle.std.proofs.Common.{◌≡◌, ℕ, ◌+◌, ◌*◌, ◌%◌, ◌≤◌, ◌<◌, inl, inr, true, ◌&&◌, [], ◌∷◌, refl, ap, arith}
+use Rattle.std.proofs.Common.{◌≡◌, ℕ, ◌+◌, ◌*◌, ◌%◌, ◌≤◌, ◌<◌, inl, true, [], ◌∷◌, refl, ap, arith}
 use Rattle.std.specs.Prelude.{map, count_by, IsTrue}
 use Rattle.lists.specs.Elements.{Each, IsIn}
 use Rattle.model_registers.specs.Registers.{File}
-use Rattle.model_board.specs.Paths.{Path, path_eq, path_before, leads_to}
+use Rattle.model_board.specs.Paths.{Path, path_before, leads_to}
 use Rattle.model_board.specs.Board.{Decl, Row, Board, is_bridge, is_bridge_at}
 use Rattle.model_board.specs.BusNumbers.{secondary, subordinate, Enumerates}
 use Rattle.model_board.specs.Cycles.{secondary_register, subordinate_register}
@@ -49,10 +49,7 @@ module _ (b : Board) (a : Apertures) (few : Enumerates b) where
 
   numbers_of : (rs : Board) → ((r : Row) → IsIn r rs → IsIn r b) → Each (λ (f : BoardFunction). IsTrue (is_bridge f.decl) → HoldsNumbers b f.path f.file) (map left rs)
   numbers_of [] inside = tt
-  numbers_of (r ∷ rs) inside = (λ k. left_numbers r.path r.decl (here k) k, numbers_of rs (λ s m. inside s (inr m)))
-    where
-      here : is_bridge r.decl ≡ true → is_bridge_at b r.path ≡ true
-      here k = any_in (λ (s : Row). is_bridge s.decl && path_eq s.path r.path) r b (inside r (inl refl)) (rw (k, path_self r.path))
+  numbers_of (r ∷ rs) inside = grind (arith, left_numbers r.path r.decl, numbers_of rs, any_in, inside r (inl refl), path_self r.path)
 
 pub set_up_has_numbers : SetUpHasNumbers
 set_up_has_numbers b a few = record { rows = rows_stay b a few b; numbers = numbers_of b a few b (λ r m. m) }

@@ -5,7 +5,7 @@ use Rattle.lists.specs.Elements.{Each, EachPair}
 use Rattle.model_registers.proofs.Owned.{cells_above, cells_elsewhere}
 use Rattle.model_registers.specs.Cell.{Cell}
 use Rattle.model_registers.specs.Registers.{config, block, File, cell_at, number, cells_from}
-use Rattle.model_registers.specs.Declarations.{Kind, io_kind, mem32, mem64, Region, registers_of, least_size, ConfigBlock, Endpoint, Bridge, IoDecode, no_io, PrefDecode, no_pref, pref32, pref64}
+use Rattle.model_registers.specs.Declarations.{Kind, io_kind, mem32, mem64, Region, registers_of, least_size, ConfigBlock, Endpoint, Bridge, IoDecode, PrefDecode, pref64}
 use Rattle.model_registers.specs.EndpointTable.{base_register, base_cells, region_cells, block_cells, header_cells, endpoint_file}
 use Rattle.model_registers.specs.BridgeTable.{BridgeValues, bridge_file, address_bits}
 use Rattle.model_registers.specs.Decoding.{Space, io, base, is_open}
@@ -151,10 +151,8 @@ module _ (vendor device revision : ℕ) (multifunction : Bool) (r : BridgeValues
   high_by k m has f l = grind (arith, pref_high)
 
   low_by : (k : IoDecode) (m : PrefDecode) → has_pref m ≡ true → r.pref.first < 2 ^ 32 → r.pref.last < 2 ^ 32 → pref_window m (bridge_file (bridge_of k m) multifunction r) ≡ whole (2 ^ 20) r.pref
-  low_by k no_pref has f l = cc
-  low_by no_io pref32 has f l = ap₂ (λ x y. window x (y + 0xfffff)) (mem_bits r.pref.first 0 (omega arith) f) (mem_bits r.pref.last 0 (omega arith) l)
-  low_by k pref32 has f l = grind (arith, mem_bits)
-  low_by k pref64 has f l = high_by k pref64 refl (omega arith) (omega arith)
+  low_by k m has f l =
+      grind (arith, mem_bits r.pref.first 0 (omega arith) f, mem_bits r.pref.last 0 (omega arith) l, high_by k pref64 refl (omega arith) (omega arith))
 
 module _ (d : Bridge) (multifunction : Bool) (r : BridgeValues) where
   pub io_reads : has_io d.io ≡ true → r.io.first < 2 ^ 16 → r.io.last < 2 ^ 16 → io_window d.io (bridge_file d multifunction r) ≡ whole (2 ^ 12) r.io

@@ -1,5 +1,5 @@
 -- After set-up the claims of an address are those of the placed regions that hold it: one at most.
-use Rattle.std.proofs.Common.{◌≡◌, ℕ, ◌+◌, ◌-◌, ◌≤◌, ◌<◌, Bool, true, false, ◌&&◌, ◌||◌, cond, List, [], ◌∷◌, Option, Some, None, refl, sym, ap, ap₂, ◌∙◌, subst, arith, leb, ltb}
+use Rattle.std.proofs.Common.{◌≡◌, ℕ, ◌+◌, ◌-◌, ◌≤◌, ◌<◌, Bool, true, false, ◌&&◌, ◌||◌, cond, List, [], ◌∷◌, Option, Some, None, refl, sym, ap, ap₂, ◌∙◌, subst, arith}
 use Rattle.std.specs.Prelude.{not, map, flat_map, slice_get}
 use Rattle.std.specs.Option.{option_to_list}
 use Rattle.std.proofs.lemmas.List.{map-append}
@@ -8,7 +8,6 @@ use Rattle.std.proofs.lemmas.List.Folds.{list_all-map}
 use Rattle.lists.specs.Elements.{Each, EachPair, IsIn}
 use Rattle.model_registers.specs.Declarations.{Region, registers_of, IsLawfulRegion, HasLawfulRegions, Endpoint, Bridge}
 use Rattle.model_registers.specs.DeclarationRules.{IsConfigBlock}
-use Rattle.model_registers.specs.Registers.{File}
 use Rattle.model_registers.specs.Decoding.{Space, space_of, same_space, base, is_open, Hit, hit_of}
 use Rattle.model_registers.proofs.HitRegions.{space_same}
 use Rattle.model_board.specs.Board.{Board, Row, Decl, endpoint, bridge, is_bridge, is_multifunction}
@@ -116,13 +115,7 @@ module _ (b : Board) (a : Apertures) (can : CanBePlaced b a) (lawful : IsLawful 
   hit_is : (r : Row) (e : Endpoint) (g : Region) (space : Space) (n : ℕ) → IsIn r b → r.decl ≡ endpoint e → IsIn g e.regions
       → hit_of (set_up_file b a r.path (endpoint e)) space n g ≡ cond (holds space n (placed b a r.path g)) (Some (record { index = g.index; offset = n - first_of b a r.path g })) None
   hit_is r e g space n m decl_is k =
-      let file : File = set_up_file b a r.path (endpoint e) in
-      let opened : same_space (space_of g.kind) space ≡ true → is_open file space ≡ true =
-      (λ h. endpoint_opens e (is_multifunction b r.path) (first_of b a r.path) space ∙ any_in (λ (x : Region). same_space (space_of x.kind) space) g e.regions k h) in
-      ap (λ (x : ℕ). cond (is_open file space && same_space (space_of g.kind) space && leb x n && ltb n (x + g.size)) (Some (record { index = g.index; offset = n - x })) None)
-      (each_in (λ (x : Region). base file x.index x.kind ≡ first_of b a r.path x) g e.regions (bases b a can lawful has r e m decl_is) k)
-      ∙ ap (λ (t : Bool). cond t (Some (record { index = g.index; offset = n - first_of b a r.path g })) None)
-      (drop_open (is_open file space) (same_space (space_of g.kind) space) (leb (first_of b a r.path g) n) (ltb n (first_of b a r.path g + g.size)) opened)
+      grind (arith, endpoint_opens e (is_multifunction b r.path) (first_of b a r.path) space, any_in, each_in, bases b a can lawful has r e m decl_is, drop_open)
 
   -- a hit of a placed region is a claim: it is forwarded
   hit_is_claim : (r : Row) (e : Endpoint) (g : Region) (space : Space) (n : ℕ) → IsIn r b → r.decl ≡ endpoint e → IsIn g e.regions
@@ -189,8 +182,7 @@ pub claim_of_region : ClaimOfRegion
 claim_of_region b a can fs same p d on_board r declared k inside =
     let row : Row = record { path = p; decl = endpoint d } in
     let there : IsIn (placed b a p r) (placed_regions b a) = in_flat_map (placed_at b a) row (placed b a p r) b on_board (in_map (placed b a p) r d.regions declared) in
-    let unique : HasUniqueClaims b a fs = unique_claimant b a can fs same in
-    (each_in (λ (q : PlacedRegion). (j : ℕ) → j < q.size → IsClaimed fs q j) (placed b a p r) (placed_regions b a) unique.each_byte there k inside).claimed
+    grind (arith, unique_claimant, each_in)
 
 pub claim_in_any_order : ClaimInAnyOrder
 claim_in_any_order b a can qs same space n = grind (arith, same_members, placed_apart, layout_is_lawful, rows_are_declared)

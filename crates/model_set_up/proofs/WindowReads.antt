@@ -1,5 +1,5 @@
 -- After set-up the window registers of each bridge name what placement put behind it.
-use Rattle.std.proofs.Common.{◌≡◌, ℕ, ◌+◌, ◌-◌, ◌*◌, ◌/◌, ◌%◌, ◌^◌, ◌≤◌, ◌<◌, Bool, true, Option, Some, None, refl, sym, ◌∙◌, subst, arith, div-add-mod', lit<}
+use Rattle.std.proofs.Common.{◌≡◌, ℕ, ◌+◌, ◌-◌, ◌*◌, ◌/◌, ◌%◌, ◌^◌, ◌≤◌, ◌<◌, Bool, true, Option, Some, None, refl, sym, subst, arith, div-add-mod', lit<}
 use Rattle.std.specs.Prelude.{nat_le}
 use Rattle.std.proofs.lemmas.Bool.{le-leb}
 use Rattle.model_registers.specs.Declarations.{IoDecode, io32, PrefDecode, no_pref, pref32, pref64, Bridge}
@@ -53,11 +53,8 @@ module _ (d : Bridge) (multifunction : Bool) (r : BridgeValues) where
   pref_closes k h = grind arith
 
   closes : Closes d multifunction r
-  closes = record {
-    io = λ e. let shut = io_shut r.io e in io_closes d.io (λ has. io_reads d multifunction r has shut.first shut.last ∙ shut.shut);
-    mem = λ e. let shut = memory_shut r.mem e in mem_reads d multifunction r shut.first shut.last ∙ shut.shut;
-    pref = λ e. let shut = memory_shut r.pref e in pref_closes d.pref (λ has. pref_reads_low d multifunction r has shut.first shut.last ∙ shut.shut);
-  }
+  closes =
+      grind (arith, io_shut r.io, io_closes d.io, io_reads d multifunction r, memory_shut r.mem, mem_reads d multifunction r, memory_shut r.pref, pref_closes d.pref, pref_reads_low d multifunction r)
 
 -- the same of the bridge's parts, one by one
 module _ (vendor device revision : ℕ) (multifunction : Bool) (r : BridgeValues) where
@@ -76,8 +73,5 @@ pub closed_windows : ClosedWindows
 closed_windows d multifunction r = closes d multifunction r
 
 pub windows_named : NamedWindows
-windows_named d multifunction r = record {
-  io = λ h. io_by d.vendor d.device d.revision multifunction r d.io d.pref h ∙ io_named r.io (io_reach d.io) h;
-  mem = λ h. mem_reads d multifunction r (omega (arith, h.in_order, h.reached)) h.reached ∙ memory_named r.mem (2 ^ 32) h;
-  pref = λ h. pref_by d.vendor d.device d.revision multifunction r d.io d.pref h ∙ memory_named r.pref (pref_reach d.pref) h;
-}
+windows_named d multifunction r =
+    grind (arith, io_by d.vendor d.device d.revision multifunction r d.io d.pref, io_named r.io (io_reach d.io), mem_reads d multifunction r, memory_named r.mem (2 ^ 32), pref_by d.vendor d.device d.revision multifunction r d.io d.pref, memory_named r.pref (pref_reach d.pref))
