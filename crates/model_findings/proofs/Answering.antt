@@ -1,25 +1,20 @@
 -- What holds or forwards an address answers it.
-use Rattle.std.proofs.Common.{◌≡◌, ℕ, true, Option, Some, None, refl, arith}
+use Rattle.std.proofs.Common.{◌≡◌, ℕ, true, refl, arith}
 use Rattle.std.specs.List.{list_any}
 use Rattle.std.proofs.lemmas.Bool.Decides.{nat_tests}
 use Rattle.model_registers.specs.Decoding.{Space, same_space}
 use Rattle.model_board.specs.Paths.{Path}
-use Rattle.model_board.specs.Windows.{Window, is_in}
 use Rattle.model_board.specs.Routing.{Ranges, regions, windows, RoutingRow, row_forwards}
 use Rattle.model_set_up.specs.PlacedRegions.{PlacedRegion, holds}
 use Rattle.model_set_up.proofs.Holders.{self_space}
-use Rattle.model_findings.specs.Agents.{extent_holds, window_extent, forwarded_extents, region_agent, bridge_agent, answers}
+use Rattle.model_findings.specs.Agents.{extent_holds, forwarded_extents, region_agent, bridge_agent, answers}
 use Rattle.lists.proofs.Tests.{or_false}
-
-window_held : (n : ℕ) (w : Option Window) → list_any (extent_holds n) (window_extent w) ≡ is_in n w
-window_held n None = refl
-window_held n (Some w) = grind (arith, or_false, nat_tests)
 
 -- what a bridge forwards is what its extents hold
 pub forwards_extents : (space : Space) (n : ℕ) (p : Path) (command : ℕ) (rs : Ranges)
     → list_any (extent_holds n) (forwarded_extents space (record { path = p; command = command; ranges = rs })) ≡ row_forwards space n (record { path = p; command = command; ranges = rs })
 forwards_extents space n p command (regions bs) = refl
-forwards_extents space n p command (windows wio wmem wpref) = grind (arith, window_held)
+forwards_extents space n p command (windows wio wmem wpref) = grind (arith, nat_tests)
 
 pub bridge_answers : (space : Space) (n : ℕ) (r : RoutingRow) → answers space n (bridge_agent r space) ≡ row_forwards space n r
 bridge_answers space n r = let e : same_space space space ≡ true = self_space space in rw e (forwards_extents space n r.path r.command r.ranges)

@@ -1,6 +1,6 @@
 -- In an orderly state no two open regions of one space share an address: where they stand on one bus, they are agents of
 -- it; elsewhere the bridges that lead to them are.
-use Rattle.std.proofs.Common.{◌≡◌, ℕ, ◌+◌, ◌≤◌, ◌<◌, ◌⊎◌, inl, inr, true, false, ◌||◌, not, List, [], ◌∷◌, ◌++◌, length, refl, sym, ap, ◌∙◌, subst, arith}
+use Rattle.std.proofs.Common.{◌≡◌, ℕ, ◌+◌, ◌≤◌, ◌<◌, true, false, ◌||◌, not, List, [], ◌∷◌, ◌++◌, length, refl, sym, ap, ◌∙◌, subst, arith}
 use Rattle.std.proofs.lemmas.Bool.Decides.{nat_tests}
 use Rattle.std.proofs.lemmas.Bool.{leb-true}
 use Rattle.std.specs.Prelude.{map, IsTrue}
@@ -9,12 +9,12 @@ use Rattle.lists.specs.Elements.{EachPair, IsIn}
 use Rattle.lists.proofs.EachLemmas.{each_from_map, pairs_from_map}
 use Rattle.lists.proofs.Tests.{asked_true}
 use Rattle.model_board.proofs.PathOrder.{part_self}
-use Rattle.model_registers.specs.Declarations.{Kind, Region, least_size, Endpoint}
+use Rattle.model_registers.specs.Declarations.{Region, Endpoint}
 use Rattle.model_registers.specs.Decoding.{Space, same_space, base_address}
 use Rattle.model_registers.specs.Registers.{File}
 use Rattle.model_registers.proofs.HitRegions.{space_same}
 use Rattle.model_set_up.specs.Extents.{AreApart}
-use Rattle.model_board.specs.Paths.{Part, Path, part_eq, path_before, leads_to, parent, last_part, IsPath}
+use Rattle.model_board.specs.Paths.{Part, Path, part_eq, path_before, leads_to, parent, IsPath}
 use Rattle.model_board.specs.Board.{Board, Row, Decl, endpoint, is_bridge}
 use Rattle.model_board.specs.State.{row_at, BoardFunction}
 use Rattle.model_board.specs.Routing.{RoutingRow, row_of, routing, row_forwards, is_routed}
@@ -43,9 +43,6 @@ open_source p d file q m = grind (arith, d, from_filter, from_map)
 
 -- ---- regions with bytes share an address, or are apart
 
-least_is_some : (k : Kind) → 0 < least_size k
-least_is_some k = grind arith
-
 apart_or_shared : (a b c d : ℕ) → 0 < b → 0 < d → ((n : ℕ) → a ≤ n → n < a + b → c ≤ n → n < c + d → ⊥) → AreApart a b c d
 apart_or_shared a b c d h k none = grind (arith, leb-true, nat_tests)
 
@@ -57,7 +54,7 @@ module _ (fs : List BoardFunction) (state : IsStateOfBoard fs) (orderly : IsOrde
   b = map row_at fs
 
   sized : (f : BoardFunction) (q : PlacedRegion) → IsIn f fs → OpenOf f q → 0 < q.size
-  sized f q m s = grind (arith, each_in, each_from_map, least_is_some)
+  sized f q m s = grind (arith, each_in, each_from_map)
 
   -- what the bridges above forward, and what holds an address, are agents of their buses
   record AgentOn (bus : Path) (x : Part) (space : Space) (n : ℕ) : Type 0 where
@@ -118,8 +115,7 @@ module _ (fs : List BoardFunction) (state : IsStateOfBoard fs) (orderly : IsOrde
   not_above f g q m k s h =
       let some : 0 < length f.path = (each_in (λ (r : Row). IsPath r.path) (row_at f) b state.places.paths (in_map row_at f fs m)).some in
       let d : BridgeAt b state.places f.path = bridge_above b state.places (row_at g) f.path (in_map row_at g fs k) h some in
-      let same : is_bridge d.0.decl ≡ is_bridge f.decl = ap (λ (r : Row). is_bridge r.decl) (one_row b state.places d.0 (row_at f) d.1 (in_map row_at f fs m) d.3) in
-      let bad : true ≡ false = sym d.2 ∙ same ∙ ap is_bridge s.decl_is in cc
+      grind (arith, one_row, in_map)
 
   two_functions : (f g : BoardFunction) → IsIn f fs → IsIn g fs → IsTrue (path_before f.path g.path) → (q t : PlacedRegion) → IsIn q (open_of (row_of f)) → IsIn t (open_of (row_of g)) → ShareNone q t
   two_functions f g m k before q t l o same =
@@ -134,20 +130,8 @@ module _ (fs : List BoardFunction) (state : IsStateOfBoard fs) (orderly : IsOrde
       u = open_source g.path g.decl g.file t o
 
       by_agents : (n : ℕ) (bus : Path) (x y : Part) → part_eq x y ≡ false → AgentOn bus x q.space n → AgentOn bus y t.space n → ⊥
-      by_agents n bus x y differ v w = by_pair (pair_in AreAlone v.agent w.agent (agents rows) orderly.alone v.there w.there)
-        where
-          one_bus : parent v.agent.path ≡ parent w.agent.path
-          one_bus = ap parent v.path_is ∙ parent_snoc bus x ∙ sym (parent_snoc bus y) ∙ sym (ap parent w.path_is)
-
-          also : answers q.space n w.agent ≡ true
-          also = subst (λ (z : Space). answers z n w.agent ≡ true) (sym (space_same q.space t.space same)) w.answers_it
-
-          by_pair : (v.agent ≡ w.agent) ⊎ (AreAlone v.agent w.agent ⊎ AreAlone w.agent v.agent) → ⊥
-          by_pair (inl e) =
-              let one : x ≡ y = sym (last_snoc bus x) ∙ ap last_part (sym v.path_is ∙ ap (λ (z : Agent). z.path) e ∙ w.path_is) ∙ last_snoc bus y in
-              let bad : true ≡ false = sym (part_self x) ∙ ap (part_eq x) one ∙ differ in cc
-          by_pair (inr (inl alone)) = clash v.agent w.agent q.space n alone one_bus v.answers_it also
-          by_pair (inr (inr alone)) = clash w.agent v.agent q.space n alone (sym one_bus) also v.answers_it
+      by_agents n bus x y differ v w =
+          grind (arith, pair_in AreAlone v.agent w.agent (agents rows), parent_snoc bus x, parent_snoc bus y, last_snoc bus x, last_snoc bus y, part_self x, clash v.agent w.agent q.space n, clash w.agent v.agent q.space n)
 
       by_paths : Meeting f.path g.path → (n : ℕ) → holds q.space n q ≡ true → holds t.space n t ≡ true → ⊥
       by_paths (Same e) n h i = not_before_itself g.path (subst (λ (p : Path). path_before p g.path ≡ true) e before)

@@ -1,5 +1,5 @@
 -- In an orderly state the claims of an address are those of the open regions that hold it: one at most.
-use Rattle.std.proofs.Common.{◌≡◌, ℕ, ◌+◌, ◌-◌, ◌<◌, inl, inr, Bool, true, ◌&&◌, cond, List, [], ◌∷◌, ◌++◌, refl, sym, ap, ap₂, ◌∙◌, subst, arith}
+use Rattle.std.proofs.Common.{◌≡◌, ℕ, ◌+◌, ◌-◌, ◌<◌, inl, Bool, true, ◌&&◌, cond, List, [], ◌∷◌, refl, sym, ap, ◌∙◌, subst, arith}
 use Rattle.std.specs.Prelude.{map, filter, flat_map, slice_get}
 use Rattle.std.specs.Option.{option_to_list}
 use Rattle.std.proofs.lemmas.Grind.{flat_map-append}
@@ -10,7 +10,7 @@ use Rattle.model_registers.proofs.HitRegions.{space_same}
 use Rattle.model_board.specs.Paths.{Path}
 use Rattle.model_board.specs.Claims.{claim_at, claims, first_claim}
 use Rattle.model_board.specs.Routing.{Ranges, regions, windows, RoutingRow, routing, is_routed, row_claims, routed_claims}
-use Rattle.model_set_up.specs.PlacedRegions.{PlacedRegion, holds, claim_in}
+use Rattle.model_set_up.specs.PlacedRegions.{PlacedRegion, holds}
 use Rattle.model_set_up.specs.UniqueClaimant.{IsClaimed, ShareNone}
 use Rattle.lists.proofs.Members.{each_in, each_from, in_map, in_filter, in_flat_map}
 use Rattle.model_set_up.proofs.Holders.{Holds, holds_is, is_held, self_space, claims_in, one_at_most, holder_first}
@@ -49,9 +49,7 @@ module _ (rows : List RoutingRow) (orderly : Each (IsForwarded rows) (open_regio
 
   rows_are : (space : Space) (n : ℕ) (rs : List RoutingRow) → ((r : RoutingRow) → IsIn r rs → IsIn r rows) → flat_map (row_claims rows space n) rs ≡ claims_in space n (flat_map open_of rs)
   rows_are space n [] m = refl
-  rows_are space n (r ∷ rs) m =
-      ap₂ ◌++◌ (row_is space n r.path r.command r.ranges (m r (inl refl))) (rows_are space n rs (λ s k. m s (inr k)))
-      ∙ sym (flat_map-append (λ q. option_to_list (claim_in space n q)) (open_of r) (flat_map open_of rs))
+  rows_are space n (r ∷ rs) m = grind (arith, row_is space n r.path r.command r.ranges (m r (inl refl)), rows_are space n rs, flat_map-append)
 
   pub routed_claims_are : (space : Space) (n : ℕ) → routed_claims rows space n ≡ claims_in space n (open_regions rows)
   routed_claims_are space n = rows_are space n rows (λ r m. m)

@@ -1,17 +1,17 @@
 -- Where no function is told as not found, a state is numbered: each function is reached by its address alone. A board
 -- that holds its own numbers is numbered.
-use Rattle.std.proofs.Common.{◌≡◌, ℕ, ◌<◌, ◌⊎◌, inl, inr, Bool, true, false, ◌&&◌, List, [], ◌∷◌, ◌++◌, length, Option, Some, None, refl, sym, ap, ◌∙◌, subst, arith, append_assoc}
+use Rattle.std.proofs.Common.{◌≡◌, ℕ, ◌⊎◌, inl, inr, Bool, true, false, ◌&&◌, List, [], ◌∷◌, ◌++◌, Option, Some, None, refl, sym, ap, ◌∙◌, subst, arith, append_assoc}
 use Rattle.std.specs.Prelude.{find, IsTrue}
 use Rattle.std.specs.Option.{option_map, option_map_or}
 use Rattle.std.proofs.lemmas.Bool.{eqb-true, and_from}
 use Rattle.lists.proofs.Tests.{left_true, right_true}
 use Rattle.lists.specs.Elements.{IsIn}
 use Rattle.model_board.specs.Paths.{Part, Path, path_eq, parent, last_part}
-use Rattle.model_board.specs.Board.{Board, Row, is_bridge, stands_at, IsBoard}
+use Rattle.model_board.specs.Board.{Board, Row, is_bridge, IsBoard}
 use Rattle.model_board.specs.Board as board
-use Rattle.model_board.specs.BusNumbers.{secondary, subordinate, bus_behind}
+use Rattle.model_board.specs.BusNumbers.{secondary, bus_behind}
 use Rattle.model_board.specs.State.{BoardFunction, row_at}
-use Rattle.model_board.specs.Cycles.{secondary_register, subordinate_register, takes, is_route, ends_in, reached_type0, reached_type1, BusAddress, reached}
+use Rattle.model_board.specs.Cycles.{secondary_register, takes, is_route, ends_in, reached_type0, reached_type1, BusAddress, reached}
 use Rattle.model_set_up.specs.Reach.{HasNumbers, address_of}
 use Rattle.lists.proofs.Members.{each_in, each_from, in_map, from_map, any_in}
 use Rattle.model_board.proofs.PathEnds.{path_self, not_before_itself, snoc_some}
@@ -38,23 +38,17 @@ module _ (fs : List BoardFunction) (f : BoardFunction) where
   there_is None h = cc
   there_is (Some q) h = ap Some (path_same q f.path h)
 
-  is_found : (o : Option Path) → o ≡ Some f.path → is_there o ≡ true
-  is_found o e = ap is_there e ∙ path_self f.path
-
-  reached_if_none : numbering_problem fs f ≡ [] → path_reached fs f.path ≡ Some f.path
-  reached_if_none h = grind (arith, there_is)
-
   none_if_reached : path_reached fs f.path ≡ Some f.path → numbering_problem fs f ≡ []
-  none_if_reached h = let e : is_there (path_reached fs f.path) ≡ true = is_found (path_reached fs f.path) h in rw e
+  none_if_reached h = grind (arith, path_self)
 
   -- what a problem of the third kind says
   pub lost_function : IsIn f fs → (p : Problem) → IsIn p (numbering_problem fs f) → (p ≡ not_found f.path (address_now fs f.path) (path_reached fs f.path)) × IsNotFound fs f.path (address_now fs f.path) (path_reached fs f.path)
-  lost_function there p m = grind (arith, is_found)
+  lost_function there p m = grind (arith, path_self)
 
 -- ---- all functions
 
 pub numbering_decides : NumberingDecides
-numbering_decides fs = grind (arith, each_map, reached_if_none, none_each, each_none, none_if_reached)
+numbering_decides fs = grind (arith, each_map, there_is, none_each, each_none, none_if_reached)
 
 -- ---- the one address of a function
 
@@ -71,11 +65,7 @@ module _ (fs : List BoardFunction) (state : IsStateOfBoard fs) where
       of (g, e, k, at) = e ∙ ap Some (one_function g f k m (path_same g.path f.path (right_true (is_bridge g.decl) (path_eq g.path f.path) at)))
 
   number_of : (f : BoardFunction) → IsIn f fs → is_bridge f.decl ≡ true → (bus : Path) (p : Part) → f.path ≡ bus ++ p ∷ [] → bus_now fs (bus ++ p ∷ []) ≡ secondary_register f.file
-  number_of f m is bus p e = at (bus ++ p ∷ []) e (snoc_some bus p)
-    where
-      at : (q : Path) → f.path ≡ q → 0 < length q → bus_now fs q ≡ secondary_register f.file
-      at [] k h = absurd (omega arith)
-      at (q ∷ qs) k h = ap (λ o. option_map_or (λ (x : BoardFunction). secondary_register x.file) o 0) (ap (λ (y : Path). find (is_bridge_at y) fs) (sym k) ∙ is_found_at f m is)
+  number_of f m is bus p e = grind (arith, snoc_some bus p, is_found_at)
 
   module _ (n : ℕ) where
     -- a way that leads to bus n ends behind the bridge whose number is n
@@ -101,24 +91,15 @@ module _ (fs : List BoardFunction) (state : IsStateOfBoard fs) where
   pub reached_in : (at : BusAddress) (f : BoardFunction) → reached fs at ≡ Some f → IsIn f fs
   reached_in at f e = grind (arith, found_in)
 
-  -- whatever the bridges hold, no other address reaches a function
-  pub only_address : (at : BusAddress) (f : BoardFunction) → reached fs at ≡ Some f → at ≡ address_now fs f.path
-  only_address at f e = grind (arith, eqb-true, by_type0, by_type1)
-
   pub itself : (f : BoardFunction) → IsIn f fs → path_reached fs f.path ≡ Some f.path → reached fs (address_now fs f.path) ≡ Some f
   itself f m e = by (reached fs (address_now fs f.path)) refl e
     where
       by : (o : Option BoardFunction) → reached fs (address_now fs f.path) ≡ o → option_map (λ (x : BoardFunction). x.path) o ≡ Some f.path → o ≡ Some f
       by None k h = cc
-      by (Some g) k h =
-          let same : g.path ≡ f.path = some_same h in
-          ap Some (one_function g f (reached_in (address_now fs f.path) g k) m same)
-        where
-          some_same : Some g.path ≡ Some f.path → g.path ≡ f.path
-          some_same j = cc
+      by (Some g) k h = grind (arith, one_function g f (reached_in (address_now fs f.path) g k) m)
 
 pub found_once : FoundOnce
-found_once fs state numbered = grind (arith, each_from, itself, each_in, only_address)
+found_once fs state numbered = grind (arith, each_from, itself, each_in, by_type0, by_type1)
 
 -- ---- a board with its own numbers
 
@@ -139,29 +120,16 @@ module _ (b : Board) (lawful : IsBoard b) (fs : List BoardFunction) (has : HasNu
       d = bridge_at b lawful (p ∷ ps) h
 
       by_found : (f : BoardFunction) × (find (is_bridge_at (p ∷ ps)) fs ≡ Some f) × IsIn f fs × (is_bridge_at (p ∷ ps) f ≡ true) → bus_now fs (p ∷ ps) ≡ secondary b (p ∷ ps)
-      by_found (f, e, k, at) =
-          let f_path : f.path ≡ p ∷ ps = path_same f.path (p ∷ ps) (right_true (is_bridge f.decl) (path_eq f.path (p ∷ ps)) at) in
-          let f_is : is_bridge f.decl ≡ true = left_true (is_bridge f.decl) (path_eq f.path (p ∷ ps)) at in
-          let number : secondary_register f.file ≡ secondary b f.path = (each_in (λ (x : BoardFunction). IsTrue (is_bridge x.decl) → (secondary_register x.file ≡ secondary b x.path) × (subordinate_register x.file ≡ subordinate b x.path)) f fs has.numbers k f_is).0 in
-          ap (λ o. option_map_or (λ (x : BoardFunction). secondary_register x.file) o 0) e ∙ number ∙ ap (secondary b) f_path
+      by_found (f, e, k, at) = grind (arith, path_same f.path (p ∷ ps) (right_true (is_bridge f.decl) (path_eq f.path (p ∷ ps)) at), each_in)
 
       by_row : (r : Row) → IsIn r b → is_bridge r.decl ≡ true → r.path ≡ p ∷ ps → bus_now fs (p ∷ ps) ≡ secondary b (p ∷ ps)
-      by_row r m is path = of (from_row r m)
-        where
-          of : (g : BoardFunction) × IsIn g fs × (r ≡ row_at g) → bus_now fs (p ∷ ps) ≡ secondary b (p ∷ ps)
-          of (g, k, e) =
-              let g_path : g.path ≡ p ∷ ps = ap (λ (x : Row). x.path) (sym e) ∙ path in
-              by_found (found (is_bridge_at (p ∷ ps)) fs (any_in (is_bridge_at (p ∷ ps)) g fs k
-              (and_from (is_bridge g.decl) (path_eq g.path (p ∷ ps)) (ap (λ (x : Row). is_bridge x.decl) (sym e) ∙ is) (ap (λ x. path_eq x (p ∷ ps)) g_path ∙ path_self (p ∷ ps)))))
+      by_row r m is path = grind (arith, from_row r m, by_found, found (is_bridge_at (p ∷ ps)) fs, any_in (is_bridge_at (p ∷ ps)), path_self (p ∷ ps))
 
   named : (f : BoardFunction) → IsIn f fs → address_now fs f.path ≡ address_of b f.path
   named f m = grind (arith, behind, each_in, there)
 
   is_reached : (f : BoardFunction) → IsIn f fs → path_reached fs f.path ≡ Some f.path
-  is_reached f m =
-      let stands : stands_at b f.path ≡ true = any_in (λ (r : Row). path_eq r.path f.path) (row_at f) b (there f m) (path_self f.path) in
-      let g = reached_by_numbers b lawful fs has f.path stands in
-      ap (λ at. option_map (λ (x : BoardFunction). x.path) (reached fs at)) (named f m) ∙ ap (option_map (λ (x : BoardFunction). x.path)) g.1 ∙ ap Some g.2
+  is_reached f m = grind (arith, any_in, there, path_self, reached_by_numbers b lawful fs has f.path, named)
 
 pub numbers_of_board : NumbersOfBoard
 numbers_of_board b lawful fs has = grind (arith, each_from, is_reached, named)

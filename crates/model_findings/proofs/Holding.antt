@@ -2,12 +2,11 @@
 -- one space both.
 use Rattle.std.proofs.Common.{◌≡◌, ℕ, ◌+◌, ◌-◌, ◌≤◌, ◌<◌, ◌⊎◌, inl, inr, true, List, [], ◌∷◌, Option, MatchOption, refl, sym, ap, ◌∙◌, subst, arith, leb}
 use Rattle.std.proofs.lemmas.Bool.{leb-true, or_cases}
-use Rattle.std.specs.List.{list_any}
 use Rattle.lists.specs.Elements.{Each, IsIn}
 use Rattle.model_registers.specs.Registers.{File}
 use Rattle.model_registers.specs.Apertures.{IsLawfulApertures, IsPrefOption, Aperture, Apertures}
 use Rattle.model_registers.specs.Declarations.{Region, Endpoint, Bridge}
-use Rattle.model_registers.specs.Decoding.{Space, io, memory, space_of, same_space, opens_space, command_word}
+use Rattle.model_registers.specs.Decoding.{Space, io, memory, space_of, opens_space, command_word}
 use Rattle.model_registers.proofs.HitRegions.{space_same}
 use Rattle.lists.proofs.Tests.{left_true, right_true}
 use Rattle.model_board.specs.Board.{Board, Row, Decl, endpoint, bridge}
@@ -21,7 +20,7 @@ use Rattle.model_board.specs.Windows.{is_in, in_windows, io_window, mem_window, 
 use Rattle.model_set_up.specs.WindowLaws.{window_over, placed_window, ForwardsPlaced, HasPlacedWindows}
 use Rattle.model_set_up.specs.SetUp.{set_up_file}
 use Rattle.model_board.specs.Routing.{RoutingRow, row_of, row_forwards}
-use Rattle.model_set_up.specs.PlacedRegions.{pool_space, PlacedRegion, placed, placed_at, holds}
+use Rattle.model_set_up.specs.PlacedRegions.{pool_space, PlacedRegion, placed, holds}
 use Rattle.model_set_up.specs.UniqueClaimant.{CanBePlaced}
 use Rattle.lists.proofs.Members.{each_in, in_flat_map, from_map, from_filter}
 use Rattle.model_board.proofs.PathEnds.{path_self, not_before_itself}
@@ -35,8 +34,8 @@ use Rattle.model_set_up.proofs.Nesting.{HasItems}
 use Rattle.model_set_up.proofs.Packing.{unit_positive}
 use Rattle.model_set_up.proofs.LawfulPlacement.{pool_self}
 use Rattle.model_set_up.proofs.UniqueClaimant.{left}
-use Rattle.model_findings.specs.OpenRegions.{open_of, regions_of}
-use Rattle.model_findings.specs.Agents.{Agent, region_agent, bridge_agent, agents_of, answers, extent_holds, forwarded_extents}
+use Rattle.model_findings.specs.OpenRegions.{open_of}
+use Rattle.model_findings.specs.Agents.{Agent, region_agent, bridge_agent, agents_of, answers}
 use Rattle.model_findings.proofs.Answering.{bridge_answers, region_answers}
 use Rattle.model_findings.proofs.Placing.{regions_placed}
 
@@ -130,10 +129,7 @@ module _ (b : Board) (a : Apertures) (can : CanBePlaced b a) (lawful : IsLawful 
 
   of_bridge : (p : Path) (d : Bridge) (x : Agent) (own space : Space) (n : ℕ) → IsIn (record { path = p; decl = bridge d }) b → x ≡ bridge_agent (row_of (left b a (record { path = p; decl = bridge d }))) own → answers space n x ≡ true → (x.path ≡ p) × HeldAt b a p space n
   of_bridge p d x own space n m is h =
-      let here : answers space n (bridge_agent (row_of (left b a (record { path = p; decl = bridge d }))) own) ≡ true = sym (ap (answers space n) is) ∙ h in
-      let same : own ≡ space = space_same own space (left_true (same_space own space) (list_any (extent_holds n) (forwarded_extents own (row_of (left b a (record { path = p; decl = bridge d }))))) here) in
-      let forwards : row_forwards space n (row_of (left b a (record { path = p; decl = bridge d }))) ≡ true = sym (bridge_answers space n (row_of (left b a (record { path = p; decl = bridge d })))) ∙ subst (λ (z : Space). answers space n (bridge_agent (row_of (left b a (record { path = p; decl = bridge d }))) z) ≡ true) same here in
-      (ap (λ (y : Agent). y.path) is, bridge_held p d space n m forwards)
+      grind (arith, space_same own space, left_true, bridge_answers space n (row_of (left b a (record { path = p; decl = bridge d }))), bridge_held)
 
   -- an agent that answers
   pub agent_held : (p : Path) (d : Decl) (x : Agent) (space : Space) (n : ℕ) → IsIn (record { path = p; decl = d }) b → IsIn x (agents_of (row_of (left b a (record { path = p; decl = d })))) → answers space n x ≡ true → (x.path ≡ p) × HeldAt b a p space n
@@ -147,8 +143,7 @@ module _ (b : Board) (a : Apertures) (can : CanBePlaced b a) (lawful : IsLawful 
 
       of_agent : (q : PlacedRegion) × IsIn q (open_of (row_of (left b a (record { path = p; decl = endpoint e })))) × (x ≡ region_agent q) → (x.path ≡ p) × HeldAt b a p space n
       of_agent (q, l, is) =
-          let there : IsIn q (placed_at b a (record { path = p; decl = endpoint e })) = subst (IsIn q) (regions_placed b a can lawful has p (endpoint e) m) (from_filter (λ r. opens_space (row_of (left b a (record { path = p; decl = endpoint e }))).command r.space) q (regions_of (row_of (left b a (record { path = p; decl = endpoint e })))) l).0 in
-          of_region q is (from_map (placed b a p) q e.regions there)
+          grind (arith, regions_placed b a can lawful has p (endpoint e) m, from_filter, of_region q is, from_map (placed b a p) q e.regions)
   agent_held p (bridge d) x space n m (inl e) h = of_bridge p d x io space n m e h
   agent_held p (bridge d) x space n m (inr (inl e)) h = of_bridge p d x memory space n m e h
   agent_held p (bridge d) x space n m (inr (inr e)) h = absurd e

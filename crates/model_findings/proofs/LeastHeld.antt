@@ -1,21 +1,20 @@
 -- The least address of a region that passes a test is found among its first one and the places where the test begins to
 -- hold.
-use Rattle.std.proofs.Common.{◌≡◌, ℕ, zero, suc, ◌+◌, ◌-◌, ◌≤◌, inl, inr, Bool, true, false, ◌&&◌, not, List, ◌∷◌, ◌++◌, Option, Some, None, refl, sym, ◌∙◌, subst, arith}
+use Rattle.std.proofs.Common.{◌≡◌, ℕ, zero, suc, ◌+◌, ◌-◌, ◌≤◌, inl, inr, Bool, true, false, ◌&&◌, not, List, ◌∷◌, Some, refl, sym, subst, arith}
 use Rattle.std.specs.Prelude.{map, filter}
 use Rattle.std.specs.List.{list_any}
 use Rattle.std.proofs.lemmas.Bool.Decides.{nat_tests}
-use Rattle.std.proofs.lemmas.Bool.{and_from, not-true, not-false}
+use Rattle.std.proofs.lemmas.Bool.{and_from}
 use Rattle.lists.specs.Elements.{IsIn}
 use Rattle.lists.proofs.Tests.{left_true, right_true}
 use Rattle.lists.proofs.Members.{in_map, in_filter, from_filter, any_in, from_any}
 use Rattle.model_board.specs.Paths.{Path}
-use Rattle.model_board.specs.Windows.{Window, is_in}
 use Rattle.model_board.specs.Routing.{RoutingRow, Ranges, regions, windows}
 use Rattle.model_registers.specs.Apertures.{Apertures}
 use Rattle.model_registers.specs.Decoding.{Space}
 use Rattle.model_set_up.specs.PlacedRegions.{PlacedRegion, holds}
 use Rattle.model_set_up.proofs.Holders.{Holds, holds_is, is_held, self_space}
-use Rattle.model_findings.specs.Agents.{Extent, extent_holds, window_extent}
+use Rattle.model_findings.specs.Agents.{Extent, extent_holds}
 use Rattle.model_findings.proofs.Problems.{IsLeast, found_least, finds}
 use Rattle.model_findings.specs.Lacks.{aperture_extents, is_in_apertures, prefetches, prefetch_edges, least_held}
 
@@ -78,34 +77,17 @@ module _ (test : ℕ → Bool) (edges : List ℕ) (q : PlacedRegion) (begins : B
 
 -- ---- outside the apertures
 
-ends_here : (e : Extent) (n : ℕ) → extent_holds n e ≡ true → extent_holds (n + 1) e ≡ false → n + 1 ≡ e.end
-ends_here e n h k = grind (arith, nat_tests)
-
 past_extents : (es : List Extent) → BeginsAt (λ n. not (list_any (extent_holds n) es)) (map (λ (e : Extent). e.end) es)
-past_extents es n h k = of (from_any (extent_holds n) es (not-false (list_any (extent_holds n) es) h))
-  where
-    of : (e : Extent) × IsIn e es × (extent_holds n e ≡ true) → IsIn (n + 1) (map (λ (e : Extent). e.end) es)
-    of (e, m, o) = by (extent_holds (n + 1) e) refl
-      where
-        by : (t : Bool) → extent_holds (n + 1) e ≡ t → IsIn (n + 1) (map (λ (e : Extent). e.end) es)
-        by true g = let bad : true ≡ false = sym (any_in (extent_holds (n + 1)) e es m g) ∙ not-true (list_any (extent_holds (n + 1)) es) k in cc
-        by false g = subst (λ x. IsIn x (map (λ (e : Extent). e.end) es)) (sym (ends_here e n o g)) (in_map (λ (e : Extent). e.end) e es m)
+past_extents es n h k = grind (arith, from_any, any_in, in_map)
 
 pub outside_begins : (a : Apertures) (space : Space) → BeginsAt (λ n. not (is_in_apertures a space n)) (map (λ (e : Extent). e.end) (aperture_extents a space))
 outside_begins a space n h k = past_extents (aperture_extents a space) n h k
 
 -- ---- prefetched
 
-window_begins : (o : Bool) (wmem wpref : Option Window) (n : ℕ) → (o && is_in n wpref && not (is_in n wmem)) ≡ false → (o && is_in (n + 1) wpref && not (is_in (n + 1) wmem)) ≡ true
-    → IsIn (n + 1) (map (λ (e : Extent). e.first) (window_extent wpref) ++ map (λ (e : Extent). e.end) (window_extent wmem))
-window_begins o None None n h k = grind (arith, nat_tests)
-window_begins o None (Some v) n h k = grind (arith, nat_tests)
-window_begins o (Some w) None n h k = grind (arith, nat_tests)
-window_begins o (Some w) (Some v) n h k = grind (arith, nat_tests)
-
 prefetch_by : (p : Path) (command : ℕ) (rs : Ranges) → BeginsAt (λ n. prefetches n (record { path = p; command = command; ranges = rs })) (prefetch_edges (record { path = p; command = command; ranges = rs }))
 prefetch_by p command (regions bs) n h k = cc
-prefetch_by p command (windows wio wmem wpref) n h k = window_begins _ wmem wpref n h k
+prefetch_by p command (windows wio wmem wpref) n h k = grind (arith, nat_tests)
 
 pub prefetch_begins : (r : RoutingRow) → BeginsAt (λ n. prefetches n r) (prefetch_edges r)
 prefetch_begins r = prefetch_by r.path r.command r.ranges

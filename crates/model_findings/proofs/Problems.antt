@@ -1,5 +1,5 @@
 -- A state without problems is orderly, and what a problem says is so.
-use Rattle.std.proofs.Common.{◌≡◌, ℕ, zero, suc, ◌+◌, ◌≤◌, ◌<◌, ◌⊎◌, inl, inr, Bool, true, false, ◌&&◌, ◌||◌, cond, List, [], ◌∷◌, ◌++◌, Option, Some, None, refl, sym, ap₂, ◌∙◌, subst, arith, leb, ltb}
+use Rattle.std.proofs.Common.{◌≡◌, ℕ, zero, suc, ◌+◌, ◌≤◌, ◌<◌, ◌⊎◌, inl, inr, Bool, true, false, ◌&&◌, ◌||◌, cond, List, [], ◌∷◌, ◌++◌, Option, Some, None, refl, ap₂, ◌∙◌, subst, arith, leb, ltb}
 use Rattle.std.specs.Prelude.{not, map, filter, flat_map, IsTrue}
 use Rattle.std.specs.List.{list_all, list_any}
 use Rattle.std.specs.Option.{option_map, option_to_list}
@@ -9,16 +9,16 @@ use Rattle.std.proofs.lemmas.Bool.{leb-true, ltb-true, le-leb, lt-ltb, and_from,
 use Rattle.lists.specs.Elements.{Each, EachPair, first_some, IsIn}
 use Rattle.model_registers.specs.Decoding.{Space, same_space}
 use Rattle.model_registers.proofs.HitRegions.{space_same}
-use Rattle.lists.proofs.Tests.{left_true, right_true, asked_false}
+use Rattle.lists.proofs.Tests.{left_true, right_true}
 use Rattle.lists.proofs.EachLemmas.{each_map}
 use Rattle.model_board.specs.Paths.{leads_to}
-use Rattle.model_board.specs.Routing.{RoutingRow, row_forwards, is_routed}
+use Rattle.model_board.specs.Routing.{RoutingRow, row_forwards}
 use Rattle.model_set_up.specs.PlacedRegions.{PlacedRegion, holds}
 use Rattle.lists.proofs.Members.{each_in, each_from, in_map, in_filter, from_filter, in_front, in_back, front_or_back, from_flat_map, any_in, from_any, all_from, from_option, none_front, none_back, none_each, each_none, no_elements}
 use Rattle.lists.proofs.FirstFound.{IsFirstTold, first_from}
 use Rattle.model_set_up.proofs.Holders.{Holds, holds_is, is_held, self_space}
 use Rattle.model_findings.specs.OpenRegions.{open_regions}
-use Rattle.model_findings.specs.Agents.{Extent, extent_holds, forwarded_extents, Agent, agents, answers, on_one_bus}
+use Rattle.model_findings.specs.Agents.{Extent, extent_holds, forwarded_extents, Agent, agents, answers}
 use Rattle.model_findings.specs.Orderly.{IsForwarded, AreAlone, IsOrderly}
 use Rattle.model_findings.specs.Problems.{least, unforwarded, shared, Problem, not_forwarded, contended, not_found, blame, forwarding_problem, contention, contentions, routing_problems}
 use Rattle.model_findings.specs.Witnesses.{ForwardsAll, IsNotForwarded, IsBefore, IsContended, RoutingDecides}
@@ -45,11 +45,7 @@ found_least t xs n e = subst (λ o. Least o (filter t xs)) e (least_is (filter t
 
 -- where one passes, one is found
 pub finds : (t : ℕ → Bool) (xs : List ℕ) (m : ℕ) → IsIn m (filter t xs) → (n : ℕ) × (least (filter t xs) ≡ Some n)
-finds t xs m k = by (least (filter t xs)) refl (least_is (filter t xs))
-  where
-    by : (o : Option ℕ) → least (filter t xs) ≡ o → Least o (filter t xs) → (n : ℕ) × (least (filter t xs) ≡ Some n)
-    by None e h = absurd (subst (IsIn m) h k)
-    by (Some n) e h = (n, e)
+finds t xs m k = grind (arith, least_is (filter t xs))
 
 -- ---- extents
 
@@ -95,17 +91,11 @@ module _ (r : RoutingRow) (q : PlacedRegion) (n : ℕ) (h : holds q.space n q �
             where
               past : (t : Bool) → leb x.end n ≡ t → Within m x → LostStart r q n ⊎ ((x : ℕ) × IsIn x (starts r q) × (m < x) × (x ≤ n))
               past true f w = inr (x.end, inr (in_map (λ e. e.end) x (forwarded_extents q.space r) j), w.below, leb-true x.end n f)
-              past false f w =
-                  let yes : row_forwards q.space n r ≡ true = sym (forwards_extents q.space n r.path r.command r.ranges) ∙ any_in (extent_holds n) x (forwarded_extents q.space r) j (is_within n x (record { from = omega (arith, w.from); below = lt_from x.end n f })) in
-                  let bad : true ≡ false = sym yes ∙ gone in cc
+              past false f w = grind (arith, forwards_extents q.space n r.path r.command r.ranges, any_in, is_within)
 
   -- so from such a start on a lost one comes
   lost_start : (k m : ℕ) → IsIn m (starts r q) → q.first ≤ m → m ≤ n → n ≤ m + k → LostStart r q n
-  lost_start zero m there from below few = by (lost_or_past m there from below)
-    where
-      by : LostStart r q n ⊎ ((x : ℕ) × IsIn x (starts r q) × (m < x) × (x ≤ n)) → LostStart r q n
-      by (inl s) = s
-      by (inr (x, i, later, fits)) = absurd (omega arith)
+  lost_start zero m there from below few = grind (arith, lost_or_past m there from below)
   lost_start (suc k) m there from below few = by (lost_or_past m there from below) (λ x i a b c. lost_start k x i a b c)
     where
       by : LostStart r q n ⊎ ((x : ℕ) × IsIn x (starts r q) × (m < x) × (x ≤ n)) → ((x : ℕ) → IsIn x (starts r q) → q.first ≤ x → x ≤ n → n ≤ x + k → LostStart r q n) → LostStart r q n
@@ -177,26 +167,20 @@ forwarding_real rows p m = of_region (from_flat_map (forwarding_problem rows) p 
     of_region (q, k, l) = of_row (first_from (blame q) rows p (from_option (first_some (blame q) rows) p l))
       where
         of_row : IsFirstTold (blame q) rows p → IsRouted rows p
-        of_row f = let g = blamed q f.element p f.told in
-            subst (IsRouted rows) (sym g.3) (lost_is rows f.before f.after q f.element g.1 k f.list_is f.none g.0 g.2)
+        of_row f = grind (arith, blamed q f.element p f.told, lost_is)
 
 none_lost : (rows : List RoutingRow) (q : PlacedRegion) → forwarding_problem rows q ≡ [] → IsForwarded rows q
 none_lost rows q none n h = all_from (λ s. not (leads_to s.path q.path) || row_forwards q.space n s) rows (λ r m. by r m (leads_to r.path q.path) (row_forwards q.space n r) refl refl)
   where
     empty : (o : Option Problem) → option_to_list o ≡ [] → o ≡ None
-    empty None e = refl
-    empty (Some x) e = cc
+    empty o e = grind arith
 
     by : (r : RoutingRow) → IsIn r rows → (t u : Bool) → leads_to r.path q.path ≡ t → row_forwards q.space n r ≡ u → (not t || u) ≡ true
     by r m false u e f = refl
     by r m true true e f = refl
     by r m true false e f =
         let g = unforwarded_finds r q n h f in
-        let told : blame q r ≡ Some (not_forwarded q r.path g.0) = blame_is r g.0 e g.1 in
-        absurd (first_there (blame q) r rows (not_forwarded q r.path g.0) m told (empty (first_some (blame q) rows) none))
-      where
-        blame_is : (r : RoutingRow) (c : ℕ) → leads_to r.path q.path ≡ true → unforwarded r q ≡ Some c → blame q r ≡ Some (not_forwarded q r.path c)
-        blame_is r c e f = ap₂ (λ (t : Bool) (o : Option ℕ). cond t (option_map (not_forwarded q r.path) o) None) e f
+        grind (arith, first_there (blame q) r rows (not_forwarded q r.path g.0) m)
 
 -- ---- what is told of agents
 
@@ -243,11 +227,8 @@ shared_start a b m h k = by (leb e.first f.first) refl
         let le : x.1.first ≤ y.1.first = leb-true x.1.first y.1.first g in
         (y.1.first, start y.1.first (in_map (λ z. z.first) y.1 (a.extents ++ b.extents) (in_back y.1 a.extents b.extents y.2)) (record { from = le; below = omega (arith, v.below, w.from) }) (record { from = omega arith; below = omega (arith, w.from, w.below) }), w.from)
     by false g =
-        let lt : y.1.first < x.1.first = later x.1.first y.1.first g in
+        let lt : y.1.first < x.1.first = lt_from x.1.first y.1.first g in
         (x.1.first, start x.1.first (in_map (λ z. z.first) x.1 (a.extents ++ b.extents) (in_front x.1 a.extents b.extents x.2)) (record { from = omega arith; below = omega (arith, v.from, v.below) }) (record { from = omega arith; below = omega (arith, v.from, w.below) }), v.from)
-      where
-        later : (i j : ℕ) → leb i j ≡ false → j < i
-        later i j h = grind (arith, nat_tests)
 
 -- what both answer at the address that is told
 pub record AtShared (a b : Agent) (n : ℕ) : Type 0 where
@@ -270,22 +251,14 @@ contention_real rows a b p two m = grind (arith, shared_is)
 
 contentions_real : (rows : List RoutingRow) (xs : List Agent) → ((a b : Agent) → IsBefore a b xs → IsBefore a b (agents rows)) → (p : Problem) → IsIn p (contentions xs) → IsRouted rows p
 contentions_real rows [] two p m = absurd m
-contentions_real rows (a ∷ bs) two p m = by (front_or_back p (flat_map (contention a) bs) (contentions bs) m) (λ k. contentions_real rows bs (λ x y j. two x y (inr j)) p k)
-  where
-    by : IsIn p (flat_map (contention a) bs) ⊎ IsIn p (contentions bs) → (IsIn p (contentions bs) → IsRouted rows p) → IsRouted rows p
-    by (inl k) more = let f = from_flat_map (contention a) p bs k in contention_real rows a f.0 p (two a f.0 (inl (refl, f.1))) f.2
-    by (inr k) more = more k
+contentions_real rows (a ∷ bs) two p m =
+    grind (arith, front_or_back p (flat_map (contention a) bs) (contentions bs) m, contentions_real rows bs, from_flat_map (contention a) p bs, contention_real, two a)
 
 alone_is : (a b : Agent) → contention a b ≡ [] → AreAlone a b
 alone_is a b none bus space n h = grind (arith, space_same, by_extent, shared_start, finds)
 
 pub no_contention : (a b : Agent) → AreAlone a b → contention a b ≡ []
-no_contention a b alone = by (on_one_bus a b) (shared a b) refl refl
-  where
-    by : (t : Bool) (o : Option ℕ) → on_one_bus a b ≡ t → shared a b ≡ o → cond t (option_to_list (option_map (contended a b) o)) [] ≡ []
-    by false o e f = refl
-    by true None e f = refl
-    by true (Some n) e f = let s : AtShared a b n = shared_is a b n f in let bad : true ≡ false = sym s.other ∙ alone e a.space n s.one in cc
+no_contention a b alone = grind (arith, found_least, from_filter)
 
 -- ---- pairs of agents
 
@@ -303,11 +276,8 @@ no_contentions (a ∷ bs) h = ap₂ ◌++◌ (each_none (contention a) bs (each_
 -- ---- the laws
 
 pub routing_is_real : (rows : List RoutingRow) (p : Problem) → IsIn p (routing_problems rows) → IsRouted rows p
-routing_is_real rows p m = by (front_or_back p (flat_map (forwarding_problem rows) (open_regions rows)) (contentions (agents rows)) m)
-  where
-    by : IsIn p (flat_map (forwarding_problem rows) (open_regions rows)) ⊎ IsIn p (contentions (agents rows)) → IsRouted rows p
-    by (inl k) = forwarding_real rows p k
-    by (inr k) = contentions_real rows (agents rows) (λ a b j. j) p k
+routing_is_real rows p m =
+    grind (arith, front_or_back p (flat_map (forwarding_problem rows) (open_regions rows)) (contentions (agents rows)) m, forwarding_real, contentions_real)
 
 orderly_is : (rows : List RoutingRow) → routing_problems rows ≡ [] → IsOrderly rows
 orderly_is rows h = record {
@@ -324,11 +294,7 @@ is_orderly rows h = ap₂ ◌++◌ (each_none (forwarding_problem rows) (open_re
         bad : (p : Problem) → IsIn p (forwarding_problem rows q) → IsFirstTold (blame q) rows p → ⊥
         bad p k f =
             let g = blamed q f.element p f.told in
-            let l = lost_byte q f.element g.1 g.2 in
-            let routed : is_routed rows q.path q.space g.1 ≡ true = each_in (IsForwarded rows) q (open_regions rows) h.forwarded m g.1 l.0 in
-            let there : IsIn f.element rows = subst (IsIn f.element) (sym f.list_is) (in_back f.element f.before (f.element ∷ f.after) (inl refl)) in
-            let no : is_routed rows q.path q.space g.1 ≡ false = all_false (λ s. not (leads_to s.path q.path) || row_forwards q.space g.1 s) f.element rows there (asked_false (leads_to f.element.path q.path) (row_forwards q.space g.1 f.element) g.0 l.1) in
-            let no_way : true ≡ false = sym routed ∙ no in cc
+            grind (arith, lost_byte q f.element g.1 g.2, each_in (IsForwarded rows) q (open_regions rows) h.forwarded m g.1, in_back f.element f.before (f.element ∷ f.after) (inl refl), all_false)
 
 pub routing_decides : RoutingDecides
 routing_decides rows = (orderly_is rows, is_orderly rows)

@@ -1,25 +1,23 @@
 -- What set-up leaves has no problem.
-use Rattle.std.proofs.Common.{◌≡◌, ℕ, ◌+◌, ◌-◌, ◌<◌, Bool, true, false, List, [], ◌∷◌, ◌++◌, refl, sym, ap, ◌∙◌, subst, arith}
+use Rattle.std.proofs.Common.{◌≡◌, ◌+◌, ◌-◌, ◌<◌, List, [], ◌∷◌, ◌++◌, refl, sym, ap, subst, arith}
 use Rattle.std.specs.Prelude.{map, flat_map, IsTrue}
 use Rattle.lists.proofs.Members.{pairs_of_map, each_in, each_from, in_flat_map, from_flat_map, from_map, from_filter, pairs_weaker, pairs_flat_map, pairs_of_part}
 use Rattle.lists.specs.Elements.{Each, EachPair, IsIn}
-use Rattle.model_registers.specs.Decoding.{io, memory, opens_space}
-use Rattle.model_registers.proofs.HitRegions.{space_same}
+use Rattle.model_registers.specs.Decoding.{opens_space}
 use Rattle.model_board.specs.Board.{Board, Row, Decl}
-use Rattle.model_board.specs.Paths.{Path, path_before, parent}
+use Rattle.model_board.specs.Paths.{Path, path_before}
 use Rattle.model_board.specs.State.{BoardFunction}
 use Rattle.model_registers.specs.Apertures.{Apertures}
-use Rattle.model_board.specs.Claims.{is_forwarded}
 use Rattle.model_set_up.specs.Layout.{IsLawful, layout}
 use Rattle.model_set_up.specs.PlacementLaws.{HasRows}
 use Rattle.model_set_up.specs.SetUp.{set_up_state}
 use Rattle.model_board.specs.Routing.{RoutingRow, row_of, routing}
 use Rattle.model_set_up.specs.PlacedRegions.{PlacedRegion, placed_at, placed_regions}
-use Rattle.model_set_up.specs.UniqueClaimant.{CanBePlaced, IsClaimed, ShareNone, HasUniqueClaims}
+use Rattle.model_set_up.specs.UniqueClaimant.{CanBePlaced, HasUniqueClaims}
 use Rattle.model_set_up.specs.WindowLaws.{HasPlacedWindows}
 use Rattle.lists.proofs.EachLemmas.{pairs_filter}
 use Rattle.model_board.proofs.PathOrder.{path_same}
-use Rattle.model_set_up.proofs.Holders.{Holds, holds_is, self_space}
+use Rattle.model_set_up.proofs.Holders.{Holds, holds_is}
 use Rattle.model_board.proofs.Routing.{forwarded_by_routing}
 use Rattle.model_set_up.proofs.LawfulPlacement.{layout_is_lawful}
 use Rattle.model_set_up.proofs.DeclaredRows.{rows_are_declared}
@@ -27,14 +25,14 @@ use Rattle.model_set_up.proofs.BoardWindows.{set_up_windows}
 use Rattle.model_set_up.proofs.SetUpNumbers.{set_up_has_numbers}
 use Rattle.model_set_up.proofs.UniqueClaimant.{unique_claimant, left}
 use Rattle.model_findings.specs.OpenRegions.{open_of, open_regions, regions_of}
-use Rattle.model_findings.specs.Agents.{Agent, region_agent, bridge_agent, agents_of, agents, answers}
+use Rattle.model_findings.specs.Agents.{Agent, agents_of, agents}
 use Rattle.model_findings.specs.Orderly.{IsForwarded, AreAlone, IsOrderly}
 use Rattle.model_findings.proofs.Answering.{region_answers}
 use Rattle.model_findings.proofs.Found.{numbers_of_board}
 use Rattle.model_findings.proofs.Witnesses.{problems_decide}
 use Rattle.model_findings.specs.SetUpPasses.{SetUpPasses, RoutedAsSetUp}
 use Rattle.model_findings.proofs.Placing.{regions_placed}
-use Rattle.model_findings.proofs.Holding.{HeldAt, one_holds, agent_held}
+use Rattle.model_findings.proofs.Holding.{one_holds, agent_held}
 
 module _ (b : Board) (a : Apertures) (can : CanBePlaced b a) (lawful : IsLawful b a (layout b a)) (has : HasRows b a) (windows : Each (λ r. HasPlacedWindows b a r.path r.decl) b) (unique : HasUniqueClaims b a (set_up_state b a).functions) where
   abbrev fs : List BoardFunction
@@ -64,45 +62,26 @@ module _ (b : Board) (a : Apertures) (can : CanBePlaced b a) (lawful : IsLawful 
       let held : Holds q.space n q = holds_is q.space n q h in
       let k : n - q.first < q.size = omega (arith, held.from, held.below) in
       let same : q.first + (n - q.first) ≡ n = omega (arith, held.from) in
-      let claimed : IsClaimed fs q (n - q.first) = each_in (λ (r : PlacedRegion). (j : ℕ) → j < r.size → IsClaimed fs r j) q (placed_regions b a) unique.each_byte (open_placed q m) (n - q.first) k in
-      sym (forwarded_by_routing fs q.path q.space n) ∙ subst (λ x. is_forwarded fs q.path q.space x ≡ true) same claimed.forwarded
+      grind (arith, each_in, open_placed, forwarded_by_routing fs q.path q.space n)
 
   -- ---- agents
 
-  share_none : (q t : PlacedRegion) → ShareNone q t → AreAlone (region_agent q) (region_agent t)
-  share_none q t none bus space n h = grind (arith, holds_is, region_answers, space_same, self_space)
-
-  io_or_memory : (r : RoutingRow) → AreAlone (bridge_agent r io) (bridge_agent r memory)
-  io_or_memory r = grind arith
-
   one_function : (p : Path) (d : Decl) → IsIn (record { path = p; decl = d }) b → EachPair AreAlone (agents_of (row_of (left b a (record { path = p; decl = d }))))
-  one_function p d m = grind (arith, io_or_memory, pairs_of_part, pairs_filter, regions_placed, pairs_of_map, pairs_weaker, share_none)
+  one_function p d m = grind (arith, pairs_of_part, pairs_filter, regions_placed, pairs_of_map, pairs_weaker, holds_is, region_answers)
 
   two_functions : (r s : Row) → IsIn r b → IsIn s b → IsTrue (path_before r.path s.path) → (x y : Agent) → IsIn x (agents_of (row_of (left b a r))) → IsIn y (agents_of (row_of (left b a s))) → AreAlone x y
-  two_functions r s m k before x y i j bus space n h = by (answers space n y) refl
-    where
-      one : (x.path ≡ r.path) × HeldAt b a r.path space n
-      one = agent_held b a can lawful has windows r.path r.decl x space n m i h
-
-      by : (u : Bool) → answers space n y ≡ u → u ≡ false
-      by false e = refl
-      by true e =
-          let other : (y.path ≡ s.path) × HeldAt b a s.path space n = agent_held b a can lawful has windows s.path s.decl y space n k j e in
-          let same : parent r.path ≡ parent s.path = sym (ap parent one.0) ∙ path_same (parent x.path) (parent y.path) bus ∙ ap parent other.0 in
-          absurd (one_holds b a can.apertures lawful r.path s.path space n before same one.1 other.1)
+  two_functions r s m k before x y i j bus space n h =
+      grind (arith, agent_held b a can lawful has windows r.path r.decl x space n m i h, agent_held b a can lawful has windows s.path s.decl y space n k j, path_same, one_holds b a can.apertures lawful r.path s.path space n before)
 
   alone : EachPair AreAlone (agents (routing fs))
   alone =
       subst (λ (xs : List Agent). EachPair AreAlone xs) (sym (flat b))
       (pairs_flat_map (λ (r s : Row). IsTrue (path_before r.path s.path)) AreAlone (λ r. agents_of (row_of (left b a r))) b can.places.in_order
-      (λ r m. one_function r.path r.decl m) two_functions_in)
+      (λ r m. one_function r.path r.decl m) two_functions)
     where
       flat : (rs : List Row) → flat_map agents_of (map row_of (map (left b a) rs)) ≡ flat_map (λ r. agents_of (row_of (left b a r))) rs
       flat [] = refl
       flat (r ∷ rs) = ap (λ (xs : List Agent). agents_of (row_of (left b a r)) ++ xs) (flat rs)
-
-      two_functions_in : (r s : Row) → IsIn r b → IsIn s b → IsTrue (path_before r.path s.path) → (x y : Agent) → IsIn x (agents_of (row_of (left b a r))) → IsIn y (agents_of (row_of (left b a s))) → AreAlone x y
-      two_functions_in r s m k before x y i j = two_functions r s m k before x y i j
 
   orderly : IsOrderly (routing fs)
   orderly = record { forwarded = each_from (IsForwarded (routing fs)) (open_regions (routing fs)) forwarded; alone = alone }
@@ -113,8 +92,7 @@ set_up_orderly b a can =
     (set_up_windows b a can.places can.declarations can.apertures can.io_paths can.room) (unique_claimant b a can (set_up_state b a).functions refl)
 
 pub routed_as_set_up : RoutedAsSetUp
-routed_as_set_up b a can fs same numbers =
-    (problems_decide fs).1 (record { routes = subst IsOrderly (sym same) (set_up_orderly b a can); numbers = (numbers_of_board b can.places fs numbers).0 })
+routed_as_set_up b a can fs same numbers = grind (arith, problems_decide, set_up_orderly, numbers_of_board b can.places fs numbers)
 
 pub set_up_passes : SetUpPasses
 set_up_passes b a few can = routed_as_set_up b a can (set_up_state b a).functions refl (set_up_has_numbers b a few)

@@ -1,72 +1,55 @@
 -- What set-up leaves lacks nothing.
-use Rattle.std.proofs.Common.{◌≡◌, ℕ, ◌+◌, ◌*◌, ◌%◌, ◌≤◌, ◌<◌, ◌⊎◌, inl, inr, Bool, true, false, ◌&&◌, not, List, [], ◌∷◌, ◌++◌, Option, Some, None, refl, sym, ap, ap₂, ◌∙◌, subst, arith}
-use Rattle.std.specs.Prelude.{map, filter, flat_map, IsTrue}
+use Rattle.std.proofs.Common.{◌≡◌, ℕ, ◌+◌, ◌*◌, ◌%◌, ◌≤◌, ◌<◌, ◌⊎◌, true, false, List, [], ◌∷◌, Option, refl, sym, ◌∙◌, subst, arith, rules}
+use Rattle.std.specs.Prelude.{map, filter, IsTrue}
 use Rattle.std.proofs.lemmas.Bool.Decides.{nat_tests}
 use Rattle.lists.specs.Elements.{Each, IsIn}
 use Rattle.lists.proofs.Members.{each_in, each_from, from_flat_map, from_map, from_filter, any_in}
-use Rattle.model_registers.specs.Apertures.{Aperture, Apertures, IsPrefOption}
-use Rattle.model_registers.specs.Declarations.{Kind, Region, Endpoint, Bridge}
-use Rattle.model_registers.specs.Decoding.{Space, memory, base, base_address, space_of, same_space, opens_space}
+use Rattle.model_registers.specs.Apertures.{Aperture, Apertures}
+use Rattle.model_registers.specs.Declarations.{Region, Endpoint}
+use Rattle.model_registers.specs.Decoding.{Space, base_address, space_of, same_space, opens_space}
 use Rattle.model_registers.specs.EndpointTable.{BaseAddress}
 use Rattle.model_registers.specs.Registers.{File}
 use Rattle.model_board.specs.Board.{Board, Row, Decl, endpoint, bridge, is_bridge, is_bridge_at, is_multifunction}
-use Rattle.model_board.specs.BusNumbers.{Enumerates, bus_behind, bus_of}
-use Rattle.model_board.specs.Cycles.{BusAddress}
+use Rattle.model_board.specs.BusNumbers.{Enumerates, bus_behind}
 use Rattle.model_board.specs.Paths.{Path, IsPath, parent}
 use Rattle.model_board.specs.State.{BoardFunction}
 use Rattle.model_board.specs.Routing.{RoutingRow, row_of, routing}
-use Rattle.model_board.specs.Windows.{is_in, mem_window, pref_window}
-use Rattle.model_set_up.specs.Pools.{Pool, io_pool, mem_pool, pref_pool, bridges_above, pool_of}
+use Rattle.model_board.specs.Windows.{is_in}
+use Rattle.model_set_up.specs.Pools.{Pool, pref_pool, bridges_above}
 use Rattle.model_set_up.specs.Layout.{LayoutRow, IsLawful, layout}
-use Rattle.model_set_up.specs.PlacementLaws.{pool_at, region_row, window_row, HasRows}
+use Rattle.model_set_up.specs.PlacementLaws.{pool_at, region_row, HasRows}
 use Rattle.model_set_up.specs.PlacedRegions.{PlacedRegion, placed, pool_space, holds}
-use Rattle.model_set_up.specs.Reach.{address_of}
 use Rattle.model_set_up.specs.SetUp.{first_of, set_up_file, set_up_state}
 use Rattle.model_set_up.specs.UniqueClaimant.{CanBePlaced}
-use Rattle.model_set_up.specs.WindowLaws.{placed_window, ForwardsPlaced, HasPlacedWindows}
+use Rattle.model_set_up.specs.WindowLaws.{placed_window, HasPlacedWindows}
 use Rattle.model_set_up.proofs.Holders.{Holds, holds_is, self_space}
 use Rattle.model_set_up.proofs.PlacedApart.{pool_of_space}
 use Rattle.model_set_up.proofs.PlacedReads.{InAperture}
 use Rattle.model_set_up.proofs.PlacedRegions.{region_there}
-use Rattle.model_set_up.proofs.SetUpNumbers.{byte, numbers_small, set_up_has_numbers}
+use Rattle.model_set_up.proofs.SetUpNumbers.{numbers_small, set_up_has_numbers}
 use Rattle.model_set_up.proofs.SetUpRegisters.{endpoint_opens}
 use Rattle.model_set_up.proofs.UniqueClaimant.{bases}
 use Rattle.model_set_up.proofs.LawfulPlacement.{layout_is_lawful}
 use Rattle.model_set_up.proofs.DeclaredRows.{rows_are_declared}
 use Rattle.model_set_up.proofs.BoardWindows.{set_up_windows}
 use Rattle.model_findings.specs.OpenRegions.{region_now, regions_of, open_of, open_regions}
-use Rattle.model_findings.specs.Found.{bus_now, address_now}
+use Rattle.model_findings.specs.Found.{bus_now}
 use Rattle.model_findings.proofs.Found.{numbers_of_board}
 use Rattle.model_findings.proofs.Holding.{window_row_held}
 use Rattle.lists.proofs.Members.{none_front, each_none}
 use Rattle.model_set_up.proofs.UniqueClaimant.{left}
 use Rattle.model_findings.proofs.Placing.{regions_placed}
 use Rattle.model_findings.proofs.SetUpPasses.{set_up_passes, routed_as_set_up}
-use Rattle.model_findings.specs.Lacks.{primary_register, is_in_apertures, is_plain, plain_of, plain_regions, prefetches, other_primary, primary_lack, routing_lacks, lacks}
+use Rattle.model_findings.specs.Lacks.{primary_register, is_in_apertures, is_plain, plain_of, plain_regions, prefetches, primary_lack, lacks}
 use Rattle.model_findings.specs.ReadyLaws.{IsWithinApertures, PrefetchesNone, LacksNothing, SetUpIsReady, ReadyAsSetUp}
-use Rattle.model_findings.proofs.Lacks.{nothing_lacking, none_primary}
+use Rattle.model_findings.proofs.Lacks.{nothing_lacking}
 
 -- ---- apertures
 
 -- the addresses of a row of the layout lie in an aperture of its space
 row_within : (i m : Aperture) (o : Option Aperture) (pool : Pool) (l : LayoutRow) (n : ℕ) → InAperture (record { io = i; mem = m; pref = o }) pool l → l.first ≤ n → n < l.first + l.size
     → is_in_apertures (record { io = i; mem = m; pref = o }) (pool_space pool) n ≡ true
-row_within i m o io_pool l n h from below = grind (arith, nat_tests)
-row_within i m o mem_pool l n h from below = grind (arith, nat_tests)
-row_within i m None pref_pool l n h from below = absurd h
-row_within i m (Some p) pref_pool l n h from below = grind (arith, nat_tests)
-
-plain_pool : (a : Apertures) (above : List Bridge) (k : Kind) → is_plain k ≡ true → pool_of a above k ≡ mem_pool
-plain_pool a above k h = grind arith
-
--- no address lies in both apertures for memory
-mem_not_pref : (i m : Aperture) (o : Option Aperture) (r s : LayoutRow) (n : ℕ) → IsPrefOption m o → InAperture (record { io = i; mem = m; pref = o }) mem_pool r → InAperture (record { io = i; mem = m; pref = o }) pref_pool s
-    → r.first ≤ n → n < r.first + r.size → s.first ≤ n → n < s.first + s.size → ⊥
-mem_not_pref i m None r s n apart h k a b c d = absurd k
-mem_not_pref i m (Some p) r s n apart h k a b c d = grind arith
-
-by_and : (o p m : Bool) → p ≡ false → (o && p && m) ≡ false
-by_and o p m h = grind arith
+row_within i m o pool l n h from below = grind (arith, nat_tests)
 
 module _ (b : Board) (a : Apertures) (few : Enumerates b) (can : CanBePlaced b a) (lawful : IsLawful b a (layout b a)) (has : HasRows b a) (given : Each (λ r. HasPlacedWindows b a r.path r.decl) b) where
   abbrev fs : List BoardFunction
@@ -77,10 +60,7 @@ module _ (b : Board) (a : Apertures) (few : Enumerates b) (can : CanBePlaced b a
   of_function f m = from_map (left b a) f b m
 
   of_row : (r : RoutingRow) → IsIn r (routing fs) → (s : Row) × IsIn s b × (r ≡ row_of (left b a s))
-  of_row r m = by (from_map row_of r fs m)
-    where
-      by : (f : BoardFunction) × IsIn f fs × (r ≡ row_of f) → (s : Row) × IsIn s b × (r ≡ row_of (left b a s))
-      by (f, k, e) = let g = of_function f k in (g.0, g.1, e ∙ ap row_of g.2)
+  of_row r m = grind (arith, from_map, of_function)
 
   -- ---- open
 
@@ -109,37 +89,19 @@ module _ (b : Board) (a : Apertures) (few : Enumerates b) (can : CanBePlaced b a
 
   open_within : (p : Path) (d : Decl) (q : PlacedRegion) → IsIn (record { path = p; decl = d }) b → IsIn q (open_of (row_of (left b a (record { path = p; decl = d })))) → IsWithinApertures a q
   open_within p (bridge d) q m k = absurd k
-  open_within p (endpoint d) q m k = of (from_map (placed b a p) q d.regions (subst (IsIn q) (regions_placed b a can lawful has p (endpoint d) m) (from_filter (λ (r : PlacedRegion). opens_space (row_of (left b a (record { path = p; decl = endpoint d }))).command r.space) q (regions_of (row_of (left b a (record { path = p; decl = endpoint d })))) k).0))
-    where
-      of : (g : Region) × IsIn g d.regions × (q ≡ placed b a p g) → IsWithinApertures a q
-      of (g, l, e) = subst (IsWithinApertures a) (sym e) (placed_within p d g m l)
+  open_within p (endpoint d) q m k =
+      grind (arith, from_map (placed b a p) q d.regions, regions_placed b a can lawful has p (endpoint d) m, from_filter, placed_within)
 
   -- ---- what isn't prefetchable isn't prefetched
 
   -- no prefetchable window has an address of a region that isn't prefetchable
   no_window : (p t : Path) (d : Endpoint) (g : Region) (n : ℕ) → IsIn (record { path = p; decl = endpoint d }) b → IsIn g d.regions → is_plain g.kind ≡ true → holds (space_of g.kind) n (placed b a p g) ≡ true → IsPath t → is_in n (placed_window b a pref_pool t) ≡ false
-  no_window p t d g n m k plain h path = by (is_in n (placed_window b a pref_pool t)) refl
-    where
-      held : Holds (space_of g.kind) n (placed b a p g)
-      held = holds_is (space_of g.kind) n (placed b a p g) h
-
-      in_mem : InAperture a mem_pool (region_row b a p g)
-      in_mem = subst (λ (x : Pool). InAperture a x (region_row b a p g)) (plain_pool a (bridges_above b p) g.kind plain) (region_inside p d g m k)
-
-      by : (u : Bool) → is_in n (placed_window b a pref_pool t) ≡ u → u ≡ false
-      by false e = refl
-      by true e =
-          let w = window_row_held b a can t pref_pool n path e in
-          absurd (mem_not_pref a.io a.mem a.pref (region_row b a p g) (window_row b a pref_pool t) n can.apertures.pref in_mem
-          (each_in (λ (l : LayoutRow). InAperture a l.pool l) (window_row b a pref_pool t) (layout b a) lawful.in_apertures w.0) held.from held.below w.1 w.2)
+  no_window p t d g n m k plain h path =
+      grind (arith, holds_is (space_of g.kind) n (placed b a p g) h, region_inside p d g m k, window_row_held b a can t pref_pool n path, each_in)
 
   bridge_prefetches_none : (p t : Path) (d : Endpoint) (e : Decl) (g : Region) (n : ℕ) → IsIn (record { path = p; decl = endpoint d }) b → IsIn (record { path = t; decl = e }) b → IsIn g d.regions → is_plain g.kind ≡ true → holds (space_of g.kind) n (placed b a p g) ≡ true → prefetches n (row_of (left b a (record { path = t; decl = e }))) ≡ false
   bridge_prefetches_none p t d (endpoint e) g n m l k plain h = refl
-  bridge_prefetches_none p t d (bridge e) g n m l k plain h =
-      let path : IsPath t = each_in (λ (r : Row). IsPath r.path) (record { path = t; decl = bridge e }) b can.places.paths l in
-      let forwards : ForwardsPlaced b a t e = each_in (λ (r : Row). HasPlacedWindows b a r.path r.decl) (record { path = t; decl = bridge e }) b given l in
-      by_and (opens_space (row_of (left b a (record { path = t; decl = bridge e }))).command memory) (is_in n (pref_window e.pref (set_up_file b a t (bridge e)))) (not (is_in n (mem_window (set_up_file b a t (bridge e)))))
-      (ap (is_in n) forwards.pref ∙ no_window p t d g n m k plain h path)
+  bridge_prefetches_none p t d (bridge e) g n m l k plain h = grind (arith, each_in, no_window p t d g n m k plain h)
 
   -- a region that isn't prefetchable stands where it was placed
   record Plain (p : Path) (d : Endpoint) (q : PlacedRegion) : Type 0 where
@@ -155,52 +117,31 @@ module _ (b : Board) (a : Apertures) (few : Enumerates b) (can : CanBePlaced b a
       file = set_up_file b a p (endpoint d)
 
       placed_is : (g : Region) → IsIn g d.regions → region_now p (base_address (set_up_file b a p (endpoint d)) g) ≡ placed b a p g
-      placed_is g l = ap (λ (n : ℕ). record { path = p; index = g.index; space = space_of g.kind; first = n; size = g.size })
-          (each_in (λ (x : Region). base (set_up_file b a p (endpoint d)) x.index x.kind ≡ first_of b a p x) g d.regions (bases b a can lawful has (record { path = p; decl = endpoint d }) d m refl) l)
+      placed_is g l = grind (arith, each_in, bases b a can lawful has (record { path = p; decl = endpoint d }) d m refl)
 
       of_region : (x : BaseAddress) → q ≡ region_now p x → is_plain x.kind ≡ true → (g : Region) × IsIn g d.regions × (x ≡ base_address (set_up_file b a p (endpoint d)) g) → Plain p d q
-      of_region x e plain (g, l, i) = record {
-        region = g;
-        declared = l;
-        plain = subst (λ (y : BaseAddress). is_plain y.kind ≡ true) i plain;
-        is = e ∙ ap (region_now p) i ∙ placed_is g l;
-      }
+      of_region x e plain (g, l, i) = grind (arith, placed_is)
 
       of_filter : IsIn q (map (region_now p) (filter (λ (x : BaseAddress). is_plain x.kind) (map (base_address (set_up_file b a p (endpoint d))) d.regions))) → Plain p d q
       of_filter l =
           let f = from_map (region_now p) q (filter (λ (x : BaseAddress). is_plain x.kind) (map (base_address (set_up_file b a p (endpoint d))) d.regions)) l in
-          let g = from_filter (λ (x : BaseAddress). is_plain x.kind) f.0 (map (base_address (set_up_file b a p (endpoint d))) d.regions) f.1 in
-          of_region f.0 f.2 g.1 (from_map (base_address (set_up_file b a p (endpoint d))) f.0 d.regions g.0)
+          grind (arith, from_filter, of_region, from_map (base_address (set_up_file b a p (endpoint d))) f.0 d.regions)
 
   plain_unprefetched : (p : Path) (d : Decl) (q : PlacedRegion) → IsIn (record { path = p; decl = d }) b → IsIn q (plain_of (row_of (left b a (record { path = p; decl = d })))) → Each (PrefetchesNone q) (routing fs)
   plain_unprefetched p (bridge d) q m k = absurd k
   plain_unprefetched p (endpoint d) q m k = each_from (PrefetchesNone q) (routing fs) (λ r l. of r (of_row r l) (plain_source p d q m k))
     where
       of : (r : RoutingRow) → (s : Row) × IsIn s b × (r ≡ row_of (left b a s)) → Plain p d q → PrefetchesNone q r
-      of r (s, l, e) o =
-          subst (PrefetchesNone q) (sym e) (subst (λ (x : PlacedRegion). PrefetchesNone x (row_of (left b a s))) (sym o.is)
-          (λ over n h. bridge_prefetches_none p s.path d s.decl o.region n m l o.declared o.plain h))
+      of r (s, l, e) o = grind (arith, bridge_prefetches_none)
 
   -- ---- Primary Bus Numbers
 
   bus_small : (p : Path) → (p ≡ []) ⊎ (is_bridge_at b p ≡ true) → bus_behind b p < 256
   bus_small [] h = omega arith
-  bus_small (x ∷ p) (inl e) = cc
-  bus_small (x ∷ p) (inr h) = (numbers_small b few (x ∷ p) h).first
-
-  primary_held : (p : Path) (d : Decl) → is_bridge d ≡ true → bus_of b p < 256 → primary_register (set_up_file b a p d) ≡ bus_of b p
-  primary_held p (endpoint d) is small = cc
-  primary_held p (bridge d) is small = byte (bus_of b p) small
+  bus_small (x ∷ p) h = search (rules, numbers_small)
 
   primary : (f : BoardFunction) → IsIn f fs → is_bridge f.decl ≡ true → primary_register f.file ≡ bus_now fs (parent f.path)
-  primary f m is = of (of_function f m)
-    where
-      of : (s : Row) × IsIn s b × (f ≡ left b a s) → primary_register f.file ≡ bus_now fs (parent f.path)
-      of (s, k, e) =
-          let small : bus_of b s.path < 256 = bus_small (parent s.path) (each_in (λ (r : Row). (parent r.path ≡ []) ⊎ IsTrue (is_bridge_at b (parent r.path))) s b can.places.behind_bridges k) in
-          let number : address_now fs f.path ≡ address_of b f.path = each_in (λ (g : BoardFunction). address_now fs g.path ≡ address_of b g.path) f fs (numbers_of_board b can.places fs (set_up_has_numbers b a few)).1 m in
-          let held : primary_register f.file ≡ bus_of b f.path = subst (λ (g : BoardFunction). primary_register g.file ≡ bus_of b g.path) (sym e) (primary_held s.path s.decl (subst (λ (g : BoardFunction). is_bridge g.decl ≡ true) e is) small) in
-          held ∙ sym (ap (λ (at : BusAddress). at.bus) number)
+  primary f m is = grind (arith, of_function, bus_small, each_in, numbers_of_board b can.places fs (set_up_has_numbers b a few))
 
   -- ---- nothing is lacking
 
@@ -237,17 +178,5 @@ pub set_up_is_ready : SetUpIsReady
 set_up_is_ready b a few can = record { no_problems = set_up_passes b a few can; no_lacks = routing_ready b a few can }
 
 pub ready_as_set_up : ReadyAsSetUp
-ready_as_set_up b a few can fs same numbers primaries = record {
-  no_problems = routed_as_set_up b a can fs same numbers;
-  no_lacks = ap₂ ◌++◌ (ap (routing_lacks a) same ∙ none_front (routing_lacks a (routing left_there)) (flat_map (primary_lack left_there) left_there) (routing_ready b a few can))
-      (each_none (primary_lack fs) fs (each_from (λ f. primary_lack fs f ≡ []) fs none));
-}
-  where
-    left_there : List BoardFunction
-    left_there = (set_up_state b a).functions
-
-    none : (f : BoardFunction) → IsIn f fs → primary_lack fs f ≡ []
-    none f m =
-        none_primary (is_bridge f.decl) (primary_register f.file) (bus_now fs (parent f.path)) (other_primary f.path (primary_register f.file) (bus_now fs (parent f.path)))
-        (λ is. each_in (λ (g : BoardFunction). IsTrue (is_bridge g.decl) → primary_register g.file ≡ bus_of b g.path) f fs primaries m is
-        ∙ sym (ap (λ (at : BusAddress). at.bus) (each_in (λ (g : BoardFunction). address_now fs g.path ≡ address_of b g.path) f fs (numbers_of_board b can.places fs numbers).1 m)))
+ready_as_set_up b a few can fs same numbers primaries =
+    grind (arith, routed_as_set_up, none_front, routing_ready b a few can, each_none (primary_lack fs) fs, each_from, each_in, numbers_of_board b can.places fs numbers)

@@ -1,16 +1,12 @@
 -- Where nothing is told of the elements of a list.
-use Rattle.std.proofs.Common.{◌≡◌, List, [], ◌∷◌, Option, Some, None, refl}
+use Rattle.std.proofs.Common.{◌≡◌, List, [], ◌∷◌, Option, None, refl, arith}
 use Rattle.std.specs.Prelude.{map}
-use Rattle.lists.specs.Elements.{Each, first_of_two, first_some}
+use Rattle.lists.specs.Elements.{Each, first_some}
 
 -- where nothing is told, nothing is told of any element, and the other way round
 pub first_none : {A B : Type 0} (f : A → Option B) (xs : List A) → first_some f xs ≡ None → Each (λ x. f x ≡ None) xs
 first_none f [] h = tt
-first_none {A} {B} f (x ∷ xs) h = by (f x) refl h (first_none f xs)
-  where
-    by : (o : Option B) → f x ≡ o → first_of_two o (first_some f xs) ≡ None → (first_some f xs ≡ None → Each (λ x. f x ≡ None) xs) → Each (λ x. f x ≡ None) (x ∷ xs)
-    by None e g more = (e, more g)
-    by (Some z) e g more = cc
+first_none {A} {B} f (x ∷ xs) h = grind (arith, first_none f xs)
 
 pub none_first : {A B : Type 0} (f : A → Option B) (xs : List A) → Each (λ x. f x ≡ None) xs → first_some f xs ≡ None
 none_first f [] h = refl

@@ -1,15 +1,13 @@
 -- In a ready state each byte of each declared region is claimed where its register says, within the apertures.
-use Rattle.std.proofs.Common.{◌≡◌, ℕ, ◌<◌, true, sym, subst}
-use Rattle.std.specs.Prelude.{map, filter, IsTrue}
+use Rattle.std.proofs.Common.{◌≡◌, ℕ, ◌<◌, true, arith}
 use Rattle.lists.specs.Elements.{Each, IsIn}
 use Rattle.lists.proofs.Members.{each_in, in_map, in_filter, in_flat_map}
 use Rattle.model_registers.specs.Declarations.{Region, Endpoint}
 use Rattle.model_registers.specs.Decoding.{base_address, opens_space, command_word, space_of}
-use Rattle.model_registers.specs.EndpointTable.{BaseAddress}
 use Rattle.model_registers.specs.Registers.{File}
 use Rattle.model_board.specs.Board.{Decl, endpoint}
 use Rattle.model_board.specs.Paths.{Path}
-use Rattle.model_board.specs.Routing.{RoutingRow, row_of, routing}
+use Rattle.model_board.specs.Routing.{row_of, routing}
 use Rattle.model_set_up.specs.PlacedRegions.{PlacedRegion}
 use Rattle.model_set_up.specs.UniqueClaimant.{IsClaimed}
 use Rattle.model_findings.specs.OpenRegions.{region_now, regions_of, open_of, open_regions}
@@ -23,17 +21,11 @@ use Rattle.model_findings.proofs.Lacks.{lacking_nothing}
 -- a declared region is one of its function's, where its register says
 pub region_here : (p : Path) (decl : Decl) (file : File) (d : Endpoint) (g : Region) → decl ≡ endpoint d → IsIn g d.regions
     → IsIn (region_now p (base_address file g)) (regions_of (row_of (record { path = p; decl = decl; file = file })))
-region_here p decl file d g e k =
-    subst (λ (x : Decl). IsIn (region_now p (base_address file g)) (regions_of (row_of (record { path = p; decl = x; file = file })))) (sym e)
-    (in_map (region_now p) (base_address file g) (map (base_address file) d.regions) (in_map (base_address file) g d.regions k))
+region_here p decl file d g e k = grind (arith, in_map)
 
 plain_here : (p : Path) (decl : Decl) (file : File) (d : Endpoint) (g : Region) → decl ≡ endpoint d → IsIn g d.regions → is_plain g.kind ≡ true → opens_space (command_word file) (space_of g.kind) ≡ true
     → IsIn (region_now p (base_address file g)) (plain_of (row_of (record { path = p; decl = decl; file = file })))
-plain_here p decl file d g e k plain opened =
-    subst (λ (x : Decl). IsIn (region_now p (base_address file g)) (plain_of (row_of (record { path = p; decl = x; file = file })))) (sym e)
-    (in_filter (λ (q : PlacedRegion). opens_space (command_word file) q.space) (region_now p (base_address file g)) (map (region_now p) (filter (λ (b : BaseAddress). is_plain b.kind) (map (base_address file) d.regions)))
-    (in_map (region_now p) (base_address file g) (filter (λ (b : BaseAddress). is_plain b.kind) (map (base_address file) d.regions))
-    (in_filter (λ (b : BaseAddress). is_plain b.kind) (base_address file g) (map (base_address file) d.regions) (in_map (base_address file) g d.regions k) plain)) opened)
+plain_here p decl file d g e k plain opened = grind (arith, in_filter, in_map, in_map)
 
 pub ready_is_usable : ReadyIsUsable
 ready_is_usable a fs state ready f m d e g k = record {
@@ -57,8 +49,7 @@ ready_is_usable a fs state ready f m d e g k = record {
     here = region_here f.path f.decl f.file d g e k
 
     opened : opens_space (row_of f).command (space_of g.kind) ≡ true
-    opened = each_in (λ (x : PlacedRegion). IsTrue (opens_space (row_of f).command x.space)) (region_now f.path (base_address f.file g)) (regions_of (row_of f))
-        (each_in (λ (r : RoutingRow). Each (λ (x : PlacedRegion). IsTrue (opens_space r.command x.space)) (regions_of r)) (row_of f) (routing fs) nothing.open_all row_there) here
+    opened = grind (arith, each_in, nothing, row_there, here)
 
     there : IsIn (region_now f.path (base_address f.file g)) (open_regions (routing fs))
     there = in_flat_map open_of (row_of f) (region_now f.path (base_address f.file g)) (routing fs) row_there
