@@ -1,18 +1,18 @@
 -- In an orderly state no other region would answer too; in a ready one each region that holds an address answers.
-use Rattle.std.proofs.Common.{◌≡◌, ℕ, true, false, ◌==◌, [], Option, Some, refl, sym, ap, ◌∙◌, subst, arith}
+use Rattle.std.proofs.Common.{◌≡◌, ℕ, true, false, ◌==◌, [], Option, Some, refl, sym, ◌∙◌, arith}
 use Rattle.std.specs.Prelude.{IsTrue}
 use Rattle.std.proofs.lemmas.Bool.{and_from}
 use Rattle.std.proofs.lemmas.Bool.Decides.{nat_tests}
 use Rattle.lists.specs.Elements.{Each, IsIn}
 use Rattle.lists.proofs.Members.{each_in, each_from, in_map, in_filter, in_flat_map}
 use Rattle.model_registers.specs.Decoding.{opens_space}
-use Rattle.model_board.specs.Claims.{Claim, claims, first_claim}
+use Rattle.model_board.specs.Claims.{Claim, first_claim}
 use Rattle.model_board.specs.Paths.{path_eq}
 use Rattle.model_board.specs.Routing.{RoutingRow, row_of, routing}
 use Rattle.model_board.proofs.PathEnds.{path_self}
 use Rattle.model_set_up.specs.PlacedRegions.{PlacedRegion, claim_in}
 use Rattle.model_set_up.proofs.Holders.{holds_is, holder_first}
-use Rattle.model_findings.specs.OpenRegions.{regions_of, open_of, open_regions, open_claim}
+use Rattle.model_findings.specs.OpenRegions.{regions_of, open_of, open_regions}
 use Rattle.model_findings.specs.Orderly.{HasClaimsOfRegions}
 use Rattle.model_findings.proofs.Claims.{orderly_claims}
 use Rattle.lists.proofs.Members.{from_option}
@@ -26,10 +26,7 @@ use Rattle.model_lines.proofs.Why.{told_true}
 
 -- the region of the first claim is the answering one
 answering : (n : ℕ) (q : PlacedRegion) (o : Option Claim) → o ≡ Some (claim_there n q) → is_answer o q ≡ true
-answering n q o e = ap (λ (x : Option Claim). is_answer x q) e ∙ and_from (path_eq q.path q.path) (q.index == q.index) (path_self q.path) (same q.index)
-  where
-    same : (i : ℕ) → (i == i) ≡ true
-    same i = grind (arith, nat_tests)
+answering n q o e = grind (arith, and_from (path_eq q.path q.path) (q.index == q.index) (path_self q.path), path_self q.path, nat_tests)
 
 pub orderly_answers_alone : OrderlyAnswersAlone
 orderly_answers_alone fs state orderly space n = each_from (λ t. t.causes ≡ [] → ⊥) (told fs space n) (λ t m. alone t (told_true fs space n t m))
@@ -38,10 +35,7 @@ orderly_answers_alone fs state orderly space n = each_from (λ t. t.causes ≡ [
     own = orderly_claims fs state orderly
 
     alone : (t : Told) → IsTrueTold fs space n t → t.causes ≡ [] → ⊥
-    alone t is e =
-        let claimed : IsIn (claim_there n t.region) (claims fs space n) = is.too e in
-        let first : first_claim fs space n ≡ Some (claim_there n t.region) = own.first space n ∙ from_option (open_claim (routing fs) space n) (claim_there n t.region) (subst (IsIn (claim_there n t.region)) (own.only space n) claimed) in
-        let bad : true ≡ false = sym (answering n t.region (first_claim fs space n) first) ∙ is.other in cc
+    alone t is e = grind (arith, own, from_option, answering)
 
 pub ready_tells_nothing : ReadyTellsNothing
 ready_tells_nothing a fs state ready space n = no_elements (told fs space n) (λ t m. answers t (told_true fs space n t m))

@@ -1,6 +1,6 @@
 -- Whatever firmware does to a handoff, it leaves one.
-use Rattle.std.proofs.Common.{◌≡◌, ℕ, Bool, true, false, cond, List, [], ◌∷◌, Some, None, Option, refl, ◌∙◌, arith}
-use Rattle.std.specs.Prelude.{map, is_some}
+use Rattle.std.proofs.Common.{◌≡◌, ℕ, Bool, cond, List, [], ◌∷◌, Some, None, Option, refl, arith}
+use Rattle.std.specs.Prelude.{map}
 use Rattle.std.specs.Option.{option_map_or}
 use Rattle.lists.specs.Elements.{Each}
 use Rattle.model_registers.specs.Registers.{config, block, File, write, all_bytes}
@@ -8,15 +8,14 @@ use Rattle.model_registers.specs.CopiedFiles.{shape_of}
 use Rattle.model_board.specs.Paths.{Path, path_eq}
 use Rattle.model_board.specs.Claims.{Claim, first_claim}
 use Rattle.model_board.specs.Cycles.{reached}
-use Rattle.model_board.specs.Ports.{PortTarget, config_address, config_data, ordinary, port_target, after_claim_write, after_target_write}
+use Rattle.model_board.specs.Ports.{PortTarget, config_address, config_data, ordinary, after_claim_write, after_target_write}
 use Rattle.model_board.specs.State.{BoardFunction, State, with_file, row_at}
-use Rattle.model_registers.specs.Decoding.{io, memory}
+use Rattle.model_registers.specs.Decoding.{io}
 use Rattle.model_guests.specs.Accesses.{Op, reads, writes}
 use Rattle.model_guests.specs.Grammar.{HostTarget, host_configuration, host_port, host_address}
-use Rattle.model_guests.specs.LineRuns.{after_lines}
 use Rattle.model_guests.proofs.Seats.{written_shape}
-use Rattle.model_lines.specs.FirmwareLines.{Meaning, nothing, asked, bad, meaning, after_meaning, after_line, board_protocol}
-use Rattle.model_lines.specs.HostAccesses.{HostAccess, effect, fault_of, after_access}
+use Rattle.model_lines.specs.FirmwareLines.{Meaning, meaning, after_meaning, after_line}
+use Rattle.model_lines.specs.HostAccesses.{HostAccess, effect, after_access}
 use Rattle.model_handoff.specs.Handoffs.{HasDeclaredShape, IsHandoff}
 use Rattle.model_lines.specs.FirmwareLeaves.{IsHandoffAlike, AccessLeaves, LinesLeave}
 
@@ -40,16 +39,13 @@ module _ (g : File → File) (stays : (file : File) → shape_of (g file) ≡ sh
   all_shapes [] h = tt
   all_shapes (f ∷ fs) h = grind (arith, all_shapes fs)
 
-  with_file_alike : (fs : List BoardFunction) → Alike fs (with_file g p fs)
-  with_file_alike fs = record { rows = all_rows fs; shapes = all_shapes fs }
-
 config_alike : (fs : List BoardFunction) (off : ℕ) (ons : List Bool) (v : ℕ) (o : Option BoardFunction) → Alike fs (option_map_or (λ (f : BoardFunction). with_file (write ons v (config off)) f.path fs) o fs)
 config_alike fs off ons v None = unchanged fs
-config_alike fs off ons v (Some f) = with_file_alike (write ons v (config off)) (written_shape ons v (config off)) f.path fs
+config_alike fs off ons v (Some f) = grind (arith, all_rows, all_shapes, written_shape ons v (config off))
 
 claim_alike : (fs : List BoardFunction) (w v : ℕ) (o : Option Claim) → Alike fs (after_claim_write fs w v o)
 claim_alike fs w v None = unchanged fs
-claim_alike fs w v (Some c) = with_file_alike (write (all_bytes w) v (block c.index c.offset)) (written_shape (all_bytes w) v (block c.index c.offset)) c.path fs
+claim_alike fs w v (Some c) = grind (arith, all_rows, all_shapes, written_shape (all_bytes w) v (block c.index c.offset))
 
 target_alike : (s : State) (a w v : ℕ) (t : PortTarget) → Alike s.functions (after_target_write s a w v t).functions
 target_alike s a w v config_address = unchanged s.functions
@@ -59,32 +55,18 @@ target_alike s a w v ordinary = claim_alike s.functions w v (first_claim s.funct
 effect_alike : (s : State) (w : ℕ) (at : HostTarget) (op : Op) → Alike s.functions (effect s w at op).functions
 effect_alike s w (host_configuration at off) reads = unchanged s.functions
 effect_alike s w (host_configuration at off) (writes v) = config_alike s.functions off (all_bytes w) v (reached s.functions at)
-effect_alike s w (host_port a) reads = unchanged s.functions
-effect_alike s w (host_port a) (writes v) = target_alike s a w v (port_target s.latch a w)
-effect_alike s w (host_address a) reads = unchanged s.functions
-effect_alike s w (host_address a) (writes v) = claim_alike s.functions w v (first_claim s.functions memory a)
+effect_alike s w (host_port a) op = grind (arith, unchanged s.functions, target_alike s a w)
+effect_alike s w (host_address a) op = grind (arith, unchanged s.functions, claim_alike s.functions w)
 
 access_alike : (s : State) (a : HostAccess) → Alike s.functions (after_access s a).functions
-access_alike s a = by (is_some (fault_of a))
-  where
-    by : (t : Bool) → Alike s.functions (cond t s (effect s a.width a.target a.op)).functions
-    by true = unchanged s.functions
-    by false = effect_alike s a.width a.target a.op
-
-handoff_alike : (s now : State) → IsHandoff s → Alike s.functions now.functions → IsHandoffAlike s now
-handoff_alike s now h alike = grind arith
+access_alike s a = grind (arith, unchanged s.functions, effect_alike s a.width a.target a.op)
 
 pub access_leaves : AccessLeaves
-access_leaves s h a = handoff_alike s (after_access s a) h (access_alike s a)
+access_leaves s h a = grind (arith, access_alike s a)
 
 line_leaves : (s : State) → IsHandoff s → (m : Meaning) → IsHandoffAlike s (after_meaning s m)
-line_leaves s h nothing = record { handoff = h; board = refl }
-line_leaves s h (asked a) = access_leaves s h a
-line_leaves s h (bad who n) = record { handoff = h; board = refl }
+line_leaves s h m = grind (arith, access_leaves s h)
 
 pub lines_leave : LinesLeave
 lines_leave s h [] = record { handoff = h; board = refl }
-lines_leave s h (l ∷ ls) =
-    let one : IsHandoffAlike s (after_line s l) = line_leaves s h (meaning l) in
-    let rest : IsHandoffAlike (after_line s l) (after_lines board_protocol (after_line s l) ls) = lines_leave (after_line s l) one.handoff ls in
-    record { handoff = rest.handoff; board = rest.board ∙ one.board }
+lines_leave s h (l ∷ ls) = grind (arith, lines_leave (after_line s l) (line_leaves s h (meaning l)).handoff ls, line_leaves s h (meaning l))

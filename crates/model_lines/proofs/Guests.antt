@@ -1,5 +1,5 @@
 -- What is found is what the guest's accesses land on, and each closed region that holds an address is told.
-use Rattle.std.proofs.Common.{◌≡◌, ℕ, zero, suc, ◌+◌, inl, inr, ◌⊎◌, Bool, true, false, cond, [], ◌∷◌, Option, Some, None, refl, sym, ap, ◌∙◌, subst, arith}
+use Rattle.std.proofs.Common.{◌≡◌, ℕ, suc, ◌+◌, inl, inr, ◌⊎◌, Bool, true, false, cond, [], ◌∷◌, Option, Some, refl, sym, ap, ◌∙◌, arith}
 use Rattle.std.specs.Prelude.{map, filter}
 use Rattle.std.specs.Fmt.{digits}
 use Rattle.std.specs.Option.{option_map_or}
@@ -7,31 +7,14 @@ use Rattle.lists.specs.Elements.{IsIn}
 use Rattle.lists.proofs.Members.{each_from, in_front, in_back, front_or_back, in_map, from_map, in_filter, from_filter}
 use Rattle.model_registers.specs.Declarations.{Region}
 use Rattle.model_registers.specs.Decoding.{Space, Function, is_open}
-use Rattle.model_guests.specs.Accesses.{Target, configuration, port, address}
-use Rattle.model_guests.specs.Slots.{Slots, slot_at, Landing, landing}
-use Rattle.model_guests.specs.Lone.{Destination, own_latch, no_function, at_target, destination}
-use Rattle.model_handoff.specs.Located.{landing_at}
-use Rattle.model_lines.specs.WhyGuests.{ClosedRegion, closed_region, region_holds, closed_of, closed_from, answers, lost, finding, landing_of, FoundAsLocated, ClosedAreTrue, ClosedAreAll, IsClosedThere}
+use Rattle.model_guests.specs.Slots.{Slots, slot_at}
+use Rattle.model_lines.specs.WhyGuests.{ClosedRegion, closed_region, region_holds, closed_of, closed_from, FoundAsLocated, ClosedAreTrue, ClosedAreAll, IsClosedThere}
 use Rattle.model_lines.specs.GuestExamples.{GuestExamples}
 
 -- ---- what is found
 
 pub found_as_located : FoundAsLocated
-found_as_located g t = by (destination g.latch 1 t)
-  where
-    none : (u : Target) → landing_of (lost g.slots u) ≡ None
-    none (configuration slot off) = refl
-    none (port a) = refl
-    none (address a) = refl
-
-    there : (u : Target) (o : Option Landing) → landing_of (option_map_or answers o (lost g.slots u)) ≡ o
-    there u None = none u
-    there u (Some l) = refl
-
-    by : (d : Destination) → landing_of (finding g d) ≡ landing_at g d
-    by own_latch = refl
-    by no_function = refl
-    by (at_target u) = there u (landing g.slots u)
+found_as_located g t = grind arith
 
 -- ---- closed regions
 
@@ -69,8 +52,7 @@ closed_true space n k (o ∷ slots) c m = by (front_or_back c (option_map_or (cl
         }
 
     first : (p : Option Function) → IsIn c (option_map_or (closed_of space n k) p []) → IsClosedAt space n k (p ∷ slots) c
-    first None i = absurd i
-    first (Some f) i = here f (is_open f.file space) refl i
+    first p i = grind (arith, here)
 
     by : IsIn c (option_map_or (closed_of space n k) o []) ⊎ IsIn c (closed_from space n (k + 1) slots) → (IsIn c (closed_from space n (k + 1) slots) → IsClosedAt space n (k + 1) slots c) → IsClosedAt space n k (o ∷ slots) c
     by (inl i) more = first o i
@@ -92,36 +74,15 @@ pub closed_are_true : ClosedAreTrue
 closed_are_true space n slots = each_from (IsClosedThere space n slots) (closed_from space n 0 slots) one
   where
     one : (c : ClosedRegion) → IsIn c (closed_from space n 0 slots) → IsClosedThere space n slots c
-    one c m =
-        let d : IsClosedAt space n 0 slots c = closed_true space n 0 slots c m in
-        let number : d.place ≡ c.slot = omega (arith, d.slot_is) in record {
-          function = d.function;
-          there = subst (λ j. slot_at slots j ≡ Some d.function) number d.there;
-          region = d.region;
-          declared = d.declared;
-          region_is = d.region_is;
-          byte = d.byte;
-          closed = d.closed;
-        }
+    one c m = grind (arith, closed_true space n 0 slots c m)
 
 closed_all : (space : Space) (n k : ℕ) (slots : Slots) (place : ℕ) (f : Function) → slot_at slots place ≡ Some f → (r : Region) → IsIn r f.decl.regions
     → region_holds space n f.file r ≡ true → is_open f.file space ≡ false → IsIn (closed_region (k + place) f.file r) (closed_from space n k slots)
-closed_all space n k [] zero f there r m byte closed = cc
-closed_all space n k [] (suc i) f there r m byte closed = cc
-closed_all space n k (o ∷ slots) zero f there r m byte closed =
-    in_front (closed_region (k + 0) f.file r) (option_map_or (closed_of space n k) o []) (closed_from space n (k + 1) slots)
-    (subst (λ (p : Option Function). IsIn (closed_region (k + 0) f.file r) (option_map_or (closed_of space n k) p [])) (sym there)
-    (subst (λ t. IsIn (closed_region (k + 0) f.file r) (cond t [] (map (closed_region k f.file) (filter (region_holds space n f.file) f.decl.regions)))) (sym closed)
-    (subst (λ j. IsIn (closed_region j f.file r) (map (closed_region k f.file) (filter (region_holds space n f.file) f.decl.regions))) (let e : k ≡ k + 0 = omega arith in e)
-    (in_map (closed_region k f.file) r (filter (region_holds space n f.file) f.decl.regions) (in_filter (region_holds space n f.file) r f.decl.regions m byte)))))
-closed_all space n k (o ∷ slots) (suc i) f there r m byte closed =
-    in_back (closed_region (k + suc i) f.file r) (option_map_or (closed_of space n k) o []) (closed_from space n (k + 1) slots)
-    (subst (λ j. IsIn (closed_region j f.file r) (closed_from space n (k + 1) slots)) (let e : (k + 1) + i ≡ k + suc i = omega arith in e)
-    (closed_all space n (k + 1) slots i f there r m byte closed))
+closed_all space n k [] place f there r m byte closed = grind arith
+closed_all space n k (o ∷ slots) place f there r m byte closed = grind (arith, in_front, in_map, in_filter, in_back, closed_all space n (k + 1) slots)
 
 pub closed_are_all : ClosedAreAll
-closed_are_all space n slots slot f there r m byte closed =
-    subst (λ j. IsIn (closed_region j f.file r) (closed_from space n 0 slots)) (let e : 0 + slot ≡ slot = omega arith in e) (closed_all space n 0 slots slot f there r m byte closed)
+closed_are_all space n slots slot f there r m byte closed = grind (arith, closed_all space n 0 slots slot f there r m byte closed)
 
 pub guest_examples : GuestExamples
 unfolding digits

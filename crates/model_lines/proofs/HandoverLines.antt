@@ -1,12 +1,7 @@
 -- Where a session hands its board over, and what guests are told then.
-use Rattle.std.proofs.Common.{◌≡◌, List, [], ◌∷◌, Option, None, Some, refl, sym, ap, ◌∙◌, arith, subst}
+use Rattle.std.proofs.Common.{◌≡◌, List, [], ◌∷◌, Option, None, Some, refl, sym, ap, ◌∙◌, arith}
 use Rattle.model_guests.specs.Text.{Text, lines}
-use Rattle.model_guests.specs.Guests.{guests_at_first}
-use Rattle.model_guests.specs.Inputs.{inputs}
 use Rattle.model_guests.specs.LineRuns.{after_lines}
-use Rattle.model_guests.specs.World.{World}
-use Rattle.model_guests.specs.WorldNow.{world_over}
-use Rattle.model_guests.specs.Isolation.{IsDecidedBy}
 use Rattle.model_guests.proofs.Isolation.{isolated_over}
 use Rattle.model_handoff.specs.Handoffs.{taken_over}
 use Rattle.model_handoff.specs.Regions.{HandoffFault, first_fault}
@@ -26,8 +21,7 @@ pub data Left (b : DrivenNow) (line : Text) : Type 0 where
   hands_over : IsHandedOver b line → after_session_line (driven b) line ≡ given (handed_over b) → Left b line
 
 left_by_fault : (b : DrivenNow) (line : Text) → request line ≡ Some for_guests → (f : Option HandoffFault) → first_fault b.world b.state ≡ f → Left b line
-left_by_fault b line asks None can =
-    hands_over (record { asks = asks; can = can }) (handover_leaves b line asks ∙ ap (after_handover b) can)
+left_by_fault b line asks None can = grind (arith, handover_leaves b line asks)
 left_by_fault b line asks (Some f) fault = goes_on b (handover_leaves b line asks ∙ ap (after_handover b) fault)
 
 left_by : (b : DrivenNow) (line : Text) (o : Option Request) → request line ≡ o → Left b line
@@ -71,11 +65,4 @@ given_by b (l ∷ ls) m is = given_by_left b l ls m (left b l) (λ next. given_b
 
 pub isolated_sessions : IsolatedSessions
 isolated_sessions w lawful b same_world line name script handed there =
-    let n : MachineNow = handed_over b in
-    let x : SessionNow = after_session_line (driven b) line in
-    let same : x ≡ given n = handover_leaves b line handed.asks ∙ ap (after_handover b) handed.can in
-    let alone : IsDecidedBy (inputs (guests_at_first w) name (lines script)) w n.world name script =
-    subst (λ (v : World). IsDecidedBy (inputs (guests_at_first w) name (lines script)) w (world_over v (taken_over v b.state)) name script) (sym same_world)
-    (isolated_over w lawful (taken_over w b.state) name script there) in
-    let told = given_is_script n (lines script) in
-    grind (arith, same_given)
+    grind (arith, same_given, handover_leaves b line handed.asks, isolated_over w lawful (taken_over w b.state) name script there, given_is_script (handed_over b) (lines script))

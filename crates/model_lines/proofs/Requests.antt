@@ -1,5 +1,5 @@
 -- Lines that ask something have no other form.
-use Rattle.std.proofs.Common.{◌≡◌, Bool, true, false, List, [], ◌∷◌, Option, None, Some, codes, refl, sym, ap, ap₂, subst, arith}
+use Rattle.std.proofs.Common.{◌≡◌, Bool, true, false, List, [], ◌∷◌, Option, None, Some, codes, refl, ap, ap₂, arith, rules}
 use Rattle.std.specs.Prelude.{IsTrue, if◌then◌else◌}
 use Rattle.std.specs.Str.{bytes_eq}
 use Rattle.std.proofs.lemmas.Slice.Eq.{bytes_eq-Decides}
@@ -17,36 +17,21 @@ abbrev IsNoFormOf : List Text → Type 0
 IsNoFormOf ws = (firmware.meaning_of_words ws ≡ firmware.bad host 401) × ((guests : List Text) → script.meaning_of_words guests ws ≡ script.bad host 401)
 
 on_true : (t : Bool) (o : Option Request) (r : Request) → (if t then o else None) ≡ Some r → (t ≡ true) × (o ≡ Some r)
-on_true true o r is = (refl, is)
-on_true false o r is = absurd (let wrong : None ≡ Some r = is in cc)
+on_true t o r is = grind arith
 
 no_form_at : (ws : List Text) (r : Request) → request_of ws ≡ Some r → IsNoFormOf (codes "host" ∷ ws)
-no_form_at [] r is = absurd (let wrong : None ≡ Some r = is in cc)
-no_form_at (w ∷ []) r is = (refl, λ guests. refl)
-no_form_at (w ∷ a ∷ []) r is = absurd (let wrong : None ≡ Some r = is in cc)
-no_form_at (w ∷ a ∷ b ∷ []) r is =
-    let asks : w ≡ codes "why" = (bytes_eq-Decides w (codes "why")).0 (on_true (bytes_eq w (codes "why")) _ r is).0 in
-    subst (λ (v : Text). IsNoFormOf (codes "host" ∷ v ∷ a ∷ b ∷ [])) (sym asks) (refl, λ guests. refl)
-no_form_at (w ∷ a ∷ b ∷ c ∷ ws) r is = absurd (let wrong : None ≡ Some r = is in cc)
+no_form_at ws r is = search (rules, bytes_eq-Decides, on_true)
 
 no_form_of : (ws : List Text) (r : Request) → request_in ws ≡ Some r → IsNoFormOf ws
 no_form_of [] r is = absurd (let wrong : None ≡ Some r = is in cc)
-no_form_of (a ∷ ws) r is =
-    let first = on_true (bytes_eq a (codes "host")) (request_of ws) r is in
-    subst (λ (v : Text). IsNoFormOf (v ∷ ws)) (sym ((bytes_eq-Decides a (codes "host")).0 first.0)) (no_form_at ws r first.1)
-
-of_line : (line : Text) → is_long line ≡ false → IsNoFormOf (words line) → IsNoForm line
-of_line line short refusal =
-    let by_firmware : firmware.meaning line ≡ firmware.bad host 401 = rw short refusal.0 in
-    let by_script : (guests : List Text) → script.meaning guests line ≡ script.bad host 401 = λ guests. rw short (refusal.1 guests) in
-    record { firmware = by_firmware; script = by_script }
+no_form_of (a ∷ ws) r is = grind (arith, on_true (bytes_eq a (codes "host")) (request_of ws) r is, bytes_eq-Decides a (codes "host"), no_form_at ws r)
 
 pub host_words_are_no_form : HostWordsAreNoForm
-host_words_are_no_form line word short is = of_line line short (subst IsNoFormOf (sym is) (refl, λ guests. refl))
+host_words_are_no_form line word short is = grind arith
 
 no_form_by : (line : Text) (r : Request) (b : Bool) → is_long line ≡ b → (if b then None else request_in (words line)) ≡ Some r → IsNoForm line
 no_form_by line r true long is = absurd (let wrong : None ≡ Some r = is in cc)
-no_form_by line r false short is = of_line line short (no_form_of (words line) r is)
+no_form_by line r false short is = grind (arith, no_form_of (words line) r is)
 
 pub requests_are_no_form : RequestsAreNoForm
 requests_are_no_form line r is = no_form_by line r (is_long line) refl is

@@ -1,19 +1,16 @@
 -- What sessions write and leave.
-use Rattle.std.proofs.Common.{◌≡◌, ℕ, ◌++◌, false, List, [], ◌∷◌, Option, None, Some, refl, ap, ap₂, ◌∙◌}
-use Rattle.std.specs.Prelude.{◌≢◌}
+use Rattle.std.proofs.Common.{◌≡◌, ℕ, ◌++◌, false, List, [], ◌∷◌, Option, None, Some, refl, ap, ◌∙◌, arith}
 use Rattle.std.specs.Option.{option_map_or}
 use Rattle.model_guests.specs.Text.{Text}
 use Rattle.model_guests.specs.LineRuns.{output, after_lines}
 use Rattle.model_guests.specs.WorldNow.{names_now}
 use Rattle.model_lines.specs.FirmwareLines as firmware
-use Rattle.model_lines.specs.FirmwareLines.{Meaning, nothing, asked, bad, meaning, after_meaning, board_protocol}
-use Rattle.model_guests.specs.Calls.{asks}
+use Rattle.model_lines.specs.FirmwareLines.{Meaning, meaning, after_meaning}
 use Rattle.model_handoff.specs.Regions.{first_fault}
-use Rattle.model_handoff.specs.Actions.{calls}
-use Rattle.model_handoff.specs.Changes.{MachineNow, after_on_machine, after_line_on_machine, counts_where, machine_protocol}
+use Rattle.model_handoff.specs.Changes.{MachineNow, after_line_on_machine, counts_where, machine_protocol}
 use Rattle.model_handoff.proofs.Aside.{output_aside, after_aside}
 use Rattle.model_lines.specs.Requests.{Request, for_guests, request}
-use Rattle.model_lines.specs.Sessions.{DrivenNow, driven, given, after_handover, after_request, told_output, driven_output}
+use Rattle.model_lines.specs.Sessions.{DrivenNow, driven, given, after_handover, after_request}
 use Rattle.model_lines.specs.Sessions.{after_meant, after_board_line, after_session_line, session_protocol}
 use Rattle.model_lines.specs.SessionLaws.{IsNoForm, QuestionsChangeNothing, RefusedStays}
 use Rattle.model_lines.specs.SessionLaws.{PlainSessions, DrivenIsFirmware, GivenIsScript}
@@ -23,23 +20,16 @@ use Rattle.model_lines.proofs.Requests.{requests_are_no_form}
 
 unchanged : (names : List Text) (ns : List ℕ) → counts_where (λ n. false) names ns ≡ ns
 unchanged [] ns = refl
-unchanged (t ∷ ts) [] = refl
-unchanged (t ∷ ts) (n ∷ ns) = ap (λ (xs : List ℕ). n ∷ xs) (unchanged ts ns)
+unchanged (t ∷ ts) ns = grind (arith, unchanged ts)
 
 bad_stays : (m : MachineNow) (line : Text) → IsNoForm line → after_line_on_machine m line ≡ m
-bad_stays m line none =
-    ap (λ x. after_on_machine m (calls (asks x))) (none.script (names_now m.world))
-    ∙ ap (λ (ns : List ℕ). let n : MachineNow = record { world = m.world; counts = ns } in n) (unchanged (names_now m.world) m.counts)
-
-questions_stay : (b : DrivenNow) (r : Request) → r ≢ for_guests → after_request b r ≡ driven b
-questions_stay b for_guests is = absurd (is refl)
-questions_stay b _ is = refl
+bad_stays m line none = grind (arith, unchanged (names_now m.world) m.counts)
 
 asked_after : (b : DrivenNow) (line : Text) (r : Request) → request line ≡ Some r → after_session_line (driven b) line ≡ after_request b r
 asked_after b line r same = ap (λ o. option_map_or (after_request b) o (driven (after_board_line b line))) same
 
 pub questions_change_nothing : QuestionsChangeNothing
-questions_change_nothing (driven b) line r same is = asked_after b line r same ∙ questions_stay b r is
+questions_change_nothing (driven b) line r same is = grind (arith, asked_after b line r same)
 questions_change_nothing (given m) line r same is = ap given (bad_stays m line (requests_are_no_form line r same))
 
 pub handover_leaves : (b : DrivenNow) (line : Text) → request line ≡ Some for_guests → after_session_line (driven b) line ≡ after_handover b (first_fault b.world b.state)
@@ -53,40 +43,22 @@ refused_stays b f line is fault = handover_leaves b line is ∙ ap (after_handov
 pub unasked_after : (b : DrivenNow) (line : Text) → request line ≡ None → after_session_line (driven b) line ≡ driven (after_board_line b line)
 unasked_after b line none = ap (λ o. option_map_or (after_request b) o (driven (after_board_line b line))) none
 
-plain_output : (b : DrivenNow) (line : Text) → request line ≡ None → driven_output b line ≡ firmware.line_output b.state line
-plain_output b line none = ap (λ o. option_map_or (told_output b) o (firmware.line_output b.state line)) none
-
 meant_state : (b : DrivenNow) (m : Meaning) → (after_meant b m).state ≡ after_meaning b.state m
-meant_state b nothing = refl
-meant_state b (asked a) = refl
-meant_state b (bad who n) = refl
+meant_state b m = grind arith
 
 meant_world : (b : DrivenNow) (m : Meaning) → (after_meant b m).world ≡ b.world
-meant_world b nothing = refl
-meant_world b (asked a) = refl
-meant_world b (bad who n) = refl
+meant_world b m = grind arith
 
 pub line_state : (b : DrivenNow) (line : Text) → (after_board_line b line).state ≡ firmware.after_line b.state line
 line_state b line = meant_state b (meaning line)
 
-pub line_world : (b : DrivenNow) (line : Text) → (after_board_line b line).world ≡ b.world
-line_world b line = meant_world b (meaning line)
-
 pub plain_sessions : PlainSessions
 plain_sessions b [] none = (refl, refl)
-plain_sessions b (l ∷ ls) none =
-    let more = plain_sessions (after_board_line b l) ls none.1 in (
-      ap₂ (λ (t u : Text). t ++ u) (plain_output b l none.0)
-          (ap (λ x. output session_protocol x ls) (unasked_after b l none.0) ∙ more.0
-          ∙ ap (λ s. output board_protocol s ls) (line_state b l)),
-      ap (λ x. after_lines session_protocol x ls) (unasked_after b l none.0) ∙ more.1,
-    )
+plain_sessions b (l ∷ ls) none = grind (arith, plain_sessions (after_board_line b l) ls none.1, unasked_after b l none.0, line_state b l)
 
 pub driven_is_firmware : DrivenIsFirmware
 driven_is_firmware b [] = (refl, refl)
-driven_is_firmware b (l ∷ ls) =
-    let more = driven_is_firmware (after_board_line b l) ls in
-    (more.0 ∙ line_world b l, more.1 ∙ ap (λ s. after_lines board_protocol s ls) (line_state b l))
+driven_is_firmware b (l ∷ ls) = grind (arith, driven_is_firmware (after_board_line b l) ls, meant_world, line_state b l)
 
 given_after : (m : MachineNow) (ls : List Text) → after_lines session_protocol (given m) ls ≡ given (after_lines machine_protocol m ls)
 given_after m [] = refl
@@ -97,8 +69,4 @@ given_output m [] = refl
 given_output m (l ∷ ls) = ap (λ (t : Text). machine_protocol.writes m l ++ t) (given_output (after_line_on_machine m l) ls)
 
 pub given_is_script : GivenIsScript
-given_is_script m ls = record {
-  output = given_output m ls ∙ output_aside m ls;
-  after = given_after m ls;
-  world = after_aside m ls;
-}
+given_is_script m ls = grind (arith, given_output m ls, output_aside m ls, given_after m ls, after_aside m ls)

@@ -1,5 +1,5 @@
 -- A function that has a number and isn't found by it is what an audit says isn't found.
-use Rattle.std.proofs.Common.{◌≡◌, inl, inr, Bool, true, false, ◌&&◌, ◌==◌, not, cond, List, [], ◌∷◌, Option, Some, None, refl, sym, ap, ◌∙◌, subst, arith, eqb-true}
+use Rattle.std.proofs.Common.{◌≡◌, inr, true, false, ◌&&◌, ◌==◌, not, cond, List, [], ◌∷◌, Option, Some, None, refl, ap, ◌∙◌, subst, arith, eqb-true}
 use Rattle.std.specs.Prelude.{filter}
 use Rattle.std.specs.Option.{option_map, option_map_or}
 use Rattle.std.proofs.lemmas.Bool.{and_from, not-true, not_from_false}
@@ -31,8 +31,7 @@ path_of : Option BoardFunction → Option Path
 path_of o = option_map (λ (g : BoardFunction). g.path) o
 
 found_there : (o : Option BoardFunction) (f : BoardFunction) → option_map_or (λ (q : Path). path_eq q f.path) (option_map (λ (g : BoardFunction). g.path) o) false ≡ is_found o f
-found_there None f = refl
-found_there (Some g) f = refl
+found_there o f = grind arith
 
 module _ (fs : List BoardFunction) (at : BusAddress) where
   pub unfound : (f : BoardFunction) → IsIn f (not_found fs at (reached fs at)) → IsIn (audit.not_found f.path at (why_number fs at).reached) (audit.numbering_problems fs)
@@ -42,20 +41,14 @@ module _ (fs : List BoardFunction) (at : BusAddress) where
       let number : address_now fs f.path ≡ at = address_same (address_now fs f.path) at (left_true (has_number fs at f) (not (is_found (reached fs at) f)) g.1) in
       let lost : is_found (reached fs at) f ≡ false = not-true (is_found (reached fs at) f) (right_true (has_number fs at f) (not (is_found (reached fs at) f)) g.1) in
       let p = audit.not_found f.path at (path_of (reached fs at)) in
-      in_flat_map (audit.numbering_problem fs) f p fs g.0
-      (subst (λ (a : BusAddress). IsIn p (told_of f a (path_of (reached fs a)))) (sym number)
-      (subst (λ t. IsIn p (cond t [] (p ∷ []))) (sym (found_there (reached fs at) f ∙ lost)) (inl refl)))
+      grind (arith, in_flat_map (audit.numbering_problem fs) f p fs g.0, told_of f, path_of, found_there (reached fs at) f)
 
   pub all_unfound : (p : Path) (instead : Option Path) → IsIn (audit.not_found p at instead) (audit.numbering_problems fs) → IsIn p (why_number fs at).not_found
   all_unfound p instead m = of (from_flat_map (audit.numbering_problem fs) (audit.not_found p at instead) fs m)
     where
       not_there : (f : BoardFunction) (o : Option BoardFunction) → (option_map (λ (g : BoardFunction). g.path) o ≡ Some f.path → ⊥) → is_found o f ≡ false
       not_there f None h = refl
-      not_there f (Some g) h = by (path_eq g.path f.path) refl
-        where
-          by : (t : Bool) → path_eq g.path f.path ≡ t → t ≡ false
-          by false e = refl
-          by true e = absurd (h (ap Some (path_same g.path f.path e)))
+      not_there f (Some g) h = grind (arith, path_same g.path f.path)
 
       of : (f : BoardFunction) × IsIn f fs × IsIn (audit.not_found p at instead) (audit.numbering_problem fs f) → IsIn p (why_number fs at).not_found
       of (f, k, l) =
@@ -64,7 +57,4 @@ module _ (fs : List BoardFunction) (at : BusAddress) where
           let number : address_now fs f.path ≡ at = cc in
           let other = is.1.other in
           let lost : is_found (reached fs at) f ≡ false = not_there f (reached fs at) (λ e. other (ap (λ (a : BusAddress). option_map (λ (g : BoardFunction). g.path) (reached fs a)) number ∙ e)) in
-          subst (λ (q : Path). IsIn q (why_number fs at).not_found) path
-          (in_map (λ (x : BoardFunction). x.path) f (not_found fs at (reached fs at))
-          (in_filter (λ (x : BoardFunction). has_number fs at x && not (is_found (reached fs at) x)) f fs k
-          (and_from (has_number fs at f) (not (is_found (reached fs at) f)) (address_self (address_now fs f.path) at number) (not_from_false (is_found (reached fs at) f) lost))))
+          grind (arith, in_map, in_filter, and_from, address_self, not_from_false)

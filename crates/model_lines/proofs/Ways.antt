@@ -1,19 +1,18 @@
 -- A cycle reaches the function at the end of its way, and where it reaches nothing, what is told as missing isn't there.
-use Rattle.std.proofs.Common.{◌≡◌, ℕ, zero, suc, ◌+◌, ◌≤◌, inl, inr, ◌⊎◌, Bool, true, false, ◌&&◌, ◌==◌, not, cond, List, [], ◌∷◌, ◌++◌, length, Option, Some, None, refl, sym, ap, ap₂, ◌∙◌, subst, arith, append_assoc}
+use Rattle.std.proofs.Common.{◌≡◌, ℕ, zero, suc, ◌+◌, ◌≤◌, inl, inr, ◌⊎◌, Bool, true, false, ◌&&◌, ◌==◌, cond, List, [], ◌∷◌, ◌++◌, length, Option, Some, None, refl, sym, ap, ap₂, ◌∙◌, subst, arith, append_assoc}
 use Rattle.std.specs.Prelude.{map, find}
-use Rattle.std.specs.Option.{option_map_or}
 use Rattle.std.proofs.lemmas.Bool.{and_from}
 use Rattle.lists.specs.Elements.{Each, IsIn}
 use Rattle.lists.proofs.EachLemmas.{each_map, each_of_map}
 use Rattle.lists.proofs.Members.{each_in, each_from, in_front, in_back, front_or_back, in_map, in_filter, from_filter}
-use Rattle.lists.proofs.Tests.{left_true, right_true, same_test}
+use Rattle.lists.proofs.Tests.{left_true, right_true, same_test, second_false}
 use Rattle.model_board.specs.Board.{Row}
 use Rattle.model_board.specs.Cycles.{secondary_register, covers, taker, takes, is_route, ends_in, reached_type1, BusAddress, reached}
 use Rattle.model_board.specs.Paths.{Part, Path, path_eq, parent, last_part, IsPath}
 use Rattle.model_board.specs.State.{BoardFunction, row_at}
 use Rattle.model_board.proofs.PathEnds.{path_self, snoc, length_snoc}
-use Rattle.model_board.proofs.PathOrder.{path_same, part_self}
-use Rattle.model_set_up.proofs.Routes.{ends_is_last}
+use Rattle.model_board.proofs.PathOrder.{path_same}
+use Rattle.model_set_up.proofs.Routes.{ends_is_last, ends_last}
 use Rattle.model_findings.specs.Orderly.{IsStateOfBoard}
 use Rattle.lists.proofs.FirstFound.{found_in}
 use Rattle.model_lines.specs.Ways.{way_by, way, takers, takers_by, takers_down, WayEnd, on_bus, no_taker, end_by, way_end, bridges_on_way, takers_on_way, end_of, reached_at, Missing, missing_at, missing, not_found, why_number}
@@ -24,11 +23,7 @@ use Rattle.model_lines.proofs.Unfound.{unfound, all_unfound}
 
 none_found : {A : Type 0} (t : A → Bool) (xs : List A) → find t xs ≡ None → Each (λ x. t x ≡ false) xs
 none_found t [] h = tt
-none_found {A} t (x ∷ xs) h = by (t x) refl h (none_found t xs)
-  where
-    by : (u : Bool) → t x ≡ u → cond u (Some x) (find t xs) ≡ None → (find t xs ≡ None → Each (λ y. t y ≡ false) xs) → Each (λ y. t y ≡ false) (x ∷ xs)
-    by true e k more = cc
-    by false e k more = (e, more k)
+none_found {A} t (x ∷ xs) h = grind (arith, none_found t xs)
 
 finds_none : {A : Type 0} (t : A → Bool) (xs : List A) → ((x : A) → IsIn x xs → t x ≡ false) → find t xs ≡ None
 finds_none t [] h = refl
@@ -60,11 +55,6 @@ differ : (p q : Path) → on_bus p ≡ no_taker q → ⊥
 unfolding is_on_bus
 differ p q e = let bad : true ≡ false = ap is_on_bus e in cc
 
-ends_there : (p : Path) (t : Part) → ends_in (p ++ t ∷ []) t ≡ true
-ends_there [] t = part_self t
-ends_there (x ∷ []) t = part_self t
-ends_there (x ∷ y ∷ p) t = ends_there (y ∷ p) t
-
 module _ (fs : List BoardFunction) (state : IsStateOfBoard fs) (n : ℕ) where
   lawful_path : (f : BoardFunction) → IsIn f fs → IsPath f.path
   lawful_path f m = each_in (λ (r : Row). IsPath r.path) (row_at f) (map row_at fs) state.places.paths (in_map row_at f fs m)
@@ -76,36 +66,18 @@ module _ (fs : List BoardFunction) (state : IsStateOfBoard fs) (n : ℕ) where
 
   -- its path is that of the bus, and one part more
   taker_path : (bus : Path) (f : BoardFunction) → taker fs bus n ≡ Some f → f.path ≡ bus ++ last_part f.path ∷ []
-  taker_path bus f e =
-      let g = taker_is bus f e in
-      snoc f.path (lawful_path f g.0).some ∙ ap (λ (p : Path). p ++ last_part f.path ∷ []) g.1
+  taker_path bus f e = grind (arith, taker_is bus f e, snoc f.path, lawful_path f)
 
   -- ---- the bridges on a way
 
   way_is : (k : ℕ) (bus : Path) → IsWay fs n bus (way fs n k bus)
   way_is zero bus = tt
-  way_is (suc k) bus = by (taker fs bus n) refl (way_is k)
-    where
-      by : (o : Option BoardFunction) → taker fs bus n ≡ o → ((p : Path) → IsWay fs n p (way fs n k p)) → IsWay fs n bus (way_by n (way fs n k) o)
-      by None e more = tt
-      by (Some f) e more = (e, on (secondary_register f.file == n))
-        where
-          on : (t : Bool) → IsWay fs n f.path (cond t [] (way fs n k f.path))
-          on true = tt
-          on false = more f.path
+  way_is (suc k) bus = grind (arith, way_is k)
 
   end_after : (k : ℕ) (bus : Path) → end_path (way_end fs n k bus) ≡ bus_after bus (way fs n k bus)
   unfolding end_path
   end_after zero bus = refl
-  end_after (suc k) bus = by (taker fs bus n) (end_after k)
-    where
-      by : (o : Option BoardFunction) → ((p : Path) → end_path (way_end fs n k p) ≡ bus_after p (way fs n k p)) → end_path (end_by n (way_end fs n k) bus o) ≡ bus_after bus (way_by n (way fs n k) o)
-      by None more = refl
-      by (Some f) more = on (secondary_register f.file == n)
-        where
-          on : (t : Bool) → end_path (cond t (on_bus f.path) (way_end fs n k f.path)) ≡ bus_after f.path (cond t [] (way fs n k f.path))
-          on true = refl
-          on false = more f.path
+  end_after (suc k) bus = grind (arith, end_after k, end_path)
 
   -- ---- a route ends where its way does
 
@@ -116,28 +88,10 @@ module _ (fs : List BoardFunction) (state : IsStateOfBoard fs) (n : ℕ) where
     last : (secondary_register function.file == n) ≡ ends
 
   takes_is : (above : Path) (p : Part) (ends : Bool) → takes fs above n p ends ≡ true → Taken above p ends
-  takes_is above p ends h = by (taker fs above n) refl h
-    where
-      last_is : (c e : Bool) → cond c e (not e) ≡ true → c ≡ e
-      last_is c e h = grind arith
-
-      by : (o : Option BoardFunction) → taker fs above n ≡ o → option_map_or (λ (f : BoardFunction). path_eq f.path (above ++ p ∷ []) && cond (secondary_register f.file == n) ends (not ends)) o false ≡ true → Taken above p ends
-      by None e k = cc
-      by (Some f) e k = record {
-        function = f;
-        found = e;
-        path_is = path_same f.path (above ++ p ∷ []) (left_true (path_eq f.path (above ++ p ∷ [])) (cond (secondary_register f.file == n) ends (not ends)) k);
-        last = last_is (secondary_register f.file == n) ends (right_true (path_eq f.path (above ++ p ∷ [])) (cond (secondary_register f.file == n) ends (not ends)) k);
-      }
+  takes_is above p ends h = grind (arith, path_same, left_true, right_true)
 
   is_taken : (above : Path) (p : Part) (f : BoardFunction) (ends : Bool) → taker fs above n ≡ Some f → f.path ≡ above ++ p ∷ [] → (secondary_register f.file == n) ≡ ends → takes fs above n p ends ≡ true
-  is_taken above p f ends e path last =
-      ap (λ (o : Option BoardFunction). option_map_or (λ (g : BoardFunction). path_eq g.path (above ++ p ∷ []) && cond (secondary_register g.file == n) ends (not ends)) o false) e
-      ∙ and_from (path_eq f.path (above ++ p ∷ [])) (cond (secondary_register f.file == n) ends (not ends))
-      (subst (λ (q : Path). path_eq f.path q ≡ true) path (path_self f.path)) (same (secondary_register f.file == n) ends last)
-    where
-      same : (c e : Bool) → c ≡ e → cond c e (not e) ≡ true
-      same c e h = grind arith
+  is_taken above p f ends e path last = grind (arith, and_from, path_self)
 
   end_some : (k : ℕ) (bus : Path) (f : BoardFunction) → taker fs bus n ≡ Some f → way_end fs n (suc k) bus ≡ cond (secondary_register f.file == n) (on_bus f.path) (way_end fs n k f.path)
   end_some k bus f e = ap (end_by n (way_end fs n k) bus) e
@@ -146,9 +100,7 @@ module _ (fs : List BoardFunction) (state : IsStateOfBoard fs) (n : ℕ) where
   route_end k above [] few h = cc
   route_end k above (p ∷ []) few h = cc
   route_end zero above (p ∷ q ∷ ps) few h = absurd (omega arith)
-  route_end (suc k) above (p ∷ q ∷ []) few h =
-      let t : Taken above p true = takes_is above p true h in
-      end_some k above t.function t.found ∙ ap (λ c. cond c (on_bus t.function.path) (way_end fs n k t.function.path)) t.last ∙ ap on_bus t.path_is
+  route_end (suc k) above (p ∷ q ∷ []) few h = grind (arith, takes_is above p true h, end_some k above)
   route_end (suc k) above (p ∷ q ∷ r ∷ ps) few h =
       let t : Taken above p false = takes_is above p false (left_true (takes fs above n p false) (is_route fs n (above ++ p ∷ []) (q ∷ r ∷ ps)) h) in
       let more : way_end fs n k (above ++ p ∷ []) ≡ on_bus ((above ++ p ∷ []) ++ parent (q ∷ r ∷ ps)) = route_end k (above ++ p ∷ []) (q ∷ r ∷ ps) (omega arith) (right_true (takes fs above n p false) (is_route fs n (above ++ p ∷ []) (q ∷ r ∷ ps)) h) in
@@ -164,8 +116,7 @@ module _ (fs : List BoardFunction) (state : IsStateOfBoard fs) (n : ℕ) where
     routes : (t : Part) → is_route fs n above (part ∷ rest ++ t ∷ []) ≡ true
 
   longer : (above : Path) (x y : Part) (rest : Path) (t : Part) → takes fs above n x false ≡ true → is_route fs n (above ++ x ∷ []) (y ∷ rest ++ t ∷ []) ≡ true → is_route fs n above (x ∷ (y ∷ rest) ++ t ∷ []) ≡ true
-  longer above x y [] t h k = and_from (takes fs above n x false) (is_route fs n (above ++ x ∷ []) (y ∷ t ∷ [])) h k
-  longer above x y (z ∷ zs) t h k = and_from (takes fs above n x false) (is_route fs n (above ++ x ∷ []) (y ∷ z ∷ zs ++ t ∷ [])) h k
+  longer above x y rest t h k = grind (arith, and_from (takes fs above n x false))
 
   end_route : (k : ℕ) (above e : Path) → way_end fs n k above ≡ on_bus e → Ended above e
   end_route zero above e h = absurd (differ e above (sym h))
@@ -179,12 +130,7 @@ module _ (fs : List BoardFunction) (state : IsStateOfBoard fs) (n : ℕ) where
           path = taker_path above f i
 
           on : (t : Bool) → (secondary_register f.file == n) ≡ t → cond t (on_bus f.path) (way_end fs n k f.path) ≡ on_bus e → Ended above e
-          on true j l = record {
-            part = last_part f.path;
-            rest = [];
-            end_is = sym (same_bus f.path e l) ∙ path;
-            routes = λ t. is_taken above (last_part f.path) f true i path j;
-          }
+          on true j l = grind (arith, same_bus, path, is_taken)
           on false j l =
               let d : Ended f.path e = more f.path e l in record {
                 part = last_part f.path;
@@ -196,40 +142,22 @@ module _ (fs : List BoardFunction) (state : IsStateOfBoard fs) (n : ℕ) where
   -- ---- what is reached
 
   passes_end : (t : Part) (f : BoardFunction) → IsIn f fs → (ends_in f.path t && is_route fs n [] f.path) ≡ true → (way_end fs n 16 [] ≡ on_bus (parent f.path)) × (f.path ≡ parent f.path ++ t ∷ [])
-  passes_end t f m h =
-      let path : IsPath f.path = lawful_path f m in
-      let last : last_part f.path ≡ t = ends_is_last f.path t (left_true (ends_in f.path t) (is_route fs n [] f.path) h) in
-      (route_end 16 [] f.path (omega (arith, path.few)) (right_true (ends_in f.path t) (is_route fs n [] f.path) h), snoc f.path path.some ∙ ap (λ (u : Part). parent f.path ++ u ∷ []) last)
+  passes_end t f m h = grind (arith, lawful_path f m, ends_is_last, left_true, route_end 16 [], right_true, snoc)
 
   reached_by : (t : Part) (e : WayEnd) → way_end fs n 16 [] ≡ e → reached_type1 fs n t ≡ reached_at fs e t
-  reached_by t (no_taker p) e = finds_none (λ (f : BoardFunction). ends_in f.path t && is_route fs n [] f.path) fs none
-    where
-      none : (f : BoardFunction) → IsIn f fs → (ends_in f.path t && is_route fs n [] f.path) ≡ false
-      none f m = by (ends_in f.path t && is_route fs n [] f.path) refl
-        where
-          by : (u : Bool) → (ends_in f.path t && is_route fs n [] f.path) ≡ u → u ≡ false
-          by false g = refl
-          by true g = absurd (differ (parent f.path) p (sym (passes_end t f m g).0 ∙ e))
+  reached_by t (no_taker p) e = grind (arith, finds_none, differ, passes_end t)
   reached_by t (on_bus p) e = finds_same (λ (f : BoardFunction). ends_in f.path t && is_route fs n [] f.path) (λ (f : BoardFunction). path_eq f.path (p ++ t ∷ [])) fs
       (λ f m. same_test (ends_in f.path t && is_route fs n [] f.path) (path_eq f.path (p ++ t ∷ [])) (to f m) (from f m))
     where
       to : (f : BoardFunction) → IsIn f fs → (ends_in f.path t && is_route fs n [] f.path) ≡ true → path_eq f.path (p ++ t ∷ []) ≡ true
-      to f m h =
-          let s = passes_end t f m h in
-          let bus : parent f.path ≡ p = same_bus (parent f.path) p (sym s.0 ∙ e) in
-          subst (λ (q : Path). path_eq f.path q ≡ true) (s.1 ∙ ap (λ (q : Path). q ++ t ∷ []) bus) (path_self f.path)
+      to f m h = grind (arith, passes_end t f m h, same_bus (parent f.path) p, path_self f.path)
 
       from : (f : BoardFunction) → IsIn f fs → path_eq f.path (p ++ t ∷ []) ≡ true → (ends_in f.path t && is_route fs n [] f.path) ≡ true
       from f m h =
           let path : f.path ≡ p ++ t ∷ [] = path_same f.path (p ++ t ∷ []) h in
-          let d : Ended [] p = end_route 16 [] p e in
-          let route : is_route fs n [] (p ++ t ∷ []) ≡ true = subst (λ (q : Path). is_route fs n [] (q ++ t ∷ []) ≡ true) (sym d.end_is) (d.routes t) in
-          subst (λ (q : Path). (ends_in q t && is_route fs n [] q) ≡ true) (sym path) (and_from (ends_in (p ++ t ∷ []) t) (is_route fs n [] (p ++ t ∷ [])) (ends_there p t) route)
+          grind (arith, end_route 16 [] p e, and_from (ends_in (p ++ t ∷ []) t) (is_route fs n [] (p ++ t ∷ [])) (ends_last p t), ends_last p t)
 
   -- ---- what is missing
-
-  second_false : (s t : Bool) → (s && t) ≡ false → s ≡ true → t ≡ false
-  second_false s t h k = grind arith
 
   none_takes : (k : ℕ) (bus p : Path) → length bus + k ≡ 16 → way_end fs n k bus ≡ no_taker p → Each (λ f. parent f.path ≡ p → covers n f ≡ false) fs
   none_takes zero bus p size h = each_from (λ f. parent f.path ≡ p → covers n f ≡ false) fs too_long
@@ -237,9 +165,7 @@ module _ (fs : List BoardFunction) (state : IsStateOfBoard fs) (n : ℕ) where
       too_long : (f : BoardFunction) → IsIn f fs → parent f.path ≡ p → covers n f ≡ false
       too_long f m e =
           let path : IsPath f.path = lawful_path f m in
-          let at : f.path ≡ bus ++ last_part f.path ∷ [] = snoc f.path path.some ∙ ap (λ (q : Path). q ++ last_part f.path ∷ []) (e ∙ sym (same_taker bus p h)) in
-          let long : length f.path ≡ length bus + 1 = ap length at ∙ length_snoc bus (last_part f.path) in
-          absurd (omega (arith, path.few, long, size))
+          grind (arith, snoc f.path path.some, same_taker bus p h, length_snoc bus (last_part f.path))
   none_takes (suc k) bus p size h = by (taker fs bus n) refl h (none_takes k)
     where
       by : (o : Option BoardFunction) → taker fs bus n ≡ o → end_by n (way_end fs n k) bus o ≡ no_taker p → ((b q : Path) → length b + k ≡ 16 → way_end fs n k b ≡ no_taker q → Each (λ f. parent f.path ≡ q → covers n f ≡ false) fs) → Each (λ f. parent f.path ≡ p → covers n f ≡ false) fs
@@ -253,8 +179,7 @@ module _ (fs : List BoardFunction) (state : IsStateOfBoard fs) (n : ℕ) where
           long = ap length (taker_path bus f e) ∙ length_snoc bus (last_part f.path)
 
           on : (t : Bool) → cond t (on_bus f.path) (way_end fs n k f.path) ≡ no_taker p → Each (λ f. parent f.path ≡ p → covers n f ≡ false) fs
-          on true l = absurd (differ f.path p l)
-          on false l = more f.path p (omega (arith, long, size)) l
+          on t l = grind (arith, differ, long)
 
   -- ---- who takes the cycle
 
@@ -265,15 +190,10 @@ module _ (fs : List BoardFunction) (state : IsStateOfBoard fs) (n : ℕ) where
       here : IsIn f (takers fs n bus) → IsTaking fs n bus (way fs n (suc k) bus) f
       here i =
           let g = from_filter (λ (x : BoardFunction). path_eq (parent x.path) bus && covers n x) f fs i in
-          record {
-            there = g.0;
-            takes = right_true (path_eq (parent f.path) bus) (covers n f) g.1;
-            passed = inl (path_same (parent f.path) bus (left_true (path_eq (parent f.path) bus) (covers n f) g.1));
-          }
+          grind (arith, right_true, path_same, left_true)
 
       further : (w : BoardFunction) (ws : List BoardFunction) → (secondary_register w.file == n) ≡ false → IsPassed n w.path ws (parent f.path) → IsPassed n bus (w ∷ ws) (parent f.path)
-      further w ws e (inl is) = inr (w, inl refl, sym is, e)
-      further w ws e (inr (v, i, is, more)) = inr (v, inr i, is, more)
+      further w ws e h = grind arith
 
       by : (o : Option BoardFunction) → ((p : Path) (g : BoardFunction) → IsIn g (takers_down fs n k p) → IsTaking fs n p (way fs n k p) g) → IsIn f (takers_by n (takers_down fs n k) o) → IsTaking fs n bus (way_by n (way fs n k) o) f
       by None more i = absurd i
@@ -286,8 +206,7 @@ module _ (fs : List BoardFunction) (state : IsStateOfBoard fs) (n : ℕ) where
               record { there = g.there; takes = g.takes; passed = further w (way fs n k w.path) e g.passed }
 
       of : IsIn f (takers fs n bus) ⊎ IsIn f (takers_by n (takers_down fs n k) (taker fs bus n)) → ((p : Path) (g : BoardFunction) → IsIn g (takers_down fs n k p) → IsTaking fs n p (way fs n k p) g) → IsTaking fs n bus (way fs n (suc k) bus) f
-      of (inl i) more = here i
-      of (inr i) more = by (taker fs bus n) more i
+      of h more = grind (arith, here, by (taker fs bus n) more)
 
   taken_below : (k : ℕ) (bus : Path) → length bus + k ≡ 16 → (f : BoardFunction) → IsTaking fs n bus (way fs n k bus) f → IsIn f (takers_down fs n k bus)
   taken_below zero bus size f t = by t.passed
@@ -295,36 +214,22 @@ module _ (fs : List BoardFunction) (state : IsStateOfBoard fs) (n : ℕ) where
       by : IsPassed n bus [] (parent f.path) → IsIn f []
       by (inl e) =
           let path : IsPath f.path = lawful_path f t.there in
-          let at : f.path ≡ bus ++ last_part f.path ∷ [] = snoc f.path path.some ∙ ap (λ (q : Path). q ++ last_part f.path ∷ []) e in
-          let long : length f.path ≡ length bus + 1 = ap length at ∙ length_snoc bus (last_part f.path) in
-          absurd (omega (arith, path.few, long, size))
+          grind (arith, snoc f.path path.some, length_snoc bus (last_part f.path))
       by (inr (w, m, is, more)) = absurd m
   taken_below (suc k) bus size f t = by t.passed (taken_below k)
     where
       here : parent f.path ≡ bus → IsIn f (takers fs n bus)
-      here e =
-          in_filter (λ (x : BoardFunction). path_eq (parent x.path) bus && covers n x) f fs t.there
-          (and_from (path_eq (parent f.path) bus) (covers n f) (subst (λ (p : Path). path_eq (parent f.path) p ≡ true) e (path_self (parent f.path))) t.takes)
+      here e = grind (arith, in_filter, and_from (path_eq (parent f.path) bus) (covers n f), path_self (parent f.path))
 
       below : (w : BoardFunction) → IsIn w (way fs n (suc k) bus) → w.path ≡ parent f.path → (secondary_register w.file == n) ≡ false → ((p : Path) → length p + k ≡ 16 → (g : BoardFunction) → IsTaking fs n p (way fs n k p) g → IsIn g (takers_down fs n k p)) → IsIn f (takers_by n (takers_down fs n k) (taker fs bus n))
       below w m is e more = of (taker fs bus n) refl m
         where
           of : (o : Option BoardFunction) → taker fs bus n ≡ o → IsIn w (way_by n (way fs n k) o) → IsIn f (takers_by n (takers_down fs n k) o)
           of None h i = absurd i
-          of (Some g) h i = at (secondary_register g.file == n) refl i
-            where
-              long : length g.path + k ≡ 16
-              long = let one : length g.path ≡ length bus + 1 = ap length (taker_path bus g h) ∙ length_snoc bus (last_part g.path) in omega (arith, one, size)
-
-              at : (u : Bool) → (secondary_register g.file == n) ≡ u → (w ≡ g) ⊎ IsIn w (cond u [] (way fs n k g.path)) → IsIn f (cond u [] (takers_down fs n k g.path))
-              at true l (inl s) = let bad : true ≡ false = sym l ∙ ap (λ (x : BoardFunction). secondary_register x.file == n) (sym s) ∙ e in cc
-              at true l (inr j) = absurd j
-              at false l (inl s) = more g.path long f (record { there = t.there; takes = t.takes; passed = inl (sym is ∙ ap (λ (x : BoardFunction). x.path) s) })
-              at false l (inr j) = more g.path long f (record { there = t.there; takes = t.takes; passed = inr (w, j, is, e) })
+          of (Some g) h i = grind (arith, taker_path bus g h, length_snoc bus (last_part g.path))
 
       by : IsPassed n bus (way fs n (suc k) bus) (parent f.path) → ((p : Path) → length p + k ≡ 16 → (g : BoardFunction) → IsTaking fs n p (way fs n k p) g → IsIn g (takers_down fs n k p)) → IsIn f (takers_down fs n (suc k) bus)
-      by (inl e) more = in_front f (takers fs n bus) (takers_by n (takers_down fs n k) (taker fs bus n)) (here e)
-      by (inr (w, m, is, e)) more = in_back f (takers fs n bus) (takers_by n (takers_down fs n k) (taker fs bus n)) (below w m is e more)
+      by h more = grind (arith, in_front, here, in_back, below)
 
 -- ---- a configuration number
 
@@ -389,7 +294,4 @@ numbers_explained fs state at = record {
     x = explains fs state at
 
     by : (m : Missing) (o : Option BoardFunction) → reached fs at ≡ o → missing fs at o ≡ Some m → (reached fs at ≡ None) × IsMissing fs at m
-    by m (Some f) e h = cc
-    by m None e h =
-        let same : missing_at (end_of fs at) at ≡ m = cc in
-        (e, subst (IsMissing fs at) same (missing_by fs at (end_of fs at) x (sym x.reached_is ∙ e)))
+    by m o e h = grind (arith, missing_by, x)

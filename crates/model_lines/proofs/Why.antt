@@ -1,5 +1,5 @@
 -- What is told of an address is so, and each region that holds it is told.
-use Rattle.std.proofs.Common.{◌≡◌, ℕ, ◌+◌, ◌-◌, ◌==◌, ◌⊎◌, inl, inr, Bool, true, false, ◌&&◌, ◌||◌, not, cond, List, [], ◌∷◌, ◌++◌, Option, Some, None, refl, sym, ap, ◌∙◌, subst, arith, leb, ltb}
+use Rattle.std.proofs.Common.{◌≡◌, ℕ, ◌+◌, ◌-◌, ◌==◌, ◌⊎◌, inl, inr, Bool, true, false, ◌&&◌, not, cond, List, [], ◌∷◌, ◌++◌, Option, Some, None, refl, sym, ap, ◌∙◌, subst, arith}
 use Rattle.std.specs.Prelude.{map, filter, flat_map, reverse, slice_get, IsFalse}
 use Rattle.std.specs.Option.{option_to_list}
 use Rattle.std.proofs.lemmas.List.{reverse-append, reverse-reverse}
@@ -8,14 +8,14 @@ use Rattle.std.proofs.lemmas.Bool.{and_from, not-true, not_from_false, or_parts}
 use Rattle.lists.specs.Elements.{Each, IsIn}
 use Rattle.lists.proofs.Members.{each_from, in_front, in_back, front_or_back, in_map, from_map, in_filter, from_filter, in_flat_map, from_flat_map, all_from}
 use Rattle.lists.proofs.Indices.{index_in}
-use Rattle.model_registers.specs.Declarations.{Bridge, IoDecode, no_io, io16, io32, PrefDecode, no_pref, pref32, pref64}
-use Rattle.model_registers.specs.Decoding.{Space, io, memory, opens_space, is_open, command_word, decodes, Hit, hit_at, same_space, space_of}
+use Rattle.model_registers.specs.Declarations.{Bridge}
+use Rattle.model_registers.specs.Decoding.{Space, io, memory, opens_space, is_open, command_word, Hit, hit_at}
 use Rattle.model_registers.specs.EndpointTable.{BaseAddress}
 use Rattle.model_registers.specs.Registers.{File}
 use Rattle.model_board.specs.Board.{Decl, endpoint, bridge}
 use Rattle.model_board.specs.Paths.{Path, leads_to}
 use Rattle.model_board.specs.State.{BoardFunction}
-use Rattle.model_board.specs.Windows.{Window, is_in, io_window, mem_window, pref_window, is_in_window, forwards}
+use Rattle.model_board.specs.Windows.{is_in, mem_window, pref_window, is_in_window, forwards}
 use Rattle.model_board.specs.Claims.{Claim, claim_at, is_forwarded, claims, first_claim}
 use Rattle.model_board.specs.Routing.{Ranges, regions, windows, RoutingRow, ranges_of, row_of, routing, row_forwards, is_routed, row_claims}
 use Rattle.model_board.proofs.Routing.{forwarded_by_routing, claims_by_routing, first_of_claims}
@@ -23,7 +23,7 @@ use Rattle.model_set_up.specs.PlacedRegions.{PlacedRegion, holds}
 use Rattle.model_findings.specs.OpenRegions.{region_now, regions_of}
 use Rattle.model_findings.specs.Agents.{bridge_agent, answers}
 use Rattle.model_findings.proofs.Answering.{bridge_answers}
-use Rattle.model_lines.specs.Why.{io_windows, pref_windows, windows_now, Hindrance, closes, misses, hindrance, Cause, closed_by, stopped_at, closing, stop, stops, causes_of, Told, is_answer, holders, told_of, told, is_closed, Forwarder, forwarder, passes_on, forwarders}
+use Rattle.model_lines.specs.Why.{windows_now, hindrance, Cause, closed_by, stopped_at, closing, stop, stops, causes_of, Told, is_answer, holders, told_of, told, is_closed, forwarder, forwarders}
 use Rattle.model_lines.specs.WhyLaws.{IsAnswering, IsForwarding, LiesOutside, IsTrueHindrance, claim_there, IsTrueCause, IsTrueTold, AddressesExplained}
 use Rattle.lists.proofs.Members.{from_option}
 
@@ -32,12 +32,9 @@ use Rattle.lists.proofs.Members.{from_option}
 if_true : {A : Type 0} (t : Bool) (x : A) (xs : List A) → t ≡ true → IsIn x xs → IsIn x (cond t xs [])
 if_true t x xs h m = rw h m
 
-decoded : (p : Path) (command : ℕ) (space : Space) (n : ℕ) (b : BaseAddress) → opens_space command space ≡ true → holds space n (region_now p b) ≡ true → decodes command space n b ≡ true
-decoded p command space n b o h = grind arith
-
 hit : (p : Path) (command : ℕ) (space : Space) (n : ℕ) (b : BaseAddress) → opens_space command space ≡ true → holds space n (region_now p b) ≡ true
     → IsIn (record { index = b.index; offset = n - b.base }) (option_to_list (hit_at command space n b))
-hit p command space n b o h = rw (decoded p command space n b o h) (inl refl)
+hit p command space n b o h = grind arith
 
 row_claim : (rows : List RoutingRow) (space : Space) (n : ℕ) (p : Path) (command : ℕ) (rs : Ranges) (q : PlacedRegion) → IsIn q (regions_of (record { path = p; command = command; ranges = rs })) → holds space n q ≡ true → opens_space command space ≡ true → is_routed rows p space n ≡ true
     → IsIn (claim_there n q) (row_claims rows space n (record { path = p; command = command; ranges = rs }))
@@ -60,33 +57,16 @@ module _ (fs : List BoardFunction) (space : Space) (n : ℕ) where
 
 -- ---- what a bridge's windows say
 
-io_outside : (n : ℕ) (k : IoDecode) (w : Option Window) → is_in n w ≡ false → Each (LiesOutside n) (io_windows k w)
-io_outside n no_io w h = tt
-io_outside n io16 w h = (h, tt)
-io_outside n io32 w h = (h, tt)
-
-pref_outside : (n : ℕ) (k : PrefDecode) (w : Option Window) → is_in n w ≡ false → Each (LiesOutside n) (pref_windows k w)
-pref_outside n no_pref w h = tt
-pref_outside n pref32 w h = (h, tt)
-pref_outside n pref64 w h = (h, tt)
-
 windows_outside : (space : Space) (n : ℕ) (d : Bridge) (file : File) → is_in_window d file space n ≡ false → Each (LiesOutside n) (windows_now d file space)
-windows_outside io n d file h = io_outside n d.io (io_window d.io file) h
-windows_outside memory n d file h = ((or_parts (is_in n (mem_window file)) (is_in n (pref_window d.pref file)) h).0, pref_outside n d.pref (pref_window d.pref file) (or_parts (is_in n (mem_window file)) (is_in n (pref_window d.pref file)) h).1)
+windows_outside io n d file h = grind arith
+windows_outside memory n d file h = grind (arith, or_parts (is_in n (mem_window file)) (is_in n (pref_window d.pref file)) h)
 
 and_parts : (s t : Bool) → (s && t) ≡ true → (s ≡ true) × (t ≡ true)
 and_parts s t h = grind arith
 
-and_second : (s t : Bool) → s ≡ true → (s && t) ≡ false → t ≡ false
-and_second s t h k = grind arith
-
 hindrance_by : (space : Space) (n : ℕ) (p : Path) (d : Decl) (file : File) → forwards space n (record { path = p; decl = d; file = file }) ≡ false → IsTrueHindrance space n (record { path = p; decl = d; file = file }) (hindrance space (record { path = p; decl = d; file = file }))
 hindrance_by space n p (endpoint d) file h = (refl, tt)
-hindrance_by space n p (bridge d) file h = by (is_open file space) refl
-  where
-    by : (t : Bool) → is_open file space ≡ t → IsTrueHindrance space n (record { path = p; decl = bridge d; file = file }) (cond t (misses (windows_now d file space)) (closes (command_word file)))
-    by false e = (refl, e)
-    by true e = (refl, windows_outside space n d file (and_second (is_open file space) (is_in_window d file space n) e h))
+hindrance_by space n p (bridge d) file h = grind (arith, windows_outside space n d file)
 
 hindrance_true : (space : Space) (n : ℕ) (f : BoardFunction) → forwards space n f ≡ false → IsTrueHindrance space n f (hindrance space f)
 hindrance_true space n f h = hindrance_by space n f.path f.decl f.file h
@@ -101,16 +81,8 @@ in_reverse x (y ∷ xs) (inr m) = subst (IsIn x) (sym (reverse-append (y ∷ [])
 from_reverse : {A : Type 0} (x : A) (xs : List A) → IsIn x (reverse xs) → IsIn x xs
 from_reverse x xs m = subst (IsIn x) (reverse-reverse xs) (in_reverse x (reverse xs) m)
 
-stop_by : (p bridge : Path) (h : Hindrance) (s t : Bool) (c : Cause) → cond (s && not t) (Some (stopped_at bridge h)) None ≡ Some c → (s ≡ true) × (t ≡ false) × (c ≡ stopped_at bridge h)
-stop_by p g h s t c e = grind arith
-
 stops_if : (c : Cause) (s t : Bool) → s ≡ true → t ≡ false → cond (s && not t) (Some c) None ≡ Some c
 stops_if c s t h k = grind arith
-
-not_or : (s t : Bool) → (s ≡ true → t ≡ false → ⊥) → (not s || t) ≡ true
-not_or true true h = refl
-not_or true false h = absurd (h refl refl)
-not_or false t h = refl
 
 module _ (fs : List BoardFunction) (space : Space) (n : ℕ) where
   -- the causes from bus 0 down
@@ -125,57 +97,31 @@ module _ (fs : List BoardFunction) (space : Space) (n : ℕ) where
       (in_flat_map (λ (h : BoardFunction). option_to_list (stop space n f.path h)) g c fs m (subst (λ (o : Option Cause). IsIn c (option_to_list o)) (sym told) (inl refl))))
 
   command_told : (f : BoardFunction) → is_open f.file space ≡ false → IsIn (closed_by (command_word f.file)) (causes_of fs space n f)
-  command_told f e =
-      let c = closed_by (command_word f.file) in
-      in_reverse c (down f) (in_back c (stops fs space n f.path) (closing space f) (subst (λ t. IsIn c (cond t [] (c ∷ []))) (sym e) (inl refl)))
+  command_told f e = grind (arith, reverse-append, in_back, in_front)
 
   stop_true : (f g : BoardFunction) → IsIn g fs → (c : Cause) → stop space n f.path g ≡ Some c → IsTrueCause fs space n f c
-  stop_true f g m c e =
-      let s = stop_by f.path g.path (hindrance space g) (leads_to g.path f.path) (forwards space n g) c e in
-      subst (IsTrueCause fs space n f) (sym s.2) (record {
-        function = g;
-        there = m;
-        bridge_is = refl;
-        above = s.0;
-        stops = s.1;
-        hindrance_is = hindrance_true space n g s.1;
-      })
+  stop_true f g m c e = grind (arith, hindrance_true)
 
   closing_true : (f : BoardFunction) (c : Cause) → IsIn c (closing space f) → IsTrueCause fs space n f c
-  closing_true f c m = by (is_open f.file space) refl m
-    where
-      by : (t : Bool) → is_open f.file space ≡ t → IsIn c (cond t [] (closed_by (command_word f.file) ∷ [])) → IsTrueCause fs space n f c
-      by true e i = absurd i
-      by false e (inl i) = subst (IsTrueCause fs space n f) (sym i) (refl, e)
-      by false e (inr i) = absurd i
+  closing_true f c m = grind arith
 
   causes_true : (f : BoardFunction) → Each (IsTrueCause fs space n f) (causes_of fs space n f)
   causes_true f = each_from (IsTrueCause fs space n f) (causes_of fs space n f) one
     where
       of : (c : Cause) → IsIn c (stops fs space n f.path) ⊎ IsIn c (closing space f) → IsTrueCause fs space n f c
-      of c (inl m) =
-          let g = from_flat_map (λ (h : BoardFunction). option_to_list (stop space n f.path h)) c fs m in
-          stop_true f g.0 g.1 c (from_option (stop space n f.path g.0) c g.2)
-      of c (inr m) = closing_true f c m
+      of c h = grind (arith, from_flat_map, stop_true f, from_option, closing_true f c)
 
       one : (c : Cause) → IsIn c (causes_of fs space n f) → IsTrueCause fs space n f c
       one c m = of c (front_or_back c (stops fs space n f.path) (closing space f) (from_reverse c (down f) m))
 
   opened : (f : BoardFunction) → causes_of fs space n f ≡ [] → is_open f.file space ≡ true
-  opened f none = by (is_open f.file space) refl
-    where
-      by : (t : Bool) → is_open f.file space ≡ t → is_open f.file space ≡ true
-      by true e = e
-      by false e = absurd (subst (IsIn (closed_by (command_word f.file))) none (command_told f e))
+  opened f none = grind (arith, command_told f)
 
   all_pass : (f : BoardFunction) → causes_of fs space n f ≡ [] → is_forwarded fs f.path space n ≡ true
-  all_pass f none = all_from (λ (g : BoardFunction). not (leads_to g.path f.path) || forwards space n g) fs
-      (λ g m. not_or (leads_to g.path f.path) (forwards space n g) (λ over stopped. subst (IsIn (stopped_at g.path (hindrance space g))) none (bridge_told f g m over stopped)))
+  all_pass f none = grind (arith, all_from, bridge_told f)
 
   closed_here : (f : BoardFunction) (cs : List Cause) → Each (IsTrueCause fs space n f) cs → is_closed cs ≡ true → is_open f.file space ≡ false
-  closed_here f [] each h = cc
-  closed_here f (closed_by command ∷ cs) each h = each.0.1
-  closed_here f (stopped_at p g ∷ cs) each h = cc
+  closed_here f cs each h = grind arith
 
   -- ---- what is told
 
@@ -189,18 +135,7 @@ module _ (fs : List BoardFunction) (space : Space) (n : ℕ) where
       of_region f k (q, l, e) =
           let g = from_filter (λ (x : PlacedRegion). not (is_answer (first_claim fs space n) x)) q (holders space n f) l in
           let i = from_filter (holds space n) q (regions_of (row_of f)) g.0 in
-          subst (IsTrueTold fs space n) (sym e) (record {
-            function = f;
-            there = k;
-            region = i.0;
-            byte = i.1;
-            other = not-true (is_answer (first_claim fs space n) q) g.1;
-            causes = causes_true f;
-            command = command_told f;
-            bridges = bridge_told f;
-            too = λ none. has_claim fs space n f q k i.0 i.1 (opened f none) (all_pass f none);
-            at_reset = λ h. at_reset f q (and_parts (q.first == 0) (is_closed (causes_of fs space n f)) h);
-          })
+          grind (arith, not-true, causes_true, command_told, bridge_told, has_claim, opened, all_pass, at_reset, and_parts)
 
       of_function : (f : BoardFunction) × IsIn f fs × IsIn t (told_of fs space n f) → IsTrueTold fs space n t
       of_function (f, k, l) = of_region f k (from_map (λ (q : PlacedRegion). record { region = q; causes = causes_of fs space n f }) t (filter (λ x. not (is_answer (first_claim fs space n) x)) (holders space n f)) l)
@@ -222,34 +157,17 @@ module _ (fs : List BoardFunction) (space : Space) (n : ℕ) where
   no_first [] c h m = m
   no_first (d ∷ cs) c h m = cc
 
-  none_too : first_claim fs space n ≡ None → (t : Told) → IsTrueTold fs space n t → t.causes ≡ [] → ⊥
-  none_too none t told e = no_first (claims fs space n) (claim_there n t.region) (sym (first_of_claims fs space n) ∙ none) (told.too e)
-
 -- ---- what forwards it
 
 pub by_row : (space : Space) (n : ℕ) (f : BoardFunction) → row_forwards space n (row_of f) ≡ forwards space n f
-by_row space n f = by space f.decl
-  where
-    by : (s : Space) (d : Decl) → row_forwards s n (record { path = f.path; command = command_word f.file; ranges = ranges_of f.file d }) ≡ forwards s n (record { path = f.path; decl = d; file = f.file })
-    by s (endpoint d) = refl
-    by io (bridge d) = refl
-    by memory (bridge d) = refl
+by_row space n f = grind arith
 
 module _ (fs : List BoardFunction) (space : Space) (n : ℕ) where
   forwarding : Each (IsForwarding fs space n) (forwarders fs space n)
-  forwarding = each_from (IsForwarding fs space n) (forwarders fs space n) one
-    where
-      one : (g : Forwarder) → IsIn g (forwarders fs space n) → IsForwarding fs space n g
-      one g m =
-          let i = from_map forwarder g (filter (passes_on fs space n) fs) m in
-          let t = from_filter (passes_on fs space n) i.0 fs i.1 in
-          let both = and_parts (forwards space n i.0) (is_forwarded fs i.0.path space n) t.1 in
-          record { function = i.0; there = t.0; forwarder_is = i.2; forwards_it = both.0; forwarded = both.1 }
+  forwarding = grind (arith, each_from, from_map, from_filter, and_parts)
 
   all_forwarding : (f : BoardFunction) → IsIn f fs → answers space n (bridge_agent (row_of f) space) ≡ true → is_forwarded fs f.path space n ≡ true → IsIn (forwarder f) (forwarders fs space n)
-  all_forwarding f m a way =
-      in_map forwarder f (filter (passes_on fs space n) fs) (in_filter (passes_on fs space n) f fs m
-      (and_from (forwards space n f) (is_forwarded fs f.path space n) (sym (bridge_answers space n (row_of f) ∙ by_row space n f) ∙ a) way))
+  all_forwarding f m a way = grind (arith, in_map, in_filter, and_from, bridge_answers, by_row)
 
 -- ---- who answers
 
@@ -263,20 +181,10 @@ record OfRow (rows : List RoutingRow) (space : Space) (n : ℕ) (p : Path) (comm
   claim_is : c ≡ claim_there n region
 
 from_if : {A : Type 0} (t : Bool) (x : A) (xs : List A) → IsIn x (cond t xs []) → (t ≡ true) × IsIn x xs
-from_if true x xs m = (refl, m)
-from_if false x xs m = absurd m
+from_if t x xs m = grind arith
 
 hit_parts : (p : Path) (command : ℕ) (space : Space) (n : ℕ) (b : BaseAddress) (h : Hit) → hit_at command space n b ≡ Some h → (opens_space command space ≡ true) × (holds space n (region_now p b) ≡ true) × (record { index = b.index; offset = n - b.base } ≡ h)
-hit_parts p command space n b h e = by (decodes command space n b) refl e
-  where
-    parts : (o s l m : Bool) → (o && s && l && m) ≡ true → (o ≡ true) × ((s && l && m) ≡ true)
-    parts o s l m h = grind arith
-
-    by : (t : Bool) → decodes command space n b ≡ t → cond t (Some (record { index = b.index; offset = n - b.base })) None ≡ Some h → (opens_space command space ≡ true) × (holds space n (region_now p b) ≡ true) × (record { index = b.index; offset = n - b.base } ≡ h)
-    by false i k = cc
-    by true i k =
-        let g = parts (opens_space command space) (same_space (space_of b.kind) space) (leb b.base n) (ltb n (b.base + b.size)) i in
-        (g.0, g.1, cc)
+hit_parts p command space n b h e = grind arith
 
 of_row : (rows : List RoutingRow) (space : Space) (n : ℕ) (p : Path) (command : ℕ) (rs : Ranges) (c : Claim) → IsIn c (row_claims rows space n (record { path = p; command = command; ranges = rs })) → OfRow rows space n p command rs c
 of_row rows space n p command (windows wio wmem wpref) c m = absurd (from_if (is_routed rows p space n) c [] m).1
@@ -298,30 +206,7 @@ module _ (fs : List BoardFunction) (space : Space) (n : ℕ) where
   answering : (c : Claim) → first_claim fs space n ≡ Some c → IsAnswering fs space n c
   answering c e =
       let f = from_flat_map (row_claims (routing fs) space n) c (routing fs) (subst (IsIn c) (claims_by_routing fs space n) (index_in (claims fs space n) 0 c (sym (first_of_claims fs space n) ∙ e))) in
-      let g = from_map row_of f.0 fs f.1 in
-      of_function g.0 g.1 (subst (λ (r : RoutingRow). IsIn c (row_claims (routing fs) space n r)) g.2 f.2)
-    where
-      of_function : (f : BoardFunction) → IsIn f fs → IsIn c (row_claims (routing fs) space n (row_of f)) → IsAnswering fs space n c
-      of_function f m k =
-          let r : OfRow (routing fs) space n f.path (command_word f.file) (ranges_of f.file f.decl) c = of_row (routing fs) space n f.path (command_word f.file) (ranges_of f.file f.decl) c k in
-          record {
-            function = f;
-            there = m;
-            region = r.region;
-            declared = r.declared;
-            byte = r.byte;
-            opened = r.opened;
-            forwarded = forwarded_by_routing fs f.path space n ∙ r.routed;
-            claim_is = r.claim_is;
-          }
+      grind (arith, from_map, of_row, forwarded_by_routing)
 
 pub addresses_explained : AddressesExplained
-addresses_explained fs space n = record {
-  answer = refl;
-  answering = answering fs space n;
-  forwarding = forwarding fs space n;
-  all_forwarding = all_forwarding fs space n;
-  true_each = each_from (IsTrueTold fs space n) (told fs space n) (told_true fs space n);
-  complete = complete fs space n;
-  nobody = λ none. each_from (λ t. t.causes ≡ [] → ⊥) (told fs space n) (λ t m. none_too fs space n none t (told_true fs space n t m));
-}
+addresses_explained fs space n = grind (arith, answering, forwarding, all_forwarding, each_from, told_true, complete, no_first, first_of_claims)
