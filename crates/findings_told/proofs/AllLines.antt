@@ -1,10 +1,9 @@
 -- The lines of problems and lacks with the last line.
 use Rattle.std.proofs.Common.{◌≡◌, ◌++◌, List, [], ◌∷◌, ℕ, map, length, ap, ap₂, sym, ◌∙◌, append-nil}
 use Rattle.std.proofs.lemmas.List.{length-map}
-use Rattle.model_guests.specs.Text.{Text, text_of_lines}
+use Rattle.model_guests.specs.Text.{Text, ended, text_of_lines}
 use Rattle.model_findings.specs.AuditText.{problem_text, audit_line}
 use Rattle.model_findings.specs.ReadyText.{lack_text, ready_total, ready_line, ready_text}
-use Rattle.report.specs.Found.{ended}
 use Rattle.model_guests.proofs.WrittenLines.{text_of_lines-append}
 use Rattle.findings.specs.Findings.{problem_of}
 use Rattle.findings.specs.declared.problem.Problem.{Problem}

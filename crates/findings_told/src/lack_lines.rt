@@ -4,7 +4,7 @@ ghost use Rattle.lists.specs.Texts.{Adds};
 ghost use Rattle.model_findings.specs.ReadyText.{lack_text, ready_total, ready_line};
 ghost use Rattle.findings.specs.Findings.{lack_of};
 ghost use Rattle.findings_told.specs.Lines.{lack_lines};
-ghost use Rattle.report.specs.Found.{ended};
+ghost use Rattle.model_guests.specs.Text.{ended};
 
 use crate::counts::Counted;
 use crate::places::ShownRegion;

@@ -6,7 +6,7 @@ ghost use Rattle.model_findings.specs.Problems.{not_forwarded, contended, not_fo
 ghost use Rattle.model_findings.specs.AuditText.{agent_text, problem_text, total_text, audit_line};
 ghost use Rattle.findings.specs.Findings.{problem_of};
 ghost use Rattle.findings_told.specs.Lines.{problem_lines};
-ghost use Rattle.report.specs.Found.{ended};
+ghost use Rattle.model_guests.specs.Text.{ended};
 
 use crate::counts::Counted;
 use crate::places::{Hexadecimal, Reached, ShownRegion, space_name};

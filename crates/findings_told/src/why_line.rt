@@ -1,9 +1,8 @@
 //! A line of why an address, a configuration number or an I/O port finds what it finds.
 ghost use Rattle.std.specs.Prelude.{OnOk, map};
 ghost use Rattle.lists.specs.Texts.{Adds};
-ghost use Rattle.model_guests.specs.Text.{text_of_lines};
+ghost use Rattle.model_guests.specs.Text.{ended, text_of_lines};
 ghost use Rattle.model_lines.specs.WhyText.{why_line};
-ghost use Rattle.report.specs.Found.{ended};
 ghost use Rattle.findings_told.specs.WhyLines.{line_text};
 
 use crate::counts::Counted;

@@ -6,12 +6,11 @@
 --     text_told latch t f      the whole text
 use Rattle.std.specs.Prelude.{ℕ, ◌++◌, ◌∷◌, List, map, codes}
 use Rattle.model_guests.specs.Accesses.{Target}
-use Rattle.model_guests.specs.Text.{Text, text_of_lines}
+use Rattle.model_guests.specs.Text.{Text, ended, text_of_lines}
 use Rattle.model_guests.specs.PathTexts.{hexadecimal}
 use Rattle.model_findings.specs.AuditText.{register_text}
 use Rattle.model_lines.specs.WhyText.{why_line}
 use Rattle.model_lines.specs.WhyGuests.{Finding, slot_text, target_text, finding_text, closed_text, closed_lines, target_lines}
-use Rattle.report.specs.Found.{ended}
 use Rattle.guest_why.specs.declared.closed.ClosedInSlot.{ClosedInSlot}
 use Rattle.guest_why.specs.Findings.{closed_told}
 

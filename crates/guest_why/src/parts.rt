@@ -4,7 +4,7 @@ ghost use Rattle.lists.specs.Texts.{Adds};
 ghost use Rattle.model_lines.specs.WhyText.{why_line};
 ghost use Rattle.model_lines.specs.WhyGuests.{answers, target_text, finding_text};
 ghost use Rattle.accesses.specs.Accesses.{target_of};
-ghost use Rattle.report.specs.Found.{ended};
+ghost use Rattle.model_guests.specs.Text.{ended};
 ghost use Rattle.monitor.specs.Queries.{hit_named};
 ghost use Rattle.guest_why.specs.Findings.{finding_told};
 ghost use Rattle.guest_why.specs.Lines.{head_text, place_line, closed_line, told_lines, lines_of_closed};

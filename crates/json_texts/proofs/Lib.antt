@@ -1,5 +1,4 @@
 pub mod NoFloatsInReports
 pub mod RowValues
 pub mod RowsOfJson
-pub mod SetUpValue
 pub mod NoFloatsInAudits

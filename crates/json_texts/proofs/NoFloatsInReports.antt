@@ -10,8 +10,8 @@ use Rattle.model_board.specs.Board.{Decl, endpoint, bridge}
 use Rattle.model_set_up.specs.FunctionTable.{BusRange, TableRow}
 use Rattle.model_set_up.specs.SetUpWrites.{Writes, to_endpoint, to_bridge, Setting}
 use Rattle.model_guests.specs.World.{Guest}
-use Rattle.json_texts.specs.ReportValue.{region_value, slot_values, guest_value}
-use Rattle.json_texts.specs.FoundValue.{known_interrupt, named_window, written_regions, written_windows, found_buses, decl_value, found_functions, found_report}
+use Rattle.model_handoff.specs.Report.{SetUpBoard}
+use Rattle.json_texts.specs.ReportValue.{region_value, known_interrupt, named_window, written_regions, written_windows, found_buses, decl_value, function_values, slot_values, guest_value, report_value}
 
 -- ---- lists of values
 
@@ -54,7 +54,7 @@ none_in_function : (bus : ℕ) (behind : Option BusRange) (p : Path) (d : Decl) 
 none_in_function bus behind p (endpoint d) w = rw (none_in_interrupt p d.pin, none_in_regions w) refl
 none_in_function bus behind p (bridge d) w = rw (none_in_buses bus behind, none_in_windows w) refl
 
-none_in_functions : (rs : List TableRow) (ss : List Setting) → items_have_float (items_of (found_functions rs ss)) ≡ false
+none_in_functions : (rs : List TableRow) (ss : List Setting) → items_have_float (items_of (function_values rs ss)) ≡ false
 none_in_functions [] ss = refl
 none_in_functions (r ∷ rs) [] = refl
 none_in_functions (r ∷ rs) (s ∷ ss) = ap₂ (λ a b. a || b) (none_in_function r.bus r.behind r.path r.decl s.writes) (none_in_functions rs ss)
@@ -65,5 +65,5 @@ none_in_guest g = rw (none_in_slots 0 g.slots) refl
 none_in_guests : (gs : List Guest) → items_have_float (items_of (map guest_value gs)) ≡ false
 none_in_guests gs = none_mapped guest_value none_in_guest gs
 
-pub none_in_report : (rs : List TableRow) (ss : List Setting) (guests : List Guest) → has_float (found_report rs ss guests) ≡ false
-none_in_report rs ss guests = rw (none_in_functions rs ss, none_in_guests guests) refl
+pub none_in_report : (s : SetUpBoard) → has_float (report_value s) ≡ false
+none_in_report s = rw (none_in_functions s.functions s.plan.settings, none_in_guests s.guests) refl

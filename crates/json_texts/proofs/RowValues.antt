@@ -4,11 +4,11 @@ use Rattle.std.proofs.lemmas.List.{drop_all}
 use Rattle.std.proofs.lemmas.Bool.{cases_lt}
 use Rattle.model_set_up.specs.FunctionTable.{TableRow}
 use Rattle.model_set_up.specs.SetUpWrites.{Setting}
-use Rattle.json_texts.specs.FoundValue.{found_functions}
+use Rattle.json_texts.specs.ReportValue.{function_values}
 
-found_functions_nil : (rs : List TableRow) → found_functions rs [] ≡ []
-found_functions_nil [] = refl
-found_functions_nil (r ∷ rs) = refl
+function_values_nil : (rs : List TableRow) → function_values rs [] ≡ []
+function_values_nil [] = refl
+function_values_nil (r ∷ rs) = refl
 
-pub found_functions_end : (rs : List TableRow) (ss : List Setting) (n : ℕ) → n ≡ min (length rs) (length ss) → found_functions (drop n rs) (drop n ss) ≡ []
-found_functions_end rs ss n e = grind (arith, drop_all, found_functions_nil, cases_lt)
+pub function_values_end : (rs : List TableRow) (ss : List Setting) (n : ℕ) → n ≡ min (length rs) (length ss) → function_values (drop n rs) (drop n ss) ≡ []
+function_values_end rs ss n e = grind (arith, drop_all, function_values_nil, cases_lt)

@@ -1,3 +1,3 @@
 pub mod ReportValue
-pub mod FoundValue
+pub mod FunctionMembers
 pub mod AuditValue

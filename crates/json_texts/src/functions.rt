@@ -3,8 +3,8 @@
 ghost use Rattle.std.specs.Prelude.{◌≡◌, IfOk, OnOk, map};
 ghost use Rattle.serde_json.specs.View.{view, members_view};
 ghost use Rattle.window_packing.specs.Plans.{writes_of};
-ghost use Rattle.json_texts.specs.ReportValue.{buses_value, endpoint_value, bridge_value};
-ghost use Rattle.json_texts.specs.FoundValue.{place_members, with_identity, vendor_of, device_id_of, known_interrupt, written_regions, written_windows, found_function, found_functions};
+ghost use Rattle.json_texts.specs.ReportValue.{known_interrupt, written_regions, written_windows, buses_value, endpoint_value, bridge_value, function_value, function_values};
+ghost use Rattle.json_texts.specs.FunctionMembers.{place_members, with_identity, vendor_of, device_id_of};
 
 use crate::function_parts::{known_interrupt, written_regions, written_windows};
 use crate::problem_parts::path_value;
@@ -103,7 +103,7 @@ fn bridge_value(
 
 /// A function with what was written into it.
 fn function_value(alloc: Global, row: &FunctionRow, writes: &Writes) -> Result<Value, AllocError>
-    ensures { IfOk result (λ v. view v ≡ found_function row.now (writes_of writes.now)) }
+    ensures { IfOk result (λ v. view v ≡ function_value row.now (writes_of writes.now)) }
 {
     match &row.found {
         Found::Endpoint { pin, .. } => endpoint_value(alloc, row, *pin, writes),
@@ -121,7 +121,7 @@ pub(crate) fn function_values(
     rows: &[FunctionRow],
     settings: &[Setting],
 ) -> Result<Vec<Value>, AllocError>
-    ensures { IfOk result (λ v. map view v.items ≡ found_functions rows.now settings.now) }
+    ensures { IfOk result (λ v. map view v.items ≡ function_values rows.now settings.now) }
 {
     let mut values = Vec::new(alloc);
     for (row, setting) in rows.iter().zip(settings) {

@@ -1,10 +1,7 @@
 //! The whole value, and its text.
 ghost use Rattle.std.specs.Prelude.{◌≡◌, IfOk, string_bytes};
 ghost use Rattle.serde_json.specs.View.{view};
-ghost use Rattle.model_guests.specs.World.{World};
-ghost use Rattle.report.specs.OfWorld.{IsOf};
-ghost use Rattle.json_texts.specs.ReportValue.{value_line, report_json_text};
-ghost use Rattle.json_texts.specs.FoundValue.{found_report};
+ghost use Rattle.json_texts.specs.ReportValue.{value_line, report_value};
 
 use crate::functions::function_values;
 use crate::guests::guest_values;
@@ -16,13 +13,14 @@ use std::alloc::{AllocError, Global};
 use window_packing::Plan;
 
 /// The value, from what was found and placed.
-fn found_value(
+fn report_value(
     alloc: Global,
     table: &FunctionTable,
     plan: &Plan,
     guests: &[GuestDecl],
 ) -> Result<Value, AllocError>
-    ensures { IfOk result (λ v. view v ≡ found_report table.now plan.now.settings guests.now) }
+    ensures { IfOk result (λ v. view v
+        ≡ report_value (record { functions = table.now; plan = plan.now; guests = guests.now })) }
 {
     let bridges = bridges(table.rows());
     let endpoints = endpoints(table.rows());
@@ -36,22 +34,6 @@ fn found_value(
     })
 }
 
-/// Its text, from what was found and placed.
-fn found_text(
-    alloc: Global,
-    table: &FunctionTable,
-    plan: &Plan,
-    guests: &[GuestDecl],
-) -> Result<String, AllocError>
-    ensures { IfOk result (λ t.
-        string_bytes t ≡ value_line (found_report table.now plan.now.settings guests.now)) }
-{
-    let value = found_value(alloc, table, plan, guests)?;
-    let mut text = value.to_string(alloc)?;
-    text.push('\n')?;
-    Ok(text)
-}
-
 /// The report of a board that is set up as JSON on one line, from its table, its plan and its guests. Only
 /// lack of memory refuses it.
 pub fn report_json(
@@ -60,9 +42,11 @@ pub fn report_json(
     plan: &Plan,
     guests: &[GuestDecl],
 ) -> Result<String, AllocError>
-    // Whatever world these are of, it is the text of its report's value.
-    ensures { IfOk result (λ t. (w : World)
-        → IsOf w table.now plan.now guests.now → string_bytes t ≡ report_json_text w) }
+    ensures { IfOk result (λ t. string_bytes t ≡ value_line
+        (report_value (record { functions = table.now; plan = plan.now; guests = guests.now }))) }
 {
-    found_text(alloc, table, plan, guests)
+    let value = report_value(alloc, table, plan, guests)?;
+    let mut text = value.to_string(alloc)?;
+    text.push('\n')?;
+    Ok(text)
 }

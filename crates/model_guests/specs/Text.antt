@@ -1,6 +1,6 @@
 -- Texts, as bytes, cut into lines and words.
 --     lines, words      the parts of a text that LF ends; the parts of a line between space, tab and CR
---     text_of_lines      lines put together, each ended by LF
+--     ended, text_of_lines      a line ended by LF; lines put together, each ended so
 use Rattle.std.specs.Prelude.{List, [], ◌∷◌, ℕ, Bool, ◌==◌, ◌++◌, if◌then◌else◌, length, not, ◌||◌, filter, flat_map}
 
 abbrev pub Text : Type 0
@@ -21,6 +21,9 @@ ends_line c = c == 10
 
 abbrev pub lines : Text → List Text
 lines text = pieces ends_line text
+
+abbrev pub ended : Text → Text
+ended l = l ++ 10 ∷ []
 
 abbrev pub text_of_lines : List Text → Text
 text_of_lines ls = flat_map (λ l. l ++ 10 ∷ []) ls

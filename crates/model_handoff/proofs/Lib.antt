@@ -10,6 +10,7 @@ pub mod Served
 pub mod SetUpCase
 pub mod SetUpLaws
 pub mod AfterSetUp
+pub mod ReportLaws
 pub mod Examples
 pub mod Kept
 pub mod Views

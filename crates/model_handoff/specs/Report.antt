@@ -1,27 +1,37 @@
 -- The report of a board that is set up: functions in path order with their regions and interrupts, windows, and guests.
---     function_lines      an endpoint with its regions and its interrupt, or a bridge with its buses and windows
+--     SetUpBoard, set_up_board      what is reported: the functions that set-up finds, its plan, and the guests; of a world
+--     numbers_text      bus, device and function number as BB:DD.F
+--     base_line, pin_line      the line of a region; of a pin, with the device of bus 0 that it reaches and the pin there
+--     window_lines      the lines of a bridge's windows but for those whose base is above their limit
+--     function_text      an endpoint with its regions and its interrupt, or a bridge with its buses and windows
 --     slot_lines      the slots of a guest
---     report      the whole text
-use Rattle.std.specs.Prelude.{List, [], ◌∷◌, ℕ, ◌-◌, zero, suc, ◌+◌, true, false, ◌++◌, flat_map, not, map, count_by}
-use Rattle.std.specs.Prelude.{codes, decimal}
-use Rattle.model_registers.specs.Declarations.{Kind, io_kind, mem32, mem64, Region}
+--     report_of, report      the whole text, of what is reported; of a world
+use Rattle.std.specs.Prelude.{List, [], ◌∷◌, ℕ, ◌+◌, ◌++◌, true, false, if◌then◌else◌, nat_lt, ◌==◌, ◌||◌, Option, Some, None, flat_map, map, not, count_by, codes, decimal}
+use Rattle.model_registers.specs.Declarations.{Kind, io_kind, mem32, mem64}
+use Rattle.model_registers.specs.EndpointTable.{BaseAddress}
+use Rattle.model_registers.specs.BridgeTable.{Window}
 use Rattle.model_board.specs.Paths.{Path, last_part}
-use Rattle.model_board.specs.Board.{Decl, endpoint, bridge, is_bridge, Board}
-use Rattle.model_board.specs.BusNumbers.{secondary, subordinate, bus_of}
+use Rattle.model_board.specs.Board.{Decl, endpoint, bridge, is_bridge}
 use Rattle.model_board.specs.Interrupts.{root_device, root_pin}
-use Rattle.model_set_up.specs.Pools.{Pool, io_pool, mem_pool, pref_pool, unit_of}
-use Rattle.model_registers.specs.Apertures.{Apertures}
-use Rattle.model_set_up.specs.Placement.{Item, need, items_on, bus_first}
-use Rattle.model_set_up.specs.SetUp.{first_of}
-use Rattle.model_guests.specs.Text.{Text, text_of_lines}
-use Rattle.model_guests.specs.World.{World}
+use Rattle.model_set_up.specs.FunctionTable.{BusRange, TableRow, sized_table}
+use Rattle.model_set_up.specs.SetUpWrites.{Writes, to_endpoint, to_bridge, Setting, Plan, planned}
+use Rattle.model_guests.specs.Text.{Text, text_of_lines, ended}
+use Rattle.model_guests.specs.World.{Guest, World}
 use Rattle.model_guests.specs.PathTexts.{hexadecimal, path_text}
 use Rattle.model_guests.specs.Replies.{hex_digits}
 
--- BB:DD.F
-abbrev pub address_text : Board → Path → Text
-address_text b p = hex_digits 2 (bus_of b p) ++ codes ":" ++ hex_digits 2 (last_part p).device ++ codes "."
-    ++ decimal (last_part p).function
+pub record SetUpBoard : Type 0 where
+  pub functions : List TableRow
+  pub plan : Plan
+  pub guests : List Guest
+
+abbrev pub set_up_board : World → SetUpBoard
+set_up_board w = record { functions = sized_table w.board; plan = planned w.board w.apertures; guests = w.guests }
+
+-- ---- fields
+
+abbrev pub numbers_text : (bus device function : ℕ) → Text
+numbers_text bus device function = hex_digits 2 bus ++ codes ":" ++ hex_digits 2 device ++ codes "." ++ decimal function
 
 abbrev pub kind_text : Kind → Text
 kind_text io_kind = codes "io"
@@ -34,52 +44,102 @@ kind_text (mem64 true) = codes "mem64p"
 abbrev pub pin_text : ℕ → Text
 pin_text pin = codes "INT" ++ (64 + pin) ∷ []
 
+-- Vendor ID and Device ID
 abbrev pub identity_text : ℕ → ℕ → Text
 identity_text vendor device = hex_digits 4 vendor ++ codes ":" ++ hex_digits 4 device
 
-abbrev pub region_line : Board → Apertures → Path → Region → Text
-region_line b a p r =
-    codes "  bar" ++ decimal r.index ++ codes " " ++ kind_text r.kind ++ codes " at " ++ hexadecimal (first_of b a p r)
+abbrev pub identity_of : Decl → Text
+identity_of (endpoint d) = identity_text d.vendor d.device
+identity_of (bridge d) = identity_text d.vendor d.device
+
+-- Primary, Secondary and Subordinate Bus Number
+abbrev pub range_text : ℕ → ℕ → ℕ → Text
+range_text bus first last =
+    codes " buses " ++ hex_digits 2 bus ++ codes " " ++ hex_digits 2 first ++ codes " " ++ hex_digits 2 last
+
+abbrev pub buses_text : ℕ → Option BusRange → Text
+buses_text bus None = []
+buses_text bus (Some behind) = range_text bus behind.first behind.last
+
+-- ---- lines of a function
+
+-- its first line, as far as endpoints and bridges have it in common
+abbrev pub head_text : ℕ → Path → Text → Text → Text
+head_text bus p kind identity =
+    numbers_text bus (last_part p).device (last_part p).function ++ codes " " ++ path_text p ++ kind ++ identity
+
+abbrev pub row_head : TableRow → Text → Text
+row_head r kind = head_text r.bus r.path kind (identity_of r.decl)
+
+abbrev pub base_line : BaseAddress → Text
+base_line r =
+    codes "  bar" ++ decimal r.index ++ codes " " ++ kind_text r.kind ++ codes " at " ++ hexadecimal r.base
     ++ codes " size " ++ hexadecimal r.size
 
--- no line for pin 0
-abbrev pub pin_lines : Path → ℕ → List Text
-pin_lines p zero = []
-pin_lines p (suc n) = (codes "  irq " ++ pin_text (suc n) ++ codes " at " ++ decimal (root_device p) ++ codes " "
-    ++ pin_text (root_pin p (suc n))) ∷ []
+abbrev pub base_lines : Writes → List Text
+base_lines (to_endpoint command bases) = map base_line bases
+base_lines (to_bridge w) = []
 
--- no line for a window without items
-abbrev pub window_line : Text → Pool → ℕ → List Item → List Text
-window_line name pool first [] = []
-window_line name pool first (i ∷ is) =
-    (codes "  " ++ name ++ codes " " ++ hexadecimal first ++ codes " "
-    ++ hexadecimal (first + need (unit_of pool) (i ∷ is) - 1)) ∷ []
+abbrev pub pin_line : Path → ℕ → Text
+pin_line p pin =
+    codes "  irq " ++ pin_text pin ++ codes " at " ++ decimal (root_device p) ++ codes " " ++ pin_text (root_pin p pin)
 
-abbrev pub window_lines : Board → Apertures → Path → Text → Pool → List Text
-window_lines b a p name pool = window_line name pool (bus_first b a pool p) (items_on b a pool p)
+-- pins are 1 to 4
+abbrev pub known_pin_lines : Path → ℕ → List Text
+known_pin_lines p pin = if pin == 0 || nat_lt 4 pin then [] else pin_line p pin ∷ []
 
-abbrev pub function_lines : Board → Apertures → Path → Decl → List Text
-function_lines b a p (endpoint d) =
-    (address_text b p ++ codes " " ++ path_text p ++ codes " endpoint " ++ identity_text d.vendor d.device)
-    ∷ map (region_line b a p) d.regions ++ pin_lines p d.pin
-function_lines b a p (bridge d) =
-    (address_text b p ++ codes " " ++ path_text p ++ codes " bridge " ++ identity_text d.vendor d.device
-    ++ codes " buses " ++ hex_digits 2 (bus_of b p) ++ codes " " ++ hex_digits 2 (secondary b p) ++ codes " "
-    ++ hex_digits 2 (subordinate b p))
-    ∷ window_lines b a p (codes "io") io_pool ++ window_lines b a p (codes "mem") mem_pool
-    ++ window_lines b a p (codes "pref") pref_pool
+-- a window without items has its base above its limit
+abbrev pub named_window_lines : Text → Window → List Text
+named_window_lines name w =
+    if nat_lt w.last w.first then []
+    else (codes "  " ++ name ++ codes " " ++ hexadecimal w.first ++ codes " " ++ hexadecimal w.last) ∷ []
+
+abbrev pub window_lines : Writes → List Text
+window_lines (to_endpoint command bases) = []
+window_lines (to_bridge w) =
+    named_window_lines (codes "io") w.io ++ named_window_lines (codes "mem") w.mem
+    ++ named_window_lines (codes "pref") w.pref
+
+-- what ends an endpoint's first line, and the lines after it; the same of a bridge
+abbrev pub endpoint_text : Path → ℕ → Writes → Text
+endpoint_text p pin w = codes "\n" ++ text_of_lines (base_lines w) ++ text_of_lines (known_pin_lines p pin)
+
+abbrev pub windows_text : Writes → Text
+windows_text w = codes "\n" ++ text_of_lines (window_lines w)
+
+abbrev pub decl_text : ℕ → Option BusRange → Path → Decl → Writes → Text
+decl_text bus behind p (endpoint d) w =
+    head_text bus p (codes " endpoint ") (identity_text d.vendor d.device) ++ endpoint_text p d.pin w
+decl_text bus behind p (bridge d) w =
+    head_text bus p (codes " bridge ") (identity_text d.vendor d.device) ++ (buses_text bus behind ++ windows_text w)
+
+abbrev pub function_text : TableRow → Writes → Text
+function_text r w = decl_text r.bus r.behind r.path r.decl w
+
+abbrev pub functions_text : List TableRow → List Setting → Text
+functions_text [] ss = []
+functions_text (r ∷ rs) [] = []
+functions_text (r ∷ rs) (s ∷ ss) = function_text r s.writes ++ functions_text rs ss
+
+-- ---- guests, and the whole
+
+abbrev pub slot_line : Text → ℕ → Path → Text
+slot_line name n p = codes "guest " ++ name ++ codes " slot " ++ decimal n ++ codes " " ++ path_text p
 
 abbrev pub slot_lines : Text → ℕ → List Path → List Text
 slot_lines name n [] = []
-slot_lines name n (p ∷ ps) = (codes "guest " ++ name ++ codes " slot " ++ decimal n ++ codes " " ++ path_text p)
-    ∷ slot_lines name (n + 1) ps
+slot_lines name n (p ∷ ps) = slot_line name n p ∷ slot_lines name (n + 1) ps
 
-abbrev pub report_lines : World → List Text
-report_lines w =
-    (codes "endpoints " ++ decimal (count_by (λ r. not (is_bridge r.decl)) w.board) ++ codes " bridges "
-    ++ decimal (count_by (λ r. is_bridge r.decl) w.board))
-    ∷ flat_map (λ r. function_lines w.board w.apertures r.path r.decl) w.board
-    ++ flat_map (λ g. slot_lines g.name 0 g.slots) w.guests
+abbrev pub guests_text : List Guest → Text
+guests_text guests = flat_map (λ g. text_of_lines (slot_lines g.name 0 g.slots)) guests
+
+abbrev pub count_line : List TableRow → Text
+count_line rs =
+    codes "endpoints " ++ decimal (count_by (λ r. not (is_bridge r.decl)) rs) ++ codes " bridges "
+    ++ decimal (count_by (λ r. is_bridge r.decl) rs)
+
+abbrev pub report_of : SetUpBoard → Text
+report_of s = ended (count_line s.functions) ++ functions_text s.functions s.plan.settings ++ guests_text s.guests
 
 abbrev pub report : World → Text
-report w = text_of_lines (report_lines w)
+report w = report_of (set_up_board w)

@@ -12,6 +12,7 @@ ghost use Rattle.model_handoff.specs.RegionLaws.{CycleReads, CycleWrites, FaultD
 ghost use Rattle.model_handoff.specs.RegionLaws.{MemoryBySpace, PortsBySpace, RegionIsClaimed, RegionReads};
 ghost use Rattle.model_handoff.specs.RegionLaws.{RegionWrites, ServedAfterEvents, ServedAfterMoves, ServedAtFirst};
 ghost use Rattle.model_handoff.specs.AfterSetUp.{SetUpIsolates, SetUpTwoWorlds};
+ghost use Rattle.model_handoff.specs.ReportLaws.{ClosedWithoutItems};
 ghost use Rattle.model_handoff.specs.SetUpCase.{SetUpAddresses, SetUpCanBeGiven, SetUpIsHandoff, SetUpIsInOrder, SetUpPlaces};
 ghost use Rattle.model_handoff.specs.SetUpLaws.{HitReachesRegion, SetUpAgrees, SetUpAtFirst, SetUpIsOnly, SetUpKeepsNumbers, SetUpKeepsRouting};
 ghost use Rattle.model_handoff.specs.ViewLaws.{OverReset, ResetAfterEvents, ResetAfterMoves, ResetAtFirst, ResetShown};
@@ -128,6 +129,11 @@ pub fn agreement_after_set_up()
 pub fn isolated_after_set_up()
     ensures isolated { SetUpIsolates }
     ensures two_worlds { SetUpTwoWorlds }
+{}
+
+/// Set-up closes just the windows behind which nothing is placed, and a report shows the others.
+pub fn used_windows_are_open()
+    ensures { ClosedWithoutItems }
 {}
 
 /// What guests see over some handoffs.

@@ -7,7 +7,7 @@ ghost use Rattle.simulation.specs.Faults.{number_of};
 ghost use Rattle.session.specs.Files.{Refuses, Breaks, IsSetUp};
 ghost use Rattle.pciguest_c.specs.Checks.{IsCheckOf};
 
-use simulation::{Fault, Style, Warned, check_text, list_text};
+use simulation::{Fault, ReportForm, Style, Warned, check_text, list_in};
 use std::alloc::Global;
 
 /// The report of a board file, or the number of its refusal.
@@ -18,7 +18,7 @@ pub fn report_of(alloc: Global, board: &[u8]) -> Result<String, u32>
     ensures placement { IfErr result (λ n. 199 < n → n < 299 → Breaks board.now n) }
     ensures numbers { IfErr result (λ n. (n ≢ 0) × (n ≤ 299)) }
 {
-    match list_text(alloc, board) {
+    match list_in(alloc, board, ReportForm::Lines) {
         Ok(text) => Ok(text),
         Err(fault) => Err(u32::from(fault.number())),
     }

@@ -1,4 +1,3 @@
 pub mod Loops
 pub mod PathTexts
 pub mod RowTexts
-pub mod SetUpReport

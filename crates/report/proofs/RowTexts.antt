@@ -4,11 +4,11 @@ use Rattle.std.proofs.lemmas.List.{drop_all}
 use Rattle.std.proofs.lemmas.Bool.{cases_lt}
 use Rattle.model_set_up.specs.FunctionTable.{TableRow}
 use Rattle.model_set_up.specs.SetUpWrites.{Setting}
-use Rattle.report.specs.Found.{rows_text}
+use Rattle.model_handoff.specs.Report.{functions_text}
 
-rows_text_nil : (rs : List TableRow) → rows_text rs [] ≡ []
-rows_text_nil [] = refl
-rows_text_nil (r ∷ rs) = refl
+functions_text_nil : (rs : List TableRow) → functions_text rs [] ≡ []
+functions_text_nil [] = refl
+functions_text_nil (r ∷ rs) = refl
 
-pub rows_text_end : (rs : List TableRow) (ss : List Setting) (n : ℕ) → n ≡ min (length rs) (length ss) → rows_text (drop n rs) (drop n ss) ≡ []
-rows_text_end rs ss n e = grind (arith, drop_all, rows_text_nil, cases_lt)
+pub functions_text_end : (rs : List TableRow) (ss : List Setting) (n : ℕ) → n ≡ min (length rs) (length ss) → functions_text (drop n rs) (drop n ss) ≡ []
+functions_text_end rs ss n e = grind (arith, drop_all, functions_text_nil, cases_lt)

@@ -2,10 +2,8 @@
 ghost use Rattle.std.specs.Prelude.{◌≡◌, OnOk, IfOk, not, count_by, string_bytes};
 ghost use Rattle.lists.specs.Texts.{Adds};
 ghost use Rattle.model_board.specs.Board.{is_bridge};
-ghost use Rattle.model_guests.specs.World.{World};
-ghost use Rattle.model_handoff.specs.Report.{report};
-ghost use Rattle.report.specs.Found.{ended, count_line, rows_text, guests_text, found_report};
-ghost use Rattle.report.specs.OfWorld.{IsOf};
+ghost use Rattle.model_guests.specs.Text.{ended};
+ghost use Rattle.model_handoff.specs.Report.{count_line, functions_text, guests_text, report_of};
 
 use crate::lines::{push_function, push_guest};
 use accesses::GuestDecl;
@@ -52,7 +50,7 @@ fn push_functions(
     rows: &[FunctionRow],
     settings: &[Setting],
 ) -> Result<(), AllocError>
-    ensures { OnOk result (Adds text.old text.new (rows_text rows.now settings.now)) }
+    ensures { OnOk result (Adds text.old text.new (functions_text rows.now settings.now)) }
 {
     for (row, setting) in rows.iter().zip(settings) {
         push_function(text, row, &setting.writes)?;
@@ -70,23 +68,6 @@ fn push_guests(text: &mut String, guests: &[GuestDecl]) -> Result<(), AllocError
     Ok(())
 }
 
-/// The text, from what was found and placed.
-fn found_text(
-    alloc: Global,
-    table: &FunctionTable,
-    plan: &Plan,
-    guests: &[GuestDecl],
-) -> Result<String, AllocError>
-    ensures { IfOk result (λ t.
-        string_bytes t ≡ found_report table.now plan.now.settings guests.now) }
-{
-    let mut text = String::new(alloc);
-    push_counts(&mut text, table.rows())?;
-    push_functions(&mut text, table.rows(), plan.settings())?;
-    push_guests(&mut text, guests)?;
-    Ok(text)
-}
-
 /// The report of a board that is set up, from its table, its plan and its guests. Only lack of memory refuses
 /// it.
 pub fn report_text(
@@ -95,9 +76,12 @@ pub fn report_text(
     plan: &Plan,
     guests: &[GuestDecl],
 ) -> Result<String, AllocError>
-    // Whatever world these are of, it is its report.
-    ensures { IfOk result (λ t.
-        (w : World) → IsOf w table.now plan.now guests.now → string_bytes t ≡ report w) }
+    ensures { IfOk result (λ t. string_bytes t
+        ≡ report_of (record { functions = table.now; plan = plan.now; guests = guests.now })) }
 {
-    found_text(alloc, table, plan, guests)
+    let mut text = String::new(alloc);
+    push_counts(&mut text, table.rows())?;
+    push_functions(&mut text, table.rows(), plan.settings())?;
+    push_guests(&mut text, guests)?;
+    Ok(text)
 }

@@ -1,11 +1,10 @@
 //! How numbers, paths and kinds are shown.
 ghost use Rattle.std.specs.Prelude.{◌≡◌, ◌<◌, Some, false};
 ghost use Rattle.std.specs.Fmt.{digit_glyph};
-ghost use Rattle.model_handoff.specs.Report.{kind_text};
+ghost use Rattle.model_handoff.specs.Report.{kind_text, numbers_text};
 ghost use Rattle.model_guests.specs.PathTexts.{part_text, path_text};
 ghost use Rattle.model_guests.specs.Replies.{hex_digits};
 ghost use Rattle.bars.specs.Kinds.{kind_of};
-ghost use Rattle.report.specs.Found.{numbers_text};
 
 use bars::Kind;
 use paths::{Part, Path};

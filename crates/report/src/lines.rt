@@ -1,11 +1,10 @@
 //! The lines of one function and of one guest.
 ghost use Rattle.std.specs.Prelude.{◌≡◌, ◌++◌, ◌≤◌, OnOk, map};
 ghost use Rattle.lists.specs.Texts.{Adds};
-ghost use Rattle.model_guests.specs.Text.{text_of_lines};
-ghost use Rattle.model_handoff.specs.Report.{pin_text, slot_lines};
+ghost use Rattle.model_guests.specs.Text.{ended, text_of_lines};
+ghost use Rattle.model_handoff.specs.Report.{base_line, base_lines, pin_text, pin_line, known_pin_lines, named_window_lines, window_lines, range_text, row_head, endpoint_text, windows_text, function_text, slot_line, slot_lines};
 ghost use Rattle.bars.specs.Slots.{placed, bases_from};
 ghost use Rattle.window_packing.specs.Plans.{writes_of};
-ghost use Rattle.report.specs.Found.{ended, base_line, known_pin_lines, named_window_lines, base_lines, window_lines, range_text, pin_line, row_head, endpoint_text, windows_text, found_text, slot_line};
 
 use crate::fields::{FourDigits, Numbers, ShownPath, TwoDigits, kind_text};
 use accesses::GuestDecl;
@@ -178,7 +177,7 @@ pub(crate) fn push_function(
     row: &FunctionRow,
     writes: &Writes,
 ) -> Result<(), AllocError>
-    ensures { OnOk result (Adds text.old text.new (found_text row.now (writes_of writes.now))) }
+    ensures { OnOk result (Adds text.old text.new (function_text row.now (writes_of writes.now))) }
 {
     match &row.found {
         Found::Endpoint { pin, .. } => {

@@ -3,9 +3,8 @@
 --     refusal_written      the two lines are those of the definitions
 use Rattle.std.proofs.Common.{◌≡◌, true, false, [], ◌++◌, sym, ap, ◌∙◌, append-nil}
 use Rattle.std.specs.Prelude.{IfSome, IsSome}
-use Rattle.model_guests.specs.Text.{Text}
+use Rattle.model_guests.specs.Text.{Text, ended}
 use Rattle.model_lines.specs.Sessions.{refused_line, handover_output}
-use Rattle.report.specs.Found.{ended}
 use Rattle.monitor.specs.declared.handover.HandoverFault.{HandoverFault}
 use Rattle.monitor.specs.declared.handover.HandoverFault.TheVariants.{NotInOrder, Closed, Memory}
 use Rattle.monitor.specs.Handovers.{number_of, words_of, handoff_fault}

@@ -2,7 +2,7 @@
 ghost use Rattle.std.specs.Prelude.{◌≡◌, OnOk, IfOk, IfSome, IsSome, string_bytes};
 ghost use Rattle.lists.specs.Texts.{Adds};
 ghost use Rattle.model_lines.specs.Sessions.{closed_text, refused_line, handover_output};
-ghost use Rattle.report.specs.Found.{ended};
+ghost use Rattle.model_guests.specs.Text.{ended};
 ghost use Rattle.monitor.specs.Handovers.{number_of, words_of, handoff_fault};
 ghost use Rattle.session.specs.Tellings.{cause_text};
 

@@ -3,7 +3,6 @@ use Rattle.std.proofs.Common.{◌≡◌, refl, Result, Ok, Err, sym, ap, ap₂, 
 use Rattle.std.specs.Prelude.{◌≢◌, List, IfErr, IsUtf8}
 use Rattle.std.specs.Result.{IsErrAnd}
 use Rattle.toml.specs.Parse.{parse_document}
-use Rattle.model_board.specs.Lawful.{HasLawfulDecls}
 use Rattle.model_set_up.specs.FunctionTable.{TableRow, sized_table}
 use Rattle.model_set_up.specs.SetUp.{set_up_state}
 use Rattle.model_set_up.specs.SetUpWrites.{Plan, planned}
@@ -15,7 +14,7 @@ use Rattle.board_file.specs.declared.fault.BoardFault.{BoardFault}
 use Rattle.board_file.specs.declared.fault.BoardFault.TheVariants as file
 use Rattle.board_file.specs.Faults as board_file
 use Rattle.board_file.specs.Meaning.{world_in, document_meaning}
-use Rattle.report.specs.OfWorld.{IsOf}
+use Rattle.model_handoff.specs.Report.{set_up_board}
 use Rattle.simulation.specs.declared.fault.Fault.{Fault}
 use Rattle.simulation.specs.declared.fault.Fault.TheVariants.{File}
 use Rattle.simulation.specs.Faults.{OnFile}
@@ -40,24 +39,11 @@ pub refused_file : {T : Type 0} (r : Result T Fault) (bytes : Text) (b : BoardFa
 refused_file r bytes b said no_text given =
     refused r bytes b (refused_by bytes b said no_text) given
 
--- what lends the parts of a board that is set up, and what declares it, put together
-pub of_ready : (w : World) (r : ReadyBoard) (gs : List Guest) (table : List TableRow) (plan : Plan) (guests : List Guest)
-    → IsOf w r.table r.plan gs → table ≡ r.table → plan ≡ r.plan → guests ≡ gs → IsOf w table plan guests
-of_ready w r gs table plan guests of t p g = record {
-  declarations = of.declarations;
-  functions = t ∙ of.functions;
-  placement = p ∙ of.placement;
-  given = g ∙ of.given;
-}
-
--- a board that is set up, as the report asks for it
-pub of_world : (h : HostState) (r : ReadyBoard) (gs : List Guest)
-    → HasLawfulDecls (board_below h) → board_below r.host ≡ board_below h
+-- a board that is set up, as it is reported
+pub of_world : (h : HostState) (r : ReadyBoard) (gs : List Guest) → board_below r.host ≡ board_below h
     → r.host ≡ record h { state = set_up_state (board_below h) h.apertures }
-    → IsReady r → IsOf (world_in h gs) r.table r.plan gs
-of_world h r gs lawful below host ready = record {
-  declarations = lawful;
-  functions = ready.table ∙ ap sized_table below;
-  placement = ready.plan ∙ ap₂ planned below (ap (λ k. k.apertures) host);
-  given = refl;
-}
+    → IsReady r → set_up_board (world_in h gs) ≡ record { functions = r.table; plan = r.plan; guests = gs }
+of_world h r gs below host ready =
+    let table = ready.table ∙ ap sized_table below in
+    let plan = ready.plan ∙ ap₂ planned below (ap (λ k. k.apertures) host) in
+    rw (table, plan) refl

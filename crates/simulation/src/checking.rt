@@ -22,7 +22,6 @@ use diagnostics::Style;
 use host_bridge::Host;
 use std::alloc::Global;
 use streams::Writer;
-use toml::Table;
 use toml::de::Error;
 
 /// What is said of a board file, and the fault of the file or its board, if there is one.
@@ -116,46 +115,6 @@ fn accept(
     }
 }
 
-/// Of a document: what is wrong with it, or what is said of its board.
-fn check_source(
-    alloc: Global,
-    style: Style,
-    warned: Warned,
-    name: &str,
-    source: &Source<'_>,
-) -> Result<Checked, Fault>
-    requires { IsRead source.now }
-    ensures told { let board = source.now.bytes.now in
-        IfOk result (λ c. IsCheckText style warned name.now board c.fault (string_bytes c.text)) }
-    ensures memory { IfErr result IsOutOfMemory }
-{
-    match source.world(alloc) {
-        Ok((host, _)) => accept(alloc, style, warned, name, source, host),
-        Err(fault) => refuse(alloc, style, name, source, fault),
-    }
-}
-
-/// The same, of the document that was read from the bytes of a file.
-fn check_document(
-    alloc: Global,
-    style: Style,
-    warned: Warned,
-    name: &str,
-    board: &[u8],
-    document: &Table,
-) -> Result<Checked, Fault>
-    requires is_text { IsUtf8 board.now }
-    requires parsed { parse_document board.now ≡ Some (table_view document.now) }
-    ensures told { IfOk result (λ c.
-        IsCheckText style warned name.now board.now c.fault (string_bytes c.text)) }
-    ensures memory { IfErr result IsOutOfMemory }
-{
-    match Source::new(alloc, board, document) {
-        Ok(source) => check_source(alloc, style, warned, name, &source),
-        Err(_) => Err(Fault::File(BoardFault::Memory)),
-    }
-}
-
 /// What is wrong with a board file, a line for each entry that breaks the first check that the file fails;
 /// or `ok`, where its board can be set up, with how much of each aperture it takes, and a line for each thing
 /// that may be a mistake and is no fault, by `warned`. `name` is what the file is called. With excerpts the
@@ -172,10 +131,17 @@ pub fn check_text(
         IsCheckText style warned name.now board.now c.fault (string_bytes c.text)) }
     ensures memory { IfErr result IsOutOfMemory }
 {
-    match toml::table_from_slice(alloc, board) {
-        Ok(document) => check_document(alloc, style, warned, name, board, &document),
-        Err(e) if e.is_memory() => Err(Fault::File(BoardFault::Memory)),
-        Err(e) => refuse_bytes(alloc, style, name, board, &e),
+    let document = match toml::table_from_slice(alloc, board) {
+        Ok(document) => document,
+        Err(e) if e.is_memory() => return Err(Fault::File(BoardFault::Memory)),
+        Err(e) => return refuse_bytes(alloc, style, name, board, &e),
+    };
+    let Ok(source) = Source::new(alloc, board, &document) else {
+        return Err(Fault::File(BoardFault::Memory));
+    };
+    match source.world(alloc) {
+        Ok((host, _)) => accept(alloc, style, warned, name, &source, host),
+        Err(fault) => refuse(alloc, style, name, &source, fault),
     }
 }
 

@@ -29,7 +29,7 @@ pub use fault::Fault;
 pub use fault_lines::fault_line;
 pub use files::{board_bytes, board_or_hint};
 pub use hints::{check_hint, usage_hint};
-pub use listing::{ReportForm, list, list_json, list_text};
+pub use listing::{ReportForm, list, list_in};
 pub use model_guests::two_worlds;
 pub use monitor::Monitor;
 pub use running::whole;

@@ -3,11 +3,10 @@ ghost use Rattle.std.specs.Prelude.{◌≡◌, ◌≢◌, ◌+◌, ◌-◌, ◌^
 ghost use Rattle.model_registers.specs.DeclarationRules.{first_broken};
 ghost use Rattle.model_set_up.specs.SetUpWrites.{set_up_rules};
 ghost use Rattle.model_guests.specs.World.{World};
-ghost use Rattle.model_handoff.specs.Report.{report};
-ghost use Rattle.json_texts.specs.ReportValue.{report_json_text};
+ghost use Rattle.window_packing.specs.Readies.{IsReady};
 ghost use Rattle.simulation.specs.Faults.{write_faults, OnFile, OnSetUp, IsOfBoard, IsOfList};
 ghost use Rattle.session.specs.Files.{Declares, Refuses, Breaks};
-ghost use Rattle.simulation.specs.Listing.{report_in, IsReadyOf, IsListed, IsListedInPart};
+ghost use Rattle.simulation.specs.Listing.{reported_in, report_in, IsReadyOf, IsListed, IsListedInPart};
 
 use crate::choice::print;
 use crate::fault::Fault;
@@ -15,7 +14,7 @@ use accesses::GuestDecl;
 use board_file::read_board;
 use json_texts::report_json;
 use report::report_text;
-use std::alloc::Global;
+use std::alloc::{AllocError, Global};
 use streams::Writer;
 use window_packing::{Ready, set_up};
 
@@ -40,42 +39,27 @@ fn ready_board(alloc: Global, board: &[u8]) -> Result<(Ready, Vec<GuestDecl>), F
     Ok((ready, guests))
 }
 
-/// The report of the board that a board file declares, once it is set up.
+/// The report of a board that is set up, with its guests, in a form.
+fn report_in(
+    alloc: Global,
+    ready: &Ready,
+    guests: &[GuestDecl],
+    form: ReportForm,
+) -> Result<String, AllocError>
+    ensures text { IfOk result (λ t. string_bytes t ≡ reported_in form
+        (record { functions = ready.now.table; plan = ready.now.plan; guests = guests.now })) }
+    ensures ready { IsReady ready.now }
+{
+    match form {
+        ReportForm::Lines => report_text(alloc, ready.table(), ready.plan(), guests),
+        ReportForm::Json => report_json(alloc, ready.table(), ready.plan(), guests),
+    }
+}
+
+/// The report in a form of the board that a board file declares, once it is set up.
 ///
 /// A refusal is the file's (101 to 112), the board's (201 to 205), or out of memory (199 or 299).
-pub fn list_text(alloc: Global, board: &[u8]) -> Result<String, Fault>
-    ensures report { IfOk result (λ t. (w : World) × Declares board.now w
-        × (first_broken (set_up_rules w.board w.apertures) ≡ None)
-        × (string_bytes t ≡ report w)) }
-    ensures file { IfErr result (OnFile (Refuses board.now)) }
-    ensures placement { IfErr result (OnSetUp (Breaks board.now)) }
-    ensures faults { IfErr result IsOfBoard }
-{
-    let (ready, guests) = ready_board(alloc, board)?;
-    let Ok(text) = report_text(alloc, ready.table(), ready.plan(), &guests) else {
-        return Err(Fault::SetUp(bus_scan::Fault::Memory));
-    };
-    Ok(text)
-}
-
-/// The same report as a JSON object on one line. Its refusals are those of [`list_text`].
-pub fn list_json(alloc: Global, board: &[u8]) -> Result<String, Fault>
-    ensures report { IfOk result (λ t. (w : World) × Declares board.now w
-        × (first_broken (set_up_rules w.board w.apertures) ≡ None)
-        × (string_bytes t ≡ report_json_text w)) }
-    ensures file { IfErr result (OnFile (Refuses board.now)) }
-    ensures placement { IfErr result (OnSetUp (Breaks board.now)) }
-    ensures faults { IfErr result IsOfBoard }
-{
-    let (ready, guests) = ready_board(alloc, board)?;
-    let Ok(text) = report_json(alloc, ready.table(), ready.plan(), &guests) else {
-        return Err(Fault::SetUp(bus_scan::Fault::Memory));
-    };
-    Ok(text)
-}
-
-/// The report in a form.
-fn text_in(alloc: Global, board: &[u8], form: ReportForm) -> Result<String, Fault>
+pub fn list_in(alloc: Global, board: &[u8], form: ReportForm) -> Result<String, Fault>
     ensures report { IfOk result (λ t. (w : World) × Declares board.now w
         × (first_broken (set_up_rules w.board w.apertures) ≡ None)
         × (string_bytes t ≡ report_in form w)) }
@@ -83,10 +67,11 @@ fn text_in(alloc: Global, board: &[u8], form: ReportForm) -> Result<String, Faul
     ensures placement { IfErr result (OnSetUp (Breaks board.now)) }
     ensures faults { IfErr result IsOfBoard }
 {
-    match form {
-        ReportForm::Lines => list_text(alloc, board),
-        ReportForm::Json => list_json(alloc, board),
-    }
+    let (ready, guests) = ready_board(alloc, board)?;
+    let Ok(text) = report_in(alloc, &ready, &guests, form) else {
+        return Err(Fault::SetUp(bus_scan::Fault::Memory));
+    };
+    Ok(text)
 }
 
 /// Writes the report of the board that a board file declares, once it is set up, in a form, and flushes once.
@@ -118,7 +103,7 @@ pub fn list<W: Writer>(
     // A fault is the writer's exactly where the writer failed during the call.
     ensures failures { W.failures writer.new ≡ W.failures writer.old + write_faults result }
 {
-    let text = text_in(alloc, board, form)?;
+    let text = list_in(alloc, board, form)?;
     print(text.as_str(), writer)?;
     Ok(())
 }

@@ -1,9 +1,9 @@
 use Rattle.std.proofs.Common.{◌≡◌, ◌++◌, drop, length, map}
 use Rattle.serde_json.specs.View.{view}
-use Rattle.json_texts.specs.FoundValue.{found_functions}
+use Rattle.json_texts.specs.ReportValue.{function_values}
 use Rattle.json_texts.proofs.functions.function_values.Given as goal
 
 abbrev pub invariant-loop-row : goal.invariant-loop-row
 invariant-loop-row l =
-    map view l.values.items ++ found_functions (drop (length l.yielded) l.rows) (drop (length l.yielded) l.settings)
-    ≡ found_functions l.rows l.settings
+    map view l.values.items ++ function_values (drop (length l.yielded) l.rows) (drop (length l.yielded) l.settings)
+    ≡ function_values l.rows l.settings

@@ -1,6 +1,11 @@
-use Rattle.std.proofs.Common.{arith}
-use Rattle.json_texts.proofs.SetUpValue.{text_is_report}
+use Rattle.std.proofs.Common.{◌++◌, [], ◌∷◌, ap, ◌∙◌, string_bytes, lit<}
+use Rattle.serde_json.specs.Written.{has_float, compact_text}
+use Rattle.json_texts.proofs.NoFloatsInReports.{none_in_report}
 use Rattle.json_texts.proofs.report_object.report_json.Goals as goal
 
 pub returns : goal.returns
-returns c = grind (arith, text_is_report)
+returns c =
+    let value = c.in_ok-value.ensures in
+    let none = ap has_float value ∙ none_in_report _ in
+    let pushed = c.in_ok-push.ensures.bytes ∙ ap (λ t. string_bytes c.in_ok-text.text ++ t) (c.in_ok-push.ensures.ascii (lit< tt)) in
+    pushed ∙ ap (λ t. t ++ 10 ∷ []) (c.in_ok-text.ensures.text none ∙ ap compact_text value)

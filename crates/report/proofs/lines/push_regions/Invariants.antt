@@ -1,7 +1,7 @@
 use Rattle.std.proofs.Common.{◌≡◌, ◌++◌, drop, map, string_bytes}
 use Rattle.model_guests.specs.Text.{text_of_lines}
 use Rattle.bars.specs.Slots.{bases_from}
-use Rattle.report.specs.Found.{base_line}
+use Rattle.model_handoff.specs.Report.{base_line}
 use Rattle.report.proofs.lines.push_regions.Given as goal
 
 abbrev pub invariant-loop-index : goal.invariant-loop-index

@@ -12,5 +12,5 @@ returns-clause-declared c = record {
   declared = record { is_text = c.in_ok-host.ensures.world.0; meaning = c.in_ok-host.ensures.world.1 };
   set_up = c.in_ok-ready.ensures.kept;
   of_world = of_world c.in_ok-host.host c.in_ok-ready.ready c.in_ok-host.guests.items
-      c.in_ok-host.ensures.lawful.functions c.in_ok-ready.ensures.board c.in_ok-ready.ensures.ready;
+      c.in_ok-ready.ensures.board c.in_ok-ready.ensures.ready;
 }

@@ -1,0 +1,25 @@
+-- A window is closed just where it has no items.
+use Rattle.std.proofs.Common.{◌≡◌, ℕ, ◌+◌, ◌-◌, ◌*◌, ◌<◌, ◌≤◌, List, [], ◌∷◌, le-ltb, lt-ltb, lit<, refl, inl, arith}
+use Rattle.lists.specs.Elements.{Each}
+use Rattle.model_set_up.specs.Pools.{Pool, io_pool, mem_pool, pref_pool, unit_of}
+use Rattle.model_set_up.specs.Placement.{Item, need, items_on, bus_first, end_from, in_order}
+use Rattle.model_set_up.specs.SetUp.{window_of}
+use Rattle.model_set_up.proofs.Items.{IsPlaceable, some_end, end_below_need, items_placeable}
+use Rattle.model_set_up.proofs.Packing.{unit_positive}
+use Rattle.model_handoff.specs.ReportLaws.{is_closed, is_empty, ClosedWithoutItems}
+
+without_items : (unit closed first : ℕ) (is : List Item) → 0 < unit → 0 < closed * unit → Each (IsPlaceable unit) is
+    → is_closed (window_of unit closed first is) ≡ is_empty is
+without_items unit closed first [] some used h = lt-ltb 0 (closed * unit) used
+without_items unit closed first (i ∷ is) some used h =
+    let end : 0 < end_from 0 (in_order (i ∷ is)) = some_end unit i (i ∷ is) h (inl refl) in
+    let whole : end_from 0 (in_order (i ∷ is)) ≤ need unit (i ∷ is) = end_below_need unit (i ∷ is) some in
+    let not_closed : first ≤ first + need unit (i ∷ is) - 1 = omega arith in
+    le-ltb (first + need unit (i ∷ is) - 1) first not_closed
+
+pub closed_without_items : ClosedWithoutItems
+closed_without_items b a lawful p = record { io = of io_pool 0xf (lit< tt); mem = of mem_pool 0xfff (lit< tt); pref = of pref_pool 0xfff (lit< tt) }
+  where
+    of : (pool : Pool) (closed : ℕ) → 0 < closed * unit_of pool
+        → is_closed (window_of (unit_of pool) closed (bus_first b a pool p) (items_on b a pool p)) ≡ is_empty (items_on b a pool p)
+    of pool closed some = without_items (unit_of pool) closed _ (items_on b a pool p) (unit_positive pool) some (items_placeable b a pool lawful p)

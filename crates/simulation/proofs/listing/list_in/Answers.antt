@@ -1,0 +1,8 @@
+use Rattle.std.proofs.Common.{◌∙◌, sym, ap}
+use Rattle.simulation.specs.Listing.{reported_in}
+use Rattle.simulation.proofs.listing.list_in.Goals as goal
+
+pub returns-clause-report : goal.returns-clause-report
+returns-clause-report c =
+    let is = c.in_ok-ready.ensures.declared in
+    (is.world, is.declared, is.set_up, c.in-Ok.ensures ∙ ap (reported_in c.args.form) (sym (is.of_world c.in_ok-ready.ready.ok)))
