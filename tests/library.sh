@@ -162,16 +162,8 @@ holds 'the example beside another library is built' build beside "$top/examples/
 holds 'the example beside another library' \
   sh -c "./beside '$top/examples/device.toml' | cmp - '$top/tests/library/device.stdout'"
 
-# ---- the example in Rust, where there is a compiler
-if command -v rustc > /dev/null; then
-  holds 'Rust: the example is built' rustc --edition 2021 -D warnings -o device.rust "$top/examples/rust/device.rs" \
-    -L "native=$top/library" -l static=pciguest
-  holds 'Rust: the example runs' sh -c "./device.rust '$top/examples/device.toml' > device.rust.out"
-  holds 'Rust: the example prints what the one in C does' cmp device.rust.out "$top/tests/library/device.stdout"
-fi
-
 # ---- the crates for Rust as they are packed, outside the repository and with no registry: their tests, and the examples of
-# their documentation; without the standard library; and in the example of a hypervisor, where Debian's crates are
+# their documentation; without the standard library; and in the examples, of which a hypervisor takes Debian's crates
 offline() { env -u PCIGUEST_LIBRARY_DIR -C "$1" CARGO_HOME="$room/cargo" CARGO_TARGET_DIR="$room/$2" "${@:3}"; }
 if cargo --version > /dev/null 2>&1; then
   mkdir -p outside/.cargo outside/bare/src
@@ -188,6 +180,8 @@ if cargo --version > /dev/null 2>&1; then
   printf '[package]\nname = "bare"\nedition = "2021"\n[profile.dev]\npanic = "abort"\n[dependencies]\n%s\n' \
     'pciguest = { path = "../pciguest", default-features = false }' > outside/bare/Cargo.toml
   holds 'Rust: the crate without the standard library' offline outside/bare target cargo run --offline --quiet
+  offline "$top/examples/rust" device env RUSTFLAGS='-D warnings' make -s > device.rust.out
+  holds 'Rust: the example prints what the one in C does' cmp device.rust.out "$top/tests/library/device.stdout"
   if compgen -G '/usr/share/cargo/registry/vm-superio-*' > /dev/null; then
     offline "$top/examples/rust" vmm make -s vmm > vmm.out
     holds 'Rust: the buses of a hypervisor' test "$(cat vmm.out)" = $'printer: read from RAM by the device\nserial: 1 printed'

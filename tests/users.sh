@@ -85,6 +85,7 @@ if cargo --version > /dev/null 2>&1; then
   with_cargo() { env -u PCIGUEST_LIBRARY_DIR "$@"; }
   holds 'the crate for Rust' with_cargo cargo build --offline --quiet --manifest-path crate/Cargo.toml
   holds 'what it reports' same wanted with_cargo cargo run --offline --quiet --manifest-path crate/Cargo.toml
+  holds 'the program in Rust' same "$device" with_cargo make -s -C examples/rust
   if compgen -G '/usr/share/cargo/registry/vm-superio-*' > /dev/null; then
     holds 'the buses of a hypervisor in Rust' with_cargo sh -c 'make -s -C examples/rust vmm | grep -qx "serial: 1 printed"'
   fi

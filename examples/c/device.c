@@ -20,7 +20,6 @@
 
 #include <inttypes.h>
 #include <stdio.h>
-#include <stdlib.h>
 
 enum { STATUS = 0x00, COUNT = 0x04, DOORBELL = 0x08, SERVED = 1 };
 
@@ -42,27 +41,34 @@ static bool find(struct pciguest *machine, size_t guest, struct trap trap, struc
     return pciguest_locate(machine, guest, trap.space, 0, trap.place, hit) == 0 && (hit->found || is_selection);
 }
 
-/* Serves one access, and answers what is read. A real bus has no refusal: a write that no one takes is lost. */
-static uint64_t serve(struct pciguest *machine, size_t guest, struct trap trap)
+/* Serves one access, and answers what is read or written: of a region by its slot, its register and the offset, as `find` told
+ * them, and else by the port. A real bus has no refusal: a write that no one takes is lost. */
+static uint64_t serve(struct pciguest *machine, size_t guest, struct trap trap, const struct pciguest_hit *hit)
 {
-    uint64_t value = UINT64_MAX;
+    uint64_t value = trap.is_write ? trap.value : UINT64_MAX;
 
-    if (trap.is_write)
-        (void)pciguest_write_wide(machine, guest, trap.space, 0, trap.place, trap.width, trap.value);
+    if (trap.space == PCIGUEST_MEMORY && trap.is_write)
+        (void)pciguest_region_write(machine, guest, hit->slot, hit->part, hit->offset, trap.width, value);
+    else if (trap.space == PCIGUEST_MEMORY)
+        (void)pciguest_region_read(machine, guest, hit->slot, hit->part, hit->offset, trap.width, &value);
+    else if (trap.is_write)
+        (void)pciguest_write_wide(machine, guest, trap.space, 0, trap.place, trap.width, value);
     else
         (void)pciguest_read_wide(machine, guest, trap.space, 0, trap.place, trap.width, &value);
     return value;
 }
 
-/* The device serves a ring: it counts it, and sets the bit of STATUS. */
+/* The device serves a ring: it counts it, sets the bit of STATUS, and drives its pin if its driver lets it. */
 static void ring(struct pciguest *machine, size_t guest, const struct pciguest_hit *hit)
 {
+    struct pciguest_function function = {0};
     uint64_t rings = 0;
 
     (void)pciguest_device_read_wide(machine, guest, hit->slot, hit->part, COUNT, 4, &rings);
     (void)pciguest_device_write_wide(machine, guest, hit->slot, hit->part, COUNT, 4, rings + 1);
     (void)pciguest_raise(machine, guest, hit->slot, hit->part, STATUS, SERVED);
-    printf("ring\n");
+    (void)pciguest_slot(machine, guest, hit->slot, &function);
+    printf("ring, INT%c# %s\n", "-ABCD"[function.interrupt.pin], function.interrupt.is_disabled ? "off" : "on");
 }
 
 /* Tells which addresses have to be trapped from here on. */
@@ -111,6 +117,8 @@ static const struct trap accesses[] = {
     {false, PCIGUEST_MEMORY, 0xe0000000, 8, 0}, /* STATUS and COUNT at once */
     {true, PCIGUEST_MEMORY, 0xe0000000, 1, SERVED}, /* it clears STATUS, and leaves COUNT */
     {true, PCIGUEST_MEMORY, 0xe0000004, 4, 1},
+    {true, PCIGUEST_IO, 0xcf8, 4, REGISTER(0, 0x04)},
+    {true, PCIGUEST_IO, 0xcfc, 2, 0x0402}, /* no interrupts any more; where its region stands isn't told again */
     {true, PCIGUEST_MEMORY, 0xe0000006, 8, 0}, /* across alignment, and over the doorbell */
     {false, PCIGUEST_MEMORY, 0xe0000000, 8, 0},
     {false, PCIGUEST_MEMORY, 0xd0000000, 4, 0}, /* nobody there */
@@ -130,55 +138,31 @@ static void run(struct pciguest *machine, size_t guest)
             printf("nobody here\n");
             continue;
         }
-        uint64_t read = serve(machine, guest, trap);
-        printf("0x%0*" PRIx64 "\n", (int)trap.width * 2, trap.is_write ? trap.value : read);
+        printf("0x%0*" PRIx64 "\n", (int)trap.width * 2, serve(machine, guest, trap, &hit));
         act(machine, guest, trap, &hit);
     }
 }
 
-/* The bytes of a file, which the caller frees; null where it can't be read. */
-static uint8_t *bytes_of(const char *path, size_t *length)
-{
-    FILE *file = fopen(path, "rb");
-    uint8_t *bytes = NULL;
-    long end;
-
-    if (!file)
-        return NULL;
-    if (fseek(file, 0, SEEK_END) == 0 && (end = ftell(file)) >= 0 && (bytes = malloc((size_t)end + 1))) {
-        rewind(file);
-        *length = fread(bytes, 1, (size_t)end, file);
-    }
-    fclose(file);
-    return bytes;
-}
-
-static void complain(uint32_t fault)
-{
-    fprintf(stderr, "device: fault %" PRIu32 " %s\n", fault, pciguest_strerror(fault));
-}
-
 int main(int argc, char **argv)
 {
+    static uint8_t board[65536];
     struct pciguest machine = PCIGUEST_INIT;
-    size_t length = 0, guest = 0;
-    uint8_t *board = argc == 2 ? bytes_of(argv[1], &length) : NULL;
+    FILE *file = argc == 2 ? fopen(argv[1], "rb") : NULL;
+    size_t guest = 0;
     uint32_t fault;
 
-    if (!board) {
+    if (!file) {
         fprintf(stderr, "device BOARD\n");
         return 2;
     }
-    fault = pciguest_new(&machine, board, length);
-    free(board);
+    fault = pciguest_new(&machine, board, fread(board, 1, sizeof board, file));
+    fclose(file);
     if (!fault)
         fault = pciguest_guest(&machine, "a", 1, &guest);
-    if (fault) {
-        complain(fault);
-        pciguest_free(&machine);
-        return 1;
-    }
-    run(&machine, guest);
+    if (!fault)
+        run(&machine, guest);
+    else
+        fprintf(stderr, "device: fault %" PRIu32 " %s\n", fault, pciguest_strerror(fault));
     pciguest_free(&machine);
-    return 0;
+    return fault != 0;
 }

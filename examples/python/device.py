@@ -4,6 +4,7 @@ when its driver rings (`act`). It is examples/c/device.c over the module of libr
     PYTHONPATH=library/python examples/python/device.py BOARD
 BOARD is examples/device.toml, whose guest `a` has this device."""
 import sys
+from contextlib import suppress
 from dataclasses import dataclass
 from typing import Optional, Tuple
 
@@ -31,24 +32,28 @@ def find(guest: Guest, trap: Trap) -> Tuple[bool, Optional[Hit]]:
     return hit is not None or (trap.space, trap.place, trap.width) == ("io", 0xCF8, 4), hit
 
 
-def serve(guest: Guest, trap: Trap) -> int:
-    """Serves one access, and gives what is read or written. A real bus has no refusal: a write that no one takes is lost."""
-    space = (guest.io if trap.space == "io" else guest.memory).wide
-    try:
-        if trap.written is None:
-            return space[trap.place:trap.width]
-        space[trap.place:trap.width] = trap.written
-        return trap.written
-    except Refusal:
-        return (1 << 8 * trap.width) - 1 if trap.written is None else trap.written
+def serve(guest: Guest, trap: Trap, hit: Optional[Hit]) -> int:
+    """Serves one access, and gives what is read or written: of a region by its slot, its register and the offset, as `find`
+    told them, and else by the port. A real bus has no refusal: a write that no one takes is lost."""
+    with suppress(Refusal):
+        if hit is None or hit.region is None:
+            if trap.written is None:
+                return guest.io.wide[trap.place:trap.width]
+            guest.io.wide[trap.place:trap.width] = trap.written
+        elif trap.written is None:
+            return guest.region_read(hit.slot, hit.region, hit.offset, trap.width)
+        else:
+            guest.region_write(hit.slot, hit.region, hit.offset, trap.written, trap.width)
+    return (1 << 8 * trap.width) - 1 if trap.written is None else trap.written
 
 
 def ring(guest: Guest, hit: Hit) -> None:
-    """The device serves a ring: it counts it, and sets the bit of STATUS."""
+    """The device serves a ring: it counts it, sets the bit of STATUS, and drives its pin if its driver lets it."""
     rings = guest.device_read(hit.slot, COUNT, region=hit.region, width=4)
     guest.device_write(hit.slot, COUNT, rings + 1 & 0xFFFFFFFF, region=hit.region, width=4)
     guest.raise_bits(hit.slot, STATUS, SERVED, region=hit.region)
-    print("ring")
+    interrupt = guest.function(hit.slot).interrupt
+    print(f"ring, INT{'-ABCD'[interrupt.pin]}# {'off' if interrupt.is_disabled else 'on'}")
 
 
 def tell_traps(guest: Guest) -> None:
@@ -73,7 +78,7 @@ def step(guest: Guest, trap: Trap) -> None:
     name = "read " if trap.written is None else "write"
     space = "port" if trap.space == "io" else trap.space
     is_here, hit = find(guest, trap)
-    value = f"0x{serve(guest, trap):0{2 * trap.width}x}" if is_here else "nobody here"
+    value = f"0x{serve(guest, trap, hit):0{2 * trap.width}x}" if is_here else "nobody here"
     print(f"{name} {space} {trap.place:#x} {trap.width}: {value}")
     if hit is not None and trap.written is not None:
         act(guest, trap, hit)
@@ -112,26 +117,18 @@ ACCESSES = (
     register(STATUS, 8),  # STATUS and COUNT at once
     register(STATUS, 1, SERVED),  # it clears STATUS, and leaves COUNT
     register(COUNT, 4, 1),
+    select(0, 0x04),
+    data(2, 0x0402),  # no interrupts any more; where its region stands isn't told again
     register(COUNT + 2, 8, 0),  # across alignment, and over the doorbell
     register(STATUS, 8),
     Trap("memory", 0xD0000000, 4),  # nobody there
 )
 
 
-def main() -> int:
-    if len(sys.argv) != 2:
-        print("device.py BOARD", file=sys.stderr)
-        return 2
-    try:
-        with open(sys.argv[1], "rb") as file, Machine(file.read()) as machine:
-            guest = machine.guest("a")
-            for trap in ACCESSES:
-                step(guest, trap)
-    except (OSError, Refusal) as error:
-        print(f"device.py: {error}", file=sys.stderr)
-        return 1
-    return 0
-
-
 if __name__ == "__main__":
-    sys.exit(main())
+    if len(sys.argv) != 2:
+        sys.exit("device.py BOARD")
+    with Machine.load(sys.argv[1]) as machine:
+        a = machine.guest("a")
+        for access in ACCESSES:
+            step(a, access)

@@ -84,30 +84,16 @@ static void log_region(FILE *log, const struct seat *seat, unsigned bar, const s
                 region->size, region->is_open ? "open" : "closed");
 }
 
-static bool is_same(const struct pciguest_region *one, const struct pciguest_region *other)
-{
-    return one->first == other->first && one->size == other->size && one->space == other->space &&
-           one->prefetchable == other->prefetchable && one->is_open == other->is_open;
-}
-
 void log_regions(struct board *board, struct seat *seat)
 {
-    uint64_t changes = 0;
+    const struct pciguest_place *places = &seat->places[PCIGUEST_BARS * seat->slot];
+    size_t moved = 0;
 
-    if (!board->log || pciguest_changed(&board->machine, seat->index, &changes) != 0)
-        return;
-    if (seat->is_told && changes == seat->changes)
-        return; /* no region of this guest stands elsewhere */
-    seat->is_told = true;
-    seat->changes = changes;
-    for (unsigned bar = 0; bar < REGISTERS; bar++) {
-        struct pciguest_region now = {0}, *told = &seat->regions[bar];
-
-        (void)pciguest_region(&board->machine, seat->index, seat->slot, bar, &now); /* none: its size stays 0 */
-        if (!is_same(&now, told))
-            log_region(board->log, seat, bar, &now);
-        *told = now;
-    }
+    if (board->log)
+        (void)pciguest_moved(&board->machine, seat->index, seat->places, PCIGUEST_PLACES, &moved);
+    for (unsigned bar = 0; moved && bar < PCIGUEST_BARS; bar++)
+        if (places[bar].has_moved)
+            log_region(board->log, seat, bar, &places[bar].now);
 }
 
 /* An empty slot of a seat's guest; false where none is. */
@@ -180,7 +166,7 @@ static bool find_hit(struct board *board, const struct seat *seat, const struct 
 
     return !is_latch &&
            pciguest_locate(&board->machine, seat->index, access->space, seat->slot, access->place, hit) == 0 &&
-           hit->found && hit->slot == seat->slot && hit->part < REGISTERS;
+           hit->found && hit->slot == seat->slot && hit->part < PCIGUEST_BARS;
 }
 
 /* An access that a machine sends to a region of this function, and no other: elsewhere it hits nothing. */

@@ -9,16 +9,12 @@
 
 #include <stdio.h>
 
-enum { REGISTERS = 6 /* base address registers of a function */ };
-
 /* A slot of a guest. */
 struct seat {
     const char *guest; /* its name, and its index */
     size_t index;
     uint64_t slot;
-    struct pciguest_region regions[REGISTERS]; /* as the log has them; size 0: none begins at this register */
-    bool is_told;                              /* whether the log has them, as they stood at this count */
-    uint64_t changes;
+    struct pciguest_place places[PCIGUEST_PLACES]; /* where the guest's regions stand, as the log has them */
 };
 
 struct board {

@@ -1,15 +1,10 @@
 //! A device model over pciguest: what a hypervisor does with the accesses that it traps (`serve`), and what the device
-//! does when its driver rings (`act`). It is `examples/c/device.c` over the wrapper in `pciguest.rs`, and prints the same.
+//! does when its driver rings (`act`). It is `examples/c/device.c` over the crate in `library/rust`, and prints the same.
 //! Then it asks the same of the machine by a line of a script.
 //!
 //!     device BOARD      examples/device.toml, whose guest `a` has this device
 
-// a wrapper offers more than one program uses
-#[allow(dead_code)]
-mod pciguest;
-
-use pciguest::{At, Fault, Hit, Machine, Part, Places};
-use std::process::ExitCode;
+use pciguest::{At, Error, Guest, Hit, Machine, Part, Places, Space};
 
 /// The registers of the device's region: bit 0 of STATUS says that a ring was served, and writing a one clears it; COUNT
 /// says how many were, and a driver only reads it; a write of DOORBELL rings.
@@ -29,7 +24,7 @@ struct Trap {
 /// The machine of the board, the guest whose processor it is, and where its regions were told to stand.
 struct Board {
     machine: Machine,
-    guest: usize,
+    guest: Guest,
     places: Places,
 }
 
@@ -39,47 +34,48 @@ impl Board {
         self.machine.locate(self.guest, trap.at).ok().flatten()
     }
 
-    /// Serves one access, and gives what is read. A real bus has no refusal: a write that no one takes is lost.
-    fn serve(&mut self, trap: Trap) -> u64 {
-        match trap.written {
-            Some(value) => {
-                let _ = self.machine.write_wide(self.guest, trap.at, trap.width, value);
-                value
+    /// Serves one access, and gives what is read or written: of a region by its slot, its register and the offset, as `find`
+    /// told them, and else by the port. A real bus has no refusal: a write that no one takes is lost.
+    fn serve(&mut self, trap: Trap, hit: Option<Hit>) -> u64 {
+        let (machine, guest, Trap { at, width, written }) = (&mut self.machine, self.guest, trap);
+        let served = match (hit, written) {
+            (Some(Hit { slot, part: Part::Region(register), offset }), Some(value)) => {
+                machine.region_write(guest, slot, register, offset, width, value).map(|()| value)
             }
-            None => self
-                .machine
-                .read_wide(self.guest, trap.at, trap.width)
-                .unwrap_or(u64::MAX),
-        }
+            (Some(Hit { slot, part: Part::Region(register), offset }), None) => {
+                machine.region_read(guest, slot, register, offset, width)
+            }
+            (_, Some(value)) => machine.write_wide(guest, at, width, value).map(|()| value),
+            (_, None) => machine.read_wide(guest, at, width),
+        };
+        served.unwrap_or(written.unwrap_or(u64::MAX))
     }
 
-    /// The device serves a ring: it counts it, and sets the bit of STATUS.
-    fn ring(&mut self, hit: Hit) -> Result<(), Fault> {
-        let Hit { slot, part, .. } = hit;
-        let rings = self.machine.device_read_wide(self.guest, slot, part, COUNT, 4)?;
-        self.machine.device_write_wide(self.guest, slot, part, COUNT, 4, rings.wrapping_add(1))?;
-        self.machine.raise(self.guest, slot, part, STATUS, SERVED)?;
-        println!("ring");
+    /// The device serves a ring: it counts it, sets the bit of STATUS, and drives its pin if its driver lets it.
+    fn ring(&mut self, Hit { slot, part, .. }: Hit) -> Result<(), Error> {
+        let (machine, guest) = (&mut self.machine, self.guest);
+        let rings = machine.device_read_wide(guest, slot, part, COUNT, 4)?;
+        machine.device_write_wide(guest, slot, part, COUNT, 4, rings.wrapping_add(1))?;
+        machine.raise(guest, slot, part, STATUS, SERVED)?;
+        let interrupt = machine.slot_function(guest, slot)?.interrupt;
+        let pin = char::from(b"-ABCD"[usize::from(interrupt.pin)]);
+        println!("ring, INT{pin}# {}", if interrupt.is_disabled { "off" } else { "on" });
         Ok(())
     }
 
     /// Tells which addresses have to be trapped from here on.
-    fn tell_traps(&mut self) -> Result<(), Fault> {
-        let regions = self.machine.moved(self.guest, &mut self.places)?;
-        for region in regions.iter().filter(|region| region.is_open) {
-            let space = if region.is_io { "port" } else { "memory" };
-            println!(
-                "trap {space} {:#x} to {:#x}",
-                region.first,
-                region.first + region.size - 1
-            );
+    fn tell_traps(&mut self) -> Result<(), Error> {
+        let moved = self.machine.moved(self.guest, &mut self.places)?;
+        for region in moved.iter().filter_map(|it| it.now).filter(|now| now.is_open) {
+            let space = if region.space == Space::Io { "port" } else { "memory" };
+            println!("trap {space} {:#x} to {:#x}", region.first, region.first + region.size - 1);
         }
         Ok(())
     }
 
     /// After a write: regions may stand elsewhere where configuration space was hit, and the device acts where its doorbell
     /// was. An access that begins before the doorbell may ring it too.
-    fn act(&mut self, trap: Trap, hit: Hit) -> Result<(), Fault> {
+    fn act(&mut self, trap: Trap, hit: Hit) -> Result<(), Error> {
         let rings = hit.offset < DOORBELL + 4 && hit.offset + u64::from(trap.width) > DOORBELL;
         match hit.part {
             Part::Config => self.tell_traps(),
@@ -89,7 +85,7 @@ impl Board {
     }
 
     /// Serves an access, prints it, and lets the device act.
-    fn step(&mut self, trap: Trap) -> Result<(), Fault> {
+    fn step(&mut self, trap: Trap) -> Result<(), Error> {
         let (space, place) = match trap.at {
             At::Config { offset, .. } => ("config", offset),
             At::Io { port } => ("port", port),
@@ -98,20 +94,13 @@ impl Board {
         let name = if trap.written.is_some() { "write" } else { "read " };
         print!("{name} {space} {place:#x} {}: ", trap.width);
         // four bytes at CF8h are CONFIG_ADDRESS, which is always here
-        let is_selection = matches!(
-            trap,
-            Trap {
-                at: At::Io { port: 0xcf8 },
-                width: 4,
-                ..
-            }
-        );
+        let is_selection = (trap.at, trap.width) == (At::Io { port: 0xcf8 }, 4);
         let hit = self.find(trap);
         if hit.is_none() && !is_selection {
             println!("nobody here");
             return Ok(());
         }
-        println!("{:#0digits$x}", self.serve(trap), digits = trap.width as usize * 2 + 2);
+        println!("{:#0digits$x}", self.serve(trap, hit), digits = trap.width as usize * 2 + 2);
         match hit {
             Some(hit) if trap.written.is_some() => self.act(trap, hit),
             _ => Ok(()),
@@ -139,9 +128,7 @@ const DATA: At = At::Io { port: 0xcfc };
 /// Firmware that finds the device by the ports CF8h and CFCh, asks for the size of its region and places it; and a driver
 /// that rings, sees what came of it, and clears that.
 fn accesses() -> Vec<Trap> {
-    let register = |offset| At::Memory {
-        address: 0xe000_0000 + offset,
-    };
+    let register = |offset| At::Memory { address: 0xe000_0000 + offset };
     vec![
         select(0, 0x00), // firmware: who is device 0?
         read(DATA, 4),
@@ -160,40 +147,20 @@ fn accesses() -> Vec<Trap> {
         read(register(STATUS), 8),                 // STATUS and COUNT at once
         write(register(STATUS), 1, SERVED.into()), // it clears STATUS, and leaves COUNT
         write(register(COUNT), 4, 1),
+        select(0, 0x04),
+        write(DATA, 2, 0x0402), // no interrupts any more; where its region stands isn't told again
         write(register(COUNT + 2), 8, 0), // across alignment, and over the doorbell
         read(register(STATUS), 8),
         read(At::Memory { address: 0xd000_0000 }, 4), // nobody there
     ]
 }
 
-/// The board of a file, with its guest `a`.
-fn open(bytes: &[u8]) -> Result<Board, Fault> {
-    let mut machine = Machine::new(bytes)?;
-    let guest = machine.guest("a")?;
-    let places = Places::new();
-    Ok(Board { machine, guest, places })
-}
-
 /// Runs the accesses, and asks by a line of a script what the last ring left.
-fn run(board: &mut Board) -> Result<bool, Fault> {
+fn main() -> Result<(), Box<dyn std::error::Error>> {
+    let mut machine = Machine::load(std::env::args().nth(1).ok_or("device BOARD")?)?;
+    let (guest, places) = (machine.guest("a")?, Places::new());
+    let mut board = Board { machine, guest, places };
     accesses().into_iter().try_for_each(|trap| board.step(trap))?;
-    Ok(board.machine.run_line(b"a mr 0xe0000004 4")? == b"a: 0x00000003\n")
-}
-
-fn main() -> ExitCode {
-    let Some(bytes) = std::env::args().nth(1).and_then(|path| std::fs::read(path).ok()) else {
-        eprintln!("device BOARD");
-        return ExitCode::from(2);
-    };
-    match open(&bytes).and_then(|mut board| run(&mut board)) {
-        Ok(true) => ExitCode::SUCCESS,
-        Ok(false) => ExitCode::FAILURE,
-        Err(fault) => {
-            eprintln!("device: fault {fault}");
-            if let (text, Err(_)) = pciguest::check(&bytes) {
-                eprint!("{}", String::from_utf8_lossy(&text));
-            }
-            ExitCode::FAILURE
-        }
-    }
+    assert_eq!(board.machine.run_line("a mr 0xe0000004 4")?.as_deref(), Some("a: 0x00000003"));
+    Ok(())
 }
