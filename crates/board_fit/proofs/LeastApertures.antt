@@ -12,7 +12,7 @@ use Rattle.model_board.specs.Board.{Decl, Board, rows_on}
 use Rattle.model_set_up.specs.Pools.{Pool, io_pool, mem_pool, pref_pool, unit_of, pool_of, aperture_of}
 use Rattle.model_set_up.specs.Placement.{Item, in_order, end_from, round_up, alignment, items_of, items_within, items_on, root_first, fits_items, fits}
 use Rattle.model_set_up.proofs.Packing.{unit_positive, round_up_not_before, round_up_is_multiple}
-use Rattle.window_packing.specs.declared.uses.PoolUse.{PoolUse}
+use Rattle.window_packing.specs.declared.pool_uses.PoolUse.{PoolUse}
 use Rattle.window_packing.specs.Uses.{told_use}
 use Rattle.board_fit.proofs.PoolsOfRegions.{flat_map_alike}
 use Rattle.board_fit.specs.LeastApertures.{with_aperture, Holds, IsLeast, HoldsNone, IsLeastAperture}

@@ -13,7 +13,7 @@ use Rattle.model_set_up.specs.Placement.{fits}
 use Rattle.model_guests.specs.PathTexts.{hexadecimal}
 use Rattle.board_file.specs.Entries.{file}
 use Rattle.window_packing.specs.declared.pool.Pool.{Pool}
-use Rattle.window_packing.specs.declared.uses.PoolUse.{PoolUse}
+use Rattle.window_packing.specs.declared.pool_uses.PoolUse.{PoolUse}
 use Rattle.window_packing.specs.Plans.{named_pool}
 use Rattle.diagnostics.specs.declared.style.Style.{Style}
 use Rattle.board_fit.specs.declared.pool_region.PoolRegion.{PoolRegion}

@@ -11,7 +11,7 @@ use Rattle.model_guests.specs.Text.{Text}
 use Rattle.model_guests.specs.PathTexts.{hexadecimal}
 use Rattle.window_packing.specs.declared.pool.Pool.{Pool}
 use Rattle.window_packing.specs.declared.pool.Pool.TheVariants.{Io, Mem, Pref}
-use Rattle.window_packing.specs.declared.uses.PoolUse.{PoolUse}
+use Rattle.window_packing.specs.declared.pool_uses.PoolUse.{PoolUse}
 use Rattle.window_packing.specs.Plans.{named_pool}
 use Rattle.window_packing.specs.Uses.{told_use}
 use Rattle.board_fit.specs.Shortages.{pool_words}

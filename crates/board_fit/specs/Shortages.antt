@@ -16,7 +16,7 @@ use Rattle.bus_scan.specs.declared.fault.Fault.{Fault}
 use Rattle.bus_scan.specs.declared.fault.Fault.TheVariants.{Buses, NoIoWindow, IoPool, MemoryPool, PrefetchablePool, Memory}
 use Rattle.window_packing.specs.declared.pool.Pool.{Pool}
 use Rattle.window_packing.specs.declared.pool.Pool.TheVariants.{Io, Mem, Pref}
-use Rattle.window_packing.specs.declared.uses.PoolUse.{PoolUse}
+use Rattle.window_packing.specs.declared.pool_uses.PoolUse.{PoolUse}
 use Rattle.window_packing.specs.Plans.{named_pool}
 use Rattle.window_packing.specs.Uses.{told_use}
 use Rattle.board_fit.specs.declared.shortage.Shortage.{Shortage}

@@ -16,7 +16,7 @@ use Rattle.board_file.specs.EntryRules.{are_same_place}
 use Rattle.board_file.specs.PathTexts.{path_at}
 use Rattle.window_packing.specs.declared.pool.Pool.{Pool}
 use Rattle.window_packing.specs.declared.pool.Pool.TheVariants.{Io, Mem, Pref}
-use Rattle.window_packing.specs.declared.uses.PoolUse.{PoolUse}
+use Rattle.window_packing.specs.declared.pool_uses.PoolUse.{PoolUse}
 use Rattle.window_packing.specs.Plans.{named_pool}
 use Rattle.window_packing.specs.Uses.{told_use}
 use Rattle.board_fit.specs.declared.remark.Remark.{Remark}

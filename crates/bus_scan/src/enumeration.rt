@@ -15,8 +15,8 @@ ghost use Rattle.bus_scan.specs.Scans.{given, ComesTo, OnBus, IsBridgeThere, IsR
 ghost use Rattle.bus_scan.specs.Sights.{seen_of};
 ghost use Rattle.bus_scan.specs.Rows.{decl_of, range_of};
 
+use crate::bus_parts::{DEEPEST, PARTS, address, next_part, path_on};
 use crate::fault::Fault;
-use crate::parts::{DEEPEST, PARTS, address, next_part, path_on};
 use crate::seen::{Layout, Seen, look};
 use crate::table::{Found, FunctionRow, FunctionTable};
 use bridge_forward::Part;

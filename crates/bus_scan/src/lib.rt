@@ -5,9 +5,9 @@
 //! Architecture 1.2, chapter 3.2.5).
 #![tactic(auto)]
 
+mod bus_parts;
 mod enumeration;
 mod fault;
-mod parts;
 mod seen;
 mod sizing;
 mod table;

@@ -4,7 +4,7 @@
 //! Bridge Architecture 1.2, chapter 4).
 #![tactic(auto)]
 
-mod gather;
+mod open_regions;
 mod region_entry;
 mod search;
 mod table;

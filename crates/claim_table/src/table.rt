@@ -2,7 +2,7 @@
 ghost use Rattle.std.specs.Prelude.{◌≡◌, IfOk, map};
 ghost use Rattle.model_board.specs.Routing.{RoutingRow as RowValue};
 
-use crate::gather::open_by_address;
+use crate::open_regions::open_by_address;
 use crate::region_entry::RegionEntry;
 use crate::search::{entry_at, of_space};
 use bridge_forward::RoutingRow;

@@ -8,7 +8,7 @@ use Rattle.model_board.specs.Paths.{Path, path_eq}
 use Rattle.model_board.specs.State.{BoardFunction}
 use Rattle.model_board.specs.Cycles.{secondary_register, taker, BusAddress, reached}
 use Rattle.model_lines.specs.Ways.{takers, takers_by, takers_down, WayEnd, on_bus, no_taker, end_by, way_end, takers_on_way, end_of, Missing, missing_at, missing, has_number, is_found, WhyNumber, why_number}
-use Rattle.findings.specs.declared.way.Taken.{Taken}
+use Rattle.findings.specs.declared.cycle_way.Taken.{Taken}
 use Rattle.findings.specs.WhyByRows.{selected}
 use Rattle.findings.specs.WhyOnWay.{taken, missing_by, is_unfound, unfound}
 

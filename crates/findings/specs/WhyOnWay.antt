@@ -13,9 +13,9 @@ use Rattle.model_findings.specs.Found.{address_now}
 use Rattle.model_lines.specs.Ways as ways
 use Rattle.findings.specs.Bridges.{is_there}
 use Rattle.findings.specs.WhyByRows.{selected}
-use Rattle.findings.specs.declared.way.WayEnd.{WayEnd}
-use Rattle.findings.specs.declared.way.WayEnd.TheVariants.{OnBus, NoTaker}
-use Rattle.findings.specs.declared.way.Taken.{Taken}
+use Rattle.findings.specs.declared.cycle_way.WayEnd.{WayEnd}
+use Rattle.findings.specs.declared.cycle_way.WayEnd.TheVariants.{OnBus, NoTaker}
+use Rattle.findings.specs.declared.cycle_way.Taken.{Taken}
 
 -- no path names bus 0
 abbrev pub end_told : WayEnd → ways.WayEnd

@@ -3,10 +3,10 @@ ghost use Rattle.std.specs.Prelude.{◌≡◌, map, IfOk};
 ghost use Rattle.model_findings.specs.Problems.{problems, routing_problems};
 ghost use Rattle.findings.specs.Findings.{problem_of};
 
+use crate::agents::agents;
 use crate::blame::{Charge, all_blames};
 use crate::contention::add_all_contentions;
 use crate::forwarding::add_forwarding;
-use crate::gather::agents;
 use crate::numbering::add_numbering;
 use crate::problem::Problem;
 use crate::span::crowded;

@@ -8,7 +8,7 @@ ghost use Rattle.findings.specs.Extents.{extent_of};
 ghost use Rattle.findings.specs.Findings.{problem_of};
 
 use crate::agent::Agent;
-use crate::missed::lesser;
+use crate::missed_address::lesser;
 use crate::problem::Problem;
 use crate::row::is_same_space;
 use bridge_forward::Window;

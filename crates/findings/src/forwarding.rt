@@ -5,7 +5,7 @@ ghost use Rattle.findings.specs.Blames.{unforwarded_problem};
 ghost use Rattle.findings.specs.Findings.{problem_of};
 
 use crate::blame::Blame;
-use crate::missed::first_missed;
+use crate::missed_address::first_missed;
 use crate::problem::Problem;
 use crate::region::RegionNow;
 use crate::row::forwarded;

@@ -13,21 +13,22 @@
 
 mod address_why;
 mod agent;
+mod agents;
 mod audit;
 mod blame;
 mod bus_addresses;
 mod causes;
 mod contention;
+mod cycle_way;
 mod forwarding;
-mod gather;
 mod hindering;
 mod holding;
 mod identities;
 mod lack;
-mod missed;
+mod missed_address;
 mod number_why;
 mod numbering;
-mod outside;
+mod outside_apertures;
 mod path_texts;
 mod port_why;
 mod prefetching;
@@ -39,7 +40,6 @@ mod regions;
 mod row;
 mod span;
 mod stopping;
-mod way;
 mod why_forwarding;
 
 pub use address_why::why_address;

@@ -8,8 +8,8 @@ ghost use Rattle.paths.specs.BusAddresses.{bus_address_of};
 ghost use Rattle.findings.specs.WhyOnWay.{end_told, missing_by, is_unfound, unfound};
 ghost use Rattle.findings.specs.WhyTold.{missing_told, number_told};
 
+use crate::cycle_way::{Way, WayEnd, way_down};
 use crate::numbering::{address_now, is_there};
-use crate::way::{Way, WayEnd, way_down};
 use bridge_forward::{Path, RoutingRow};
 use host_bridge::{Bdf, Host};
 use std::alloc::{AllocError, Global};

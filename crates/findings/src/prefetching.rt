@@ -10,7 +10,7 @@ ghost use Rattle.findings.specs.Findings.{lack_of};
 
 use crate::blame::Blame;
 use crate::lack::Lack;
-use crate::missed::lesser;
+use crate::missed_address::lesser;
 use crate::region::RegionNow;
 use crate::row::{is_in, opens};
 use bars::Space;

@@ -6,7 +6,7 @@ ghost use Rattle.findings.specs.Findings.{lack_of};
 use crate::audit::problems;
 use crate::blame::{Charge, all_blames};
 use crate::lack::Lack;
-use crate::outside::add_outside;
+use crate::outside_apertures::add_outside;
 use crate::prefetching::add_prefetched;
 use crate::primaries::add_primaries;
 use crate::region::RegionNow;

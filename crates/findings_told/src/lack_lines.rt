@@ -7,8 +7,8 @@ ghost use Rattle.findings_told.specs.Lines.{lack_lines};
 ghost use Rattle.model_guests.specs.Text.{ended};
 
 use crate::counts::Counted;
-use crate::places::ShownRegion;
 use crate::problem_lines::ProblemCount;
+use crate::region_texts::ShownRegion;
 use findings::Lack;
 use report::{ShownPath, TwoDigits};
 use std::alloc::AllocError;

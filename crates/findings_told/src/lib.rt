@@ -10,8 +10,8 @@
 mod counted;
 mod counts;
 mod lack_lines;
-mod places;
 mod problem_lines;
+mod region_texts;
 mod why_address_lines;
 mod why_line;
 mod why_lines;
@@ -24,7 +24,7 @@ pub use counted::{CountedText, audit_text, ready_text};
 pub use findings::{Bdf, Lack, Problem, Space};
 pub use headers::Apertures;
 pub use host_bridge::Host;
-pub use places::numbers;
 pub use problem_lines::push_problem;
+pub use region_texts::numbers;
 pub use why_parts::ShownCommand;
 pub use why_texts::{push_use, why_number_text, why_port_text, why_text};

@@ -9,7 +9,7 @@ ghost use Rattle.findings_told.specs.Lines.{problem_lines};
 ghost use Rattle.model_guests.specs.Text.{ended};
 
 use crate::counts::Counted;
-use crate::places::{Hexadecimal, Reached, ShownRegion, space_name};
+use crate::region_texts::{Hexadecimal, Reached, ShownRegion, space_name};
 use findings::{Agent, Bdf, Problem, RegionNow};
 use paths::Path;
 use report::{Numbers, ShownPath};

@@ -8,7 +8,7 @@ ghost use Rattle.model_lines.specs.WhyText.{no_claim_text};
 ghost use Rattle.findings.specs.WhyTold.{hindrance_told, cause_told, forwarder_told, region_told, why_told};
 ghost use Rattle.findings_told.specs.WhyLines.{address_head, answer_text};
 
-use crate::places::{ShownRegion, space_name};
+use crate::region_texts::{ShownRegion, space_name};
 use crate::why_parts::{ShownCommand, ShownWindows};
 use bars::Space;
 use bridge_forward::Claim;

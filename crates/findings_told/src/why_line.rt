@@ -6,7 +6,7 @@ ghost use Rattle.model_lines.specs.WhyText.{why_line};
 ghost use Rattle.findings_told.specs.WhyLines.{line_text};
 
 use crate::counts::Counted;
-use crate::places::{Reached, numbers};
+use crate::region_texts::{Reached, numbers};
 use crate::why_address_lines::{ShownAddress, ShownTold, push_forwarder};
 use crate::why_number_lines::{ShownMissing, push_not_found};
 use crate::why_port_lines::push_port;

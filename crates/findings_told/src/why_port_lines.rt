@@ -5,7 +5,7 @@ ghost use Rattle.model_lines.specs.WhyPorts.{port_text, latch_text};
 ghost use Rattle.findings.specs.WhyTold.{use_told};
 ghost use Rattle.findings_told.specs.WhyLines.{use_text};
 
-use crate::places::numbers;
+use crate::region_texts::numbers;
 use findings::PortUse;
 use std::alloc::AllocError;
 use std::fmt;

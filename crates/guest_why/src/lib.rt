@@ -8,13 +8,13 @@ ghost use Rattle.guest_why.specs.Alone.{EqualGuests, EqualAlong};
 
 mod closed;
 mod finding;
-mod parts;
-mod whole;
+mod finding_lines;
+mod text;
 
 pub use closed::ClosedInSlot;
 pub use finding::{Finding, WhyFault, find};
 pub use monitor::{At, Monitor};
-pub use whole::guest_why_text;
+pub use text::guest_why_text;
 
 /// Guests that hold the same are told the same, whatever stands on their boards and whoever else is there; and so they
 /// are after any calls, gifts, takings, loads and restarts of which the same is their own.

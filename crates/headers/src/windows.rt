@@ -8,7 +8,7 @@ ghost use Rattle.headers.specs.WindowPairs.{pair_of};
 
 use crate::bridge_decl::BridgeDecl;
 use crate::decodes::{IoDecode, PrefDecode};
-use crate::words::number;
+use crate::register_words::number;
 use config_bytes::Cells;
 
 /// A window is empty where its base is above its limit.

@@ -17,7 +17,7 @@ use Rattle.bars.specs.declared.region.BasedRegion.{BasedRegion}
 use Rattle.bars.specs.Slots as bars
 use Rattle.monitor.specs.declared.guest.Held.{Held}
 use Rattle.monitor.specs.declared.guest.Guest.{Guest}
-use Rattle.monitor.specs.declared.own.OwnRegisters.{OwnRegisters}
+use Rattle.monitor.specs.declared.own_registers.OwnRegisters.{OwnRegisters}
 use Rattle.monitor.specs.Keeping.{IsHeld, AreSlots}
 use Rattle.monitor.specs.ByIndex.{guest_nth, lone_nth}
 use Rattle.monitor.specs.Queries.{IsGuestNth}

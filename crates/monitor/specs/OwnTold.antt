@@ -8,7 +8,7 @@ use Rattle.bars.specs.Slots.{bases_from}
 use Rattle.model_registers.specs.Registers.{File}
 use Rattle.model_registers.specs.OwnCopies.{OwnCopies}
 use Rattle.model_registers.specs.Decoding.{Function, base, base_address, command_word}
-use Rattle.monitor.specs.declared.own.OwnRegisters.{OwnRegisters}
+use Rattle.monitor.specs.declared.own_registers.OwnRegisters.{OwnRegisters}
 
 abbrev pub own_now : Function → OwnCopies
 own_now f = record { command = command_word f.file; bases = map (base_address f.file) f.decl.regions }

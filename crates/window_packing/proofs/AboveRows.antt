@@ -16,7 +16,7 @@ use Rattle.model_set_up.specs.FunctionTable.{TableRow, board_in}
 use Rattle.model_board.proofs.PathOrder.{path_same, leads_before}
 use Rattle.model_board.proofs.PathEnds.{snoc, length_snoc, leads_self, not_before_itself, no_turn, leads_longer}
 use Rattle.bridge_forward.proofs.Extents.{between}
-use Rattle.window_packing.specs.declared.above.Above.{Above}
+use Rattle.window_packing.specs.declared.bridges_above.Above.{Above}
 use Rattle.window_packing.specs.Buses.{bus_path, nothing_above, behind, AreAbove}
 use Rattle.window_packing.proofs.BridgesAbove.{Tells, tells_root, tells_behind}
 

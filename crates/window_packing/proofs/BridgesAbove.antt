@@ -14,7 +14,7 @@ use Rattle.model_board.proofs.PathEnds.{snoc, leads_up, leads_self, leads_trans,
 use Rattle.lists.proofs.Members.{each_in, from_flat_map, in_flat_map, from_filter, in_filter, all_in, all_from}
 use Rattle.lists.proofs.Indices.{index_in}
 use Rattle.lists.proofs.Members.{pair_in}
-use Rattle.window_packing.specs.declared.above.Above.{Above}
+use Rattle.window_packing.specs.declared.bridges_above.Above.{Above}
 use Rattle.window_packing.specs.Buses.{bus_path, nothing_above, behind}
 
 -- ---- one row

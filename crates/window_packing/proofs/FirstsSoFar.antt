@@ -13,7 +13,7 @@ use Rattle.model_board.specs.Lawful.{HasLawfulDecls}
 use Rattle.model_set_up.specs.Pools.{Pool}
 use Rattle.model_set_up.specs.Placement.{a_window, is_item, spots, offset_in, items_on, fits, bus_first}
 use Rattle.lists.proofs.Indices.{same_at, index_in}
-use Rattle.window_packing.specs.declared.above.Above.{Above}
+use Rattle.window_packing.specs.declared.bridges_above.Above.{Above}
 use Rattle.window_packing.specs.Buses.{bus_path, AreAbove}
 use Rattle.window_packing.specs.Packs.{BusPack, pack_of, packs_of}
 use Rattle.window_packing.specs.Placed.{bus_paths}

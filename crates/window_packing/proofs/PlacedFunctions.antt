@@ -15,7 +15,7 @@ use Rattle.model_set_up.specs.SetUp.{first_of, window_of}
 use Rattle.lists.proofs.Members.{each_in, each_from}
 use Rattle.model_set_up.proofs.Items.{item_of}
 use Rattle.lists.proofs.Indices.{same_at, index_in}
-use Rattle.window_packing.specs.declared.above.Above.{Above}
+use Rattle.window_packing.specs.declared.bridges_above.Above.{Above}
 use Rattle.window_packing.specs.Buses.{bus_path}
 use Rattle.window_packing.specs.Packs.{BusPack, pack_of}
 use Rattle.window_packing.specs.Placed.{bus_paths, PlacedPool, IsPlaced, Placement, IsPlacement, pool_in, IsAboveAt, IsRegionAt}

@@ -13,7 +13,7 @@ use Rattle.model_set_up.specs.Pools.{Pool, bridges_above}
 use Rattle.model_registers.specs.Apertures.{Apertures}
 use Rattle.model_set_up.specs.Placement.{Item, items_of, items_on}
 use Rattle.lists.proofs.Indices.{map_at, each_at}
-use Rattle.window_packing.specs.declared.above.Above.{Above}
+use Rattle.window_packing.specs.declared.bridges_above.Above.{Above}
 use Rattle.window_packing.specs.Buses.{bus_path, AreAbove}
 use Rattle.window_packing.specs.Packs.{BusPack, pack_of, IsBounded, IsOver}
 use Rattle.window_packing.proofs.BusIndices.{bus_before}

@@ -10,7 +10,7 @@ use Rattle.model_set_up.specs.Pools.{Pool, unit_of}
 use Rattle.model_registers.specs.Apertures.{Apertures}
 use Rattle.model_set_up.specs.Placement.{Item, in_order, end_from, root_first, aperture_end, fits_items, fits, items_on}
 use Rattle.model_set_up.proofs.Items.{IsPlaceable, some_end, items_placeable}
-use Rattle.window_packing.specs.declared.uses.PoolUse.{PoolUse}
+use Rattle.window_packing.specs.declared.pool_uses.PoolUse.{PoolUse}
 use Rattle.window_packing.specs.Uses.{use_by, told_use}
 
 room : (first end limit : ℕ) → 0 < end → nat_le (first + end) limit ≡ nat_le end (limit - first)

@@ -9,7 +9,7 @@ use Rattle.lists.specs.Elements.{Each}
 use Rattle.model_board.specs.Paths.{Path, parent}
 use Rattle.model_board.specs.Board.{Decl, endpoint, bridge, Row, Board}
 use Rattle.model_set_up.specs.Pools.{bridges_above, has_io, has_pref, has_pref64}
-use Rattle.window_packing.specs.declared.above.Above.{Above}
+use Rattle.window_packing.specs.declared.bridges_above.Above.{Above}
 
 abbrev pub bus_path : Board → ℕ → Path
 bus_path b zero = []

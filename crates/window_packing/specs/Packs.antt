@@ -19,7 +19,7 @@ use Rattle.model_registers.specs.Apertures.{Apertures}
 use Rattle.model_set_up.specs.Placement.{a_window, Item, region_item, in_order, end_from, Spot, spots, alignment, round_up, items_on}
 use Rattle.model_set_up.specs.OrderLaws.{IsOrderOf}
 use Rattle.bars.specs.Resets.{reset_from}
-use Rattle.window_packing.specs.declared.above.Above.{Above}
+use Rattle.window_packing.specs.declared.bridges_above.Above.{Above}
 
 pub record BusPack : Type 0 where
   pub spots : List Spot

@@ -15,7 +15,7 @@ use Rattle.lists.specs.Elements.{IsIn}
 use Rattle.model_board.specs.Board.{endpoint, Row, Board}
 use Rattle.model_set_up.specs.Pools.{Pool, io_pool, mem_pool, pref_pool, is_io}
 use Rattle.model_set_up.specs.Placement.{fits, bus_first}
-use Rattle.window_packing.specs.declared.above.Above.{Above}
+use Rattle.window_packing.specs.declared.bridges_above.Above.{Above}
 use Rattle.window_packing.specs.Buses.{AreAbove}
 use Rattle.window_packing.specs.Packs.{BusPack, packs_of}
 

@@ -6,7 +6,7 @@ use Rattle.model_board.specs.Board.{Board}
 use Rattle.model_set_up.specs.Pools.{Pool}
 use Rattle.model_registers.specs.Apertures.{Apertures}
 use Rattle.model_set_up.specs.Placement.{Item, in_order, end_from, items_on, root_first, aperture_end}
-use Rattle.window_packing.specs.declared.uses.PoolUse.{PoolUse}
+use Rattle.window_packing.specs.declared.pool_uses.PoolUse.{PoolUse}
 
 -- by the items of bus 0
 abbrev pub use_by : Apertures → Pool → List Item → PoolUse

@@ -6,7 +6,7 @@ ghost use Rattle.window_packing.specs.Plans.{named_pool};
 ghost use Rattle.window_packing.specs.Packs.{IsOver, pool_items, regions_from, window_of, own_items};
 ghost use Rattle.model_set_up.specs.Pools.{unit_of};
 
-use crate::above::Above;
+use crate::bridges_above::Above;
 use crate::item::Item;
 use crate::layout_row::Placed;
 use crate::pack::{BusPack, round_up};

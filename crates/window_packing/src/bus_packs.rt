@@ -10,7 +10,7 @@ ghost use Rattle.window_packing.specs.Plans.{named_pool};
 ghost use Rattle.window_packing.specs.Buses.{AreAbove};
 ghost use Rattle.window_packing.specs.Packs.{pack_of, packs_of, IsBounded};
 
-use crate::above::Above;
+use crate::bridges_above::Above;
 use crate::bus_items::push_own;
 use crate::item::Item;
 use crate::pack::{BusPack, pack_bus};

@@ -18,8 +18,8 @@
 //! ```
 #![tactic(auto)]
 
-mod above;
 mod board_plan;
+mod bridges_above;
 mod bus_items;
 mod bus_packs;
 mod item;
@@ -29,20 +29,20 @@ mod pack;
 mod planning;
 mod pool;
 mod pool_placement;
+mod pool_uses;
 mod programming;
 mod ready;
 mod rows;
 mod search;
 mod setting;
 mod settings;
-mod uses;
 
 pub use board_plan::Plan;
 pub use layout_row::{Placed, PlanRow};
 pub use model_set_up::flat_need;
 pub use planning::plan;
 pub use pool::Pool;
+pub use pool_uses::{PoolUse, pool_use};
 pub use programming::program;
 pub use ready::{Ready, enumerate, set_up};
 pub use setting::{Setting, WindowSetting, Writes};
-pub use uses::{PoolUse, pool_use};

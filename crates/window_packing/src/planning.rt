@@ -14,8 +14,8 @@ ghost use Rattle.window_packing.specs.Buses.{AreAbove};
 ghost use Rattle.window_packing.specs.Placed.{IsPlacement, is_port};
 ghost use Rattle.window_packing.specs.Plans.{IsRefusal};
 
-use crate::above::{Above, all_above};
 use crate::board_plan::Plan;
+use crate::bridges_above::{Above, all_above};
 use crate::pool::Pool;
 use crate::pool_placement::{Placement, place_pool};
 use crate::rows::all_paths;

@@ -6,7 +6,7 @@ ghost use Rattle.bars.specs.Kinds.{kind_of};
 ghost use Rattle.window_packing.specs.Plans.{named_pool};
 ghost use Rattle.window_packing.specs.Packs.{IsOver};
 
-use crate::above::Above;
+use crate::bridges_above::Above;
 use bars::Kind;
 use headers::{Aperture, Apertures};
 

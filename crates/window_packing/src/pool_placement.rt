@@ -15,7 +15,7 @@ ghost use Rattle.window_packing.specs.Buses.{AreAbove};
 ghost use Rattle.window_packing.specs.Packs.{pack_of, packs_of, IsBounded};
 ghost use Rattle.window_packing.specs.Placed.{bus_paths, IsPlaced, pool_in};
 
-use crate::above::Above;
+use crate::bridges_above::Above;
 use crate::bus_packs::pack_pool;
 use crate::item::Item;
 use crate::layout_row::Placed;

@@ -18,7 +18,7 @@ ghost use Rattle.window_packing.specs.Buses.{AreAbove};
 ghost use Rattle.window_packing.specs.Packs.{pack_items, regions_from};
 ghost use Rattle.window_packing.specs.Placed.{IsPlaced, IsPlacement, IsAboveAt, IsRegionAt, is_bar_in};
 
-use crate::above::Above;
+use crate::bridges_above::Above;
 use crate::item::Item;
 use crate::layout_row::Placed;
 use crate::pack::{BusPack, round_up};

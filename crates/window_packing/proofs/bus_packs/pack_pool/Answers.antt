@@ -9,7 +9,7 @@ use Rattle.model_board.specs.Board.{Row}
 use Rattle.model_set_up.specs.Pools.{bridges_above}
 use Rattle.model_set_up.specs.Placement.{Item}
 use Rattle.window_packing.specs.Plans.{named_pool}
-use Rattle.window_packing.specs.declared.above.Above.{Above}
+use Rattle.window_packing.specs.declared.bridges_above.Above.{Above}
 use Rattle.window_packing.specs.Packs.{BusPack, IsBounded, pack_items, pack_of, own_items}
 use Rattle.window_packing.proofs.PoolEnds.{no_fit, root_past}
 use Rattle.window_packing.proofs.BusItems.{packable, pack_is, end_is, own_is}

@@ -6,7 +6,7 @@ use Rattle.model_board.specs.Board.{Row}
 use Rattle.model_set_up.specs.Pools.{bridges_above, opens_io, has_io}
 use Rattle.model_set_up.specs.FunctionTable.{board_in}
 use Rattle.lists.proofs.Indices.{read_at, map_at, fails_at}
-use Rattle.window_packing.specs.declared.above.Above.{Above}
+use Rattle.window_packing.specs.declared.bridges_above.Above.{Above}
 use Rattle.window_packing.proofs.AboveRows.{length_board, tells_at}
 use Rattle.window_packing.proofs.BusIndex.{row_in}
 use Rattle.window_packing.proofs.PoolSteps.{above_count}

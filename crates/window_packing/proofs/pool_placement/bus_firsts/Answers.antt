@@ -5,7 +5,7 @@ use Rattle.model_board.specs.Paths.{last_part}
 use Rattle.model_set_up.specs.Placement.{bus_first}
 use Rattle.model_set_up.specs.FunctionTable.{TableRow, board_in}
 use Rattle.lists.proofs.Indices.{read_at, same_at, map_at}
-use Rattle.window_packing.specs.declared.above.Above.{Above}
+use Rattle.window_packing.specs.declared.bridges_above.Above.{Above}
 use Rattle.window_packing.specs.Buses.{bus_path}
 use Rattle.window_packing.specs.Plans.{named_pool}
 use Rattle.window_packing.proofs.AboveRows.{length_board}

@@ -14,7 +14,7 @@ use Rattle.model_set_up.specs.FunctionTable.{TableRow, board_in}
 use Rattle.bars.specs.declared.region.BasedRegion.{BasedRegion}
 use Rattle.bars.specs.Slots.{placed}
 use Rattle.lists.proofs.Indices.{read_at, same_at, map_at}
-use Rattle.window_packing.specs.declared.above.Above.{Above}
+use Rattle.window_packing.specs.declared.bridges_above.Above.{Above}
 use Rattle.window_packing.specs.Packs.{BusPack, regions_from}
 use Rattle.window_packing.specs.Placed.{PlacedPool, IsPlaced, Placement, IsPlacement, pool_in, IsAboveAt, IsRegionAt}
 use Rattle.window_packing.specs.Plans.{named_pool}

@@ -1,0 +1,78 @@
+//! What stands above each function.
+ghost use Rattle.std.specs.Prelude.{◌≡◌, ℕ, suc, ◌≤◌, length, slice_get, IfOk};
+ghost use Rattle.model_board.specs.Board.{IsBoard};
+ghost use Rattle.model_set_up.specs.FunctionTable.{TableRow, board_in};
+ghost use Rattle.window_packing.specs.Buses.{behind, nothing_above, AreAbove};
+ghost use Rattle.window_packing.specs.declared.bridges_above.Above.{Above as AboveValue};
+
+use bus_scan::{Found, FunctionRow};
+use headers::{IoDecode, PrefDecode};
+use std::alloc::{AllocError, Global};
+
+/// The index of the bus that a function stands on, where 0 is bus 0 and 1 + n the bus behind the
+/// function of row n; and whether all bridges above have an I/O window, a prefetchable window, and one
+/// of 64 bits.
+#[derive(Clone, Copy)]
+pub(crate) struct Above {
+    pub(crate) bus: usize,
+    pub(crate) io: bool,
+    pub(crate) pref: bool,
+    pub(crate) pref64: bool,
+}
+
+/// What stands above a function on the bus behind the function of a row, by what stands above that one.
+fn behind(bus: usize, row: &FunctionRow, up: Above) -> Above
+    ensures { result ≡ behind bus row.now.decl up }
+{
+    match row.found {
+        Found::Endpoint { pin: _, bars: _ } => Above { bus, ..up },
+        Found::Bridge {
+            secondary: _,
+            subordinate: _,
+            io,
+            pref,
+        } => Above {
+            bus,
+            io: up.io && io != IoDecode::Unimplemented,
+            pref: up.pref && pref != PrefDecode::Unimplemented,
+            pref64: up.pref64 && pref == PrefDecode::Bits64,
+        },
+    }
+}
+
+/// What stands above a function on this bus, by what stands above the functions of the first rows.
+fn on_bus(rows: &[FunctionRow], above: &[Above], bus: usize) -> Above
+    requires known { bus ≤ length above.now }
+    requires there { length above.now ≤ length rows.now }
+    ensures root { bus ≡ 0 → result ≡ nothing_above }
+    ensures others { (n : ℕ) (r : TableRow) (up : AboveValue) → bus ≡ suc n →
+        slice_get rows.now n ≡ Some r
+        → slice_get above.now n ≡ Some up → result ≡ behind bus r.decl up }
+{
+    if bus == 0 {
+        return Above {
+            bus,
+            io: true,
+            pref: true,
+            pref64: true,
+        };
+    }
+    behind(bus, &rows[bus - 1], above[bus - 1])
+}
+
+/// What stands above each function. In path order the bridge of a function's bus is the last function
+/// before it whose path is one part shorter.
+pub(crate) fn all_above(alloc: Global, rows: &[FunctionRow]) -> Result<Vec<Above>, AllocError>
+    requires { IsBoard (board_in rows.now) }
+    ensures { IfOk result (λ v. AreAbove (board_in rows.now) v.items) }
+{
+    let mut list = Vec::with_capacity(alloc, rows.len())?;
+    let mut buses = [0; 17];
+    for i in 0..rows.len() {
+        let row = &rows[i];
+        let depth = row.path.parts().len();
+        list.push(on_bus(rows, &list, buses[depth - 1]))?;
+        buses[depth] = i + 1;
+    }
+    Ok(list)
+}

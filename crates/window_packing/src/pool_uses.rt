@@ -1,0 +1,90 @@
+//! How much of its aperture a pool takes.
+ghost use Rattle.std.specs.Prelude.{◌≡◌, ◌-◌, [], IfOk, IfSome, nat_le};
+ghost use Rattle.model_board.specs.Board.{Board, IsBoard};
+ghost use Rattle.model_board.specs.Lawful.{HasLawfulDecls};
+ghost use Rattle.model_set_up.specs.FunctionTable.{board_in};
+ghost use Rattle.model_set_up.specs.Placement.{aperture_end, fits};
+ghost use Rattle.bus_scan.specs.SizedTables.{IsTableOf};
+ghost use Rattle.window_packing.specs.Buses.{AreAbove};
+ghost use Rattle.window_packing.specs.Packs.{pack_of, IsBounded};
+ghost use Rattle.window_packing.specs.Plans.{named_pool};
+ghost use Rattle.window_packing.specs.Uses.{pool_use, told_use};
+
+use crate::bridges_above::{Above, all_above};
+use crate::bus_packs::pack_pool;
+use crate::pack::BusPack;
+use crate::pool::Pool;
+use crate::pool_placement::{aperture_end, root_first};
+use bus_scan::{FunctionRow, FunctionTable};
+use headers::Apertures;
+use std::alloc::{AllocError, Global};
+
+/// How much of its aperture a pool takes, in bytes.
+#[derive(Clone, Copy, Debug, PartialEq, Eq)]
+pub struct PoolUse {
+    /// The address at which bus 0 begins in the pool: the first in the aperture that is a multiple of the
+    /// greatest alignment.
+    pub first: u64,
+    /// From there to the end of the last region or window.
+    pub extent: u64,
+    /// From there to the end of the aperture.
+    pub room: u64,
+}
+
+/// How much a pool takes, by bus 0 and the end of the aperture.
+fn root_use(apertures: &Apertures, pool: Pool, end: u64, root: &BusPack) -> PoolUse
+    requires end { end ≡ aperture_end apertures.now (named_pool pool) }
+    requires bounded { IsBounded root.now }
+    ensures { (b : Board) → root.now ≡ pack_of b apertures.now (named_pool pool) []
+        → result ≡ pool_use b apertures.now (named_pool pool) }
+{
+    let first = root_first(apertures, pool, root);
+    PoolUse {
+        first,
+        extent: root.end,
+        room: end.saturating_sub(first),
+    }
+}
+
+/// How much a pool takes, by the rows of a table.
+fn rows_use(
+    alloc: Global,
+    pool: Pool,
+    rows: &[FunctionRow],
+    above: &[Above],
+    apertures: &Apertures,
+) -> Result<Option<PoolUse>, AllocError>
+    requires board { IsBoard (board_in rows.now) }
+    requires declarations { HasLawfulDecls (board_in rows.now) }
+    requires above { AreAbove (board_in rows.now) above.now }
+    ensures { IfOk result (λ u.
+        u ≡ told_use (board_in rows.now) apertures.now (named_pool pool)) }
+{
+    let end = aperture_end(apertures, pool);
+    match pack_pool(alloc, pool, rows, above, apertures)? {
+        Some(packs) => Ok(Some(root_use(apertures, pool, end, &packs[0]))),
+        None => Ok(None),
+    }
+}
+
+/// How much of its aperture a pool of a board takes, whether it fits or not. None where that is more than
+/// 2^63 bytes.
+pub fn pool_use(
+    alloc: Global,
+    pool: Pool,
+    table: &FunctionTable,
+    apertures: &Apertures,
+) -> Result<Option<PoolUse>, AllocError>
+    requires { IsTableOf (board_in table.now) table.now }
+
+    // Of whatever board this is the table. The pool fits where it takes no more than there is.
+    ensures value { IfOk result (λ u.
+        (b : Board) → IsTableOf b table.now →
+        u ≡ told_use b apertures.now (named_pool pool)) }
+    ensures fits { IfOk result (λ r. IfSome r (λ u. (b : Board) → IsTableOf b table.now →
+        fits b apertures.now (named_pool pool) ≡ nat_le u.extent u.room)) }
+{
+    let rows = table.rows();
+    let above = all_above(alloc, rows)?;
+    rows_use(alloc, pool, rows, &above, apertures)
+}
