@@ -1,5 +1,5 @@
 -- Reads and writes of the board over a handoff, where a guest has a function.
-use Rattle.std.proofs.Common.{◌≡◌, ℕ, ◌+◌, Bool, true, false, ◌&&◌, cond, List, [], ◌∷◌, Some, None, Option, refl, sym, ap, ◌∙◌, subst, eqb, arith}
+use Rattle.std.proofs.Common.{◌≡◌, ℕ, ◌+◌, Bool, List, [], ◌∷◌, Some, Option, refl, sym, ap, ◌∙◌, subst, arith}
 use Rattle.std.specs.Prelude.{find, option_map}
 use Rattle.std.specs.Option.{option_map_or}
 use Rattle.lists.specs.Elements.{Each, IsIn}
@@ -13,10 +13,10 @@ use Rattle.model_board.specs.Paths.{Path, path_eq}
 use Rattle.model_board.specs.Board.{endpoint, Board}
 use Rattle.model_board.specs.AtReset.{board_at}
 use Rattle.model_board.specs.Claims.{Claim}
-use Rattle.model_board.specs.Cycles.{ends_in, is_route, reached, reached_type0, reached_type1}
+use Rattle.model_board.specs.Cycles.{reached}
 use Rattle.model_board.specs.Ports.{file_at, claim_reply, after_claim_write, target_reply, after_target_write}
-use Rattle.model_board.specs.State.{BoardFunction, State, with_file}
-use Rattle.model_findings.specs.Found.{address_now, IsNumbered, path_reached}
+use Rattle.model_board.specs.State.{BoardFunction, State}
+use Rattle.model_findings.specs.Found.{address_now, IsNumbered}
 use Rattle.model_findings.specs.Orderly.{IsStateOfBoard}
 use Rattle.lists.proofs.FirstFound.{found_in}
 use Rattle.model_guests.specs.Guests.{GuestsNow, file_of}
@@ -92,21 +92,10 @@ module _ (s : State) (state : IsStateOfBoard s.functions) (gs : GuestsNow) (seat
       keeps_reach s state gs seated (address_now s.functions p) ∙ ap (option_map (agreed_function (file_of gs))) handed ∙ ap Some now_is
     where
       among : (o : Option BoardFunction) → reached s.functions (address_now s.functions p) ≡ o → option_map (λ (g : BoardFunction). g.path) o ≡ Some p → reached s.functions (address_now s.functions p) ≡ Some (endpoint_at p f.decl left)
-      among None e h = cc
-      among (Some g) e h =
-          let path : g.path ≡ p = cc in
-          let member : IsIn g s.functions = by (eqb (address_now s.functions p).bus 0) e in
-          let other : find (at_path p) s.functions ≡ Some g = subst (λ (x : Path). find (at_path x) s.functions ≡ Some g) path (found s.functions state g member) in
-          e ∙ sym other ∙ there.found_is
-        where
-          by : (t : Bool) → cond t (reached_type0 s.functions (address_now s.functions p).part) (reached_type1 s.functions (address_now s.functions p).bus (address_now s.functions p).part) ≡ Some g → IsIn g s.functions
-          by true i = (found_in (λ (h : BoardFunction). path_eq h.path ((address_now s.functions p).part ∷ [])) s.functions g i).0
-          by false i = (found_in (λ (h : BoardFunction). ends_in h.path (address_now s.functions p).part && is_route s.functions (address_now s.functions p).bus [] h.path) s.functions g i).0
+      among o e h = grind (arith, found s.functions state, there, found_in)
 
       handed : reached s.functions (address_now s.functions p) ≡ Some (endpoint_at p f.decl left)
-      handed =
-          among (reached s.functions (address_now s.functions p)) refl
-          (each_in (λ (g : BoardFunction). path_reached s.functions g.path ≡ Some g.path) (endpoint_at p f.decl left) s.functions numbered.each there.among)
+      handed = grind (arith, among (reached s.functions (address_now s.functions p)) refl, each_in, there)
 
 pub region_reads : RegionReads
 region_reads s handoff orderly gs seated name n p f has r declared opened k small w =
@@ -142,7 +131,4 @@ cycle_reads s handoff numbered gs seated name n p f has off ons =
 
 pub cycle_writes : CycleWrites
 cycle_writes s state numbered gs seated name n p f has off ons v =
-    ap (λ (o : Option BoardFunction). option_map_or (λ (g : BoardFunction). with_file (write (handed_on (config off) ons) v (config off)) g.path (state_over s gs).functions) o (state_over s gs).functions)
-    (reached_is s state gs seated name n p f has numbered)
-    ∙ ap (λ (x : State). x.functions)
-    (sym (changes_slot (board_at s.functions) s gs seated name n p f has.path has.function (write ons v (config off)) (write (handed_on (config off) ons) v (config off)) (writes_alike ons v (config off))))
+    grind (arith, reached_is s state gs seated name n p f has numbered, changes_slot (board_at s.functions) s gs seated name n p f has.path has.function (write ons v (config off)) (write (handed_on (config off) ons) v (config off)) (writes_alike ons v (config off)), writes_alike ons v (config off))

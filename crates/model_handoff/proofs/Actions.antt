@@ -39,8 +39,7 @@ holds_after w name there (gives g) = cases (is_some (give_fault w g)) (declared 
 holds_after w name there (takes n k) = cases (is_some (take_fault w n k))
   where
     by : (t : Bool) → cond t (emptied k (lone_of w.guests name)) (lone_of w.guests name) ≡ after_own_calls (lone_of w.guests name) (cond t (moved (loses k) ∷ []) [])
-    by true = refl
-    by false = refl
+    by t = grind arith
 
     cases : (t : Bool) → lone_of (cond t w (taken n k w)).guests name ≡ after_own_calls (lone_of w.guests name) (cond t [] (cond (bytes_eq n name) (moved (loses k) ∷ []) []))
     cases true = refl

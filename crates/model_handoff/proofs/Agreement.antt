@@ -6,7 +6,7 @@ use Rattle.model_registers.specs.Registers.{Place, File}
 use Rattle.model_registers.specs.Declarations.{Endpoint}
 use Rattle.model_registers.specs.EndpointTable.{endpoint_reset}
 use Rattle.model_registers.specs.CopiedFiles.{agreed_file, places_of, shape_of}
-use Rattle.model_board.specs.Board.{Decl, endpoint, bridge, Board}
+use Rattle.model_board.specs.Board.{Decl, endpoint, Board}
 use Rattle.model_board.specs.Lawful.{IsLawfulDecl}
 use Rattle.model_board.specs.State.{BoardFunction}
 use Rattle.model_guests.specs.World.{declared, endpoint_of}
@@ -34,8 +34,7 @@ distinct_left d lawful left shape =
 
 has_places : (b : Board) (f : BoardFunction) (d : Decl) → f.decl ≡ d → declared b f.path ≡ endpoint_of (record { path = f.path; decl = d }) → IsLawfulDecl d → shape_of f.file ≡ shape_of (declared_cells d)
     → (own : File) → IsFileOf shape_of b f.path own → HasPlaces f.file own
-has_places b f (bridge d) e found lawful shape own is = cc (is.declares, found)
-has_places b f (endpoint d) e found lawful shape own is = grind (arith, same_places own f.file, distinct_left d lawful f.file shape)
+has_places b f d e found lawful shape own is = grind (arith, same_places own f.file, distinct_left)
 
 module _ (b : Board) (gs : GuestsNow) (all : Each (IsSeatedGuest b) gs) where
   pub places_in : (f : BoardFunction) → Facts b f → HasDeclaredShape f → (own : File) → file_of gs f.path ≡ Some own → HasPlaces f.file own

@@ -5,7 +5,7 @@
 --     counted_by      a machine after anything that changes no name, counted by a test of names
 --     none_counted      what has the count that it had has not changed
 --     there_by_index      a guest that a name is found for by its index
-use Rattle.std.proofs.Common.{◌≡◌, ◌<◌, ◌+◌, ◌^◌, ◌%◌, ℕ, zero, suc, Bool, true, false, ◌&&◌, ◌||◌, not, cond, eqb, List, [], ◌∷◌, Some, None, Option, refl, sym, ap, ap₂, ◌∙◌, subst, arith, zero-add}
+use Rattle.std.proofs.Common.{◌≡◌, ◌<◌, ◌+◌, ◌^◌, ◌%◌, ℕ, Bool, true, false, ◌&&◌, ◌||◌, not, cond, eqb, List, [], ◌∷◌, Some, None, Option, refl, sym, ap, ap₂, ◌∙◌, subst, arith, zero-add}
 use Rattle.std.specs.Prelude.{is_some, IsSome, slice_get}
 use Rattle.std.specs.Option.{option_map_or}
 use Rattle.std.specs.Str.{bytes_eq}
@@ -32,7 +32,7 @@ use Rattle.model_handoff.proofs.DevicesOver.{lawful_after_devices}
 use Rattle.model_handoff.proofs.Kept.{lawful_after_meaning}
 use Rattle.model_guests.proofs.Along.{names_meaning}
 use Rattle.model_guests.proofs.OneGuest.{lone_by}
-use Rattle.model_handoff.specs.Actions.{Action, calls, gives, takes, after_action, after_actions}
+use Rattle.model_handoff.specs.Actions.{Action, after_action, after_actions}
 use Rattle.model_handoff.specs.Changes.{moves_own, moves_by_call, changes, changes_along, after_change, counts_where, MachineNow, after_on_machine, after_all_on_machine}
 use Rattle.model_handoff.specs.CountLaws.{HaveSameAnswers, RegionsStayAlong, ChangesTouchSlots, IsCounted, CountsGrow, AnswersStay}
 use Rattle.model_handoff.proofs.Actions.{there_after}
@@ -66,8 +66,7 @@ module _ (w : WorldNow) (h : IsLawfulOver w) (name : Text) (there : IsSome (gues
   by_own who (access a) is none = cases (is_some (fault_of a)) refl
     where
       of_slot : (slot : ℕ) (t : Bool) → rewrites slot (lone_of w.guests name) (access a) ≡ false → (t && rewrites slot (lone_of w.guests name) (access a)) ≡ false
-      of_slot slot true e = e
-      of_slot slot false e = refl
+      of_slot slot t e = grind arith
 
       cases : (t : Bool) → is_some (fault_of a) ≡ t → Stays (after_call w (asks (guest_event who (access a))))
       cases true e =
@@ -115,10 +114,7 @@ module _ (w : WorldNow) (h : IsLawfulOver w) (name : Text) (there : IsSome (gues
 -- ---- along actions
 
 pub lawful_after_action : (w : WorldNow) → IsLawfulOver w → (a : Action) → IsLawfulOver (after_action w a)
-lawful_after_action w h (calls (asks m)) = lawful_after_meaning w m h
-lawful_after_action w h (calls (at_device n e)) = lawful_after_devices w n e h
-lawful_after_action w h (gives g) = lawful_after_gift w h g
-lawful_after_action w h (takes n k) = lawful_after_taking w h n k
+lawful_after_action w h a = grind (arith, lawful_after_meaning w, lawful_after_devices w, lawful_after_gift w h, lawful_after_taking w h)
 
 pub none_first : (t : Bool) (n : ℕ) → cond t 1 0 + n ≡ 0 → (t ≡ false) × (n ≡ 0)
 none_first t n e = grind arith
@@ -150,8 +146,7 @@ touched_write name who w a same moves = by (is_write a.op) (not (is_some (fault_
 pub changes_touch_slots : ChangesTouchSlots
 changes_touch_slots name w (asks nothing) moves = cc
 changes_touch_slots name w (asks (guest_event who (access a))) moves =
-    let parts = and_parts (bytes_eq who name) (moves_own (lone_of w.guests who) (access a)) moves in
-    touched_write name who w a parts.0 (ap (λ (n : Text). moves_own (lone_of w.guests n) (access a)) (sym (equal_texts who name parts.0)) ∙ parts.1)
+    grind (arith, and_parts (bytes_eq who name) (moves_own (lone_of w.guests who) (access a)) moves, touched_write name who w a, equal_texts who name)
 changes_touch_slots name w (asks (guest_event who (raises r))) moves = let parts = and_parts (bytes_eq who name) false moves in cc (parts.1)
 changes_touch_slots name w (asks (host_read r)) moves = cc
 changes_touch_slots name w (asks (host_move m)) moves = by (not (is_some (move_fault w.guests m))) (bytes_eq m.from name) (bytes_eq m.to name) refl refl refl moves
@@ -168,8 +163,7 @@ changes_touch_slots name w (asks (host_move m)) moves = by (not (is_some (move_f
     by true false true e f g k = grind (arith, self m.target)
 changes_touch_slots name w (asks (bad who k)) moves = cc
 changes_touch_slots name w (at_device who (resets k)) moves =
-    let parts = and_parts (bytes_eq who name) (not (is_some (slot_fault (lone_of w.guests who).slots k))) moves in
-    (k, ap₂ (λ (t u : Bool). t && u) parts.0 (self k))
+    grind (arith, and_parts (bytes_eq who name) (not (is_some (slot_fault (lone_of w.guests who).slots k))) moves, self k)
 changes_touch_slots name w who moves = cc
 
 -- ---- counts
@@ -181,9 +175,7 @@ names_after w a = grind (arith, names_with, names_meaning)
 count_where : (test : Text → Bool) (ts : List Text) (ns : List ℕ) (i : ℕ) (name : Text) (n : ℕ) → slice_get ts i ≡ Some name → slice_get ns i ≡ Some n
     → slice_get (counts_where test ts ns) i ≡ Some (after_change (test name) n)
 count_where test [] ns i name n named counted = cc
-count_where test (t ∷ ts) [] i name n named counted = cc
-count_where test (t ∷ ts) (k ∷ ns) zero name n named counted = grind arith
-count_where test (t ∷ ts) (k ∷ ns) (suc i) name n named counted = count_where test ts ns i name n named counted
+count_where test (t ∷ ts) ns i name n named counted = grind (arith, count_where test ts)
 
 wrapped_fits : (t : Bool) (n : ℕ) → n < 2 ^ 64 → after_change t n < 2 ^ 64
 wrapped_fits t n fits = grind arith
@@ -214,8 +206,7 @@ none_counted m v i name n k is grew few later = grind arith
 
 pub there_by_index : (gs : GuestsNow) (i : ℕ) (name : Text) → slice_get (names_of gs) i ≡ Some name → IsSome (guest_named gs name)
 there_by_index [] i name named = cc
-there_by_index (g ∷ gs) zero name named = let is : g.name ≡ name = cc in ap (λ (t : Bool). is_some (cond t (Some g) (guest_named gs name))) (ap (λ (n : Text). bytes_eq n name) is ∙ same_text name)
-there_by_index (g ∷ gs) (suc i) name named = grind (arith, there_by_index gs i name named)
+there_by_index (g ∷ gs) i name named = grind (arith, same_text name, there_by_index gs)
 
 pub answers_stay : AnswersStay
 answers_stay m h i name n is actions few later =

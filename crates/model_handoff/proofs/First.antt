@@ -1,5 +1,5 @@
 -- Before any event each given function is at reset.
-use Rattle.std.proofs.Common.{◌≡◌, ℕ, zero, suc, Bool, false, ◌||◌, cond, List, [], ◌∷◌, ◌++◌, Some, None, Option, refl, ap, ap₂, ◌∙◌, arith}
+use Rattle.std.proofs.Common.{◌≡◌, ℕ, zero, suc, Bool, false, ◌||◌, cond, List, [], ◌∷◌, ◌++◌, Some, None, Option, refl, ap₂, arith}
 use Rattle.std.specs.Prelude.{map, flat_map, replicate, option_map, IsTrue}
 use Rattle.std.specs.List.{list_any}
 use Rattle.std.specs.Option.{option_map_or}
@@ -22,7 +22,6 @@ use Rattle.model_guests.specs.AgreedBoard.{agreed_function}
 use Rattle.model_guests.proofs.AgreedChanges.{agreed_by}
 use Rattle.model_guests.proofs.AgreedFiles.{only_file}
 use Rattle.model_guests.proofs.Changes.{files_same}
-use Rattle.model_guests.proofs.DistinctPlaces.{HasDistinctPlaces}
 use Rattle.model_handoff.specs.Handoffs.{declared_cells, HasDeclaredShape, is_given, file_at_reset, files_given, reset_files, HoldsReset}
 use Rattle.model_handoff.specs.AgreementLaws.{FirstIsReset, FirstIsHandoff}
 use Rattle.model_handoff.proofs.Functions.{Facts, facts}
@@ -49,8 +48,7 @@ module _ (w : World) (p : Path) where
   in_guests (g ∷ gs) = grind (arith, in_guests gs, in_slots, list_any-append)
 
 pub first_is_reset : FirstIsReset
-first_is_reset w s =
-    ap (λ (fs : List BoardFunction). record s { functions = fs }) (files_same (reset_files w) (file_of (guests_at_first w)) (λ p. in_guests w p w.guests) s.functions)
+first_is_reset w s = grind (arith, files_same (reset_files w) (file_of (guests_at_first w)), in_guests w)
 
 -- ---- where they are at reset
 
@@ -58,8 +56,7 @@ module _ (w : World) (b : Board) (same : b ≡ w.board) where
   one_stays : (f : BoardFunction) (d : Decl) → f.decl ≡ d → declared b f.path ≡ endpoint_of (record { path = f.path; decl = d }) → IsLawfulDecl d → shape_of f.file ≡ shape_of (declared_cells d)
       → (IsTrue (is_given w f.path) → HoldsReset d f.file) → agreed_function (reset_files w) f ≡ f
   one_stays f (bridge d) e found lawful shape reset = grind (arith, none, same)
-  one_stays f (endpoint d) e found lawful shape reset =
-      let distinct : HasDistinctPlaces f.file = distinct_left d lawful f.file shape in grind (arith, distinct, none, same, only_file)
+  one_stays f (endpoint d) e found lawful shape reset = grind (arith, distinct_left d lawful f.file shape, none, only_file)
 
   all_stay : (fs : List BoardFunction) → Each (Facts b) fs → Each HasDeclaredShape fs → Each (λ f. IsTrue (is_given w f.path) → HoldsReset f.decl f.file) fs → map (agreed_function (reset_files w)) fs ≡ fs
   all_stay [] facts shapes reset = refl
@@ -68,8 +65,7 @@ module _ (w : World) (b : Board) (same : b ≡ w.board) where
 
 pub first_is_handoff : FirstIsHandoff
 first_is_handoff w s handoff same reset =
-    first_is_reset w s
-    ∙ ap (λ (fs : List BoardFunction). record s { functions = fs }) (all_stay w (board_at s.functions) same s.functions (facts s.functions handoff.board) handoff.shapes reset)
+    grind (arith, first_is_reset w s, all_stay w (board_at s.functions) same s.functions (facts s.functions handoff.board) handoff.shapes reset, facts s.functions handoff.board)
 
 -- ---- where one is given
 

@@ -113,10 +113,7 @@ module _ (b : Board) (gs : GuestsNow) (seated : AreSeated b gs) (name : Text) (n
 
     pub came_others : function_in gs name n ≡ None → (q : Path) → path_eq p q ≡ false → file_of came q ≡ file_of gs q
     came_others empty q other =
-        file_stays (with_slot_filled n (Some p) d) name q gs seated.names_apart
-        (λ t e. file_past t.paths t.lone.slots n (Some p) (Some (fresh d)) q
-        (none_such q (path_at t.paths n) (sym (ap (λ (o : Option GuestNow). path_of o n) e) ∙ no_path b (path_in gs name n) (function_in gs name n) (seat_in b gs seated.guests name n) empty))
-        (other_path p q other (Some p) refl))
+        grind (arith, file_stays (with_slot_filled n (Some p) d) name q gs seated.names_apart, file_past, none_such q, no_path b (path_in gs name n) (function_in gs name n) (seat_in b gs seated.guests name n) empty, seat_in b gs seated.guests name n, other_path p q other (Some p) refl)
 
 -- ---- a function leaves
 

@@ -25,7 +25,7 @@ use Rattle.model_guests.specs.Seated.{AreSeated}
 use Rattle.model_guests.proofs.AgreedChanges.{agreed_by, changed_function}
 use Rattle.model_guests.proofs.Changes.{one_file, resets_alike}
 use Rattle.model_guests.proofs.GuestsByName.{function_named, path_at}
-use Rattle.model_guests.proofs.SeatedMoves.{Placed, placed, put_there, was_there, seat_in}
+use Rattle.model_guests.proofs.SeatedMoves.{placed, put_there, was_there, seat_in}
 use Rattle.model_guests.proofs.OneGuest.{lone_other, with_none, with_twice}
 use Rattle.model_handoff.specs.Handoffs.{IsHandoff, file_at_reset}
 use Rattle.model_handoff.specs.Kept.{IsLawfulOver}
@@ -61,13 +61,8 @@ module _ (d : Endpoint) where
     put_by o f = grind arith
 
     one_over : (f : BoardFunction) → agreed_function new (changed_function (after_reset d) p f) ≡ changed_function (after_reset d) p (agreed_function old f)
-    one_over f = by (path_eq f.path p) refl
-      where
-        by : (t : Bool) → path_eq f.path p ≡ t → agreed_function new (changed_function (after_reset d) p f) ≡ changed_function (after_reset d) p (agreed_function old f)
-        by true e =
-            let at : f.path ≡ p = path_same f.path p e in
-            grind (arith, changed_function, put_by (old f.path) f, put_by (new f.path), over_reset f.file (old f.path) (new f.path), changed_function (after_reset d) p)
-        by false e = grind (arith, path_eq-sym, path_stays)
+    one_over f =
+        grind (arith, path_same f.path p, put_by (old f.path) f, put_by (new f.path), over_reset f.file (old f.path) (new f.path), path_eq-sym, path_stays)
 
     all_over : (fs : List BoardFunction) → map (agreed_function new) (with_file (after_reset d) p fs) ≡ with_file (after_reset d) p (map (agreed_function old) fs)
     all_over [] = refl
@@ -171,11 +166,7 @@ module _ (w : WorldNow) (h : IsLawfulOver w) (g : Gift) (d : Endpoint) (can : Ca
   here_open e i = let same : d ≡ e = cc (can.declares, i) in subst (λ (x : Endpoint). Each (λ (r : Region). IsTrue (opens_region w.handoff g.path r)) x.regions) same (each_open w.handoff g.path d.regions can.none_closed)
 
   now_served : AreServed w.handoff now
-  now_served a k q at = of (placed (with_slot_filled g.slot (Some g.path) d) g.slot (Some g.path) (λ t. refl) (λ t. refl) w.guests g.to a k q at)
-    where
-      of : Placed w.guests g.to a g.slot k (Some g.path) q → HasOpenRegions w.handoff q
-      of (put_there x y z) = let same : g.path ≡ q = cc z in subst (HasOpenRegions w.handoff) same here_open
-      of (was_there x y) = h.served a k q x
+  now_served a k q at = grind (arith, placed (with_slot_filled g.slot (Some g.path) d) g.slot (Some g.path), put_there, here_open, was_there)
 
   lawful_now : IsLawfulOver (record { handoff = with_reset_at g.path w.handoff; guests = now })
   lawful_now = grind (arith, now_seated, open_alike, is_alike, now_served)

@@ -1,5 +1,5 @@
 -- A hit lies in a region that is told there, and each address of an open region hits something.
-use Rattle.std.proofs.Common.{◌≡◌, ◌≤◌, ◌<◌, inl, inr, ℕ, zero, suc, ◌+◌, ◌-◌, true, eqb, List, [], ◌∷◌, Some, None, Option, Ok, refl, ap, ◌∙◌, subst, arith}
+use Rattle.std.proofs.Common.{◌≡◌, ◌≤◌, ◌<◌, inl, inr, ℕ, zero, suc, ◌+◌, ◌-◌, true, eqb, List, [], ◌∷◌, Some, None, Option, Ok, refl, ap, ◌∙◌, arith}
 use Rattle.std.specs.Prelude.{find, option_map, is_some}
 use Rattle.std.proofs.lemmas.Bool.Decides.{nat_tests}
 use Rattle.lists.specs.Elements.{IsIn, EachPair, first_of_two}
@@ -32,8 +32,7 @@ decodes_there file space a r h = grind (arith, left_true, space_same, right_true
 found_by_register : (rs : List Region) → EachPair (λ (r s : Region). r.index + registers_of r.kind ≤ s.index) rs → (r : Region) → IsIn r rs
     → find (λ (s : Region). eqb s.index r.index) rs ≡ Some r
 found_by_register [] order r there = absurd there
-found_by_register (s ∷ rs) order r (inl here) = grind (arith, nat_tests)
-found_by_register (s ∷ rs) order r (inr later) = grind (arith, each_in, nat_tests, found_by_register rs)
+found_by_register (s ∷ rs) order r h = grind (arith, nat_tests, each_in, found_by_register rs)
 
 -- ---- a hit in the slots
 
@@ -111,8 +110,7 @@ some_hit file a r opened low high = grind (arith, nat_tests)
 
 some_first_hit : (file : File) (space : Space) (a : ℕ) (r : Region) (rs : List Region) → IsIn r rs → is_some (hit_of file space a r) ≡ true → is_some (first_hit file rs space a) ≡ true
 some_first_hit file space a r [] there h = absurd there
-some_first_hit file space a r (x ∷ rs) (inl here) h =
-    some_first (hit_of file space a x) (first_hit file rs space a) (subst (λ (y : Region). is_some (hit_of file space a y) ≡ true) here h)
+some_first_hit file space a r (x ∷ rs) (inl here) h = grind (arith, some_first (hit_of file space a x) (first_hit file rs space a))
 some_first_hit file space a r (x ∷ rs) (inr later) h = some_second (hit_of file space a x) (first_hit file rs space a) (some_first_hit file space a r rs later h)
 
 some_landing : (space : Space) (a k : ℕ) (fs : Slots) (n : ℕ) (f : Function) → slot_at fs n ≡ Some f → is_some (lone_claim f space a) ≡ true → is_some (landing_from k space a fs) ≡ true

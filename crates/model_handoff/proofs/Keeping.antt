@@ -1,6 +1,6 @@
 -- What guests can't change of a handoff: its board, its routing registers, what configuration cycles reach, and what an
 -- audit tells.
-use Rattle.std.proofs.Common.{◌≡◌, ℕ, Bool, true, false, ◌&&◌, List, [], ◌∷◌, ◌++◌, Some, None, Option, refl, sym, ap, ap₂, ◌∙◌, subst, arith}
+use Rattle.std.proofs.Common.{◌≡◌, ℕ, Bool, true, false, ◌&&◌, List, [], ◌∷◌, ◌++◌, Option, refl, sym, ap, ap₂, ◌∙◌, subst, arith}
 use Rattle.std.specs.Prelude.{map, find}
 use Rattle.std.specs.Option.{option_map}
 use Rattle.lists.specs.Elements.{Each}
@@ -56,8 +56,7 @@ module _ (b : Board) (gs : GuestsNow) (all : Each (IsSeatedGuest b) gs) where
   function_routes f facts = grind (arith, path_stays (file_of gs f.path) f, decl_stays (file_of gs f.path) f, by_decl f.decl refl)
     where
       of_endpoint : (d : Endpoint) (own : Option File) (n : ℕ) → is_routing_register (endpoint d) n ≡ true → (cell_at f.file (config n)).value ≡ (cell_at (agreed_by own f).file (config n)).value
-      of_endpoint d None n h = refl
-      of_endpoint d (Some file) n h = endpoint_routes d f.file file n h
+      of_endpoint d own n h = grind (arith, endpoint_routes d)
 
       by_decl : (d : Decl) → f.decl ≡ d → (n : ℕ) → is_routing_register f.decl n ≡ true → (cell_at f.file (config n)).value ≡ (cell_at (now_of f).file (config n)).value
       by_decl (endpoint d) e n h = of_endpoint d (file_of gs f.path) n (subst (λ (x : Decl). is_routing_register x n ≡ true) e h)
@@ -143,12 +142,10 @@ pub keeps_numbers : KeepsNumbers
 keeps_numbers s board gs seated has = grind (arith, keeps_board, numbers_stay, facts)
 
 pub keeps_reach : KeepsReach
-keeps_reach s board gs seated =
-    reach_stays (agreed_function (file_of gs)) (now_path s gs) (now_decl s gs) s.functions (keeps_bridges s board gs seated)
+keeps_reach s board gs seated = grind (arith, reach_stays, now_path, now_decl, keeps_bridges)
 
 pub keeps_addresses : KeepsAddresses
-keeps_addresses s board gs seated =
-    address_stays (agreed_function (file_of gs)) (now_path s gs) (now_decl s gs) s.functions (keeps_bridges s board gs seated)
+keeps_addresses s board gs seated = grind (arith, address_stays, now_path, now_decl, keeps_bridges)
 
 pub keeps_problems : KeepsProblems
 keeps_problems s board gs seated = grind (arith, keeps_routing, numbering_stays, now_path, now_decl, keeps_bridges)

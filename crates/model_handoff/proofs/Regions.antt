@@ -1,5 +1,5 @@
 -- A byte of an open region is claimed where the handoff has it, whatever guests did.
-use Rattle.std.proofs.Common.{◌≡◌, ℕ, ◌+◌, ◌%◌, true, List, Some, Option, subst, arith}
+use Rattle.std.proofs.Common.{◌≡◌, ℕ, ◌+◌, ◌%◌, true, List, arith}
 use Rattle.std.specs.Prelude.{map, IsTrue}
 use Rattle.lists.specs.Elements.{IsIn}
 use Rattle.lists.proofs.Members.{each_in, in_map, in_filter, in_flat_map}
@@ -16,8 +16,8 @@ use Rattle.model_set_up.specs.PlacedRegions.{PlacedRegion}
 use Rattle.model_findings.specs.OpenRegions.{region_now, open_of, open_regions}
 use Rattle.model_findings.specs.Orderly.{IsStateOfBoard}
 use Rattle.model_findings.proofs.Claims.{orderly_claims}
-use Rattle.model_guests.specs.Guests.{GuestsNow, path_in}
-use Rattle.model_guests.specs.Seated.{AreSeated, IsSeat, IsSeatedAt}
+use Rattle.model_guests.specs.Guests.{GuestsNow}
+use Rattle.model_guests.specs.Seated.{AreSeated, IsSeatedAt}
 use Rattle.model_guests.specs.Text.{Text}
 use Rattle.model_guests.proofs.DeclaredRows.{declared_row}
 use Rattle.model_guests.proofs.SeatedMoves.{seat_in}
@@ -51,8 +51,7 @@ pub lanes_of : (first off n : ℕ) → first % 4 ≡ 0 → off % 4 ≡ n % 4 →
 lanes_of first off n h k = omega arith
 
 pub seat_of : (b : Board) (gs : GuestsNow) → AreSeated b gs → (name : Text) (n : ℕ) (p : Path) (f : Function) → HasSlot gs name n p f → IsSeatedAt b p f
-seat_of b gs seated name n p f has =
-    subst (λ (q : Option Path). IsSeat b q (Some f)) has.path (subst (IsSeat b (path_in gs name n)) has.function (seat_in b gs seated.guests name n))
+seat_of b gs seated name n p f has = grind (arith, seat_in b gs seated.guests name n)
 
 pub hit_reaches_over : HitReachesOver
 hit_reaches_over s state orderly gs seated served name k p f has space n h e =

@@ -1,18 +1,16 @@
 -- A board at reset is a handoff: each cell is as it is declared, whatever it holds.
 use Rattle.std.proofs.Common.{◌≡◌, arith}
 use Rattle.lists.proofs.EachLemmas.{each_of_map, each_map}
-use Rattle.model_registers.specs.BridgeTable.{no_bridge_values}
 use Rattle.model_registers.specs.CopiedFiles.{shape_of}
 use Rattle.model_board.specs.Paths.{Path}
-use Rattle.model_board.specs.Board.{Decl, endpoint, bridge, Board, is_multifunction}
+use Rattle.model_board.specs.Board.{Decl, Board}
 use Rattle.model_board.specs.AtReset.{reset_file}
 use Rattle.model_handoff.specs.Handoffs.{declared_cells}
 use Rattle.model_handoff.specs.ResetCase.{ResetIsHandoff}
 use Rattle.model_handoff.proofs.Shapes.{endpoint_shape, bridge_shape}
 
 reset_shape : (b : Board) (p : Path) (d : Decl) → shape_of (reset_file b p d) ≡ shape_of (declared_cells d)
-reset_shape b p (endpoint d) = endpoint_shape d (is_multifunction b p) 0 (λ r. 0)
-reset_shape b p (bridge d) = bridge_shape d (is_multifunction b p) no_bridge_values
+reset_shape b p d = grind (arith, endpoint_shape, bridge_shape)
 
 pub reset_is_handoff : ResetIsHandoff
 reset_is_handoff s h = grind (arith, each_of_map, each_map, reset_shape)

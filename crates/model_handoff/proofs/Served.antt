@@ -1,5 +1,5 @@
 -- Given functions are served, whatever guests do.
-use Rattle.std.proofs.Common.{◌≡◌, ℕ, zero, suc, Bool, true, false, not, cond, List, [], ◌∷◌, ◌++◌, inl, inr, Some, None, Option, refl, sym, ap, ◌∙◌, arith}
+use Rattle.std.proofs.Common.{◌≡◌, ℕ, zero, suc, Bool, true, false, not, cond, List, [], ◌∷◌, ◌++◌, Some, None, Option, refl, sym, ap, ◌∙◌, arith}
 use Rattle.std.specs.Prelude.{map, flat_map, replicate, is_some, IsTrue}
 use Rattle.lists.specs.Elements.{IsIn}
 use Rattle.lists.proofs.Members.{each_from, any_in, in_front, in_back, in_map, in_filter, in_flat_map}
@@ -30,10 +30,8 @@ use Rattle.model_handoff.proofs.Standing.{endpoint_at, StandsAt, stands}
 
 in_slots : (qs : List Path) (k n : ℕ) (p : Path) → path_at (map Some qs ++ replicate k None) n ≡ Some p → IsIn p qs
 in_slots [] zero n p h = cc
-in_slots [] (suc k) zero p h = cc
-in_slots [] (suc k) (suc n) p h = in_slots [] k n p h
-in_slots (q ∷ qs) k zero p h = inl (cc h)
-in_slots (q ∷ qs) k (suc n) p h = inr (in_slots qs k n p h)
+in_slots [] (suc k) n p h = grind (arith, in_slots [] k)
+in_slots (q ∷ qs) k n p h = grind (arith, in_slots qs k)
 
 among : (w : World) (gs : List Guest) (name : Text) (n : ℕ) (p : Path) → path_in (map (guest_at_first w) gs) name n ≡ Some p → IsIn p (flat_map (λ (g : Guest). g.slots) gs)
 among w [] name n p h = cc
@@ -76,11 +74,7 @@ pub served_after_moves : ServedAfterMoves
 served_after_moves s gs served m = by (is_some (move_fault gs m)) (function_in gs m.from m.slot)
   where
     emptied : (a : Text) (n : ℕ) (p : Path) → path_in (with_guest (with_slot_emptied m.slot) m.from gs) a n ≡ Some p → path_in gs a n ≡ Some p
-    emptied a n p at = of (placed (with_slot_emptied m.slot) m.slot None (λ t. refl) (λ t. refl) gs m.from a n p at)
-      where
-        of : Placed gs m.from a m.slot n None p → path_in gs a n ≡ Some p
-        of (put_there x y z) = cc
-        of (was_there x y) = x
+    emptied a n p at = grind (arith, placed (with_slot_emptied m.slot) m.slot None, put_there, was_there)
 
     after : (o : Option Function) → AreServed s (handed_over m (path_in gs m.from m.slot) o gs)
     after None a n p at = served a n p at

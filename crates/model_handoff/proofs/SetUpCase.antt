@@ -1,5 +1,5 @@
 -- What set-up leaves is one handoff.
-use Rattle.std.proofs.Common.{◌≡◌, true, false, not, List, [], ◌∷◌, Option, sym, ap, ◌∙◌, arith}
+use Rattle.std.proofs.Common.{◌≡◌, true, false, not, List, [], ◌∷◌, Option, ap, arith}
 use Rattle.std.specs.Prelude.{map}
 use Rattle.std.specs.Option.{option_map_or}
 use Rattle.lists.specs.Elements.{IsIn}
@@ -91,10 +91,7 @@ module _ (b : Board) (a : Apertures) where
       passed = from_filter (λ (x : PlacedRegion). not (opens_space (command_word (set_up_file b a p (endpoint d))) x.space)) q (map (region_now p) (map (base_address (set_up_file b a p (endpoint d))) d.regions)) m
 
       of_region : (c : BaseAddress) → q ≡ region_now p c → (r : Region) × IsIn r d.regions × (c ≡ base_address (set_up_file b a p (endpoint d)) r) → ⊥
-      of_region c e (r, k, i) =
-          let space : q.space ≡ space_of r.kind = ap (λ (x : PlacedRegion). x.space) e ∙ ap (λ (x : BaseAddress). space_of x.kind) i in
-          let opened : opens_space (command_word (set_up_file b a p (endpoint d))) q.space ≡ true = ap (opens_space (command_word (set_up_file b a p (endpoint d)))) space ∙ opens_own b a p d r k in
-          let bad : false ≡ true = ap not (sym opened) ∙ passed.1 in cc
+      of_region c e (r, k, i) = grind (arith, opens_own b a p d r k, passed)
 
       of_base : (c : BaseAddress) × IsIn c (map (base_address (set_up_file b a p (endpoint d))) d.regions) × (q ≡ region_now p c) → ⊥
       of_base (c, k, e) = of_region c e (from_map (base_address (set_up_file b a p (endpoint d))) c d.regions k)

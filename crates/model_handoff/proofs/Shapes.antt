@@ -1,5 +1,5 @@
 -- Functions of which nothing but what their cells hold is other than it is declared.
-use Rattle.std.proofs.Common.{◌≡◌, ℕ, zero, suc, ◌/◌, Bool, List, [], ◌∷◌, ◌++◌, false, Some, None, Option, refl, sym, ap, ap₂, ◌∙◌, subst, arith}
+use Rattle.std.proofs.Common.{◌≡◌, ℕ, zero, suc, ◌/◌, Bool, List, [], ◌∷◌, ◌++◌, false, Some, Option, refl, sym, ap, ◌∙◌, subst, arith}
 use Rattle.std.proofs.lemmas.List.{map-append}
 use Rattle.std.specs.Prelude.{map, flat_map}
 use Rattle.lists.specs.Elements.{Each, EachPair}
@@ -7,12 +7,11 @@ use Rattle.model_registers.specs.Cell.{Cell}
 use Rattle.model_registers.specs.Registers.{Place, after, PlacedCell, File, cell_at, field}
 use Rattle.model_registers.specs.Declarations.{IoDecode, PrefDecode, Region, Endpoint, Bridge}
 use Rattle.model_registers.specs.EndpointTable.{region_cells, config_cells, endpoint_file, endpoint_reset}
-use Rattle.model_registers.specs.BridgeTable.{Window, BridgeValues, no_window, bridge_header, mem_cells, io_cells, pref_cells, bridge_file, bridge_reset}
+use Rattle.model_registers.specs.BridgeTable.{Window, BridgeValues, no_window, io_cells, pref_cells, bridge_file, bridge_reset}
 use Rattle.model_registers.specs.CopiedFiles.{shape_of, agreed_file}
 use Rattle.model_board.specs.Paths.{Path}
 use Rattle.model_board.specs.Board.{Decl, endpoint, bridge, Board}
 use Rattle.model_board.specs.State.{BoardFunction}
-use Rattle.model_guests.specs.World.{declared, endpoint_of}
 use Rattle.model_guests.specs.AgreedBoard.{agreed_function}
 use Rattle.model_guests.proofs.AgreedChanges.{agreed_by}
 use Rattle.model_guests.proofs.DistinctPlaces.{Apart, HasDistinctPlaces}
@@ -50,10 +49,7 @@ pref_shape x s t = grind arith
 
 pub bridge_shape : (d : Bridge) (m : Bool) (r : BridgeValues) → shape_of (bridge_file d m r) ≡ shape_of (bridge_reset d false)
 bridge_shape d m r =
-    ap (λ (f : File). shape_of (bridge_header d m r ++ mem_cells r.mem) ++ f)
-    (shape_append (io_cells d.io r.io) (pref_cells d.pref r.pref)
-    ∙ ap₂ (λ (f g : File). f ++ g) (io_shape d.io r.io no_window) (pref_shape d.pref r.pref no_window)
-    ∙ sym (shape_append (io_cells d.io no_window) (pref_cells d.pref no_window)))
+    grind (arith, shape_append (io_cells d.io r.io) (pref_cells d.pref r.pref), io_shape d.io r.io no_window, pref_shape d.pref r.pref no_window, shape_append (io_cells d.io no_window) (pref_cells d.pref no_window))
 
 -- ---- files that are put in, beneath guests' copies
 
@@ -65,10 +61,8 @@ bare_at p [] = refl
 bare_at p (e ∷ es) = grind (arith, bare_at p es)
 
 agreed_entries : (left own : File) (shape : File) → shape_of left ≡ shape → Each (λ (e : PlacedCell). cell_at (shape_of own) e.place ≡ e.cell) shape → shape_of (agreed_file left own) ≡ shape
-agreed_entries [] own [] same found = refl
-agreed_entries [] own (r ∷ rs) same found = cc
-agreed_entries (e ∷ es) own [] same found = cc
-agreed_entries (e ∷ es) own (r ∷ rs) same found = grind (arith, agreed_entries es own rs, bare_at)
+agreed_entries [] own shape same found = grind arith
+agreed_entries (e ∷ es) own shape same found = grind (arith, agreed_entries es own, bare_at)
 
 agreed_shape : (left own : File) → shape_of own ≡ shape_of left → HasDistinctPlaces left → shape_of (agreed_file left own) ≡ shape_of left
 agreed_shape left own same distinct =
@@ -78,8 +72,7 @@ agreed_shape left own same distinct =
 
 module _ (b : Board) (f : BoardFunction) (is : Facts b f) (h : HasDeclaredShape f) where
   with_shape : (own : File) → IsFileOf shape_of b f.path own → (d : Decl) → f.decl ≡ d → HasDeclaredShape (agreed_by (Some own) f)
-  with_shape own file (bridge d) e =
-      let none : declared b f.path ≡ None = is.found ∙ ap (λ (x : Decl). endpoint_of (record { path = f.path; decl = x })) e in cc (file.declares, none)
+  with_shape own file (bridge d) e = grind arith
   with_shape own file (endpoint d) e = grind (arith, agreed_shape f.file own, distinct_left d)
 
   pub shape_with : (o : Option File) → ((own : File) → o ≡ Some own → IsFileOf shape_of b f.path own) → HasDeclaredShape (agreed_by o f)

@@ -18,7 +18,7 @@ use Rattle.model_board.specs.Paths.{Path}
 use Rattle.model_board.specs.Board.{Board}
 use Rattle.model_board.specs.Lawful.{HasLawfulDecls}
 use Rattle.model_guests.specs.Accesses.{Event, access, raises, Access, Raise, Op, writes}
-use Rattle.model_guests.specs.Slots.{Slots, slot_at, with_file, Landing, effect, raise_place, raise_landing, affected}
+use Rattle.model_guests.specs.Slots.{Slots, slot_at, with_file, Landing, effect, raise_landing, affected}
 use Rattle.model_guests.specs.Text.{Text}
 use Rattle.model_guests.specs.Lone.{LoneGuest, own_latch, destination, after_access_at, after_event, filled, emptied}
 use Rattle.model_guests.specs.Guests.{GuestNow, GuestsNow, guest_named, lone_of, with_guest, guest_after, Move, handed_over, with_slot_emptied, with_slot_filled}
@@ -64,9 +64,7 @@ answer_of slot n o = cond (nat_le 32 slot) (Err 303) (option_map_or (λ (f : Fun
 
 slot_beside : (slots : Slots) (k n : ℕ) (x : Option Function) → eqb k n ≡ false → slot_at (slice_set slots k x) n ≡ slot_at slots n
 slot_beside [] k n x apart = refl
-slot_beside (s ∷ ss) zero n x apart = grind arith
-slot_beside (s ∷ ss) (suc k) zero x apart = refl
-slot_beside (s ∷ ss) (suc k) (suc n) x apart = slot_beside ss k n x (grind (arith, nat_tests))
+slot_beside (s ∷ ss) k n x apart = grind (arith, slot_beside ss, nat_tests)
 
 -- what a change of a file leaves
 changed_answer : (change : File → File) (k slot n : ℕ) (slots : Slots)
@@ -126,15 +124,12 @@ module _ (b : Board) (decls : HasLawfulDecls b) (gs : GuestsNow) (seated : AreSe
   by_byte d v = cases (byte_landing (slot_at g.slots d.slot) d) refl
     where
       place_of : (o : Option Function) (p : Place) → byte_landing o d ≡ Some p → is_device_byte p ≡ true
-      place_of None p h = cc
-      place_of (Some f) p h = (reached (raise_place f d.part d.offset) p h).1
+      place_of o p h = grind (arith, reached)
 
       cases : (o : Option Place) → byte_landing (slot_at g.slots d.slot) d ≡ o
           → answer_of slot n (slot_at (option_map_or (λ (p : Place). with_file (set_value v p) d.slot g.slots) o g.slots) slot) ≡ answer_of slot n (slot_at g.slots slot)
-      cases None e = refl
-      cases (Some p) e =
-          let other : is_own p ≡ false = device_not_own p (place_of (slot_at g.slots d.slot) p e) in
-          grind (arith, changed_answer (set_value v p) d.slot slot n g.slots, same_of, lawful_regions slot, change_beside (with_value (v % 256)), own_elsewhere p)
+      cases o e =
+          grind (arith, device_not_own, place_of (slot_at g.slots d.slot), changed_answer, same_of, lawful_regions slot, change_beside (with_value (v % 256)), own_elsewhere)
 
   pub by_device_read : (d : DeviceByte) → Stays (after_device_event g (device_reads d))
   by_device_read d = ap (λ (h : LoneGuest). region_answer h slot n) (read_leaves g d)

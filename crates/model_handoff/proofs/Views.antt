@@ -1,5 +1,5 @@
 -- The handoff as the board shows it later.
-use Rattle.std.proofs.Common.{◌≡◌, ℕ, zero, suc, ◌-◌, Bool, true, false, ◌||◌, cond, List, [], ◌∷◌, ◌++◌, length, Some, None, Option, refl, sym, ap, ap₂, ◌∙◌, subst, arith}
+use Rattle.std.proofs.Common.{◌≡◌, ℕ, zero, suc, ◌-◌, Bool, true, false, ◌||◌, cond, List, [], ◌∷◌, ◌++◌, length, Some, None, Option, refl, sym, ap, ◌∙◌, arith}
 use Rattle.std.specs.Prelude.{map, flat_map, replicate, is_some, option_map, IsSome}
 use Rattle.std.specs.List.{list_any}
 use Rattle.std.proofs.lemmas.List.Folds.{list_any-append}
@@ -36,9 +36,7 @@ functions_twice : (one other : Path → Option File) → ((p : Path) → is_some
     → map (agreed_function other) (map (agreed_function one) fs) ≡ map (agreed_function other) fs
 functions_twice one other more [] = refl
 functions_twice one other more (f ∷ fs) =
-    ap₂ (λ (x : BoardFunction) (xs : List BoardFunction). x ∷ xs)
-    (ap (λ (p : Path). agreed_by (other p) (agreed_by (one f.path) f)) (path_stays (one f.path) f) ∙ twice (one f.path) (other f.path) f (more f.path))
-    (functions_twice one other more fs)
+    grind (arith, path_stays (one f.path) f, twice (one f.path) (other f.path) f (more f.path), functions_twice one other more fs)
 
 -- ---- who sits where
 
@@ -47,8 +45,7 @@ sits_in : (b : Board) (qs : List (Option Path)) (fs : Slots) (p : Path) → AreS
 sits_in b [] f p h = grind arith
 sits_in b (q ∷ qs) [] p h = absurd h
 sits_in b (None ∷ qs) (f ∷ fs) p h = sits_in b qs fs p h.1
-sits_in b (Some r ∷ qs) (None ∷ fs) p h = absurd h.0
-sits_in b (Some r ∷ qs) (Some f ∷ fs) p h = grind (arith, sits_in b qs fs p)
+sits_in b (Some r ∷ qs) fs p h = grind (arith, sits_in b qs)
 
 pub sits_is : (b : Board) (gs : GuestsNow) → Each (IsSeatedGuest b) gs → (p : Path) → is_some (file_of gs p) ≡ sits gs p
 sits_is b [] all p = refl
@@ -83,8 +80,7 @@ some_paths (q ∷ qs) k p = ap (λ t. path_eq q p || t) (some_paths qs k p)
 
 sits_first : (w : World) (gs : List Guest) (p : Path) → sits (map (guest_at_first w) gs) p ≡ list_any (λ q. path_eq q p) (flat_map (λ (g : Guest). g.slots) gs)
 sits_first w [] p = refl
-sits_first w (g ∷ gs) p =
-    ap₂ ◌||◌ (some_paths g.slots (32 - length g.slots) p) (sits_first w gs p) ∙ sym (list_any-append (λ q. path_eq q p) g.slots (flat_map (λ (h : Guest). h.slots) gs))
+sits_first w (g ∷ gs) p = grind (arith, some_paths g.slots (32 - length g.slots) p, sits_first w gs p, list_any-append)
 
 same_reset : (s : State) (one other : Path → Option File) → ((p : Path) → other p ≡ one p)
     → with_files other s ≡ with_files one s
@@ -120,8 +116,7 @@ module _ (s : State) (gs : GuestsNow) (seated : AreSeated (board_at s.functions)
     where
       by : (t : Bool) → path_eq p q ≡ t → is_some (file_of (moved (board_at s.functions) gs seated m f is p at to_there can) q) ≡ is_some (file_of gs q)
       by true e =
-          subst (λ (x : Path). is_some (file_of (moved (board_at s.functions) gs seated m f is p at to_there can) x) ≡ is_some (file_of gs x)) (path_same p q e)
-          (ap is_some (moved_after (board_at s.functions) gs seated m f is p at to_there can) ∙ sym (ap is_some (moved_before (board_at s.functions) gs seated m f is p at to_there can)))
+          grind (arith, path_same p q e, moved_after (board_at s.functions) gs seated m f is p, moved_before (board_at s.functions) gs seated m f is p)
       by false e = ap is_some (moved_others (board_at s.functions) gs seated m f is p at to_there can q e)
 
   handed : (o : Option Function) → function_in gs m.from m.slot ≡ o → (x : Option Path) → path_in gs m.from m.slot ≡ x → NoFault gs m → (q : Path) → sits (handed_over m (path_in gs m.from m.slot) o gs) q ≡ sits gs q
@@ -134,5 +129,4 @@ module _ (s : State) (gs : GuestsNow) (seated : AreSeated (board_at s.functions)
 
 pub reset_after_moves : ResetAfterMoves
 reset_after_moves s gs seated m to_there =
-    same_reset s (seated_files s gs) (seated_files s (after_move gs m))
-    (λ p. ap (seated_in s p) (by_fault s gs seated m to_there (move_fault gs m) refl p))
+    grind (arith, same_reset s (seated_files s gs) (seated_files s (after_move gs m)), by_fault s gs seated m to_there (move_fault gs m) refl)

@@ -9,8 +9,7 @@ use Rattle.model_board.specs.State.{BoardFunction}
 use Rattle.model_board.proofs.PathOrder.{path_same}
 use Rattle.model_registers.specs.CopiedFiles.{agreed_file}
 use Rattle.model_guests.specs.Slots.{slot_at}
-use Rattle.model_guests.specs.Lone.{LoneGuest}
-use Rattle.model_guests.specs.Guests.{GuestNow, file_of, function_in, guest_named, with_guest}
+use Rattle.model_guests.specs.Guests.{GuestNow, file_of, guest_named, with_guest}
 use Rattle.model_guests.specs.AgreedBoard.{agreed_function}
 use Rattle.model_guests.proofs.Changes.{agreed_twice}
 use Rattle.model_guests.proofs.GuestsByName.{function_named, path_at, path_of}
@@ -55,10 +54,4 @@ guest_of_path o n p h = grind arith
 
 pub board_after_load : BoardAfterLoad
 board_after_load b w h name i fits n p s path at =
-    let now = with_guest (loaded i) name w.guests in
-    let seated = seated_after_load b w h name i fits in
-    let there : IsSome (guest_named w.guests name) = guest_of_path (guest_named w.guests name) n p path in
-    let function : function_in now name n ≡ Some (restored s) = ap (λ (g : LoneGuest). slot_at g.slots n) (loaded_holds w name there i) ∙ restored_at i.slots n s at in
-    let file : file_of now p ≡ Some (restored s).file =
-    file_found now seated.names_apart seated.paths_apart name n p (restored s) (paths_after_load w name i name n ∙ path) (sym (function_named now name n) ∙ function) in
-    shown_at w.handoff.functions (file_of now) p ∙ ap (λ (o : Option File). put_in o (file_at w.handoff.functions p)) file
+    grind (arith, seated_after_load b w h name i fits, guest_of_path (guest_named w.guests name) n p path, loaded_holds w name, restored_at i.slots n s, file_found, paths_after_load w name i name n, function_named, shown_at w.handoff.functions)

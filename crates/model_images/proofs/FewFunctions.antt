@@ -1,5 +1,5 @@
 -- A board whose functions are all found has no more of them than there are addresses.
-use Rattle.std.proofs.Common.{◌≡◌, ◌⊎◌, inl, inr, ◌+◌, ◌*◌, ◌≤◌, ◌<◌, ℕ, zero, suc, true, List, [], ◌∷◌, ◌++◌, length, Option, Some, None, refl, sym, ap, ◌∙◌, subst, length-append, arith}
+use Rattle.std.proofs.Common.{◌≡◌, inl, inr, ◌+◌, ◌*◌, ◌≤◌, ◌<◌, ℕ, zero, suc, true, List, [], ◌∷◌, ◌++◌, length, refl, sym, ap, ◌∙◌, subst, length-append, arith}
 use Rattle.std.specs.Prelude.{flat_map, map}
 use Rattle.std.specs.List.{range_with_len}
 use Rattle.std.specs.Option.{option_to_list}
@@ -34,12 +34,7 @@ module _ {A : Type 0} where
   parted x (y ∷ ys) (inr m) = let p = parted x ys m in record { before = y ∷ p.before; after = p.after; is = ap (λ zs. y ∷ zs) p.is }
 
   beside : (x z : A) (before after : List A) → IsIn z (before ++ x ∷ after) → (x ≡ z → ⊥) → IsIn z (before ++ after)
-  beside x z before after m apart = of (front_or_back z before (x ∷ after) m)
-    where
-      of : IsIn z before ⊎ IsIn z (x ∷ after) → IsIn z (before ++ after)
-      of (inl k) = in_front z before after k
-      of (inr (inl e)) = absurd (apart (sym e))
-      of (inr (inr k)) = in_back z before after k
+  beside x z before after m apart = grind (arith, front_or_back z before (x ∷ after) m, in_front z before after, in_back z before after)
 
   no_more : (xs ys : List A) → EachPair (λ x y. x ≡ y → ⊥) xs → Each (λ x. IsIn x ys) xs → length xs ≤ length ys
   no_more [] ys apart all = omega arith
@@ -55,21 +50,11 @@ module _ {A : Type 0} where
 
 few_reached : (fs : List BoardFunction) (ats : List BusAddress) → length (flat_map (λ at. option_to_list (reached fs at)) ats) ≤ length ats
 few_reached fs [] = omega arith
-few_reached fs (at ∷ ats) =
-    let both = length-append (option_to_list (reached fs at)) (flat_map (λ at. option_to_list (reached fs at)) ats) in
-    let one = at_most (reached fs at) in
-    let more = few_reached fs ats in omega arith
-  where
-    at_most : (o : Option BoardFunction) → length (option_to_list o) ≤ 1
-    at_most None = omega arith
-    at_most (Some f) = omega arith
+few_reached fs (at ∷ ats) = grind (arith, length-append, few_reached fs ats)
 
 of_each : (f : ℕ → List BusAddress) → ((n : ℕ) → length (f n) ≡ 128) → (ns : List ℕ) → length (flat_map f ns) ≡ length ns * 128
 of_each f h [] = refl
-of_each f h (n ∷ ns) =
-    let both = length-append (f n) (flat_map f ns) in
-    let one = h n in
-    let more = of_each f h ns in omega arith
+of_each f h (n ∷ ns) = grind (arith, length-append (f n) (flat_map f ns), of_each f h ns)
 
 all_addresses : length scan_order ≡ 256 * (16 * 8)
 all_addresses =

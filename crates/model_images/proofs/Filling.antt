@@ -21,7 +21,7 @@ use Rattle.model_guests.specs.AgreedBoard.{with_files, with_change_at}
 use Rattle.model_guests.specs.Seated.{AreSeated}
 use Rattle.model_guests.specs.WorldNow.{WorldNow, names_of, names_now}
 use Rattle.model_guests.proofs.FoundFiles.{file_found}
-use Rattle.model_guests.proofs.GuestsByName.{function_named, named_with, one, path_at, path_of}
+use Rattle.model_guests.proofs.GuestsByName.{function_named, named_with, one, path_at}
 use Rattle.model_guests.proofs.Names.{equal_texts}
 use Rattle.model_guests.proofs.OneGuest.{name_found}
 use Rattle.model_guests.proofs.SeatedMoves.{Placed, placed, seat_in}
@@ -54,10 +54,7 @@ kept_set qs n k x q h at = grind arith
 
 kept_with : (g : GuestNow → GuestNow) (n : ℕ) (x : Option Path) → ((t : GuestNow) → (g t).name ≡ t.name) → ((t : GuestNow) → (g t).paths ≡ slice_set t.paths n x) → (gs : GuestsNow) (name : Text)
     → path_in gs name n ≡ None → (a : Text) (k : ℕ) (q : Path) → path_in gs a k ≡ Some q → path_in (with_guest g name gs) a k ≡ Some q
-kept_with g n x keeps sets gs name empty a k q at = ap (λ (o : Option GuestNow). path_of o k) (named_with g keeps name a gs) ∙ of (guest_named gs a) refl at
-  where
-    of : (o : Option GuestNow) → guest_named gs a ≡ o → path_of o k ≡ Some q → path_of (option_map (one g name) o) k ≡ Some q
-    of o e h = grind (arith, path_at, path_of, name_found gs a, equal_texts name, kept_set)
+kept_with g n x keeps sets gs name empty a k q at = grind (arith, named_with g keeps name a gs, name_found gs a, equal_texts name, kept_set)
 
 -- ---- a function that has a seat is at reset beneath
 

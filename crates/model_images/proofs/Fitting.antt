@@ -1,5 +1,5 @@
 -- Whatever happens, functions hold what functions of their declarations can hold.
-use Rattle.std.proofs.Common.{◌≡◌, ℕ, ◌/◌, ◌%◌, Bool, true, false, ◌||◌, cond, eqb, List, [], ◌∷◌, Some, None, Option, refl, sym, ap, ◌∙◌, subst, arith}
+use Rattle.std.proofs.Common.{◌≡◌, ℕ, ◌/◌, ◌%◌, Bool, true, false, ◌||◌, cond, eqb, List, [], ◌∷◌, Some, None, Option, refl, ap, ◌∙◌, arith}
 use Rattle.std.specs.Prelude.{map, option_map}
 use Rattle.std.proofs.lemmas.Bool.{eqb-true, and_from}
 use Rattle.lists.specs.Elements.{Each}
@@ -133,7 +133,4 @@ saved_slots fs gs all same = cc
 
 pub saved_fits : SavedFits
 saved_fits w v from to h there same =
-    let x = some_there (guest_named w.guests from) there in
-    let own : lone_of w.guests from ≡ x.0.lone = lone_found w.guests from x.0 x.1 in
-    let is : IsFitting (lone_of w.guests from) = subst IsFitting (sym own) (found (λ (t : GuestNow). IsFitting t.lone) w.guests from x.0 h x.1).has in
-    record { latch = is.latch; slots = saved_slots (lone_of w.guests from).slots (lone_of v.guests to).slots is.functions same }
+    grind (arith, some_there (guest_named w.guests from) there, lone_found w.guests from, found, saved_slots (lone_of w.guests from).slots (lone_of v.guests to).slots)

@@ -101,12 +101,7 @@ module _ (s : State) where
       → read_guests s taken (map (λ (g : SavedGuest). g.name) gs) (flat_map guest_layout.bytes gs ++ rest) ≡ Ok (parsed gs rest)
   guests_again [] taken free there written rest = refl
   guests_again (g ∷ gs) taken free there written rest =
-      let more = flat_map guest_layout.bytes gs in
-      let names = map (λ (h : SavedGuest). h.name) gs in
-      ap (read_guests s taken (g.name ∷ names)) (append_assoc (guest_layout.bytes g) more rest)
-      ∙ ap (and_then (λ (h : Parsed SavedGuest). preceded h.value (read_guests s (with_paths h.value.paths taken) names h.rest)))
-      (guest_again g taken free.0 there.0 written.0 (more ++ rest))
-      ∙ ap (preceded g) (guests_again gs (with_paths g.paths taken) free.1 there.1 written.1 rest)
+      grind (arith, append_assoc (guest_layout.bytes g), guest_again g taken free.0 there.0 written.0, guests_again gs (with_paths g.paths taken) free.1 there.1 written.1 rest)
 
   -- ---- paths that stand in one slot alone
 
@@ -156,10 +151,7 @@ module _ (s : State) where
   module _ (target : GuestsNow) (seated : AreSeated b target) (served : AreServed s target) where
     open_at : (a : Text) (n : ℕ) (p : Path) → path_in target a n ≡ Some p → is_open_there s p (declared b p) ≡ true
     open_at a n p at =
-        let seat = seat_in b target seated.guests a n in
-        let f = some_function b (path_in target a n) (function_in target a n) p seat at in
-        let declares = declared_there b (path_in target a n) (function_in target a n) p f.0 seat at f.1 in
-        ap (is_open_there s p) declares ∙ ap not (none_closed s p f.0.decl.regions (served a n p at f.0.decl declares))
+        grind (arith, seat_in b target seated.guests a n, some_function b (path_in target a n) (function_in target a n) p, declared_there b (path_in target a n) (function_in target a n) p, none_closed s p)
 
     differ : (a c : Text) → bytes_eq a c ≡ false → a ≡ c → ⊥
     differ a c h e = let own : bytes_eq a c ≡ true = ap (bytes_eq a) (sym e) ∙ same_text a in cc

@@ -30,17 +30,7 @@ module _ {A B : Type 0} (L : Layout A) (M : A → Layout B) (l : IsLayout L) (m 
   }
 
   pub followed_is : IsLayout (followed L M)
-  followed_is = record {
-    are_bytes = λ x. each_append (λ b. b < 256) (L.bytes x.0) ((M x.0).bytes x.1) (l.are_bytes x.0) ((m x.0).are_bytes x.1);
-    again = λ x rest h.
-        ap (λ (bs : List ℕ). option_and_then (parse_next M) (L.parse bs)) (append_assoc (L.bytes x.0) ((M x.0).bytes x.1) rest)
-        ∙ ap (option_and_then (parse_next M)) (l.again x.0 ((M x.0).bytes x.1 ++ rest) (left_true (L.fits x.0) ((M x.0).fits x.1) h))
-        ∙ ap (option_map (paired x.0)) ((m x.0).again x.1 rest (right_true (L.fits x.0) ((M x.0).fits x.1) h));
-    spells = λ bs p h.
-        let q = from_next (parse_next M) (L.parse bs) p h in
-        let r = from_map (paired q.0.value) ((M q.0.value).parse q.0.rest) p q.2 in
-        subst (Spells (followed L M) bs) r.2 (followed_spells bs q.0 r.0 (l.spells bs q.0 q.1) ((m q.0.value).spells q.0.rest r.0 r.1));
-  }
+  followed_is = grind (arith, each_append, append_assoc, left_true, right_true, from_next (parse_next M), from_map, followed_spells)
 
 pub both_is : {A B : Type 0} (L : Layout A) (M : Layout B) → IsLayout L → IsLayout M → IsLayout (both L M)
 both_is L M l m = followed_is L (λ x. M) l (λ x. m)

@@ -14,7 +14,7 @@ use Rattle.model_guests.specs.Lone.{LoneGuest}
 use Rattle.model_images.specs.Images.{SavedFunction, Image, image_of_lone, fit_cells, Fits, FitsSlot, FitSlots}
 use Rattle.model_images.specs.FitLaws.{HoldsFitting}
 use Rattle.model_images.proofs.Fitting.{saved_slots}
-use Rattle.model_images.specs.Layouts.{Layout, Parsed, parsed, le_bytes, number, fit_times, optional}
+use Rattle.model_images.specs.Layouts.{Layout, Parsed, le_bytes, number, fit_times, optional}
 use Rattle.model_images.specs.ImageBytes.{endpoint_layout, function_layout, declaration_bytes, image_bytes}
 use Rattle.model_images.specs.ByteLaws.{IsLayout, HasBytes, HoldsSavable, IsSavableGuest}
 use Rattle.model_images.specs.LoadedBytes.{Left, then_read, after_version, after_beginning, after_bytes, after_values, after_slot, after_slots_front, at_end, after_slots, after_number, after_latch, after_image_front, after_image, fault_of, load_fault}
@@ -74,14 +74,8 @@ none_left (x ∷ xs) ys y h = cc
 
 -- of two values that have bytes, those of one don't go on as those of the other
 pub prefix_decided : {A : Type 0} (L : Layout A) → IsLayout L → (x y : A) → IsTrue (L.fits x) → IsTrue (L.fits y) → (k : ℕ) (rest : List ℕ) → (x ≡ y) ⊎ (after_bytes k (L.bytes y) (L.bytes x ++ rest) ≡ Err k)
-prefix_decided {A} L l x y fits too k rest = of (compared k (L.bytes y) (L.bytes x ++ rest))
-  where
-    read : (a b : A) (r u : List ℕ) → IsTrue (L.fits a) → IsTrue (L.fits b) → L.bytes a ++ r ≡ L.bytes b ++ u → parsed a r ≡ parsed b u
-    read a b r u i j same = same_Some (parsed a r) (parsed b u) (sym (l.again a r i) ∙ ap L.parse same ∙ l.again b u j)
-
-    of : ((r : List ℕ) × Follows k (L.bytes y) (L.bytes x ++ rest) r) ⊎ ((after_bytes k (L.bytes y) (L.bytes x ++ rest) ≡ Err k) ⊎ FallsShort (L.bytes y) (L.bytes x ++ rest))
-        → (x ≡ y) ⊎ (after_bytes k (L.bytes y) (L.bytes x ++ rest) ≡ Err k)
-    of h = grind (arith, read x y rest, none_left rest, read y x, append-nil (L.bytes y), L.bytes y, append_assoc (L.bytes x) rest, L.bytes x)
+prefix_decided {A} L l x y fits too k rest =
+    grind (arith, compared k (L.bytes y) (L.bytes x ++ rest), same_Some, none_left rest, append-nil (L.bytes y), append_assoc (L.bytes x) rest)
 
 -- ---- values
 

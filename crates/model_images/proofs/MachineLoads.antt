@@ -175,11 +175,8 @@ IsFound gs s = guest_named gs s.name ≡ Some (restored_guest s)
 
 pub each_found : (ss : List SavedGuest) → ApartSaved ss → Each (IsFound (map restored_guest ss)) ss
 each_found [] apart = tt
-each_found (s ∷ ss) apart = (
-  at_front (restored_guest s) (map restored_guest ss) s.name refl,
-  of_others (IsFound (map restored_guest ss)) (IsFound (map restored_guest (s ∷ ss))) s ss (λ t apart found. past_front (restored_guest s) (map restored_guest ss) t.name apart ∙ found) apart.0
-      (each_found ss apart.1),
-)
+each_found (s ∷ ss) apart =
+    grind (arith, at_front (restored_guest s) (map restored_guest ss) s.name refl, of_others (IsFound (map restored_guest ss)) (IsFound (map restored_guest (s ∷ ss))) s ss, past_front (restored_guest s) (map restored_guest ss), each_found ss)
 
 each_32 : (b : Board) (ss : List SavedGuest) → Each (IsSeatedGuest b) (map restored_guest ss) → Each Has32Paths ss
 each_32 b [] h = tt

@@ -1,5 +1,5 @@
 -- Machines that are saved and loaded: what the definitions come to.
-use Rattle.std.proofs.Common.{◌≡◌, ℕ, false, List, [], ◌∷◌, Some, None, Option, refl, sym, ap, ap₂, ◌∙◌, subst, arith}
+use Rattle.std.proofs.Common.{◌≡◌, ℕ, false, List, [], ◌∷◌, Some, None, Option, refl, sym, ap, ap₂, ◌∙◌, arith}
 use Rattle.std.specs.Prelude.{map, option_map, IsTrue}
 use Rattle.lists.specs.Elements.{Each}
 use Rattle.lists.proofs.EachLemmas.{each_map}
@@ -8,8 +8,7 @@ use Rattle.model_registers.specs.Declarations.{Region}
 use Rattle.model_registers.specs.CopiedFiles.{shape_of}
 use Rattle.model_registers.specs.EndpointTable.{endpoint_reset}
 use Rattle.model_board.specs.Paths.{Path}
-use Rattle.model_board.specs.Board.{Row, Board, IsBoard}
-use Rattle.model_board.specs.Lawful.{HasLawfulDecls}
+use Rattle.model_board.specs.Board.{Row, Board}
 use Rattle.model_board.specs.AtReset.{board_at}
 use Rattle.model_board.specs.State.{BoardFunction, State, row_at}
 use Rattle.model_guests.specs.Slots.{Slots}
@@ -93,11 +92,7 @@ reset_told s gs p own e = grind arith
 
 pub handoff_stays : (s : State) → IsHandoff s → (gs : GuestsNow) → IsHandoff (with_seated_reset s gs)
 handoff_stays s h gs =
-    let same : board_at s.functions ≡ board_at (with_seated_reset s gs).functions = sym (rows_stay (seated_files s gs) s.functions) in
-    record {
-      board = record { places = subst IsBoard same h.board.places; declarations = subst HasLawfulDecls same h.board.declarations };
-      shapes = shapes_with (board_at s.functions) (seated_files s gs) (reset_told s gs) s.functions (facts s.functions h.board) h.shapes;
-    }
+    grind (arith, rows_stay (seated_files s gs) s.functions, shapes_with (board_at s.functions) (seated_files s gs) (reset_told s gs) s.functions (facts s.functions h.board) h.shapes, reset_told s gs, facts s.functions h.board)
 
 functions_as_saved : (fs gs : List BoardFunction) → Each HasDeclaredShape fs → Each HasDeclaredShape gs → board_at fs ≡ board_at gs → map (λ f. values_of f.file) fs ≡ map (λ f. values_of f.file) gs → fs ≡ gs
 functions_as_saved [] [] h k rows values = refl

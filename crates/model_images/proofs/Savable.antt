@@ -51,13 +51,7 @@ record IsWritten (r : Region) : Type 0 where
 
 region_fits : (r : Region) → IsWritten r → region_layout.fits r ≡ true
 region_fits r h =
-    let index : r.index < 256 = let a = h.lawful.registers in omega arith in
-    let size : r.size < 256 ^ 8 = let a = h.lawful.size_is_lawful.not_more in let b = greatest_fits r.kind in omega arith in
-    let few : length r.cells < 256 ^ 2 = let a = h.short in omega arith in
-    let cells = counted_fit 2 cell_layout r.cells few (each_map IsCell (λ c. cell_layout.fits c ≡ true) r.cells cell_fits h.cells) in
-    and_from ((number 1).fits r.index) (kind_layout.fits r.kind && ((number 8).fits r.size && (counted 2 cell_layout).fits r.cells)) (lt-ltb r.index 256 index)
-    (and_from (kind_layout.fits r.kind) ((number 8).fits r.size && (counted 2 cell_layout).fits r.cells) (kind_fits r.kind)
-    (and_from ((number 8).fits r.size) ((counted 2 cell_layout).fits r.cells) (lt-ltb r.size (256 ^ 8) size) cells))
+    grind (arith, greatest_fits r.kind, counted_fit 2 cell_layout, each_map IsCell, cell_fits, lt-ltb, and_from (kind_layout.fits r.kind), kind_fits r.kind)
 
 block_fits : (b : ConfigBlock) → IsConfigBlock b → Each IsCell b.cells → block_layout.fits b ≡ true
 block_fits b h k = grind (arith, and_from, lt-ltb, counted_fit 1 cell_layout b.cells, each_map IsCell, cell_layout.fits, cell_fits)

@@ -7,10 +7,9 @@ use Rattle.std.proofs.lemmas.List.{length-map}
 use Rattle.lists.specs.Elements.{Each}
 use Rattle.lists.proofs.EachLemmas.{each_map, each_of_map}
 use Rattle.lists.proofs.Members.{each_in}
-use Rattle.model_registers.specs.Registers.{PlacedCell, File, cell_at}
+use Rattle.model_registers.specs.Registers.{File}
 use Rattle.model_registers.specs.AccessLaws.{HoldsBytes}
 use Rattle.model_registers.specs.CopiedFiles.{agreed_file}
-use Rattle.model_registers.specs.OwnCopies.{is_own}
 use Rattle.model_registers.specs.Declarations.{IoDecode, PrefDecode, Endpoint, Bridge}
 use Rattle.model_registers.specs.DeclarationRules.{IsLawfulBridge}
 use Rattle.model_registers.specs.EndpointTable.{endpoint_reset}
@@ -30,14 +29,14 @@ use Rattle.model_guests.specs.WorldNow.{WorldNow, names_of}
 use Rattle.model_handoff.specs.Handoffs.{declared_cells, file_at_reset, HasDeclaredShape, IsHandoff}
 use Rattle.model_handoff.specs.ViewLaws.{seated_files, sits, with_seated_reset}
 use Rattle.model_images.specs.Images.{values_of, image_of_lone}
-use Rattle.model_images.specs.MachineImages.{SavedGuest, values_in, saved_handoff, saved_guest}
+use Rattle.model_images.specs.MachineImages.{SavedGuest, saved_handoff, saved_guest}
 use Rattle.model_images.specs.MachineLaws.{IsSavableWorld}
 use Rattle.model_guests.proofs.DeclaredRows.{declared_row}
 use Rattle.model_images.proofs.Machines.{handoff_stays}
 use Rattle.model_images.specs.Layouts.{number, both, through, fit_times, counted, fit_each, optional}
 use Rattle.model_images.specs.ImageBytes.{image_layout}
 use Rattle.model_images.specs.ByteLaws.{IsDeclared, IsSavableGuest}
-use Rattle.model_images.specs.MachineBytes.{path_layout, io_number, pref_number, third, bridge_layout, decl_layout, row_layout, board_layout, name_layout, paths_layout, guest_layout, cells_layout, on_board}
+use Rattle.model_images.specs.MachineBytes.{path_layout, io_number, pref_number, third, bridge_layout, decl_layout, row_layout, board_layout, name_layout, paths_layout, guest_layout, cells_layout}
 use Rattle.model_images.specs.MachineByteLaws.{AreWritable, HasMachineBytes, CanBeDeclared, IsWritableName, IsWritableMachine, MachinesHaveBytes}
 use Rattle.model_images.proofs.ByteCells.{hold_bytes, reset_bytes}
 use Rattle.model_images.proofs.Savable.{times_fit, counted_fit, endpoint_fits, values_fit, as_long, guests_have_bytes}
@@ -87,12 +86,7 @@ pub record IsWritableState (s : State) : Type 0 where
   pub latch : s.latch < 2 ^ 32
 
 pub writable_now : (w : WorldNow) → IsSavableWorld w → IsWritableMachine w → IsWritableState w.handoff
-writable_now w h can = record {
-  handoff = h.lawful.handoff;
-  functions = record { declared = can.known.compared.declared; bytes = can.bytes };
-  many = can.known.many;
-  latch = can.latch;
-}
+writable_now w h can = grind arith
 
 pub board_fits : (s : State) → IsHandoff s → Each (λ (f : BoardFunction). CanBeDeclared f.decl) s.functions → length s.functions < 2 ^ 32 → board_layout.fits (board_at s.functions) ≡ true
 board_fits s h declared few =
@@ -101,13 +95,7 @@ board_fits s h declared few =
 
 pub state_fits : (s : State) → IsWritableState s → (gs : List SavedGuest) → (counted 2 guest_layout).fits gs ≡ true → HasMachineBytes (record { handoff = saved_handoff s; guests = gs })
 state_fits s h gs guests =
-    let b = board_at s.functions in
-    let board = board_fits s h.handoff h.functions.declared h.many in
-    let cells = cells_fit s.functions h.handoff.shapes h.functions.bytes in
-    let latch = lt-ltb s.latch (256 ^ 4) h.latch in
-    and_from (board_layout.fits b) ((on_board b).fits (gs, (values_in s, s.latch))) board
-    (and_from ((counted 2 guest_layout).fits gs) (fit_each cells_layout b (values_in s) && (number 4).fits s.latch) guests
-    (and_from (fit_each cells_layout b (values_in s)) ((number 4).fits s.latch) cells latch))
+    grind (arith, board_fits s h.handoff h.functions.declared h.many, cells_fit s.functions h.handoff.shapes h.functions.bytes, lt-ltb, and_from ((counted 2 guest_layout).fits gs))
 
 pub declared_written : (fs : List BoardFunction) → Each (λ (f : BoardFunction). CanBeDeclared f.decl) fs → (p : Path) (d : Endpoint) → declared (board_at fs) p ≡ Some d → IsDeclared d
 declared_written fs can p d h =
@@ -115,16 +103,9 @@ declared_written fs can p d h =
 
 -- ---- with functions at reset
 
-abbrev IsByte : PlacedCell → Type 0
-IsByte e = e.cell.value < 256
-
 pub agreed_bytes : (left own : File) → HoldsBytes left → HoldsBytes own → HoldsBytes (agreed_file left own)
 agreed_bytes [] own h k = tt
-agreed_bytes (e ∷ es) own h k = (of (is_own e.place), agreed_bytes es own h.1 k)
-  where
-    of : (t : Bool) → IsByte (cond t e (record e { cell = cell_at own e.place }))
-    of true = h.0
-    of false = let one = number_fits own k e.place 1 in omega arith
+agreed_bytes (e ∷ es) own h k = grind (arith, agreed_bytes es own h.1 k, number_fits own k e.place 1)
 
 pub written_at_reset : (d : Endpoint) → IsDeclared d → HoldsBytes (endpoint_reset d false)
 written_at_reset d h = hold_bytes (endpoint_reset d false) (reset_bytes d h.cells)
@@ -138,12 +119,7 @@ module _ (fs : List BoardFunction) (h : AreWritable fs) (picked : Path → Bool)
   decl_stays o f = grind arith
 
   written : (f : BoardFunction) → HoldsBytes f.file → HoldsBytes (agreed_function picked_files f).file
-  written f k = of (picked f.path) (declared (board_at fs) f.path) refl
-    where
-      of : (t : Bool) (o : Option Endpoint) → declared (board_at fs) f.path ≡ o → HoldsBytes (option_map_or (λ (own : File). record f { file = agreed_file f.file own }) (cond t (option_map file_at_reset o) None) f).file
-      of false o e = k
-      of true None e = k
-      of true (Some d) e = agreed_bytes f.file (file_at_reset d) k (written_at_reset d (declared_written fs h.declared f.path d e))
+  written f k = grind (arith, agreed_bytes f.file, written_at_reset, declared_written fs h.declared f.path)
 
   pub writable_picked : AreWritable (map (agreed_function picked_files) fs)
   writable_picked = record {
@@ -154,12 +130,8 @@ module _ (fs : List BoardFunction) (h : AreWritable fs) (picked : Path → Bool)
   }
 
 pub writable_under : (s : State) → IsWritableState s → (gs : GuestsNow) → IsWritableState (with_seated_reset s gs)
-writable_under s h gs = record {
-  handoff = handoff_stays s h.handoff gs;
-  functions = writable_picked s.functions h.functions (sits gs);
-  many = subst (λ n. n < 2 ^ 32) (sym (length-map s.functions (agreed_function (seated_files s gs)))) h.many;
-  latch = h.latch;
-}
+writable_under s h gs =
+    grind (arith, handoff_stays s h.handoff gs, writable_picked s.functions h.functions (sits gs), length-map s.functions (agreed_function (seated_files s gs)))
 
 -- ---- guests
 
@@ -181,10 +153,7 @@ module _ (b : Board) (paths : Each (λ (r : Row). IsPath r.path) b) where
 
   guest_fits : (g : GuestNow) → IsSeatedGuest b g → IsWritableName g.name → IsSavableGuest g.lone → guest_layout.fits (saved_guest g) ≡ true
   guest_fits g seated name can =
-      let slots = paths_fit g seated in
-      let image = guests_have_bytes g.lone can in
-      and_from (name_layout.fits g.name) (paths_layout.fits g.paths && image_layout.fits (image_of_lone g.lone)) (name_fits g.name name)
-      (and_from (paths_layout.fits g.paths) (image_layout.fits (image_of_lone g.lone)) slots image)
+      grind (arith, paths_fit g seated, guests_have_bytes g.lone can, and_from (name_layout.fits g.name), name_fits g.name name, and_from (paths_layout.fits g.paths) (image_layout.fits (image_of_lone g.lone)))
 
   guests_fit : (gs : GuestsNow) → Each (IsSeatedGuest b) gs → Each IsWritableName (names_of gs) → Each (λ (g : GuestNow). IsSavableGuest g.lone) gs
       → Each (λ (s : SavedGuest). guest_layout.fits s ≡ true) (map saved_guest gs)
@@ -195,8 +164,4 @@ module _ (b : Board) (paths : Each (λ (r : Row). IsPath r.path) b) where
 
 pub machines_have_bytes : MachinesHaveBytes
 machines_have_bytes w h can =
-    let guests = map saved_guest w.guests in
-    let few : length guests < 256 ^ 2 = let a = length-map w.guests saved_guest in let c = length-map w.guests (λ (g : GuestNow). g.name) in let d = can.machine.known.few in omega arith in
-    let all = guests_fit (board_at w.handoff.functions) h.lawful.handoff.board.places.paths w.guests h.lawful.seated.guests can.machine.known.compared.names can.guests in
-    subst (λ (x : State). HasMachineBytes (record { handoff = saved_handoff x; guests = guests })) (sym h.shown)
-    (state_fits w.handoff (writable_now w h can.machine) guests (counted_fit 2 guest_layout guests few all))
+    grind (arith, length-map, guests_fit (board_at w.handoff.functions) h.lawful.handoff.board.places.paths, state_fits w.handoff (writable_now w h can.machine), writable_now w h can.machine, counted_fit 2 guest_layout)

@@ -1,33 +1,31 @@
 -- Along any requests guests can be saved, and what was saved of one is taken.
 use Rattle.std.proofs.Common.{◌≡◌, ℕ, zero, suc, ◌<◌, Bool, true, false, cond, List, [], ◌∷◌, length, Some, None, Option, refl, sym, ap, ◌∙◌, subst, arith}
-use Rattle.std.specs.Prelude.{map, option_map, is_some, IsFalse, IsSome}
+use Rattle.std.specs.Prelude.{map, option_map, IsFalse, IsSome}
 use Rattle.std.specs.Option.{option_map_or}
 use Rattle.std.specs.Str.{bytes_eq}
 use Rattle.std.proofs.lemmas.Bool.{ltb-true}
 use Rattle.lists.specs.Elements.{Each}
 use Rattle.lists.proofs.EachLemmas.{each_map, each_of_map}
 use Rattle.lists.proofs.Tests.{left_true, right_true, some_there}
-use Rattle.model_registers.specs.CopiedFiles.{after_reset, agreed_file}
 use Rattle.model_registers.specs.Declarations.{Endpoint}
 use Rattle.model_registers.specs.EndpointTable.{endpoint_reset}
 use Rattle.model_registers.specs.Registers.{File}
-use Rattle.model_board.specs.Paths.{Path, path_eq}
+use Rattle.model_board.specs.Paths.{Path}
 use Rattle.model_board.specs.AtReset.{board_at}
 use Rattle.model_board.specs.State.{BoardFunction, State}
 use Rattle.model_guests.specs.Text.{Text}
 use Rattle.model_guests.specs.Slots.{Slots}
 use Rattle.model_guests.specs.World.{World, declared}
-use Rattle.model_guests.specs.AgreedBoard.{agreed_function, with_change_at}
-use Rattle.model_guests.specs.Calls.{asks, at_device}
-use Rattle.model_guests.specs.Guests.{GuestNow, GuestsNow, guest_named, lone_of, path_in, guests_at_first}
+use Rattle.model_guests.specs.AgreedBoard.{agreed_function}
+use Rattle.model_guests.specs.Guests.{GuestNow, GuestsNow, guest_named, lone_of, guests_at_first}
 use Rattle.model_guests.specs.Lone.{LoneGuest}
 use Rattle.model_guests.specs.Seated.{AreSeats, IsSeatedGuest}
 use Rattle.model_guests.specs.WorldNow.{WorldNow, world_over}
 use Rattle.model_guests.proofs.GuestsByName.{found}
 use Rattle.model_guests.proofs.OneGuest.{lone_found, still}
 use Rattle.model_guests.proofs.Seats.{as_many}
-use Rattle.model_handoff.specs.Actions.{calls, gives, takes, after_action}
-use Rattle.model_handoff.specs.Giving.{Gift, give_fault, given, take_fault, taken, with_reset_at}
+use Rattle.model_handoff.specs.Actions.{after_action}
+use Rattle.model_handoff.specs.Giving.{Gift, given, with_reset_at}
 use Rattle.model_handoff.specs.Handoffs.{reset_files, taken_over}
 use Rattle.model_handoff.specs.Kept.{IsLawfulOver}
 use Rattle.model_images.specs.Images.{SavedFunction, Image, image_of_guest, image_of_lone, lone_of_image, with_values, restored, after_load, loaded}
@@ -60,20 +58,10 @@ kept_declared change stays fs h =
     (each_map (λ (f : BoardFunction). CanBeDeclared f.decl) (λ (f : BoardFunction). CanBeDeclared (change f).decl) fs (λ f k. subst CanBeDeclared (sym (stays f)) k) h)
 
 agreed_declared : (files : Path → Option File) (fs : List BoardFunction) → AreDeclared fs → AreDeclared (map (agreed_function files) fs)
-agreed_declared files fs h = kept_declared (agreed_function files) (λ f. stays (files f.path) f) fs h
-  where
-    stays : (o : Option File) (f : BoardFunction) → (option_map_or (λ (own : File). record f { file = agreed_file f.file own }) o f).decl ≡ f.decl
-    stays o f = grind arith
+agreed_declared files fs h = grind (arith, kept_declared (agreed_function files))
 
 pub reset_declared : (s : State) (p : Path) → AreDeclared s.functions → AreDeclared (with_reset_at p s).functions
-reset_declared s p h = of (declared (board_at s.functions) p)
-  where
-    changed : (d : Endpoint) (f : BoardFunction) (t : Bool) → (cond t (record f { file = after_reset d f.file }) f).decl ≡ f.decl
-    changed d f t = grind arith
-
-    of : (o : Option Endpoint) → AreDeclared (option_map_or (λ (d : Endpoint). with_change_at (after_reset d) p s) o s).functions
-    of None = h
-    of (Some d) = kept_declared (λ (f : BoardFunction). cond (path_eq f.path p) (record f { file = after_reset d f.file }) f) (λ f. changed d f (path_eq f.path p)) s.functions h
+reset_declared s p h = grind (arith, kept_declared)
 
 -- what stays of a handoff when a function is reset stays along requests
 module _ (R : State → Type 0) (resets : (s : State) (p : Path) → R s → R (with_reset_at p s)) where
@@ -90,13 +78,7 @@ module _ (R : State → Type 0) (resets : (s : State) (p : Path) → R s → R (
   taken_over_there w (Some p) h = resets w.handoff p h
 
   pub handoff_after : (w : WorldNow) → R w.handoff → (r : Request) → R (after_request w r).handoff
-  handoff_after w h (acts (calls (asks m))) = h
-  handoff_after w h (acts (calls (at_device n e))) = h
-  handoff_after w h (acts (gives g)) =
-      either_over (is_some (give_fault w g)) w (given g (declared (board_at w.handoff.functions) g.path) w) h (given_over w g (declared (board_at w.handoff.functions) g.path) h)
-  handoff_after w h (acts (takes n k)) = either_over (is_some (take_fault w n k)) w (taken n k w) h (taken_over_there w (path_in w.guests n k) h)
-  handoff_after w h (loads n i) = h
-  handoff_after w h (restarts n) = h
+  handoff_after w h r = grind (arith, either_over, given_over w, taken_over_there w)
 
 -- ---- guests that can be saved
 
@@ -114,14 +96,8 @@ module _ (fs : List BoardFunction) (declared : AreDeclared fs) where
 
   pub all_savable : (gs : GuestsNow) → Each (IsSeatedGuest (board_at fs)) gs → AreFitting gs → HaveBytes gs → Each (λ (g : GuestNow). IsSavableGuest g.lone) gs
   all_savable [] seated fit bytes = tt
-  all_savable (g ∷ gs) seated fit bytes = (
-    record {
-      latch = fit.0.latch;
-      count = as_many (board_at fs) g.paths g.lone.slots seated.0.seats ∙ seated.0.count;
-      functions = slots_savable g.paths g.lone.slots seated.0.seats fit.0.functions bytes.0.functions;
-    },
-    all_savable gs seated.1 fit.1 bytes.1,
-  )
+  all_savable (g ∷ gs) seated fit bytes =
+      grind (arith, as_many (board_at fs) g.paths g.lone.slots seated.0.seats, slots_savable g.paths g.lone.slots seated.0.seats fit.0.functions bytes.0.functions, all_savable gs seated.1 fit.1 bytes.1)
 
 pub slots_have : (os : Slots) → Each HoldsSavable os → Each HoldsByteCells os
 slots_have [] h = tt
@@ -198,10 +174,7 @@ can_be_saved_along w h can (r ∷ rs) fits =
 others_alike : (v : WorldNow) (to name : Text) (i : Image) → IsFalse (bytes_eq to name) → IsSome (guest_named v.guests name) → (ones others : List Request)
     → request_inputs name v ones ≡ request_inputs name (after_load to i v) others → AnswersAlike v name ones (after_load to i v) name others
 others_alike v to name i apart there ones others same =
-    let lone : lone_of (after_load to i v).guests name ≡ lone_of v.guests name = others_after_load v to name i apart in
-    let one = isolated_by_requests v name there ones in
-    let other = isolated_by_requests (after_load to i v) name (still (loaded i) (λ t. refl) to name v.guests there) others in
-    record { replies = cc (one.replies, other.replies); holds = cc (one.holds, other.holds) }
+    grind (arith, others_after_load v to name i apart, isolated_by_requests v name there ones, isolated_by_requests (after_load to i v) name, still (loaded i))
 
 pub takes_saved_guest : TakesSavedGuest
 takes_saved_guest w v from to h =

@@ -155,8 +155,5 @@ module _ (s : State) where
       (subst (EachPair (λ n m. IsFalse (bytes_eq n m))) same (pairs_of_map (λ n m. IsFalse (bytes_eq n m)) (λ (g : GuestNow). g.name) gs apart))
 
   pub guests_sit : (gs : List SavedGuest) → AreGoodGuests s [] gs → (hs : GuestsNow) → AreApart hs → map (λ (g : SavedGuest). g.name) gs ≡ names_of hs → AreSeated (board_at s.functions) (back gs)
-  guests_sit gs good hs apart names = record {
-    names_apart = apart_too hs (back gs) (sym names ∙ sym (names_restored gs)) apart;
-    guests = guests_seated gs [] good;
-    paths_apart = guests_once gs [] good;
-  }
+  guests_sit gs good hs apart names =
+      grind (arith, apart_too hs (back gs) (sym names ∙ sym (names_restored gs)) apart, names_restored gs, guests_seated gs [] good, guests_once gs [] good)

@@ -1,9 +1,8 @@
 -- A machine that can be written whole, at first and after each request.
 --     HoldsWritable, AllHold      a function holds what it can hold, in bytes; all functions of guests
 --     rewritten      so a world can be written after any change that keeps its names, and after which all hold so
-use Rattle.std.proofs.Common.{◌≡◌, ◌<◌, ◌≤◌, ◌^◌, ℕ, suc, ◌&&◌, List, [], ◌∷◌, Bool, true, false, cond, length, Option, Some, None, refl, sym, ap, ◌∙◌, subst, arith}
-use Rattle.std.specs.Prelude.{map, not, IsTrue, codes, nat_le}
-use Rattle.std.specs.Str.{bytes_eq}
+use Rattle.std.proofs.Common.{◌≡◌, ◌<◌, ◌≤◌, ◌^◌, ℕ, suc, List, [], ◌∷◌, Bool, true, false, cond, length, Option, Some, None, refl, sym, ap, ◌∙◌, subst, arith}
+use Rattle.std.specs.Prelude.{map, IsTrue, nat_le}
 use Rattle.std.specs.List.{list_all}
 use Rattle.std.specs.Option.{option_map_or}
 use Rattle.std.proofs.lemmas.Bool.Decides.{nat_tests}
@@ -49,12 +48,7 @@ abbrev pub HoldsWritable : Option Function → Type 0
 HoldsWritable o = HoldsFitting o × HoldsByteCells o
 
 pub writable_kept : AreKept HoldsWritable
-writable_kept = record {
-  write = λ ons v p f h. (fitting_kept.write ons v p f h.0, byte_cells_kept.write ons v p f h.1);
-  raise = λ m p f h. (fitting_kept.raise m p f h.0, byte_cells_kept.raise m p f h.1);
-  put = λ v p device f h. (fitting_kept.put v p device f h.0, byte_cells_kept.put v p device f h.1);
-  reset = λ o. (fitting_kept.reset o, byte_cells_kept.reset o);
-}
+writable_kept = grind (arith, fitting_kept, byte_cells_kept)
 
 abbrev pub AllHold : GuestsNow → Type 0
 AllHold gs = Each (λ (t : GuestNow). Has HoldsWritable t.lone) gs
@@ -79,16 +73,7 @@ record Holds (w : WorldNow) : Type 0 where
   guests : Each (λ (g : GuestNow). IsSavableGuest g.lone) w.guests
 
 written : (w : WorldNow) → IsLawfulOver w → Holds w → IsWritableWorld w
-written w lawful h =
-    let many : length w.handoff.functions < 2 ^ 32 = let few = few_functions w.handoff.functions lawful.handoff.board lawful.order.numbers h.functions.bytes in omega arith in
-    record {
-      machine = record {
-        known = record { compared = record { declared = h.functions.declared; names = h.names }; many = many; few = h.few };
-        bytes = h.functions.bytes;
-        latch = h.latch;
-      };
-      guests = h.guests;
-    }
+written w lawful h = grind (arith, few_functions w.handoff.functions lawful.handoff.board lawful.order.numbers h.functions.bytes)
 
 savable : (w : WorldNow) → IsLawfulOver w → AreWritable w.handoff.functions → AllHold w.guests → Each (λ (g : GuestNow). IsSavableGuest g.lone) w.guests
 savable w lawful functions h =
@@ -97,14 +82,7 @@ savable w lawful functions h =
     (each_map (λ (g : GuestNow). Has HoldsWritable g.lone) (λ (g : GuestNow). Has HoldsByteCells g.lone) w.guests (λ g k. record { latch = k.latch; functions = each_map HoldsWritable HoldsByteCells g.lone.slots (λ o t. t.1) k.functions }) h)
 
 pub rewritten : (w v : WorldNow) → IsWritableWorld w → IsLawfulOver v → AreWritable v.handoff.functions → v.handoff.latch < 2 ^ 32 → names_now v ≡ names_now w → AllHold v.guests → IsWritableWorld v
-rewritten w v h lawful functions latch names guests =
-    written v lawful (record {
-      functions = functions;
-      latch = latch;
-      names = subst (Each IsWritableName) (sym names) h.machine.known.compared.names;
-      few = subst (λ (ns : List Text). length ns < 2 ^ 16) (sym names) h.machine.known.few;
-      guests = savable v lawful functions guests;
-    })
+rewritten w v h lawful functions latch names guests = grind (arith, written v lawful, savable v lawful functions guests)
 
 -- ---- requests
 
@@ -173,14 +151,7 @@ few_bytes : (n : ℕ) → nat_le n 15 ≡ true → suc n < 256
 few_bytes n h = grind (arith, nat_tests)
 
 name_written : (name : Text) → IsTrue (is_name name) → IsWritableName name
-name_written [] h = cc
-name_written (c ∷ cs) h =
-    let both = left_true (is_letter c && list_all is_name_byte cs && nat_le (length cs) 15) (not (bytes_eq (c ∷ cs) (codes "host"))) h in
-    let bytes = left_true (is_letter c && list_all is_name_byte cs) (nat_le (length cs) 15) both in
-    record {
-      are_bytes = (letter_byte c (left_true (is_letter c) (list_all is_name_byte cs) bytes), name_bytes cs (right_true (is_letter c) (list_all is_name_byte cs) bytes));
-      short = few_bytes (length cs) (right_true (is_letter c && list_all is_name_byte cs) (nat_le (length cs) 15) both);
-    }
+name_written name h = grind (arith, left_true, letter_byte, name_bytes, right_true, few_bytes)
 
 pub writable_at_first : WritableAtFirst
 writable_at_first w s board functions guests lawful =
