@@ -564,6 +564,18 @@ uint32_t pciguest_report(const void *board, size_t length, char *text, size_t ro
     return answer;
 }
 
+uint32_t pciguest_report_json(const void *board, size_t length, char *text, size_t room, size_t *needed)
+{
+    uint8_t none;
+    uint32_t answer;
+
+    if ((!board && length) || (!text && room) || !needed)
+        return PCIGUEST_ARGUMENT;
+    answer = pciguest_raw_report_json(board ? (const uint8_t *)board : (const uint8_t *)"", length,
+                                      text ? (uint8_t *)text : &none, room, needed);
+    return answer;
+}
+
 uint32_t pciguest_check(const void *board, size_t length, char *text, size_t room, size_t *needed)
 {
     uint8_t none;
@@ -704,6 +716,21 @@ uint32_t pciguest_board_audit(struct pciguest_board *board, char *text, size_t r
     return answer;
 }
 
+uint32_t pciguest_board_audit_json(struct pciguest_board *board, char *text, size_t room, size_t *needed, size_t *count)
+{
+    struct pciguest_board held_board;
+    uint8_t none;
+    uint32_t answer;
+
+    if (!board || (!text && room) || !needed || !count)
+        return PCIGUEST_ARGUMENT;
+    if (!TAKE(board, held_board))
+        return PCIGUEST_BUSY;
+    answer = pciguest_raw_board_audit_json(&held_board, text ? (uint8_t *)text : &none, room, needed, count);
+    PUT_BACK(board, held_board);
+    return answer;
+}
+
 uint32_t pciguest_board_ready(struct pciguest_board *board, char *text, size_t room, size_t *needed, size_t *count)
 {
     struct pciguest_board held_board;
@@ -715,6 +742,21 @@ uint32_t pciguest_board_ready(struct pciguest_board *board, char *text, size_t r
     if (!TAKE(board, held_board))
         return PCIGUEST_BUSY;
     answer = pciguest_raw_board_ready(&held_board, text ? (uint8_t *)text : &none, room, needed, count);
+    PUT_BACK(board, held_board);
+    return answer;
+}
+
+uint32_t pciguest_board_ready_json(struct pciguest_board *board, char *text, size_t room, size_t *needed, size_t *count)
+{
+    struct pciguest_board held_board;
+    uint8_t none;
+    uint32_t answer;
+
+    if (!board || (!text && room) || !needed || !count)
+        return PCIGUEST_ARGUMENT;
+    if (!TAKE(board, held_board))
+        return PCIGUEST_BUSY;
+    answer = pciguest_raw_board_ready_json(&held_board, text ? (uint8_t *)text : &none, room, needed, count);
     PUT_BACK(board, held_board);
     return answer;
 }
@@ -731,6 +773,21 @@ uint32_t pciguest_board_problems(struct pciguest_board *board, struct pciguest_p
     if (!TAKE(board, held_board))
         return PCIGUEST_BUSY;
     answer = pciguest_raw_board_problems(&held_board, problems ? problems : &none, room, count);
+    PUT_BACK(board, held_board);
+    return answer;
+}
+
+uint32_t pciguest_board_lacks(struct pciguest_board *board, struct pciguest_problem *lacks, size_t room, size_t *count)
+{
+    struct pciguest_board held_board;
+    struct pciguest_problem none;
+    uint32_t answer;
+
+    if (!board || (!lacks && room) || !count)
+        return PCIGUEST_ARGUMENT;
+    if (!TAKE(board, held_board))
+        return PCIGUEST_BUSY;
+    answer = pciguest_raw_board_lacks(&held_board, lacks ? lacks : &none, room, count);
     PUT_BACK(board, held_board);
     return answer;
 }

@@ -153,23 +153,33 @@ struct pciguest_board_function {
 };
 
 /* The kinds of problems in the registers of a board: a region of which a bridge doesn't forward a byte, two that answer an
- * address on one bus, and a function that no cycle finds. */
-enum pciguest_problem_kind { PCIGUEST_NOT_FORWARDED = 1, PCIGUEST_CONTENDED = 2, PCIGUEST_NOT_FOUND = 3 };
+ * address on one bus, and a function that no cycle finds. Then those of what is lacking there: a region that is closed,
+ * outside the apertures or prefetched where it mustn't be, and a bridge with another Primary than its bus. */
+enum pciguest_problem_kind {
+    PCIGUEST_NOT_FORWARDED = 1,
+    PCIGUEST_CONTENDED = 2,
+    PCIGUEST_NOT_FOUND = 3,
+    PCIGUEST_CLOSED = 4,
+    PCIGUEST_OUTSIDE = 5,
+    PCIGUEST_PREFETCHED = 6,
+    PCIGUEST_OTHER_PRIMARY = 7
+};
 
-/* A problem in the registers of a board, as a line of its audit tells it. */
+/* A problem in the registers of a board, as a line of its audit tells it, or a lack, as one of its readiness. */
 struct pciguest_problem {
     uint32_t kind;                /* of enum pciguest_problem_kind */
-    uint32_t space;               /* PCIGUEST_IO or PCIGUEST_MEMORY; 0 where no cycle finds the function */
-    uint64_t address;             /* the first that is not forwarded, or that both answer; else 0 */
+    uint32_t space;               /* PCIGUEST_IO or PCIGUEST_MEMORY; 0 where neither a region nor an address is told */
+    uint64_t address;             /* the first that is not forwarded, that both answer, that is outside or prefetched; else 0 */
     uint8_t path[PCIGUEST_PATH];  /* of the function, as in struct pciguest_function */
     size_t path_length;           /* in bytes, without a 0 */
     uint32_t bar;                 /* the register of its region, 0 to 5, or 6 where none is told */
     uint8_t other[PCIGUEST_PATH]; /* of the bridge, of who answers too, or of what is found in its place */
-    size_t other_length;          /* 0 where nothing is found */
+    size_t other_length;          /* 0 where there is none */
     uint32_t other_bar;           /* the register of the region there, or 6 */
-    uint32_t bus;                 /* its number, by which no cycle finds it; else 0, as are the next two */
-    uint32_t device;
+    uint32_t bus;                 /* its number, by which no cycle finds it, or the bus of a bridge with another Primary; else 0 */
+    uint32_t device;              /* of that number; else 0, as is the next */
     uint32_t function;
+    uint32_t primary;             /* what a bridge holds as its Primary in place of its bus; else 0 */
     uint64_t reserved[PCIGUEST_ROOM]; /* 0 */
 };
 
@@ -496,6 +506,9 @@ uint32_t pciguest_run_line(struct pciguest *machine, const char *line, size_t le
  * is less room than that, and nothing was written; other numbers as for pciguest_new. No machine is needed. */
 uint32_t pciguest_report(const void *board, size_t length, char *text, size_t room, size_t *needed);
 
+/* Writes it so as a JSON object on one line, as `pciguest list --json` does. Since 0.4.0. */
+uint32_t pciguest_report_json(const void *board, size_t length, char *text, size_t room, size_t *needed);
+
 /* Writes what is wrong with a board file, or that its board fits, as `pciguest check board.toml` does, without the
  * warnings that `--all` adds, and tells the text's length; it has no 0 at its end. 0: the board fits. 101 to 112 or 201
  * to 205: the file or its board is refused, and the text says why. 199 or 299: out of memory, and nothing was written or
@@ -562,6 +575,11 @@ uint32_t pciguest_board_function(struct pciguest_board *board, size_t index, str
  * 902: there is less room than the text needs, whose length alone is told. 299: out of memory. Since 0.3.0. */
 uint32_t pciguest_board_audit(struct pciguest_board *board, char *text, size_t room, size_t *needed, size_t *count);
 
+/* Writes so a JSON object on one line, as `pciguest audit --json` does: each problem with all that its line tells, in the
+ * same order. Since 0.4.0. */
+uint32_t pciguest_board_audit_json(struct pciguest_board *board, char *text, size_t room, size_t *needed,
+                                   size_t *count);
+
 /* Writes what is wrong in the registers of a board as they stand, as pciguest_board_audit does but for its last line, then
  * a line for each thing that they lack, and a last line `ready: ok`, or as `ready: 1 problem, 2 lacks` what there is. What is
  * lacking is a region that is closed, outside the apertures or prefetched where it mustn't be, and a bridge with another Primary than
@@ -570,11 +588,20 @@ uint32_t pciguest_board_audit(struct pciguest_board *board, char *text, size_t r
  * 902: there is less room than the text needs, whose length alone is told. 299: out of memory. Since 0.4.0. */
 uint32_t pciguest_board_ready(struct pciguest_board *board, char *text, size_t room, size_t *needed, size_t *count);
 
+/* Writes so a JSON object on one line, as `pciguest ready --json` does: each problem and each lack with all that its line
+ * tells, in the same order. Since 0.4.0. */
+uint32_t pciguest_board_ready_json(struct pciguest_board *board, char *text, size_t room, size_t *needed,
+                                   size_t *count);
+
 /* Writes a row for each problem that pciguest_board_audit has a line of, in the same order, and tells how many there are.
  * The board stays as it is. 902: there is room for fewer rows than that, whose number alone is told. 299: out of memory.
  * Since 0.4.0. */
 uint32_t pciguest_board_problems(struct pciguest_board *board, struct pciguest_problem *problems, size_t room,
                                  size_t *count);
+
+/* Writes so a row for each lack that pciguest_board_ready has a line of, in the same order. Since 0.4.0. */
+uint32_t pciguest_board_lacks(struct pciguest_board *board, struct pciguest_problem *lacks, size_t room,
+                              size_t *count);
 
 /* Sets up a board that is at reset as pciguest_new does, in place of firmware of one's own, and gives its functions to
  * the guests of its file: the machine is then the one that pciguest_new makes of the file. The board stays as it is.

@@ -57,6 +57,7 @@ uint32_t pciguest_raw_slot(struct pciguest *machine, size_t guest, uint64_t slot
 uint32_t pciguest_raw_run_line(struct pciguest *machine, const uint8_t *line, size_t length, uint8_t *reply,
                                size_t room, size_t *written);
 uint32_t pciguest_raw_report(const uint8_t *board, size_t length, uint8_t *text, size_t room, size_t *needed);
+uint32_t pciguest_raw_report_json(const uint8_t *board, size_t length, uint8_t *text, size_t room, size_t *needed);
 uint32_t pciguest_raw_check(const uint8_t *board, size_t length, uint8_t *text, size_t room, size_t *needed);
 uint32_t pciguest_raw_words(uint32_t number, uint8_t *text, size_t room, size_t *needed);
 uint32_t pciguest_raw_board_new(struct pciguest_board *board, const uint8_t *file, size_t length);
@@ -72,10 +73,16 @@ uint32_t pciguest_raw_board_function(struct pciguest_board *board, size_t index,
                                      struct pciguest_board_function *function);
 uint32_t pciguest_raw_board_audit(struct pciguest_board *board, uint8_t *text, size_t room, size_t *needed,
                                   size_t *count);
+uint32_t pciguest_raw_board_audit_json(struct pciguest_board *board, uint8_t *text, size_t room, size_t *needed,
+                                       size_t *count);
 uint32_t pciguest_raw_board_ready(struct pciguest_board *board, uint8_t *text, size_t room, size_t *needed,
                                   size_t *count);
+uint32_t pciguest_raw_board_ready_json(struct pciguest_board *board, uint8_t *text, size_t room, size_t *needed,
+                                       size_t *count);
 uint32_t pciguest_raw_board_problems(struct pciguest_board *board, struct pciguest_problem *problems, size_t room,
                                      size_t *count);
+uint32_t pciguest_raw_board_lacks(struct pciguest_board *board, struct pciguest_problem *lacks, size_t room,
+                                  size_t *count);
 uint32_t pciguest_raw_set_up(struct pciguest_board *board, struct pciguest *machine);
 uint32_t pciguest_raw_board_guests(struct pciguest_board *board, struct pciguest *machine);
 

@@ -123,11 +123,11 @@ for kind in "${kinds[@]}"; do
     holds "$kind: the check of $(basename "$file")" sh -c 'cmp wanted.text found.text && cmp wanted.fault found.fault'
   done
 
-  "$program" list "$board" > wanted.report
+  { "$program" list --json "$board"; "$program" list "$board"; } > wanted.report
   holds "$kind: the words are built" build "words.$kind" "$top/tests/library/words.c" "${words[@]}"
   holds "$kind: the words of numbers, and the version" "./words.$kind"
   holds "$kind: what is refused" sh -c "./refusals.$kind '$board' > report"
-  holds "$kind: the report" cmp report wanted.report
+  holds "$kind: the reports" cmp report wanted.report
 done
 
 # ---- eight threads over one struct, and under helgrind where that is, for which library/calls.c says what orders them

@@ -2,11 +2,8 @@
 
 import { TO_BYTES, TO_TEXT } from './engine.js';
 import { hex, parent_of, two_digits } from './report.js';
-import { read_readiness } from './readiness.js';
 import { keeping_latch } from './asked.js';
 
-// what a line of firmware is answered by guests' board
-const GIVEN = 'host: refused 401 bad line';
 const COMMAND = 0x04, BUSES = 0x18, NO_NUMBER = '–';
 const NO_WINDOW = { first: 1n, last: 0n, open: false };
 
@@ -38,23 +35,17 @@ export class AtReset {
     return { came: [...now].filter(text => !old.has(text)), gone: [...old].filter(text => !now.has(text)) };
   }
 
-  // What is wrong and what is lacking, by one line. It is a bad line once the board is given to its guests: nothing was wrong then, and
-  // what they do changes neither that nor what was lacking.
+  // What is wrong and what is lacking. It isn't told once the board is given to its guests: nothing was wrong then, and what they do changes
+  // neither that nor what was lacking.
   ask() {
-    const told = this.driven.readiness(), found = read_readiness(told);
-    this.given = told === GIVEN;
-    if (found === null && !this.given) throw new Error(`the board doesn't tell whether it is ready: ${told}`);
+    const found = this.driven.findings();
+    this.given = found === null;
     Object.assign(this, found ?? { problems: [] });
   }
 
-  // A problem or a lack of a region is in the region's space.
   look_at_functions() {
     const lost = new Map(this.problems.filter(one => one.number !== null).map(one => [one.of[0].path, one.text]));
     this.functions = this.declared.map((one, nth) => this.function_now(one, nth, lost.get(one.path) ?? null));
-    const regions = new Map(this.functions.map(one => [one.path, one.all_regions]));
-    for (const one of [...this.problems, ...this.lacks]) {
-      if (one.address !== null) one.space ??= regions.get(one.of[0].path).find(({ name }) => name === one.of[0].register)?.kind === 'io' ? 'io' : 'mem';
-    }
   }
 
   // A function is as it was where the module tells the same of it, and firmware reads the same.

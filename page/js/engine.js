@@ -1,6 +1,8 @@
 // The library's module, called from JavaScript: addresses and lengths are BigInts, since its memory has 64-bit addresses.
 
-import { two_digits } from './report.js';
+import { findings_in } from './findings.js';
+import { number_at } from './report.js';
+import { read_json } from './json.js';
 
 const HANDLE = 16;
 const NONE_THERE = 901;
@@ -66,8 +68,10 @@ export class Engine {
   // What a call writes of a board file.
   written(call, file) { return this.with_bytes(file, (...board) => this.told((...rooms) => call(...board, ...rooms))); }
 
-  // The report of a board file; nothing where it is refused.
+  // The report of a board file, as lines and as JSON; nothing where it is refused.
   report(file) { return this.written(this.exports.pciguest_raw_report, file); }
+
+  report_json(file) { return this.written(this.exports.pciguest_raw_report_json, file); }
 
   // What a check says of a board file, which is called board.toml there.
   check(file) { return this.written(this.exports.pciguest_raw_check, file); }
@@ -237,7 +241,26 @@ class Driven extends Held {
     return TO_TEXT.decode(text).trimEnd();
   }
 
+  // The text of a call that tells what its registers are like; null once the board is given to its guests: it was in order then, and stays so.
+  told_by(call) {
+    const { number, text } = this.engine.told((...rooms) => call(this.handle, ...rooms, this.written), this.room);
+    if (number !== 0 && number !== NONE_THERE) throw new Error(`what the registers are like is refused: ${number}`);
+    this.room = Math.max(this.room, 2 * text.length);
+    return number === 0 ? TO_TEXT.decode(text) : null;
+  }
+
+  // What is wrong in the registers as they stand: a line for each problem, and one that counts them.
+  audit() { return this.told_by(this.engine.exports.pciguest_raw_board_audit); }
+
+  // That and what is lacking, as lines, as JSON, and as values with their lines.
   readiness() { return this.long_reply('host ready'); }
+
+  ready_json() { return this.told_by(this.engine.exports.pciguest_raw_board_ready_json); }
+
+  findings() {
+    const told = this.ready_json();
+    return told === null ? null : findings_in(read_json(told), this.readiness());
+  }
 
   // What the registers of a function say that no cycle need find, by its place in path order: the number at which it is looked for, where the
   // regions begin, by register, the windows that are there, and what its Command opens. What was told before is given where it is the same.
@@ -245,20 +268,11 @@ class Driven extends Held {
     const told = this.row_of(this.engine.exports.pciguest_raw_board_function, nth), long = at => told.getBigUint64(at, true), word = at => told.getUint32(at, true);
     const words = new Uint32Array(told.buffer, told.byteOffset, FUNCTION_ROW / 4);
     if (before?.words.every((one, at) => one === words[at])) return before;
-    const [bus, device, number] = [0, 4, 8].map(at => word(NUMBER_AT + at)), [io, mem] = [0, 4].map(at => word(OPENS_AT + at) !== 0);
+    const [bus, device, number] = [0, 4, 8].map(at => word(NUMBER_AT + at)), place = number_at({ bus, device, function: number }), [io, mem] = [0, 4].map(at => word(OPENS_AT + at) !== 0);
     const firsts = Array.from({ length: 6 }, (_, register) => long(REGIONS_AT + REGION_ROW * register));
     const window_at = (space, at) => ({ space, first: long(at), last: long(at + 8), is_there: word(at + 16) !== 0 });
-    return { words: words.slice(), place: `${two_digits(bus)}:${two_digits(device)}.${number}`, firsts, opens: { io, mem, pref: mem },
+    return { words: words.slice(), place, firsts, opens: { io, mem, pref: mem },
       windows: WINDOW_SPACES.map((space, at) => window_at(space, WINDOWS_AT + WINDOW_ROW * at)) };
-  }
-
-  // What is wrong in the registers as they stand: a line for each problem, and one that counts them. Null once the board is
-  // given to its guests: it was in order then, and stays so.
-  audit() {
-    const { exports } = this.engine;
-    const { number, text } = this.engine.told((...rooms) => exports.pciguest_raw_board_audit(this.handle, ...rooms, this.written));
-    if (number !== 0 && number !== NONE_THERE) throw new Error(`the audit is refused: ${number}`);
-    return number === 0 ? text : null;
   }
 }
 

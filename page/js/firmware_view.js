@@ -1,7 +1,7 @@
 // The reader as firmware: what its cycles read of a board from reset on, its problems and its lacks, and the registers of one function.
 
 import { AtReset, decodes_of } from './at_reset.js';
-import { texts_by_path } from './audit.js';
+import { texts_by_path } from './findings.js';
 import { texts_of_changes } from './changes.js';
 import { Findings } from './findings_view.js';
 import { hex_line } from './fields.js';

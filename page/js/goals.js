@@ -47,7 +47,7 @@ export function read_goal(text, guests, as) {
 function lines_of_audit(held) {
   if (held.audit === undefined) return [];
   const told = held.audit();
-  return told === null ? ['audit: ok'] : new TextDecoder().decode(told).split('\n');
+  return told === null ? ['audit: ok'] : told.split('\n');
 }
 
 export class Goals {

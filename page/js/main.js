@@ -1,7 +1,8 @@
 // The page: its parts, and what happens as one types.
 
 import { Engine } from './engine.js';
-import { apertures_in, count_in_words, parent_of, read_report } from './report.js';
+import { apertures_in, count_in_words, parent_of, report_in } from './report.js';
+import { read_json } from './json.js';
 import { class_of } from './classes.js';
 import { draw_key, marks_of } from './marks.js';
 import { patterns } from './bars.js';
@@ -24,7 +25,7 @@ import { TaskForm } from './task_form.js';
 import { places_on } from './places.js';
 import { Question } from './question.js';
 import { question_at } from './why.js';
-import { texts_by_path } from './audit.js';
+import { texts_by_path } from './findings.js';
 import { asked_of, keeping_latch } from './asked.js';
 import { texts_of_changes } from './changes.js';
 import { HANDS_OVER, owners_in, path_in } from './replay.js';
@@ -248,16 +249,16 @@ function first_line() {
   return taken ? `${taken.guest} cr ${taken.slot} 0 4` : `host cr ${functions[0]?.place ?? '00:00.0'} 0 4`;
 }
 
-// Reads a report that was taken, and opens its machine.
+// Takes the report of a file, and opens its machine.
 function take(text, file) {
-  const read = read_report(text);
+  const decoder = new TextDecoder(), read = report_in(read_json(decoder.decode(engine.report_json(file).text)));
   machine = engine.open(file).made;
   functions = read.functions.map(one => ({ ...one, words: class_of(machine, one.place) }));
   owners = new Map(read.slots.map(({ guest, slot, path }) => [path, { guest, slot }]));
   first_owners = new Map(owners);
   marks = marks_of(machine.guests());
   apertures = apertures_in(part.board.value);
-  part.report.textContent = text;
+  part.report.textContent = decoder.decode(text);
   const bridges = functions.filter(one => one.kind === 'bridge').length;
   const counts = [[functions.length - bridges, 'endpoint'], [bridges, 'bridge'], ...(as === 'firmware' ? [] : [[marks.size, 'guest']])];
   tell(false, `${as === 'firmware' ? 'Driven by firmware' : 'Set up'}: ${counts.map(([count, name]) => count_in_words(count, name)).join(', ')}`);
@@ -278,7 +279,7 @@ function set_up() {
   addresses.forget();
   question.forget();
   if (report.number === 0) {
-    take(new TextDecoder().decode(report.text), file);
+    take(report.text, file);
   } else {
     tell(true, `${report.number} ${WORDS[report.number] ?? ''}${report.number === NOT_TOML && line !== null ? `; it can't be read on in line ${line}` : ''}`);
   }

@@ -1,35 +1,24 @@
-// The report of a board, read back into functions, windows and slots.
+// The report of a board, as functions, windows and slots.
 
 const number = text => BigInt(text);
+const four_digits = value => Number(value).toString(16).padStart(4, '0');
 
-// { functions: [..], slots: [..] }: a function has its bus number and path, its kind, and its regions or windows.
-export function read_report(text) {
-  const functions = [], slots = [];
-  for (const line of text.split('\n').slice(1)) {
-    const words = line.trim().split(' ');
-    if (line.startsWith('guest ')) {
-      slots.push({ guest: words[1], slot: Number(words[3]), path: words[4] });
-    } else if (line.startsWith('  ')) {
-      read_detail(functions[functions.length - 1], words);
-    } else if (words.length >= 4) {
-      const [place, path, kind, identity, , primary, secondary, subordinate] = words;
-      functions.push({ place, path, kind, identity, bus: place.slice(0, 2), depth: path.split('/').length - 1, regions: [], windows: [],
-        buses: kind === 'bridge' ? [primary, secondary, subordinate] : null, interrupt: '' });
-    }
-  }
-  return { functions, slots };
+// A number of a function, as lines have it.
+export const number_at = ({ bus, device, function: nth }) => `${two_digits(Number(bus))}:${two_digits(Number(device))}.${nth}`;
+
+// A function has its bus number and path, its kind, and its regions or windows.
+function reported_function({ path, type, vendor, device_id, regions = [], windows, buses, interrupt, ...place }) {
+  const name = number_at(place), bus_named = bus => two_digits(Number(bus));
+  return { place: name, path, kind: type, identity: `${four_digits(vendor)}:${four_digits(device_id)}`, bus: name.slice(0, 2), depth: path.split('/').length - 1,
+    regions: regions.map(({ bar, kind, base, size }) => ({ name: `bar${bar}`, kind, first: number(base), size: number(size) })),
+    windows: Object.entries(windows ?? {}).flatMap(([space, window]) => (window === null ? [] : [{ space, first: number(window.first), last: number(window.last) }])),
+    buses: buses ? [buses.primary, buses.secondary, buses.subordinate].map(bus_named) : null,
+    interrupt: interrupt ? `${interrupt.pin} at ${interrupt.root_device} ${interrupt.root_pin}` : '' };
 }
 
-function read_detail(of, words) {
-  if (words[0] === 'irq') {
-    of.interrupt = words.slice(1).join(' ');
-  } else if (words[0].startsWith('bar')) {
-    const [name, kind, , first, , size] = words;
-    of.regions.push({ name, kind, first: number(first), size: number(size) });
-  } else {
-    of.windows.push({ space: words[0], first: number(words[1]), last: number(words[2]) });
-  }
-}
+// { functions: [..], slots: [..] }
+export const report_in = ({ functions, guests }) => ({ functions: functions.map(reported_function),
+  slots: guests.flatMap(({ name, slots }) => slots.map(({ slot, path }) => ({ guest: name, slot: Number(slot), path }))) });
 
 // The aperture that a region or window was placed in: prefetchable memory that can't reach its aperture stands in the
 // other, so for memory the address decides.

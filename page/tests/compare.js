@@ -1,17 +1,17 @@
 // Compares what the module answers with what the proved program wrote: reports, checks, refusals, replies, audits, whether boards are
-// ready, and why something finds what it finds. Where a guest's region stands is compared with what the guest finds as it sizes it, and why
+// ready, also as JSON, and why something finds what it finds. Where a guest's region stands is compared with what the guest finds as it sizes it, and why
 // its access finds what it finds with what it reads. Images of machines are compared with those of the library for C.
 
 import { Engine, run } from '../js/engine.js';
 import { joined, same } from './compare_bytes.js';
 import { images_hold } from './compare_images.js';
 import { ways_astray } from './compare_ways.js';
-import { read_readiness } from '../js/readiness.js';
 import { words_in } from '../js/reasons.js';
 import { question_of, read_why, read_why_of_guest, SPACE_READ } from '../js/why.js';
 
+const to_bytes = text => new TextEncoder().encode(text);
 // what an audit writes of a board in order
-const NO_PROBLEM = new TextEncoder().encode('audit: ok\n');
+const NO_PROBLEM = 'audit: ok\n';
 // what the program ends with where a board isn't ready, after the text
 const NOT_READY = 208;
 
@@ -43,13 +43,17 @@ function regions_hold(engine, machine, board) {
   })));
 }
 
-// The text of whether a board is ready, or nothing where a line of it isn't read back: with the functions that it names, and counted.
+// What a line says of a finding: who it is about, each with its register, and where.
+const is_told = ({ text, of, address, number }) => of.length > 0 && of.every(({ path, register }) => text.includes(register === null ? path : `${path} ${register}`))
+  && text.includes(address === null ? number ?? '' : hexadecimal(address));
+
+// The text of whether a board is ready, or nothing where its values say otherwise: each has its line, and they are counted.
 function readiness_of(made) {
-  const text = made.readiness(), { problems, lacks } = read_readiness(text), all = [...problems, ...lacks];
+  const text = made.readiness(), { problems, lacks } = made.findings(), all = [...problems, ...lacks];
   const counted = (them, word) => them.length === 0 ? [] : [`${them.length} ${word}${them.length === 1 ? '' : 's'}`];
   const count = [...counted(problems, 'problem'), ...counted(lacks, 'lack')].join(', ') || 'ok';
-  const is_read = text.endsWith(`ready: ${count}`) && all.every(one => one.of.length > 0 && one.of.every(({ path }) => one.text.includes(path)));
-  return new TextEncoder().encode(is_read ? `${text}\n` : '');
+  const is_same = text.endsWith(`ready: ${count}`) && text.split('\n').length === all.length + 1 && all.every(is_told);
+  return to_bytes(is_same ? `${text}\n` : '');
 }
 
 // Whether each line of the replies that tell why is read back, with the functions that it names.
@@ -91,24 +95,27 @@ function guest_is_told(machine, line, output) {
 }
 
 // What is told after a script, by the work that is asked.
-const AFTER = { audit: made => [made.audit() ?? NO_PROBLEM], ready: made => [readiness_of(made)], run: () => [], firmware: () => [] };
+const AFTER = { audit: made => [to_bytes(made.audit() ?? NO_PROBLEM)], ready: made => [readiness_of(made)], 'ready --json': made => [to_bytes(made.ready_json())],
+  run: () => [], firmware: () => [] };
+const WRITTEN = { list: (engine, board) => engine.report(board), 'list --json': (engine, board) => engine.report_json(board), check: (engine, board) => engine.check(board) };
 
 // A case has what is asked, a board and its script, the number that refuses it or 0, and the output.
 function holds(engine, one) {
   const { work, board, script, number, output } = one;
   if (work === 'image') return images_hold(engine, one);
-  if (work === 'list' || work === 'check') {
-    const written = work === 'list' ? engine.report(board) : engine.check(board);
+  if (WRITTEN[work] !== undefined) {
+    const written = WRITTEN[work](engine, board);
     return written.number === number && same(written.text, output);
   }
   const { number: refusal, made } = work === 'run' ? engine.open(board) : engine.open_at_reset(board);
   if (made === null) return refusal === number;
   let told = true;
-  const replies = run(made, script, (line, reply) => { told &&= guest_is_told(made, line, reply); }), text = joined([...replies, ...AFTER[work](made)]), is_ready = new TextDecoder().decode(text).endsWith('ready: ok\n');
+  const replies = run(made, script, (line, reply) => { told &&= guest_is_told(made, line, reply); }), text = joined([...replies, ...AFTER[work](made)]);
+  const is_ready = /ready: ok\n$|"lacks":\[\],"problems":\[\]}\n$/.test(new TextDecoder().decode(text));
   const is_on_way = work !== 'audit' || ways_astray(engine, board, made).length === 0;
   const good = told && is_on_way && (work !== 'run' || regions_hold(engine, made, board)) && why_is_read(replies);
   made.close();
-  return good && number === (work === 'ready' && !is_ready ? NOT_READY : 0) && same(text, output);
+  return good && number === (work.startsWith('ready') && !is_ready ? NOT_READY : 0) && same(text, output);
 }
 
 // The names of the cases that differ.

@@ -2,7 +2,8 @@
 
 import { AtReset, decodes_of } from '../js/at_reset.js';
 import { asked_of } from '../js/asked.js';
-import { read_report } from '../js/report.js';
+import { report_in } from '../js/report.js';
+import { read_json } from '../js/json.js';
 import { sent_by, way_of } from '../js/way.js';
 
 const ENDS = / (\S+) bar\d offset \S+ answers$| reaches (?!nothing)(\S+)$/;
@@ -22,9 +23,9 @@ function places_of(all_functions) {
 
 // The places at which the way of what is sent there ends elsewhere than the module tells; of a board that set-up refuses nothing is asked.
 export function ways_astray(engine, board, made) {
-  const { number, text } = engine.report(board);
+  const { number, text } = engine.report_json(board);
   if (number !== 0) return [];
-  const { functions } = read_report(new TextDecoder().decode(text)), machine = engine.open(board).made;
+  const { functions } = report_in(read_json(new TextDecoder().decode(text))), machine = engine.open(board).made;
   const bridges = functions.filter(one => one.kind === 'bridge'), decodes = new Map(bridges.map(one => [one.path, decodes_of(machine, one.place)]));
   machine.close();
   const now = new AtReset(made, functions, decodes);

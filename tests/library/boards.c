@@ -46,7 +46,10 @@ static void without_a_board(void)
     IS(pciguest_board_function(&none, 0, &told), 901);
     IS(pciguest_board_audit(&none, reply, sizeof reply, &count, &count), 901);
     IS(pciguest_board_ready(&none, reply, sizeof reply, &count, &count), 901);
+    IS(pciguest_board_audit_json(&none, reply, sizeof reply, &count, &count), 901);
+    IS(pciguest_board_ready_json(&none, reply, sizeof reply, &count, &count), 901);
     IS(pciguest_board_problems(&none, NULL, 0, &count), 901);
+    IS(pciguest_board_lacks(&none, NULL, 0, &count), 901);
     IS(pciguest_set_up(&none, &machine), 901);
     IS(pciguest_board_guests(&none, &machine), 901);
     pciguest_board_free(&none);
@@ -84,6 +87,9 @@ static void null_pointers(struct pciguest_board *board)
     IS(pciguest_board_problems(NULL, NULL, 0, &count), 902);
     IS(pciguest_board_problems(board, NULL, 1, &count), 902);
     IS(pciguest_board_problems(board, NULL, 0, NULL), 902);
+    IS(pciguest_board_lacks(NULL, NULL, 0, &count), 902);
+    IS(pciguest_board_lacks(board, NULL, 1, &count), 902);
+    IS(pciguest_board_lacks(board, NULL, 0, NULL), 902);
     IS(pciguest_board_audit(NULL, reply, sizeof reply, &count, &count), 902);
     IS(pciguest_board_audit(board, NULL, 1, &count, &count), 902);
     IS(pciguest_board_audit(board, reply, sizeof reply, NULL, &count), 902);
@@ -92,6 +98,10 @@ static void null_pointers(struct pciguest_board *board)
     IS(pciguest_board_ready(board, NULL, 1, &count, &count), 902);
     IS(pciguest_board_ready(board, reply, sizeof reply, NULL, &count), 902);
     IS(pciguest_board_ready(board, reply, sizeof reply, &count, NULL), 902);
+    IS(pciguest_board_audit_json(NULL, reply, sizeof reply, &count, &count), 902);
+    IS(pciguest_board_audit_json(board, NULL, 1, &count, &count), 902);
+    IS(pciguest_board_ready_json(board, reply, sizeof reply, NULL, &count), 902);
+    IS(pciguest_board_ready_json(board, reply, sizeof reply, &count, NULL), 902);
     IS(pciguest_board_guests(NULL, &machine), 902);
     IS(pciguest_board_guests(board, NULL), 902);
     IS(pciguest_set_up(NULL, &machine), 902);
@@ -203,62 +213,155 @@ static void problems_are(struct pciguest_board *board, const char *lines, size_t
     }
 }
 
-static void audit_is(struct pciguest_board *board, const char *wanted, size_t problems)
+/* A call that writes what it finds on a board, and tells how much. */
+typedef uint32_t survey(struct pciguest_board *board, char *text, size_t room, size_t *needed, size_t *count);
+
+static void text_is(survey *call, struct pciguest_board *board, const char *wanted, size_t found)
 {
-    char text[256];
+    char text[1024];
     size_t needed = 0, count = 9;
 
     memset(text, '?', sizeof text);
-    IS(pciguest_board_audit(board, NULL, 0, &needed, &count), 902);
+    IS(call(board, NULL, 0, &needed, &count), 902);
     IS(needed, strlen(wanted));
-    IS(pciguest_board_audit(board, text, needed - 1, &needed, &count), 902);
+    IS(call(board, text, needed - 1, &needed, &count), 902);
     IS(text[0], '?');
     IS(count, 9);
-    IS(pciguest_board_audit(board, text, sizeof text, &needed, &count), 0);
+    IS(call(board, text, sizeof text, &needed, &count), 0);
     IS(memcmp(text, wanted, needed), 0);
     IS(text[needed], '?');
-    IS(count, problems);
+    IS(count, found);
+}
+
+static void audit_is(struct pciguest_board *board, const char *wanted, const char *json, size_t problems)
+{
+    text_is(pciguest_board_audit, board, wanted, problems);
+    text_is(pciguest_board_audit_json, board, json, problems);
     problems_are(board, wanted, problems);
 }
+
+/* Each allocation of a survey fails in turn: nothing is told, and no memory is lost. */
+static void survey_without_memory(survey *call, struct pciguest_board *board)
+{
+    uint32_t fault = 299;
+    long kept = blocks;
+
+    for (long left = 1; fault == 299; left++) {
+        char text[1024] = "unchanged";
+        size_t needed = 8, count = 9;
+
+        calls_left = left;
+        fault = call(board, text, sizeof text, &needed, &count);
+        calls_left = -1;
+        IS(fault == 0 || (fault == 299 && needed == 8 && count == 9 && strcmp(text, "unchanged") == 0), 1);
+        IS((uint64_t)blocks, (uint64_t)kept);
+    }
+}
+
+/* The same of rows. */
+static void rows_without_memory(uint32_t (*call)(struct pciguest_board *, struct pciguest_problem *, size_t, size_t *),
+                                struct pciguest_board *board)
+{
+    uint32_t fault = 299;
+    long kept = blocks;
+
+    for (long left = 1; fault == 299; left++) {
+        struct pciguest_problem rows[8] = {{.kind = 9}};
+        size_t count = 9;
+
+        calls_left = left;
+        fault = call(board, rows, 8, &count);
+        calls_left = -1;
+        IS(fault == 0 ? count < 9 && rows[0].kind != 9 : fault == 299 && count == 9 && rows[0].kind == 9, 1);
+        IS((uint64_t)blocks, (uint64_t)kept);
+    }
+}
+
+/* What is told of the board at reset as JSON. */
+#define LOST_IN_JSON                                                                                                     \
+    "\"problems\":[{\"number\":{\"bus\":0,\"device\":0,\"function\":0},\"path\":\"2.0/0.0\",\"reached\":null,"                       \
+    "\"type\":\"not found\"},{\"number\":{\"bus\":0,\"device\":1,\"function\":0},\"path\":\"2.0/1.0\",\"reached\":\"1.0\","           \
+    "\"type\":\"not found\"}]}\n"
+#define CLOSED_IN_JSON(bar, path, size, space)                                                                           \
+    "{\"region\":{\"bar\":" #bar ",\"base\":0,\"path\":\"" path "\",\"size\":" #size ",\"space\":\"" space                             \
+    "\"},\"type\":\"closed\"}"
 
 /* At reset no cycle finds what stands behind the bridge; once the bridge has its numbers, the audit has nothing to say. */
 static void audits(void)
 {
     struct pciguest_board board = PCIGUEST_BOARD_INIT;
-    uint32_t fault = 299;
-    long kept;
 
     IS(pciguest_board_new(&board, file, length), 0);
     audit_is(&board, "audit: 2.0/0.0: a cycle for 00:00.0 reaches nothing\n"
-                     "audit: 2.0/1.0: a cycle for 00:01.0 reaches 1.0\naudit: 2 problems\n", 2);
+                     "audit: 2.0/1.0: a cycle for 00:01.0 reaches 1.0\naudit: 2 problems\n",
+             "{" LOST_IN_JSON, 2);
     IS(pciguest_board_write(&board, PCIGUEST_CONFIG, 0, 2, 0, 0x18, 4, 0x00010100), 0);
-    audit_is(&board, "audit: ok\n", 0);
+    audit_is(&board, "audit: ok\n", "{\"problems\":[]}\n", 0);
     IS(pciguest_board_write(&board, PCIGUEST_CONFIG, 1, 1, 0, 0x10, 4, 0xc0000000), 0);
     IS(pciguest_board_write(&board, PCIGUEST_CONFIG, 1, 1, 0, 4, 2, 2), 0);
     audit_is(&board, "audit: 2.0/1.0 bar0 at 0xc0000000 size 0x1000000: 0xc0000000 is not forwarded by 2.0\n"
-                     "audit: 1 problem\n", 1);
-    kept = blocks;
-    for (long left = 1; fault == 299; left++) {
-        char text[256] = "unchanged";
-        size_t needed = 8, count = 9;
+                     "audit: 1 problem\n",
+             "{\"problems\":[{\"address\":3221225472,\"bridge\":\"2.0\",\"region\":{\"bar\":0,\"base\":3221225472,"
+             "\"path\":\"2.0/1.0\",\"size\":16777216,\"space\":\"mem\"},\"type\":\"not forwarded\"}]}\n", 1);
+    survey_without_memory(pciguest_board_audit, &board);
+    survey_without_memory(pciguest_board_audit_json, &board);
+    rows_without_memory(pciguest_board_problems, &board);
+    pciguest_board_free(&board);
+}
 
-        calls_left = left;
-        fault = pciguest_board_audit(&board, text, sizeof text, &needed, &count);
-        calls_left = -1;
-        IS(fault == 0 || (fault == 299 && needed == 8 && count == 9 && strcmp(text, "unchanged") == 0), 1);
-        IS((uint64_t)blocks, (uint64_t)kept);
-    }
-    fault = 299;
-    for (long left = 1; fault == 299; left++) {
-        struct pciguest_problem row = {.kind = 9};
-        size_t count = 9;
+/* A row for each line that tells what is lacking, from the first one on. */
+static void lacks_are(struct pciguest_board *board, const char *lines, size_t lacks)
+{
+    static const char *const ends[] = {" is closed", ": 0x%llx is outside the apertures", " prefetches 0x%llx", ""};
+    struct pciguest_problem rows[8];
+    size_t count = 9;
 
-        calls_left = left;
-        fault = pciguest_board_problems(&board, &row, 1, &count);
-        calls_left = -1;
-        IS(fault == 0 || (fault == 299 && count == 9 && row.kind == 9), 1);
-        IS((uint64_t)blocks, (uint64_t)kept);
+    memset(rows, '?', sizeof rows);
+    IS(pciguest_board_lacks(board, rows, lacks - 1, &count), 902);
+    IS(count, lacks);
+    IS(rows[0].path[0], '?');
+    IS(pciguest_board_lacks(board, rows, 8, &count), 0);
+    IS(count, lacks);
+    IS(rows[count].path[0], '?');
+    for (size_t i = 0; i < count; i++, lines = strchr(lines, '\n') + 1) {
+        char begin[128], end[64], path[PCIGUEST_PATH + 1] = {0}, other[PCIGUEST_PATH + 1] = {0};
+        uint32_t kind = rows[i].kind - PCIGUEST_CLOSED, is_primary = rows[i].kind == PCIGUEST_OTHER_PRIMARY;
+
+        memcpy(path, rows[i].path, rows[i].path_length);
+        memcpy(other, rows[i].other, rows[i].other_length);
+        IS(kind < 4, 1);
+        if (is_primary)
+            snprintf(begin, sizeof begin, "%s: Primary is %02x on bus %02x", path, rows[i].primary, rows[i].bus);
+        else
+            snprintf(begin, sizeof begin, "%s bar%u at ", path, rows[i].bar);
+        snprintf(end, sizeof end, ends[kind], (unsigned long long)rows[i].address);
+        IS(strncmp(lines + strlen("ready: "), begin, strlen(begin)), 0);
+        IS(strstr(lines, end) != NULL && strstr(lines, other) != NULL, 1);
+        IS(rows[i].other_length != 0, rows[i].kind == PCIGUEST_PREFETCHED);
+        IS(rows[i].space == 0, is_primary);
     }
+}
+
+/* A region outside the apertures, one that its bridge prefetches, one that is closed, and a bridge with another Primary. */
+static void lacking(void)
+{
+    static const char *const lines[] = {
+        "host cw 00:02.0 0x18 4 0x00010107", "host cw 00:01.0 0x14 4 0x80000000", "host cw 00:01.0 4 2 3",
+        "host cw 00:02.0 0x20 4 0x0000fff0", "host cw 00:02.0 0x24 4 0xd000d000", "host cw 00:02.0 4 2 2",
+        "host cw 01:00.0 0x10 4 0xd0000000", "host cw 01:00.0 4 2 2",
+    };
+    struct pciguest_board board = PCIGUEST_BOARD_INIT;
+    char reply[PCIGUEST_REPLY], text[1024] = {0};
+    size_t written = 0, count = 0;
+
+    IS(pciguest_board_new(&board, file, length), 0);
+    rows_without_memory(pciguest_board_lacks, &board);
+    for (size_t i = 0; i < sizeof lines / sizeof *lines; i++) {
+        IS(line(&board, lines[i], reply, &written), 0);
+        IS(written == 9 && memcmp(reply, "host: ok\n", 9) == 0, 1);
+    }
+    IS(pciguest_board_ready(&board, text, sizeof text - 1, &written, &count), 0);
+    lacks_are(&board, strstr(text, "ready: "), 6);
     pciguest_board_free(&board);
 }
 
@@ -266,38 +369,24 @@ static void audits(void)
 static void readiness(void)
 {
     struct pciguest_board board = PCIGUEST_BOARD_INIT;
-    char text[512] = {0}, wanted[512] = {0};
-    size_t needed = 0, written = 0, count = 9;
+    char wanted[512] = {0};
+    size_t written = 0;
     unsigned long problems = 0, lacks = 0;
     const char *last;
-    uint32_t fault = 299;
-    long kept;
 
     IS(pciguest_board_new(&board, file, length), 0);
-    IS(pciguest_board_run_line(&board, "host ready", 10, wanted, sizeof wanted, &written), 0);
-    memset(text, '?', sizeof text);
-    IS(pciguest_board_ready(&board, NULL, 0, &needed, &count), 902);
-    IS(needed, written);
-    IS(pciguest_board_ready(&board, text, needed - 1, &needed, &count), 902);
-    IS(text[0], '?');
-    IS(count, 9);
-    kept = blocks;
-    for (long left = 1; fault == 299; left++) {
-        needed = 7;
-        calls_left = left;
-        fault = pciguest_board_ready(&board, text, sizeof text, &needed, &count);
-        calls_left = -1;
-        IS(fault == 0 || (fault == 299 && needed == 7 && count == 9 && text[0] == '?'), 1);
-        IS((uint64_t)blocks, (uint64_t)kept);
-    }
-    IS(needed, written);
-    IS(memcmp(text, wanted, needed), 0);
-    IS(text[needed], '?');
-    wanted[written] = 0;
+    IS(pciguest_board_run_line(&board, "host ready", 10, wanted, sizeof wanted - 1, &written), 0);
     last = strrchr(wanted, ':') + 1;
     if (sscanf(last, " %lu problem%*[s,] %lu lack", &problems, &lacks) != 2)
         lacks = strtoul(last, NULL, 10) - problems;
-    IS(problems + lacks, count);
+    text_is(pciguest_board_ready, &board, wanted, problems + lacks);
+    lacks_are(&board, strstr(wanted, "ready: "), lacks);
+    survey_without_memory(pciguest_board_ready, &board);
+    text_is(pciguest_board_ready_json, &board,
+            "{\"lacks\":[" CLOSED_IN_JSON(0, "1.0", 32, "io") "," CLOSED_IN_JSON(1, "1.0", 4096, "mem") ","
+            CLOSED_IN_JSON(0, "2.0/0.0", 1048576, "mem") "," CLOSED_IN_JSON(1, "2.0/0.0", 8, "io") ","
+            CLOSED_IN_JSON(0, "2.0/1.0", 16777216, "mem") "]," LOST_IN_JSON, problems + lacks);
+    survey_without_memory(pciguest_board_ready_json, &board);
     pciguest_board_free(&board);
 }
 
@@ -461,6 +550,7 @@ int main(int argc, char **argv)
     unfit();
     audits();
     readiness();
+    lacking();
     audit_lines();
     out_of_memory();
     IS(pciguest_board_new(&board, file, length), 0);

@@ -144,6 +144,7 @@ static void null_pointers(struct pciguest *machine)
     IS(pciguest_run_line(machine, "", 0, NULL, 0, &count), 902);
     IS(pciguest_run_line(machine, "", 0, reply, sizeof reply, NULL), 902);
     IS(pciguest_report(NULL, 1, NULL, 0, &count), 902);
+    IS(pciguest_report_json(NULL, 1, NULL, 0, &count), 902);
 }
 
 static void bad_arguments(struct pciguest *machine, const uint8_t *board, size_t length)
@@ -466,23 +467,27 @@ static void line_feeds(struct pciguest *machine)
     reply_is(__LINE__, machine, longest, "?: refused 403 long line\n");
 }
 
-/* The report tells how much room it needs, and writes nothing where there is less. */
+/* Both reports tell how much room they need, and write nothing where there is less. */
 static void reports(const uint8_t *board, size_t length)
 {
-    size_t needed = 0, again = 0;
-    char *text;
+    static uint32_t (*const calls[])(const void *, size_t, char *, size_t, size_t *) = {pciguest_report_json, pciguest_report};
 
-    IS(pciguest_report(board, length, NULL, 0, &needed), 902);
-    text = malloc(needed + 1);
-    memset(text, '?', needed + 1);
-    IS(pciguest_report(board, length, text, needed - 1, &again), 902);
-    IS(text[0], '?');
-    IS(pciguest_report(board, length, text, needed + 1, &again), 0);
-    IS(again, needed);
-    IS(text[needed], '?');
-    fwrite(text, 1, needed, stdout);
-    free(text);
-    IS(pciguest_report("x", 1, NULL, 0, &again), 101);
+    for (size_t i = 0; i < 2; i++) {
+        size_t needed = 0, again = 0;
+        char *text;
+
+        IS(calls[i](board, length, NULL, 0, &needed), 902);
+        text = malloc(needed + 1);
+        memset(text, '?', needed + 1);
+        IS(calls[i](board, length, text, needed - 1, &again), 902);
+        IS(text[0], '?');
+        IS(calls[i](board, length, text, needed + 1, &again), 0);
+        IS(again, needed);
+        IS(text[needed], '?');
+        fwrite(text, 1, needed, stdout);
+        free(text);
+        IS(calls[i]("x", 1, NULL, 0, &again), 101);
+    }
 }
 
 /* A check tells how much room its text needs, writes nothing where there is less, and all of it where the board is

@@ -124,7 +124,10 @@ static void ask_board(void)
     BUSY(pciguest_board_function(&board, 0, &row));
     BUSY(pciguest_board_audit(&board, text, sizeof text, &told, &told));
     BUSY(pciguest_board_ready(&board, text, sizeof text, &told, &told));
+    BUSY(pciguest_board_audit_json(&board, text, sizeof text, &told, &told));
+    BUSY(pciguest_board_ready_json(&board, text, sizeof text, &told, &told));
     BUSY(pciguest_board_problems(&board, &problem, 1, &told));
+    BUSY(pciguest_board_lacks(&board, &problem, 1, &told));
     BUSY(pciguest_set_up(&board, &other));
     BUSY(pciguest_board_guests(&board, &other));
     IS(value == 7 && told == 7 && text[0] == 0 && other.live == 0, 1);

@@ -9,4 +9,3 @@ mod Moved
 mod OpenFaults
 mod Options
 mod Places
-mod Rows

@@ -26,10 +26,8 @@ use Rattle.model_guests.specs.Grammar.{HostTarget}
 use Rattle.model_guests.specs.Lines.{host_move}
 use Rattle.model_guests.specs.WorldNow.{move_reply, host_reply, board_state, line_output}
 use Rattle.model_guests.specs.Calls.{asks}
-use Rattle.model_findings.specs.AuditText.{audit}
 use Rattle.model_findings.specs.Problems.{problems}
-use Rattle.model_findings.specs.Lacks.{lack_count}
-use Rattle.model_findings.specs.ReadyText.{ready_report}
+use Rattle.model_findings.specs.Lacks.{lacks}
 use Rattle.model_handoff.specs.Actions.{calls}
 use Rattle.model_handoff.specs.Changes.{MachineNow, after_on_machine, after_line_on_machine}
 use Rattle.model_handoff.specs.Functions.{function_nth}
@@ -38,6 +36,8 @@ use Rattle.model_lines.specs.HostAccesses.{HostAccess}
 use Rattle.model_lines.specs.HostAccesses as board
 use Rattle.model_lines.specs.Sessions.{DrivenNow, SessionNow, driven, given, after_board_access, session_output, after_session_line}
 use Rattle.session.specs.Stages.{asks_for_more, board_in, machine_in}
+use Rattle.simulation.specs.Serving.{told_by, counted_by}
+use Rattle.simulation.specs.declared.serving.Question.{Question}
 use Rattle.monitor.specs.ByIndex.{name_nth}
 use Rattle.monitor.specs.Moves.{move_nth}
 use Rattle.machine_images.specs.SavedParts.{capped}
@@ -50,7 +50,7 @@ use Rattle.pciguest_c.specs.MovesTold.{places_from, moved_count}
 use Rattle.pciguest_c.specs.FunctionsTold.{function_told, slot_asked}
 use Rattle.pciguest_c.specs.DrivenTold.{driven_row}
 use Rattle.pciguest_c.specs.WhyTold.{why_asked}
-use Rattle.pciguest_c.specs.ProblemsTold.{problem_row}
+use Rattle.pciguest_c.specs.ProblemsTold.{problem_row, lack_row}
 use Rattle.pciguest_c.specs.TextsTold.{at_front}
 use Rattle.pciguest_c.specs.Handles.{session_of, machine_of, board_of}
 use Rattle.pciguest_c.specs.declared.asking.Side.{Side}
@@ -98,8 +98,8 @@ pub data BoardCall : Type 0 where
   board_write : (space bus device function place width value : ℕ) → BoardCall
   board_count : BoardCall
   board_function : (index : ℕ) → BoardCall
-  board_survey : (with_lacks : Bool) → BoardCall
-  board_problems : BoardCall
+  board_survey : (question : Question) → BoardCall
+  board_findings : (of_lacks : Bool) → BoardCall
 
 pub data Told : Type 0 where
   nothing : Told
@@ -181,14 +181,18 @@ board_asked b o width op = option_map (λ t.
 unfoldable pub telling_why : MachineNow → ℕ → Option Target → Outcome
 telling_why m guest o = where_lawful (where_guest m guest o) (λ t. telling text (why_asked m.world guest t) (given m))
 
--- what is wrong, and with what is lacking too
-unfoldable pub surveying : Bool → DrivenNow → Outcome
-surveying false b = tells (counted (audit b.state.functions) (length (problems b.state.functions))) (driven b)
-surveying true b =
-    tells (counted (ready_report b.world.apertures b.state.functions) (lack_count b.world.apertures b.state.functions)) (driven b)
+-- as lines or as JSON
+unfoldable pub surveying : Question → DrivenNow → Outcome
+surveying q b =
+    tells (counted (told_by q b.world.apertures b.state.functions) (counted_by q b.world.apertures b.state.functions)) (driven b)
 
-unfoldable pub finding : DrivenNow → Outcome
-finding b = tells (rows (map problem_row (problems b.state.functions))) (driven b)
+-- what is wrong, or what is lacking
+abbrev pub found_rows : Bool → DrivenNow → List ProblemRow
+found_rows false b = map problem_row (problems b.state.functions)
+found_rows true b = map lack_row (lacks b.world.apertures b.state.functions)
+
+unfoldable pub finding : Bool → DrivenNow → Outcome
+finding of_lacks b = tells (rows (found_rows of_lacks b)) (driven b)
 
 abbrev pub outcome : Call → MachineNow → Outcome
 outcome (read guest space slot place width) m = where_lawful (where_guest m guest (target_told space slot place)) (λ t.
@@ -248,8 +252,8 @@ board_outcome (board_write space bus device function place width value) b =
 board_outcome board_count b = tells (number (length b.state.functions)) (driven b)
 board_outcome (board_function index) b = where_lawful (driven_function_nth b.state index) (λ f.
     tells (a_driven (driven_row f)) (driven b))
-board_outcome (board_survey with_lacks) b = surveying with_lacks b
-board_outcome board_problems b = finding b
+board_outcome (board_survey question) b = surveying question b
+board_outcome (board_findings of_lacks) b = finding of_lacks b
 
 -- ---- what is answered
 

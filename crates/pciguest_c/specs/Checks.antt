@@ -1,14 +1,30 @@
--- What a check of a board tells C.
+-- What a report and a check of a board file tell C.
+--     IsReportIn form board before after old new n      the report of a file in a form is put into a buffer, and its length is told,
+--         or n is the number of why not
 --     board_name      what the board is called in what is told
 --     IsCheckOf board n text      what is told of a board, and the number that refuses it, or 0
-use Rattle.std.specs.Prelude.{◌≡◌, ℕ, codes, Option}
+use Rattle.std.specs.Prelude.{◌≡◌, ◌≢◌, ◌<◌, ◌≤◌, ◌⊎◌, ℕ, codes, length, Option}
 use Rattle.std.specs.Option.{option_map_or}
 use Rattle.model_guests.specs.Text.{Text}
+use Rattle.model_guests.specs.World.{World}
+use Rattle.session.specs.Files.{Refuses, Breaks, IsSetUp}
 use Rattle.simulation.specs.declared.fault.Fault.{Fault}
 use Rattle.simulation.specs.Faults.{number_of}
 use Rattle.diagnostics.specs.declared.style.Style.TheVariants.{Plain}
 use Rattle.board_fit.specs.declared.warned.Warned.TheVariants.{Likely}
 use Rattle.simulation.specs.Checking.{IsCheckText}
+use Rattle.simulation.specs.Listing.{report_in}
+use Rattle.simulation.specs.declared.listing.ReportForm.{ReportForm}
+use Rattle.pciguest_c.specs.TextsTold.{at_front}
+
+pub record IsReportIn (form : ReportForm) (board before after : Text) (old new n : ℕ) : Type 0 where
+  pub text : n ≡ 0 → (w : World) × IsSetUp board w × (after ≡ at_front (report_in form w) before) × (new ≡ length (report_in form w))
+  pub room : n ≡ 902 → (w : World) × IsSetUp board w × (length before < length (report_in form w)) × (new ≡ length (report_in form w))
+  pub file : n ≢ 0 → n < 199 → Refuses board n
+  pub placement : 199 < n → n < 299 → Breaks board n
+  pub numbers : (n ≤ 299) ⊎ (n ≡ 902)
+  pub refused : n ≢ 0 → after ≡ before
+  pub untold : n ≢ 0 → n ≤ 299 → new ≡ old
 
 abbrev pub board_name : Text
 board_name = codes "board.toml"

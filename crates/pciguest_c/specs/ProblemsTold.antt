@@ -1,15 +1,18 @@
--- What C is told of a problem in the registers of a board: PCI Local Bus 3.0, chapter 6.2.5; PCI-to-PCI Bridge
+-- What C is told of a problem or a lack in the registers of a board: PCI Local Bus 3.0, chapter 6.2.5; PCI-to-PCI Bridge
 -- Architecture 1.2, chapters 3 and 4.
 --     no_register      in place of a base address register, where none is told
 --     reached_text p      the text of what a cycle reaches, which is empty where it reaches nothing
---     named_row kind path other      a kind of problem of a function at a path, with the text of another one
---     problem_row p      all that is told of a problem
+--     named_row kind path other      a kind of problem or lack of a function at a path, with the text of another one
+--     region_row kind q address other      one of a region, at an address
+--     problem_row p, lack_row l      all that is told of a problem, and of a lack
 use Rattle.std.specs.Prelude.{ℕ, [], length, replicate, Option}
 use Rattle.std.specs.Option.{option_map_or}
 use Rattle.model_board.specs.Paths.{Path}
 use Rattle.model_guests.specs.Text.{Text}
 use Rattle.model_guests.specs.PathTexts.{path_text}
+use Rattle.model_set_up.specs.PlacedRegions.{PlacedRegion}
 use Rattle.model_findings.specs.Problems.{Problem, not_forwarded, contended, not_found}
+use Rattle.model_findings.specs.Lacks.{Lack, not_open, outside_apertures, prefetched_by, other_primary}
 use Rattle.pciguest_c.specs.QueriesTold.{space_number}
 use Rattle.pciguest_c.specs.FunctionsTold.{text_row}
 use Rattle.pciguest_c.specs.declared.problem_rows.ProblemRow.{ProblemRow}
@@ -35,12 +38,16 @@ named_row kind path other = record {
   bus = 0;
   device = 0;
   function = 0;
+  primary = 0;
   reserved = replicate 4 0;
 }
 
+abbrev pub region_row : ℕ → PlacedRegion → ℕ → Text → ProblemRow
+region_row kind q address other =
+    record (named_row kind q.path other) { space = space_number q.space; address = address; bar = q.index }
+
 abbrev pub problem_row : Problem → ProblemRow
-problem_row (not_forwarded q bridge address) =
-    record (named_row 1 q.path (path_text bridge)) { space = space_number q.space; address = address; bar = q.index }
+problem_row (not_forwarded q bridge address) = region_row 1 q address (path_text bridge)
 problem_row (contended a b address) = record (named_row 2 a.path (path_text b.path)) {
   space = space_number a.space;
   address = address;
@@ -49,3 +56,9 @@ problem_row (contended a b address) = record (named_row 2 a.path (path_text b.pa
 }
 problem_row (not_found path at instead) =
     record (named_row 3 path (reached_text instead)) { bus = at.bus; device = at.part.device; function = at.part.function }
+
+abbrev pub lack_row : Lack → ProblemRow
+lack_row (not_open q) = region_row 4 q 0 []
+lack_row (outside_apertures q address) = region_row 5 q address []
+lack_row (prefetched_by q bridge address) = region_row 6 q address (path_text bridge)
+lack_row (other_primary path held number) = record (named_row 7 path []) { bus = number; primary = held }

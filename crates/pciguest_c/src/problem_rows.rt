@@ -1,23 +1,26 @@
-//! What C is told of a problem in the registers of a board, as one struct without pointers.
-ghost use Rattle.std.specs.Prelude.{◌≡◌, ◌++◌, ◌≤◌, drop, length, map};
+//! What C is told of a problem or a lack in the registers of a board, as one struct without pointers.
+ghost use Rattle.std.specs.Prelude.{◌≡◌, ◌≤◌, IfOk, length, map};
 ghost use Rattle.std.specs.Option.{option_map_or};
 ghost use Rattle.model_findings.specs.Problems.{not_forwarded, contended, not_found};
+ghost use Rattle.model_findings.specs.Lacks.{other_primary};
 ghost use Rattle.model_guests.specs.PathTexts.{path_text};
 ghost use Rattle.bars.specs.Kinds.{named_space};
 ghost use Rattle.paths.specs.BusAddresses.{bus_address_of};
-ghost use Rattle.findings.specs.Findings.{problem_of};
+ghost use Rattle.findings.specs.Findings.{problem_of, lack_of};
 ghost use Rattle.pciguest_c.specs.QueriesTold.{space_number};
-ghost use Rattle.pciguest_c.specs.ProblemsTold.{named_row, no_register, problem_row, reached_text};
-ghost use Rattle.pciguest_c.specs.TextsTold.{IsTold};
+ghost use Rattle.pciguest_c.specs.ProblemsTold.{named_row, region_row, no_register};
+ghost use Rattle.pciguest_c.specs.ProblemsTold.{problem_row, lack_row, reached_text};
 
 use crate::function_row::text_row;
-use crate::numbers::ARGUMENT;
 use bars::Space;
-use findings::{Agent, PathBytes, Problem, RegionNow, path_text};
+use findings::{Agent, Lack, PathBytes, Problem, RegionNow, path_text};
 use host_bridge::{Bdf, Path};
+use std::alloc::{AllocError, Global};
 
-/// A problem, as C is told of it: `kind` is 1 for a byte that a bridge doesn't forward, 2 for an address that two
-/// answer, and 3 for a function that no cycle finds. A register is that of a region, or 6 where none is told.
+/// A problem or a lack, as C is told of it. `kind` is 1 for a byte that a bridge doesn't forward, 2 for an address that two
+/// answer, and 3 for a function that no cycle finds; 4 for a region that is closed, 5 for one outside the apertures, 6 for
+/// one that a bridge prefetches, and 7 for a bridge with another Primary than its bus. A register is that of a region, or
+/// 6 where none is told.
 #[repr(C)]
 #[derive(Clone, Copy)]
 pub struct ProblemRow {
@@ -33,6 +36,7 @@ pub struct ProblemRow {
     pub bus: u32,
     pub device: u32,
     pub function: u32,
+    pub primary: u32,
     pub reserved: [u64; 4],
 }
 
@@ -59,7 +63,7 @@ fn register_number(register: Option<u8>) -> u32
     }
 }
 
-/// A problem of a function, with another one; of it nothing else is told.
+/// A problem or a lack of a function, with another one; of it nothing else is told.
 fn named_row(kind: u32, path: &Path, other: &[u8]) -> ProblemRow
     requires { length other.now ≤ 79 }
     ensures { result ≡ named_row kind path.now other.now }
@@ -78,13 +82,15 @@ fn named_row(kind: u32, path: &Path, other: &[u8]) -> ProblemRow
         bus: 0,
         device: 0,
         function: 0,
+        primary: 0,
         reserved: [0; 4],
     }
 }
 
-/// A region of which a bridge doesn't forward a byte.
-fn not_forwarded_row(region: &RegionNow, bridge: &Path, address: u64) -> ProblemRow
-    ensures { result ≡ problem_row (not_forwarded region.now bridge.now address) }
+/// One of a region, at an address.
+fn region_row(kind: u32, region: &RegionNow, address: u64, other: &[u8]) -> ProblemRow
+    requires { length other.now ≤ 79 }
+    ensures { result ≡ region_row kind region.now address other.now }
 {
     let space = space_number(region.region.kind.space());
     let bar = u32::from(region.region.index);
@@ -92,8 +98,15 @@ fn not_forwarded_row(region: &RegionNow, bridge: &Path, address: u64) -> Problem
         space,
         address,
         bar,
-        ..named_row(1, &region.path, &path_text(bridge))
+        ..named_row(kind, &region.path, other)
     }
+}
+
+/// A region of which a bridge doesn't forward a byte.
+fn not_forwarded_row(region: &RegionNow, bridge: &Path, address: u64) -> ProblemRow
+    ensures { result ≡ problem_row (not_forwarded region.now bridge.now address) }
+{
+    region_row(1, region, address, &path_text(bridge))
 }
 
 /// Two that answer an address on one bus.
@@ -154,28 +167,51 @@ fn problem_row(problem: &Problem) -> ProblemRow
     }
 }
 
-/// Puts problems at the front of a buffer that has room for them.
-fn put_problems(out: &mut [ProblemRow], problems: &[Problem])
-    requires { length problems.now ≤ length out.old }
-    ensures { out.new ≡ map problem_row (map problem_of problems.now)
-        ++ drop (length problems.now) out.old }
+/// A bridge that holds another Primary Bus Number than its bus has.
+fn other_primary_row(path: &Path, held: u8, number: u8) -> ProblemRow
+    ensures { result ≡ lack_row (other_primary path.now held number) }
 {
-    for k in 0..problems.len() {
-        out[k] = problem_row(&problems[k]);
+    ProblemRow {
+        bus: u32::from(number),
+        primary: u32::from(held),
+        ..named_row(7, path, &[])
     }
 }
 
-/// Tells how many problems there are, and puts them at the front of a buffer, or answers 902 where that has room for
-/// fewer.
-pub fn tell_problems(problems: &[Problem], out: &mut [ProblemRow], count: &mut usize) -> u32
-    ensures rows { let rows = map problem_row (map problem_of problems.now) in
-        IsTold rows out.old out.new result }
-    ensures count { count.new ≡ length (map problem_row (map problem_of problems.now)) }
+/// A lack for C.
+fn lack_row(lack: &Lack) -> ProblemRow
+    ensures { result ≡ lack_row (lack_of lack.now) }
 {
-    *count = problems.len();
-    if out.len() < problems.len() {
-        return ARGUMENT;
+    match lack {
+        Lack::NotOpen { region } => region_row(4, region, 0, &[]),
+        Lack::OutsideApertures { region, address } => region_row(5, region, *address, &[]),
+        Lack::Prefetched {
+            region,
+            bridge,
+            address,
+        } => region_row(6, region, *address, &path_text(bridge)),
+        Lack::OtherPrimary { path, held, number } => other_primary_row(path, *held, *number),
     }
-    put_problems(out, problems);
-    0
+}
+
+/// A row for each of these problems.
+pub fn problem_rows(alloc: Global, problems: &[Problem]) -> Result<Vec<ProblemRow>, AllocError>
+    ensures { IfOk result (λ v. v.items ≡ map problem_row (map problem_of problems.now)) }
+{
+    let mut rows = Vec::new(alloc);
+    for problem in problems {
+        rows.push(problem_row(problem))?;
+    }
+    Ok(rows)
+}
+
+/// A row for each of these lacks.
+pub fn lack_rows(alloc: Global, lacks: &[Lack]) -> Result<Vec<ProblemRow>, AllocError>
+    ensures { IfOk result (λ v. v.items ≡ map lack_row (map lack_of lacks.now)) }
+{
+    let mut rows = Vec::new(alloc);
+    for lack in lacks {
+        rows.push(lack_row(lack))?;
+    }
+    Ok(rows)
 }

@@ -2,23 +2,23 @@
 ghost use Rattle.std.specs.Prelude.{◌≡◌, ◌≢◌, ◌⊎◌, ◌≤◌, ◌<◌, IfOk, IfErr, string_bytes};
 ghost use Rattle.std.specs.Option.{option_map_or};
 ghost use Rattle.model_guests.specs.World.{World};
-ghost use Rattle.model_handoff.specs.Report.{report};
 ghost use Rattle.simulation.specs.Faults.{number_of};
+ghost use Rattle.simulation.specs.Listing.{report_in};
 ghost use Rattle.session.specs.Files.{Refuses, Breaks, IsSetUp};
 ghost use Rattle.pciguest_c.specs.Checks.{IsCheckOf};
 
 use simulation::{Fault, ReportForm, Style, Warned, check_text, list_in};
 use std::alloc::Global;
 
-/// The report of a board file, or the number of its refusal.
-pub fn report_of(alloc: Global, board: &[u8]) -> Result<String, u32>
+/// The report of a board file in a form, or the number of its refusal.
+pub fn report_of(alloc: Global, board: &[u8], form: ReportForm) -> Result<String, u32>
     ensures report { IfOk result (λ t.
-        (w : World) × IsSetUp board.now w × (string_bytes t ≡ report w)) }
+        (w : World) × IsSetUp board.now w × (string_bytes t ≡ report_in form w)) }
     ensures file { IfErr result (λ n. n < 199 → Refuses board.now n) }
     ensures placement { IfErr result (λ n. 199 < n → n < 299 → Breaks board.now n) }
     ensures numbers { IfErr result (λ n. (n ≢ 0) × (n ≤ 299)) }
 {
-    match list_in(alloc, board, ReportForm::Lines) {
+    match list_in(alloc, board, form) {
         Ok(text) => Ok(text),
         Err(fault) => Err(u32::from(fault.number())),
     }

@@ -1,28 +1,27 @@
 //! What C is told as text.
 ghost use Rattle.std.specs.Prelude.{◌≡◌, ◌≢◌, ◌<◌, ◌≤◌, ◌⊎◌, ℕ, length};
 ghost use Rattle.model_guests.specs.Text.{Text};
-ghost use Rattle.model_guests.specs.World.{World};
-ghost use Rattle.model_handoff.specs.Report.{report};
-ghost use Rattle.session.specs.Files.{Refuses, Breaks, IsSetUp};
-ghost use Rattle.pciguest_c.specs.Checks.{IsCheckOf};
+ghost use Rattle.pciguest_c.specs.Checks.{IsCheckOf, IsReportIn};
 ghost use Rattle.pciguest_c.specs.TextsTold.{IsTold, at_front};
 ghost use Rattle.pciguest_c.specs.NumberWords.{words_of_number};
 
 use crate::number_words::words_of;
 use crate::numbers::ARGUMENT;
 use crate::text::{check_of, report_of};
+use simulation::ReportForm;
 use std::alloc::Global;
 
-/// Puts a text at the front of a buffer that has room for it.
-pub fn put(out: &mut [u8], text: &[u8])
+/// Puts a text, or rows, at the front of a buffer that has room for it.
+pub fn put<T: Copy>(out: &mut [T], text: &[T])
     requires { length text.now ≤ length out.old }
     ensures { out.new ≡ at_front text.now out.old }
 {
     out[..text.len()].copy_from_slice(text);
 }
 
-/// Tells how long a text is, and puts it at the front of a buffer, or answers 902 where that has less room.
-pub fn tell(text: &[u8], out: &mut [u8], needed: &mut usize) -> u32
+/// Tells how long a text is, or how many rows there are, and puts it at the front of a buffer, or answers 902 where that
+/// has less room.
+pub fn tell<T: Copy>(text: &[T], out: &mut [T], needed: &mut usize) -> u32
     ensures text { IsTold text.now out.old out.new result }
     ensures needed { needed.new ≡ length text.now }
 {
@@ -54,6 +53,22 @@ pub fn tell_counted(
     number
 }
 
+/// Tells the report of a board file in a form.
+fn tell_report(
+    alloc: Global,
+    form: ReportForm,
+    board: &[u8],
+    out: &mut [u8],
+    needed: &mut usize,
+) -> u32
+    ensures { IsReportIn form board.now out.old out.new needed.old needed.new result }
+{
+    match report_of(alloc, board, form) {
+        Ok(text) => tell(text.as_bytes(), out, needed),
+        Err(number) => number,
+    }
+}
+
 /// Writes the report of a board file to the front of `out`, and tells how long it is, also where `out`
 /// has less room than that.
 #[unsafe(no_mangle)]
@@ -63,20 +78,24 @@ pub extern "C" fn pciguest_raw_report(
     out: &mut [u8],
     needed: &mut usize,
 ) -> u32
-    ensures text { result ≡ 0 → (w : World) × IsSetUp board.now w
-        × (out.new ≡ at_front (report w) out.old) × (needed.new ≡ length (report w)) }
-    ensures room { result ≡ 902 → (w : World) × IsSetUp board.now w
-        × (length out.old < length (report w)) × (needed.new ≡ length (report w)) }
-    ensures file { result ≢ 0 → result < 199 → Refuses board.now result }
-    ensures placement { 199 < result → result < 299 → Breaks board.now result }
-    ensures numbers { (result ≤ 299) ⊎ (result ≡ 902) }
-    ensures refused { result ≢ 0 → out.new ≡ out.old }
-    ensures untold { result ≢ 0 → result ≤ 299 → needed.new ≡ needed.old }
+    ensures { let form = ReportForm.Lines in
+        IsReportIn form board.now out.old out.new needed.old needed.new result }
 {
-    match report_of(alloc, board) {
-        Ok(text) => tell(text.as_bytes(), out, needed),
-        Err(number) => number,
-    }
+    tell_report(alloc, ReportForm::Lines, board, out, needed)
+}
+
+/// Writes it so as a JSON object on one line.
+#[unsafe(no_mangle)]
+pub extern "C" fn pciguest_raw_report_json(
+    alloc: Global,
+    board: &[u8],
+    out: &mut [u8],
+    needed: &mut usize,
+) -> u32
+    ensures { let form = ReportForm.Json in
+        IsReportIn form board.now out.old out.new needed.old needed.new result }
+{
+    tell_report(alloc, ReportForm::Json, board, out, needed)
 }
 
 /// Writes what a check says of a board file to the front of `out`, and tells how long it is, also where

@@ -43,7 +43,7 @@ files, lines and numbers, and docs/LIBRARY.md what is proved of the library. Thi
 """
 
 from ._board import Audit, Board, Readiness
-from ._board_problems import BoardProblem
+from ._board_problems import BoardLack, BoardProblem
 from ._calls import VERSION
 from ._declared import Register
 from ._devices import Device
@@ -55,13 +55,14 @@ from ._machine import Guest, Host, Machine
 from ._refusal import BoardRefusal, Problem, Refusal, strerror, words
 from ._regions import Hit, Moved, Region
 from ._spaces import Functions, ReadableSpace, ReadableWide, Space, Wide
-from ._texts import Check, check, report
+from ._texts import Check, check, report, report_json
 
 __all__ = [
     "Audit",
     "Bar",
     "Board",
     "BoardFunction",
+    "BoardLack",
     "BoardProblem",
     "BoardRefusal",
     "Check",
@@ -90,6 +91,7 @@ __all__ = [
     "check",
     "limits",
     "report",
+    "report_json",
     "strerror",
     "version",
     "words",

@@ -5,9 +5,9 @@ from __future__ import annotations
 import os
 from ctypes import byref, c_size_t, c_uint32
 from pathlib import Path
-from typing import Iterator, List, NamedTuple, Optional, Union
+from typing import Iterator, List, NamedTuple, Optional, Tuple, Union
 
-from ._board_problems import BoardProblem, board_problem_of
+from ._board_problems import BoardLack, BoardProblem, board_lack_of, board_problem_of
 from ._calls import ARGUMENT, CONFIG, IO, MEMORY, BoardFunctionTold, BoardHandle, ProblemTold
 from ._functions import BoardFunction, board_function_of
 from ._held import Held, as_bytes
@@ -141,11 +141,16 @@ class Board(Held):
         >>> print(Board(BOARD).audit().text.splitlines()[0])
         audit: 2.0/0.0: a cycle for 00:00.0 reaches nothing
         """
-        count = c_size_t(0)
-        with self._lock:
-            answer, text = told(1024, lambda *room: CALLS["board_audit"](byref(self._handle), *room, byref(count)))
-        answered(answer)
-        return Audit(text, count.value)
+        return Audit(*self._counted("board_audit"))
+
+    def audit_json(self) -> str:
+        """An audit as a JSON object on one line, as `pciguest audit --json` writes it.
+
+        >>> import json
+        >>> [each["type"] for each in json.loads(Board(BOARD).audit_json())["problems"]]
+        ['not found', 'not found']
+        """
+        return self._counted("board_audit_json")[0]
 
     def ready(self) -> Readiness:
         """What is wrong and what is lacking in the registers as they stand, whoever wrote them: the lines of an audit, then
@@ -155,11 +160,16 @@ class Board(Held):
         >>> print(Board(BOARD).ready().text.splitlines()[-2])
         ready: 2.0/1.0 bar0 at 0x0 size 0x1000000 is closed
         """
-        count = c_size_t(0)
-        with self._lock:
-            answer, text = told(1024, lambda *room: CALLS["board_ready"](byref(self._handle), *room, byref(count)))
-        answered(answer)
-        return Readiness(text, count.value)
+        return Readiness(*self._counted("board_ready"))
+
+    def ready_json(self) -> str:
+        """Whether the board is ready as a JSON object on one line, as `pciguest ready --json` writes it.
+
+        >>> import json
+        >>> json.loads(Board(BOARD).ready_json())["lacks"][-1]["region"]["path"]
+        '2.0/1.0'
+        """
+        return self._counted("board_ready_json")[0]
 
     def problems(self) -> List[BoardProblem]:
         """The problems of an audit, one by one, in the order of its lines. It is refused by 299 where memory is out.
@@ -167,16 +177,16 @@ class Board(Held):
         >>> [(each.kind, each.path, each.number) for each in Board(BOARD).problems()]
         [('not found', '2.0/0.0', (0, 0, 0)), ('not found', '2.0/1.0', (0, 1, 0))]
         """
-        room, count = 64, c_size_t(0)
-        with self._lock:
-            while True:
-                rows = (ProblemTold * room)()
-                answer = CALLS["board_problems"](byref(self._handle), rows, room, byref(count))
-                if answer != ARGUMENT or count.value <= room:
-                    break
-                room = count.value
-        answered(answer)
-        return [board_problem_of(told) for told in rows[: count.value]]
+        return [board_problem_of(told) for told in self._rows("board_problems")]
+
+    def lacks(self) -> List[BoardLack]:
+        """What is lacking until the board is ready, one by one, in the order of the lines of `ready`. It is refused by 299
+        where memory is out.
+
+        >>> [(each.kind, each.path, each.register) for each in Board(BOARD).lacks()][-1]
+        ('closed', '2.0/1.0', 0)
+        """
+        return [board_lack_of(told) for told in self._rows("board_lacks")]
 
     def set_up(self) -> Machine:
         """The machine that `Machine` makes of the same file: our own set-up, in place of firmware of one's own. The board
@@ -200,6 +210,25 @@ class Board(Held):
         """
         with self._lock:
             return Machine._made_by(lambda machine: CALLS["board_guests"](byref(self._handle), machine))
+
+    def _counted(self, call: str) -> Tuple[str, int]:
+        count = c_size_t(0)
+        with self._lock:
+            answer, text = told(1024, lambda *room: CALLS[call](byref(self._handle), *room, byref(count)))
+        answered(answer)
+        return text, count.value
+
+    def _rows(self, call: str) -> List[ProblemTold]:
+        room, count = 64, c_size_t(0)
+        with self._lock:
+            while True:
+                rows = (ProblemTold * room)()
+                answer = CALLS[call](byref(self._handle), rows, room, byref(count))
+                if answer != ARGUMENT or count.value <= room:
+                    break
+                room = count.value
+        answered(answer)
+        return rows[: count.value]
 
     def _space(self, space: int, bus: int, device: int, function: int) -> Space:
         def read(place: int, width: int) -> int:

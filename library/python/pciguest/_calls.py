@@ -25,6 +25,10 @@ ROOM = 4
 NOT_FORWARDED = 1
 CONTENDED = 2
 NOT_FOUND = 3
+CLOSED = 4
+OUTSIDE = 5
+PREFETCHED = 6
+OTHER_PRIMARY = 7
 
 REPLY = 48
 WORDS = 20
@@ -251,14 +255,14 @@ class BoardFunctionTold(ctypes.Structure):
 
 
 class ProblemTold(ctypes.Structure):
-    """A problem in the registers of a board, as a line of its audit tells it."""
+    """A problem in the registers of a board, as a line of its audit tells it, or a lack, as one of its readiness."""
 
     _fields_ = [
         # of enum pciguest_problem_kind
         ("kind", c_uint32),
-        # PCIGUEST_IO or PCIGUEST_MEMORY; 0 where no cycle finds the function
+        # PCIGUEST_IO or PCIGUEST_MEMORY; 0 where neither a region nor an address is told
         ("space", c_uint32),
-        # the first that is not forwarded, or that both answer; else 0
+        # the first that is not forwarded, that both answer, that is outside or prefetched; else 0
         ("address", c_uint64),
         # of the function, as in struct pciguest_function
         ("path", c_uint8 * 80),
@@ -268,14 +272,17 @@ class ProblemTold(ctypes.Structure):
         ("bar", c_uint32),
         # of the bridge, of who answers too, or of what is found in its place
         ("other", c_uint8 * 80),
-        # 0 where nothing is found
+        # 0 where there is none
         ("other_length", c_size_t),
         # the register of the region there, or 6
         ("other_bar", c_uint32),
-        # its number, by which no cycle finds it; else 0, as are the next two
+        # its number, by which no cycle finds it, or the bus of a bridge with another Primary; else 0
         ("bus", c_uint32),
+        # of that number; else 0, as is the next
         ("device", c_uint32),
         ("function", c_uint32),
+        # what a bridge holds as its Primary in place of its bus; else 0
+        ("primary", c_uint32),
         # 0
         ("reserved", c_uint64 * 4),
     ]
@@ -495,6 +502,8 @@ DECLARED: Dict[str, Tuple[Any, Tuple[Any, ...]]] = {
     # Writes the report of a board file, as `pciguest list` does, and tells its length; it has no 0 at its end. 902:
     # there is less room than that, and nothing was written; other numbers as for pciguest_new. No machine is needed.
     "report": (c_uint32, (c_char_p, c_size_t, POINTER(c_char), c_size_t, POINTER(c_size_t))),
+    # Writes it so as a JSON object on one line, as `pciguest list --json` does. Since 0.4.0.
+    "report_json": (c_uint32, (c_char_p, c_size_t, POINTER(c_char), c_size_t, POINTER(c_size_t))),
     # Writes what is wrong with a board file, or that its board fits, as `pciguest check board.toml` does, without the
     # warnings that `--all` adds, and tells the text's length; it has no 0 at its end. 0: the board fits. 101 to 112 or
     # 201 to 205: the file or its board is refused, and the text says why. 199 or 299: out of memory, and nothing was
@@ -558,6 +567,12 @@ DECLARED: Dict[str, Tuple[Any, Tuple[Any, ...]]] = {
     # which has no 0 at its end, and how many problems there are. The board stays as it is.
     # 902: there is less room than the text needs, whose length alone is told. 299: out of memory. Since 0.3.0.
     "board_audit": (c_uint32, (POINTER(BoardHandle), POINTER(c_char), c_size_t, POINTER(c_size_t), POINTER(c_size_t))),
+    # Writes so a JSON object on one line, as `pciguest audit --json` does: each problem with all that its line tells,
+    # in the same order. Since 0.4.0.
+    "board_audit_json": (
+        c_uint32,
+        (POINTER(BoardHandle), POINTER(c_char), c_size_t, POINTER(c_size_t), POINTER(c_size_t)),
+    ),
     # Writes what is wrong in the registers of a board as they stand, as pciguest_board_audit does but for its last
     # line, then a line for each thing that they lack, and a last line `ready: ok`, or as `ready: 1 problem, 2 lacks`
     # what there is. What is lacking is a region that is closed, outside the apertures or prefetched where it mustn't
@@ -565,10 +580,18 @@ DECLARED: Dict[str, Tuple[Any, Tuple[Any, ...]]] = {
     # there are: the board is ready where that is 0. The board stays as it is.
     # 902: there is less room than the text needs, whose length alone is told. 299: out of memory. Since 0.4.0.
     "board_ready": (c_uint32, (POINTER(BoardHandle), POINTER(c_char), c_size_t, POINTER(c_size_t), POINTER(c_size_t))),
+    # Writes so a JSON object on one line, as `pciguest ready --json` does: each problem and each lack with all that its
+    # line tells, in the same order. Since 0.4.0.
+    "board_ready_json": (
+        c_uint32,
+        (POINTER(BoardHandle), POINTER(c_char), c_size_t, POINTER(c_size_t), POINTER(c_size_t)),
+    ),
     # Writes a row for each problem that pciguest_board_audit has a line of, in the same order, and tells how many there
     # are. The board stays as it is. 902: there is room for fewer rows than that, whose number alone is told. 299: out
     # of memory. Since 0.4.0.
     "board_problems": (c_uint32, (POINTER(BoardHandle), POINTER(ProblemTold), c_size_t, POINTER(c_size_t))),
+    # Writes so a row for each lack that pciguest_board_ready has a line of, in the same order. Since 0.4.0.
+    "board_lacks": (c_uint32, (POINTER(BoardHandle), POINTER(ProblemTold), c_size_t, POINTER(c_size_t))),
     # Sets up a board that is at reset as pciguest_new does, in place of firmware of one's own, and gives its functions
     # to the guests of its file: the machine is then the one that pciguest_new makes of the file. The board stays as it
     # is.

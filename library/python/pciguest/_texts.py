@@ -28,10 +28,23 @@ class Check(NamedTuple):
 
 def report(board: Union[str, bytes], name: str = NAME) -> str:
     """The report of a board file, as `pciguest list` writes it. It is refused as `Machine` is."""
+    return _reported("report", board, name)
+
+
+def report_json(board: Union[str, bytes], name: str = NAME) -> str:
+    """The report of a board file as a JSON object on one line, as `pciguest list --json` writes it. It is refused as
+    `Machine` is.
+
+    >>> report_json("[host]\\nio = [0x1000, 0xffff]\\nmem = [0xc0000000, 0xdfffffff]\\n")
+    '{"bridges":0,"endpoints":0,"functions":[],"guests":[]}\\n'
+    """
+    return _reported("report_json", board, name)
+
+
+def _reported(call: str, board: Union[str, bytes], name: str) -> str:
     text = as_bytes(board)
-    call: Callable[..., int] = CALLS["report"]
     with explained(text, name):
-        answer, lines = told(4096, lambda *rest: call(text, len(text), *rest))
+        answer, lines = told(4096, lambda *rest: CALLS[call](text, len(text), *rest))
         answered(answer)
     return lines
 

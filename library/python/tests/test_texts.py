@@ -1,10 +1,11 @@
 """Reports, checks and words over all boards of the folder `boards`; and the examples in docstrings."""
 
 import doctest
+import json
 import unittest
 
 from boards import BOARDS, MAIN
-from pciguest import Machine, Refusal, Register, check, report, strerror, words
+from pciguest import Machine, Refusal, Register, check, report, report_json, strerror, words
 
 
 def load_tests(loader, tests, pattern):
@@ -35,6 +36,7 @@ class Texts(unittest.TestCase):
                 made = number(Machine, board)
                 self.assertEqual(told.refusal.number if told.refusal else 0, made)
                 self.assertEqual(number(report, board), made)
+                self.assertEqual(number(report_json, board), made)
                 self.assertEqual(told.text.startswith("ok\n"), made == 0)
                 self.assertTrue(told.text.endswith("\n"))
 
@@ -42,6 +44,14 @@ class Texts(unittest.TestCase):
         text = report((BOARDS / "largest.toml").read_bytes())
         self.assertGreater(len(text), 4096)
         self.assertTrue(text.startswith("endpoints 769 bridges 255\n") and text.endswith("\n"))
+
+    def test_a_report_as_json_tells_the_same(self):
+        for name in ("main", "kinds", "largest"):
+            board = (BOARDS / f"{name}.toml").read_bytes()
+            lines, told = report(board).splitlines(), json.loads(report_json(board))
+            self.assertEqual(lines[0], f"endpoints {told['endpoints']} bridges {told['bridges']}")
+            paths = [line.split()[1] for line in lines[1:] if line[0] not in " g"]
+            self.assertEqual([each["path"] for each in told["functions"]], paths)
 
     def test_words(self):
         self.assertEqual(sum(words(each) != "" for each in range(1000)), 45)

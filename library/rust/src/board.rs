@@ -1,7 +1,7 @@
 //! A board that firmware of one's own drives, from reset on.
 
 use crate::error::{answered, Error};
-use crate::function::{BoardFunction, BoardProblem};
+use crate::function::{BoardFunction, BoardLack, BoardProblem};
 use crate::machine::Machine;
 use crate::place::HostAt;
 use crate::prelude::*;
@@ -27,6 +27,11 @@ pub struct Readiness {
     /// How many problems and lacks there are: the board is ready where there is none.
     pub lacks: usize,
 }
+
+/// A call that tells a text and how much it counts, and one that tells rows.
+type TextCall =
+    unsafe extern "C" fn(*mut BoardHandle, *mut u8, usize, *mut usize, *mut usize) -> u32;
+type RowsCall = unsafe extern "C" fn(*mut BoardHandle, *mut raw::Problem, usize, *mut usize) -> u32;
 
 /// A board that firmware of one's own drives, from reset on: it gives out the numbers of buses and the addresses of
 /// regions. What it holds is freed when it is dropped.
@@ -243,12 +248,23 @@ impl Board {
     /// # Ok::<(), pciguest::Error>(())
     /// ```
     pub fn audit(&mut self) -> Result<Audit, Error> {
-        let mut problems = 0;
-        // SAFETY: the text has as many bytes as is said, and nothing overlaps.
-        let (number, text) = told(1024, |text, room, needed| unsafe {
-            raw::pciguest_board_audit(&mut self.handle, text, room, needed, &mut problems)
-        });
-        answered(number).map(|()| Audit { text, problems })
+        let (text, problems) = self.counted(raw::pciguest_board_audit)?;
+        Ok(Audit { text, problems })
+    }
+
+    /// An [audit](Board::audit) as a JSON object on one line, as `pciguest audit --json` writes it.
+    ///
+    /// # Errors
+    ///
+    /// Out of memory alone.
+    ///
+    /// ```
+    /// # const BOARD: &str = include_str!("board.toml");
+    /// assert_eq!(pciguest::Board::new(BOARD)?.audit_json()?, "{\"problems\":[]}\n");
+    /// # Ok::<(), pciguest::Error>(())
+    /// ```
+    pub fn audit_json(&mut self) -> Result<String, Error> {
+        Ok(self.counted(raw::pciguest_board_audit_json)?.0)
     }
 
     /// What is wrong and what is lacking in the registers as they stand, whoever wrote them: the lines of an
@@ -267,12 +283,33 @@ impl Board {
     /// # Ok::<(), pciguest::Error>(())
     /// ```
     pub fn ready(&mut self) -> Result<Readiness, Error> {
-        let mut lacks = 0;
+        let (text, lacks) = self.counted(raw::pciguest_board_ready)?;
+        Ok(Readiness { text, lacks })
+    }
+
+    /// Whether the board is [ready](Board::ready) as a JSON object on one line, as `pciguest ready --json` writes it.
+    ///
+    /// # Errors
+    ///
+    /// Out of memory alone.
+    ///
+    /// ```
+    /// # const BOARD: &str = include_str!("board.toml");
+    /// let ready = pciguest::Board::new(BOARD)?.ready_json()?;
+    /// assert!(ready.starts_with("{\"lacks\":[{\"region\":{\"bar\":0,") && ready.ends_with(",\"problems\":[]}\n"));
+    /// # Ok::<(), pciguest::Error>(())
+    /// ```
+    pub fn ready_json(&mut self) -> Result<String, Error> {
+        Ok(self.counted(raw::pciguest_board_ready_json)?.0)
+    }
+
+    fn counted(&mut self, call: TextCall) -> Result<(String, usize), Error> {
+        let mut count = 0;
         // SAFETY: the text has as many bytes as is said, and nothing overlaps.
         let (number, text) = told(1024, |text, room, needed| unsafe {
-            raw::pciguest_board_ready(&mut self.handle, text, room, needed, &mut lacks)
+            call(&mut self.handle, text, room, needed, &mut count)
         });
-        answered(number).map(|()| Readiness { text, lacks })
+        answered(number).map(|()| (text, count))
     }
 
     /// The problems of an [audit](Board::audit), one by one, in the order of its lines.
@@ -287,22 +324,42 @@ impl Board {
     /// # Ok::<(), pciguest::Error>(())
     /// ```
     pub fn problems(&mut self) -> Result<Vec<BoardProblem>, Error> {
+        let rows = self.rows(raw::pciguest_board_problems)?;
+        Ok(rows.iter().map(BoardProblem::of).collect())
+    }
+
+    /// What is lacking until the board is [ready](Board::ready), one by one, in the order of its lines.
+    ///
+    /// # Errors
+    ///
+    /// Out of memory alone.
+    ///
+    /// ```
+    /// # const BOARD: &str = include_str!("board.toml");
+    /// use pciguest::{BoardLack, Space};
+    ///
+    /// let closed = BoardLack::Closed { path: "1.0".to_owned(), register: 0, space: Space::Memory };
+    /// assert_eq!(pciguest::Board::new(BOARD)?.lacks()?, [closed]);
+    /// # Ok::<(), pciguest::Error>(())
+    /// ```
+    pub fn lacks(&mut self) -> Result<Vec<BoardLack>, Error> {
+        let rows = self.rows(raw::pciguest_board_lacks)?;
+        Ok(rows.iter().map(BoardLack::of).collect())
+    }
+
+    fn rows(&mut self, call: RowsCall) -> Result<Vec<raw::Problem>, Error> {
         let mut rows = Vec::new();
         let mut count = 64;
         loop {
             rows.resize_with(count, raw::Problem::default);
             // SAFETY: there are as many rows as is said, and nothing overlaps.
             let answer = answered(unsafe {
-                raw::pciguest_board_problems(
-                    &mut self.handle,
-                    rows.as_mut_ptr(),
-                    rows.len(),
-                    &mut count,
-                )
+                call(&mut self.handle, rows.as_mut_ptr(), rows.len(), &mut count)
             });
             if answer.is_ok() || count <= rows.len() {
                 answer?;
-                return Ok(rows[..count].iter().map(BoardProblem::of).collect());
+                rows.truncate(count);
+                return Ok(rows);
             }
         }
     }

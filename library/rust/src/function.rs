@@ -142,19 +142,101 @@ pub enum BoardProblem {
     },
 }
 
+/// What is lacking in the registers of a [`Board`](crate::Board), as a line of its readiness tells it.
+#[derive(Clone, Debug, PartialEq, Eq)]
+pub enum BoardLack {
+    /// A region is closed.
+    Closed {
+        /// Where the region's function stands.
+        path: String,
+        /// Its base address register.
+        register: u8,
+        /// The space.
+        space: Space,
+    },
+    /// An open region is outside the apertures.
+    Outside {
+        /// Where the region's function stands.
+        path: String,
+        /// Its base address register.
+        register: u8,
+        /// The space.
+        space: Space,
+        /// The first address that is outside.
+        address: u64,
+    },
+    /// A bridge prefetches memory that mustn't be.
+    Prefetched {
+        /// Where the region's function stands.
+        path: String,
+        /// Its base address register.
+        register: u8,
+        /// Where the bridge stands.
+        bridge: String,
+        /// The first address that it prefetches.
+        address: u64,
+    },
+    /// A bridge holds another Primary Bus Number than its bus.
+    OtherPrimary {
+        /// Where the bridge stands.
+        path: String,
+        /// What it holds.
+        primary: u8,
+        /// The number of its bus.
+        bus: u8,
+    },
+}
+
+/// Both paths that a row tells, and the space.
+fn told_in(told: &raw::Problem) -> (String, String, Space) {
+    let text = |bytes: &[u8], length| String::from_utf8_lossy(&bytes[..length]).into_owned();
+    let space = if told.space == raw::IO {
+        Space::Io
+    } else {
+        Space::Memory
+    };
+    (
+        text(&told.path, told.path_length),
+        text(&told.other, told.other_length),
+        space,
+    )
+}
+
+impl BoardLack {
+    pub(crate) fn of(told: &raw::Problem) -> BoardLack {
+        let (path, bridge, space) = told_in(told);
+        let (register, address) = (told.bar as u8, told.address);
+        match told.kind {
+            raw::CLOSED => BoardLack::Closed {
+                path,
+                register,
+                space,
+            },
+            raw::OUTSIDE => BoardLack::Outside {
+                path,
+                register,
+                space,
+                address,
+            },
+            raw::PREFETCHED => BoardLack::Prefetched {
+                path,
+                register,
+                bridge,
+                address,
+            },
+            _ => BoardLack::OtherPrimary {
+                path,
+                primary: told.primary as u8,
+                bus: told.bus as u8,
+            },
+        }
+    }
+}
+
 impl BoardProblem {
     pub(crate) fn of(told: &raw::Problem) -> BoardProblem {
-        let text = |bytes: &[u8], length| String::from_utf8_lossy(&bytes[..length]).into_owned();
-        let (path, other) = (
-            text(&told.path, told.path_length),
-            text(&told.other, told.other_length),
-        );
+        let (path, other, space) = told_in(told);
         let register = |bar| (bar < raw::BARS as u32).then_some(bar as u8);
-        let space = if told.space == raw::IO {
-            Space::Io
-        } else {
-            Space::Memory
-        };
         let address = told.address;
         match told.kind {
             raw::NOT_FORWARDED => BoardProblem::NotForwarded {

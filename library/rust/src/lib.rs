@@ -90,13 +90,13 @@ pub use device::{DeviceModel, Registers};
 pub use differs::Difference;
 pub use error::{Error, Refusal};
 pub use function::{
-    Bar, BoardFunction, BoardProblem, Function, Functions, Interrupt, Ranges, Window,
+    Bar, BoardFunction, BoardLack, BoardProblem, Function, Functions, Interrupt, Ranges, Window,
 };
 pub use limits::{limits, Limits};
 pub use machine::Machine;
 pub use moved::{Moved, Places};
 pub use place::{At, Guest, Hit, HostAt, Part, Region, Space};
-pub use text::{check, report, strerror, version, words, Check};
+pub use text::{check, report, report_json, strerror, version, words, Check};
 
 #[cfg(feature = "std")]
 pub use load::LoadError;

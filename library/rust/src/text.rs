@@ -3,8 +3,8 @@
 use crate::error::{answered, Error};
 use crate::prelude::*;
 use crate::raw::{
-    pciguest_check, pciguest_report, pciguest_strerror, pciguest_version, pciguest_words, ARGUMENT,
-    REPLY, WORDS,
+    pciguest_check, pciguest_report, pciguest_report_json, pciguest_strerror, pciguest_version,
+    pciguest_words, ARGUMENT, REPLY, WORDS,
 };
 use core::ffi::CStr;
 
@@ -34,6 +34,22 @@ pub fn report(board: impl AsRef<[u8]>) -> Result<String, Error> {
     // SAFETY: `board` has as many bytes as is said, and so has the text; nothing overlaps.
     let (number, text) = told(4096, |text, room, needed| unsafe {
         pciguest_report(board.as_ptr(), board.len(), text, room, needed)
+    });
+    answered(number).map(|()| text)
+}
+
+/// The [report] of a board file as a JSON object on one line, as `pciguest list --json` writes it. Refused as the report is.
+///
+/// ```
+/// # const BOARD: &str = include_str!("board.toml");
+/// assert!(pciguest::report_json(BOARD)?.starts_with("{\"bridges\":0,\"endpoints\":1,"));
+/// # Ok::<(), pciguest::Error>(())
+/// ```
+pub fn report_json(board: impl AsRef<[u8]>) -> Result<String, Error> {
+    let board = board.as_ref();
+    // SAFETY: as for a report.
+    let (number, text) = told(4096, |text, room, needed| unsafe {
+        pciguest_report_json(board.as_ptr(), board.len(), text, room, needed)
     });
     answered(number).map(|()| text)
 }

@@ -1,6 +1,6 @@
 //! Reports, checks and words, over all boards of the folder `boards`.
 
-use pciguest::{check, report, strerror, words, Machine};
+use pciguest::{check, report, report_json, strerror, words, Machine};
 use std::ffi::OsStr;
 use std::fs;
 use std::path::{Path, PathBuf};
@@ -36,6 +36,7 @@ fn a_check_a_report_and_a_machine_agree() {
         let made = Machine::new(&board).err();
         assert_eq!(check.refusal, made, "{name}");
         assert_eq!(report(&board).err(), made, "{name}");
+        assert_eq!(report_json(&board).err(), made, "{name}");
         assert_eq!(check.text.starts_with("ok\n"), made.is_none(), "{name}");
         assert!(check.text.ends_with('\n'), "{name}");
     }
@@ -44,6 +45,8 @@ fn a_check_a_report_and_a_machine_agree() {
 #[test]
 fn long_texts_come_whole() {
     let board = fs::read(folder().join("largest.toml")).unwrap();
+    let json = report_json(&board).unwrap();
+    assert!(json.starts_with("{\"bridges\":255,\"endpoints\":769,") && json.ends_with("}\n"));
     let report = report(board).unwrap();
     assert!(report.len() > 4096 && report.starts_with("endpoints 769 bridges 255\n"));
     assert!(report.ends_with('\n'));

@@ -18,6 +18,10 @@ pub const ROOM: usize = 4;
 pub const NOT_FORWARDED: u32 = 1;
 pub const CONTENDED: u32 = 2;
 pub const NOT_FOUND: u32 = 3;
+pub const CLOSED: u32 = 4;
+pub const OUTSIDE: u32 = 5;
+pub const PREFETCHED: u32 = 6;
+pub const OTHER_PRIMARY: u32 = 7;
 
 pub const REPLY: usize = 48;
 pub const WORDS: usize = 20;
@@ -311,14 +315,14 @@ impl Default for BoardFunction {
     }
 }
 
-/// A problem in the registers of a board, as a line of its audit tells it.
+/// A problem in the registers of a board, as a line of its audit tells it, or a lack, as one of its readiness.
 #[repr(C)]
 pub struct Problem {
     /// of enum pciguest_problem_kind
     pub kind: u32,
-    /// PCIGUEST_IO or PCIGUEST_MEMORY; 0 where no cycle finds the function
+    /// PCIGUEST_IO or PCIGUEST_MEMORY; 0 where neither a region nor an address is told
     pub space: u32,
-    /// the first that is not forwarded, or that both answer; else 0
+    /// the first that is not forwarded, that both answer, that is outside or prefetched; else 0
     pub address: u64,
     /// of the function, as in struct pciguest_function
     pub path: [u8; 80],
@@ -328,14 +332,17 @@ pub struct Problem {
     pub bar: u32,
     /// of the bridge, of who answers too, or of what is found in its place
     pub other: [u8; 80],
-    /// 0 where nothing is found
+    /// 0 where there is none
     pub other_length: usize,
     /// the register of the region there, or 6
     pub other_bar: u32,
-    /// its number, by which no cycle finds it; else 0, as are the next two
+    /// its number, by which no cycle finds it, or the bus of a bridge with another Primary; else 0
     pub bus: u32,
+    /// of that number; else 0, as is the next
     pub device: u32,
     pub function: u32,
+    /// what a bridge holds as its Primary in place of its bus; else 0
+    pub primary: u32,
     /// 0
     pub reserved: [u64; 4],
 }
@@ -355,6 +362,7 @@ impl Default for Problem {
             bus: 0,
             device: 0,
             function: 0,
+            primary: 0,
             reserved: [0; 4],
         }
     }
@@ -745,6 +753,14 @@ extern "C" {
         room: usize,
         needed: *mut usize,
     ) -> u32;
+    /// Writes it so as a JSON object on one line, as `pciguest list --json` does. Since 0.4.0.
+    pub fn pciguest_report_json(
+        board: *const u8,
+        length: usize,
+        text: *mut u8,
+        room: usize,
+        needed: *mut usize,
+    ) -> u32;
     /// Writes what is wrong with a board file, or that its board fits, as `pciguest check board.toml` does, without the
     /// warnings that `--all` adds, and tells the text's length; it has no 0 at its end. 0: the board fits. 101 to 112
     /// or 201 to 205: the file or its board is refused, and the text says why. 199 or 299: out of memory, and nothing
@@ -840,6 +856,15 @@ extern "C" {
         needed: *mut usize,
         count: *mut usize,
     ) -> u32;
+    /// Writes so a JSON object on one line, as `pciguest audit --json` does: each problem with all that its line tells,
+    /// in the same order. Since 0.4.0.
+    pub fn pciguest_board_audit_json(
+        board: *mut BoardHandle,
+        text: *mut u8,
+        room: usize,
+        needed: *mut usize,
+        count: *mut usize,
+    ) -> u32;
     /// Writes what is wrong in the registers of a board as they stand, as pciguest_board_audit does but for its last
     /// line, then a line for each thing that they lack, and a last line `ready: ok`, or as `ready: 1 problem, 2 lacks`
     /// what there is. What is lacking is a region that is closed, outside the apertures or prefetched where it mustn't
@@ -853,12 +878,28 @@ extern "C" {
         needed: *mut usize,
         count: *mut usize,
     ) -> u32;
+    /// Writes so a JSON object on one line, as `pciguest ready --json` does: each problem and each lack with all that
+    /// its line tells, in the same order. Since 0.4.0.
+    pub fn pciguest_board_ready_json(
+        board: *mut BoardHandle,
+        text: *mut u8,
+        room: usize,
+        needed: *mut usize,
+        count: *mut usize,
+    ) -> u32;
     /// Writes a row for each problem that pciguest_board_audit has a line of, in the same order, and tells how many
     /// there are. The board stays as it is. 902: there is room for fewer rows than that, whose number alone is told.
     /// 299: out of memory. Since 0.4.0.
     pub fn pciguest_board_problems(
         board: *mut BoardHandle,
         problems: *mut Problem,
+        room: usize,
+        count: *mut usize,
+    ) -> u32;
+    /// Writes so a row for each lack that pciguest_board_ready has a line of, in the same order. Since 0.4.0.
+    pub fn pciguest_board_lacks(
+        board: *mut BoardHandle,
+        lacks: *mut Problem,
         room: usize,
         count: *mut usize,
     ) -> u32;
