@@ -285,6 +285,23 @@ uint32_t pciguest_load(struct pciguest *machine, size_t guest, const void *image
     return answer;
 }
 
+uint32_t pciguest_image_fault(struct pciguest *machine, size_t guest, const void *image, size_t length, char *text,
+                              size_t room, size_t *needed)
+{
+    struct pciguest held_machine;
+    uint8_t none;
+    uint32_t answer;
+
+    if (!machine || (!image && length) || (!text && room) || !needed)
+        return PCIGUEST_ARGUMENT;
+    if (!TAKE(machine, held_machine))
+        return PCIGUEST_BUSY;
+    answer = pciguest_raw_image_fault(&held_machine, guest, image ? (const uint8_t *)image : (const uint8_t *)"",
+                                      length, text ? (uint8_t *)text : &none, room, needed);
+    PUT_BACK(machine, held_machine);
+    return answer;
+}
+
 uint32_t pciguest_image_size_all(struct pciguest *machine, size_t *size)
 {
     struct pciguest held_machine;

@@ -29,6 +29,8 @@ uint32_t pciguest_raw_reset_guest(struct pciguest *machine, size_t guest);
 uint32_t pciguest_raw_image_size(struct pciguest *machine, size_t guest, size_t *size);
 uint32_t pciguest_raw_save(struct pciguest *machine, size_t guest, uint8_t *image, size_t room, size_t *needed);
 uint32_t pciguest_raw_load(struct pciguest *machine, size_t guest, const uint8_t *image, size_t length);
+uint32_t pciguest_raw_image_fault(struct pciguest *machine, size_t guest, const uint8_t *image, size_t length,
+                                  uint8_t *text, size_t room, size_t *needed);
 uint32_t pciguest_raw_image_size_all(struct pciguest *machine, size_t *size);
 uint32_t pciguest_raw_save_all(struct pciguest *machine, uint8_t *image, size_t room, size_t *needed);
 uint32_t pciguest_raw_load_all(struct pciguest *machine, const uint8_t *image, size_t length);

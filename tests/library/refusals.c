@@ -33,6 +33,7 @@ static void without_a_machine(void)
     IS(pciguest_image_size(&none, 0, &count), 901);
     IS(pciguest_save(&none, 0, reply, sizeof reply, &count), 901);
     IS(pciguest_load(&none, 0, reply, sizeof reply), 901);
+    IS(pciguest_image_fault(&none, 0, reply, sizeof reply, reply, sizeof reply, &count), 901);
     IS(pciguest_image_size_all(&none, &count), 901);
     IS(pciguest_save_all(&none, reply, sizeof reply, &count), 901);
     IS(pciguest_load_all(&none, reply, sizeof reply), 901);
@@ -98,6 +99,10 @@ static void null_pointers(struct pciguest *machine)
     IS(pciguest_load(NULL, 0, reply, sizeof reply), 902);
     IS(pciguest_load(machine, 0, NULL, 1), 902);
     IS(pciguest_load(machine, 0, NULL, 0), 905);
+    IS(pciguest_image_fault(NULL, 0, reply, sizeof reply, reply, sizeof reply, &count), 902);
+    IS(pciguest_image_fault(machine, 0, NULL, 1, reply, sizeof reply, &count), 902);
+    IS(pciguest_image_fault(machine, 0, reply, sizeof reply, NULL, 1, &count), 902);
+    IS(pciguest_image_fault(machine, 0, reply, sizeof reply, reply, sizeof reply, NULL), 902);
     IS(pciguest_image_size_all(NULL, &count), 902);
     IS(pciguest_image_size_all(machine, NULL), 902);
     IS(pciguest_save_all(NULL, reply, sizeof reply, &count), 902);
@@ -176,6 +181,7 @@ static void bad_arguments(struct pciguest *machine, const uint8_t *board, size_t
     IS(pciguest_image_size(machine, 2, &count), 902);
     IS(pciguest_save(machine, 2, reply, sizeof reply, &count), 902);
     IS(pciguest_load(machine, 2, reply, sizeof reply), 902);
+    IS(pciguest_image_fault(machine, 2, reply, sizeof reply, reply, sizeof reply, &count), 902);
     IS(pciguest_load(machine, 0, reply, sizeof reply), 905);
     IS(pciguest_load_all(machine, reply, sizeof reply), 905);
     IS(pciguest_give(machine, "1.0", 3, 2, 5), 902);
@@ -290,6 +296,29 @@ static void resets(struct pciguest *machine)
     IS(value, 2);
 }
 
+/* What differs in an image of other functions, or nothing, each allocation failing in turn. */
+static void tells_what_differs(struct pciguest *machine, size_t guest, const uint8_t *image, size_t size, const char *text)
+{
+    size_t length = strlen(text), needed = 7;
+    char told[128] = "?";
+    uint32_t fault = 299;
+    long kept = blocks;
+
+    for (long left = 1; fault == 299; left++) {
+        calls_left = left;
+        fault = pciguest_image_fault(machine, guest, image, size, told, sizeof told, &needed);
+        calls_left = -1;
+        IS(fault == 0 || (fault == 299 && needed == 7 && told[0] == '?'), 1);
+        IS((uint64_t)blocks, (uint64_t)kept);
+    }
+    IS(fault, 0);
+    IS(needed, length);
+    IS(memcmp(told, text, length), 0);
+    if (length > 0)
+        IS(pciguest_image_fault(machine, guest, image, size, told, length - 1, &needed), 902);
+    IS(needed, length);
+}
+
 /* A guest is saved, loaded and put to reset without memory. Its image tells how much room it needs, and what stands behind it in
  * the room stays. */
 static void images(struct pciguest *machine)
@@ -326,6 +355,9 @@ static void images(struct pciguest *machine)
     IS(needed, size);
     IS(pciguest_read(machine, 0, PCIGUEST_CONFIG, 1, 0x3c, 1, &value), 0);
     IS(value, 0);
+    tells_what_differs(machine, 1, image, size, "slot 0: device 0x1, here 0x3");
+    tells_what_differs(machine, 0, image, size, "");
+    tells_what_differs(machine, 0, image, size + 1, "");
 }
 
 /* So is the whole machine. */

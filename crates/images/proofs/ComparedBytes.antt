@@ -10,12 +10,7 @@ use Rattle.model_registers.specs.Declarations.{Region, ConfigBlock, Endpoint}
 use Rattle.model_registers.specs.DeclarationRules.{IsConfigBlock, IsLawfulEndpoint}
 use Rattle.model_images.proofs.Savable.{block_count}
 use Rattle.images.specs.Parts.{counted_blocks, region_bytes, rest_bytes}
-use Rattle.model_images.proofs.LoadedBytes.{compared, own_bytes, Follows, FallsShort}
-
-after_both : (k : ℕ) (xs ys bytes : List ℕ) → after_bytes k (xs ++ ys) bytes ≡ then_read (after_bytes k ys) (after_bytes k xs bytes)
-after_both k [] ys bytes = refl
-after_both k (x ∷ xs) ys [] = refl
-after_both k (x ∷ xs) ys (b ∷ bytes) = grind (arith, after_both k xs ys bytes)
+use Rattle.model_images.proofs.LoadedBytes.{compared, after_both, own_bytes, Follows, FallsShort}
 
 same : (xs ys : List ℕ) → bytes_eq xs ys ≡ true → xs ≡ ys
 same xs ys h = (bytes_eq-Decides xs ys).0 h

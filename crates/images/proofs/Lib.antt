@@ -15,3 +15,4 @@ pub mod FoundParts
 pub mod HeldCells
 pub mod IndexedBytes
 pub mod SeatedFunctions
+mod ComparedFields

@@ -7,3 +7,4 @@ pub mod MachineFaults
 pub mod BoardBytes
 pub mod FoundPaths
 pub mod HeldLaws
+pub mod Differences

@@ -2,7 +2,8 @@
 //!
 //! The bytes of images, where they lie: of the functions of a guest, from their declarations, the registers that the board
 //! holds and the guest's own copies; and of the functions of a board in a machine's image. They are written into a buffer,
-//! and bytes are compared with them. That what a board declares can be written. No call takes memory.
+//! and bytes are compared with them, and what differs is told. That what a board declares can be written. But for a text, no
+//! call takes memory.
 #![tactic(auto)]
 
 ghost use Rattle.images.specs.HeldLaws.{HeldAsSeated};
@@ -12,6 +13,7 @@ mod board_rows;
 mod cells;
 mod comparing;
 mod declarations;
+mod differences;
 mod fault;
 mod found_path;
 mod function_bytes;
@@ -23,6 +25,7 @@ mod held_cells;
 mod machine_fault;
 mod parts;
 mod sizes;
+mod slot_difference;
 mod values;
 mod writing;
 
@@ -31,6 +34,7 @@ pub use board_rows::{after_own, after_row, row_size, write_row};
 pub use cells::{CellPlace, DeclaredCell, bridge_cell, endpoint_cell, is_own};
 pub use comparing::{after, after_declaration};
 pub use declarations::read_declarations;
+pub use differences::{Difference, Holder, empty_difference, front, function_difference};
 pub use fault::ImageFault;
 pub use found_path::after_path;
 pub use function_comparing::after_function;
@@ -41,6 +45,7 @@ pub use heading::{
 pub use held_cells::{after_held, held_size, write_held};
 pub use machine_fault::MachineFault;
 pub use sizes::{bridge_values_size, declaration_size, values_size};
+pub use slot_difference::{SlotDifference, difference_text};
 pub use values::after_values;
 pub use writing::{put, write_declaration};
 

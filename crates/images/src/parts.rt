@@ -40,14 +40,14 @@ pub(crate) fn eight(number: u64) -> [u8; 8]
 }
 
 /// The bits of a cell that a write sets.
-fn writable(cell: &Cell) -> u8
+pub(crate) fn writable(cell: &Cell) -> u8
     ensures { result ≡ cell.now.writable }
 {
     cell.with_value(0).written(0xff).value()
 }
 
 /// The bits of a cell that writing a one clears.
-fn clearable(cell: &Cell) -> u8
+pub(crate) fn clearable(cell: &Cell) -> u8
     ensures { result ≡ cell.now.clearable }
 {
     cell.with_value(0).raised(0xff).value()
@@ -63,7 +63,7 @@ pub(crate) fn cell_bytes(cell: &Cell) -> [u8; 3]
 }
 
 /// The number by which an image names a kind of region.
-fn kind_number(kind: Kind) -> u8
+pub(crate) fn kind_number(kind: Kind) -> u8
     ensures { result ≡ kind_number (kind_of kind) }
 {
     match kind {

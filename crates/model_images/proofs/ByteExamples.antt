@@ -1,8 +1,10 @@
 -- The worked examples, by computation.
+use Rattle.std.specs.Fmt.{digits}
 use Rattle.model_images.specs.ByteExamples.{ByteExamples}
 use Rattle.model_images.specs.MachineByteExamples.{MachineByteExamples}
 
 pub byte_examples : ByteExamples
+unfolding digits
 byte_examples = assumption
 
 pub machine_byte_examples : MachineByteExamples

@@ -34,4 +34,5 @@ mod SavedMachines
 mod SavedWorlds
 mod FewFunctions
 pub mod WritableWorlds
+mod Differences
 mod ByteExamples

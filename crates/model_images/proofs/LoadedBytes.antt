@@ -14,7 +14,7 @@ use Rattle.model_guests.specs.Lone.{LoneGuest}
 use Rattle.model_images.specs.Images.{SavedFunction, Image, image_of_lone, fit_cells, Fits, FitsSlot, FitSlots}
 use Rattle.model_images.specs.FitLaws.{HoldsFitting}
 use Rattle.model_images.proofs.Fitting.{saved_slots}
-use Rattle.model_images.specs.Layouts.{Layout, Parsed, le_bytes, number, fit_times, optional}
+use Rattle.model_images.specs.Layouts.{Layout, le_bytes, number, fit_times, optional}
 use Rattle.model_images.specs.ImageBytes.{endpoint_layout, function_layout, declaration_bytes, image_bytes}
 use Rattle.model_images.specs.ByteLaws.{IsLayout, HasBytes, HoldsSavable, IsSavableGuest}
 use Rattle.model_images.specs.LoadedBytes.{Left, then_read, after_version, after_beginning, after_bytes, after_values, after_slot, after_slots_front, at_end, after_slots, after_number, after_latch, after_image_front, after_image, fault_of, load_fault}
@@ -22,7 +22,7 @@ use Rattle.model_images.specs.LoadedLaws.{AlikeAccepted, ImagesDecided, IsOfOthe
 use Rattle.model_images.specs.TakenBytes.{HoldsDeclared, IsDeclaredGuest}
 use Rattle.model_images.proofs.Numbers.{number_again}
 use Rattle.model_images.proofs.ImageLayouts.{endpoint_is}
-use Rattle.model_images.proofs.ImageBytes.{read_are_bytes, HasParts, parts_of, FunctionParts, function_parts, slot_fits}
+use Rattle.model_images.proofs.ImageBytes.{read_are_bytes, parts_of, FunctionParts, function_parts, slot_fits}
 use Rattle.model_images.proofs.Savable.{endpoint_fits, guests_have_bytes}
 
 -- ---- bytes that are compared
@@ -41,6 +41,12 @@ pub compared : (k : ℕ) (xs bytes : List ℕ) → ((rest : List ℕ) × Follows
 compared k [] bytes = inl (bytes, record { left = refl; are = refl })
 compared k (x ∷ xs) [] = inr (inr (record { next = x; rest = xs; are = refl }))
 compared k (x ∷ xs) (b ∷ bytes) = grind (arith, eqb-true, compared k xs bytes)
+
+-- one after the other
+pub after_both : (k : ℕ) (xs ys bytes : List ℕ) → after_bytes k (xs ++ ys) bytes ≡ then_read (after_bytes k ys) (after_bytes k xs bytes)
+after_both k [] ys bytes = refl
+after_both k (x ∷ xs) ys [] = refl
+after_both k (x ∷ xs) ys (b ∷ bytes) = grind (arith, after_both k xs ys bytes)
 
 pub read_before : (next : List ℕ → Left) (r : Left) (rest : List ℕ) → then_read next r ≡ Ok rest → (bytes : List ℕ) × (r ≡ Ok bytes) × (next bytes ≡ Ok rest)
 read_before next r rest h = grind arith

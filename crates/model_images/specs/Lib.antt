@@ -19,6 +19,7 @@ pub mod MachineBytes
 pub mod MachineByteLaws
 pub mod LoadedMachines
 pub mod LoadedMachineLaws
+pub mod Differences
 pub mod ByteExamples
 pub mod MachineByteExamples
 pub mod SavedLaws

@@ -18,6 +18,7 @@ ghost use Rattle.model_images.specs.Requests.{IsolatedByRequests};
 ghost use Rattle.model_images.specs.StepLaws.{LoadsBySteps};
 ghost use Rattle.model_images.specs.ByteExamples.{ByteExamples};
 ghost use Rattle.model_images.specs.ByteLaws.{BytesAreBytes, BytesAreRead, GuestsHaveBytes, OneImage, ReadAreBytes, ReadIsOfAGuest};
+ghost use Rattle.model_images.specs.Differences.{DifferencesAreTold};
 ghost use Rattle.model_images.specs.FrontBytes.{FrontIsTaken, SizeIsTold};
 ghost use Rattle.model_images.specs.LoadedLaws.{AcceptedIsImage, AlikeAccepted, ImagesDecided, KeepsSavedBytes, LoadsImage, RefusedStays};
 ghost use Rattle.model_images.specs.LoadedMachineLaws.{AcceptedIsMachine, FittingIsAccepted, FittingIsLoaded, MachinesDecided, NoMachineIsRefused};
@@ -174,6 +175,12 @@ pub fn taken_bytes_are_slots()
 pub fn front_bytes_are_taken()
     ensures front { FrontIsTaken }
     ensures size { SizeIsTold }
+{}
+
+/// Of bytes that a guest refuses as an image of other functions it is told in which slot what is
+/// declared otherwise, and of no others.
+pub fn differences_are_told()
+    ensures { DifferencesAreTold }
 {}
 
 /// Every list of numbers is either the bytes of one image of a machine, or read as none. What is

@@ -21,18 +21,8 @@ use crate::loading::load_function;
 use crate::restarting::restart;
 use crate::saving::{compare_image, slot_shown};
 use host_bridge::{Host, Route};
-use images::{ImageFault, after_latch, declaration_size, values_size};
+use images::{ImageFault, after_latch, declaration_size, front, values_size};
 use model_images::saved_guests_are_taken;
-
-/// So many bytes at the front, or all where they are fewer.
-fn front(bytes: &[u8], count: usize) -> &[u8]
-    ensures { result.now ≡ take count bytes.now }
-{
-    if bytes.len() < count {
-        return bytes;
-    }
-    &bytes[..count]
-}
 
 /// The bytes behind so many, or none where they are fewer.
 fn behind(bytes: &[u8], count: usize) -> &[u8]

@@ -114,7 +114,11 @@ fn put_image(host: &Host, guest: &Guest, out: &mut [u8])
 
 /// The bytes after those of a slot. Refuses too few bytes, a value that its cell can't hold, and a
 /// slot that is filled otherwise.
-fn after_slot<'a>(host: &Host, slot: &Option<Held>, bytes: &'a [u8]) -> Result<&'a [u8], ImageFault>
+pub(crate) fn after_slot<'a>(
+    host: &Host,
+    slot: &Option<Held>,
+    bytes: &'a [u8],
+) -> Result<&'a [u8], ImageFault>
     ensures left { let f = slot_shown host.now.state.functions slot.now in
         IfOk result (λ rest. after_slot f bytes.now ≡ Ok rest.now) }
     ensures refused { let f = slot_shown host.now.state.functions slot.now in

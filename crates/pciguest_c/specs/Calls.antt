@@ -44,7 +44,7 @@ use Rattle.machine_images.specs.SavedParts.{capped}
 use Rattle.pciguest_c.specs.Told.{target_told, part_told, at_bus, host_target_told, reply_asked, after_asked, index_asked}
 use Rattle.pciguest_c.specs.DevicesTold.{reply_at_device, after_at_device, wide_read, after_wide}
 use Rattle.pciguest_c.specs.SeatingsTold.{gift_reply, after_gift, taking_reply, after_taking}
-use Rattle.pciguest_c.specs.ImagesTold.{image_asked, after_restart, machine_image}
+use Rattle.pciguest_c.specs.ImagesTold.{image_asked, fault_asked, after_restart, machine_image}
 use Rattle.pciguest_c.specs.QueriesTold.{region_asked, region_told, hit_asked, hit_told}
 use Rattle.pciguest_c.specs.MovesTold.{places_from, moved_count}
 use Rattle.pciguest_c.specs.FunctionsTold.{function_told, slot_asked}
@@ -87,6 +87,7 @@ pub data Call : Type 0 where
   save : (guest : ℕ) → Call
   image_size_all : Call
   save_all : Call
+  image_fault : (guest : ℕ) (image : Text) → Call
   function_count : Call
   function_at : (index : ℕ) → Call
   function_in : (guest slot : ℕ) → Call
@@ -181,6 +182,9 @@ board_asked b o width op = option_map (λ t.
 unfoldable pub telling_why : MachineNow → ℕ → Option Target → Outcome
 telling_why m guest o = where_lawful (where_guest m guest o) (λ t. telling text (why_asked m.world guest t) (given m))
 
+unfoldable pub telling_fault : MachineNow → ℕ → Text → Outcome
+telling_fault m guest bytes = of_guest m guest (tells (text (fault_asked m.world guest bytes)) (given m))
+
 -- as lines or as JSON
 unfoldable pub surveying : Question → DrivenNow → Outcome
 surveying q b =
@@ -235,6 +239,7 @@ outcome (image_size guest) m = of_guest m guest (tells (number (length (image_as
 outcome (save guest) m = of_guest m guest (tells (text (image_asked m.world guest)) (given m))
 outcome image_size_all m = tells (number (capped (length (machine_image m.world)))) (given m)
 outcome save_all m = tells (image (machine_image m.world)) (given m)
+outcome (image_fault guest bytes) m = telling_fault m guest bytes
 outcome function_count m = tells (number (length (board_state m.world).functions)) (given m)
 outcome (function_at index) m = where_lawful (function_nth (board_state m.world) m.world.guests index) (λ f.
     tells (a_function (function_told m.world f)) (given m))

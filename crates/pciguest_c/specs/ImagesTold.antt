@@ -1,5 +1,6 @@
 -- What C is told of images of guests and of loads, and the machine after a guest was put to reset.
 --     image_asked w guest      the bytes of the image of a guest by its index
+--     fault_asked w guest bytes      the text of what differs in bytes that the guest refuses as an image of other functions
 --     after_restart m guest      the machine after this guest was put to reset
 --     load_number w guest bytes      0, or the number of why bytes can't be loaded into the guest
 --     load_asked m guest bytes      the same, or 902 where the machine has no such guest
@@ -18,10 +19,14 @@ use Rattle.model_images.specs.ImageBytes.{image_bytes}
 use Rattle.model_images.specs.LoadedBytes.{load_fault}
 use Rattle.model_images.specs.LoadedMachines.{load_all_fault}
 use Rattle.model_images.specs.MachineBytes.{machine_bytes}
+use Rattle.model_images.specs.Differences.{fault_text}
 use Rattle.monitor.specs.ByIndex.{name_nth}
 
 abbrev pub image_asked : WorldNow → ℕ → Text
 image_asked w guest = image_bytes (image_of_guest (name_nth w guest) w)
+
+abbrev pub fault_asked : WorldNow → ℕ → Text → Text
+fault_asked w guest bytes = fault_text (lone_of w.guests (name_nth w guest)) bytes
 
 unfoldable pub after_restart : MachineNow → ℕ → MachineNow
 after_restart m guest = after_request_on_machine m (restarts (name_nth m.world guest))

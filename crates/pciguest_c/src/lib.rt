@@ -19,6 +19,7 @@ mod guest_calls;
 mod guests;
 mod handle;
 mod host_calls;
+mod image_faults;
 mod interrupts;
 mod life;
 mod limits;

@@ -1,5 +1,9 @@
 //! Images of guests: how many bytes the image of a guest has, and its bytes.
-ghost use Rattle.std.specs.Prelude.{◌≡◌, ◌<◌, Some, length};
+ghost use Rattle.std.specs.Prelude.{◌≡◌, ◌<◌, Some, IfSome, length};
+ghost use Rattle.model_images.specs.LoadedLaws.{IsTakenByAll};
+ghost use Rattle.session.specs.Stages.{machine_in};
+ghost use Rattle.guest_why.specs.Findings.{lone_asked};
+ghost use Rattle.pciguest_c.specs.Handles.{machine_of};
 ghost use Rattle.pciguest_c.specs.Calls.{Answers, IsAnswer, answer, image_size, save, buffer, number};
 ghost use Rattle.pciguest_c.specs.ImagesTold.{image_asked};
 ghost use Rattle.pciguest_c.specs.TextsTold.{IsTold};
@@ -16,6 +20,7 @@ fn save(machine: &Monitor, guest: usize, out: &mut [u8], needed: &mut usize) -> 
     requires { guest < length machine.now.world.guests }
     ensures image { IsTold (image_asked machine.now.world guest) out.old out.new result }
     ensures needed { needed.new ≡ length (image_asked machine.now.world guest) }
+    ensures taken { result ≡ 0 → IsTakenByAll (lone_asked machine.now.world guest) }
 {
     let size = machine.image_size(guest);
     *needed = size;
@@ -28,8 +33,10 @@ fn save(machine: &Monitor, guest: usize, out: &mut [u8], needed: &mut usize) -> 
 
 /// The same of a session, or 901 where no guests have its board, and 902 where there is no such guest.
 fn save_in(session: &mut Session, guest: usize, out: &mut [u8], needed: &mut usize) -> u32
-    ensures { IsAnswer (answer (save guest) (Some session.old) (buffer out.old needed.old))
+    ensures saved { IsAnswer (answer (save guest) (Some session.old) (buffer out.old needed.old))
         (Some session.new) result (buffer out.new needed.new) }
+    ensures taken { IfSome (machine_in session.old) (λ m.
+        result ≡ 0 → IsTakenByAll (lone_asked m.world guest)) }
 {
     let Some(machine) = session.monitor() else {
         return NO_MACHINE;
@@ -68,8 +75,10 @@ pub extern "C" fn pciguest_raw_save(
     out: &mut [u8],
     needed: &mut usize,
 ) -> u32
-    ensures { Answers (save guest) handle.old handle.new result
+    ensures saved { Answers (save guest) handle.old handle.new result
         (buffer out.old needed.old) (buffer out.new needed.new) }
+    ensures taken { IfSome (machine_of handle.old) (λ m.
+        result ≡ 0 → IsTakenByAll (lone_asked m.world guest)) }
 {
     let Some(mut session) = handle.take(alloc) else {
         return NO_MACHINE;

@@ -399,6 +399,18 @@ DECLARED: Dict[str, Tuple[Any, Tuple[Any, ...]]] = {
     # are no image, as with a value that its register can't hold. Of these, what the first byte that fails tells. 902:
     # there is no such guest. No line of a script says it. Since 0.4.0.
     "load": (c_uint32, (POINTER(Handle), c_size_t, c_char_p, c_size_t)),
+    # Writes what differs in bytes that pciguest_load refuses for this guest by 906, and tells the text's length, which
+    # has no 0 at its end: as `slot 0: bar0 size 0x1000, here 0x2000`. It is the first slot of which the bytes have
+    # another function, and the first field that is declared otherwise there: its key in a board file, behind `barN` for
+    # a region and `config 0xNN` for a block of configuration space; what it is in the bytes, and what here. A kind is
+    # told by its number in docs/FORMATS.md; `filled` is 1 in a slot that has a function; `bar` and `config` alone are
+    # how many there are. Of bytes that are not refused so there is no text, and the length is 0. It tells of the
+    # guest's own functions alone. Nothing changes. 902: there is less room than the text needs, whose length alone is
+    # told, or no such guest. 299: out of memory. Since 0.4.0.
+    "image_fault": (
+        c_uint32,
+        (POINTER(Handle), c_size_t, c_char_p, c_size_t, POINTER(c_char), c_size_t, POINTER(c_size_t)),
+    ),
     # How many bytes the image of the whole machine has now, which pciguest_save_all writes. It stays as long as guests
     # have the same functions in the same slots. It takes no memory and changes nothing. Since 0.4.0.
     "image_size_all": (c_uint32, (POINTER(Handle), POINTER(c_size_t))),

@@ -83,6 +83,20 @@ class Saved:
             self.machine._call("load", self.index, told, len(told))
             self.machine._tell(lambda seat: seat[0] == self.index, lambda device: device.on_load())
 
+    def image_fault(self, image: Union[bytes, bytearray]) -> str:
+        """What differs in an image that `load` refuses by 906: the first slot of which it has another function, and the first
+        field that is declared otherwise there, as it is in the image and here. Of other bytes there is no text. It changes
+        nothing. 299: out of memory.
+
+        >>> with Machine(BOARD) as machine:
+        ...     image = machine.guest("a").save()
+        >>> with Machine(BOARD.replace("size = 4096", "size = 8192")) as other:
+        ...     other.guest("a").image_fault(image)
+        'slot 0: bar0 size 0x1000, here 0x2000'
+        """
+        told = bytes(image)
+        return self.machine._told("image_fault", 128, self.index, told, len(told))
+
     def reset_guest(self) -> None:
         """Resets every function of the guest, each where it is, and the guest's own CONFIG_ADDRESS: nothing is carried
         over.

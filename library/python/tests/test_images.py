@@ -133,8 +133,12 @@ class Loads(Case):
             self.refused(905 if at < 4 else 908, self.a.load, image[:at] + bytes([image[at] ^ 0x10]) + image[at + 1 :])
         self.refused(906, self.a.load, other)
         self.assertEqual(self.a.save(), held)
+        self.assertEqual(self.a.image_fault(other), "slot 0: device 0x3, here 0x1")
+        for text in (image, held, image[:-1], image + b"\0"):
+            self.assertEqual(self.a.image_fault(text), "")
         self.machine.move(self.a, 0, self.a, 5)
         self.refused(906, self.a.load, image)
+        self.assertEqual(self.a.image_fault(image), "slot 0: filled 0x1, here 0x0")
 
 
 class Machines(Case):

@@ -5,6 +5,7 @@ use crate::machine::Machine;
 use crate::place::Guest;
 use crate::prelude::*;
 use crate::raw;
+use crate::text::told;
 
 impl Machine {
     /// How many bytes the image of a guest has, which [`Machine::save`] gives. It stays as long as the guest has the same
@@ -96,6 +97,46 @@ impl Machine {
             |model, registers| model.on_load(registers),
         );
         Ok(())
+    }
+
+    /// What differs in an image that [`Machine::load_image`] refuses by 906: the first slot of which it has another function, and
+    /// the first field that is declared otherwise there, as it is in the image and here. Of other bytes there is no text. It
+    /// changes nothing.
+    ///
+    /// # Errors
+    ///
+    /// 902: there is no such guest. 299: out of memory.
+    ///
+    /// ```
+    /// # const BOARD: &str = include_str!("board.toml");
+    /// let mut machine = pciguest::Machine::new(BOARD)?;
+    /// let a = machine.guest("a")?;
+    /// let image = machine.save(a)?;
+    ///
+    /// let mut other = pciguest::Machine::new(BOARD.replace("size = 4096", "size = 8192"))?;
+    /// assert_eq!(other.load_image(a, &image).unwrap_err().to_string(), "906 other functions");
+    /// assert_eq!(other.image_fault(a, &image)?, "slot 0: bar0 size 0x1000, here 0x2000");
+    /// # Ok::<(), pciguest::Error>(())
+    /// ```
+    pub fn image_fault(
+        &mut self,
+        guest: Guest,
+        image: impl AsRef<[u8]>,
+    ) -> Result<String, Error> {
+        let image = image.as_ref();
+        // SAFETY: the image and the text have as many bytes as is said, and nothing overlaps.
+        let (number, text) = told(128, |text, room, needed| unsafe {
+            raw::pciguest_image_fault(
+                &mut self.handle,
+                guest.index(),
+                image.as_ptr(),
+                image.len(),
+                text,
+                room,
+                needed,
+            )
+        });
+        answered(number).map(|()| text)
     }
 
     /// How many bytes the image of the whole machine has, which [`Machine::save_all`] gives. It stays as long as guests have the

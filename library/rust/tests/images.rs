@@ -212,8 +212,14 @@ fn bytes_that_are_no_image_for_a_guest_are_refused() -> Result<(), Error> {
         assert_eq!(number(machine.load_image(a, changed)), if at < 4 { 905 } else { 908 });
     }
     assert_eq!(machine.save(a)?, held);
+    assert_eq!(machine.image_fault(a, &other)?, "slot 0: device 0x3, here 0x1");
+    for bytes in [&image[..], &held, &image[..image.len() - 1], &longer] {
+        assert_eq!(machine.image_fault(a, bytes)?, "");
+    }
     machine.move_function(a, 0, a, 5)?;
     assert_eq!(number(machine.load_image(a, &image)), 906);
+    assert_eq!(machine.image_fault(a, &image)?, "slot 0: filled 0x1, here 0x0");
+    assert_eq!(number(machine.image_fault(Guest::of_index(2), &image)), 902);
     assert_eq!(number(machine.load_image(Guest::of_index(2), &image)), 902);
     Ok(())
 }

@@ -568,6 +568,23 @@ extern "C" {
         image: *const u8,
         length: usize,
     ) -> u32;
+    /// Writes what differs in bytes that pciguest_load refuses for this guest by 906, and tells the text's length,
+    /// which has no 0 at its end: as `slot 0: bar0 size 0x1000, here 0x2000`. It is the first slot of which the bytes
+    /// have another function, and the first field that is declared otherwise there: its key in a board file, behind
+    /// `barN` for a region and `config 0xNN` for a block of configuration space; what it is in the bytes, and what
+    /// here. A kind is told by its number in docs/FORMATS.md; `filled` is 1 in a slot that has a function; `bar` and
+    /// `config` alone are how many there are. Of bytes that are not refused so there is no text, and the length is 0.
+    /// It tells of the guest's own functions alone. Nothing changes. 902: there is less room than the text needs, whose
+    /// length alone is told, or no such guest. 299: out of memory. Since 0.4.0.
+    pub fn pciguest_image_fault(
+        machine: *mut Handle,
+        guest: usize,
+        image: *const u8,
+        length: usize,
+        text: *mut u8,
+        room: usize,
+        needed: *mut usize,
+    ) -> u32;
     /// How many bytes the image of the whole machine has now, which pciguest_save_all writes. It stays as long as
     /// guests have the same functions in the same slots. It takes no memory and changes nothing. Since 0.4.0.
     pub fn pciguest_image_size_all(machine: *mut Handle, size: *mut usize) -> u32;
