@@ -118,12 +118,12 @@ def lines_of_keys(lines):
     return where
 
 
-def allowed_lines(where, table, key):
-    """The lines that may be told: of a key that is missing those of its table, and of the file none."""
+def wanted_line(where, table, key):
+    """The line that is to be told: of a key that is missing the first one of its table, and of the file none."""
     if (*table, key) in where:
-        return {where[*table, key]}
-    lines = {line for (name, index, _), line in where.items() if name and line and (name, index) == table}
-    return lines or {None}
+        return where[*table, key]
+    lines = [line for (name, index, _), line in where.items() if name and line and (name, index) == table]
+    return min(lines, default=None)
 
 
 IN_LINE = re.compile(r" in line (\d+)(?=$| \(\d+ [A-Za-z ]+\)$| takes a register of | is of a 64-bit kind)")
@@ -162,8 +162,8 @@ def differs(lines, told, problems):
             return f"{len(others)} other lines, not {len(problem.others)}: {line}"
         places = [(number, problem.table, problem.outer), *((one, *at) for one, at in zip(others, problem.others))]
         for given, table, key in places:
-            if given not in allowed_lines(where, table, key):
-                return f"line {given}, not {allowed_lines(where, table, key)}: {line}"
+            if given != wanted_line(where, table, key):
+                return f"line {given}, not {wanted_line(where, table, key)}: {line}"
         numbers.append((place_of(problem.number), number or 0))
     return None if numbers == sorted(numbers) else f"order {numbers}"
 
@@ -197,8 +197,8 @@ def remarks_differ(lines, told, remarks):
         return f"{told}, not {remarks}"
     for (number, _, others), one in zip(said, remarks):
         for given, table, key in [(number, one.table, one.outer), *((o, *at) for o, at in zip(others, one.others))]:
-            if given not in allowed_lines(where, table, key):
-                return f"line {given}, not {allowed_lines(where, table, key)}: {one.text}"
+            if given != wanted_line(where, table, key):
+                return f"line {given}, not {wanted_line(where, table, key)}: {one.text}"
     return None
 
 
