@@ -2,8 +2,8 @@
 --     said_text      a remark with what stands beside it
 --     line_of      its line
 --     told_text      the same, with the line of the file below it where that is asked
---     IsLocated text ms l      the place of a remark, where there is one, is that of the value at its key, and so is
---                              that of the other entry
+--     IsPlacedRemark text ms l      the place of a remark, where there is one, is that of the value at its key, and so
+--                                   is that of the other entry
 --     AreWarnings style warned name bytes b a text      a line for each thing that is warned of in the file with these
 --                                                       bytes and in its board, in order
 --     AreReasons style name bytes f text      the same for all in the file that is why its board can't be set up
@@ -21,7 +21,7 @@ use Rattle.diagnostics.specs.Excerpts.{below_text}
 use Rattle.diagnostics.specs.Heads.{head_text}
 use Rattle.diagnostics.specs.declared.style.Style.{Style}
 use Rattle.board_fit.specs.declared.remark.Remark.{Remark}
-use Rattle.board_fit.specs.declared.located.Located.{Located}
+use Rattle.board_fit.specs.declared.placed_remark.PlacedRemark.{PlacedRemark}
 use Rattle.board_fit.specs.declared.warned.Warned.{Warned}
 use Rattle.board_fit.specs.Warnings.{warnings}
 use Rattle.board_fit.specs.Remarks.{entry_of, key_of, label_of, remark_text, other_of, other_key}
@@ -31,27 +31,27 @@ use Rattle.board_fit.specs.Misfits.{reasons}
 abbrev pub said_text : Remark → Option Other → List ℕ
 said_text r o = remark_text r ++ (beside_text o ++ codes "\n")
 
-abbrev pub line_of : List ℕ → Members → List ℕ → Located → List ℕ
+abbrev pub line_of : List ℕ → Members → List ℕ → PlacedRemark → List ℕ
 line_of name ms bytes l =
     head_text name (label_of l.remark) ms bytes (entry_of l.remark) (key_of l.remark) l.place
     ++ codes ": " ++ said_text l.remark l.other
 
-abbrev pub told_text : Style → List ℕ → Members → List ℕ → Located → List ℕ
+abbrev pub told_text : Style → List ℕ → Members → List ℕ → PlacedRemark → List ℕ
 told_text style name ms bytes l =
     line_of name ms bytes l ++ below_text style ms bytes (entry_of l.remark) (key_of l.remark) l.place
 
-abbrev pub remark_of : Located → Remark
+abbrev pub remark_of : PlacedRemark → Remark
 remark_of l = l.remark
 
-pub record IsLocated (text : List ℕ) (ms : Members) (l : Located) : Type 0 where
+pub record IsPlacedRemark (text : List ℕ) (ms : Members) (l : PlacedRemark) : Type 0 where
   pub place : IfSome l.place (IsPlaceOf text ms (entry_of l.remark) (key_of l.remark))
   pub other : option_map other_entry l.other ≡ other_of l.remark
   pub other_place : IfSome l.other (λ o. IfSome o.place (IsPlaceOf text ms o.entry other_key))
 
 pub record AreTold (style : Style) (name bytes : List ℕ) (ms : Members) (rs : List Remark) (text : List ℕ) : Type 0 where
-  pub located : List Located
+  pub located : List PlacedRemark
   pub are_all : map remark_of located ≡ rs
-  pub have_places : Each (IsLocated bytes ms) located
+  pub have_places : Each (IsPlacedRemark bytes ms) located
   pub is_text : text ≡ flat_map (told_text style name ms bytes) located
 
 pub record AreWarnings (style : Style) (warned : Warned) (name bytes : List ℕ) (b : Board) (a : Apertures) (text : List ℕ) : Type 0 where

@@ -5,7 +5,7 @@ ghost use Rattle.lists.specs.Texts.{Adds};
 ghost use Rattle.toml.specs.View.{table_view};
 ghost use Rattle.board_fit.specs.RemarkTexts.{said_text, told_text};
 
-use crate::located::Located;
+use crate::placed_remark::PlacedRemark;
 use crate::remark::Remark;
 use board_file::Source;
 use diagnostics::{Beside, Head, Other, Telling, push_below};
@@ -24,7 +24,7 @@ fn push_told<'a>(
     text: &mut String,
     telling: &Telling<'a>,
     source: &Source<'a>,
-    located: &Located,
+    located: &PlacedRemark,
 ) -> Result<(), AllocError>
     ensures { let s = source.now in OnOk result (Adds text.old text.new
         (told_text telling.now.style telling.now.name.now (table_view s.document.now) s.bytes.now located.now)) }
@@ -50,7 +50,7 @@ pub(crate) fn push_remarks(
     text: &mut String,
     telling: &Telling<'_>,
     source: &Source<'_>,
-    located: &[Located],
+    located: &[PlacedRemark],
 ) -> Result<(), AllocError>
     ensures { let s = source.now in OnOk result (Adds text.old text.new
         (flat_map (told_text telling.now.style telling.now.name.now (table_view s.document.now) s.bytes.now) located.now)) }

@@ -7,8 +7,8 @@ ghost use Rattle.bus_scan.specs.SizedTables.{IsTableOf};
 ghost use Rattle.board_file.specs.Sources.{IsRead};
 ghost use Rattle.board_fit.specs.RemarkTexts.{AreTold, AreWarnings, AreReasons};
 
-use crate::located::with_places;
 use crate::misfit::reasons;
+use crate::placed_remark::with_places;
 use crate::remark::Remark;
 use crate::remark_lines::push_remarks;
 use crate::warned::Warned;

@@ -8,7 +8,7 @@ use Rattle.board_file.specs.declared.fault.BoardFault.{BoardFault}
 use Rattle.board_file.specs.Faults.{number_of, fault_words}
 use Rattle.board_file.specs.Entries.{File, file}
 use Rattle.board_file.specs.RuleFaults.{fault_of}
-use Rattle.diagnostics.specs.declared.place.Place.{Place}
+use Rattle.diagnostics.specs.declared.text_place.TextPlace.{TextPlace}
 use Rattle.diagnostics.specs.declared.style.Style.{Style}
 use Rattle.diagnostics.specs.Excerpts.{shown_text, below_text}
 use Rattle.diagnostics.specs.Heads.{line_text, head_text}
@@ -46,9 +46,9 @@ lines_text style name ms bytes f (t ∷ ts) =
     flat_map (told_text style name ms bytes) (t ∷ ts) ++ count_text (length (t ∷ ts))
 
 -- FILE:LINE: refused: REASON (N WORDS)
-abbrev pub reasoned_text : List ℕ → Option Place → List ℕ → BoardFault → List ℕ
+abbrev pub reasoned_text : List ℕ → Option TextPlace → List ℕ → BoardFault → List ℕ
 reasoned_text name place reason f =
     name ++ line_text place ++ codes ": refused: " ++ reason ++ codes " " ++ numbered_text f ++ codes "\n"
 
-abbrev pub unread_text : Style → List ℕ → List ℕ → Option Place → List ℕ → BoardFault → List ℕ
+abbrev pub unread_text : Style → List ℕ → List ℕ → Option TextPlace → List ℕ → BoardFault → List ℕ
 unread_text style name bytes place reason f = reasoned_text name place reason f ++ shown_text style bytes true place

@@ -14,7 +14,7 @@ use Rattle.lists.specs.Elements.{Each}
 use Rattle.board_file.specs.declared.fault.BoardFault.{BoardFault}
 use Rattle.board_file.specs.declared.finding.Problem.{Problem}
 use Rattle.board_file.specs.Entries.{File, file}
-use Rattle.diagnostics.specs.declared.place.Place.{Place}
+use Rattle.diagnostics.specs.declared.text_place.TextPlace.{TextPlace}
 use Rattle.diagnostics.specs.declared.style.Style.{Style}
 use Rattle.diagnostics.specs.LineNumbers.{line_of}
 use Rattle.diagnostics.specs.EntryPlaces.{IsPlaceOf, entry_of}
@@ -74,7 +74,7 @@ pub record IsRefusal (style : Style) (name bytes : List ℕ) (fault : BoardFault
   pub is_text : text ≡ lines_text style name document bytes fault told
 
 -- a part of the text, with its line
-pub record IsPlaceIn (bytes : List ℕ) (p : Place) : Type 0 where
+pub record IsPlaceIn (bytes : List ℕ) (p : TextPlace) : Type 0 where
   pub begins : p.start ≤ p.end
   pub ends : p.end ≤ length bytes
   pub is_line : p.line ≡ line_of p.start bytes
@@ -83,7 +83,7 @@ pub record IsPlaceIn (bytes : List ℕ) (p : Place) : Type 0 where
 -- reader's
 pub record IsUnread (style : Style) (name bytes : List ℕ) (fault : BoardFault) (text : List ℕ) : Type 0 where
   pub no_document : IsUtf8 bytes → parse_document bytes ≡ None
-  pub place : Option Place
+  pub place : Option TextPlace
   pub within : IfSome place (IsPlaceIn bytes)
   pub reason : List ℕ
   pub is_text : text ≡ unread_text style name bytes place reason fault

@@ -10,7 +10,7 @@ use crate::causes::push_cause;
 use crate::rule_words::rule_words;
 use crate::told::Told;
 use board_file::{BoardFault, Source};
-use diagnostics::{Head, LineNumber, Place, Telling, push_below, push_shown_line};
+use diagnostics::{Head, LineNumber, Telling, TextPlace, push_below, push_shown_line};
 use std::alloc::{AllocError, Global};
 use std::fmt;
 
@@ -89,7 +89,7 @@ fn push_problems(
 fn push_reasoned(
     text: &mut String,
     name: &str,
-    place: Option<Place>,
+    place: Option<TextPlace>,
     reason: &str,
     fault: BoardFault,
 ) -> Result<(), AllocError>
@@ -107,7 +107,7 @@ pub(crate) fn push_unread(
     text: &mut String,
     telling: &Telling<'_>,
     bytes: &[u8],
-    place: Option<Place>,
+    place: Option<TextPlace>,
     reason: &str,
 ) -> Result<(), AllocError>
     ensures { OnOk result (Adds text.old text.new

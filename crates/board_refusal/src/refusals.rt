@@ -10,17 +10,17 @@ use crate::every_check::{all_problems, rank};
 use crate::problem_lines::{push_lines, push_unread};
 use crate::told::{Told, with_places};
 use board_file::{BoardFault, Source};
-use diagnostics::{Place, Places, Style, Telling, line_of};
+use diagnostics::{Places, Style, Telling, TextPlace, line_of};
 use std::alloc::{AllocError, Global};
 use toml::de::Error;
 
 /// The place at which the bytes were given up.
-fn place_of_error(bytes: &[u8], error: &Error) -> Option<Place>
+fn place_of_error(bytes: &[u8], error: &Error) -> Option<TextPlace>
     requires { IsWithin bytes.now error.now }
     ensures { IfSome result (IsPlaceIn bytes.now) }
 {
     match error.span() {
-        Some(range) => Some(Place {
+        Some(range) => Some(TextPlace {
             line: line_of(range.start, bytes),
             start: range.start,
             end: range.end,

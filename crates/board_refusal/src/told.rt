@@ -8,14 +8,14 @@ use crate::others::other_of;
 use crate::register_causes::taker_of;
 use board_file::Problem;
 use board_file::entries::FileEntries;
-use diagnostics::{Other, Place, Places, place_of, with_place};
+use diagnostics::{Other, Places, TextPlace, place_of, with_place};
 use std::alloc::{AllocError, Global};
 
 /// A problem, and its place, where that is known and was confirmed.
 #[derive(Clone, Copy, Debug)]
 pub struct Told<'a> {
     pub problem: Problem<'a>,
-    pub place: Option<Place>,
+    pub place: Option<TextPlace>,
     /// The region without registers of its own, where the problem is that.
     pub taker: Option<Other>,
     pub other: Option<Other>,

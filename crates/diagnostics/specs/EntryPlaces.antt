@@ -10,7 +10,7 @@ use Rattle.std.specs.Prelude.{◌≡◌, ℕ, codes, decimal, List, [], ◌∷�
 use Rattle.toml.specs.Data.{Members}
 use Rattle.diagnostics.specs.declared.steps.Step.{Step}
 use Rattle.diagnostics.specs.declared.steps.Step.TheVariants.{Key, Index}
-use Rattle.diagnostics.specs.declared.place.Place.{Place}
+use Rattle.diagnostics.specs.declared.text_place.TextPlace.{TextPlace}
 use Rattle.diagnostics.specs.Places.{IsPlaceWithin}
 use Rattle.diagnostics.specs.declared.entry_places.Other.{Other}
 use Rattle.board_file.specs.declared.entry.Entry.{Entry}
@@ -46,7 +46,7 @@ way_to e k = way_of e ++ at_key k ∷ []
 abbrev pub way_told : Members → Entry → List ℕ → List Turn
 way_told ms e k = if is_some (value_at ms e k) then way_to e k else way_of e
 
-pub record IsPlaceOf (text : List ℕ) (ms : Members) (e : Entry) (key : List ℕ) (p : Place) : Type 0 where
+pub record IsPlaceOf (text : List ℕ) (ms : Members) (e : Entry) (key : List ℕ) (p : TextPlace) : Type 0 where
   pub way : List Step
   pub leads : map turn way ≡ way_told ms e key
   pub is_place : IsPlaceWithin text ms way p
@@ -54,7 +54,7 @@ pub record IsPlaceOf (text : List ℕ) (ms : Members) (e : Entry) (key : List �
 abbrev pub entry_of : Other → Entry
 entry_of o = o.entry
 
-abbrev pub in_line_text : Option Place → List ℕ
+abbrev pub in_line_text : Option TextPlace → List ℕ
 in_line_text None = []
 in_line_text (Some p) = codes " in line " ++ decimal p.line
 

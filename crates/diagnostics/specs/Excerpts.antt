@@ -9,7 +9,7 @@ use Rattle.std.specs.Prelude.{ℕ, ◌-◌, Bool, nat_le, List, [], ◌++◌, co
 use Rattle.toml.specs.Data.{Members}
 use Rattle.board_file.specs.Tables.{value_at}
 use Rattle.board_file.specs.declared.entry.Entry.{Entry}
-use Rattle.diagnostics.specs.declared.place.Place.{Place}
+use Rattle.diagnostics.specs.declared.text_place.TextPlace.{TextPlace}
 use Rattle.diagnostics.specs.declared.style.Style.{Style}
 use Rattle.diagnostics.specs.declared.style.Style.TheVariants.{Plain, WithExcerpts}
 use Rattle.diagnostics.specs.LineParts.{line_before, line_after}
@@ -22,28 +22,28 @@ abbrev pub cut_back : List ℕ → List ℕ
 cut_back bs = if nat_le (length bs) 60 then characters bs else characters (take 60 bs) ++ codes "..."
 
 -- NUMBER | LINE
-abbrev pub line_row : List ℕ → Place → List ℕ
+abbrev pub line_row : List ℕ → TextPlace → List ℕ
 line_row text p =
     codes " " ++ decimal p.line ++ codes " | " ++ cut_front (line_before text p.start)
     ++ cut_back (line_after text p.start) ++ codes "\n"
 
 -- so many bytes of the line are those of the part
-abbrev pub marked_part : List ℕ → Place → List ℕ
+abbrev pub marked_part : List ℕ → TextPlace → List ℕ
 marked_part text p = take (p.end - p.start) (take 60 (line_after text p.start))
 
-abbrev pub mark_row : List ℕ → Place → List ℕ
+abbrev pub mark_row : List ℕ → TextPlace → List ℕ
 mark_row text p =
     codes " " ++ map blank (decimal p.line) ++ codes " | " ++ map blank (cut_front (line_before text p.start))
     ++ marks (marked_part text p) ++ codes "\n"
 
-abbrev pub excerpt : List ℕ → Place → List ℕ
+abbrev pub excerpt : List ℕ → TextPlace → List ℕ
 excerpt text p = line_row text p ++ mark_row text p
 
 -- a key that is missing has no value to mark
-abbrev pub shown_text : Style → List ℕ → Bool → Option Place → List ℕ
+abbrev pub shown_text : Style → List ℕ → Bool → Option TextPlace → List ℕ
 shown_text Plain text has_value o = []
 shown_text WithExcerpts text has_value None = []
 shown_text WithExcerpts text has_value (Some p) = if has_value then excerpt text p else line_row text p
 
-abbrev pub below_text : Style → Members → List ℕ → Entry → List ℕ → Option Place → List ℕ
+abbrev pub below_text : Style → Members → List ℕ → Entry → List ℕ → Option TextPlace → List ℕ
 below_text style ms text e k place = shown_text style text (is_some (value_at ms e k)) place

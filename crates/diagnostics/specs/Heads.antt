@@ -10,20 +10,20 @@ use Rattle.board_file.specs.Texts.{same_text}
 use Rattle.diagnostics.specs.EntryTexts.{entry_text}
 use Rattle.board_file.specs.Tables.{value_at, owner_key, owner_of}
 use Rattle.board_file.specs.declared.entry.Entry.{Entry}
-use Rattle.diagnostics.specs.declared.place.Place.{Place}
+use Rattle.diagnostics.specs.declared.text_place.TextPlace.{TextPlace}
 use Rattle.diagnostics.specs.Integers.{integer_text}
 use Rattle.diagnostics.specs.Shown.{quoted_text, key_text}
 
-abbrev pub line_text : Option Place → List ℕ
+abbrev pub line_text : Option TextPlace → List ℕ
 line_text None = []
 line_text (Some p) = codes ":" ++ decimal p.line
 
-abbrev pub data_text : List ℕ → Option Place → Data → List ℕ
+abbrev pub data_text : List ℕ → Option TextPlace → Data → List ℕ
 data_text bytes place (integer z) = codes " = " ++ integer_text bytes place z
 data_text bytes place (string s) = codes " = " ++ quoted_text s
 data_text bytes place _ = []
 
-abbrev pub scalar_text : List ℕ → Option Place → Option Data → List ℕ
+abbrev pub scalar_text : List ℕ → Option TextPlace → Option Data → List ℕ
 scalar_text bytes place o = option_map_or (data_text bytes place) o []
 
 abbrev pub owner_text : Option (List ℕ) → List ℕ
@@ -38,10 +38,10 @@ named_owner ms e k =
     if is_own_name k then None else option_and_then as_str (option_and_then (value_at ms (owner_of e)) (owner_key e))
 
 -- ENTRY.KEY = VALUE of OWNER, of a value at this place
-abbrev pub place_text : Members → List ℕ → Entry → List ℕ → Option Place → List ℕ
+abbrev pub place_text : Members → List ℕ → Entry → List ℕ → Option TextPlace → List ℕ
 place_text ms bytes e k place =
     entry_text e ++ key_text k ++ scalar_text bytes place (value_at ms e k) ++ owner_text (named_owner ms e k)
 
 -- FILE:LINE: LABEL ENTRY.KEY = VALUE of OWNER
-abbrev pub head_text : (name label : List ℕ) → Members → List ℕ → Entry → List ℕ → Option Place → List ℕ
+abbrev pub head_text : (name label : List ℕ) → Members → List ℕ → Entry → List ℕ → Option TextPlace → List ℕ
 head_text name label ms bytes e k place = name ++ line_text place ++ codes ": " ++ label ++ place_text ms bytes e k place

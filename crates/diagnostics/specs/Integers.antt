@@ -5,10 +5,10 @@
 use Rattle.std.specs.Prelude.{ℕ, ℤ, ◌-◌, ◌==◌, Bool, ◌&&◌, not, nat_lt, List, map, take, drop, Option, Some, None, if◌then◌else◌}
 use Rattle.std.specs.Fmt.{signed_decimal}
 use Rattle.std.specs.List.{list_all}
-use Rattle.diagnostics.specs.declared.place.Place.{Place}
+use Rattle.diagnostics.specs.declared.text_place.TextPlace.{TextPlace}
 use Rattle.diagnostics.specs.Shown.{shown_byte}
 
-abbrev pub part_at : List ℕ → Place → List ℕ
+abbrev pub part_at : List ℕ → TextPlace → List ℕ
 part_at text p = take (p.end - p.start) (drop p.start text)
 
 -- 32 is a space, before which no byte is printed, and 35 is #
@@ -21,6 +21,6 @@ is_one_word bs = list_all is_of_word bs
 abbrev pub word_text : List ℕ → ℤ → List ℕ
 word_text word z = if is_one_word word then map shown_byte word else signed_decimal z
 
-abbrev pub integer_text : List ℕ → Option Place → ℤ → List ℕ
+abbrev pub integer_text : List ℕ → Option TextPlace → ℤ → List ℕ
 integer_text text None z = signed_decimal z
 integer_text text (Some p) z = word_text (part_at text p) z

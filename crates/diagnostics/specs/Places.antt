@@ -11,7 +11,7 @@ use Rattle.toml.specs.Data.{table, Members}
 use Rattle.toml.specs.Parse.{parse_document}
 use Rattle.diagnostics.specs.declared.steps.Step.{Step}
 use Rattle.diagnostics.specs.declared.scanning.Extent.{Extent}
-use Rattle.diagnostics.specs.declared.place.Place.{Place}
+use Rattle.diagnostics.specs.declared.text_place.TextPlace.{TextPlace}
 use Rattle.diagnostics.specs.LineNumbers.{line_of}
 use Rattle.diagnostics.specs.Marks.{are_in_order, with_marks, is_mark}
 use Rattle.diagnostics.specs.Shapes.{members_have_one_shape}
@@ -28,7 +28,7 @@ pub record Stands (places : List Extent) (start end : ℕ) : Type 0 where
   pub is_start : place.start ≡ start
   pub is_end : place.end ≡ end
 
-pub record IsPlace (text : List ℕ) (before : Members) (way : List Step) (p : Place) : Type 0 where
+pub record IsPlace (text : List ℕ) (before : Members) (way : List Step) (p : TextPlace) : Type 0 where
   pub places : List Extent
   pub is_marked : IsMarked text before places
   pub stands : Stands places p.start p.end
@@ -44,7 +44,7 @@ pub record GoesOn (way longer : List Step) : Type 0 where
   pub rest : List Step
   pub is_longer : longer ≡ way ++ rest
 
-pub record IsPlaceWithin (text : List ℕ) (before : Members) (way : List Step) (p : Place) : Type 0 where
+pub record IsPlaceWithin (text : List ℕ) (before : Members) (way : List Step) (p : TextPlace) : Type 0 where
   pub longer : List Step
   pub goes_on : GoesOn way longer
   pub is_place : IsPlace text before longer p

@@ -10,10 +10,10 @@ ghost use Rattle.diagnostics.specs.Places.{IsMarked, Stands, IsPlace, IsPlaceWit
 use crate::descent::push_descent;
 use crate::line_numbers::first_lines;
 use crate::marking::{are_in_order, is_mark, marked_start, with_marks};
-use crate::place::Place;
 use crate::scanning::{Extent, scalars};
 use crate::shapes::members_have_one_shape;
 use crate::steps::{Step, value_at};
+use crate::text_place::TextPlace;
 use std::alloc::{AllocError, Global};
 use toml::Table;
 
@@ -104,7 +104,7 @@ impl<'a> Places<'a> {
     }
 
     /// The place of the scalar at the end of the way, where it is known.
-    pub fn place(&self, way: &[Step<'_>]) -> Option<Place>
+    pub fn place(&self, way: &[Step<'_>]) -> Option<TextPlace>
         ensures { IfSome result
             (IsPlace self.now.text.now (table_view self.now.document.now) way.now) }
     {
@@ -118,7 +118,7 @@ impl<'a> Places<'a> {
         let start = marked_start(value)?;
         let known = line_and_end(&self.places, &marked.lines, start)?;
         if is_mark(start, Some(value)) && !is_mark(start, value_at(way, self.document)) {
-            return Some(Place {
+            return Some(TextPlace {
                 line: known.0,
                 start,
                 end: known.1,
@@ -129,7 +129,11 @@ impl<'a> Places<'a> {
 
     /// The place of the scalar at the end of the way, or of the first one inside the value there,
     /// where it is known.
-    pub fn place_within(&self, alloc: Global, way: &[Step<'_>]) -> Result<Option<Place>, AllocError>
+    pub fn place_within(
+        &self,
+        alloc: Global,
+        way: &[Step<'_>],
+    ) -> Result<Option<TextPlace>, AllocError>
         ensures { IfOk result (λ found.
             IfSome found (IsPlaceWithin self.now.text.now (table_view self.now.document.now) way.now)) }
     {

@@ -5,8 +5,8 @@ ghost use Rattle.diagnostics.specs.EntryPlaces.{turn, way_of, way_to, entry_of, 
 
 use crate::confirmation::Places;
 use crate::entry_texts::EntryText;
-use crate::place::Place;
 use crate::steps::Step;
+use crate::text_place::TextPlace;
 use board_file::Entry;
 use board_file::tables::value_at;
 use std::alloc::{AllocError, Global};
@@ -17,7 +17,7 @@ use std::fmt;
 #[derive(Clone, Copy, Debug)]
 pub struct Other {
     pub entry: Entry,
-    pub place: Option<Place>,
+    pub place: Option<TextPlace>,
 }
 
 impl fmt::Display for Other {
@@ -92,7 +92,7 @@ pub fn place_of(
     places: &Places<'_>,
     entry: Entry,
     key: &str,
-) -> Result<Option<Place>, AllocError>
+) -> Result<Option<TextPlace>, AllocError>
     ensures { IfOk result (λ found.
         IfSome found (IsPlaceOf places.now.text.now (table_view places.now.document.now) entry key.now)) }
 {

@@ -9,13 +9,13 @@ use crate::characters::{push_blanks, push_marks};
 use crate::cuts::{MOST, push_back, push_front};
 use crate::heads::Head;
 use crate::line_parts::{first_bytes, line_after, line_before};
-use crate::place::Place;
 use crate::style::Style;
+use crate::text_place::TextPlace;
 use board_file::tables::value_at;
 use std::alloc::{AllocError, Global};
 
 /// The bytes of a place that are shown in its line.
-fn marked_part(text: &[u8], place: Place) -> &[u8]
+fn marked_part(text: &[u8], place: TextPlace) -> &[u8]
     ensures { result.now ≡ marked_part text.now place }
 {
     let line = first_bytes(line_after(text, place.start), MOST);
@@ -41,7 +41,7 @@ fn push_no_front(alloc: Global, shown: &mut String, before: &[u8]) -> Result<(),
 }
 
 /// Appends the line in which a place begins, after its number.
-fn push_line(shown: &mut String, text: &[u8], place: Place) -> Result<(), AllocError>
+fn push_line(shown: &mut String, text: &[u8], place: TextPlace) -> Result<(), AllocError>
     ensures { OnOk result (Adds shown.old shown.new (line_row text.now place)) }
 {
     let line = place.line;
@@ -56,7 +56,7 @@ fn push_mark_row(
     alloc: Global,
     shown: &mut String,
     text: &[u8],
-    place: Place,
+    place: TextPlace,
 ) -> Result<(), AllocError>
     ensures { OnOk result (Adds shown.old shown.new (mark_row text.now place)) }
 {
@@ -74,7 +74,7 @@ fn push_excerpt(
     alloc: Global,
     shown: &mut String,
     text: &[u8],
-    place: Place,
+    place: TextPlace,
 ) -> Result<(), AllocError>
     ensures { OnOk result (Adds shown.old shown.new (excerpt text.now place)) }
 {
@@ -90,7 +90,7 @@ pub fn push_shown_line(
     style: Style,
     text: &[u8],
     has_value: bool,
-    place: Option<Place>,
+    place: Option<TextPlace>,
 ) -> Result<(), AllocError>
     ensures { OnOk result (Adds shown.old shown.new (shown_text style text.now has_value place)) }
 {

@@ -5,9 +5,9 @@ ghost use Rattle.diagnostics.specs.Heads.{line_text, scalar_text, owner_text, is
 
 use crate::entry_texts::EntryText;
 use crate::integers::Integer;
-use crate::place::Place;
 use crate::shown::{Key, Quoted};
 use crate::style::Telling;
+use crate::text_place::TextPlace;
 use board_file::Entry;
 use board_file::tables::{owner_name, value_at};
 use std::fmt;
@@ -16,7 +16,7 @@ use toml::value::Value;
 
 /// The number of the line of a place, where that is known.
 #[derive(Clone, Copy)]
-pub struct LineNumber(pub Option<Place>);
+pub struct LineNumber(pub Option<TextPlace>);
 
 impl fmt::Display for LineNumber {
     ghost output = { λ l. Some (line_text l.0) };
@@ -34,7 +34,7 @@ impl fmt::Display for LineNumber {
 #[derive(Clone, Copy)]
 struct Scalar<'a> {
     text: &'a [u8],
-    place: Option<Place>,
+    place: Option<TextPlace>,
     value: Option<&'a Value>,
 }
 
@@ -108,7 +108,7 @@ pub struct Head<'a> {
     pub document: &'a Table,
     pub entry: Entry,
     pub key: &'a str,
-    pub place: Option<Place>,
+    pub place: Option<TextPlace>,
 }
 
 impl<'a> fmt::Display for Head<'a> {

@@ -3,12 +3,12 @@ ghost use Rattle.std.specs.Prelude.{◌≡◌, Some};
 ghost use Rattle.diagnostics.specs.Integers.{part_at, is_of_word, is_one_word, integer_text};
 
 use crate::line_parts::{bytes_from, first_bytes};
-use crate::place::Place;
 use crate::shown::Shown;
+use crate::text_place::TextPlace;
 use std::fmt;
 
 /// What stands at a place of a text.
-fn part_at(text: &[u8], place: Place) -> &[u8]
+fn part_at(text: &[u8], place: TextPlace) -> &[u8]
     ensures { result.now ≡ part_at text.now place }
 {
     first_bytes(
@@ -35,7 +35,7 @@ fn is_one_word(bytes: &[u8]) -> bool
 #[derive(Clone, Copy)]
 pub(crate) struct Integer<'a> {
     pub(crate) text: &'a [u8],
-    pub(crate) place: Option<Place>,
+    pub(crate) place: Option<TextPlace>,
     pub(crate) number: i64,
 }
 

@@ -2,17 +2,17 @@
 ghost use Rattle.std.specs.Prelude.{◌≡◌, IfOk, map};
 ghost use Rattle.toml.specs.View.{table_view};
 ghost use Rattle.lists.specs.Elements.{Each};
-ghost use Rattle.board_fit.specs.RemarkTexts.{remark_of, IsLocated};
+ghost use Rattle.board_fit.specs.RemarkTexts.{remark_of, IsPlacedRemark};
 
 use crate::remark::Remark;
-use diagnostics::{Other, Place, Places, place_of, with_place};
+use diagnostics::{Other, Places, TextPlace, place_of, with_place};
 use std::alloc::{AllocError, Global};
 
 /// A remark, and its place, where that is known and was confirmed; with the other entry that it names.
 #[derive(Clone, Copy, Debug)]
-pub struct Located {
+pub struct PlacedRemark {
     pub remark: Remark,
-    pub place: Option<Place>,
+    pub place: Option<TextPlace>,
     pub other: Option<Other>,
 }
 
@@ -20,14 +20,14 @@ pub struct Located {
 const OTHER_KEY: &str = "io";
 
 /// A remark with its place.
-fn locate(alloc: Global, places: &Places<'_>, remark: Remark) -> Result<Located, AllocError>
+fn locate(alloc: Global, places: &Places<'_>, remark: Remark) -> Result<PlacedRemark, AllocError>
     ensures same { IfOk result (λ l. l.remark ≡ remark) }
     ensures located { IfOk result
-        (IsLocated places.now.text.now (table_view places.now.document.now)) }
+        (IsPlacedRemark places.now.text.now (table_view places.now.document.now)) }
 {
     let place = place_of(alloc, places, remark.entry(), remark.key())?;
     let other = with_place(alloc, places, remark.other(), OTHER_KEY)?;
-    Ok(Located {
+    Ok(PlacedRemark {
         remark,
         place,
         other,
@@ -39,10 +39,10 @@ pub(crate) fn with_places(
     alloc: Global,
     places: &Places<'_>,
     remarks: &[Remark],
-) -> Result<Vec<Located>, AllocError>
+) -> Result<Vec<PlacedRemark>, AllocError>
     ensures same { IfOk result (λ v. map remark_of v.items ≡ remarks.now) }
     ensures places { IfOk result (λ v.
-        Each (IsLocated places.now.text.now (table_view places.now.document.now)) v.items) }
+        Each (IsPlacedRemark places.now.text.now (table_view places.now.document.now)) v.items) }
 {
     let mut all = Vec::new(alloc);
     'remarks: for remark in remarks {
