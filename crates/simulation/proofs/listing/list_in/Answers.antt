@@ -5,4 +5,5 @@ use Rattle.simulation.proofs.listing.list_in.Goals as goal
 pub returns-clause-report : goal.returns-clause-report
 returns-clause-report c =
     let is = c.in_ok-ready.ensures.declared in
-    (is.world, is.declared, is.set_up, c.in-Ok.ensures ∙ ap (reported_in c.args.form) (sym (is.of_world c.in_ok-ready.ready.ok)))
+    let guests = ap (λ gs. reported_in c.args.form (record { functions = c.in_ok-ready.ready.table; plan = c.in_ok-ready.ready.plan; guests = gs })) c.deref.ensures.value in
+    (is.world, is.declared, is.set_up, c.in-Ok.ensures.text ∙ guests ∙ ap (reported_in c.args.form) (sym (is.of_world c.in-Ok.ensures.ready)))
