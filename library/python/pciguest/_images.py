@@ -92,7 +92,7 @@ class Saved:
         ...     image = machine.guest("a").save()
         >>> with Machine(BOARD.replace("size = 4096", "size = 8192")) as other:
         ...     other.guest("a").image_fault(image)
-        'slot 0: bar0 size 0x1000, here 0x2000'
+        'slot 0: bar1 size 0x1000, here 0x2000'
         """
         told = bytes(image)
         return self.machine._told("image_fault", 128, self.index, told, len(told))
