@@ -257,9 +257,11 @@ class Driven extends Held {
 
   ready_json() { return this.told_by(this.engine.exports.pciguest_raw_board_ready_json); }
 
+  // What was told before is given where the JSON is the same: it has all that the lines tell.
   findings() {
     const told = this.ready_json();
-    return told === null ? null : findings_in(read_json(told), this.readiness());
+    if (told !== this.told) Object.assign(this, { told, found: told === null ? null : findings_in(read_json(told), this.readiness()) });
+    return this.found;
   }
 
   // What the registers of a function say that no cycle need find, by its place in path order: the number at which it is looked for, where the
