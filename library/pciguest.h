@@ -616,7 +616,7 @@ uint32_t pciguest_board_lacks(struct pciguest_board *board, struct pciguest_prob
 /* Sets up a board that is at reset as pciguest_new does, in place of firmware of one's own, and gives its functions to
  * the guests of its file: the machine is then the one that pciguest_new makes of the file. The board stays as it is.
  * 901: there is no board. 903: the struct of the machine holds one already. 904: a write was done on the board since
- * reset. 201 to 205: the board can't be set up. 199, 299: out of memory. The first of these that holds is answered.
+ * reset. 201 to 205: the board can't be set up. 299: out of memory. The first of these that holds is answered.
  * Since 0.3.0. */
 uint32_t pciguest_set_up(struct pciguest_board *board, struct pciguest *machine);
 

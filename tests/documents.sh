@@ -128,8 +128,8 @@ unexpected() {
 }
 holds 'boards and scripts of which nothing is expected' unexpected
 
-# ---- a type has a name of its own; of those that two crates share the list only gets shorter
-shared='Fault Problem Told'
+# ---- a type has a name of its own, but for the faults of set-up and of the program
+shared=Fault
 homonyms() {
   diff <(grep -oE '^pub (struct|enum|union|trait|type) \w+' crates/*/src/*.rt | awk -F '[/: ]' '{ print $2, $NF }' | sort -u |
     cut -d ' ' -f 2 | sort | uniq -d) <(tr ' ' '\n' <<< "$shared")

@@ -474,13 +474,13 @@ static void set_up_out_of_memory(struct pciguest_board *board)
         calls_left = count + 1;
         fault = pciguest_set_up(board, &machine);
         calls_left = -1;
-        if (fault != 0 && fault != 199)
+        if (fault != 0)
             IS(fault, 299);
         IS(machine.live, fault == 0);
         pciguest_free(&machine);
         IS((uint64_t)blocks, (uint64_t)before);
     }
-    IS(count > 100, 1);
+    IS(count > 20, 1);
     calls_left = 1;
     IS(config_read(board, 1, 0), 0x00011234);
     IS(pciguest_board_write(board, PCIGUEST_MEMORY, 0, 0, 0, 0, 4, 0), 0);

@@ -89,9 +89,6 @@ told_found b low high hl hh lawful shows = omega (arith, shown_size b low high l
 pub size_is : (kind : Kind) (low high a j t : ℕ) → a ≡ 2 ^ base_width kind - 1 → j ≡ joined kind low high → t ≡ type_bits kind → (a - (j - t) + 1) % 2 ^ 64 ≡ size_told kind low high
 size_is kind low high a j t ea ej et = ap (λ n. (n - (j - t) + 1) % 2 ^ 64) ea ∙ ap₂ (λ m n. (2 ^ base_width kind - 1 - (m - n) + 1) % 2 ^ 64) ej et
 
-abbrev bar : Kind → ℕ → Bar
-bar kind size = record { kind = kind; size = size }
-
 -- a region that shows the mask is the one that the program finds
 pub same_bar : (kind : Kind) (size low high : ℕ) → size ≡ size_told kind low high → (b : Bar) → Some kind ≡ Some b.kind → low < 2 ^ 32 → high < 2 ^ 32 → IsLawfulSize b.kind b.size → ShowsSize b low high
     → record { kind = kind; size = size } ≡ b

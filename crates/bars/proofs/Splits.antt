@@ -107,9 +107,6 @@ part_word reg p bs low = search (rules, word_low, word_high)
 with_base : ShownPart → ℕ → BaseAddress
 with_base p n = record { index = p.slot; kind = p.region.decl.kind; size = p.region.decl.size; base = n }
 
-abbrev region_with : ShownPart → ℕ → BasedRegion
-region_with p n = record { decl = p.region.decl; base = n }
-
 part_written : (reg : ℕ) (ons : List Bool) (x : ℕ) (p : ShownPart) → IsLowerPart reg p ⊎ IsUpperPart reg p
     → rewritten reg ons x (placed p.slot p.region) ≡ placed p.slot (record p.region { base = rebased (placed 0 p.region) (x * 2 ^ p.shift) (enabled_bits ons * 2 ^ p.shift) })
 unfolding with_base

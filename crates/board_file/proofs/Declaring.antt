@@ -8,7 +8,7 @@ use Rattle.lists.specs.Elements.{all_pairs}
 use Rattle.lists.proofs.Tests.{left_true, right_true, asked_true}
 use Rattle.model_registers.specs.DeclarationRules as rules
 use Rattle.model_registers.specs.DeclarationRules.{first_broken, endpoint_rules, blocks_apart}
-use Rattle.board_file.specs.Entries.{Bar, Bridge, Config, Endpoint, Patterns, File}
+use Rattle.board_file.specs.Entries.{Bar, Config, Endpoint, Patterns, File}
 use Rattle.board_file.specs.Blocks.{block_cells}
 use Rattle.board_file.specs.Functions.{region, config_block, endpoint_values}
 use Rattle.board_file.specs.Rules.{is_between, has_only_bits, is_size}
@@ -39,11 +39,6 @@ within_ge first last n h = grind (arith, leb-true, and_parts)
 
 below : (last : ℕ) (n : ℤ) → is_between 0 last n ≡ true → nat_abs n < last + 1
 below last n h = let le = within_le 0 last n h in omega (arith, le)
-
-pub bridge_parts : (b : Bridge) → is_lawful_bridge b ≡ true → (nat_abs b.vendor < 0xffff) × (nat_abs b.device < 2 ^ 16) × (nat_abs b.revision < 2 ^ 8)
-bridge_parts b h =
-    let parts = first_three (is_between 0 0xfffe b.vendor) (is_between 0 0xffff b.device) (is_between 0 0xff b.revision) true h in
-    (below 0xfffe b.vendor parts.0, below 0xffff b.device parts.1, below 0xff b.revision parts.2)
 
 module _ (e : Endpoint) (h : is_declarable e ≡ true) where
   parts_of : (keeps fault.Number e ≡ true) × (keeps fault.Register e ≡ true) × (keeps fault.Size e ≡ true)

@@ -1,9 +1,8 @@
-use Rattle.std.proofs.lemmas.Grind.{common_steps}
 -- Tests of all elements of a list, with their indices, and of all pairs; lists that have none.
-use Rattle.std.proofs.Common.{◌≡◌, ℕ, ◌+◌, ◌==◌, length, arith, Bool, true, ◌&&◌, cond, List, [], ◌∷◌, ◌++◌, map, take, refl, sym, ap, ◌∙◌, add-one}
+use Rattle.std.proofs.Common.{◌≡◌, ℕ, ◌+◌, arith, Bool, true, ◌&&◌, cond, List, [], ◌∷◌, ◌++◌, map, take, refl, sym, ap, ◌∙◌, add-one}
 use Rattle.std.specs.List.{list_all, flat_map, enumerate_from}
 use Rattle.std.proofs.Math.Bool.{and-true, and_comm, and_assoc}
-use Rattle.std.proofs.lemmas.Bool.{and_parts, ne_eqb}
+use Rattle.std.proofs.lemmas.Bool.{and_parts}
 use Rattle.std.proofs.lemmas.List.Folds.{list_all-map}
 use Rattle.lists.specs.Elements.{all_pairs}
 use Rattle.lists.proofs.Members.{all_in, all_from}
@@ -79,6 +78,3 @@ none-unless t x = grind arith
 
 -- where elements are listed unless a test holds of each
 pub ruleset nothing_listed = (none-append, none-flat, none-unless, all-true, numbered, and-true)
-
-pub is_empty-map : {A B : Type 0} (f : A → B) (xs : List A) → (length xs == 0) ≡ none (map f xs)
-is_empty-map f xs = grind (arith, common_steps, ne_eqb)

@@ -18,21 +18,21 @@ use Rattle.board_file.specs.declared.fault.BoardFault.TheVariants as fault
 use Rattle.board_file.specs.declared.entry.Entry.{Entry}
 use Rattle.board_file.specs.declared.entry.Entry.TheVariants as entry
 use Rattle.board_file.specs.declared.rule.Rule.{Rule}
-use Rattle.board_file.specs.declared.finding.Problem.{Problem}
+use Rattle.board_file.specs.declared.finding.Breach.{Breach}
 
 pub record Found : Type 0 where
   pub entry : Entry
   pub rule : Rule
   pub key : List ℕ
 
-abbrev pub found_of : Problem → Found
+abbrev pub found_of : Breach → Found
 found_of p = record { entry = p.entry; rule = p.rule; key = p.key.now }
 
 abbrev pub none : {A : Type 0} → List A → Bool
 none [] = true
 none (x ∷ xs) = false
 
-abbrev pub Adds : List Found → List Problem → List Problem → Type 0
+abbrev pub Adds : List Found → List Breach → List Breach → Type 0
 Adds these old new = map found_of new ≡ map found_of old ++ these
 
 -- ---- rules that are broken

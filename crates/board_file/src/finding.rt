@@ -17,7 +17,7 @@ use std::alloc::{AllocError, Global};
 
 /// An entry that breaks a rule, and the key at which it does.
 #[derive(Clone, Copy, Debug)]
-pub struct Problem<'a> {
+pub struct Breach<'a> {
     pub entry: Entry,
     pub rule: Rule,
     pub key: &'a str,
@@ -25,7 +25,7 @@ pub struct Problem<'a> {
 
 /// Appends a problem for each rule of an entry that isn't kept.
 pub(crate) fn push_broken(
-    problems: &mut Vec<Problem<'_>>,
+    problems: &mut Vec<Breach<'_>>,
     entry: Entry,
     rules: &[(Rule, bool)],
 ) -> Result<(), AllocError>
@@ -33,7 +33,7 @@ pub(crate) fn push_broken(
 {
     'rules: for (rule, kept) in rules {
         if !*kept {
-            problems.push(Problem {
+            problems.push(Breach {
                 entry,
                 rule: *rule,
                 key: rule.key(),
@@ -45,7 +45,7 @@ pub(crate) fn push_broken(
 
 /// Appends what is wrong with the file as a whole.
 fn push_file(
-    problems: &mut Vec<Problem<'_>>,
+    problems: &mut Vec<Breach<'_>>,
     fault: BoardFault,
     file: &FileEntries<'_>,
 ) -> Result<(), AllocError>
@@ -67,7 +67,7 @@ fn push_file(
 
 /// Appends what is wrong with the apertures.
 fn push_host(
-    problems: &mut Vec<Problem<'_>>,
+    problems: &mut Vec<Breach<'_>>,
     fault: BoardFault,
     file: &FileEntries<'_>,
 ) -> Result<(), AllocError>
@@ -91,7 +91,7 @@ fn push_host(
 /// Appends what is wrong with what entries say beside paths.
 fn push_values(
     alloc: Global,
-    problems: &mut Vec<Problem<'_>>,
+    problems: &mut Vec<Breach<'_>>,
     file: &FileEntries<'_>,
     fault: BoardFault,
 ) -> Result<(), AllocError>
@@ -110,7 +110,7 @@ pub(crate) fn value_problems<'a>(
     alloc: Global,
     source: &Source<'_>,
     fault: BoardFault,
-) -> Result<Vec<Problem<'a>>, AllocError>
+) -> Result<Vec<Breach<'a>>, AllocError>
     ensures { IfOk result (λ v. map found_of v.items ≡ problems_in source.now.file fault) }
 {
     let mut problems = Vec::new(alloc);

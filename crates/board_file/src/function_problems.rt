@@ -8,7 +8,7 @@ use crate::blocks::{has_own_offsets, is_block};
 use crate::entries::{BarEntry, BridgeEntry, ConfigEntry, EndpointEntry, FileEntries};
 use crate::entry::Entry;
 use crate::fault::BoardFault;
-use crate::finding::{Problem, push_broken};
+use crate::finding::{Breach, push_broken};
 use crate::numbers::{config_ends, has_few_slashes, has_only_bits, is_between};
 use crate::regions::{has_own_registers, is_index, is_size};
 use crate::rule::Rule;
@@ -17,7 +17,7 @@ use std::alloc::{AllocError, Global};
 /// Appends what is wrong with a region.
 fn push_bar(
     alloc: Global,
-    problems: &mut Vec<Problem<'_>>,
+    problems: &mut Vec<Breach<'_>>,
     fault: BoardFault,
     endpoint: usize,
     index: usize,
@@ -52,7 +52,7 @@ fn push_bar(
 /// Appends what is wrong with a block of own registers.
 fn push_config(
     alloc: Global,
-    problems: &mut Vec<Problem<'_>>,
+    problems: &mut Vec<Breach<'_>>,
     fault: BoardFault,
     endpoint: usize,
     configs: &[ConfigEntry<'_>],
@@ -90,7 +90,7 @@ fn push_config(
 
 /// Appends what is wrong with the numbers of an endpoint.
 fn push_numbers(
-    problems: &mut Vec<Problem<'_>>,
+    problems: &mut Vec<Breach<'_>>,
     entry: Entry,
     endpoint: &EndpointEntry<'_>,
 ) -> Result<(), AllocError>
@@ -117,7 +117,7 @@ fn push_numbers(
 
 /// Appends what is wrong with an endpoint itself.
 fn push_endpoint(
-    problems: &mut Vec<Problem<'_>>,
+    problems: &mut Vec<Breach<'_>>,
     fault: BoardFault,
     index: usize,
     endpoint: &EndpointEntry<'_>,
@@ -143,7 +143,7 @@ fn push_endpoint(
 /// Appends what is wrong with regions.
 fn push_bars(
     alloc: Global,
-    problems: &mut Vec<Problem<'_>>,
+    problems: &mut Vec<Breach<'_>>,
     fault: BoardFault,
     endpoint: usize,
     bars: &[BarEntry<'_>],
@@ -160,7 +160,7 @@ fn push_bars(
 /// Appends what is wrong with blocks of own registers.
 fn push_configs(
     alloc: Global,
-    problems: &mut Vec<Problem<'_>>,
+    problems: &mut Vec<Breach<'_>>,
     fault: BoardFault,
     endpoint: usize,
     configs: &[ConfigEntry<'_>],
@@ -178,7 +178,7 @@ fn push_configs(
 /// Appends what is wrong with endpoints, each before its regions and its own registers.
 pub(crate) fn push_endpoints(
     alloc: Global,
-    problems: &mut Vec<Problem<'_>>,
+    problems: &mut Vec<Breach<'_>>,
     file: &FileEntries<'_>,
     fault: BoardFault,
 ) -> Result<(), AllocError>
@@ -196,7 +196,7 @@ pub(crate) fn push_endpoints(
 
 /// Appends what is wrong with a bridge.
 fn push_bridge(
-    problems: &mut Vec<Problem<'_>>,
+    problems: &mut Vec<Breach<'_>>,
     fault: BoardFault,
     index: usize,
     bridge: &BridgeEntry<'_>,
@@ -225,7 +225,7 @@ fn push_bridge(
 
 /// Appends what is wrong with bridges.
 pub(crate) fn push_bridges(
-    problems: &mut Vec<Problem<'_>>,
+    problems: &mut Vec<Breach<'_>>,
     file: &FileEntries<'_>,
     fault: BoardFault,
 ) -> Result<(), AllocError>

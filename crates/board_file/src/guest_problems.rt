@@ -7,14 +7,14 @@ ghost use Rattle.board_file.specs.Problems.{Adds, broken, of_guest};
 use crate::entries::{FileEntries, GuestEntry};
 use crate::entry::Entry;
 use crate::fault::BoardFault;
-use crate::finding::{Problem, push_broken};
+use crate::finding::{Breach, push_broken};
 use crate::guests::{is_name, is_own_name};
 use crate::rule::Rule;
 use std::alloc::AllocError;
 
 /// Appends what is wrong with a guest.
 fn push_guest(
-    problems: &mut Vec<Problem<'_>>,
+    problems: &mut Vec<Breach<'_>>,
     file: &FileEntries<'_>,
     fault: BoardFault,
     index: usize,
@@ -43,7 +43,7 @@ fn push_guest(
 
 /// Appends what is wrong with guests.
 pub(crate) fn push_guests(
-    problems: &mut Vec<Problem<'_>>,
+    problems: &mut Vec<Breach<'_>>,
     file: &FileEntries<'_>,
     fault: BoardFault,
 ) -> Result<(), AllocError>

@@ -9,7 +9,7 @@ ghost use Rattle.board_file.specs.Schema.{fields, field_of, has_form};
 use crate::entries::{EndpointEntry, FileEntries};
 use crate::entry::Entry;
 use crate::fault::BoardFault;
-use crate::finding::Problem;
+use crate::finding::Breach;
 use crate::keys::fields;
 use crate::reading::value_at;
 use crate::rule::Rule;
@@ -60,7 +60,7 @@ fn tables(alloc: Global, file: &FileEntries<'_>) -> Result<Vec<Entry>, AllocErro
 
 /// Appends that a rule is broken at a key, unless it is kept.
 fn push_unless<'a>(
-    problems: &mut Vec<Problem<'a>>,
+    problems: &mut Vec<Breach<'a>>,
     entry: Entry,
     key: &'a str,
     rule: Rule,
@@ -72,7 +72,7 @@ fn push_unless<'a>(
     if kept {
         return Ok(());
     }
-    problems.push(Problem { entry, rule, key })?;
+    problems.push(Breach { entry, rule, key })?;
     Ok(())
 }
 
@@ -89,7 +89,7 @@ fn keeps_form(form: Form, value: Option<&Value>) -> bool
 
 /// Appends what is wrong at a key that the table of an entry may have.
 fn push_field(
-    problems: &mut Vec<Problem<'_>>,
+    problems: &mut Vec<Breach<'_>>,
     entry: Entry,
     table: &Table,
     field: &Field,
@@ -111,7 +111,7 @@ fn push_field(
 
 /// Appends what is wrong at the keys that the table of an entry may have.
 fn push_fields(
-    problems: &mut Vec<Problem<'_>>,
+    problems: &mut Vec<Breach<'_>>,
     entry: Entry,
     level: Level,
     table: &Table,
@@ -127,7 +127,7 @@ fn push_fields(
 
 /// Appends the keys that the table of an entry has and its level doesn't.
 fn push_unknown<'a>(
-    problems: &mut Vec<Problem<'a>>,
+    problems: &mut Vec<Breach<'a>>,
     entry: Entry,
     level: Level,
     table: &'a Table,
@@ -145,7 +145,7 @@ fn push_unknown<'a>(
 
 /// Appends what is wrong with the keys of a table.
 fn push_table<'a>(
-    problems: &mut Vec<Problem<'a>>,
+    problems: &mut Vec<Breach<'a>>,
     fault: BoardFault,
     entry: Entry,
     level: Level,
@@ -163,7 +163,7 @@ fn push_table<'a>(
 
 /// Appends what is wrong with the keys of an entry. One that isn't there breaks no rule.
 fn push_entry<'a>(
-    problems: &mut Vec<Problem<'a>>,
+    problems: &mut Vec<Breach<'a>>,
     fault: BoardFault,
     document: &'a Table,
     entry: Entry,
@@ -182,7 +182,7 @@ pub(crate) fn key_problems<'a>(
     alloc: Global,
     source: &Source<'a>,
     fault: BoardFault,
-) -> Result<Vec<Problem<'a>>, AllocError>
+) -> Result<Vec<Breach<'a>>, AllocError>
     ensures { IfOk result (λ v.
         map found_of v.items ≡ key_problems (table_view source.now.document.now) fault) }
 {

@@ -6,7 +6,7 @@ ghost use Rattle.board_file.specs.Problems.{Adds, of_path, of_paths};
 
 use crate::entries::FileEntries;
 use crate::fault::BoardFault;
-use crate::finding::{Problem, push_broken};
+use crate::finding::{Breach, push_broken};
 use crate::path_entries::{PathEntry, asked_entries};
 use crate::path_sets::PathSets;
 use crate::places::FunctionPath;
@@ -15,7 +15,7 @@ use std::alloc::{AllocError, Global};
 
 /// Appends what is wrong with the path of an entry: with where a function stands, or with a slot.
 fn push_path(
-    problems: &mut Vec<Problem<'_>>,
+    problems: &mut Vec<Breach<'_>>,
     functions: &PathSets<'_>,
     fault: BoardFault,
     at: &PathEntry<'_, '_>,
@@ -54,7 +54,7 @@ fn push_path(
 /// Appends what is wrong with the paths that a check asks.
 pub(crate) fn push_paths(
     alloc: Global,
-    problems: &mut Vec<Problem<'_>>,
+    problems: &mut Vec<Breach<'_>>,
     file: &FileEntries<'_>,
     functions: &[FunctionPath],
     fault: BoardFault,

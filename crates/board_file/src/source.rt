@@ -17,7 +17,7 @@ use crate::board::build;
 use crate::checks::order;
 use crate::entries::FileEntries;
 use crate::fault::BoardFault;
-use crate::finding::{Problem, value_problems};
+use crate::finding::{Breach, value_problems};
 use crate::key_problems::key_problems;
 use crate::places::{FunctionPath, function_paths};
 use crate::reading::read_entries;
@@ -61,7 +61,7 @@ impl<'a> Source<'a> {
 
     /// All entries that break a rule whose fault this is, each with this rule and the key at which it is
     /// broken, in the order of the file.
-    pub fn problems(&self, alloc: Global, fault: BoardFault) -> Result<Vec<Problem<'a>>, AllocError>
+    pub fn problems(&self, alloc: Global, fault: BoardFault) -> Result<Vec<Breach<'a>>, AllocError>
         ensures { let ms = table_view self.now.document.now in
             IfOk result (λ v. map found_of v.items ≡ problems_of ms fault) }
     {

@@ -1,4 +1,3 @@
-mod Fitted
 pub mod BySize
 pub mod PoolsOfRegions
 pub mod LeastApertures

@@ -1,5 +1,4 @@
 -- The line of a board that can't be set up.
---     set_up_words      the words of a fault of set-up
 --     pool_words      a pool
 --     pool_of f      the pool that doesn't fit, where the fault is that
 --     shortage_of b a f      the same with how much it would take
@@ -11,23 +10,15 @@ use Rattle.model_registers.specs.Apertures.{Apertures}
 use Rattle.model_board.specs.Board.{Board}
 use Rattle.model_guests.specs.Text.{Text}
 use Rattle.model_guests.specs.PathTexts.{hexadecimal}
-use Rattle.bus_scan.specs.Faults.{number_of}
+use Rattle.bus_scan.specs.Faults.{number_of, fault_words}
 use Rattle.bus_scan.specs.declared.fault.Fault.{Fault}
-use Rattle.bus_scan.specs.declared.fault.Fault.TheVariants.{Buses, NoIoWindow, IoPool, MemoryPool, PrefetchablePool, Memory}
+use Rattle.bus_scan.specs.declared.fault.Fault.TheVariants.{IoPool, MemoryPool, PrefetchablePool}
 use Rattle.window_packing.specs.declared.pool.Pool.{Pool}
 use Rattle.window_packing.specs.declared.pool.Pool.TheVariants.{Io, Mem, Pref}
 use Rattle.window_packing.specs.declared.pool_uses.PoolUse.{PoolUse}
 use Rattle.window_packing.specs.Plans.{named_pool}
 use Rattle.window_packing.specs.Uses.{told_use}
 use Rattle.board_fit.specs.declared.shortage.Shortage.{Shortage}
-
-abbrev pub set_up_words : Fault → Text
-set_up_words Buses = codes "buses"
-set_up_words NoIoWindow = codes "no I/O window"
-set_up_words IoPool = codes "I/O pool"
-set_up_words MemoryPool = codes "memory pool"
-set_up_words PrefetchablePool = codes "prefetchable pool"
-set_up_words Memory = codes "memory"
 
 abbrev pub pool_words : Pool → Text
 pool_words Io = codes "I/O pool"
@@ -63,4 +54,4 @@ reason_text (Some s) = need_text s
 abbrev pub refusal_line : Text → Option Shortage → Fault → Text
 refusal_line name s f =
     name
-    ++ (codes ": " ++ (reason_text s ++ (codes " (" ++ (decimal (number_of f) ++ (codes " " ++ (set_up_words f ++ codes ")\n"))))))
+    ++ (codes ": " ++ (reason_text s ++ (codes " (" ++ (decimal (number_of f) ++ (codes " " ++ (fault_words f ++ codes ")\n"))))))

@@ -1,4 +1,4 @@
-//! Layer: files. Below: window_packing, diagnostics. Above: simulation.
+//! Layer: files. Below: window_packing, diagnostics. Above: board_told.
 //!
 //! What is said of a board file that is accepted: whether its board can be set up, how much of each aperture it
 //! takes and what may be a mistake in the file, or why it can't be set up; with the lines of the file.
@@ -6,7 +6,6 @@
 
 mod apertures;
 mod costs;
-mod fault_words;
 mod fitting;
 mod hexadecimal;
 mod judging;
@@ -25,7 +24,6 @@ mod shortage;
 mod warned;
 mod warnings;
 
-pub use fault_words::set_up_words;
 pub use judging::{Verdict, judge};
 pub use least::least_aperture;
 pub use pool_region::PoolRegion;

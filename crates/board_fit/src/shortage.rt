@@ -5,7 +5,6 @@ ghost use Rattle.model_set_up.specs.FunctionTable.{board_in};
 ghost use Rattle.bus_scan.specs.SizedTables.{IsTableOf};
 ghost use Rattle.board_fit.specs.Shortages.{pool_words, pool_of, need_text, shortage_of, refusal_line};
 
-use crate::fault_words::set_up_words;
 use crate::hexadecimal::Hexadecimal;
 use bus_scan::{Fault, FunctionTable};
 use headers::Apertures;
@@ -94,7 +93,7 @@ pub(crate) fn refusal_line(
     ensures { IfOk result (λ t. string_bytes t ≡ refusal_line name.now shortage fault) }
 {
     let number = fault.number();
-    let words = set_up_words(fault);
+    let words = fault.words();
     match shortage {
         Some(shortage) => format!(in alloc; "{name}: {shortage} ({number} {words})\n"),
         None => format!(in alloc; "{name}: cannot be set up ({number} {words})\n"),

@@ -25,7 +25,7 @@ use Rattle.board_file.specs.declared.rule.Rule.TheVariants as rule
 use Rattle.board_file.specs.declared.entry.Entry.{Entry}
 use Rattle.board_file.specs.declared.entry.Entry.TheVariants as entry
 use Rattle.diagnostics.specs.declared.entry_places.Other.{Other}
-use Rattle.board_refusal.specs.declared.told.Told.{Told}
+use Rattle.board_refusal.specs.declared.placed_breach.PlacedBreach.{PlacedBreach}
 use Rattle.board_refusal.specs.Spoiling.{is_clear}
 use Rattle.board_refusal.specs.AllProblems.{with_check, all_from, later_checks}
 use Rattle.board_refusal.specs.PatternCauses.{masks_text}
@@ -54,7 +54,7 @@ data Reason (f : File) (e : Entry) (r : Rule) : Type 0 where
   by_region : taker_of f e r ≢ None → Reason f e r
   by_earlier : other_of f e r ≢ None → Reason f e r
 
-is_said : (text : List ℕ) (ms : Members) (t : Told) → Reason (file ms) t.problem.entry t.problem.rule → IsTold text ms (file ms) t → cause_text (file ms) t ≢ []
+is_said : (text : List ℕ) (ms : Members) (t : PlacedBreach) → Reason (file ms) t.problem.entry t.problem.rule → IsTold text ms (file ms) t → cause_text (file ms) t ≢ []
 is_said text ms t r told e = grind (arith, both_empty, none_beside)
 
 abbrev Caused : File → Found → Type 0

@@ -8,7 +8,7 @@ use Rattle.board_file.specs.Entries.{file}
 use Rattle.board_file.specs.declared.fault.BoardFault.{BoardFault}
 use Rattle.board_file.specs.declared.rule.Rule.{Rule}
 use Rattle.board_file.specs.declared.rule.Rule.TheVariants as rule
-use Rattle.board_refusal.specs.declared.told.Told.{Told}
+use Rattle.board_refusal.specs.declared.placed_breach.PlacedBreach.{PlacedBreach}
 use Rattle.board_refusal.specs.AllProblems.{all_problems}
 use Rattle.board_refusal.specs.Causes.{cause_text}
 use Rattle.board_refusal.specs.Telling.{found_in, IsTold}
@@ -22,5 +22,5 @@ needs_cause _ = false
 
 -- where it is one of the problems that are told, as a refusal tells it
 abbrev pub CausesAreTold : Type 0
-CausesAreTold = (text : List ℕ) (ms : Members) (fault : BoardFault) (t : Told) → IsIn (found_in t) (all_problems ms fault)
+CausesAreTold = (text : List ℕ) (ms : Members) (fault : BoardFault) (t : PlacedBreach) → IsIn (found_in t) (all_problems ms fault)
     → needs_cause t.problem.rule ≡ true → IsTold text ms (file ms) t → cause_text (file ms) t ≢ []

@@ -14,7 +14,7 @@ use Rattle.board_file.specs.declared.rule.Rule.TheVariants as rule
 use Rattle.board_file.specs.Tables.{level_of}
 use Rattle.diagnostics.specs.declared.entry_places.Other.{Other}
 use Rattle.diagnostics.specs.EntryPlaces.{other_text, beside_text}
-use Rattle.board_refusal.specs.declared.told.Told.{Told}
+use Rattle.board_refusal.specs.declared.placed_breach.PlacedBreach.{PlacedBreach}
 use Rattle.board_refusal.specs.KeyCauses.{known_text, asked_text}
 use Rattle.board_refusal.specs.SizeCauses.{bar_text}
 use Rattle.board_refusal.specs.ApertureCauses.{first_words, io_parts, mem_parts, pref_text}
@@ -62,5 +62,5 @@ abbrev pub others_text : Option Other → Option Other → List ℕ
 others_text None o = beside_text o
 others_text (Some t) o = codes ": " ++ other_text t ++ met_text o
 
-abbrev pub cause_text : File → Told → List ℕ
+abbrev pub cause_text : File → PlacedBreach → List ℕ
 cause_text f t = own_text f t.problem.entry t.problem.rule t.problem.key.now ++ others_text t.taker t.other

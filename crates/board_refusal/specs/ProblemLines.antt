@@ -12,7 +12,7 @@ use Rattle.diagnostics.specs.declared.text_place.TextPlace.{TextPlace}
 use Rattle.diagnostics.specs.declared.style.Style.{Style}
 use Rattle.diagnostics.specs.Excerpts.{shown_text, below_text}
 use Rattle.diagnostics.specs.Heads.{line_text, head_text}
-use Rattle.board_refusal.specs.declared.told.Told.{Told}
+use Rattle.board_refusal.specs.declared.placed_breach.PlacedBreach.{PlacedBreach}
 use Rattle.board_refusal.specs.RuleWords.{words_of}
 use Rattle.board_refusal.specs.Causes.{cause_text}
 
@@ -20,16 +20,16 @@ abbrev pub numbered_text : BoardFault → List ℕ
 numbered_text f = codes "(" ++ decimal (number_of f) ++ codes " " ++ fault_words f ++ codes ")"
 
 -- what is wrong, and why (N WORDS)
-abbrev pub said_text : File → Told → List ℕ
+abbrev pub said_text : File → PlacedBreach → List ℕ
 said_text f t =
     words_of t.problem.rule ++ cause_text f t ++ codes " " ++ numbered_text (fault_of t.problem.rule) ++ codes "\n"
 
 -- FILE:LINE: ENTRY.KEY = VALUE of OWNER: what is wrong
-abbrev pub problem_text : List ℕ → Members → List ℕ → Told → List ℕ
+abbrev pub problem_text : List ℕ → Members → List ℕ → PlacedBreach → List ℕ
 problem_text name ms bytes t =
     head_text name [] ms bytes t.problem.entry t.problem.key.now t.place ++ codes ": " ++ said_text (file ms) t
 
-abbrev pub told_text : Style → List ℕ → Members → List ℕ → Told → List ℕ
+abbrev pub told_text : Style → List ℕ → Members → List ℕ → PlacedBreach → List ℕ
 told_text style name ms bytes t =
     problem_text name ms bytes t ++ below_text style ms bytes t.problem.entry t.problem.key.now t.place
 
@@ -40,7 +40,7 @@ bare_text name f = name ++ codes ": refused " ++ numbered_text f ++ codes "\n"
 abbrev pub count_text : ℕ → List ℕ
 count_text n = decimal n ++ (if n == 1 then codes " problem\n" else codes " problems\n")
 
-abbrev pub lines_text : Style → List ℕ → Members → List ℕ → BoardFault → List Told → List ℕ
+abbrev pub lines_text : Style → List ℕ → Members → List ℕ → BoardFault → List PlacedBreach → List ℕ
 lines_text style name ms bytes f [] = bare_text name f
 lines_text style name ms bytes f (t ∷ ts) =
     flat_map (told_text style name ms bytes) (t ∷ ts) ++ count_text (length (t ∷ ts))

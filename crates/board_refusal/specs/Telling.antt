@@ -12,7 +12,7 @@ use Rattle.toml.specs.Data.{Members}
 use Rattle.toml.specs.Parse.{parse_document}
 use Rattle.lists.specs.Elements.{Each}
 use Rattle.board_file.specs.declared.fault.BoardFault.{BoardFault}
-use Rattle.board_file.specs.declared.finding.Problem.{Problem}
+use Rattle.board_file.specs.declared.finding.Breach.{Breach}
 use Rattle.board_file.specs.Entries.{File, file}
 use Rattle.diagnostics.specs.declared.text_place.TextPlace.{TextPlace}
 use Rattle.diagnostics.specs.declared.style.Style.{Style}
@@ -21,19 +21,19 @@ use Rattle.diagnostics.specs.EntryPlaces.{IsPlaceOf, entry_of}
 use Rattle.board_file.specs.Problems.{Found, found_of}
 use Rattle.board_file.specs.RuleFaults.{fault_of}
 use Rattle.board_refusal.specs.AllProblems.{all_problems, rank}
-use Rattle.board_refusal.specs.declared.told.Told.{Told}
+use Rattle.board_refusal.specs.declared.placed_breach.PlacedBreach.{PlacedBreach}
 use Rattle.board_refusal.specs.Others.{other_of}
 use Rattle.board_refusal.specs.RegisterCauses.{taker_of}
 use Rattle.board_refusal.specs.ProblemLines.{unread_text, lines_text}
 
-abbrev pub problem_of : Told → Problem
+abbrev pub problem_of : PlacedBreach → Breach
 problem_of t = t.problem
 
-abbrev pub found_in : Told → Found
+abbrev pub found_in : PlacedBreach → Found
 found_in t = found_of t.problem
 
 -- what is told beside a problem
-pub record IsTold (text : List ℕ) (ms : Members) (f : File) (t : Told) : Type 0 where
+pub record IsTold (text : List ℕ) (ms : Members) (f : File) (t : PlacedBreach) : Type 0 where
   pub place : IfSome t.place (IsPlaceOf text ms t.problem.entry t.problem.key.now)
   pub taker : option_map entry_of t.taker ≡ taker_of f t.problem.entry t.problem.rule
   pub taker_place : IfSome t.taker (λ o. IfSome o.place (IsPlaceOf text ms o.entry t.problem.key.now))
@@ -41,21 +41,21 @@ pub record IsTold (text : List ℕ) (ms : Members) (f : File) (t : Told) : Type 
   pub other_place : IfSome t.other (λ o. IfSome o.place (IsPlaceOf text ms o.entry t.problem.key.now))
 
 -- the line of a problem, or 0 where none is known
-abbrev pub line_or_zero : Told → ℕ
+abbrev pub line_or_zero : PlacedBreach → ℕ
 line_or_zero t = unwrap_or (option_map (λ p. p.line) t.place) 0
 
 -- those without a line come first, and those of one line keep their order
-pub record IsByLine (found told : List Told) : Type 0 where
+pub record IsByLine (found told : List PlacedBreach) : Type 0 where
   pub are_same : IsPermutation found told
   pub in_order : IsNonDecreasingBy line_or_zero told
   pub is_stable : IsStableByKey line_or_zero nat_cmp found told
 
 -- the place of the check that a problem is of
-abbrev pub rank_of : Told → ℕ
+abbrev pub rank_of : PlacedBreach → ℕ
 rank_of t = rank (fault_of t.problem.rule)
 
 -- check after check, each in the order that it had
-pub record IsByCheck (found told : List Told) : Type 0 where
+pub record IsByCheck (found told : List PlacedBreach) : Type 0 where
   pub are_same : IsPermutation found told
   pub in_order : IsNonDecreasingBy rank_of told
   pub is_stable : IsStableByKey rank_of nat_cmp found told
@@ -64,12 +64,12 @@ pub record IsByCheck (found told : List Told) : Type 0 where
 pub record IsRefusal (style : Style) (name bytes : List ℕ) (fault : BoardFault) (text : List ℕ) : Type 0 where
   pub document : Members
   pub parsed : parse_document bytes ≡ Some document
-  pub found : List Told
+  pub found : List PlacedBreach
   pub are_all : map found_in found ≡ all_problems document fault
   pub have_places : Each (IsTold bytes document (file document)) found
-  pub by_line : List Told
+  pub by_line : List PlacedBreach
   pub has_lines : IsByLine found by_line
-  pub told : List Told
+  pub told : List PlacedBreach
   pub in_order : IsByCheck by_line told
   pub is_text : text ≡ lines_text style name document bytes fault told
 

@@ -8,11 +8,11 @@ use crate::entry_values::{at_of, bar_of, config_of};
 use crate::key_causes::{push_asked, push_known};
 use crate::path_causes::{push_bridge, push_path_form, push_slot, push_zero};
 use crate::pattern_causes::push_masks;
+use crate::placed_breach::PlacedBreach;
 use crate::size_causes::push_bar;
-use crate::told::Told;
 use board_file::entries::FileEntries;
 use board_file::tables::level_of;
-use board_file::{Entry, Problem, Rule, Source};
+use board_file::{Breach, Entry, Rule, Source};
 use diagnostics::{Beside, Other};
 use std::alloc::{AllocError, Global};
 
@@ -34,7 +34,7 @@ fn push_path(
     alloc: Global,
     text: &mut String,
     source: &Source<'_>,
-    problem: &Problem<'_>,
+    problem: &Breach<'_>,
 ) -> Result<(), AllocError>
     ensures { let p = problem.now in OnOk result (Adds text.old text.new
         (path_cause_text source.now.file p.entry p.rule)) }
@@ -56,7 +56,7 @@ fn push_own(
     alloc: Global,
     text: &mut String,
     source: &Source<'_>,
-    problem: &Problem<'_>,
+    problem: &Breach<'_>,
 ) -> Result<(), AllocError>
     ensures { let p = problem.now in OnOk result (Adds text.old text.new
         (own_text source.now.file p.entry p.rule p.key.now)) }
@@ -115,7 +115,7 @@ pub(crate) fn push_cause(
     alloc: Global,
     text: &mut String,
     source: &Source<'_>,
-    told: &Told<'_>,
+    told: &PlacedBreach<'_>,
 ) -> Result<(), AllocError>
     ensures { OnOk result (Adds text.old text.new (cause_text source.now.file told.now)) }
 {

@@ -6,7 +6,7 @@ ghost use Rattle.board_refusal.specs.Spoiling.{is_clear};
 ghost use Rattle.board_refusal.specs.AllProblems.{rank, later_checks, with_check, all_problems};
 
 use crate::spoiling::is_clear;
-use board_file::{BoardFault, Problem, Source, order};
+use board_file::{BoardFault, Breach, Source, order};
 use std::alloc::{AllocError, Global};
 
 /// The place of a check in the order in which they are made, from 1 on, or of the last one where it comes after all.
@@ -38,7 +38,7 @@ fn later_checks(fault: BoardFault) -> &'static [BoardFault]
 }
 
 /// Drops the problems that wait for an earlier one.
-fn keep_clear(problems: &mut Vec<Problem<'_>>, earlier: &[Problem<'_>])
+fn keep_clear(problems: &mut Vec<Breach<'_>>, earlier: &[Breach<'_>])
     ensures { map found_of problems.new.items
         ≡ filter (is_clear (map found_of earlier.now)) (map found_of problems.old.items) }
 {
@@ -48,7 +48,7 @@ fn keep_clear(problems: &mut Vec<Problem<'_>>, earlier: &[Problem<'_>])
 /// Appends the problems of a check that wait for no earlier one.
 fn push_check<'a>(
     alloc: Global,
-    all: &mut Vec<Problem<'a>>,
+    all: &mut Vec<Breach<'a>>,
     source: &Source<'a>,
     fault: BoardFault,
 ) -> Result<(), AllocError>
@@ -66,7 +66,7 @@ pub(crate) fn all_problems<'a>(
     alloc: Global,
     source: &Source<'a>,
     fault: BoardFault,
-) -> Result<Vec<Problem<'a>>, AllocError>
+) -> Result<Vec<Breach<'a>>, AllocError>
     ensures { IfOk result (λ v.
         map found_of v.items ≡ all_problems (table_view source.now.document.now) fault) }
 {

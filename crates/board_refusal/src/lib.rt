@@ -1,4 +1,4 @@
-//! Layer: files. Below: diagnostics. Above: simulation.
+//! Layer: files. Below: diagnostics. Above: board_told.
 //!
 //! What is told of a board file that is refused: a line for each entry that breaks its first failing check, or a
 //! later one that waits for none of these, with its line in the file, and why.
@@ -13,12 +13,12 @@ pub mod laws;
 mod others;
 mod path_causes;
 mod pattern_causes;
+mod placed_breach;
 mod problem_lines;
 mod refusals;
 mod register_causes;
 mod rule_words;
 mod size_causes;
 mod spoiling;
-mod told;
 
 pub use refusals::{refusal_text, unread_text};

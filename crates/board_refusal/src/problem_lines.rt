@@ -7,8 +7,8 @@ ghost use Rattle.board_file.specs.declared.fault.BoardFault.TheVariants.{NotToml
 ghost use Rattle.board_refusal.specs.ProblemLines.{numbered_text, said_text, told_text, reasoned_text, unread_text, count_text, lines_text};
 
 use crate::causes::push_cause;
+use crate::placed_breach::PlacedBreach;
 use crate::rule_words::rule_words;
-use crate::told::Told;
 use board_file::{BoardFault, Source};
 use diagnostics::{Head, LineNumber, Telling, TextPlace, push_below, push_shown_line};
 use std::alloc::{AllocError, Global};
@@ -33,7 +33,7 @@ fn push_said(
     alloc: Global,
     text: &mut String,
     source: &Source<'_>,
-    told: &Told<'_>,
+    told: &PlacedBreach<'_>,
 ) -> Result<(), AllocError>
     ensures { OnOk result (Adds text.old text.new (said_text source.now.file told.now)) }
 {
@@ -48,7 +48,7 @@ fn push_problem(
     text: &mut String,
     telling: &Telling<'_>,
     source: &Source<'_>,
-    told: &Told<'_>,
+    told: &PlacedBreach<'_>,
 ) -> Result<(), AllocError>
     ensures { let s = source.now in OnOk result (Adds text.old text.new
         (told_text telling.now.style telling.now.name.now (table_view s.document.now) s.bytes.now told.now)) }
@@ -74,7 +74,7 @@ fn push_problems(
     text: &mut String,
     telling: &Telling<'_>,
     source: &Source<'_>,
-    told: &[Told<'_>],
+    told: &[PlacedBreach<'_>],
 ) -> Result<(), AllocError>
     ensures { let s = source.now in OnOk result (Adds text.old text.new
         (flat_map (told_text telling.now.style telling.now.name.now (table_view s.document.now) s.bytes.now) told.now)) }
@@ -132,7 +132,7 @@ pub(crate) fn push_lines(
     telling: &Telling<'_>,
     source: &Source<'_>,
     fault: BoardFault,
-    told: &[Told<'_>],
+    told: &[PlacedBreach<'_>],
 ) -> Result<(), AllocError>
     ensures { let s = source.now in OnOk result (Adds text.old text.new
         (lines_text telling.now.style telling.now.name.now (table_view s.document.now) s.bytes.now fault told.now)) }

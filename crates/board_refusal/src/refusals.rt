@@ -7,8 +7,8 @@ ghost use Rattle.board_file.specs.declared.fault.BoardFault.TheVariants.{NotToml
 ghost use Rattle.board_refusal.specs.Telling.{IsRefusal, IsUnread, IsPlaceIn, IsByLine, IsByCheck, line_or_zero, rank_of};
 
 use crate::every_check::{all_problems, rank};
+use crate::placed_breach::{PlacedBreach, with_places};
 use crate::problem_lines::{push_lines, push_unread};
-use crate::told::{Told, with_places};
 use board_file::{BoardFault, Source};
 use diagnostics::{Places, Style, Telling, TextPlace, line_of};
 use std::alloc::{AllocError, Global};
@@ -30,7 +30,7 @@ fn place_of_error(bytes: &[u8], error: &Error) -> Option<TextPlace>
 }
 
 /// The line of a problem, or 0 where none is known.
-fn line_or_zero(told: &Told<'_>) -> usize
+fn line_or_zero(told: &PlacedBreach<'_>) -> usize
     ensures { result ≡ line_or_zero told.now }
 {
     match told.place {
@@ -41,7 +41,7 @@ fn line_or_zero(told: &Told<'_>) -> usize
 
 /// Puts the problems in the order of their lines. Those without a line come first, and those of one line
 /// keep their order.
-fn sort_by_line(told: &mut Vec<Told<'_>>) -> Result<(), AllocError>
+fn sort_by_line(told: &mut Vec<PlacedBreach<'_>>) -> Result<(), AllocError>
     ensures { OnOk result (IsByLine told.old.items told.new.items) }
 {
     told.sort_by_key(|one| line_or_zero(one))?;
@@ -49,14 +49,14 @@ fn sort_by_line(told: &mut Vec<Told<'_>>) -> Result<(), AllocError>
 }
 
 /// The place of the check that a problem is of.
-fn rank_of(told: &Told<'_>) -> usize
+fn rank_of(told: &PlacedBreach<'_>) -> usize
     ensures { result ≡ rank_of told.now }
 {
     rank(told.problem.rule.fault())
 }
 
 /// Puts the problems in the order of their checks. Those of one check keep their order.
-fn sort_by_check(told: &mut Vec<Told<'_>>) -> Result<(), AllocError>
+fn sort_by_check(told: &mut Vec<PlacedBreach<'_>>) -> Result<(), AllocError>
     ensures { OnOk result (IsByCheck told.old.items told.new.items) }
 {
     told.sort_by_key(|one| rank_of(one))?;

@@ -13,7 +13,7 @@ use Rattle.lists.proofs.Indices.{each_by_index, map_at, pair_at}
 use Rattle.lists.proofs.Members.{each_in, each_from, pairs_of_map}
 use Rattle.model_board.specs.Paths.{Path, path_eq, path_before, parent, IsPath}
 use Rattle.model_board.specs.Board.{Row, Board, IsBoard, is_bridge_at}
-use Rattle.model_board.specs.Places.{board_of, standing}
+use Rattle.model_board.specs.Places.{board_of, row_inserted, standing}
 use Rattle.model_board.specs.State.{BoardFunction}
 use Rattle.model_board.proofs.PathOrder.{path_same, before_trans}
 use Rattle.model_board.proofs.PathEnds.{not_before_itself, no_turn, path_eq-sym}
@@ -80,6 +80,18 @@ sorted_is_board rs ys board moved sorted =
     same_rows (board_of rs) ys board.in_order (strict ys sorted (IsDistinct-IsPermutation shares (λ x y. path_eq-sym y.path x.path) rs ys moved (apart rs board)))
     (each_to_board (λ r. IsIn r ys) rs (each_permutation (λ r. IsIn r ys) ys rs (IsPermutation-sym rs ys moved) (each_from (λ r. IsIn r ys) ys (λ x m. m))))
     (each_permutation (λ r. IsIn r (board_of rs)) rs ys moved (each_from_board (λ r. IsIn r (board_of rs)) rs (each_from (λ r. IsIn r (board_of rs)) (board_of rs) (λ x m. m))))
+
+-- a board's rows in path order are the board
+first : (r : Row) (rs : List Row) → Each (Before r) rs → row_inserted r rs ≡ r ∷ rs
+first r [] h = refl
+first r (s ∷ rs) h = grind (arith, no_turn r.path s.path h.0)
+
+in_place : (b : Board) → EachPair Before b → board_of b ≡ b
+in_place [] h = refl
+in_place (r ∷ b) h = ap (row_inserted r) (in_place b h.1) ∙ first r b h.0
+
+pub board_again : {rows b : List Row} → rows ≡ b → IsBoard b → board_of rows ≡ b
+board_again {b = b} is board = ap board_of is ∙ in_place b board.in_order
 
 -- ---- the paths of a board stand in order
 

@@ -1,5 +1,5 @@
 -- One node changed: the layout stays, and so do all other functions.
-use Rattle.std.proofs.Common.{◌≡◌, ℕ, ◌<◌, Bool, true, false, cond, Option, Some, None, List, [], ◌∷◌, map, zero, suc, refl, ap, ap₂, sym, ◌∙◌, arith, subst, get_or, rules}
+use Rattle.std.proofs.Common.{◌≡◌, ℕ, Bool, true, false, cond, Option, Some, None, List, [], ◌∷◌, map, zero, suc, refl, ap, ap₂, sym, ◌∙◌, arith, subst, get_or, rules}
 use Rattle.std.specs.Prelude.{find, IsSome}
 use Rattle.std.specs.List.{slice_get, slice_set}
 use Rattle.std.specs.Option.{option_map_or}
@@ -57,11 +57,7 @@ none_back p fs none = sym (ap (λ o. option_map_or (λ (e : decoding.Function). 
 module _ (nodes : List Node) (laid : IsLaidOut nodes) (i : ℕ) (n : Node) (e : slice_get nodes i ≡ Some n) where
   -- no other function has the path
   others : (j : ℕ) (f : BoardFunction) → (j ≡ i → ⊥) → slice_get (functions_of nodes) j ≡ Some f → path_eq f.path n.path ≡ false
-  others j f d ef =
-      let m = at_map function_of nodes j f ef in
-      let before = λ (l : j < i). ordered nodes laid j i m.0 n l m.1 e in
-      let after = λ (l : i < j). ordered nodes laid i j n m.0 l e m.1 in
-      grind (arith, m.2, path_same f.path n.path, not_before_itself n.path, before, after)
+  others j f d ef = grind (arith, at_map function_of nodes j f ef, ordered, path_same f.path n.path, not_before_itself n.path)
 
   changed_one : (g : BoardFunction → BoardFunction) → map (λ (f : BoardFunction). cond (path_eq f.path n.path) (g f) f) (functions_of nodes) ≡ slice_set (functions_of nodes) i (g (function_of n))
   changed_one g = map_one (λ (f : BoardFunction). path_eq f.path n.path) g (functions_of nodes) i (function_of n) (map_at function_of nodes i n e) (path_self n.path) others
@@ -117,9 +113,7 @@ same_read n f g d e p q = λ i. read_of n (λ w. p w i) (q i)
 
 module _ (nodes : List Node) (i : ℕ) (n : Node) (e : slice_get nodes i ≡ Some n) where
   pub nth_set : (w : decoding.Function) → functions_of (slice_set nodes i (record n { function = Endpoint w })) ≡ with_endpoint_nth i w (functions_of nodes)
-  nth_set w =
-      map_set function_of nodes i (record n { function = Endpoint w })
-      ∙ sym (ap (λ (o : Option BoardFunction). option_map_or (λ (f : BoardFunction). slice_set (functions_of nodes) i (record { path = f.path; decl = endpoint w.decl; file = w.file })) o (functions_of nodes)) (map_at function_of nodes i n e))
+  nth_set w = grind (arith, map_set, map_at)
 
   pub nth_there : endpoint_in n.function ≡ endpoint_nth (functions_of nodes) i
   nth_there = grind (arith, map_at)

@@ -75,11 +75,7 @@ module _ (nodes : List Node) (laid : IsLaidOut nodes) (space : Space) (a : ℕ) 
 
   -- the first claim stands at index i
   pub claim_here : (i : ℕ) (n : Node) (h : Hit) → Passed i → slice_get nodes i ≡ Some n → endpoint_hit (function_of n) space a ≡ Some h → first_claim fs space a ≡ Some (claim_at n.path h)
-  claim_here i n h p e d =
-      first_at (claim_of fs space a) fs i (function_of n) (claim_at n.path h) (map_at function_of nodes i n e)
-      (ap (λ t. cond t (option_map_or (λ (x : Hit). Some (claim_at n.path x)) (endpoint_hit (function_of n) space a) None) None) (open_here i n p e)
-      ∙ ap (λ o. option_map_or (λ (x : Hit). Some (claim_at n.path x)) o None) d)
-      (λ j f l ef. let m = at_map function_of nodes j f ef in ap (claim_of fs space a) m.2 ∙ p.silent j m.0 l m.1)
+  claim_here i n h p e d = grind (arith, first_at, map_at function_of nodes i n e, open_here i n p e, at_map)
 
   pub claim_nowhere : (i : ℕ) → Passed i → length nodes ≤ i → first_claim fs space a ≡ None
   claim_nowhere i p l = search (rules, first_none, at_map, slice_get_within)

@@ -54,8 +54,7 @@ own_device p = rw (path_self (parent p)) (grind (arith, nat_tests))
 one_zero : (p q : Path) → 0 < length p → 0 < length q → same_device p q ≡ true → is_further p ≡ false → is_further q ≡ false → path_eq p q ≡ true
 one_zero p q h k same f g =
     let e = path_same (function_zero p) p (zero_self p h ∙ ap not f) in
-    let d = path_same (function_zero q) q (zero_self q k ∙ ap not g) in
-    ap₂ path_eq (sym e) (sym d) ∙ zero_is p q h k ∙ same
+    grind (arith, path_same (function_zero q) q (zero_self q k ∙ ap not g), zero_self q k, zero_is p q h k)
 
 -- ---- the functions of a board
 
@@ -74,10 +73,7 @@ module _ (b : Board) (board : IsBoard b) where
 
   module _ (s : Row) (m : IsIn s b) where
     further_in : (r : Row) → IsIn r b → is_further r.path ≡ true → same_device r.path s.path ≡ true → in_set s.path ≡ true
-    further_in r k f same =
-        any_in (λ (t : Row). path_eq (function_zero s.path) (function_zero t.path)) r (filter (λ (t : Row). is_further t.path) b)
-        (in_filter (λ (t : Row). is_further t.path) r b k f)
-        (path_eq-sym (function_zero s.path) (function_zero r.path) ∙ zero_is r.path s.path (some r k) (some s m) ∙ same)
+    further_in r k f same = grind (arith, any_in, in_filter, path_eq-sym, zero_is, some)
 
     other_in : (r : Row) → IsIn r b → same_device r.path s.path ≡ true → path_eq r.path s.path ≡ false → is_multifunction b s.path ≡ true
     other_in r k same e = any_in (other s.path) r b k (rw (same, e) refl)
@@ -90,9 +86,7 @@ module _ (b : Board) (board : IsBoard b) where
     zero_beside : is_further s.path ≡ true → (z : Row) × IsIn z b × (zero_of s.path z ≡ true) → is_multifunction b s.path ≡ true
     zero_beside f (z, k, e) =
         let at = path_same z.path (function_zero s.path) e in
-        let again = ap function_zero at ∙ zero_again s.path (some s m) in
-        other_in z k (sym (zero_is z.path s.path (some z k) (some s m)) ∙ ap (λ p. path_eq p (function_zero s.path)) again ∙ path_self (function_zero s.path))
-        (ap (λ p. path_eq p s.path) at ∙ zero_self s.path (some s m) ∙ ap not f)
+        grind (arith, zero_again, some, other_in, zero_is, path_self, zero_self)
 
     from_set : (r : Row) × IsIn r (filter (λ (t : Row). is_further t.path) b) × (path_eq (function_zero s.path) (function_zero r.path) ≡ true) → is_multifunction b s.path ≡ true
     from_set (r, k, e) =
@@ -106,10 +100,7 @@ module _ (b : Board) (board : IsBoard b) where
         by_place false h beside there f same = other_in r there same h
 
     pub told_by_set : in_set s.path ≡ is_multifunction b s.path
-    told_by_set =
-        same_test (in_set s.path) (is_multifunction b s.path)
-        (λ h. from_set (from_any (λ (r : Row). path_eq (function_zero s.path) (function_zero r.path)) (filter (λ (r : Row). is_further r.path) b) h))
-        (λ h. let (r, k, t) = from_any (other s.path) b h in to_set r k t)
+    told_by_set = grind (arith, same_test, from_set, from_any, to_set)
 
 -- ---- the set
 
@@ -123,6 +114,4 @@ map_same f g (x ∷ xs) h = ap₂ (λ y ys. y ∷ ys) (h x (inl refl)) (map_same
 
 pub shared_are : (b : Board) (set : BTreeSet Path) → IsBoard b → IsFromIterResult path_cmp (shared_devices b) set
     → map (λ (r : Row). contains path_cmp set (function_zero r.path)) b ≡ map (λ (r : Row). is_multifunction b r.path) b
-shared_are b set board h =
-    map_same (λ (r : Row). contains path_cmp set (function_zero r.path)) (λ (r : Row). is_multifunction b r.path) b
-    (λ r m. h.0 (function_zero r.path) ∙ equal_is (function_zero r.path) (filter (λ (s : Row). is_further s.path) b) ∙ told_by_set b board r m)
+shared_are b set board h = grind (arith, map_same, equal_is, told_by_set)

@@ -9,8 +9,8 @@ use Rattle.std.proofs.lemmas.List.{length-set}
 use Rattle.std.proofs.lemmas.Bool.{cases_eq}
 use Rattle.std.proofs.lemmas.Bool.Decides.{nat_tests}
 use Rattle.lists.specs.Elements.{Each, EachPair}
-use Rattle.model_registers.specs.Cell.{Cell, written, raised}
-use Rattle.model_registers.specs.Registers.{Place, config, block, after, PlacedCell, File, cell_at, read, changed, write, raise, field, in_region}
+use Rattle.model_registers.specs.Cell.{Cell, raised}
+use Rattle.model_registers.specs.Registers.{config, block, PlacedCell, File, cell_at, read, changed, write, raise, field, in_region}
 use Rattle.model_registers.specs.FileLaws.{has_place, HasNone, IsConfig, IsConfigFile}
 use Rattle.model_registers.specs.Declarations.{Region, Endpoint, HasLawfulRegions, IsLawfulRegion}
 use Rattle.model_registers.specs.EndpointTable.{BaseAddress, register_cells, base_file, opened}
@@ -151,9 +151,7 @@ module _ (d : Endpoint) (cells : File) (bars : List BaseAddress) (g : ℕ → Fi
 
   -- at a block's offsets stands the block
   pub cell_of_block : (n q : ℕ) → cell_at file (block n q) ≡ cell_at (g n) (config q)
-  cell_of_block n q =
-      cell_second cells (region_parts bars g) (block n q) (config_without_block cells n q parts.config_places)
-      ∙ block_cell bars g n q distinct (parts.block_places n) (parts.unused n)
+  cell_of_block n q = grind (arith, cell_second, config_without_block, block_cell, distinct)
 
   -- and elsewhere than at base registers the header with the device's own registers
   pub cell_of_config : (q : ℕ) → (q < 0x10) ⊎ (0x28 ≤ q) → cell_at file (config q) ≡ cell_at cells (config q)
@@ -191,8 +189,7 @@ module _ (d : Endpoint) (cells : File) (bars : List BaseAddress) (g : ℕ → Fi
 
   pub config_changed : (change : File → File) → IsChange change → ((m : ℕ) (xs : File) → change (in_region m xs) ≡ in_region m xs) → (cs : List BaseAddress) → map opened bars ≡ map opened cs → base_file cs ≡ change (base_file bars)
       → change file ≡ change cells ++ region_parts cs g
-  config_changed change c region cs same bases =
-      c.joined cells (region_parts bars g) ∙ ap (λ (ys : File). change cells ++ ys) (parts_changed change c bars cs g g same bases (λ m. region m (g m)))
+  config_changed change c region cs same bases = grind (arith, parts_changed)
 
   pub config_kept : (xs : File) (cs : List BaseAddress) → map opened cs ≡ map opened bars → IsConfigFile xs → ((q : ℕ) → has_place xs (config q) ≡ has_place cells (config q)) → AreParts d xs cs g
   config_kept xs cs same places holds = record {
@@ -230,16 +227,12 @@ module _ (d : Endpoint) (cells : File) (bars : List BaseAddress) (g : ℕ → Fi
   bases_unraised (b ∷ bs) mask off = search (rules, joined_change, raise_field, bases_unraised bs mask off)
 
   pub raise_config : (off mask : ℕ) → raise mask (config off) file ≡ raise mask (config off) cells ++ region_parts bars g
-  raise_config off mask =
-      config_changed (raise mask (config off)) (changed_is_change (raised mask) (config off)) (λ m xs. change_none (raised mask) (in_region m xs) (config off) (no_config_in m off xs))
-      bars refl (sym (bases_unraised bars mask off))
+  raise_config off mask = search (rules, config_changed, changed_is_change (raised mask) (config off), change_none, no_config_in, bases_unraised bars mask off)
 
   -- a write of base registers
   pub write_base : (off v : ℕ) (ons : List Bool) (cs : List BaseAddress) → 0x10 ≤ off → off + length ons ≤ 0x28 → map opened cs ≡ map opened bars → base_file cs ≡ write ons v (config off) (base_file bars)
       → write ons v (config off) file ≡ cells ++ region_parts cs g
-  write_base off v ons cs low high same bases =
-      config_changed (write ons v (config off)) (write_is_change ons v (config off)) (λ m xs. write_none ons v (config off) (in_region m xs) (region_has_no_config ons m off xs)) cs (sym same) bases
-      ∙ ap (λ (xs : File). xs ++ region_parts cs g) (write_none ons v (config off) cells (none_from cells ons off (λ q l h. parts.config_within q (inl (omega arith, omega arith)))))
+  write_base off v ons cs low high same bases = grind (arith, config_changed, write_is_change ons v (config off), write_none, region_has_no_config, none_from)
 
   pub block_short : (n : ℕ) → IsShort (g n)
   block_short n off l = parts.block_within n off (omega arith)
@@ -261,9 +254,7 @@ module _ (d : Endpoint) (cells : File) (bars : List BaseAddress) (g : ℕ → Fi
       table_changed = block_changed n change inner c (block_at (slice_set blocks n k)) set_is (others k)
 
       pub table_kept : AreParts d cells bars (block_at (slice_set blocks n k))
-      table_kept =
-          block_kept n (block_at (slice_set blocks n k)) (subst IsConfigFile (sym set_is) (c.places_kept (g n) (parts.block_places n)))
-          (λ q. ap (λ (xs : File). has_place xs (config q)) set_is ∙ c.place_stays (g n) q) (λ e. set_is ∙ ap inner e ∙ c.none) (others k)
+      table_kept = grind (arith, block_kept, set_is, others)
 
   -- a register at which no block stands
   pub nothing_there : (n : ℕ) (change inner : File → File) → IsBlockChange n change inner → g n ≡ [] → change file ≡ file

@@ -1,5 +1,5 @@
 -- What an endpoint decodes is told by its Command and its base address registers.
-use Rattle.std.proofs.Common.{◌≡◌, ℕ, zero, suc, ◌+◌, ◌*◌, ◌/◌, ◌^◌, ◌<◌, ◌≤◌, inl, inr, List, [], ◌∷◌, ◌++◌, map, refl, ap, ap₂, sym, ◌∙◌, arith, rules}
+use Rattle.std.proofs.Common.{◌≡◌, ℕ, zero, suc, ◌+◌, ◌*◌, ◌/◌, ◌^◌, ◌<◌, ◌≤◌, inl, inr, List, [], ◌∷◌, ◌++◌, map, refl, ap, sym, ◌∙◌, arith, rules}
 use Rattle.std.proofs.Math.Nat.{mod-eq_of_lt}
 use Rattle.lists.specs.Elements.{Each}
 use Rattle.model_registers.specs.Registers.{config, File, number, all_bytes}
@@ -41,8 +41,7 @@ module _ (d : Endpoint) (cells : File) (bars : List BaseAddress) (g : ℕ → Fi
 
   same_standing : (bs : List BaseAddress) → Each IsLawfulRegion (map opened bs) → map (base_address own) (map opened bs) ≡ map (base_address whole) (map opened bs)
   same_standing [] h = refl
-  same_standing (b ∷ bs) h =
-      ap₂ (λ n (cs : List BaseAddress). record { index = b.index; kind = b.kind; size = b.size; base = n } ∷ cs) (same_base b.index b.kind h.0.registers) (same_standing bs h.1)
+  same_standing (b ∷ bs) h = grind (arith, same_base, same_standing bs)
 
   stand_same : map (base_address own) (map opened bars) ≡ map (base_address whole) d.regions
   stand_same = same_standing bars (lawful_bars d cells bars g parts).each ∙ ap (map (base_address whole)) parts.registers ∙ standing_bare whole d.regions

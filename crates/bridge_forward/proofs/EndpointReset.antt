@@ -7,11 +7,11 @@ use Rattle.std.specs.List.{slice_get}
 use Rattle.std.specs.Option.{option_map_or}
 use Rattle.lists.specs.Elements.{Each, EachPair}
 use Rattle.model_registers.specs.Cell.{Cell}
-use Rattle.model_registers.specs.Registers.{Place, config, PlacedCell, File, field, cells_from, in_region}
+use Rattle.model_registers.specs.Registers.{Place, config, PlacedCell, File, field, cells_from}
 use Rattle.model_registers.specs.FileLaws.{has_place, IsConfig, IsConfigFile}
 use Rattle.model_registers.specs.Declarations.{Bar, Region, registers_of, IsLawfulRegion, HasLawfulRegions, ConfigBlock, Endpoint}
 use Rattle.model_registers.specs.DeclarationRules.{IsConfigBlock, IsLawfulEndpoint}
-use Rattle.model_registers.specs.EndpointTable.{BaseAddress, register_cells, opened, closed, region_cells, block_cells, header_cells, config_reset, endpoint_reset}
+use Rattle.model_registers.specs.EndpointTable.{BaseAddress, opened, closed, region_cells, block_cells, header_cells, config_reset, endpoint_reset}
 use Rattle.model_registers.proofs.Files.{region_cells as cells_in_region}
 use Rattle.model_registers.proofs.Parts.{IsOutside}
 use Rattle.config_bytes.specs.CellFile.{CellFile, offsets_from}
@@ -31,8 +31,7 @@ next (y ∷ ys) a zero x e = let same : y ≡ x = cc in let here : a ≡ a + 0 =
 next (y ∷ ys) a (suc i) x e = ap (λ (cs : List (ℕ × Cell)). (a, y) ∷ cs) (next ys (a + 1) i x e ∙ (let here : a + 1 + i ≡ a + suc i = omega arith in ap (λ n. offsets_from (a + 1) (take i ys) ++ (n, x) ∷ []) here))
 
 pub offsets_next : (xs : List Cell) (i : ℕ) (x : Cell) → slice_get xs i ≡ Some x → offsets_from 0 (take (i + 1) xs) ≡ offsets_from 0 (take i xs) ++ (i, x) ∷ []
-offsets_next xs i x e =
-    ap (λ n. offsets_from 0 (take n xs)) (add-one i) ∙ next xs 0 i x e ∙ (let here : 0 + i ≡ i = omega arith in ap (λ n. offsets_from 0 (take i xs) ++ (n, x) ∷ []) here)
+offsets_next xs i x e = grind (arith, add-one i, next xs 0 i x e)
 
 -- what holds of each region holds of the one at a register
 pub found_each : (P : Region → Type 0) (rs : List Region) (n : ℕ) (r : Region) → Each P rs → region_at rs n ≡ Some r → P r
@@ -67,9 +66,7 @@ block_outside q a w h low high = grind arith
 
 none_blocks : (q : ℕ) (bs : List ConfigBlock) → Each IsConfigBlock bs → IsElsewhere q → has_place (flat_map block_cells bs) (config q) ≡ false
 none_blocks q [] l h = refl
-none_blocks q (b ∷ bs) l h =
-    none_joined (config q) (block_cells b) (flat_map block_cells bs)
-    (none_cells q b.offset b.cells (block_outside q b.offset (length b.cells) h l.0.begins l.0.ends)) (none_blocks q bs l.1 h)
+none_blocks q (b ∷ bs) l h = grind (arith, none_joined, none_cells, block_outside, none_blocks q bs)
 
 -- configuration cells, none at a base address register or beyond configuration space
 pub record IsAway (xs : File) : Type 0 where
@@ -144,8 +141,7 @@ bars_at_reset rs h = bars_from 6 0 rs (between_six rs h.each) (rising rs h.in_or
 
 -- the same for any list that is those regions
 pub bars_declared : (d : Endpoint) → IsLawfulEndpoint d → (rs : List Region) → rs ≡ d.regions → (bars : List (Option Bar)) → bars ≡ map (declared_bar rs) (0 ∷ 1 ∷ 2 ∷ 3 ∷ 4 ∷ 5 ∷ []) → at_reset bars ≡ map closed d.regions
-bars_declared d lawful rs same bars is =
-    ap at_reset (is ∙ ap (λ xs. map (declared_bar xs) (0 ∷ 1 ∷ 2 ∷ 3 ∷ 4 ∷ 5 ∷ [])) same) ∙ bars_at_reset d.regions lawful.regions
+bars_declared d lawful rs same bars is = grind (arith, bars_at_reset d.regions lawful.regions)
 
 pub opens_lawful : (d : Endpoint) → IsLawfulEndpoint d → (bars : List BaseAddress) → bars ≡ map closed d.regions → HasLawfulRegions (map opened bars)
 opens_lawful d lawful bars is = subst HasLawfulRegions (sym (ap (map opened) is ∙ map-map opened closed d.regions)) (bare_lawful d.regions lawful.regions)
@@ -158,8 +154,7 @@ own_region rs o i r e = grind (arith, find_at, eq-eqb, ne_eqb, pair_at)
 
 parts_of : (rs : List Region) (g : ℕ → File) → Each (λ r. g r.index ≡ cells_from (config 0) r.cells) rs → region_parts (map closed rs) g ≡ flat_map (region_cells (λ r. 0)) rs
 parts_of [] g h = refl
-parts_of (r ∷ rs) g h =
-    ap₂ (λ (xs ys : File). (register_cells (closed r) ++ xs) ++ ys) (ap (in_region r.index) h.0 ∙ cells_in_region r.index 0 r.cells) (parts_of rs g h.1)
+parts_of (r ∷ rs) g h = grind (arith, cells_in_region, parts_of rs g)
 
 none_at : (rs : List Region) (n : ℕ) → Each (λ (b : BaseAddress). b.index ≢ n) (map closed rs) → region_at rs n ≡ None
 none_at [] n h = refl

@@ -1,11 +1,9 @@
 -- An endpoint whose parts hold bytes.
-use Rattle.std.proofs.Common.{◌≡◌, ◌+◌, ◌*◌, ◌/◌, ◌-◌, ◌^◌, ◌<◌, ℕ, zero, suc, List, [], ◌∷◌, ◌++◌, subst, arith}
+use Rattle.std.proofs.Common.{◌+◌, ◌/◌, ◌<◌, ℕ, zero, suc, List, [], ◌∷◌, ◌++◌, arith}
 use Rattle.lists.specs.Elements.{Each}
 use Rattle.lists.proofs.EachLemmas.{each_append}
 use Rattle.model_registers.specs.AccessLaws.{HoldsBytes}
-use Rattle.model_registers.specs.Declarations.{registers_of}
-use Rattle.model_registers.specs.Decoding.{Function}
-use Rattle.model_registers.specs.EndpointTable.{BaseAddress, base_register, base_width, register_cells, type_bits}
+use Rattle.model_registers.specs.EndpointTable.{BaseAddress}
 use Rattle.model_registers.specs.Registers.{Place, PlacedCell, File, after, field, in_region}
 use Rattle.config_bytes.specs.CellFile.{CellFile}
 use Rattle.bridge_forward.specs.EndpointParts.{block_at, region_parts}
@@ -31,11 +29,7 @@ block_bytes (b ∷ bs) (suc n) h = block_bytes bs n h.1
 
 parts_bytes : (bars : List BaseAddress) (blocks : List CellFile) → HoldBytes blocks → HoldsBytes (region_parts bars (block_at blocks))
 parts_bytes [] blocks h = tt
-parts_bytes (b ∷ bs) blocks h =
-    let own : HoldsBytes (register_cells b) = field_bytes (4 * registers_of b.kind) (b.base + type_bits b.kind) (2 ^ base_width b.kind - b.size) 0 (base_register b.index) in
-    let cells : HoldsBytes (in_region b.index (block_at blocks b.index)) = in_region_bytes b.index (block_at blocks b.index) (block_bytes blocks b.index h) in
-    each_append IsByte (register_cells b ++ in_region b.index (block_at blocks b.index)) (region_parts bs (block_at blocks))
-    (each_append IsByte (register_cells b) (in_region b.index (block_at blocks b.index)) own cells) (parts_bytes bs blocks h)
+parts_bytes (b ∷ bs) blocks h = grind (arith, field_bytes, in_region_bytes, block_bytes, each_append, parts_bytes bs blocks h)
 
 pub endpoint_bytes : (config : File) (bars : List BaseAddress) (blocks : List CellFile) → HoldsBytes config → HoldBytes blocks → HoldsBytes (config ++ region_parts bars (block_at blocks))
 endpoint_bytes config bars blocks h k = each_append IsByte config (region_parts bars (block_at blocks)) h (parts_bytes bars blocks k)

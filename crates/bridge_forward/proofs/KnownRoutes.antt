@@ -1,14 +1,13 @@
 -- The bridges that are known to lead to buses, where one function or one entry changes.
-use Rattle.std.proofs.Common.{arith, ◌≡◌, ℕ, zero, suc, Bool, true, false, ◌&&◌, cond, Option, Some, None, List, [], ◌∷◌, ◌++◌, replicate, refl, ap, ap₂, sym, ◌∙◌, subst, get_or, eqb, rules}
-use Rattle.std.specs.Prelude.{IfSome, find, not}
-use Rattle.std.specs.Option.{option_map_or}
+use Rattle.std.proofs.Common.{arith, ◌≡◌, ℕ, zero, suc, Bool, true, false, ◌&&◌, cond, Option, Some, None, List, [], ◌∷◌, ◌++◌, replicate, refl, ap, ap₂, sym, ◌∙◌, subst, get_or, rules}
+use Rattle.std.specs.Prelude.{IfSome, find}
 use Rattle.std.specs.List.{slice_get, slice_set}
 use Rattle.std.proofs.lemmas.Grind.{common_steps}
 use Rattle.std.proofs.lemmas.Option.{slice_get_within, get_or_from_slice_get}
-use Rattle.model_board.specs.Paths.{Part, Path, path_eq}
+use Rattle.model_board.specs.Paths.{Part, Path}
 use Rattle.model_board.specs.Board.{is_bridge}
 use Rattle.model_board.specs.State.{BoardFunction}
-use Rattle.model_board.specs.Cycles.{secondary_register, taker, takes, is_route}
+use Rattle.model_board.specs.Cycles.{taker, takes, is_route}
 use Rattle.bridge_forward.specs.declared.bus.Node.{Node}
 use Rattle.bridge_forward.specs.declared.function.Function.{Function}
 use Rattle.bridge_forward.specs.declared.function.Function.TheVariants.{Endpoint, Bridge}
@@ -32,8 +31,7 @@ find_set t (z ∷ zs) zero x y e h k = let same : z ≡ x = cc in let first : t 
 find_set t (z ∷ zs) (suc i) x y e h k = ap (λ r. cond (t z) (Some z) r) (find_set t zs i x y e h k)
 
 step_same : (fs gs : List BoardFunction) (n : ℕ) → ((bus : Path) → taker fs bus n ≡ taker gs bus n) → (above : Path) (x : Part) (ends : Bool) → takes fs above n x ends ≡ takes gs above n x ends
-step_same fs gs n h above x ends =
-    ap (λ (o : Option BoardFunction). option_map_or (λ (f : BoardFunction). path_eq f.path (above ++ x ∷ []) && cond (eqb (secondary_register f.file) n) ends (not ends)) o false) (h above)
+step_same fs gs n h above x ends = grind arith
 
 -- routes are told by the bridges that take cycles
 route_same : (fs gs : List BoardFunction) (n : ℕ) → ((bus : Path) → taker fs bus n ≡ taker gs bus n) → (above p : Path) → is_route fs n above p ≡ is_route gs n above p

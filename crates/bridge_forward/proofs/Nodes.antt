@@ -120,10 +120,7 @@ module _ (nodes : List Node) (laid : IsLaidOut nodes) where
     passed_by i j n m ended e em l h b g =
         let here = met_on_bus i n ended e l h in
         let longer = leads_longer n.path m.path (leads_within i j n m e em b g) in
-        let a = length-parent m.path in
-        let c = length-parent n.path in
-        let some = (path_of i n e).some in
-        grind (arith, path_same (parent m.path) bus)
+        grind (arith, length-parent m.path, length-parent n.path, path_of i n e, path_same (parent m.path) bus)
 
   -- ---- the functions of the tree
 

@@ -46,9 +46,7 @@ module _ (nodes : List Node) (laid : IsLaidOut nodes) where
     -- the bridge that takes the cycle stands on the bus
     module _ (bus : Path) (f : BoardFunction) (e : taker fs bus n ≡ Some f) where
       taken_on : f.path ≡ bus ++ last_part f.path ∷ []
-      taken_on =
-          let t = found_at (λ g. path_eq (parent g.path) bus && Rattle.model_board.specs.Cycles.covers n g) fs f e in
-          grind (arith, t.0, path_same (parent f.path) bus, snoc f.path (some_path t.1.0 f t.1.1))
+      taken_on = grind (arith, found_at, path_same (parent f.path) bus, snoc, some_path)
 
       -- a step of a route is that bridge, and ends there exactly where the bridge leads to the bus
       step_is : (x : Part) (ends : Bool) → takes fs bus n x ends ≡ true → (f.path ≡ bus ++ x ∷ []) × (cond (eqb (secondary_register f.file) n) ends (not ends) ≡ true)

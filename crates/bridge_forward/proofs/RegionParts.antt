@@ -1,5 +1,5 @@
 -- An endpoint's cells, part by part: what a read finds, and what a change leaves.
-use Rattle.std.proofs.Common.{◌≡◌, ◌≢◌, ℕ, zero, suc, ◌+◌, ◌*◌, ◌/◌, ◌%◌, ◌-◌, ◌^◌, ◌<◌, ◌≤◌, ◌⊎◌, Bool, true, false, cond, List, [], ◌∷◌, ◌++◌, map, length, refl, ap, ap₂, sym, ◌∙◌, arith, append_assoc}
+use Rattle.std.proofs.Common.{◌≡◌, ◌≢◌, ℕ, zero, suc, ◌+◌, ◌*◌, ◌/◌, ◌%◌, ◌-◌, ◌^◌, ◌<◌, ◌≤◌, ◌⊎◌, Bool, true, false, List, [], ◌∷◌, ◌++◌, map, length, refl, ap, ap₂, sym, ◌∙◌, arith, append_assoc}
 use Rattle.std.proofs.lemmas.Bool.{cases_eq}
 use Rattle.std.proofs.lemmas.List.{nil_from_length}
 use Rattle.lists.specs.Elements.{Each, EachPair}
@@ -7,7 +7,7 @@ use Rattle.model_registers.specs.Cell.{Cell, no_cell}
 use Rattle.model_registers.specs.Registers.{Place, config, block, after, File, cell_at, changed, read, write, field, in_region}
 use Rattle.model_registers.specs.FileLaws.{has_place, HasNone, IsConfigFile}
 use Rattle.model_registers.specs.Declarations.{Region, registers_of}
-use Rattle.model_registers.specs.EndpointTable.{base_register, type_bits, base_width, BaseAddress, register_cells, base_file, opened}
+use Rattle.model_registers.specs.EndpointTable.{type_bits, base_width, BaseAddress, register_cells, base_file, opened}
 use Rattle.model_registers.proofs.Files.{joined_cell, joined_change, joined_write, cell_none, region_has_no_config, region_has_no_other, region_cell, config_without_block}
 use Rattle.bridge_forward.specs.EndpointParts.{region_parts}
 
@@ -16,9 +16,7 @@ use Rattle.bridge_forward.specs.EndpointParts.{region_parts}
 pub read_same : (xs ys : File) (p q : ℕ → Place) → ((k : ℕ) → after (p k) ≡ p (k + 1)) → ((k : ℕ) → after (q k) ≡ q (k + 1)) → (ons : List Bool) (k : ℕ) → ((j : ℕ) → k ≤ j → j < k + length ons → cell_at xs (p j) ≡ cell_at ys (q j))
     → read xs (p k) ons ≡ read ys (q k) ons
 read_same xs ys p q s t [] k h = refl
-read_same xs ys p q s t (on ∷ ons) k h =
-    ap₂ (λ (c : Cell) (n : ℕ). cond on c.value 0 + 256 * n) (h k (omega arith) (omega arith))
-    (ap (λ r. read xs r ons) (s k) ∙ read_same xs ys p q s t ons (k + 1) (λ j l g. h j (omega arith) (omega arith)) ∙ sym (ap (λ r. read ys r ons) (t k)))
+read_same xs ys p q s t (on ∷ ons) k h = grind (arith, read_same xs ys p q s t ons (k + 1))
 
 -- a file without the place is passed by, on either side
 pub cell_second : (xs ys : File) (p : Place) → has_place xs p ≡ false → cell_at (xs ++ ys) p ≡ cell_at ys p
@@ -49,22 +47,13 @@ no_other_in n m a file d = one_place (in_region n file) (block m a) (region_has_
 
 pub config_cell : (bs : List BaseAddress) (g : ℕ → File) (q : ℕ) → cell_at (region_parts bs g) (config q) ≡ cell_at (base_file bs) (config q)
 config_cell [] g q = refl
-config_cell (b ∷ bs) g q =
-    ap (λ (file : File). cell_at file (config q)) (append_assoc (register_cells b) (in_region b.index (g b.index)) (region_parts bs g))
-    ∙ joined_cell (register_cells b) (in_region b.index (g b.index) ++ region_parts bs g) (config q)
-    ∙ ap (λ c. cond (has_place (register_cells b) (config q)) (cell_at (register_cells b) (config q)) c)
-    (cell_second (in_region b.index (g b.index)) (region_parts bs g) (config q) (no_config_in b.index q (g b.index)) ∙ config_cell bs g q)
-    ∙ sym (joined_cell (register_cells b) (base_file bs) (config q))
+config_cell (b ∷ bs) g q = grind (arith, append_assoc, joined_cell, cell_second, no_config_in, config_cell bs g q)
 
 -- ---- offsets of a block: the block of that region, and nothing else
 
 pub no_block_cell : (bs : List BaseAddress) (g : ℕ → File) (n q : ℕ) → Each (λ b. b.index ≢ n) bs → cell_at (region_parts bs g) (block n q) ≡ no_cell
 no_block_cell [] g n q h = refl
-no_block_cell (b ∷ bs) g n q h =
-    ap (λ (file : File). cell_at file (block n q)) (append_assoc (register_cells b) (in_region b.index (g b.index)) (region_parts bs g))
-    ∙ cell_second (register_cells b) (in_region b.index (g b.index) ++ region_parts bs g) (block n q) (config_without_block (register_cells b) n q (config_register b))
-    ∙ cell_second (in_region b.index (g b.index)) (region_parts bs g) (block n q) (no_other_in b.index n q (g b.index) h.0)
-    ∙ no_block_cell bs g n q h.1
+no_block_cell (b ∷ bs) g n q h = grind (arith, append_assoc, cell_second, config_without_block, config_register, no_other_in, no_block_cell bs g n q)
 
 -- no two regions begin at one register
 abbrev pub Distinct : List BaseAddress → Type 0
@@ -103,10 +92,7 @@ length-field p zero v m c = refl
 length-field p (suc w) v m c = ap suc (length-field (after p) w (v / 256) (m / 256) (c / 256))
 
 same_length : (b c : BaseAddress) → opened b ≡ opened c → length (register_cells b) ≡ length (register_cells c)
-same_length b c e =
-    length-field (base_register b.index) (4 * registers_of b.kind) (b.base + type_bits b.kind) (2 ^ base_width b.kind - b.size) 0
-    ∙ ap (λ (r : Region). 4 * registers_of r.kind) e
-    ∙ sym (length-field (base_register c.index) (4 * registers_of c.kind) (c.base + type_bits c.kind) (2 ^ base_width c.kind - c.size) 0)
+same_length b c e = grind (arith, length-field)
 
 -- base registers and blocks changed, each as if it stood alone
 pub parts_changed : (change : File → File) → IsChange change → (bs cs : List BaseAddress) (g h : ℕ → File) → map opened bs ≡ map opened cs → base_file cs ≡ change (base_file bs)

@@ -1,5 +1,5 @@
 -- What an endpoint knows of its cells at reset: at the beginning, and after each change.
-use Rattle.std.proofs.Common.{◌≡◌, ℕ, ◌+◌, ◌/◌, ◌%◌, ◌<◌, ◌≤◌, inl, inr, Bool, true, false, Some, List, [], ◌∷◌, ◌++◌, length, refl, ap, sym, ◌∙◌, subst, arith, get_or, rules, ltb}
+use Rattle.std.proofs.Common.{◌≡◌, ℕ, ◌+◌, ◌/◌, ◌<◌, ◌≤◌, inl, inr, Bool, true, false, Some, List, [], ◌∷◌, ◌++◌, length, refl, ap, sym, ◌∙◌, subst, arith, get_or, rules, ltb}
 use Rattle.std.specs.Prelude.{flat_map}
 use Rattle.std.specs.Int.Bits.{and_zero_l, and_zero_r, or_zero_r}
 use Rattle.std.specs.List.{slice_get, slice_set}
@@ -14,7 +14,7 @@ use Rattle.model_registers.specs.Registers.{Place, config, after, File, cell_at,
 use Rattle.model_registers.specs.FileLaws.{has_place, IsConfigFile}
 use Rattle.model_registers.specs.Declarations.{ConfigBlock, Endpoint}
 use Rattle.model_registers.specs.DeclarationRules.{IsConfigBlock, IsLawfulEndpoint}
-use Rattle.model_registers.specs.EndpointTable.{block_cells, header_type, header_cells, config_reset, BaseAddress}
+use Rattle.model_registers.specs.EndpointTable.{block_cells, header_type, config_reset, BaseAddress}
 use Rattle.model_registers.specs.OwnCopies.{is_own}
 use Rattle.config_bytes.specs.CellFile.{CellFile, places_of}
 use Rattle.bridge_forward.specs.EndpointParts.{block_at, declared_block, IsConstant, IsHeaderKept, KnowReset, as_made, region_parts, IsShort, IsEndpointFn}
@@ -39,8 +39,7 @@ header_changed f stays initial p (x ∷ xs) h = search (rules, header_changed f 
 
 pub header_written : (initial : File) (ons : List Bool) (v : ℕ) (p : Place) (xs : File) → Each (IsHeaderKept initial) xs → Each (IsHeaderKept initial) (write ons v p xs)
 header_written initial [] v p xs h = h
-header_written initial (true ∷ ons) v p xs h =
-    header_written initial ons (v / 256) (after p) (changed (written (v % 256)) p xs) (header_changed (written (v % 256)) (constant_written (v % 256)) initial p xs h)
+header_written initial (true ∷ ons) v p xs h = grind (arith, header_written initial ons (v / 256), header_changed, constant_written)
 header_written initial (false ∷ ons) v p xs h = header_written initial ons (v / 256) (after p) xs h
 
 -- ---- changes
@@ -80,10 +79,7 @@ own_header : (d : Endpoint) (multifunction : Bool) → IsKept (config_reset d mu
 own_header d multifunction = search rules
 
 header_new : (d : Endpoint) (multifunction : Bool) → Each IsConfigBlock d.blocks → Each (IsHeaderKept (config_reset d multifunction)) (config_reset d multifunction)
-header_new d multifunction lawful = (join fields (record { each = kept_blocks (config_reset d multifunction) d.blocks lawful })).each
-  where
-    fields : IsKept (config_reset d multifunction) (header_cells d multifunction 0)
-    fields = search (rules, join, below, above, own_header)
+header_new d multifunction lawful = grind (arith, join, kept_blocks (config_reset d multifunction) d.blocks lawful, below, above, own_header)
 
 -- the header type alone tells whether the device holds other functions
 same_cells : (d : Endpoint) (multifunction : Bool) (p : Place) → is_own p ≡ false → cell_at (config_reset d multifunction) p ≡ cell_at (config_reset d false) p

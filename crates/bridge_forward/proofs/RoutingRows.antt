@@ -1,11 +1,11 @@
 -- The regions of six registers, one after the other, and each within 64 bits.
-use Rattle.std.proofs.Common.{◌≡◌, ℕ, zero, suc, ◌+◌, ◌^◌, ◌<◌, ◌≤◌, List, [], ◌∷◌, ◌++◌, length, take, get_or, Option, Some, None, sym, ap, ap₂, ◌∙◌, subst, arith}
+use Rattle.std.proofs.Common.{◌≡◌, ℕ, zero, suc, ◌+◌, ◌^◌, ◌<◌, ◌≤◌, List, [], ◌∷◌, ◌++◌, length, take, get_or, Option, Some, None, sym, ap, ap₂, ◌∙◌, subst, arith, rules}
 use Rattle.std.specs.Prelude.{map, slice_get}
 use Rattle.std.specs.Option.{option_to_list}
 use Rattle.std.proofs.lemmas.List.{map-append, length-take, take_more}
 use Rattle.std.proofs.lemmas.Option.{slice_get_within, get_or_from_slice_get, slice_get-get_or}
 use Rattle.lists.specs.Elements.{Each}
-use Rattle.model_registers.specs.EndpointTable.{BaseAddress, IsLawfulBase, base_width}
+use Rattle.model_registers.specs.EndpointTable.{BaseAddress, IsLawfulBase}
 use Rattle.model_registers.proofs.Bases.{base_room}
 use Rattle.bars.specs.declared.region.BasedRegion.{BasedRegion}
 use Rattle.bars.specs.Slots.{placed, bases_from}
@@ -18,9 +18,7 @@ use Rattle.bridge_forward.specs.declared.routing_region.RoutingRegion.{RoutingRe
 pub bases_push : (n : ℕ) (slots : List (Option BasedRegion)) (o : Option BasedRegion) → bases_from n (slots ++ o ∷ []) ≡ bases_from n slots ++ bases_from (n + length slots) (o ∷ [])
 bases_push n [] o = let z : n ≡ n + 0 = omega arith in ap (λ m. bases_from m (o ∷ [])) z
 bases_push n (None ∷ slots) o = let z : n + 1 + length slots ≡ n + suc (length slots) = omega arith in bases_push (n + 1) slots o ∙ ap (λ m. bases_from (n + 1) slots ++ bases_from m (o ∷ [])) z
-bases_push n (Some x ∷ slots) o =
-    let z : n + 1 + length slots ≡ n + suc (length slots) = omega arith in
-    ap (λ rs. placed n x ∷ rs) (bases_push (n + 1) slots o ∙ ap (λ m. bases_from (n + 1) slots ++ bases_from m (o ∷ [])) z)
+bases_push n (Some x ∷ slots) o = grind (arith, bases_push (n + 1) slots o)
 
 -- the front as far as an element
 pub take_at : {A : Type 0} (xs : List A) (i : ℕ) (x : A) → slice_get xs i ≡ Some x → take (i + 1) xs ≡ take i xs ++ x ∷ []
@@ -53,10 +51,6 @@ pub record HasRoom (size base : ℕ) : Type 0 where
   pub fits : base + size ≤ 2 ^ 64
 
 pub has_room : (slots : List (Option BasedRegion)) (i : ℕ) (r : BasedRegion) → Each IsLawfulBase (bases_from 0 slots) → slice_get slots i ≡ Some (Some r) → HasRoom r.decl.size r.base
-has_room slots i r h e =
-    let b : IsLawfulBase (placed (0 + i) r) = slot_in IsLawfulBase 0 slots i r h e in
-    let room : r.base + r.decl.size ≤ 2 ^ base_width r.decl.kind = base_room (placed (0 + i) r) b in
-    let limit : 2 ^ base_width r.decl.kind ≤ 2 ^ 64 = width_limit r.decl.kind in
-    record { some = size_positive r.decl.kind r.decl.size b.size_is_lawful; fits = omega (arith, room, limit) }
+has_room slots i r h e = search (rules, slot_in IsLawfulBase 0 slots i r h e, base_room, width_limit r.decl.kind, size_positive)
 
 -- ---- windows

@@ -8,13 +8,14 @@ ghost use Rattle.model_board.specs.Routing.{routing};
 ghost use Rattle.bars.specs.Slots.{bases_from};
 ghost use Rattle.bridge_forward.specs.BasesNow.{bases_nth};
 ghost use Rattle.bridge_forward.specs.Cycled.{reached_by};
-ghost use Rattle.bridge_forward.specs.Layout.{functions_of};
+ghost use Rattle.bridge_forward.specs.Layout.{function_of, functions_of};
 ghost use Rattle.bridge_forward.specs.RoutingRows.{primary_nth, secondary_nth};
 ghost use Rattle.model_board.specs.Paths.{path_before, path_eq};
 ghost use Rattle.model_board.specs.Board.{IsBoard};
 ghost use Rattle.model_board.specs.Places.{board_of};
+ghost use Rattle.model_board.specs.State.{row_at};
 ghost use Rattle.model_board.specs.Claims.{first_claim};
-ghost use Rattle.model_board.specs.AtReset.{reset_state, IsAtReset};
+ghost use Rattle.model_board.specs.AtReset.{board_at, reset_state, IsAtReset};
 ghost use Rattle.bars.specs.Kinds.{named_space};
 
 use crate::build::{lay_out, nodes_at_reset};
@@ -107,6 +108,27 @@ impl Node {
             i
         }
     }
+
+    /// What is declared of the function, with its path.
+    fn declared(&self) -> Result<Decl, AllocError>
+        ensures { IfOk result (λ d. d ≡ row_at (function_of self.now)) }
+    {
+        Ok(Decl {
+            path: self.path.copied(),
+            function: self.function.declared()?,
+        })
+    }
+}
+
+/// What is declared of the functions of nodes.
+fn declared(alloc: Global, nodes: &[Node]) -> Result<Vec<Decl>, AllocError>
+    ensures { IfOk result (λ v. v.items ≡ board_at (functions_of nodes.now)) }
+{
+    let mut decls = Vec::with_capacity(alloc, nodes.len())?;
+    for node in nodes {
+        decls.push(node.declared()?)?;
+    }
+    Ok(decls)
 }
 
 /// Looks at each cell of the functions of nodes: what all hold are bytes.
@@ -137,6 +159,17 @@ impl Bus {
         lay_out(&mut nodes);
         let known = Routes::unknown(alloc)?;
         Ok(Bus { nodes, known })
+    }
+
+    /// The same board at reset, made anew of what is declared of its functions.
+    pub fn at_reset(&self, alloc: Global) -> Result<Bus, AllocError>
+        requires { IsBoard (board_at self.now) }
+        ensures board { IfOk result (λ bus. board_at bus ≡ board_at self.now) }
+        ensures at_reset { IfOk result (λ bus. IsAtReset (record { functions = bus; latch = 0 })) }
+    {
+        let decls = declared(alloc, &self.nodes)?;
+        let bus = Bus::build(alloc, decls)?;
+        Ok(bus)
     }
 
     /// Puts a configuration cycle on bus 0: the enabled bytes that a read shows, 0 for a write that is

@@ -66,6 +66,17 @@ impl Function {
         }
     }
 
+    /// What is declared of it.
+    #[tactic(auto, using(std::proofs::lemmas::List::Elements::same_from_all_zip))]
+    pub(crate) fn declared(&self) -> Result<Declared, AllocError>
+        ensures { IfOk result (λ d. declared d ≡ decl_of self.now) }
+    {
+        match self {
+            Function::Endpoint(endpoint) => Ok(Declared::Endpoint(endpoint.decl().clone()?)),
+            Function::Bridge(bridge) => Ok(Declared::Bridge(bridge.decl())),
+        }
+    }
+
     /// A read or write of the configuration word at `off`, a multiple of 4. A write gives 0.
     pub(crate) fn access(&mut self, op: Op, off: u8, enables: u8) -> u32
         requires { off % 4 ≡ 0 }

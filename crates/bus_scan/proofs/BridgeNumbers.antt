@@ -4,7 +4,7 @@ use Rattle.std.specs.Prelude.{bit_and, bit_or}
 use Rattle.std.specs.Int.Bits.{and_zero_r, and_zero_l, or_zero_l, or_zero_r}
 use Rattle.std.proofs.lemmas.Nat.{and_mask}
 use Rattle.model_registers.specs.Cell.{Cell, written}
-use Rattle.model_registers.specs.Registers.{config, File, write}
+use Rattle.model_registers.specs.Registers.{config, write}
 use Rattle.model_registers.specs.ByteEnables.{lanes}
 use Rattle.model_registers.specs.Declarations.{IoDecode, PrefDecode, Bridge}
 use Rattle.model_registers.specs.BridgeTable.{no_window, io_cells, mem_cells, pref_cells, bridge_file}
@@ -42,9 +42,7 @@ pref_stays : (pref : PrefDecode) (v : ℕ) → write (lanes 7) v (config 0x18) (
 pref_stays pref v = grind arith
 
 windows_stay : (d : Bridge) (v : ℕ) → write (lanes 7) v (config 0x18) (mem_cells no_window ++ io_cells d.io no_window ++ pref_cells d.pref no_window) ≡ mem_cells no_window ++ io_cells d.io no_window ++ pref_cells d.pref no_window
-windows_stay d v =
-    joined_write (lanes 7) v (config 0x18) (mem_cells no_window) (io_cells d.io no_window ++ pref_cells d.pref no_window)
-    ∙ ap (λ (file : File). mem_cells no_window ++ file) (joined_write (lanes 7) v (config 0x18) (io_cells d.io no_window) (pref_cells d.pref no_window) ∙ ap₂ ◌++◌ (io_stays d.io v) (pref_stays d.pref v))
+windows_stay d v = grind (arith, joined_write, io_stays, pref_stays)
 
 pub bridge_written : (d : Bridge) (multifunction : Bool) (n m : BusNumbers) → FitBytes m
     → write (lanes 7) (numbers_word m) (config 0x18) (bridge_file d multifunction (with_numbers n)) ≡ bridge_file d multifunction (with_numbers m)

@@ -17,9 +17,7 @@ pub same_board : (b : Board) (s : State) → HasOwnNumbers b s → board_at s.fu
 same_board b s (numbers, e) = ap (λ (t : State). board_at t.functions) e ∙ state_rows b (numbered_file b numbers)
 
 pub numbered_board : (b : Board) (s : State) → IsBoard b → HasLawfulDecls b → Enumerates b → s ≡ numbered_state b → IsNumbered s
-numbered_board b s board lawful few e =
-    let same : board_at s.functions ≡ b = same_board b s (board_numbers b, e) in
-    grind arith
+numbered_board b s board lawful few e = grind (arith, same_board b s (board_numbers b, e))
 
 -- the table of a numbered board
 pub table_of : (s : State) → IsNumbered s → (t : List TableRow) → t ≡ sized_table (board_at s.functions) → IsTableOf (board_at s.functions) t

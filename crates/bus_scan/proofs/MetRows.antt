@@ -32,17 +32,12 @@ row_same b n m r h = grind arith
 
 -- only the numbers of bridges that were met count
 pub rows_same : (b : Board) (here : Path) (n m : Numbers) → ((r : Row) → IsIn r b → path_before r.path here ≡ true → is_bridge r.decl ≡ true → n r.path ≡ m r.path) → map (met_row b n) (met b here) ≡ map (met_row b m) (met b here)
-rows_same b here n m h =
-    map_same (met_row b n) (met_row b m) (met b here)
-    (λ r k. let f = from_filter (λ (s : Row). path_before s.path here) r b k in row_same b n m r (h r f.0 f.1))
+rows_same b here n m h = grind (arith, map_same, from_filter, row_same)
 
 -- one more
 pub rows_more : (b : Board) (p there : Path) (n m : Numbers) (r : Row) → met b there ≡ met b p ++ r ∷ [] → ((s : Row) → IsIn s b → path_before s.path p ≡ true → is_bridge s.decl ≡ true → n s.path ≡ m s.path)
     → (rows : List TableRow) → rows ≡ map (met_row b n) (met b p) → rows ++ met_row b m r ∷ [] ≡ map (met_row b m) (met b there)
-rows_more b p there n m r more h rows is =
-    ap (λ (xs : List TableRow). xs ++ met_row b m r ∷ []) (is ∙ rows_same b p n m h)
-    ∙ sym (map-append (met_row b m) (met b p) (r ∷ []))
-    ∙ ap (map (met_row b m)) (sym more)
+rows_more b p there n m r more h rows is = grind (arith, rows_same, map-append)
 
 -- ---- functions that are met later come later in the list
 

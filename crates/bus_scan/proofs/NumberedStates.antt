@@ -32,8 +32,7 @@ numbers_fit : (b : Board) (p : Path) → count_by (λ r. is_bridge r.decl) b ≤
 numbers_fit b p few h =
     let all : bridges (λ x. path_before x p) b + bridges (at p) b + bridges (λ x. leads_to p x) b ≤ bridges (λ x. true) b =
     count_three (λ x. path_before x p) (at p) (λ x. leads_to p x) (λ x. true) (λ x. exclusive x p) b in
-    let last : subordinate b p < 256 = omega (arith, all_bridges b, counted b p h) in
-    (omega (arith, bus_not_more b p), omega arith, last)
+    grind (arith, all_bridges b, counted b p h, bus_not_more b p)
 
 -- ---- what the functions hold
 
@@ -92,8 +91,7 @@ only_one : (fs : List BoardFunction) → EachPair InOrder fs → (f : BoardFunct
 only_one [] order f m = absurd m
 only_one (x ∷ xs) order f (inl e) =
     (λ k. sym e, each_from (λ g. path_eq g.path f.path ≡ true → g ≡ f) xs (λ g m k. absurd (never_twice x.path g.path (each_in (InOrder x) g xs order.0 m) (sym (path_same g.path f.path k ∙ ap (λ (f : BoardFunction). f.path) e)))))
-only_one (x ∷ xs) order f (inr m) =
-    (λ k. absurd (never_twice x.path f.path (each_in (InOrder x) f xs order.0 m) (path_same x.path f.path k)), only_one xs order.1 f m)
+only_one (x ∷ xs) order f (inr m) = grind (arith, never_twice, each_in (InOrder x) f xs order.0 m, path_same, only_one xs)
 
 pub only_there : (fs : List BoardFunction) → IsBoard (board_at fs) → (f : BoardFunction) → IsIn f fs → Each (λ g. path_eq g.path f.path ≡ true → g ≡ f) fs
 only_there fs lawful f m = only_one fs (pairs_unmapped (λ r s. IsTrue (path_before r.path s.path)) fs lawful.in_order) f m

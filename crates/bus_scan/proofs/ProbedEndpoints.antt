@@ -1,7 +1,7 @@
 -- What the base address registers of an endpoint at reset read after all ones.
 --     mask_at      what the register at an index reads
 use Rattle.std.proofs.lemmas.Bool.Decides.{nat_tests}
-use Rattle.std.proofs.Common.{◌≡◌, ℕ, ◌+◌, ◌-◌, ◌*◌, ◌/◌, ◌%◌, ◌^◌, ◌<◌, ◌≤◌, ◌⊎◌, inl, Bool, false, ◌&&◌, cond, List, [], ◌∷◌, refl, sym, subst, arith, eqb}
+use Rattle.std.proofs.Common.{◌≡◌, ℕ, ◌+◌, ◌*◌, ◌/◌, ◌%◌, ◌^◌, ◌<◌, ◌≤◌, ◌⊎◌, inl, Bool, false, ◌&&◌, cond, List, [], ◌∷◌, refl, sym, subst, arith, eqb}
 use Rattle.std.specs.Prelude.{flat_map}
 use Rattle.std.proofs.lemmas.Bool.{cases_eq}
 use Rattle.lists.specs.Elements.{Each, EachPair}
@@ -10,7 +10,7 @@ use Rattle.model_registers.specs.Registers.{config, block, cells_from}
 use Rattle.model_registers.specs.FileLaws.{has_place}
 use Rattle.model_registers.specs.Declarations.{registers_of, Bar, Region, IsLawfulRegion, Endpoint}
 use Rattle.model_registers.specs.DeclarationRules.{IsLawfulEndpoint}
-use Rattle.model_registers.specs.EndpointTable.{base_register, base_cells, base_width, type_bits, region_cells, config_cells, endpoint_reset}
+use Rattle.model_registers.specs.EndpointTable.{base_register, base_cells, region_cells, config_cells, endpoint_reset}
 use Rattle.model_registers.specs.Sizing.{mask_of}
 use Rattle.lists.proofs.EachLemmas.{each_map}
 use Rattle.model_registers.proofs.Bases.{registers_positive, one_or_two}
@@ -58,9 +58,7 @@ abbrev no_bases : Region → ℕ
 no_bases r = 0
 
 region_lacks : (r : Region) (q : ℕ) → (q < 0x10 + 4 * r.index) ⊎ (0x10 + 4 * r.index + 4 * registers_of r.kind ≤ q) → has_place (region_cells no_bases r) (config q) ≡ false
-region_lacks r q h =
-    none_joined (config q) (base_cells r.index r.kind r.size 0) (cells_from (block r.index 0) r.cells)
-    (none_field q (4 * registers_of r.kind) (0x10 + 4 * r.index) (0 + type_bits r.kind) (2 ^ base_width r.kind - r.size) 0 h) (region_block_lacks r.cells r.index 0 q)
+region_lacks r q h = grind (arith, none_joined, none_field, region_block_lacks)
 
 later_lack : (n : ℕ) (rs : List Region) → Each (λ r. n < r.index) rs → (q : ℕ) → q < 0x10 + 4 * n + 4 → has_place (flat_map (region_cells no_bases) rs) (config q) ≡ false
 later_lack n [] h q k = refl

@@ -112,11 +112,7 @@ low_mask : (m : ℕ) → bit_and ones (bit_and m ones) ≡ m % 2 ^ 32
 low_mask m = ap (bit_and ones) (and_mask m 32) ∙ and_comm ones (m % 2 ^ 32) ∙ and_mask (m % 2 ^ 32) 32 ∙ omega arith
 
 high_mask : (m : ℕ) → m < 2 ^ 64 → bit_and (ones * 2 ^ 32) (bit_and m (ones * 2 ^ 32)) ≡ m / 2 ^ 32 * 2 ^ 32
-high_mask m h =
-    let upper : m / 2 ^ 32 < 2 ^ 32 = omega arith in
-    ap (bit_and (ones * 2 ^ 32)) (and_upper m ones ∙ ap (λ n. n * 2 ^ 32) (and_mask (m / 2 ^ 32) 32 ∙ mod-eq_of_lt upper))
-    ∙ and_upper (ones * 2 ^ 32) (m / 2 ^ 32)
-    ∙ ap (λ n. n * 2 ^ 32) (and_comm ones (m / 2 ^ 32) ∙ and_mask (m / 2 ^ 32) 32 ∙ mod-eq_of_lt upper)
+high_mask m h = grind (arith, and_upper m ones, and_mask (m / 2 ^ 32) 32, mod-eq_of_lt, and_upper (ones * 2 ^ 32) (m / 2 ^ 32), and_comm ones (m / 2 ^ 32))
 
 -- a size of 16 or more is a multiple of 16
 pub sixteens : (kind : Kind) (size : ℕ) → IsLawfulSize kind size → 16 ≤ size → size % 16 ≡ 0
@@ -124,8 +120,7 @@ sixteens kind size h least =
     let k : ℕ = h.power.0 in
     let is : size ≡ 2 ^ k = h.power.1 in
     let within : 4 ≤ k = elim (cases_lt k 4) [ inl below ↦ absurd (omega (arith, is, pow_below k 4 below)) | inr le ↦ le ] in
-    let split : 2 ^ k ≡ 2 ^ (k - 4) * 2 ^ 4 = ap (λ n. 2 ^ n) (omega arith) ∙ pow-add 2 (k - 4) 4 in
-    omega (arith, is, split)
+    grind (arith, pow-add 2 (k - 4) 4)
 
 zero_lawful : (n : ℕ) (b : Bar) → IsLawfulSize b.kind b.size → IsLawfulBase (at_index n b 0)
 zero_lawful n b lawful = grind (arith, mod-eq_of_lt, size_limits, pow_pos)
@@ -139,8 +134,7 @@ low_shown n b lawful =
     let cells : write all_four ones (base_register n) (register_cells zero) ≡ register_cells (at_index n b (m % 2 ^ 32)) =
     write_one zero (zero_lawful n b lawful) true true true true ones n ∙ ap register_cells (rewritten_low n all_four ones zero refl ∙ ap (at_index n b) base) in
     let then : BaseAddress = at_index n b (m % 2 ^ 32) in
-    ap (λ (f : File). read f (base_register n) all_four) (cells ∙ sym (append-nil (register_cells then)))
-    ∙ read_low then [] true true true true ∙ and_mask (shown then) 32 ∙ omega arith
+    grind (arith, append-nil (register_cells then), read_low then [] true true true true, and_mask (shown then) 32)
 
 high_shown : (n : ℕ) (b : Bar) → IsLawfulSize b.kind b.size → registers_of b.kind ≡ 2
     → read (write all_four ones (base_register (n + 1)) (register_cells (at_index n b 0))) (base_register (n + 1)) all_four ≡ mask_of b / 2 ^ 32

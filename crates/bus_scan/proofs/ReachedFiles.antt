@@ -1,14 +1,13 @@
 -- A register of one function of a numbered board, by configuration cycles: all ones, and what was there before.
 --     IsAll p file fs      whatever stands at the path holds these cells
-use Rattle.std.proofs.Common.{◌≡◌, ℕ, ◌+◌, ◌/◌, ◌%◌, ◌≤◌, Bool, true, false, cond, List, [], ◌∷◌, map, Some, refl, ap, ap₂, ◌∙◌, subst, arith, suc, length}
+use Rattle.std.proofs.Common.{◌≡◌, ℕ, ◌+◌, ◌/◌, ◌≤◌, Bool, true, false, cond, List, [], ◌∷◌, map, Some, refl, ap, ap₂, ◌∙◌, subst, arith, suc, length}
 use Rattle.std.specs.Prelude.{IsTrue}
 use Rattle.std.specs.Option.{option_map_or}
 use Rattle.std.proofs.lemmas.Bool.{ne_eqb}
 use Rattle.model_registers.proofs.DeviceBytes.{change_beside}
 use Rattle.model_registers.proofs.Parts.{IsOutside}
 use Rattle.lists.specs.Elements.{Each, IsIn}
-use Rattle.model_registers.specs.Cell.{written}
-use Rattle.model_registers.specs.Registers.{config, File, cell_at, changed, write}
+use Rattle.model_registers.specs.Registers.{config, File, cell_at, write}
 use Rattle.model_board.specs.Paths.{Path, path_eq}
 use Rattle.model_board.specs.Board.{Board, Row, is_bridge, stands_at}
 use Rattle.model_board.specs.BusNumbers.{secondary, subordinate}
@@ -34,9 +33,7 @@ apart n a q l same = grind arith
 
 pub write_elsewhere : (ons : List Bool) (x a q : ℕ) (file : File) → IsOutside q a (length ons) → cell_at (write ons x (config a) file) (config q) ≡ cell_at file (config q)
 write_elsewhere [] x a q file h = refl
-write_elsewhere (true ∷ ons) x a q file h =
-    write_elsewhere ons (x / 256) (a + 1) q (changed (written (x % 256)) (config a) file) (further (length ons) a q h)
-    ∙ change_beside (written (x % 256)) file (config a) (config q) (ne_eqb a q (apart (length ons) a q h))
+write_elsewhere (true ∷ ons) x a q file h = grind (arith, write_elsewhere ons (x / 256) (a + 1) q, further, change_beside, ne_eqb, apart)
 write_elsewhere (false ∷ ons) x a q file h = write_elsewhere ons (x / 256) (a + 1) q file (further (length ons) a q h)
 
 numbers_below : (ons : List Bool) (x a : ℕ) (file : File) → 0x1b ≤ a

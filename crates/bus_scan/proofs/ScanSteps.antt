@@ -6,7 +6,6 @@ use Rattle.std.proofs.Math.ListN.{set}
 use Rattle.std.proofs.Math.Seq.{get_or-append_seam}
 use Rattle.std.proofs.lemmas.List.{map-append, length-map}
 use Rattle.model_registers.specs.Declarations.{no_io, no_pref}
-use Rattle.lists.specs.Elements.{IsIn}
 use Rattle.model_board.specs.Paths.{Part, Path, path_eq, path_before, IsPath}
 use Rattle.model_board.specs.Board.{Decl, endpoint, bridge, Board, Row, is_bridge, is_bridge_at, stands_at, is_multifunction, IsBoard}
 use Rattle.model_board.specs.BusNumbers.{secondary, subordinate, bus_behind, bus_of, Enumerates}
@@ -51,15 +50,7 @@ next_is b bus n m t multifunction e f h = h ∙ ap (λ x. cond (eqb (n % 8) 0 &&
 
 -- where no function is met in between, and no number changes
 pub goes_on : (b : Board) → IsBoard b → (p q : Path) → met b q ≡ met b p → ((x : Path) → is_bridge_at b x ≡ true → scan_numbers b q x ≡ scan_numbers b p x) → (s : State) (rows : List TableRow) (last : ℕ) → IsAt b p s rows last → IsAt b q s rows last
-goes_on b lawful p q same numbers s rows last at = record {
-  state = at.state ∙ same_state b (scan_numbers b p) (scan_numbers b q) (λ x k. sym (numbers x k));
-  rows_met = at.rows_met ∙ rows_same b p (scan_numbers b p) (scan_numbers b q) (λ r m before is. sym (numbers r.path (bridge_there b r m is))) ∙ ap (map (met_row b (scan_numbers b q))) (sym same);
-  last_given = laws.next_number q ∙ ap (λ (rs : Board). 1 + count_by (λ r. is_bridge r.decl) rs) same ∙ sym (laws.next_number p) ∙ at.last_given;
-  last_fits = at.last_fits;
-}
-  where
-    laws : GivesNumbersInPathOrder b
-    laws = scan_gives_numbers b lawful
+goes_on b lawful p q same numbers s rows last at = grind (arith, same_state, rows_same, bridge_there, scan_gives_numbers b lawful)
 
 pub past_nothing : (b : Board) → IsBoard b → (bus : Path) (n m : ℕ) (s : State) (rows : List TableRow) (last : ℕ) → stands_at b (on bus n) ≡ false → m ≡ cond (eqb (n % 8) 0 && true) (n + 8) (n + 1) → IsAt b (on bus n) s rows last → IsAt b (on bus m) s rows last
 past_nothing b lawful bus n m s rows last none is at =
@@ -175,10 +166,7 @@ closed b lawful bus n r is bridge_is s rows last at new written i index row show
 pub too_many : (b : Board) → IsBoard b → (p : Path) (r : Row) → StandsAt b p r → is_bridge r.decl ≡ true → (s : State) (rows : List TableRow) (last : ℕ) → last ≡ 255 → IsAt b p s rows last → Enumerates b → ⊥
 too_many b lawful p r is bridge_is s rows last full at few =
     let laws = scan_gives_numbers b lawful in
-    let whole : met b (on [] 128) ≡ b = (scan_meets b lawful).last in
-    let before : path_before r.path (on [] 128) ≡ true = (from_filter (λ (s : Row). path_before s.path (on [] 128)) r b (subst (λ (xs : Board). IsIn r xs) (sym whole) is.member)).1 in
-    let less : secondary b p < secondary b (on [] 128) = met_before b p (on [] 128) (bridge_true b p r is bridge_is) (subst (λ (x : Path). path_before x (on [] 128) ≡ true) is.path before) in
-    omega (arith, laws.next_number (on [] 128), ap (λ (rs : Board). count_by (λ x. is_bridge x.decl) rs) whole, at.last_given, less, few, full)
+    grind (arith, scan_meets b lawful, from_filter, met_before, bridge_true b p r is bridge_is)
 
 -- ---- from the beginning to the end
 
@@ -276,11 +264,7 @@ pub rows_length : (b : Board) (here : Path) (s : State) (rows : List TableRow) (
 rows_length b here s rows last at = ap length at.rows_met ∙ length-map (met b here) (met_row b (scan_numbers b here))
 
 item_there : (b : Board) (p : Path) (r : Row) → IsBoard b → StandsAt b p r → (s : State) (rows : List TableRow) (last : ℕ) → IsAt b (on p 128) s rows last → (i : ℕ) → i ≡ length (met b p) → (d : TableRow) → get_or rows i d ≡ met_row b (scan_numbers b (on p 128)) r
-item_there b p r lawful is s rows last at i index d =
-    let grown = grown_from b lawful p r is in
-    let f = met_row b (scan_numbers b (on p 128)) in
-    ap₂ (λ (xs : List TableRow) (k : ℕ). get_or xs k d) (at.rows_met ∙ ap (map f) grown.1 ∙ map-append f (met b p) (r ∷ grown.0)) (index ∙ sym (length-map (met b p) f))
-    ∙ get_or-append_seam (map f (met b p)) (f r) (map f grown.0) d
+item_there b p r lawful is s rows last at i index d = grind (arith, grown_from b lawful p r is, map-append, length-map, get_or-append_seam)
 
 ended_row : (b : Board) (bus : Path) (n : ℕ) (r : Row) → IsBoard b → StandsAt b (on bus n) r → is_bridge r.decl ≡ true → (last : ℕ) → last ≡ subordinate b (on bus n)
     → record (met_row b (scan_numbers b (on (on bus n) 128)) r) { behind = ended_range last (met_row b (scan_numbers b (on (on bus n) 128)) r).behind } ≡ met_row b (board_numbers b) r

@@ -12,7 +12,7 @@ use Rattle.std.proofs.lemmas.List.{get_or-set_same, get_or-set_other, length-set
 use Rattle.std.proofs.lemmas.Option.{unwrap_or-slice_get}
 use Rattle.lists.specs.Elements.{Each, EachPair}
 use Rattle.model_registers.specs.Declarations.{Kind, io_kind, mem32, mem64, registers_of, Bar, Region, IsLawfulSize, IsLawfulRegion, HasLawfulRegions}
-use Rattle.model_registers.specs.Sizing.{mask_of, ShowsSize, SizeReads}
+use Rattle.model_registers.specs.Sizing.{mask_of, ShowsSize}
 use Rattle.lists.proofs.EachLemmas.{each_map}
 use Rattle.model_registers.proofs.Bases.{registers_positive}
 use Rattle.model_registers.proofs.Sizes.{sizes_read}
@@ -80,9 +80,7 @@ wide_low_bits (mem64 true) size h two = omega (arith, h.not_less, h.not_more, si
 wide_low_bits (mem64 false) size h two = omega (arith, h.not_less, h.not_more, sixteens (mem64 false) size h h.not_less)
 
 shows_size : (b : Bar) → IsLawfulSize b.kind b.size → (low high : ℕ) → low ≡ mask_of b % 2 ^ 32 → (registers_of b.kind ≡ 2 → high ≡ mask_of b / 2 ^ 32) → ShowsSize b low high
-shows_size b lawful low high e k =
-    let r : SizeReads 0 b = sizes_read 0 b lawful in
-    record { lower = r.lower ∙ sym e; upper = λ two. r.upper two ∙ sym (k two) }
+shows_size b lawful low high e k = grind (arith, sizes_read 0 b lawful)
 
 -- the region that is told by a register and the next one is the one that begins there
 pub region_told : (n : ℕ) (rs : List Region) → Begins n rs → (low high : ℕ) (told : Option Bar) → low ≡ mask_at n rs
@@ -127,9 +125,7 @@ six_slots (a ∷ b ∷ c ∷ d ∷ e ∷ f ∷ []) h = refl
 six_slots (a ∷ b ∷ c ∷ d ∷ e ∷ f ∷ g ∷ rest) h = absurd (omega arith)
 
 pub all_told : (first now : HostState) (at : BusAddress) (bars : List (Option Bar)) (n : ℕ) → BarsBelow first now at bars n → 6 ≤ n → bars ≡ bars_of (regions_reached first.state.functions at)
-all_told first now at bars n below h =
-    six_slots bars below.six
-    ∙ (λ i. below.told 0 (omega arith) i ∷ below.told 1 (omega arith) i ∷ below.told 2 (omega arith) i ∷ below.told 3 (omega arith) i ∷ below.told 4 (omega arith) i ∷ below.told 5 (omega arith) i ∷ [])
+all_told first now at bars n below h = grind (arith, six_slots)
 
 -- ---- upper halves
 
@@ -185,9 +181,7 @@ upper_by_slots zero rs bars order told = later_not_upper 0 rs (all_from rs)
     all_from : (rs : List Region) → Each (λ s. 0 ≤ s.index) rs
     all_from [] = tt
     all_from (r ∷ rs) = (omega arith, all_from rs)
-upper_by_slots (suc n) rs bars order told =
-    ap (λ m. is_upper_half m rs) (let e : suc n ≡ n + 1 = omega arith in e)
-    ∙ upper_after n rs order ∙ ap is_wide (sym (told n (omega arith)) ∙ sym (unwrap_or-slice_get bars n None))
+upper_by_slots (suc n) rs bars order told = grind (arith, upper_after n rs order, is_wide, unwrap_or-slice_get bars n None)
 
 -- ---- the slots hold all regions
 

@@ -79,9 +79,7 @@ module _ (s : State) (h : IsNumbered s) (at : BusAddress) where
     stands = reached_decl s.functions at (endpoint is.0) is.1
 
     cells : stands.0.file ≡ endpoint_reset is.0 (is_multifunction (board_at s.functions) stands.0.path)
-    cells =
-        each_reached (λ f. f.file ≡ numbered_file (board_at s.functions) (board_numbers (board_at s.functions)) f.path f.decl) s.functions at stands.0 (holds s h) stands.1
-        ∙ ap (numbered_file (board_at s.functions) (board_numbers (board_at s.functions)) stands.0.path) stands.2
+    cells = grind (arith, each_reached, holds)
 
     lawful : IsLawfulEndpoint is.0
     lawful = subst IsLawfulDecl stands.2 (each_reached (λ f. IsLawfulDecl f.decl) s.functions at stands.0 (each_unmapped (λ r. IsLawfulDecl r.decl) s.functions h.declarations) stands.1)
@@ -177,7 +175,4 @@ module _ (s : State) (h : IsNumbered s) (at : BusAddress) (row : TableRow) (numb
       → io_decode_of jo ≡ io_reached s.functions at → pref_decode_of qref ≡ pref_reached s.functions at
       → row_of path bus vendor device (FoundBridge secondary subordinate jo qref) ≡ table_row (board_at s.functions) found_decl r
   unfolding row_at_path
-  sized_bridge path bus vendor device secondary subordinate io jo pref qref view ios prefs =
-      sized_bridge_at (board_at s.functions) path bus vendor device secondary subordinate io jo pref qref r.path r.decl (view ∙ met)
-      (ios ∙ ap (λ o. option_map_or io_in o no_io) (found_reached s h at row number r m met))
-      (prefs ∙ ap (λ o. option_map_or pref_in o no_pref) (found_reached s h at row number r m met))
+  sized_bridge path bus vendor device secondary subordinate io jo pref qref view ios prefs = grind (arith, sized_bridge_at, found_reached)

@@ -1,7 +1,7 @@
 -- The table while its rows are sized one after the other.
 --     half_sized      the first rows are sized, and the others are as the scan left them
 --     RowsBelow      the host is as it was, and the rows below an index are sized
-use Rattle.std.proofs.Common.{◌≡◌, ℕ, zero, suc, ◌+◌, ◌<◌, ◌≤◌, inl, inr, List, [], ◌∷◌, ◌++◌, map, length, get_or, take, drop, refl, sym, ap, ◌∙◌, subst, arith}
+use Rattle.std.proofs.Common.{◌≡◌, ℕ, zero, suc, ◌+◌, ◌<◌, ◌≤◌, inl, List, [], ◌∷◌, ◌++◌, map, length, get_or, take, drop, refl, sym, ap, ◌∙◌, arith}
 use Rattle.std.specs.Prelude.{slice_set}
 use Rattle.std.proofs.Math.Seq.{take-append_seam}
 use Rattle.lists.specs.Elements.{IsIn}
@@ -42,23 +42,18 @@ turn : (b : Board) (n : ℕ) (rs : List Row) → n < length rs → Turn b n rs
 unfolding half_sized
 turn b n [] h = absurd (omega arith)
 turn b zero (r ∷ rs) h = record { row = r; inside = inl refl; before = λ d. refl; then = λ x e. ap (λ (x : TableRow). x ∷ map (table_row b met_decl) rs) e }
-turn b (suc n) (r ∷ rs) h =
-    let t : Turn b n rs = turn b n rs (omega arith) in
-    record { row = t.row; inside = inr t.inside; before = t.before; then = λ x e. ap (λ (rows : List TableRow). table_row b found_decl r ∷ rows) (t.then x e) }
+turn b (suc n) (r ∷ rs) h = grind (arith, turn b n rs)
 
 module _ (first now : HostState) (rows : List TableRow) (n : ℕ) (below : RowsBelow first now rows n) where
   pub next_scanned : n < length (board_at first.state.functions) → (d : TableRow) → IsScannedRow (board_at now.state.functions) (get_or rows n d)
   next_scanned h d =
       let b = board_at first.state.functions in
-      let t : Turn b n b = turn b n b h in
-      subst (λ (k : HostState). IsScannedRow (board_at k.state.functions) (get_or rows n d)) (sym below.host)
-      (t.row, t.inside, ap (λ (xs : List TableRow). get_or xs n d) below.rows_are ∙ t.before d)
+      grind (arith, turn b n b h)
 
   pub next_sized : n < length (board_at first.state.functions) → (after : HostState) → after ≡ now → (d x : TableRow) → SizesRow (board_at now.state.functions) (get_or rows n d) x → RowsBelow first after (slice_set rows n x) (n + 1)
   next_sized h after e d x sizes =
       let b = board_at first.state.functions in
-      let t : Turn b n b = turn b n b h in
-      grind arith
+      grind (arith, turn b n b h)
 
   pub whole_sized : length (board_at first.state.functions) ≤ n → rows ≡ sized_table (board_at first.state.functions)
   whole_sized h = below.rows_are ∙ all_sized (board_at first.state.functions) n (board_at first.state.functions) h

@@ -50,9 +50,7 @@ written_mixed : (v w b : ℕ) → v < 256 → written b (cell_of v w) ≡ cell_o
 written_mixed v w b h = ap (λ n. record { value = n; writable = w; clearable = 0 }) (value_written v w b h)
 
 written_back : (v w b : ℕ) → v < 256 → w < 256 → written v (written b (cell_of v w)) ≡ cell_of v w
-written_back v w b h k =
-    ap (written v) (written_mixed v w b h) ∙ written_mixed (mixed v w b) w v (mixed_fits v w b h k)
-    ∙ ap (λ n. record { value = n; writable = w; clearable = 0 }) (mixed_back v w b h k)
+written_back v w b h k = grind (arith, written_mixed, mixed_fits, mixed_back)
 
 -- ---- a register of several bytes
 

@@ -1,6 +1,7 @@
 -- Why set-up refuses a board (this project's own numbers).
 --     number_of      the number of a refusal
-use Rattle.std.specs.Prelude.{ℕ}
+--     fault_words      what is said of it
+use Rattle.std.specs.Prelude.{ℕ, List, codes}
 use Rattle.bus_scan.specs.declared.fault.Fault.{Fault}
 use Rattle.bus_scan.specs.declared.fault.Fault.TheVariants.{Buses, NoIoWindow, IoPool, MemoryPool, PrefetchablePool, Memory}
 
@@ -11,3 +12,11 @@ number_of IoPool = 203
 number_of MemoryPool = 204
 number_of PrefetchablePool = 205
 number_of Memory = 299
+
+abbrev pub fault_words : Fault → List ℕ
+fault_words Buses = codes "buses"
+fault_words NoIoWindow = codes "no I/O window"
+fault_words IoPool = codes "I/O pool"
+fault_words MemoryPool = codes "memory pool"
+fault_words PrefetchablePool = codes "prefetchable pool"
+fault_words Memory = codes "memory"

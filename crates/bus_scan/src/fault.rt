@@ -1,30 +1,25 @@
 //! Why set-up refuses a board.
-ghost use Rattle.std.specs.Prelude.{◌≡◌};
-ghost use Rattle.bus_scan.specs.Faults.{number_of};
+ghost use Rattle.std.specs.Prelude.{◌≡◌, Some};
+ghost use Rattle.bus_scan.specs.Faults.{number_of, fault_words};
 
 use std::alloc::AllocError;
-use thiserror::Error;
+use std::error::Error;
+use std::fmt;
 
 /// Why a board can't be enumerated or placed.
-#[derive(Clone, Copy, Debug, PartialEq, Eq, Error)]
+#[derive(Clone, Copy, Debug, PartialEq, Eq)]
 pub enum Fault {
     /// More than 255 bridges.
-    #[error("buses")]
     Buses,
     /// An I/O region behind a bridge without an I/O window.
-    #[error("no I/O window")]
     NoIoWindow,
     /// The I/O regions don't fit their aperture.
-    #[error("I/O pool")]
     IoPool,
     /// The memory regions don't fit their aperture.
-    #[error("memory pool")]
     MemoryPool,
     /// The prefetchable regions don't fit their aperture.
-    #[error("prefetchable pool")]
     PrefetchablePool,
     /// Out of memory.
-    #[error("memory")]
     Memory,
 }
 
@@ -52,4 +47,29 @@ impl Fault {
             Fault::Memory => 299,
         }
     }
+
+    /// What is said of the fault, beside its number.
+    pub fn words(self) -> &'static str
+        ensures { result.now ≡ fault_words self }
+    {
+        match self {
+            Fault::Buses => "buses",
+            Fault::NoIoWindow => "no I/O window",
+            Fault::IoPool => "I/O pool",
+            Fault::MemoryPool => "memory pool",
+            Fault::PrefetchablePool => "prefetchable pool",
+            Fault::Memory => "memory",
+        }
+    }
 }
+
+impl fmt::Display for Fault {
+    ghost output = { λ f. Some (fault_words f) };
+
+    fn fmt<W: fmt::Write>(&self, f: &mut fmt::Formatter<W>) -> fmt::Result {
+        let words = self.words();
+        write!(f, "{words}")
+    }
+}
+
+impl Error for Fault {}

@@ -10,7 +10,7 @@ use Rattle.model_registers.specs.Decoding.{same_space}
 use Rattle.model_board.specs.Routing.{RoutingRow, row_forwards}
 use Rattle.model_set_up.specs.PlacedRegions.{PlacedRegion, holds}
 use Rattle.lists.proofs.Members.{none_pass}
-use Rattle.model_findings.specs.Agents.{Extent, extent_holds, forwarded_extents, Agent, answers}
+use Rattle.model_findings.specs.Agents.{Extent, extent_holds, forwarded_extents, Agent}
 use Rattle.model_findings.specs.Problems.{least, unforwarded, shared}
 use Rattle.model_findings.proofs.Answering.{forwards_extents}
 use Rattle.findings.specs.Extents.{least_of, first_missed}
@@ -50,9 +50,6 @@ missed_unforwarded r q es e =
   where
     same : (n : ℕ) → lost_among q (forwarded_extents q.space r) n ≡ (holds q.space n q && not (row_forwards q.space n r))
     same n = ap (λ (u : Bool). holds q.space n q && not u) (forwards_extents q.space n r.path r.command r.ranges)
-
-abbrev both_answer : Agent → Agent → ℕ → Bool
-both_answer x y n = answers x.space n x && answers x.space n y
 
 pub none_shared : (x y : Agent) → same_space x.space y.space ≡ false → None ≡ shared x y
 none_shared x y h = grind (arith, none_pass, and_false)

@@ -1,4 +1,4 @@
-//! Layer: findings. Below: findings, report. Above: guest_why, session.
+//! Layer: findings. Below: findings, report. Above: session.
 //!
 //! The texts of an audit and of what a board lacks that is to be driven: a line for each problem of its registers as they
 //! stand and for each lack, and a last line that counts them.

@@ -3,7 +3,7 @@ use Rattle.std.proofs.Common.{◌≡◌, ℕ, ◌+◌, ◌*◌, ◌/◌, ◌%◌
 use Rattle.std.specs.Prelude.{bit_or}
 use Rattle.std.specs.Int.Bits.{or_zero_r, and_zero_r}
 use Rattle.model_registers.specs.Cell.{Cell, no_cell, written}
-use Rattle.model_registers.specs.Registers.{Place, block, place_eq, after, PlacedCell, File, changed}
+use Rattle.model_registers.specs.Registers.{Place, block, place_eq, after, File, changed}
 use Rattle.model_registers.specs.OwnCopies.{is_own}
 use Rattle.model_registers.proofs.RegisterFiles.{place_same, change_at_place, place_turned}
 use Rattle.model_registers.specs.CopiedFiles.{with_copies}
@@ -13,9 +13,6 @@ pub apart : (p q : Place) → is_own p ≡ true → is_own q ≡ false → place
 apart p q own other = grind (arith, place_same)
 
 -- ---- one entry
-
-abbrev changed_entry : (Cell → Cell) → Place → PlacedCell → PlacedCell
-changed_entry f p e = cond (place_eq e.place p) (record e { cell = f e.cell }) e
 
 abbrev KeepsNoCell : (Cell → Cell) → Type 0
 KeepsNoCell f = f no_cell ≡ no_cell

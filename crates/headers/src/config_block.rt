@@ -9,7 +9,7 @@ use std::marker::Model;
 
 /// The cells from the offset `off` on. In a lawful declaration they lie at 40h to FFh, and there is
 /// at least one.
-#[derive(Debug, Drop)]
+#[derive(Clone, Debug, Drop)]
 pub struct ConfigBlock {
     pub off: u16,
     pub block: Vec<Cell>,

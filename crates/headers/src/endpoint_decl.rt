@@ -17,7 +17,7 @@ use std::alloc::Global;
 use std::marker::Model;
 
 /// What a board says of an endpoint, not yet judged. Regions and blocks may stand in any order.
-#[derive(Debug, Drop)]
+#[derive(Clone, Debug, Drop)]
 pub struct EndpointValues {
     pub vendor: u16,
     pub device: u16,
@@ -119,7 +119,7 @@ impl EndpointValues {
 
 /// An endpoint whose declared values keep the rules. Its regions stand in the order of their
 /// registers.
-#[derive(Debug, Drop)]
+#[derive(Clone, Debug, Drop)]
 pub struct EndpointDecl {
     values: EndpointValues,
 }

@@ -17,7 +17,7 @@ use std::marker::Model;
 
 /// What the base address register `index` opens, and the cells at the beginning of the region. A
 /// 64-bit region takes this register and the next.
-#[derive(Debug, Drop)]
+#[derive(Clone, Debug, Drop)]
 pub struct Region {
     pub index: u8,
     pub bar: BarDecl,

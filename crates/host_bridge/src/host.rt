@@ -5,6 +5,8 @@ ghost use Rattle.lists.specs.Elements.{EachPair};
 ghost use Rattle.model_registers.specs.ByteEnables.{lanes, IsWidth};
 ghost use Rattle.bars.specs.Kinds.{named_space};
 ghost use Rattle.model_board.specs.Paths.{path_before, path_eq};
+ghost use Rattle.model_board.specs.Board.{IsBoard};
+ghost use Rattle.model_board.specs.AtReset.{board_at, IsAtReset};
 ghost use Rattle.model_board.specs.Cycles.{reached};
 ghost use Rattle.model_board.specs.Routing.{routing};
 ghost use Rattle.model_board.specs.Claims.{first_claim};
@@ -61,6 +63,18 @@ impl Host {
             latch: Latch::new(),
             apertures,
         }
+    }
+
+    /// The same board at reset, made anew of what is declared of its functions.
+    pub fn at_reset(&self, alloc: Global) -> Result<Host, AllocError>
+        requires { IsBoard (board_at self.now.state.functions) }
+        ensures board { let board = board_at self.now.state.functions in
+            IfOk result (λ h. board_at h.state.functions ≡ board) }
+        ensures apertures { IfOk result (λ h. h.apertures ≡ self.now.apertures) }
+        ensures at_reset { IfOk result (λ h. IsAtReset h.state) }
+    {
+        let root = self.root.at_reset(alloc)?;
+        Ok(Host::new(root, self.apertures))
     }
 
     /// The addresses that set-up may give out.

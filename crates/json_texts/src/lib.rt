@@ -1,4 +1,4 @@
-//! Layer: program. Below: findings, report. Above: simulation.
+//! Layer: program. Below: findings, report. Above: board_told.
 //!
 //! The report of a board that is set up, and an audit of one in any register state, as JSON on one line: its functions with
 //! their regions, interrupts and windows, and its guests; and all that is wrong in its registers and all that is lacking

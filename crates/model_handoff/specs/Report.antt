@@ -133,10 +133,11 @@ slot_lines name n (p ∷ ps) = slot_line name n p ∷ slot_lines name (n + 1) ps
 abbrev pub guests_text : List Guest → Text
 guests_text guests = flat_map (λ g. text_of_lines (slot_lines g.name 0 g.slots)) guests
 
+abbrev pub counts_text : (endpoints bridges : ℕ) → Text
+counts_text endpoints bridges = codes "endpoints " ++ decimal endpoints ++ codes " bridges " ++ decimal bridges
+
 abbrev pub count_line : List TableRow → Text
-count_line rs =
-    codes "endpoints " ++ decimal (count_by (λ r. not (is_bridge r.decl)) rs) ++ codes " bridges "
-    ++ decimal (count_by (λ r. is_bridge r.decl) rs)
+count_line rs = counts_text (count_by (λ r. not (is_bridge r.decl)) rs) (count_by (λ r. is_bridge r.decl) rs)
 
 abbrev pub report_of : SetUpBoard → Text
 report_of s = ended (count_line s.functions) ++ functions_text s.functions s.plan.settings ++ guests_text s.guests

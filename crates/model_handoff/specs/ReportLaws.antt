@@ -1,15 +1,21 @@
--- Which windows a report shows.
+-- What a report, which is made of what set-up finds and writes, tells of the board itself.
 --     is_closed w, is_empty is      the base of the window is above its limit; there are no items
 --     ClosedWithoutItems      set-up closes just the windows behind which nothing is placed
-use Rattle.std.specs.Prelude.{◌≡◌, Bool, true, false, nat_lt, List, [], ◌∷◌}
+--     CountsOfBoard, IdentitiesOfBoard      the functions that are counted, and their identities, are those of the board
+--     PinLines      each pin but 0 has a line
+use Rattle.std.specs.Prelude.{◌≡◌, Bool, true, false, nat_lt, ◌==◌, if◌then◌else◌, not, count_by, List, [], ◌∷◌}
+use Rattle.model_registers.specs.Declarations.{Endpoint}
+use Rattle.model_registers.specs.DeclarationRules.{IsLawfulEndpoint}
 use Rattle.model_registers.specs.Apertures.{Apertures}
 use Rattle.model_registers.specs.BridgeTable.{Window}
 use Rattle.model_board.specs.Paths.{Path}
-use Rattle.model_board.specs.Board.{Board}
+use Rattle.model_board.specs.Board.{Decl, Board, is_bridge}
 use Rattle.model_board.specs.Lawful.{HasLawfulDecls}
 use Rattle.model_set_up.specs.Pools.{io_pool, mem_pool, pref_pool}
 use Rattle.model_set_up.specs.Placement.{Item, items_on}
 use Rattle.model_set_up.specs.SetUp.{windows_of}
+use Rattle.model_set_up.specs.FunctionTable.{found_decl, sized_table}
+use Rattle.model_handoff.specs.Report.{counts_text, count_line, identity_of, pin_line, known_pin_lines}
 
 abbrev pub is_closed : Window → Bool
 is_closed w = nat_lt w.last w.first
@@ -25,3 +31,14 @@ pub record AreClosedWithoutItems (b : Board) (a : Apertures) (p : Path) : Type 0
 
 abbrev pub ClosedWithoutItems : Type 0
 ClosedWithoutItems = (b : Board) (a : Apertures) → HasLawfulDecls b → (p : Path) → AreClosedWithoutItems b a p
+
+abbrev pub CountsOfBoard : Type 0
+CountsOfBoard = (b : Board) → count_line (sized_table b)
+    ≡ counts_text (count_by (λ r. not (is_bridge r.decl)) b) (count_by (λ r. is_bridge r.decl) b)
+
+abbrev pub IdentitiesOfBoard : Type 0
+IdentitiesOfBoard = (d : Decl) → identity_of (found_decl d) ≡ identity_of d
+
+abbrev pub PinLines : Type 0
+PinLines = (p : Path) (d : Endpoint) → IsLawfulEndpoint d
+    → known_pin_lines p d.pin ≡ (if d.pin == 0 then [] else pin_line p d.pin ∷ [])

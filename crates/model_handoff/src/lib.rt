@@ -12,7 +12,7 @@ ghost use Rattle.model_handoff.specs.RegionLaws.{CycleReads, CycleWrites, FaultD
 ghost use Rattle.model_handoff.specs.RegionLaws.{MemoryBySpace, PortsBySpace, RegionIsClaimed, RegionReads};
 ghost use Rattle.model_handoff.specs.RegionLaws.{RegionWrites, ServedAfterEvents, ServedAfterMoves, ServedAtFirst};
 ghost use Rattle.model_handoff.specs.AfterSetUp.{SetUpIsolates, SetUpTwoWorlds};
-ghost use Rattle.model_handoff.specs.ReportLaws.{ClosedWithoutItems};
+ghost use Rattle.model_handoff.specs.ReportLaws.{ClosedWithoutItems, CountsOfBoard, IdentitiesOfBoard, PinLines};
 ghost use Rattle.model_handoff.specs.SetUpCase.{SetUpAddresses, SetUpCanBeGiven, SetUpIsHandoff, SetUpIsInOrder, SetUpPlaces};
 ghost use Rattle.model_handoff.specs.SetUpLaws.{HitReachesRegion, SetUpAgrees, SetUpAtFirst, SetUpIsOnly, SetUpKeepsNumbers, SetUpKeepsRouting};
 ghost use Rattle.model_handoff.specs.ViewLaws.{OverReset, ResetAfterEvents, ResetAfterMoves, ResetAtFirst, ResetShown};
@@ -131,9 +131,13 @@ pub fn isolated_after_set_up()
     ensures two_worlds { SetUpTwoWorlds }
 {}
 
-/// Set-up closes just the windows behind which nothing is placed, and a report shows the others.
-pub fn used_windows_are_open()
-    ensures { ClosedWithoutItems }
+/// A report is of the board itself: it counts and names the board's functions, shows the windows behind which something
+/// is placed, as set-up closes just the others, and each pin.
+pub fn report_is_of_the_board()
+    ensures counts { CountsOfBoard }
+    ensures identities { IdentitiesOfBoard }
+    ensures windows { ClosedWithoutItems }
+    ensures pins { PinLines }
 {}
 
 /// What guests see over some handoffs.

@@ -1,4 +1,4 @@
-//! Layer: guests. Below: findings, claim_table, images, accesses. Above: guest_why, machine_images, script.
+//! Layer: guests. Below: findings, claim_table, images, accesses. Above: machine_images, script.
 //!
 //! The monitor, which gives functions of a board to guests.
 //!

@@ -1,6 +1,5 @@
 mod DeviceBytes
 mod FunctionRows
-mod FaultNumbers
 mod FoundRegisters
 mod Images
 mod Kept

@@ -36,8 +36,8 @@ use Rattle.model_lines.specs.HostAccesses.{HostAccess}
 use Rattle.model_lines.specs.HostAccesses as board
 use Rattle.model_lines.specs.Sessions.{DrivenNow, SessionNow, driven, given, after_board_access, session_output, after_session_line}
 use Rattle.session.specs.Stages.{asks_for_more, board_in, machine_in}
-use Rattle.simulation.specs.Serving.{told_by, counted_by}
-use Rattle.simulation.specs.declared.serving.Question.{Question}
+use Rattle.board_told.specs.Telling.{told_by, counted_by}
+use Rattle.board_told.specs.declared.telling.Question.{Question}
 use Rattle.monitor.specs.ByIndex.{name_nth}
 use Rattle.monitor.specs.Moves.{move_nth}
 use Rattle.machine_images.specs.SavedParts.{capped}

@@ -8,13 +8,13 @@ use Rattle.std.specs.Option.{option_map_or}
 use Rattle.model_guests.specs.Text.{Text}
 use Rattle.model_guests.specs.World.{World}
 use Rattle.session.specs.Files.{Refuses, Breaks, IsSetUp}
-use Rattle.simulation.specs.declared.fault.Fault.{Fault}
-use Rattle.simulation.specs.Faults.{number_of}
+use Rattle.session.specs.declared.opening.OpenFault.{OpenFault}
+use Rattle.session.specs.Faults.{number_of}
 use Rattle.diagnostics.specs.declared.style.Style.TheVariants.{Plain}
 use Rattle.board_fit.specs.declared.warned.Warned.TheVariants.{Likely}
-use Rattle.simulation.specs.Checking.{IsCheckText}
-use Rattle.simulation.specs.Listing.{report_in}
-use Rattle.simulation.specs.declared.listing.ReportForm.{ReportForm}
+use Rattle.board_told.specs.Checking.{IsCheckText}
+use Rattle.board_told.specs.Listing.{report_in}
+use Rattle.board_told.specs.declared.listing.ReportForm.{ReportForm}
 use Rattle.pciguest_c.specs.TextsTold.{at_front}
 
 pub record IsReportIn (form : ReportForm) (board before after : Text) (old new n : ℕ) : Type 0 where
@@ -31,6 +31,6 @@ board_name = codes "board.toml"
 
 -- what `pciguest check --plain` writes
 pub record IsCheckOf (board : Text) (n : ℕ) (text : Text) : Type 0 where
-  pub fault : Option Fault
+  pub fault : Option OpenFault
   pub number : n ≡ option_map_or number_of fault 0
   pub is_text : IsCheckText Plain Likely board_name board fault text

@@ -16,10 +16,10 @@ pub record SetsUp (o : Option DrivenNow) (before after : Option SessionNow) (n :
   pub nothing : IfNone o (n ≡ 901)
   pub in_use : IfSome o (λ _. IfSome before (λ _. n ≡ 903))
   pub written : IfSome o (λ b. IfNone before (b.written ≡ true → n ≡ 904))
-  pub numbers : IfSome o (λ b. IfNone before (b.written ≡ false → (n ≡ 0) ⊎ ((199 ≤ n) × (n ≤ 299))))
+  pub numbers : IfSome o (λ b. IfNone before (b.written ≡ false → (n ≡ 0) ⊎ ((201 ≤ n) × (n ≤ 299))))
   pub made : n ≡ 0 → IsSome (option_and_then machine_in after)
   pub begins : IfSome o (λ b. n ≡ 0 → IfSome (option_and_then machine_in after) (BeginsIn (IsAtFirst b.world)))
-  pub placement : IfSome o (λ b. 199 < n → n < 299 → BreaksRule b.world n)
+  pub placement : IfSome o (λ b. n ≢ 0 → n < 299 → BreaksRule b.world n)
   pub refused : n ≢ 0 → after ≡ before
 
 pub record IsNumberOfRefusal (b : DrivenNow) (n : ℕ) : Type 0 where

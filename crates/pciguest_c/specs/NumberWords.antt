@@ -7,7 +7,7 @@ use Rattle.model_guests.specs.Text.{Text}
 use Rattle.model_guests.specs.Replies.{refusal_words}
 use Rattle.accesses.specs.Refusals.{number_of, refusal_numbered}
 use Rattle.monitor.specs.Handovers.{handover_words}
-use Rattle.simulation.specs.Faults.{words_of, fault_numbered}
+use Rattle.board_told.specs.Faults.{words_of, fault_numbered}
 
 abbrev pub own_words : ℕ → Text
 own_words n =

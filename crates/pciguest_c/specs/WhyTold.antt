@@ -6,7 +6,7 @@ use Rattle.model_guests.specs.Accesses.{Target}
 use Rattle.model_guests.specs.Text.{Text}
 use Rattle.model_guests.specs.WorldNow.{WorldNow}
 use Rattle.model_lines.specs.WhyGuests.{guest_why_text}
-use Rattle.guest_why.specs.Findings.{lone_asked, fault_at}
+use Rattle.board_told.specs.GuestFindings.{lone_asked, fault_at}
 
 abbrev pub why_asked : WorldNow → ℕ → Target → Result Text ℕ
 why_asked w guest t = option_map_or Err (fault_at t) (Ok (guest_why_text (lone_asked w guest) t))

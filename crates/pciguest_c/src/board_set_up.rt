@@ -45,7 +45,7 @@ fn set_up_in(alloc: Global, session: &mut Session, machine: &mut Handle) -> u32
 
 /// Sets up a board at reset as our own set-up does, and gives its functions to the guests of its file: the
 /// machine is then the one that the file gives. The board stays as it is. A refusal is the board's (201 to
-/// 205), out of memory (199 or 299), 903 where the handle of the machine holds one already, or 904 where a
+/// 205), out of memory (299), 903 where the handle of the machine holds one already, or 904 where a
 /// write was done on the board since reset.
 #[unsafe(no_mangle)]
 pub extern "C" fn pciguest_raw_set_up(

@@ -8,7 +8,7 @@ ghost use Rattle.pciguest_c.specs.Calls.{refusal, tells, unless_out};
 use crate::asking::target_for;
 use crate::handle::Handle;
 use crate::text_calls::tell;
-use guest_why::guest_why_text;
+use board_told::guest_why_text;
 use monitor::Monitor;
 use std::alloc::Global;
 

@@ -1,4 +1,4 @@
-//! Layer: program. Below: machine_images, guest_why, simulation.
+//! Layer: program. Below: machine_images, board_told.
 //!
 //! The library for C: a machine of a board file, or its board at reset, behind a handle, and what each is
 //! asked.

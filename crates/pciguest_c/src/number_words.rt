@@ -5,8 +5,8 @@ ghost use Rattle.accesses.specs.Refusals.{number_of};
 ghost use Rattle.pciguest_c.specs.NumberWords.{own_words, words_of_number};
 
 use accesses::Refusal;
+use board_told::Fault;
 use monitor::handover_words;
-use simulation::Fault;
 
 /// The bytes of `refused 301 `, which stand before the words of a refusal.
 const BEFORE_WORDS: usize = 12;

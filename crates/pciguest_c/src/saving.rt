@@ -2,7 +2,7 @@
 ghost use Rattle.std.specs.Prelude.{◌≡◌, ◌<◌, Some, IfSome, length};
 ghost use Rattle.model_images.specs.LoadedLaws.{IsTakenByAll};
 ghost use Rattle.session.specs.Stages.{machine_in};
-ghost use Rattle.guest_why.specs.Findings.{lone_asked};
+ghost use Rattle.board_told.specs.GuestFindings.{lone_asked};
 ghost use Rattle.pciguest_c.specs.Handles.{machine_of};
 ghost use Rattle.pciguest_c.specs.Calls.{Answers, IsAnswer, answer, image_size, save, buffer, number};
 ghost use Rattle.pciguest_c.specs.ImagesTold.{image_asked};

@@ -1,55 +1,17 @@
 //! What C is told as a text, as lines or as JSON, of all that is wrong in the registers of a board, and of all that is
 //! lacking there.
-ghost use Rattle.std.specs.Prelude.{◌≡◌, IfOk, IfErr, length, string_bytes};
-ghost use Rattle.model_findings.specs.Problems.{problems};
-ghost use Rattle.model_findings.specs.Lacks.{lack_count};
+ghost use Rattle.std.specs.Prelude.{◌≡◌, IfOk, IfErr, string_bytes};
 ghost use Rattle.model_lines.specs.Sessions.{driven};
-ghost use Rattle.json_texts.specs.AuditValue.{audit_json, ready_json};
-ghost use Rattle.simulation.specs.Serving.{told_by, counted_by};
+ghost use Rattle.board_told.specs.Telling.{told_by, counted_by};
 ghost use Rattle.pciguest_c.specs.Calls.{AnswersBoardOrRunsOut, board_survey, surveying, counted, counter};
 ghost use Rattle.pciguest_c.specs.Calls.{refusal, tells, unless_out};
 
 use crate::handle::Handle;
 use crate::numbers::MEMORY;
 use crate::text_calls::tell_counted;
-use json_texts::{lacks_json, problems_json};
+use board_told::{Question, ReportForm, audit_in, ready_in};
 use session::{Board, CountedText};
-use simulation::{Question, ReportForm};
 use std::alloc::{AllocError, Global};
-
-/// What is wrong as JSON.
-fn audit_json(alloc: Global, board: &mut Board) -> Result<CountedText, AllocError>
-    ensures text { IfOk result (λ t.
-        string_bytes t.text ≡ audit_json board.old.state.functions) }
-    ensures count { IfOk result (λ t.
-        t.count ≡ length (problems board.old.state.functions)) }
-    ensures kept { board.new ≡ board.old }
-{
-    let found = board.problems(alloc)?;
-    let text = problems_json(alloc, &found)?;
-    Ok(CountedText {
-        text,
-        count: found.len(),
-    })
-}
-
-/// What is wrong and what is lacking as JSON.
-fn ready_json(alloc: Global, board: &mut Board) -> Result<CountedText, AllocError>
-    ensures text { IfOk result (λ t. string_bytes t.text
-        ≡ ready_json board.old.world.apertures board.old.state.functions) }
-    ensures count { IfOk result (λ t.
-        t.count ≡ lack_count board.old.world.apertures board.old.state.functions) }
-    ensures kept { board.new ≡ board.old }
-{
-    let apertures = board.apertures();
-    let found = board.problems(alloc)?;
-    let lacking = board.lacks(alloc, &apertures)?;
-    let text = lacks_json(alloc, &found, &lacking)?;
-    Ok(CountedText {
-        text,
-        count: found.len() + lacking.len(),
-    })
-}
 
 /// What answers a question of the registers.
 fn answer_to(
@@ -63,11 +25,14 @@ fn answer_to(
         t.count ≡ counted_by question board.old.world.apertures board.old.state.functions) }
     ensures kept { board.new ≡ board.old }
 {
+    let found = board.problems(alloc)?;
     match question {
-        Question::Audit(ReportForm::Lines) => board.audit(alloc),
-        Question::Audit(ReportForm::Json) => audit_json(alloc, board),
-        Question::Ready(ReportForm::Lines) => board.ready(alloc),
-        Question::Ready(ReportForm::Json) => ready_json(alloc, board),
+        Question::Audit(form) => audit_in(alloc, form, &found),
+        Question::Ready(form) => {
+            let apertures = board.apertures();
+            let lacking = board.lacks(alloc, &apertures)?;
+            ready_in(alloc, form, &found, &lacking)
+        }
     }
 }
 

@@ -2,12 +2,13 @@
 ghost use Rattle.std.specs.Prelude.{◌≡◌, ◌≢◌, ◌⊎◌, ◌≤◌, ◌<◌, IfOk, IfErr, string_bytes};
 ghost use Rattle.std.specs.Option.{option_map_or};
 ghost use Rattle.model_guests.specs.World.{World};
-ghost use Rattle.simulation.specs.Faults.{number_of};
-ghost use Rattle.simulation.specs.Listing.{report_in};
+ghost use Rattle.session.specs.Faults.{number_of};
 ghost use Rattle.session.specs.Files.{Refuses, Breaks, IsSetUp};
+ghost use Rattle.board_told.specs.Listing.{report_in};
 ghost use Rattle.pciguest_c.specs.Checks.{IsCheckOf};
 
-use simulation::{Fault, ReportForm, Style, Warned, check_text, list_in};
+use board_told::{ReportForm, Style, Warned, check_text, list_in};
+use session::OpenFault;
 use std::alloc::Global;
 
 /// The report of a board file in a form, or the number of its refusal.
@@ -25,7 +26,7 @@ pub fn report_of(alloc: Global, board: &[u8], form: ReportForm) -> Result<String
 }
 
 /// The number of a fault, or 0.
-fn number_or_zero(fault: Option<Fault>) -> u32
+fn number_or_zero(fault: Option<OpenFault>) -> u32
     ensures { result ≡ option_map_or number_of fault 0 }
 {
     match fault {

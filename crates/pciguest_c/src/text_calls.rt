@@ -8,7 +8,7 @@ ghost use Rattle.pciguest_c.specs.NumberWords.{words_of_number};
 use crate::number_words::words_of;
 use crate::numbers::ARGUMENT;
 use crate::text::{check_of, report_of};
-use simulation::ReportForm;
+use board_told::ReportForm;
 use std::alloc::Global;
 
 /// Puts a text, or rows, at the front of a buffer that has room for it.

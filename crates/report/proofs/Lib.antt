@@ -1,3 +1,2 @@
-pub mod Loops
 pub mod PathTexts
 pub mod RowTexts

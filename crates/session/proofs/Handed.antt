@@ -1,5 +1,5 @@
--- Whatever firmware does, the board stays the one of its file, in a state that may be handed over.
---     at_first      the board of a file, at reset
+-- Whatever firmware does, the board stays the one that it was, in a state that may be handed over.
+--     at_first      a board at reset
 --     IsAsked, asked_at      the board after an access, by what the code keeps of it
 use Rattle.std.proofs.Common.{◌≡◌, ◌||◌, ℕ, Bool, true, false, List, Option, None, Some, refl, sym, ap, ap₂, ◌∙◌, subst}
 use Rattle.std.specs.Option.{option_map_or}
@@ -9,7 +9,6 @@ use Rattle.model_board.specs.Board.{Board}
 use Rattle.model_board.specs.State.{State}
 use Rattle.model_guests.specs.Accesses.{Reply, reads, refused, answered}
 use Rattle.model_guests.specs.Grammar.{HostTarget}
-use Rattle.model_guests.specs.Text.{Text}
 use Rattle.model_guests.specs.World.{Guest, World, IsLawfulWorld}
 use Rattle.model_lines.specs.HostAccesses.{HostAccess, fault_of, answer, after_access}
 use Rattle.model_lines.specs.Sessions.{DrivenNow, at_reset, is_done, after_board_access}
@@ -18,14 +17,12 @@ use Rattle.model_lines.proofs.Written.{accesses_tell_written}
 use Rattle.model_handoff.specs.Handoffs.{IsHandoff}
 use Rattle.host_bridge.specs.HostState.{HostState}
 use Rattle.monitor.specs.Beginnings.{world_on}
-use Rattle.session.specs.Boards.{board_now, IsBoardOf}
-use Rattle.session.specs.Files.{Declares}
+use Rattle.session.specs.Boards.{board_now, IsBoardNow}
 use Rattle.session.specs.Hosts.{after_asked}
 
-pub at_first : (file : Text) (h : HostState) (gs : List Guest) → Declares file (world_on h gs) → IsLawfulWorld (world_on h gs)
-    → IsHandoff h.state → h.state ≡ reset_state (board_at h.state.functions) → IsBoardOf file (board_now h gs false)
-at_first file h gs declared lawful handoff reset = record {
-  declared = declared;
+pub at_first : (h : HostState) (gs : List Guest) → IsLawfulWorld (world_on h gs)
+    → IsHandoff h.state → h.state ≡ reset_state (board_at h.state.functions) → IsBoardNow (board_now h gs false)
+at_first h gs lawful handoff reset = record {
   lawful = lawful;
   handoff = handoff;
   untouched = λ none. ap (λ (s : State). let b : DrivenNow = record { world = world_on h gs; state = s; written = false } in b) reset;
@@ -36,9 +33,8 @@ at_first file h gs declared lawful handoff reset = record {
 latch_clear : (b : DrivenNow) → b ≡ at_reset b.world → b.state.latch ≡ 0
 latch_clear b is = ap (λ (x : DrivenNow). x.state.latch) is
 
-asked_of : (file : Text) (b : DrivenNow) (a : HostAccess) → IsBoardOf file b → IsBoardOf file (after_board_access b a)
-asked_of file b a was = record {
-  declared = was.declared;
+asked_of : (b : DrivenNow) (a : HostAccess) → IsBoardNow b → IsBoardNow (after_board_access b a)
+asked_of b a was = record {
   lawful = was.lawful;
   handoff = (access_leaves b.state was.handoff a).handoff;
   untouched = λ none.
@@ -56,15 +52,15 @@ now_asked h k gs t u a handoff after written =
     ap₂ (λ (x : HostState) (v : Bool). board_now x gs v) after written
     ∙ ap (λ (w : World). let b : DrivenNow = record { world = w; state = after_access h.state a; written = t || is_done (answer h.state a) } in b) (world_stays h gs a handoff)
 
-pub record IsAsked (file : Text) (h k : HostState) (gs : List Guest) (t u : Bool) (a : HostAccess) : Type 0 where
-  pub board : IsBoardOf file (board_now k gs u)
+pub record IsAsked (h k : HostState) (gs : List Guest) (t u : Bool) (a : HostAccess) : Type 0 where
+  pub board : IsBoardNow (board_now k gs u)
   pub after : board_now k gs u ≡ after_board_access (board_now h gs t) a
 
-pub asked_at : (file : Text) (h k : HostState) (gs : List Guest) (t u : Bool) (a : HostAccess) → IsBoardOf file (board_now h gs t)
-    → k ≡ after_asked h a → u ≡ (t || is_done (answer h.state a)) → IsAsked file h k gs t u a
-asked_at file h k gs t u a was after written =
+pub asked_at : (h k : HostState) (gs : List Guest) (t u : Bool) (a : HostAccess) → IsBoardNow (board_now h gs t)
+    → k ≡ after_asked h a → u ≡ (t || is_done (answer h.state a)) → IsAsked h k gs t u a
+asked_at h k gs t u a was after written =
     let now = now_asked h k gs t u a was.handoff after written in
-    record { board = subst (IsBoardOf file) (sym now) (asked_of file (board_now h gs t) a was); after = now }
+    record { board = subst IsBoardNow (sym now) (asked_of (board_now h gs t) a was); after = now }
 
 -- ---- what was written
 

@@ -1,10 +1,9 @@
 -- The board of a board file as firmware drives it.
 --     board_now h gs t      the board of a host bridge, with the guests of its file, and whether it was written
---     IsBoardOf file b      the board that a file declares, whatever firmware wrote; where nothing was, it is at reset
+--     IsBoardNow b      a lawful board, whatever firmware wrote; where nothing was, it is at reset
 --     IsHandedOverAs b x      a session in which guests have what they get of the board, which may be given
 --     IsRefusalOf b f      why the board is not given to its guests: its first fault, unless memory is out
 use Rattle.std.specs.Prelude.{◌≡◌, List, Bool, false, Some, IfSome}
-use Rattle.model_guests.specs.Text.{Text}
 use Rattle.model_guests.specs.World.{Guest, IsLawfulWorld}
 use Rattle.model_handoff.specs.Handoffs.{IsHandoff}
 use Rattle.model_handoff.specs.Regions.{first_fault}
@@ -14,13 +13,11 @@ use Rattle.host_bridge.specs.HostState.{HostState}
 use Rattle.monitor.specs.Beginnings.{world_on}
 use Rattle.monitor.specs.Handovers.{handoff_fault}
 use Rattle.monitor.specs.declared.handover.HandoverFault.{HandoverFault}
-use Rattle.session.specs.Files.{Declares}
 
 abbrev pub board_now : HostState → List Guest → Bool → DrivenNow
 board_now h guests written = record { world = world_on h guests; state = h.state; written = written }
 
-pub record IsBoardOf (file : Text) (b : DrivenNow) : Type 0 where
-  pub declared : Declares file b.world
+pub record IsBoardNow (b : DrivenNow) : Type 0 where
   pub lawful : IsLawfulWorld b.world
   pub handoff : IsHandoff b.state
   pub untouched : b.written ≡ false → b ≡ at_reset b.world

@@ -4,7 +4,6 @@ ghost use Rattle.std.specs.Prelude.{option_and_then, MatchOption, IfOk, IfErr, I
 ghost use Rattle.std.specs.Bool.{OnTrue};
 ghost use Rattle.model_guests.specs.Accesses.{reads, writes};
 ghost use Rattle.model_guests.specs.Replies.{reply_text};
-ghost use Rattle.model_guests.specs.Text.{Text};
 ghost use Rattle.model_guests.specs.World.{IsLawfulWorld};
 ghost use Rattle.model_findings.specs.AuditText.{audit};
 ghost use Rattle.model_findings.specs.Problems.{problems};
@@ -22,14 +21,15 @@ ghost use Rattle.lines.specs.FirmwareLines.{host_asked, firmware_meaning_of};
 ghost use Rattle.lines.specs.Requests.{why_asked_of};
 ghost use Rattle.board_file.specs.declared.fault.BoardFault.TheVariants.{Memory};
 ghost use Rattle.board_file.specs.Faults.{number_of as file_number};
+ghost use Rattle.bus_scan.specs.declared.fault.Fault.TheVariants.{Memory as SetUpMemory};
+ghost use Rattle.bus_scan.specs.Faults.{number_of as set_up_number};
 ghost use Rattle.session.specs.Boards.{IsRefusalOf};
 ghost use Rattle.script.specs.Refusals.{refusal_of};
-ghost use Rattle.session.specs.Faults.{OnFile, OnSetUp};
 ghost use Rattle.session.specs.Files.{Declares, Refuses, BreaksRule, IsAtFirst};
 ghost use Rattle.session.specs.Refusals.{refusal_by};
 
 use crate::accessing;
-use crate::opening::{self, OpenFault};
+use crate::opening::begin;
 use accesses::{GuestDecl, HostAccess, Refusal, Reply};
 use bars::Space;
 use board_file::{BoardFault, read_board};
@@ -44,11 +44,10 @@ use script::refusal_of;
 use std::alloc::{AllocError, Global};
 use std::marker::Model;
 
-/// The board that a board file declares, from reset on, with the bytes and the guests of the file. Whether a
-/// write was done since reset is kept, so that our own set-up runs on a board at reset alone.
+/// The board that a board file declares, from reset on, with the guests of the file. Whether a write was done
+/// since reset is kept, so that our own set-up runs on a board at reset alone.
 #[derive(Drop)]
 pub struct Board {
-    file: Vec<u8>,
     pub(crate) host: Host,
     guests: Vec<GuestDecl>,
     written: bool,
@@ -56,13 +55,13 @@ pub struct Board {
 
 impl Model for Board {
     ghost use Rattle.model_lines.specs.Sessions.{DrivenNow};
-    ghost use Rattle.session.specs.Boards.{board_now, IsBoardOf};
+    ghost use Rattle.session.specs.Boards.{board_now, IsBoardNow};
 
     ghost Value = { DrivenNow };
 
     ghost view = { λ b. board_now b.host b.guests.items b.written };
 
-    ghost invariant = { λ b. IsBoardOf b.file.items (board_now b.host b.guests.items b.written) };
+    ghost invariant = { λ b. IsBoardNow (board_now b.host b.guests.items b.written) };
 }
 
 impl Board {
@@ -75,11 +74,7 @@ impl Board {
         ensures refused { IfErr result (λ f. f ≢ Memory → Refuses file.now (file_number f)) }
     {
         let (host, guests) = read_board(alloc, file)?;
-        let Ok(kept) = Vec::from_slice(alloc, file) else {
-            return Err(BoardFault::Memory);
-        };
         Ok(Board {
-            file: kept,
             host,
             guests,
             written: false,
@@ -168,16 +163,16 @@ impl Board {
         refusal_of(reply)
     }
 
-    /// What our own set-up makes of this board, which is at reset: a board that is set up, with its functions
-    /// given to the guests of the file. It reads the file once more, so this board stays as it is, whatever
-    /// comes of it. Refused are the board (201 to 205) and lack of memory (199 or 299).
-    pub fn set_up(&self, alloc: Global) -> Result<Monitor, OpenFault>
-        requires { self.now.written ≡ false }
+    /// What our own set-up makes of this board at reset: a board that is set up, with its functions given to the
+    /// guests of the file. It is made anew, so this board stays as it is, whatever comes of it. Refused are the
+    /// board (201 to 205) and lack of memory (299).
+    pub fn set_up(&self, alloc: Global) -> Result<Monitor, bus_scan::Fault>
         ensures made { IfOk result (BeginsIn (IsAtFirst self.now.world)) }
-        ensures placement { IfErr result (OnSetUp (BreaksRule self.now.world)) }
-        ensures accepted { IfErr result (OnFile (λ _. ⊥)) }
+        ensures placement { IfErr result (λ f.
+            f ≢ SetUpMemory → BreaksRule self.now.world (set_up_number f)) }
     {
-        opening::open(alloc, &self.file)
+        let host = self.host.at_reset(alloc)?;
+        begin(alloc, host, &self.guests)
     }
 
     /// Gives the functions of this board to the guests of its file, as the board stands, whoever set it up.
@@ -190,7 +185,6 @@ impl Board {
         ensures refused { IfErr result (λ r. IsRefusalOf self r.fault) }
     {
         let Board {
-            file,
             host,
             guests,
             written,
@@ -200,7 +194,6 @@ impl Board {
             Err(refused) => {
                 let Refused { board: host, fault } = refused;
                 let board = Board {
-                    file,
                     host,
                     guests,
                     written,

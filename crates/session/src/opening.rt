@@ -1,11 +1,18 @@
 //! The board of a board file that our own set-up sets up, with its guests.
-ghost use Rattle.std.specs.Prelude.{◌≡◌, IfOk, IfErr};
+ghost use Rattle.std.specs.Prelude.{◌≡◌, ◌≢◌, IfOk, IfErr};
+ghost use Rattle.model_board.specs.AtReset.{IsAtReset};
+ghost use Rattle.model_guests.specs.World.{IsLawfulWorld};
 ghost use Rattle.model_handoff.specs.Changes.{BeginsIn};
+ghost use Rattle.bus_scan.specs.declared.fault.Fault.TheVariants.{Memory};
+ghost use Rattle.bus_scan.specs.Faults.{number_of as set_up_number};
+ghost use Rattle.monitor.specs.Beginnings.{world_on};
 ghost use Rattle.session.specs.declared.opening.OpenFault.TheVariants.{File, SetUp};
 ghost use Rattle.session.specs.Faults.{number_of, OnFile, OnSetUp};
-ghost use Rattle.session.specs.Files.{Refuses, Breaks, IsOpened};
+ghost use Rattle.session.specs.Files.{Refuses, Breaks, BreaksRule, IsAtFirst, IsOpened};
 
+use accesses::GuestDecl;
 use board_file::{BoardFault, read_board};
+use host_bridge::Host;
 use monitor::Monitor;
 use std::alloc::Global;
 use thiserror::Error;
@@ -51,6 +58,24 @@ impl From<bus_scan::Fault> for OpenFault {
     }
 }
 
+/// Sets up a board at reset, and gives its functions to guests. Refused are the board (201 to 205) and lack of
+/// memory (299).
+pub(crate) fn begin(
+    alloc: Global,
+    host: Host,
+    guests: &[GuestDecl],
+) -> Result<Monitor, bus_scan::Fault>
+    requires reset { IsAtReset host.state }
+    requires lawful { IsLawfulWorld (world_on host guests.now) }
+    ensures made { IfOk result (BeginsIn (IsAtFirst (world_on host guests.now))) }
+    ensures placement { IfErr result (λ f.
+        f ≢ Memory → BreaksRule (world_on host guests.now) (set_up_number f)) }
+{
+    let ready = set_up(alloc, host)?;
+    let monitor = Monitor::new(alloc, ready, guests)?;
+    Ok(monitor)
+}
+
 /// Sets up the board that a board file declares, and gives its functions to the guests of the file.
 ///
 /// Refused are the file (101 to 112), its board (201 to 205), and lack of memory (199 or 299).
@@ -60,7 +85,6 @@ pub fn open(alloc: Global, file: &[u8]) -> Result<Monitor, OpenFault>
     ensures placement { IfErr result (OnSetUp (Breaks file.now)) }
 {
     let (host, guests) = read_board(alloc, file)?;
-    let ready = set_up(alloc, host)?;
-    let monitor = Monitor::new(alloc, ready, &guests)?;
-    Ok(monitor)
+    let opened = begin(alloc, host, &guests)?;
+    Ok(opened)
 }

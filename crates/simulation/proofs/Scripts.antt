@@ -12,9 +12,10 @@ use Rattle.lines.specs.declared.runs.RunFault.TheVariants as run
 use Rattle.session.specs.Files.{IsOpened}
 use Rattle.session.specs.declared.opening.OpenFault.{OpenFault}
 use Rattle.session.specs.declared.opening.OpenFault.TheVariants as opening
-use Rattle.simulation.specs.declared.fault.Fault.{Fault}
-use Rattle.simulation.specs.declared.fault.Fault.TheVariants.{Read, Write, RefusedLine}
-use Rattle.simulation.specs.Faults.{of_open, of_run, IsOfRun, IsOfRunAs, OnRun}
+use Rattle.board_told.specs.declared.fault.Fault.{Fault}
+use Rattle.board_told.specs.declared.fault.Fault.TheVariants.{Read, Write, RefusedLine}
+use Rattle.board_told.specs.Faults.{of_open, of_run}
+use Rattle.simulation.specs.Faults.{IsOfRun, IsOfRunAs, OnRun}
 use Rattle.lines.specs.Refusals.{refuses, IsWatched}
 use Rattle.script.specs.Refusals.{refusal_in, refusal_on_machine}
 use Rattle.simulation.specs.Running.{HasRun, IsRun, RunsAs}

@@ -24,11 +24,12 @@ use Rattle.lines.proofs.Parts.{same_end, same_error}
 use Rattle.bus_scan.specs.declared.fault.Fault.TheVariants as set_up
 use Rattle.session.specs.Files.{Declares}
 use Rattle.session.specs.Refusals.{refusal_in}
-use Rattle.simulation.specs.declared.fault.Fault.{Fault}
-use Rattle.simulation.specs.declared.fault.Fault.TheVariants.{SetUp, Write, NotInOrder, NotReady, RefusedLine}
-use Rattle.simulation.specs.declared.serving.Question.{Question}
-use Rattle.simulation.specs.declared.serving.Question.TheVariants.{Audit, Ready}
-use Rattle.simulation.specs.Faults.{of_run, IsOfFile, IsToldLast, OnFile}
+use Rattle.board_told.specs.declared.fault.Fault.{Fault}
+use Rattle.board_told.specs.declared.fault.Fault.TheVariants.{SetUp, Write, NotInOrder, NotReady, RefusedLine}
+use Rattle.board_told.specs.declared.telling.Question.{Question}
+use Rattle.board_told.specs.declared.telling.Question.TheVariants.{Audit, Ready}
+use Rattle.board_told.specs.Faults.{of_run}
+use Rattle.simulation.specs.Faults.{IsOfFile, IsToldLast, OnFile}
 use Rattle.simulation.specs.Serving.{at_first, session_text, left_after, told, counted, last_fault, HasEnded, IsSession, IsServed, Serves, IsOfAnswer, IsOfServing}
 use Rattle.simulation.proofs.Begun.{runs_from}
 

@@ -8,12 +8,9 @@
 --     IsTelling choice f      the choice tells of the fault
 --     IsLacking choice f      memory is out once lines ran
 --     IsOfChoice choice f      a fault that the choice can end with
-use Rattle.std.specs.Prelude.{◌≡◌, Bool, false, if◌then◌else◌, Option, None, Some, Result, Ok, Err, string_bytes, ⊤}
+use Rattle.std.specs.Prelude.{◌≡◌, Bool, false, if◌then◌else◌, None, Some, Result, Ok, Err, string_bytes, ⊤}
 use Rattle.std.specs.Io.KnownBytes.{Appends}
-use Rattle.model_registers.specs.DeclarationRules.{first_broken}
-use Rattle.model_set_up.specs.SetUpWrites.{set_up_rules}
 use Rattle.model_guests.specs.Text.{Text}
-use Rattle.model_guests.specs.World.{World}
 use Rattle.streams.specs.Ends.{AppendsPart}
 use Rattle.lines.specs.Runs.{Ends}
 use Rattle.command_line.specs.declared.choice.Choice.{Choice}
@@ -23,30 +20,17 @@ use Rattle.diagnostics.specs.declared.style.Style.{Style}
 use Rattle.diagnostics.specs.declared.style.Style.TheVariants.{Plain, WithExcerpts}
 use Rattle.board_fit.specs.declared.warned.Warned.{Warned}
 use Rattle.board_fit.specs.declared.warned.Warned.TheVariants as of
-use Rattle.simulation.specs.declared.listing.ReportForm.{ReportForm}
-use Rattle.simulation.specs.declared.listing.ReportForm.TheVariants.{Lines, Json}
+use Rattle.board_told.specs.declared.listing.ReportForm.{ReportForm}
+use Rattle.board_told.specs.declared.listing.ReportForm.TheVariants.{Lines, Json}
 use Rattle.simulation.specs.Demo.{demo_board}
-use Rattle.simulation.specs.Faults.{IsRefusal, IsOfList, IsOfRun, IsOfRunAs, OnRun}
-use Rattle.session.specs.Files.{Declares}
+use Rattle.simulation.specs.Faults.{open_fault, IsRefusal, IsOfList, IsOfRun, IsOfRunAs, OnRun}
 use Rattle.simulation.specs.Listing.{IsListed, IsListedInPart}
 use Rattle.simulation.specs.Checking.{IsChecked, IsCheckedInPart}
 use Rattle.simulation.specs.Running.{IsRun, RunsAs}
 use Rattle.simulation.specs.Serving.{IsOfServing, Serves}
-use Rattle.simulation.specs.declared.serving.Question.TheVariants as question
-use Rattle.simulation.specs.declared.fault.Fault.{Fault}
-use Rattle.simulation.specs.declared.fault.Fault.TheVariants.{SetUp, Write}
-
--- the report of the board that some bytes declare, once it is set up
-pub record IsReported (form : ReportForm) (board : Text) (old new : Option Text) : Type 0 where
-  pub world : World
-  pub declared : Declares board world
-  pub set_up : first_broken (set_up_rules world.board world.apertures) ≡ None
-  pub listed : IsListed form world old new
-
-pub record IsReportedInPart (form : ReportForm) (board : Text) (old new : Option Text) : Type 0 where
-  pub world : World
-  pub declared : Declares board world
-  pub listed : IsListedInPart form world old new
+use Rattle.board_told.specs.declared.telling.Question.TheVariants as question
+use Rattle.board_told.specs.declared.fault.Fault.{Fault}
+use Rattle.board_told.specs.declared.fault.Fault.TheVariants.{SetUp, Write}
 
 abbrev pub Prints : {T : Type 0} → Text → Ends → Result T Fault → Type 0
 Prints text at (Ok x) = Appends at.before at.after text × (at.flushed ≡ at.after)
@@ -54,8 +38,8 @@ Prints text at (Err Write) = AppendsPart at.before at.after text
 Prints text at (Err other) = ⊤
 
 abbrev pub Lists : {T : Type 0} → ReportForm → Text → Ends → Result T Fault → Type 0
-Lists form board at (Ok x) = IsReported form board at.before at.after × (at.flushed ≡ at.after)
-Lists form board at (Err Write) = IsReportedInPart form board at.before at.after
+Lists form board at (Ok x) = IsListed form board at.before at.after × (at.flushed ≡ at.after)
+Lists form board at (Err Write) = IsListedInPart form board at.before at.after
 Lists form board at (Err other) = ⊤
 
 -- a check tells of a fault of the file or its board
@@ -63,7 +47,7 @@ abbrev pub Checks : {T : Type 0} → Style → Warned → (name board : Text) �
 Checks style warned name board at (Ok x) = IsChecked style warned name board None at.before at.after × (at.flushed ≡ at.after)
 Checks style warned name board at (Err Write) = IsCheckedInPart style warned name board at.before at.after
 Checks style warned name board at (Err f) =
-    IsRefusal f → IsChecked style warned name board (Some f) at.before at.after × (at.flushed ≡ at.after)
+    IsRefusal f → IsChecked style warned name board (open_fault f) at.before at.after × (at.flushed ≡ at.after)
 
 abbrev pub form_of : Bool → ReportForm
 form_of json = if json then Json else Lines

@@ -15,8 +15,8 @@ use Rattle.command_line.specs.Choices.{board_path}
 use Rattle.command_line.specs.Usage.{refused_word, words_taken}
 use Rattle.command_line.specs.declared.choice.Choice.{Choice}
 use Rattle.command_line.specs.declared.choice.Choice.TheVariants.{Check}
-use Rattle.simulation.specs.declared.fault.Fault.{Fault}
-use Rattle.simulation.specs.declared.fault.Fault.TheVariants.{File, SetUp}
+use Rattle.board_told.specs.declared.fault.Fault.{Fault}
+use Rattle.board_told.specs.declared.fault.Fault.TheVariants.{File, SetUp}
 
 abbrev pub shown : Text → Text
 shown text = map shown_byte text

@@ -14,8 +14,8 @@ use Rattle.model_handoff.specs.AfterSetUp.{IsIsolated}
 use Rattle.lines.specs.declared.runs.RunFault.{RunFault}
 use Rattle.lines.specs.Runs.{Ends, Runs}
 use Rattle.session.specs.Files.{IsSetUp}
-use Rattle.simulation.specs.declared.fault.Fault.{Fault}
-use Rattle.simulation.specs.declared.fault.Fault.TheVariants.{RefusedLine}
+use Rattle.board_told.specs.declared.fault.Fault.{Fault}
+use Rattle.board_told.specs.declared.fault.Fault.TheVariants.{RefusedLine}
 use Rattle.simulation.specs.Faults.{OnRun}
 use Rattle.lines.specs.Refusals.{refuses}
 use Rattle.script.specs.Refusals.{refusal_in}

@@ -6,11 +6,8 @@
 --     IsSession board at result      what a run of lines did over the board of the file; once the board is given, guests are
 --         isolated
 --     HasEnded board at      all lines of such a run were read, and what they write was written and flushed
---     audit_in form fs, ready_in form a fs      all that is wrong in some functions, and also all that is lacking by these
---         apertures, in a form
---     told_by q a fs, counted_by q a fs      the text that answers a question of some functions, by these apertures, and
---         how many problems and lacks it counts
---     told q a fs, counted q a fs      the same where a question may be asked
+--     told q a fs, counted q a fs      the text that answers a question of some functions, by these apertures, where one is
+--         asked, and how many problems and lacks it counts
 --     last_fault q strict refused n      the fault of who was told all, if there is one: by whether a line was refused, and
 --         n problems and lacks
 --     IsTold q board at      all lines were read, and the texts were written and flushed
@@ -19,7 +16,7 @@
 --     Serves q strict board at result      what was done, by how it ended
 --     IsOfAnswer f      memory is out for the text, or it isn't written whole
 --     IsOfServing q strict f      a fault by which it can end
-use Rattle.std.specs.Prelude.{◌≡◌, ◌⊎◌, ◌++◌, ◌&&◌, ℕ, Bool, true, List, [], length, if◌then◌else◌, Option, None, Some, Result, Ok, Err, is_some, nat_lt, IsTrue, ⊤}
+use Rattle.std.specs.Prelude.{◌≡◌, ◌⊎◌, ◌++◌, ◌&&◌, ℕ, Bool, true, List, [], if◌then◌else◌, Option, None, Some, Result, Ok, Err, is_some, nat_lt, IsTrue, ⊤}
 use Rattle.std.specs.Option.{ForSome}
 use Rattle.std.specs.Io.{StartsWith}
 use Rattle.std.specs.Io.KnownBytes.{Appends, IsAtEnd}
@@ -28,13 +25,8 @@ use Rattle.model_board.specs.State.{BoardFunction}
 use Rattle.model_guests.specs.Text.{Text, lines}
 use Rattle.model_guests.specs.World.{World}
 use Rattle.model_guests.specs.LineRuns.{output, after_lines}
-use Rattle.model_findings.specs.AuditText.{audit}
-use Rattle.model_findings.specs.Problems.{problems}
-use Rattle.model_findings.specs.Lacks.{lack_count}
-use Rattle.model_findings.specs.ReadyText.{ready_report}
 use Rattle.model_lines.specs.Sessions.{SessionNow, driven, at_reset, session_protocol, session_functions}
 use Rattle.model_lines.specs.SessionLaws.{IsolatedFrom}
-use Rattle.json_texts.specs.AuditValue.{audit_json, ready_json}
 use Rattle.lines.specs.declared.runs.RunFault.{RunFault}
 use Rattle.lines.specs.declared.runs.RunFault.TheVariants as run
 use Rattle.lines.specs.Refusals.{refuses}
@@ -42,13 +34,12 @@ use Rattle.lines.specs.Runs.{Ends, Runs}
 use Rattle.bus_scan.specs.declared.fault.Fault.TheVariants as set_up
 use Rattle.session.specs.Files.{Declares}
 use Rattle.session.specs.Refusals.{refusal_in}
+use Rattle.board_told.specs.Telling.{told_by, counted_by}
 use Rattle.simulation.specs.Faults.{IsOfSession}
-use Rattle.simulation.specs.declared.fault.Fault.{Fault}
-use Rattle.simulation.specs.declared.fault.Fault.TheVariants.{SetUp, Read, Write, NotInOrder, NotReady, RefusedLine}
-use Rattle.simulation.specs.declared.listing.ReportForm.{ReportForm}
-use Rattle.simulation.specs.declared.listing.ReportForm.TheVariants.{Lines, Json}
-use Rattle.simulation.specs.declared.serving.Question.{Question}
-use Rattle.simulation.specs.declared.serving.Question.TheVariants.{Audit, Ready}
+use Rattle.board_told.specs.declared.fault.Fault.{Fault}
+use Rattle.board_told.specs.declared.fault.Fault.TheVariants.{SetUp, Read, Write, NotInOrder, NotReady, RefusedLine}
+use Rattle.board_told.specs.declared.telling.Question.{Question}
+use Rattle.board_told.specs.declared.telling.Question.TheVariants.{Audit, Ready}
 
 -- ---- the lines
 
@@ -72,22 +63,6 @@ abbrev pub HasEnded : Text → Ends → Type 0
 HasEnded board at = IsSession {T = Unit {0}} board at (Ok tt)
 
 -- ---- the text after them
-
-abbrev pub audit_in : ReportForm → List BoardFunction → Text
-audit_in Lines fs = audit fs
-audit_in Json fs = audit_json fs
-
-abbrev pub ready_in : ReportForm → Apertures → List BoardFunction → Text
-ready_in Lines a fs = ready_report a fs
-ready_in Json a fs = ready_json a fs
-
-abbrev pub told_by : Question → Apertures → List BoardFunction → Text
-told_by (Audit form) a fs = audit_in form fs
-told_by (Ready form) a fs = ready_in form a fs
-
-abbrev pub counted_by : Question → Apertures → List BoardFunction → ℕ
-counted_by (Audit form) a fs = length (problems fs)
-counted_by (Ready form) a fs = lack_count a fs
 
 abbrev pub told : Option Question → Apertures → List BoardFunction → Text
 told None a fs = []

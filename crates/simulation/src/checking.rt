@@ -1,149 +1,15 @@
-//! What is wrong with a board file, or that nothing is.
-ghost use Rattle.std.specs.Prelude.{◌≡◌, ◌≢◌, ◌+◌, ◌-◌, ◌^◌, ◌<◌, Some, None, List, Ok, Err, OnOk, IfOk, IfErr, IsErrOf, IsUtf8, option_map, string_bytes};
-ghost use Rattle.toml.specs.Errors.{IsWithin};
-ghost use Rattle.toml.specs.Parse.{parse_document};
-ghost use Rattle.toml.specs.View.{table_view};
-ghost use Rattle.model_board.specs.AtReset.{IsAtReset};
-ghost use Rattle.model_guests.specs.World.{Guest};
-ghost use Rattle.board_file.specs.Meaning.{world_in, meaning};
-ghost use Rattle.board_file.specs.Sources.{IsRead};
-ghost use Rattle.board_file.specs.Faults as of_file;
-ghost use Rattle.board_file.specs.declared.fault.BoardFault.TheVariants.{Memory};
-ghost use Rattle.simulation.specs.Faults.{write_faults, IsOfList, IsOutOfMemory, IsRefusal};
-ghost use Rattle.simulation.specs.declared.fault.Fault.TheVariants.{SetUp};
-ghost use Rattle.simulation.specs.Checking.{IsCheckText, IsChecked, IsCheckedInPart};
+//! What is wrong with a board file, or that nothing is, written.
+ghost use Rattle.std.specs.Prelude.{◌≡◌, ◌≢◌, ◌+◌, ◌-◌, ◌^◌, ◌<◌, None, OnOk, IfErr, IsErrOf};
+ghost use Rattle.simulation.specs.Faults.{write_faults, open_fault, IsOfList, IsRefusal};
+ghost use Rattle.simulation.specs.Checking.{IsChecked, IsCheckedInPart};
 
 use crate::choice::print;
-use crate::fault::Fault;
-use board_file::{BoardFault, Source};
-use board_fit::{Warned, judge};
-use board_refusal::{refusal_text, unread_text};
+use board_fit::Warned;
+use board_told::{Fault, check_text};
 use diagnostics::Style;
-use host_bridge::Host;
+use session::OpenFault;
 use std::alloc::Global;
 use streams::Writer;
-use toml::de::Error;
-
-/// What is said of a board file, and the fault of the file or its board, if there is one.
-#[derive(Drop)]
-pub struct Checked {
-    pub text: String,
-    pub fault: Option<Fault>,
-}
-
-/// Of bytes that are no document: where and why they were given up, whatever is warned of.
-fn refuse_bytes(
-    alloc: Global,
-    style: Style,
-    name: &str,
-    board: &[u8],
-    error: &Error,
-) -> Result<Checked, Fault>
-    requires within { IsWithin board.now error.now }
-    requires no_document { IsUtf8 board.now → parse_document board.now ≡ None }
-    ensures told { IfOk result (λ c. (w : Warned)
-        → IsCheckText style w name.now board.now c.fault (string_bytes c.text)) }
-    ensures memory { IfErr result IsOutOfMemory }
-{
-    match unread_text(alloc, style, name, board, error) {
-        Ok(text) => Ok(Checked {
-            text,
-            fault: Some(Fault::File(BoardFault::NotToml)),
-        }),
-        Err(_) => Err(Fault::File(BoardFault::Memory)),
-    }
-}
-
-/// Of a document that is refused: what is wrong with it, whatever is warned of.
-fn refuse(
-    alloc: Global,
-    style: Style,
-    name: &str,
-    source: &Source<'_>,
-    fault: BoardFault,
-) -> Result<Checked, Fault>
-    requires read { IsRead source.now }
-    requires refused { fault ≢ Memory
-        → meaning (table_view source.now.document.now) ≡ Err (of_file.number_of fault) }
-    ensures told { let board = source.now.bytes.now in
-        IfOk result (λ c. (w : Warned)
-        → IsCheckText style w name.now board c.fault (string_bytes c.text)) }
-    ensures memory { IfErr result IsOutOfMemory }
-{
-    if fault == BoardFault::Memory {
-        return Err(Fault::File(fault));
-    }
-    match refusal_text(alloc, style, name, source, fault) {
-        Ok(text) => Ok(Checked {
-            text,
-            fault: Some(Fault::File(fault)),
-        }),
-        Err(_) => Err(Fault::File(BoardFault::Memory)),
-    }
-}
-
-/// The fault of a board, as one of the program.
-fn of_board(fault: Option<bus_scan::Fault>) -> Option<Fault>
-    ensures { result ≡ option_map SetUp fault }
-{
-    fault.map(Fault::SetUp)
-}
-
-/// Of a document that is accepted: what is said of its board.
-fn accept(
-    alloc: Global,
-    style: Style,
-    warned: Warned,
-    name: &str,
-    source: &Source<'_>,
-    host: Host,
-) -> Result<Checked, Fault>
-    requires read { IsRead source.now }
-    requires declared { (gs : List Guest)
-        × (meaning (table_view source.now.document.now) ≡ Ok (world_in host gs)) }
-    requires reset { IsAtReset host.state }
-    ensures told { let board = source.now.bytes.now in
-        IfOk result (λ c. IsCheckText style warned name.now board c.fault (string_bytes c.text)) }
-    ensures memory { IfErr result IsOutOfMemory }
-{
-    match judge(alloc, style, warned, name, source, host) {
-        Ok(verdict) => Ok(Checked {
-            text: verdict.text,
-            fault: of_board(verdict.fault),
-        }),
-        Err(_) => Err(Fault::SetUp(bus_scan::Fault::Memory)),
-    }
-}
-
-/// What is wrong with a board file, a line for each entry that breaks the first check that the file fails;
-/// or `ok`, where its board can be set up, with how much of each aperture it takes, and a line for each thing
-/// that may be a mistake and is no fault, by `warned`. `name` is what the file is called. With excerpts the
-/// line of the file stands below what is said of an entry. It fails where memory is out (199 or 299), and
-/// nowhere else.
-pub fn check_text(
-    alloc: Global,
-    style: Style,
-    warned: Warned,
-    name: &str,
-    board: &[u8],
-) -> Result<Checked, Fault>
-    ensures told { IfOk result (λ c.
-        IsCheckText style warned name.now board.now c.fault (string_bytes c.text)) }
-    ensures memory { IfErr result IsOutOfMemory }
-{
-    let document = match toml::table_from_slice(alloc, board) {
-        Ok(document) => document,
-        Err(e) if e.is_memory() => return Err(Fault::File(BoardFault::Memory)),
-        Err(e) => return refuse_bytes(alloc, style, name, board, &e),
-    };
-    let Ok(source) = Source::new(alloc, board, &document) else {
-        return Err(Fault::File(BoardFault::Memory));
-    };
-    match source.world(alloc) {
-        Ok((host, _)) => accept(alloc, style, warned, name, &source, host),
-        Err(fault) => refuse(alloc, style, name, &source, fault),
-    }
-}
 
 /// Writes what [`check_text`] says of a board file, and flushes once.
 ///
@@ -164,7 +30,7 @@ pub fn check<W: Writer>(
         (W.written writer.old) (W.written writer.new)) }
     ensures flushed { OnOk result (W.flushed writer.new ≡ W.written writer.new) }
     ensures told { IfErr result (λ f. IsRefusal f →
-        IsChecked style warned name.now board.now (Some f)
+        IsChecked style warned name.now board.now (open_fault f)
         (W.written writer.old) (W.written writer.new)) }
     ensures told_flushed { IfErr result
         (λ f. IsRefusal f → W.flushed writer.new ≡ W.written writer.new) }
@@ -182,6 +48,7 @@ pub fn check<W: Writer>(
     print(checked.text.as_str(), writer)?;
     match checked.fault {
         None => Ok(()),
-        Some(fault) => Err(fault),
+        Some(OpenFault::File(fault)) => Err(Fault::File(fault)),
+        Some(OpenFault::SetUp(fault)) => Err(Fault::SetUp(fault)),
     }
 }

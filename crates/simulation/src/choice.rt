@@ -8,11 +8,11 @@ ghost use Rattle.simulation.specs.Faults.{read_faults, write_faults, IsToldLast}
 
 use crate::checking::check;
 use crate::demonstration::demo;
-use crate::fault::Fault;
-use crate::listing::{ReportForm, list};
+use crate::listing::list;
 use crate::running::run_as;
-use crate::serving::{Question, serve};
+use crate::serving::serve;
 use board_fit::Warned;
+use board_told::{Fault, Question, ReportForm};
 use command_line::Choice;
 use diagnostics::Style;
 use std::alloc::Global;

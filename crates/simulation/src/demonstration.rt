@@ -6,8 +6,8 @@ ghost use Rattle.simulation.specs.Faults.{read_faults, write_faults, OnFile, OnS
 ghost use Rattle.session.specs.Files.{Refuses, Breaks};
 ghost use Rattle.simulation.specs.Running.{IsRun};
 
-use crate::fault::Fault;
 use crate::running::whole;
+use board_told::Fault;
 use std::alloc::Global;
 use streams::{Reader, Writer};
 

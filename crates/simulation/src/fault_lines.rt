@@ -2,8 +2,8 @@
 ghost use Rattle.std.specs.Prelude.{◌≡◌, ◌+◌, ◌/◌, ◌%◌};
 ghost use Rattle.simulation.specs.Faults.{line_of};
 
-use crate::fault::Fault;
 use arrayvec::ArrayString;
+use board_told::Fault;
 
 /// The character of a decimal digit.
 fn digit(n: u16) -> char

@@ -3,8 +3,8 @@ ghost use Rattle.std.specs.Prelude.{◌≡◌, IfErr, IfSome, string_bytes};
 ghost use Rattle.std.specs.declared.io.ErrorKind.{ErrorKind};
 ghost use Rattle.simulation.specs.Hints.{file_hint};
 
-use crate::fault::Fault;
 use crate::hints::file_hint;
+use board_told::Fault;
 use std::alloc::Global;
 use std::fs;
 use std::io::{ErrorKind, Read};

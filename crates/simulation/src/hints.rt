@@ -3,8 +3,8 @@ ghost use Rattle.std.specs.Prelude.{◌≡◌, IfOk, OnOk, map, option_map, stri
 ghost use Rattle.lists.specs.Texts.{Adds};
 ghost use Rattle.simulation.specs.Hints.{not_taken, usage_line, usage_hint, reason_words, unread_line, file_hint, is_refusal, see_check, hinted_path, check_hint};
 
-use crate::fault::Fault;
 use board_file::BoardFault;
+use board_told::Fault;
 use command_line::{Choice, refused_word, words_taken};
 use diagnostics::push_shown;
 use std::alloc::{AllocError, Global};

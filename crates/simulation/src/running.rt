@@ -5,7 +5,7 @@ ghost use Rattle.simulation.specs.Faults.{read_faults, write_faults, OnFile, OnS
 ghost use Rattle.session.specs.Files.{Refuses, Breaks};
 ghost use Rattle.simulation.specs.Running.{IsRun, RunsAs};
 
-use crate::fault::Fault;
+use board_told::Fault;
 use lines::run_watched;
 use monitor::Monitor;
 use script::Script;

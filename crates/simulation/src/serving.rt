@@ -1,83 +1,21 @@
 //! A session over the board of a board file, and what is told of the board once its lines ran.
-ghost use Rattle.std.specs.Prelude.{◌≡◌, ◌+◌, ◌-◌, ◌^◌, ◌<◌, ◌⊎◌, length, string_bytes, is_some, IfOk, IfErr, IsErrOf, IsTrue, OnOk};
+ghost use Rattle.std.specs.Prelude.{◌≡◌, ◌+◌, ◌-◌, ◌^◌, ◌<◌, ◌⊎◌, string_bytes, is_some, IfOk, IfErr, IsErrOf, IsTrue, OnOk};
 ghost use Rattle.std.specs.Io.KnownBytes.{Appends};
-ghost use Rattle.model_findings.specs.Problems.{problems};
-ghost use Rattle.model_findings.specs.Lacks.{lack_count};
 ghost use Rattle.model_lines.specs.Sessions.{session_functions};
 ghost use Rattle.streams.specs.Ends.{AppendsPart};
 ghost use Rattle.lines.specs.Runs.{ends};
 ghost use Rattle.bus_scan.specs.declared.fault.Fault.TheVariants.{Memory};
 ghost use Rattle.session.specs.Files.{Refuses};
+ghost use Rattle.board_told.specs.Telling.{told_by, counted_by};
 ghost use Rattle.simulation.specs.Faults.{read_faults, write_faults, OnFile, IsOfFile};
-ghost use Rattle.simulation.specs.Serving.{audit_in, ready_in, told_by, counted_by, told, counted, last_fault, IsOfAnswer, IsOfServing, Serves};
+ghost use Rattle.simulation.specs.Serving.{told, counted, last_fault, IsOfAnswer, IsOfServing, Serves};
 
 use crate::choice::print;
-use crate::fault::Fault;
-use crate::listing::ReportForm;
-use json_texts::{lacks_json, problems_json};
+use board_told::{Fault, Question, audit_in, ready_in};
 use lines::run_watched;
 use session::{Apertures, Board, CountedText, Session, SessionLines};
 use std::alloc::{AllocError, Global};
 use streams::{Reader, Writer};
-
-/// What is asked of a board once the lines of a session ran.
-#[derive(Clone, Copy)]
-pub enum Question {
-    /// What is wrong in its registers, in a form.
-    Audit(ReportForm),
-    /// What is wrong and what is lacking in them, in a form.
-    Ready(ReportForm),
-}
-
-/// What is wrong in the registers of the board of a session, in a form.
-fn audit_in(
-    alloc: Global,
-    form: ReportForm,
-    session: &mut Session,
-) -> Result<CountedText, AllocError>
-    ensures text { IfOk result (λ t. string_bytes t.text
-        ≡ audit_in form (session_functions session.old)) }
-    ensures count { IfOk result
-        (λ t. t.count ≡ length (problems (session_functions session.old))) }
-{
-    match form {
-        ReportForm::Lines => session.audit(alloc),
-        ReportForm::Json => {
-            let found = session.problems(alloc)?;
-            let text = problems_json(alloc, &found)?;
-            Ok(CountedText {
-                text,
-                count: found.len(),
-            })
-        }
-    }
-}
-
-/// What is wrong and what is lacking in them by these apertures, in a form.
-fn ready_in(
-    alloc: Global,
-    form: ReportForm,
-    session: &mut Session,
-    apertures: &Apertures,
-) -> Result<CountedText, AllocError>
-    ensures text { IfOk result (λ t. string_bytes t.text
-        ≡ ready_in form apertures.now (session_functions session.old)) }
-    ensures count { IfOk result
-        (λ t. t.count ≡ lack_count apertures.now (session_functions session.old)) }
-{
-    match form {
-        ReportForm::Lines => session.ready(alloc, apertures),
-        ReportForm::Json => {
-            let found = session.problems(alloc)?;
-            let lacking = session.lacks(alloc, apertures)?;
-            let text = lacks_json(alloc, &found, &lacking)?;
-            Ok(CountedText {
-                text,
-                count: found.len() + lacking.len(),
-            })
-        }
-    }
-}
 
 /// Answers a question of the board of a session, by these apertures.
 fn tell(
@@ -91,9 +29,13 @@ fn tell(
     ensures count { IfOk result (λ t. t.count
         ≡ counted_by question apertures.now (session_functions session.old)) }
 {
+    let found = session.problems(alloc)?;
     match question {
-        Question::Audit(form) => audit_in(alloc, form, session),
-        Question::Ready(form) => ready_in(alloc, form, session, apertures),
+        Question::Audit(form) => audit_in(alloc, form, &found),
+        Question::Ready(form) => {
+            let lacking = session.lacks(alloc, apertures)?;
+            ready_in(alloc, form, &found, &lacking)
+        }
     }
 }
 

@@ -3,7 +3,7 @@ ghost use Rattle.std.specs.Prelude.{◌≡◌, ◌↔◌, ◌-◌, ◌^◌, ◌<
 ghost use Rattle.bus_scan.specs.declared.fault.Fault.TheVariants.{Memory};
 ghost use Rattle.streams.specs.Kept.{is_stopped};
 
-use crate::fault::Fault;
+use board_told::Fault;
 use std::alloc::Global;
 use std::io::{Read, Write};
 use streams::{BufferedWriter, Failed, Reader, Writer};

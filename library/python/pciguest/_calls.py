@@ -608,8 +608,8 @@ DECLARED: Dict[str, Tuple[Any, Tuple[Any, ...]]] = {
     # to the guests of its file: the machine is then the one that pciguest_new makes of the file. The board stays as it
     # is.
     # 901: there is no board. 903: the struct of the machine holds one already. 904: a write was done on the board since
-    # reset. 201 to 205: the board can't be set up. 199, 299: out of memory. The first of these that holds is answered.
-    # Since 0.3.0.
+    # reset. 201 to 205: the board can't be set up. 299: out of memory. The first of these that holds is answered. Since
+    # 0.3.0.
     "set_up": (c_uint32, (POINTER(BoardHandle), POINTER(Handle))),
     # Gives the functions of a board to the guests of its file as the board stands, whoever set it up: where its audit
     # tells no problem and each region of their functions is open, the machine is then over this board. Each function

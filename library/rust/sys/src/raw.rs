@@ -924,7 +924,7 @@ extern "C" {
     /// functions to the guests of its file: the machine is then the one that pciguest_new makes of the file. The board
     /// stays as it is.
     /// 901: there is no board. 903: the struct of the machine holds one already. 904: a write was done on the board
-    /// since reset. 201 to 205: the board can't be set up. 199, 299: out of memory. The first of these that holds is
+    /// since reset. 201 to 205: the board can't be set up. 299: out of memory. The first of these that holds is
     /// answered. Since 0.3.0.
     pub fn pciguest_set_up(board: *mut BoardHandle, machine: *mut Handle) -> u32;
     /// Gives the functions of a board to the guests of its file as the board stands, whoever set it up: where its audit

@@ -2,13 +2,13 @@ use Rattle.std.proofs.Common.{◌≡◌, List, [], ◌∷◌, ◌++◌, map, ref
 use Rattle.toml.specs.View.{table_view}
 use Rattle.lists.specs.Elements.{Each}
 use Rattle.board_file.specs.Problems.{found_of}
-use Rattle.board_refusal.specs.declared.told.Told.{Told}
+use Rattle.board_refusal.specs.declared.placed_breach.PlacedBreach.{PlacedBreach}
 use Rattle.board_refusal.specs.Telling.{problem_of, found_in, IsTold}
 use Rattle.board_refusal.specs.ProblemLines.{lines_text}
 use Rattle.board_refusal.proofs.refusals.refusal_text.Goals as goal
 
 -- the problems that are told, as what was found
-map-found_in : (told : List Told) → map found_in told ≡ map found_of (map problem_of told)
+map-found_in : (told : List PlacedBreach) → map found_in told ≡ map found_of (map problem_of told)
 map-found_in [] = refl
 map-found_in (t ∷ ts) = ap (λ fs. found_of t.problem ∷ fs) (map-found_in ts)
 

@@ -1,16 +1,17 @@
 use Rattle.std.proofs.Common.{Err, ap, ◌∙◌, subst, sym}
+use Rattle.std.specs.Prelude.{IfErr}
 use Rattle.model_lines.specs.Sessions.{driven}
 use Rattle.lines.specs.Runs.{ends}
 use Rattle.session.specs.Files.{Refuses}
+use Rattle.simulation.specs.Faults.{OnFile}
 use Rattle.simulation.specs.Serving.{IsServed, Serves}
-use Rattle.simulation.proofs.Listed.{refused}
 use Rattle.simulation.proofs.Ran.{on_error, read_again, written_again}
 use Rattle.simulation.proofs.Served.{is_served, left_by, IsBegun, no_file, of_serving, served_fault, stopped, told_last, unanswered}
 use Rattle.simulation.proofs.serving.serve.Goals as goal
 
 pub returns-in_err-driven-clause-file : goal.returns-in_err-driven-clause-file
 returns-in_err-driven-clause-file g c =
-    refused c.from_residual.result c.args.board.now _ c.in_err-driven.ensures.refused c.from_residual.ensures.1
+    on_error (λ r. IfErr r (OnFile (Refuses c.args.board.now))) c.from_residual.result _ c.from_residual.ensures.1 c.in_err-driven.ensures.refused
 
 pub returns-in_err-driven-clause-serves : goal.returns-in_err-driven-clause-serves
 returns-in_err-driven-clause-serves g c =

@@ -9,12 +9,12 @@ use Rattle.session.proofs.board.Board.read.Goals as goal
 pub invariant_of-self : goal.invariant_of-self
 invariant_of-self c =
     let b = c.self.inside in
-    (asked_at b.file.items b.host c.read.new.host b.guests.items b.written b.written (host_asked c.args.from reads) c.self.invariant c.read.ensures.after
+    (asked_at b.host c.read.new.host b.guests.items b.written b.written (host_asked c.args.from reads) c.self.invariant c.read.ensures.after
     (read_writes_none b.written b.host.state c.args.from.width (host_target_of c.args.from.at))).board
 
 pub returns-clause-after : goal.returns-clause-after
 returns-clause-after c =
     let b = c.self.inside in
-    (asked_at b.file.items b.host c.read.new.host b.guests.items b.written b.written (host_asked c.args.from reads) c.self.invariant c.read.ensures.after
+    (asked_at b.host c.read.new.host b.guests.items b.written b.written (host_asked c.args.from reads) c.self.invariant c.read.ensures.after
     (read_writes_none b.written b.host.state c.args.from.width (host_target_of c.args.from.at))).after
     ∙ ap (λ (x : DrivenNow). after_board_access x (host_asked c.args.from reads)) c.self.view_is

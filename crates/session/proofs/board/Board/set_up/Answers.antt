@@ -1,23 +1,34 @@
-use Rattle.std.proofs.Common.{subst}
+use Rattle.std.proofs.Common.{sym, ap, ◌∙◌, subst}
+use Rattle.std.specs.Prelude.{◌≢◌, IfOk, IfErr}
+use Rattle.bus_scan.specs.declared.fault.Fault.TheVariants.{Memory}
+use Rattle.bus_scan.specs.Faults.{number_of}
+use Rattle.model_guests.specs.World.{World, IsLawfulWorld}
+use Rattle.model_handoff.specs.Changes.{BeginsIn}
 use Rattle.model_lines.specs.Sessions.{DrivenNow}
-use Rattle.session.specs.Files.{Declares}
-use Rattle.session.proofs.Declared.{accepted, breaks_rule, made_of}
+use Rattle.monitor.specs.Beginnings.{world_on}
+use Rattle.session.specs.Files.{IsAtFirst, BreaksRule}
+use Rattle.session.proofs.Declared.{same_world}
 use Rattle.session.proofs.board.Board.set_up.Goals as goal
+
+pub at_reset-requires : goal.at_reset-requires
+at_reset-requires c = c.self.invariant.lawful.board
+
+pub begin-requires-clause-lawful : goal.begin-requires-clause-lawful
+begin-requires-clause-lawful c =
+    let b = c.self.inside in
+    let same = same_world b.host c.in_ok-host.host b.guests.items c.in_ok-host.ensures.board c.in_ok-host.ensures.apertures in
+    rw c.deref.ensures.value (subst IsLawfulWorld (sym same) c.self.invariant.lawful)
 
 pub returns-clause-made : goal.returns-clause-made
 returns-clause-made c =
-    let opened = rw c.deref.ensures.value at c.open.ensures.opened in
-    let declared : Declares c.self.inside.file.items c.args.self.now.world = subst (λ (b : DrivenNow). Declares c.self.inside.file.items b.world) c.self.view_is c.self.invariant.declared in
-    made_of c.self.inside.file.items c.args.self.now.world declared c.open.result opened
+    let b = c.self.inside in
+    let same = same_world b.host c.in_ok-host.host b.guests.items c.in_ok-host.ensures.board c.in_ok-host.ensures.apertures in
+    let begun = rw c.deref.ensures.value at c.begin.ensures.made in
+    subst (λ (w : World). IfOk c.begin.result (BeginsIn (IsAtFirst w))) (same ∙ ap (λ (x : DrivenNow). x.world) c.self.view_is) begun
 
 pub returns-clause-placement : goal.returns-clause-placement
 returns-clause-placement c =
-    let said = rw c.deref.ensures.value at c.open.ensures.placement in
-    let declared : Declares c.self.inside.file.items c.args.self.now.world = subst (λ (b : DrivenNow). Declares c.self.inside.file.items b.world) c.self.view_is c.self.invariant.declared in
-    breaks_rule c.self.inside.file.items c.args.self.now.world declared c.open.result said
-
-pub returns-clause-accepted : goal.returns-clause-accepted
-returns-clause-accepted c =
-    let said = rw c.deref.ensures.value at c.open.ensures.file in
-    let declared : Declares c.self.inside.file.items c.args.self.now.world = subst (λ (b : DrivenNow). Declares c.self.inside.file.items b.world) c.self.view_is c.self.invariant.declared in
-    accepted c.self.inside.file.items c.args.self.now.world declared c.open.result said
+    let b = c.self.inside in
+    let same = same_world b.host c.in_ok-host.host b.guests.items c.in_ok-host.ensures.board c.in_ok-host.ensures.apertures in
+    let broken = subst (λ gs. IfErr c.begin.result (λ f. f ≢ Memory → BreaksRule (world_on c.in_ok-host.host gs) (number_of f))) c.deref.ensures.value c.begin.ensures.placement in
+    subst (λ (w : World). IfErr c.begin.result (λ f. f ≢ Memory → BreaksRule w (number_of f))) (same ∙ ap (λ (x : DrivenNow). x.world) c.self.view_is) broken

@@ -1,0 +1,5 @@
+mod Accepted
+mod Alone
+mod ClosedSlots
+mod Listed
+mod WholeTexts

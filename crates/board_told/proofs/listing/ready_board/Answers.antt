@@ -1,0 +1,16 @@
+use Rattle.board_file.specs.Meaning.{world_in}
+use Rattle.session.proofs.Declared.{declares, refused_file}
+use Rattle.board_told.proofs.Listed.{of_world}
+use Rattle.board_told.proofs.listing.ready_board.Goals as goal
+
+pub returns-in_err-host-clause-file : goal.returns-in_err-host-clause-file
+returns-in_err-host-clause-file c =
+    refused_file c.from_residual.result c.args.board.now _ c.in_err-host.ensures.refused c.in_err-host.ensures.not_text c.from_residual.ensures.1
+
+pub returns-clause-declared : goal.returns-clause-declared
+returns-clause-declared c = record {
+  world = world_in c.in_ok-host.host c.in_ok-host.guests.items;
+  set_up = record { declared = declares c.in_ok-host.ensures.world; fits = c.in_ok-ready.ensures.kept };
+  of_world = of_world c.in_ok-host.host c.in_ok-ready.ready c.in_ok-host.guests.items
+      c.in_ok-ready.ensures.board c.in_ok-ready.ensures.ready;
+}

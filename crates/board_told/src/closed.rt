@@ -1,0 +1,103 @@
+//! Regions of a guest's functions that hold an address and that Command doesn't open (PCI Local Bus 3.0, chapter 6.2.5).
+ghost use Rattle.std.specs.Prelude.{◌≡◌, ◌++◌, ◌<◌, map, length, IfOk, OnOk};
+ghost use Rattle.model_guests.specs.Slots.{slot_at};
+ghost use Rattle.model_lines.specs.WhyGuests.{closed_from};
+ghost use Rattle.bars.specs.Kinds.{named_space};
+ghost use Rattle.bars.specs.Slots.{placed, bases_from};
+ghost use Rattle.board_told.specs.GuestFindings.{lone_asked, base_holds, closed_at, closed_in, closed_told};
+
+use bars::{BasedRegion, Space};
+use findings::opens;
+use monitor::Monitor;
+use std::alloc::{AllocError, Global};
+
+/// A region of a function in a guest's slot that its Command doesn't open.
+#[derive(Clone, Copy, Debug, PartialEq, Eq)]
+pub struct ClosedInSlot {
+    pub slot: usize,
+    /// The index of its base address register.
+    pub register: usize,
+    pub first: u64,
+    pub size: u64,
+    /// What Command holds.
+    pub command: u16,
+}
+
+/// Whether a region holds an address.
+fn holds(region: &BasedRegion, space: Space, addr: u64) -> bool
+    ensures { result ≡ base_holds (named_space space) addr (placed 0 region.now) }
+{
+    region.offset_of(space, addr).is_some()
+}
+
+/// Adds those regions of a function that hold an address, with what its Command holds.
+fn add_holding(
+    closed: &mut Vec<ClosedInSlot>,
+    space: Space,
+    addr: u64,
+    slot: usize,
+    command: u16,
+    regions: &[Option<BasedRegion>; 6],
+) -> Result<(), AllocError>
+    ensures { let bases = bases_from 0 regions.now in
+        OnOk result (map closed_told closed.new.items ≡ map closed_told closed.old.items
+        ++ closed_at (named_space space) addr slot command bases) }
+{
+    for register in 0..6 {
+        if let Some(region) = regions[register]
+            && holds(&region, space, addr)
+        {
+            closed.push(ClosedInSlot {
+                slot,
+                register,
+                first: region.base,
+                size: region.decl.size(),
+                command,
+            })?;
+        }
+    }
+    Ok(())
+}
+
+/// Adds the regions of the function in a slot that hold an address, if there is one, unless Command opens their space.
+fn add_slot(
+    closed: &mut Vec<ClosedInSlot>,
+    monitor: &Monitor,
+    guest: usize,
+    slot: usize,
+    space: Space,
+    addr: u64,
+) -> Result<(), AllocError>
+    requires { guest < length monitor.now.world.guests }
+    ensures { let g = lone_asked monitor.now.world guest in
+        OnOk result (map closed_told closed.new.items ≡ map closed_told closed.old.items
+        ++ closed_in (named_space space) addr slot (slot_at g.slots slot)) }
+{
+    let Some(own) = monitor.own_registers(guest, slot) else {
+        return Ok(());
+    };
+    if opens(own.command, space) {
+        return Ok(());
+    }
+    add_holding(closed, space, addr, slot, own.command, &own.regions)
+}
+
+/// All closed regions of a guest that hold an address, by slot, then by register.
+pub(crate) fn all_closed(
+    alloc: Global,
+    monitor: &Monitor,
+    guest: usize,
+    space: Space,
+    addr: u64,
+) -> Result<Vec<ClosedInSlot>, AllocError>
+    requires { guest < length monitor.now.world.guests }
+    ensures { let g = lone_asked monitor.now.world guest in
+        IfOk result (λ v. map closed_told v.items
+        ≡ closed_from (named_space space) addr 0 g.slots) }
+{
+    let mut closed = Vec::new(alloc);
+    for slot in 0..monitor.slots(guest) {
+        add_slot(&mut closed, monitor, guest, slot, space, addr)?;
+    }
+    Ok(closed)
+}

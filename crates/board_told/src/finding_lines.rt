@@ -1,0 +1,122 @@
+//! Lines of what an access of a guest finds.
+ghost use Rattle.std.specs.Prelude.{OnOk, Some};
+ghost use Rattle.lists.specs.Texts.{Adds};
+ghost use Rattle.model_lines.specs.WhyText.{why_line};
+ghost use Rattle.model_lines.specs.WhyGuests.{answers, target_text, finding_text};
+ghost use Rattle.accesses.specs.Accesses.{target_of};
+ghost use Rattle.model_guests.specs.Text.{ended};
+ghost use Rattle.monitor.specs.Queries.{hit_named};
+ghost use Rattle.board_told.specs.GuestFindings.{finding_told};
+ghost use Rattle.board_told.specs.GuestLines.{head_text, place_line, closed_line, told_lines, lines_of_closed};
+
+use crate::closed::ClosedInSlot;
+use crate::finding::Finding;
+use accesses::{At, Place};
+use findings_told::{ShownCommand, numbers};
+use monitor::Hit;
+use std::alloc::AllocError;
+use std::fmt;
+
+/// A place that is asked about.
+#[derive(Clone, Copy)]
+struct ShownPlace(At);
+
+impl fmt::Display for ShownPlace {
+    ghost output = { λ p. Some (target_text (target_of p.0)) };
+
+    fn fmt<W: fmt::Write>(&self, f: &mut fmt::Formatter<W>) -> fmt::Result {
+        match self.0 {
+            At::Config { slot, off } => write!(f, "slot {slot} offset 0x{off:x}"),
+            At::Io { port } => write!(f, "I/O 0x{port:x}"),
+            At::Mem { addr } => write!(f, "memory 0x{addr:x}"),
+        }
+    }
+}
+
+/// A byte that answers.
+#[derive(Clone, Copy)]
+struct ShownHit(Hit);
+
+impl fmt::Display for ShownHit {
+    ghost output = { λ h. Some (finding_text (answers (hit_named h.0))) };
+
+    fn fmt<W: fmt::Write>(&self, f: &mut fmt::Formatter<W>) -> fmt::Result {
+        let slot = self.0.slot;
+        let offset = self.0.offset;
+        match self.0.place {
+            Place::Cfg => { write!(f, "slot {slot} configuration offset 0x{offset:x} answers") }
+            Place::Bar(register) => {
+                write!(f, "slot {slot} bar{register} offset 0x{offset:x} answers")
+            }
+        }
+    }
+}
+
+/// What is found.
+#[derive(Clone, Copy)]
+struct ShownFinding<'a>(&'a Finding);
+
+impl<'a> fmt::Display for ShownFinding<'a> {
+    ghost output = { λ g. Some (finding_text (finding_told g.0.now)) };
+
+    fn fmt<W: fmt::Write>(&self, f: &mut fmt::Formatter<W>) -> fmt::Result {
+        match self.0 {
+            Finding::Answers(hit) => write!(f, "{}", ShownHit(*hit)),
+            Finding::Nobody(_) => write!(f, "nobody answers"),
+            Finding::Empty { slot } => write!(f, "slot {slot} is empty"),
+            Finding::NoSlot { at } => write!(f, "{} is no slot", numbers(*at)),
+        }
+    }
+}
+
+/// Appends the line of a place, and of what is found there.
+pub(crate) fn push_head(text: &mut String, at: At, finding: &Finding) -> Result<(), AllocError>
+    ensures { OnOk result (Adds text.old text.new
+        (ended (why_line (head_text (target_of at) (finding_told finding.now))))) }
+{
+    writeln!(text, "why: {}: {}", ShownPlace(at), ShownFinding(finding))
+}
+
+/// Appends the slot, the register and the place of a closed region.
+fn push_place(text: &mut String, closed: &ClosedInSlot) -> Result<(), AllocError>
+    ensures { OnOk result (Adds text.old text.new (place_line closed.now)) }
+{
+    let slot = closed.slot;
+    let register = closed.register;
+    let first = closed.first;
+    let size = closed.size;
+    write!(
+        text,
+        "why: slot {slot} bar{register} at 0x{first:x} size 0x{size:x}: closed, "
+    )
+}
+
+/// Appends the line of a closed region.
+fn push_closed(text: &mut String, closed: &ClosedInSlot) -> Result<(), AllocError>
+    ensures { OnOk result (Adds text.old text.new (closed_line closed.now)) }
+{
+    push_place(text, closed)?;
+    write!(text, "{}", ShownCommand(closed.command))?;
+    text.push('\n')
+}
+
+/// Appends the lines of closed regions.
+fn push_all_closed(text: &mut String, all: &[ClosedInSlot]) -> Result<(), AllocError>
+    ensures { OnOk result (Adds text.old text.new (told_lines all.now)) }
+{
+    for closed in all {
+        push_closed(text, closed)?;
+    }
+    Ok(())
+}
+
+/// Appends the lines of the closed regions that hold an address which nobody answers.
+pub(crate) fn push_closed_of(text: &mut String, finding: &Finding) -> Result<(), AllocError>
+    ensures { OnOk result (Adds text.old text.new
+        (lines_of_closed (finding_told finding.now))) }
+{
+    match finding {
+        Finding::Nobody(all) => push_all_closed(text, all),
+        Finding::Answers(_) | Finding::Empty { .. } | Finding::NoSlot { .. } => Ok(()),
+    }
+}

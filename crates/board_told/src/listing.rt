@@ -1,0 +1,68 @@
+//! The report of a board file.
+ghost use Rattle.std.specs.Prelude.{◌≡◌, IfOk, IfErr, string_bytes};
+ghost use Rattle.model_guests.specs.World.{World};
+ghost use Rattle.window_packing.specs.Readies.{IsReady};
+ghost use Rattle.session.specs.Faults.{OnFile, OnSetUp};
+ghost use Rattle.session.specs.Files.{Refuses, Breaks, IsSetUp};
+ghost use Rattle.board_told.specs.Listing.{reported_in, report_in, IsReadyOf};
+
+use accesses::GuestDecl;
+use board_file::read_board;
+use json_texts::report_json;
+use report::report_text;
+use session::OpenFault;
+use std::alloc::{AllocError, Global};
+use window_packing::{Ready, set_up};
+
+/// The form of a report or of an audit.
+#[derive(Clone, Copy, Debug, PartialEq, Eq)]
+pub enum ReportForm {
+    /// A line for each thing that is told.
+    Lines,
+    /// A JSON object on one line.
+    Json,
+}
+
+/// The board that a board file declares, once it is set up, with its guests.
+fn ready_board(alloc: Global, board: &[u8]) -> Result<(Ready, Vec<GuestDecl>), OpenFault>
+    ensures declared { IfOk result (λ v. IsReadyOf board.now v.0 v.1.items) }
+    ensures file { IfErr result (OnFile (Refuses board.now)) }
+    ensures placement { IfErr result (OnSetUp (Breaks board.now)) }
+{
+    let (host, guests) = read_board(alloc, board)?;
+    let ready = set_up(alloc, host)?;
+    Ok((ready, guests))
+}
+
+/// The report of a board that is set up, with its guests, in a form.
+fn report_in(
+    alloc: Global,
+    ready: &Ready,
+    guests: &[GuestDecl],
+    form: ReportForm,
+) -> Result<String, AllocError>
+    ensures text { IfOk result (λ t. string_bytes t ≡ reported_in form
+        (record { functions = ready.now.table; plan = ready.now.plan; guests = guests.now })) }
+    ensures ready { IsReady ready.now }
+{
+    match form {
+        ReportForm::Lines => report_text(alloc, ready.table(), ready.plan(), guests),
+        ReportForm::Json => report_json(alloc, ready.table(), ready.plan(), guests),
+    }
+}
+
+/// The report in a form of the board that a board file declares, once it is set up.
+///
+/// A refusal is the file's (101 to 112), the board's (201 to 205), or out of memory (199 or 299).
+pub fn list_in(alloc: Global, board: &[u8], form: ReportForm) -> Result<String, OpenFault>
+    ensures report { IfOk result (λ t.
+        (w : World) × IsSetUp board.now w × (string_bytes t ≡ report_in form w)) }
+    ensures file { IfErr result (OnFile (Refuses board.now)) }
+    ensures placement { IfErr result (OnSetUp (Breaks board.now)) }
+{
+    let (ready, guests) = ready_board(alloc, board)?;
+    let Ok(text) = report_in(alloc, &ready, &guests, form) else {
+        return Err(OpenFault::SetUp(bus_scan::Fault::Memory));
+    };
+    Ok(text)
+}

@@ -1,0 +1,65 @@
+//! What answers a question of the registers of a board, by all that is wrong and all that is lacking there.
+ghost use Rattle.std.specs.Prelude.{◌≡◌, ◌+◌, IfOk, length, map, string_bytes};
+ghost use Rattle.findings.specs.Findings.{problem_of, lack_of};
+ghost use Rattle.board_told.specs.Telling.{audit_in, ready_in};
+
+use crate::listing::ReportForm;
+use findings::{Lack, Problem};
+use json_texts::{lacks_json, problems_json};
+use session::CountedText;
+use std::alloc::{AllocError, Global};
+
+/// What is asked of a board as its registers stand.
+#[derive(Clone, Copy)]
+pub enum Question {
+    /// What is wrong in its registers, in a form.
+    Audit(ReportForm),
+    /// What is wrong and what is lacking in them, in a form.
+    Ready(ReportForm),
+}
+
+/// These problems in a form, and how many there are.
+pub fn audit_in(
+    alloc: Global,
+    form: ReportForm,
+    problems: &[Problem],
+) -> Result<CountedText, AllocError>
+    ensures text { IfOk result (λ t.
+        string_bytes t.text ≡ audit_in form (map problem_of problems.now)) }
+    ensures count { IfOk result (λ t. t.count ≡ length (map problem_of problems.now)) }
+{
+    match form {
+        ReportForm::Lines => CountedText::of_problems(alloc, problems),
+        ReportForm::Json => {
+            let text = problems_json(alloc, problems)?;
+            Ok(CountedText {
+                text,
+                count: problems.len(),
+            })
+        }
+    }
+}
+
+/// These problems and lacks in a form, and how many there are.
+pub fn ready_in(
+    alloc: Global,
+    form: ReportForm,
+    problems: &[Problem],
+    lacks: &[Lack],
+) -> Result<CountedText, AllocError>
+    ensures text { let ps = map problem_of problems.now in let ls = map lack_of lacks.now in
+        IfOk result (λ t. string_bytes t.text ≡ ready_in form ps ls) }
+    ensures count { let ps = map problem_of problems.now in let ls = map lack_of lacks.now in
+        IfOk result (λ t. t.count ≡ length ps + length ls) }
+{
+    match form {
+        ReportForm::Lines => CountedText::of_lacks(alloc, problems, lacks),
+        ReportForm::Json => {
+            let text = lacks_json(alloc, problems, lacks)?;
+            Ok(CountedText {
+                text,
+                count: problems.len() + lacks.len(),
+            })
+        }
+    }
+}

@@ -1,3 +1,0 @@
-pub mod ClosedSlots
-pub mod WholeTexts
-pub mod Alone
