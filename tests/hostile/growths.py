@@ -18,23 +18,21 @@ DEMO = str(BOARDS / "demo.toml")
 
 def growths_of_board(room, board):
     """How many growths make a board at reset of the bytes of its file: those that `firmware` makes once it has read the
-    file, since without lines it does nothing more, but for the last, by which a session keeps the bytes."""
+    file, since without lines it does nothing more."""
     run, counts = room.counted(["firmware", board], b"")
     room.expect(f"firmware, {board}: ends well", run.answer() == "ok", run.answer())
-    return counts.growths - counts.until_file_read - 1
+    return counts.growths - counts.until_file_read
 
 
 def numbers_of(room, words, script, board, ends):
     """The number that each growth of a run answers, in their order. While the words of the command line are taken it is
     799, for the output that is kept back 299, while the board file is read 702, while a board is made of its bytes 199,
-    and while it is set up, told of and run 299. A session keeps the bytes of the file by one more of 199. What is told of
-    a file that is refused takes memory by 199."""
+    and while it is set up, told of and run 299. What is told of a file that is refused takes memory by 199."""
     _, counts = room.counted(words, script)
     numbers = [799] * counts.for_words + [299]
     numbers += [702] * (counts.until_file_read - len(numbers))
     left = counts.growths - len(numbers)
-    kept = 1 if words[0] in ("firmware", "audit", "ready") else 0
-    made = growths_of_board(room, board) + kept if ends in ("ok", "208") else left
+    made = growths_of_board(room, board) if ends in ("ok", "208") else left
     return numbers + [199] * made + [299] * (left - made)
 
 
