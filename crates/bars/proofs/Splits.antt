@@ -2,8 +2,9 @@
 use Rattle.std.proofs.Common.{◌≡◌, ℕ, zero, suc, ◌+◌, ◌*◌, ◌/◌, ◌%◌, ◌^◌, ◌<◌, ◌≤◌, ◌⊎◌, Bool, List, [], ◌∷◌, ◌++◌, map, refl, sym, ap, ap₂, ◌∙◌, subst, arith, rules}
 use Rattle.std.proofs.lemmas.Nat.{shl_whole}
 use Rattle.std.proofs.Math.Nat.{add-zero, zero-add}
-use Rattle.std.specs.Prelude.{Option, Some, None, slice_set}
+use Rattle.std.specs.Prelude.{Option, Some, None, slice_get, slice_set}
 use Rattle.lists.specs.Elements.{Each, EachPair}
+use Rattle.lists.proofs.Indices.{set_same}
 use Rattle.model_registers.specs.ByteEnables.{enabled_bits}
 use Rattle.model_registers.specs.Declarations.{Region, registers_of, HasLawfulRegions}
 use Rattle.model_registers.specs.EndpointTable.{BaseAddress, opened, IsLawfulBase, HasLawfulBases}
@@ -150,6 +151,19 @@ pub stored_part : (slots : List (Option BasedRegion)) → HasLawfulBases (bases_
 stored_part slots lawful reg ons x p at hx he r e =
     let exact : r ≡ record p.region { base = rebased (placed 0 p.region) (x * 2 ^ p.shift) (enabled_bits ons * 2 ^ p.shift) } = grind (arith, shift_fits) in
     ap (λ (q : BasedRegion). bases_from 0 (slice_set slots p.slot (Some q))) exact ∙ write_part slots lawful reg ons x p at
+
+there : (slots : List (Option BasedRegion)) (i : ℕ) (r : BasedRegion) → slot_at slots i ≡ Some r → slice_get slots i ≡ Some (Some r)
+there slots i r h = grind arith
+
+-- a write that leaves a region's base leaves all bases
+pub still_stored : (slots : List (Option BasedRegion)) → HasLawfulBases (bases_from 0 slots) → (reg : ℕ) (ons : List Bool) (x : ℕ) (p : ShownPart) → IsPartAt slots reg p
+    → x < 2 ^ 32 → enabled_bits ons < 2 ^ 32 → (r : BasedRegion)
+    → r ≡ record p.region { base = rebased (placed 0 p.region) (x * 2 ^ p.shift % 2 ^ 64) (enabled_bits ons * 2 ^ p.shift % 2 ^ 64) }
+    → r.base ≡ p.region.base → map (rewritten reg ons x) (bases_from 0 slots) ≡ bases_from 0 slots
+still_stored slots lawful reg ons x p at hx he r e same =
+    let unmoved : r ≡ p.region = e ∙ ap (λ n. record p.region { base = n }) (sym (ap (λ (q : BasedRegion). q.base) e) ∙ same) in
+    sym (stored_part slots lawful reg ons x p at hx he r e)
+    ∙ ap (λ (q : BasedRegion). bases_from 0 (slice_set slots p.slot (Some q))) unmoved ∙ ap (bases_from 0) (set_same slots p.slot (Some p.region) (there slots p.slot p.region at.region))
 
 pub lawful_part : (slots : List (Option BasedRegion)) → HasLawfulBases (bases_from 0 slots) → (reg : ℕ) (p : ShownPart) → IsPartAt slots reg p → IsLawfulBase (placed 0 p.region)
 lawful_part slots lawful reg p at =

@@ -82,8 +82,11 @@ impl Bars {
         if let Some(part) = self.slots.part_at(reg) {
             let value = u64::from(value) << part.shift;
             let enabled = u64::from(enabled_bits(enables)) << part.shift;
-            self.slots
-                .put(part.slot, part.region.written(value, enabled));
+            let region = part.region.written(value, enabled);
+            // where no region moves, all extents stay
+            if region.base != part.region.base {
+                self.slots.put(part.slot, region);
+            }
         }
     }
 

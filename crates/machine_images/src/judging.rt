@@ -1,6 +1,6 @@
 //! Whether bytes can be loaded into a machine, and what its guests get of them. They are compared
 //! with what it has, from front to back, and the first that fails decides.
-ghost use Rattle.std.specs.Prelude.{◌≡◌, ◌≤◌, ◌+◌, ◌++◌, [], Some, Ok, Err, IfErr, IfOk, length, map, option_map, slice_get, take};
+ghost use Rattle.std.specs.Prelude.{◌≡◌, ◌≤◌, ◌+◌, ◌++◌, [], Some, Ok, Err, IfErr, IfOk, length, map, option_map, slice_get};
 ghost use Rattle.model_board.specs.AtReset.{board_at};
 ghost use Rattle.model_board.specs.State.{BoardFunction};
 ghost use Rattle.model_findings.specs.Orderly.{IsStateOfBoard};
@@ -17,18 +17,11 @@ use crate::heading::{four, two};
 use crate::seats::{Seats, after_image, is_taken, read_slots};
 use arrayvec::{ArrayString, ArrayVec};
 use host_bridge::Host;
-use images::{ImageFault, MachineFault, after_held, after_own, after_row, after_version};
+use images::{ImageFault, MachineFault, after_held, after_own, after_row, after_version, front};
 use monitor::Monitor;
 
 /// For each guest the bytes that hold its image.
-type Runs<'a> = ArrayVec<&'a [u8], 32>;
-
-/// What all guests get of bytes, in their order: the functions in their slots, and their images.
-#[derive(Drop)]
-pub(crate) struct Plan<'a> {
-    pub(crate) seats: Seats,
-    pub(crate) runs: Runs<'a>,
-}
+pub(crate) type Runs<'a> = ArrayVec<&'a [u8], 32>;
 
 /// The same fault of the image of a guest.
 fn of_image(fault: ImageFault) -> MachineFault
@@ -97,16 +90,6 @@ fn after_name<'a>(name: &[u8], bytes: &'a [u8]) -> Result<&'a [u8], MachineFault
 {
     let bytes = after_own(&[(name.len() % 256) as u8], bytes)?;
     after_own(name, bytes)
-}
-
-/// So many bytes at the front, or all where they are fewer.
-fn front(bytes: &[u8], count: usize) -> &[u8]
-    ensures { result.now ≡ take count bytes.now }
-{
-    if bytes.len() < count {
-        return bytes;
-    }
-    &bytes[..count]
 }
 
 /// Adds the slots of a guest of this name, and gives the bytes that hold its image, and those behind
@@ -214,21 +197,27 @@ fn after_handoff(
     }
 }
 
-/// What guests get of bytes. Refuses bytes that are no image of a machine like this one.
+/// What all guests get of bytes, in their order: the functions in their slots, and their images. Refuses bytes that are
+/// no image of a machine like this one.
 #[tactic(auto, using(crate::proofs::JudgedHandoffs::known_is, crate::proofs::JudgedMachines::guests_refused))]
-pub(crate) fn judge<'a>(monitor: &Monitor, bytes: &'a [u8]) -> Result<Plan<'a>, MachineFault>
-    ensures planned { let w = monitor.now.world in IfOk result (λ plan.
-        IsPlanned w bytes.now plan.seats.items (map (λ r. r.now) plan.runs.items)) }
+pub(crate) fn judge<'a>(
+    monitor: &Monitor,
+    seats: &mut Seats,
+    runs: &mut Runs<'a>,
+    bytes: &'a [u8],
+) -> Result<(), MachineFault>
+    requires no_seats { seats.old.items ≡ [] }
+    requires no_runs { runs.old.items ≡ [] }
+    ensures planned { let found = map (λ r. r.now) runs.new.items in
+        IfOk result (λ _. IsPlanned monitor.now.world bytes.now seats.new.items found) }
     ensures refused { IfErr result (λ why.
         load_all_fault monitor.now.world bytes.now ≡ Some (number_of why)) }
 {
     let bytes = after_header(bytes)?;
     let bytes = after_known(monitor.host(), monitor.names().len(), bytes)?;
-    let mut seats = ArrayVec::new();
-    let mut runs = ArrayVec::new();
-    let bytes = read_guests(monitor, &mut seats, &mut runs, bytes)?;
+    let bytes = read_guests(monitor, seats, runs, bytes)?;
     after_handoff(monitor, seats.as_slice(), bytes)?;
-    Ok(Plan { seats, runs })
+    Ok(())
 }
 
 /// Why bytes can't be loaded into a machine, if they can't: they are no image of a machine (905),
@@ -238,5 +227,7 @@ pub(crate) fn judge<'a>(monitor: &Monitor, bytes: &'a [u8]) -> Result<Plan<'a>, 
 pub fn machine_fault(monitor: &Monitor, bytes: &[u8]) -> Option<MachineFault>
     ensures { option_map number_of result ≡ load_all_fault monitor.now.world bytes.now }
 {
-    judge(monitor, bytes).err()
+    let mut seats = ArrayVec::new();
+    let mut runs = ArrayVec::new();
+    judge(monitor, &mut seats, &mut runs, bytes).err()
 }

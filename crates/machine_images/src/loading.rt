@@ -13,6 +13,7 @@ ghost use Rattle.machine_images.specs.Judging.{functions_now, path_seated, paths
 ghost use Rattle.machine_images.specs.Loading.{GivesSeats, LoadsAll, LoadsRuns};
 
 use crate::judging::judge;
+use arrayvec::ArrayVec;
 use images::MachineFault;
 use model_images::machine_bytes_are_taken;
 use monitor::Monitor;
@@ -116,11 +117,13 @@ pub fn load_machine(monitor: &mut Monitor, bytes: &[u8]) -> Option<MachineFault>
 {
     machine_bytes_are_taken();
     let _host = monitor.host();
-    match judge(monitor, bytes) {
-        Ok(plan) => {
+    let mut seats = ArrayVec::new();
+    let mut runs = ArrayVec::new();
+    match judge(monitor, &mut seats, &mut runs, bytes) {
+        Ok(()) => {
             take_all(monitor);
-            give_all(monitor, 0, plan.seats.as_slice());
-            load_all(monitor, 0, plan.runs.as_slice());
+            give_all(monitor, 0, seats.as_slice());
+            load_all(monitor, 0, runs.as_slice());
             None
         }
         Err(why) => Some(why),
