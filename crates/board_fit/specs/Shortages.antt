@@ -5,7 +5,7 @@
 --     IsNeedOf b a s      so much it would take of its aperture
 --     need_text, reason_text      what is said of it
 --     refusal_line name s f      the line: FILE: why (NUMBER WORDS)
-use Rattle.std.specs.Prelude.{◌≡◌, ℕ, ◌++◌, codes, decimal, Option, Some, None, option_map}
+use Rattle.std.specs.Prelude.{◌≡◌, ◌++◌, codes, decimal, Option, Some, None, option_map}
 use Rattle.model_registers.specs.Apertures.{Apertures}
 use Rattle.model_board.specs.Board.{Board}
 use Rattle.model_guests.specs.Text.{Text}

@@ -1,45 +1,36 @@
 //! Why the program fails.
-ghost use Rattle.std.specs.Prelude.{◌≡◌};
+ghost use Rattle.std.specs.Prelude.{◌≡◌, Some};
 ghost use Rattle.board_told.specs.Faults.{number_of, words_of, of_open, of_run};
 ghost use Rattle.board_told.specs.declared.fault.Fault.TheVariants.{File, SetUp};
 
 use board_file::BoardFault;
 use session::{OpenFault, RunFault};
-use thiserror::Error;
+use std::error::Error;
+use std::fmt;
 
 /// Why the program fails.
-#[derive(Clone, Copy, Debug, PartialEq, Eq, Error)]
+#[derive(Clone, Copy, Debug, PartialEq, Eq)]
 pub enum Fault {
     /// The board file is refused (101 to 112), or memory was out while it was read (199).
-    #[error(transparent)]
     File(BoardFault),
     /// Its board can't be set up (201 to 205), or memory was out while it was made, set up, reported, asked
     /// about or given to guests (299).
-    #[error(transparent)]
     SetUp(bus_scan::Fault),
     /// An audit tells a problem, where that is a fault.
-    #[error("not in order")]
     NotInOrder,
     /// Something is wrong or lacking in the registers of the board.
-    #[error("not ready")]
     NotReady,
     /// A line was refused, where that is a fault.
-    #[error("refused line")]
     RefusedLine,
     /// A read of the script failed.
-    #[error("read failed")]
     Read,
     /// A write or flush of the output failed, or took no byte.
-    #[error("write failed")]
     Write,
     /// The words of the command line are none that the program takes.
-    #[error("usage")]
     Usage,
     /// The board file can't be opened or read.
-    #[error("board file")]
     BoardFile,
     /// Out of memory while the words of the command line were read.
-    #[error("memory")]
     WordMemory,
 }
 
@@ -81,19 +72,22 @@ impl Fault {
     }
 }
 
+impl fmt::Display for Fault {
+    ghost output = { λ f. Some (words_of f) };
+
+    fn fmt<W: fmt::Write>(&self, f: &mut fmt::Formatter<W>) -> fmt::Result {
+        let words = self.words();
+        write!(f, "{words}")
+    }
+}
+
+impl Error for Fault {}
+
 impl From<BoardFault> for Fault {
     ghost from_gives = { λ b f. f ≡ File b };
 
     fn from(fault: BoardFault) -> Fault {
         Fault::File(fault)
-    }
-}
-
-impl From<bus_scan::Fault> for Fault {
-    ghost from_gives = { λ s f. f ≡ SetUp s };
-
-    fn from(fault: bus_scan::Fault) -> Fault {
-        Fault::SetUp(fault)
     }
 }
 

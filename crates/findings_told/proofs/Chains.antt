@@ -1,7 +1,7 @@
 -- The lines of problems and lacks with the last line.
-use Rattle.std.proofs.Common.{◌≡◌, ◌++◌, List, [], ◌∷◌, ℕ, map, length, ◌∙◌, ap₂, sym, append_assoc, append-nil, arith}
+use Rattle.std.proofs.Common.{◌≡◌, ◌++◌, List, ℕ, map, length, append_assoc, append-nil, arith}
 use Rattle.std.proofs.lemmas.List.{length-map}
-use Rattle.model_guests.specs.Text.{Text, ended, text_of_lines}
+use Rattle.model_guests.specs.Text.{Text, ended}
 use Rattle.model_findings.specs.AuditText.{audit_line, total_text, audit_text}
 use Rattle.model_guests.proofs.WrittenLines.{text_of_lines-append}
 use Rattle.findings.specs.Findings.{problem_of}

@@ -6,7 +6,7 @@ use Rattle.lists.specs.Elements.{Each}
 use Rattle.model_registers.specs.Cell.{Cell}
 use Rattle.model_registers.specs.Registers.{Place, config, block, after, PlacedCell, File, field, cells_from}
 use Rattle.model_registers.specs.Declarations.{Region, ConfigBlock, Endpoint}
-use Rattle.model_registers.specs.EndpointTable.{type_bits, base_width, base_cells, block_cells, header_cells, endpoint_reset}
+use Rattle.model_registers.specs.EndpointTable.{base_cells, block_cells, header_cells, endpoint_reset}
 use Rattle.model_registers.specs.EndpointTable as table
 use Rattle.model_registers.specs.DeviceBytes.{is_device_byte}
 use Rattle.model_images.specs.Images.{can_hold}

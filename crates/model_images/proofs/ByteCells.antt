@@ -1,18 +1,17 @@
 -- Cells that hold bytes, and of whose bits no write of a byte and no device makes more.
-use Rattle.std.proofs.Common.{◌≡◌, ℕ, zero, suc, ◌/◌, ◌%◌, ◌<◌, Bool, true, false, cond, List, [], ◌∷◌, Some, None, Option, arith}
-use Rattle.std.specs.Prelude.{bit_and, bit_or, flat_map, ⊤}
+use Rattle.std.proofs.Common.{◌≡◌, ℕ, zero, suc, ◌/◌, ◌%◌, ◌<◌, Bool, true, false, List, [], ◌∷◌, Some, None, Option, arith}
+use Rattle.std.specs.Prelude.{bit_and, flat_map, ⊤}
 use Rattle.std.proofs.lemmas.Nat.{and_le_l, and_le_r, or_lt}
 use Rattle.lists.specs.Elements.{Each}
 use Rattle.lists.proofs.EachLemmas.{each_append, each_map}
 use Rattle.model_registers.specs.Cell.{Cell, IsCell, except, written, raised}
-use Rattle.model_registers.specs.Registers.{Place, config, place_eq, after, PlacedCell, File, changed, write, field, cells_from}
+use Rattle.model_registers.specs.Registers.{Place, config, after, PlacedCell, File, changed, write, field, cells_from}
 use Rattle.model_registers.specs.AccessLaws.{HoldsBytes}
 use Rattle.model_registers.specs.CopiedFiles.{shape_of}
 use Rattle.model_registers.specs.Declarations.{Region, ConfigBlock, Endpoint}
 use Rattle.model_registers.specs.DeviceBytes.{with_value}
 use Rattle.model_registers.specs.EndpointTable.{region_cells, block_cells, header_cells, endpoint_reset}
 use Rattle.model_registers.specs.Decoding.{Function}
-use Rattle.model_guests.specs.Slots.{reset_function}
 use Rattle.model_images.proofs.KeptFunctions.{AreKept}
 use Rattle.model_images.specs.ByteLaws.{HasCells}
 

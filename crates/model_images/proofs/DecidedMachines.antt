@@ -27,7 +27,7 @@ use Rattle.model_images.specs.MachineLaws.{IsSavableWorld}
 use Rattle.model_images.specs.Layouts.{Layout, Parsed, parsed, before, bytes_each, both, counted, fit_each, fit_times, le_bytes, number, optional}
 use Rattle.model_images.specs.ImageBytes.{image_bytes, image_layout}
 use Rattle.model_images.specs.ByteLaws.{AreBytes, IsDeclared}
-use Rattle.model_images.specs.LoadedBytes.{after_bytes, after_image_front, at_end}
+use Rattle.model_images.specs.LoadedBytes.{after_bytes, after_image_front}
 use Rattle.model_images.specs.TakenBytes.{taken_image}
 use Rattle.model_images.specs.MachineBytes.{machine_magic, machine_version, board_layout, cells_layout, guest_layout, machine_bytes, machine_of, name_layout, on_board, path_layout, paths_layout}
 use Rattle.model_images.specs.MachineByteLaws.{HasKnownBytes, HasMachineBytes, IsWritableName}

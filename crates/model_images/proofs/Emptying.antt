@@ -1,27 +1,22 @@
 -- A machine whose slots are emptied: the same handoff is shown, and nobody has a function.
-use Rattle.std.proofs.Common.{◌≡◌, ℕ, zero, suc, ◌<◌, ◌≤◌, Bool, true, false, ◌||◌, cond, List, [], ◌∷◌, ◌++◌, length, Some, None, Option, refl, sym, ap, ap₂, ◌∙◌, subst, arith}
+use Rattle.std.proofs.Common.{◌≡◌, ℕ, zero, suc, ◌<◌, ◌≤◌, cond, List, [], ◌∷◌, ◌++◌, length, Some, None, Option, refl, sym, ap, ◌∙◌, subst, arith}
 use Rattle.std.specs.Prelude.{flat_map, is_some}
-use Rattle.std.specs.List.{list_any}
 use Rattle.std.proofs.lemmas.Bool.Decides.{nat_tests}
 use Rattle.lists.specs.Elements.{Each}
-use Rattle.model_board.specs.Paths.{Path, path_eq}
+use Rattle.model_board.specs.Paths.{Path}
 use Rattle.model_board.specs.Board.{Board}
 use Rattle.model_board.specs.AtReset.{board_at}
-use Rattle.model_board.proofs.PathOrder.{path_same}
 use Rattle.model_guests.specs.Text.{Text}
-use Rattle.model_guests.specs.Guests.{GuestsNow, function_in, guest_named, path_in, with_guest, with_slot_emptied}
+use Rattle.model_guests.specs.Guests.{GuestsNow, function_in, path_in, with_guest, with_slot_emptied}
 use Rattle.model_guests.specs.Seated.{IsSeat, IsSeatedGuest}
 use Rattle.model_guests.specs.WorldNow.{WorldNow, names_of, names_now}
-use Rattle.model_guests.proofs.FoundFiles.{in_rest}
-use Rattle.model_guests.proofs.GuestsByName.{found, path_at, path_of}
-use Rattle.model_guests.proofs.Names.{equal_texts, same_text}
-use Rattle.model_guests.proofs.OneGuest.{AreApart}
+use Rattle.model_guests.proofs.GuestsByName.{found, path_at}
+use Rattle.model_guests.proofs.Names.{equal_texts}
 use Rattle.model_guests.proofs.SeatedMoves.{Placed, placed, seat_in}
 use Rattle.model_guests.proofs.Seats.{some_path}
 use Rattle.model_handoff.specs.Actions.{takes}
 use Rattle.model_handoff.specs.Giving.{take_fault, taken, after_take}
 use Rattle.model_handoff.specs.Kept.{IsLawfulOver}
-use Rattle.model_handoff.specs.ViewLaws.{is_at, sits}
 use Rattle.model_handoff.proofs.Counting.{names_after}
 use Rattle.model_handoff.proofs.GivenSeats.{left_was}
 use Rattle.model_handoff.proofs.Giving.{can_take, lawful_after_taking, shown_after_taking, taken_is}

@@ -2,12 +2,10 @@
 use Rattle.std.proofs.Common.{◌≡◌, ℕ, zero, suc, ◌+◌, ◌<◌, inr, Bool, true, false, not, ◌||◌, cond, List, [], ◌∷◌, Some, None, Option, refl, sym, ap, ap₂, ◌∙◌, subst, arith}
 use Rattle.std.specs.Prelude.{flat_map, slice_set, is_some, option_map, nat_le, IsTrue, IsSome}
 use Rattle.std.specs.List.{list_any}
-use Rattle.std.specs.Option.{option_map_or}
 use Rattle.std.proofs.lemmas.Bool.Decides.{nat_tests}
 use Rattle.lists.specs.Elements.{Each}
 use Rattle.lists.proofs.EachLemmas.{each_map}
 use Rattle.model_registers.specs.Declarations.{Region, Endpoint}
-use Rattle.model_registers.specs.CopiedFiles.{after_reset}
 use Rattle.model_registers.specs.Decoding.{Function}
 use Rattle.model_registers.specs.EndpointTable.{endpoint_reset}
 use Rattle.model_board.specs.Paths.{Path}
@@ -17,7 +15,6 @@ use Rattle.model_board.specs.State.{State}
 use Rattle.model_guests.specs.Text.{Text}
 use Rattle.model_guests.specs.World.{declared}
 use Rattle.model_guests.specs.Guests.{GuestNow, GuestsNow, function_in, guest_named, path_in, with_guest, with_slot_filled}
-use Rattle.model_guests.specs.AgreedBoard.{with_files, with_change_at}
 use Rattle.model_guests.specs.Seated.{AreSeated}
 use Rattle.model_guests.specs.WorldNow.{WorldNow, names_of, names_now}
 use Rattle.model_guests.proofs.FoundFiles.{file_found}

@@ -1,5 +1,5 @@
 -- Whatever happens, functions hold what functions of their declarations can hold.
-use Rattle.std.proofs.Common.{◌≡◌, ℕ, ◌/◌, ◌%◌, Bool, true, false, ◌||◌, cond, eqb, List, [], ◌∷◌, Some, None, Option, refl, ap, ◌∙◌, arith}
+use Rattle.std.proofs.Common.{◌≡◌, ℕ, ◌/◌, ◌%◌, Bool, true, false, ◌||◌, cond, eqb, List, [], ◌∷◌, Some, None, Option, refl, ap, arith}
 use Rattle.std.specs.Prelude.{map, option_map}
 use Rattle.std.proofs.lemmas.Bool.{eqb-true, and_from}
 use Rattle.lists.specs.Elements.{Each}

@@ -27,12 +27,12 @@ use Rattle.model_images.specs.MachineImages.{SavedGuest, MachineImage, shown_han
 use Rattle.model_images.proofs.Filling.{none_closed}
 use Rattle.model_images.proofs.Machines.{opens_alike}
 use Rattle.model_images.proofs.MachineLoads.{ApartSaved, of_others, IsFound, each_found, saved_apart}
-use Rattle.model_images.specs.Layouts.{Parsed, parsed, number, le_bytes, fit_times, counted, fit_each, optional}
+use Rattle.model_images.specs.Layouts.{Parsed, parsed, le_bytes, fit_times, optional}
 use Rattle.model_images.specs.ImageBytes.{image_layout, image_bytes}
 use Rattle.model_images.specs.ByteLaws.{HasBytes}
 use Rattle.model_images.specs.LoadedBytes.{after_bytes, at_end}
 use Rattle.model_images.specs.TakenBytes.{taken_image}
-use Rattle.model_images.specs.MachineBytes.{machine_magic, machine_version, path_layout, board_layout, name_layout, paths_layout, guest_layout, cells_layout, on_board, machine_bytes}
+use Rattle.model_images.specs.MachineBytes.{machine_magic, machine_version, path_layout, board_layout, name_layout, paths_layout, guest_layout, machine_bytes}
 use Rattle.model_images.specs.MachineByteLaws.{HasMachineBytes}
 use Rattle.model_images.specs.LoadedMachines.{and_then, preceded, is_open_there, can_have, read_slot, with_path, with_paths, read_slots, guest_at, read_image, read_guest, read_guests, machine_header, known_bytes, held_bytes, read_held, read_machine, after_read}
 use Rattle.model_images.specs.LoadedMachineLaws.{FittingIsAccepted, FittingIsLoaded}

@@ -11,10 +11,10 @@ use Rattle.model_registers.specs.DeviceBytes.{is_device_byte, set_value}
 use Rattle.model_registers.specs.Decoding.{Function}
 use Rattle.model_registers.specs.ConfigAddress.{latched}
 use Rattle.model_board.specs.Paths.{Path}
-use Rattle.model_guests.specs.Accesses.{Event, access, raises, Op, reads, writes, Raise}
-use Rattle.model_guests.specs.Slots.{Slots, slot_at, with_file, reset_function, Landing, landing, effect, raise_landing, event_fault}
+use Rattle.model_guests.specs.Accesses.{Event, access, raises, Op, writes, Raise}
+use Rattle.model_guests.specs.Slots.{Slots, slot_at, with_file, reset_function, Landing, effect, raise_landing, event_fault}
 use Rattle.model_guests.specs.Text.{Text}
-use Rattle.model_guests.specs.Lone.{LoneGuest, Destination, own_latch, no_function, at_target, destination, after_access_at, after_event, changed_by, filled, emptied}
+use Rattle.model_guests.specs.Lone.{LoneGuest, Destination, destination, after_access_at, after_event, changed_by, filled, emptied}
 use Rattle.model_guests.specs.World.{Guest, World}
 use Rattle.model_guests.specs.Guests.{GuestNow, GuestsNow, guest_at_first, guests_at_first, guest_after, lone_of, path_in, function_in, Move, move_fault, handed_over}
 use Rattle.model_guests.specs.Lines.{nothing, guest_event, host_read, host_move, bad}

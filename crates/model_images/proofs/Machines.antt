@@ -16,7 +16,7 @@ use Rattle.model_guests.specs.Text.{Text}
 use Rattle.model_guests.specs.Guests.{GuestsNow}
 use Rattle.model_guests.specs.AgreedBoard.{agreed_function, with_files}
 use Rattle.model_guests.specs.Lone.{LoneGuest}
-use Rattle.model_guests.specs.Seated.{AreSeated, IsSeatedGuest}
+use Rattle.model_guests.specs.Seated.{IsSeatedGuest}
 use Rattle.model_guests.specs.WorldNow.{WorldNow, names_of}
 use Rattle.model_guests.proofs.AgreedChanges.{agreed_by}
 use Rattle.model_guests.proofs.Changes.{agreed_twice}

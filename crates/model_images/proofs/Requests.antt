@@ -10,10 +10,10 @@ use Rattle.model_guests.specs.WorldNow.{WorldNow}
 use Rattle.model_guests.specs.Calls.{CallInput, all_alone_told, after_own_call, after_own_calls}
 use Rattle.model_guests.proofs.Names.{equal_texts}
 use Rattle.model_guests.proofs.OneGuest.{lone_by, still}
-use Rattle.model_handoff.specs.Actions.{Action, after_action, told_by, inputs_of_action}
+use Rattle.model_handoff.specs.Actions.{Action, told_by}
 use Rattle.model_handoff.proofs.Actions.{isolated_by_actions, there_after}
 use Rattle.model_images.specs.Images.{Image, image_of_lone, lone_of_image, loaded, at_reset}
-use Rattle.model_images.specs.Requests.{Request, acts, loads, restarts, after_request, after_requests, told_of, all_told_of, OwnInput, acted, restarted, inputs_of_request, request_inputs, all_told_alone, after_all_own, IsolatedByRequests}
+use Rattle.model_images.specs.Requests.{Request, acts, loads, restarts, after_request, after_requests, told_of, all_told_of, OwnInput, acted, inputs_of_request, request_inputs, all_told_alone, after_all_own, IsolatedByRequests}
 use Rattle.model_images.specs.LoadLaws.{AnswersAsSaved, copied}
 use Rattle.model_images.proofs.Loading.{holds_as_saved, lone_reset_back}
 

@@ -6,17 +6,12 @@ use Rattle.lists.specs.Elements.{Each}
 use Rattle.model_board.specs.AtReset.{board_at}
 use Rattle.model_board.specs.Board.{Row, Board}
 use Rattle.model_board.specs.Paths.{IsPath}
-use Rattle.model_guests.specs.Calls.{asks, at_device}
-use Rattle.model_guests.specs.Guests.{GuestNow, GuestsNow, lone_of}
+use Rattle.model_guests.specs.Guests.{GuestNow, GuestsNow}
 use Rattle.model_guests.specs.Seated.{IsSeatedGuest}
 use Rattle.model_guests.specs.WorldNow.{WorldNow, names_now}
-use Rattle.model_handoff.specs.Actions.{calls, gives, takes}
-use Rattle.model_handoff.proofs.Counting.{names_after}
 use Rattle.model_images.specs.FitLaws.{AreFitting}
-use Rattle.model_images.specs.Images.{image_of_lone, at_reset}
-use Rattle.model_images.specs.Requests.{Request, acts, loads, restarts, after_request, after_requests}
+use Rattle.model_images.specs.Requests.{Request, after_request, after_requests}
 use Rattle.model_images.proofs.Counts.{names_stay}
-use Rattle.model_images.proofs.Loading.{names_after_load}
 use Rattle.model_images.specs.MachineImages.{image_of_machine, saved_guest}
 use Rattle.model_images.proofs.Machines.{load_after_save, saved_machine_fits, shown_alike}
 use Rattle.model_images.specs.ByteLaws.{IsSavableGuest}

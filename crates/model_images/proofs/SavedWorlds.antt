@@ -24,7 +24,6 @@ use Rattle.model_guests.specs.WorldNow.{WorldNow, world_over}
 use Rattle.model_guests.proofs.GuestsByName.{found}
 use Rattle.model_guests.proofs.OneGuest.{lone_found, still}
 use Rattle.model_guests.proofs.Seats.{as_many}
-use Rattle.model_handoff.specs.Actions.{after_action}
 use Rattle.model_handoff.specs.Giving.{Gift, given, with_reset_at}
 use Rattle.model_handoff.specs.Handoffs.{reset_files, taken_over}
 use Rattle.model_handoff.specs.Kept.{IsLawfulOver}

@@ -1,5 +1,5 @@
 -- What bytes are that a guest takes, slot by slot; and the world after it.
-use Rattle.std.proofs.Common.{◌≡◌, ℕ, zero, suc, ◌+◌, ◌/◌, ◌^◌, ◌<◌, ◌≤◌, Bool, true, false, cond, ◌&&◌, eqb, List, [], ◌∷◌, ◌++◌, length, Some, None, Option, Ok, Err, refl, sym, ap, ap₂, ◌∙◌, subst, append_assoc, append-nil, arith, length-append}
+use Rattle.std.proofs.Common.{◌≡◌, ℕ, zero, suc, ◌+◌, ◌/◌, ◌^◌, ◌<◌, ◌≤◌, Bool, true, false, cond, eqb, List, [], ◌∷◌, ◌++◌, length, Some, None, Option, Ok, Err, refl, sym, ap, ap₂, ◌∙◌, subst, append_assoc, append-nil, arith, length-append}
 use Rattle.std.specs.Prelude.{take, drop, is_some}
 use Rattle.std.specs.Option.{option_map_or}
 use Rattle.std.proofs.Math.Nat.{pow-suc}
@@ -19,12 +19,12 @@ use Rattle.model_guests.specs.Text.{Text}
 use Rattle.model_guests.specs.WorldNow.{WorldNow}
 use Rattle.model_images.specs.Images.{SavedFunction, Image, image_of_guest, after_load, can_hold, fit_cells, Fits, FitsSlot, FitSlots}
 use Rattle.model_images.proofs.Loading.{keeps_what_was_saved}
-use Rattle.model_images.specs.Layouts.{Parsed, parsed, le_bytes, parse_number, number, fit_times, optional}
+use Rattle.model_images.specs.Layouts.{Parsed, parsed, le_bytes, number, fit_times, optional}
 use Rattle.model_images.specs.ImageBytes.{magic, version, function_layout, image_layout, declaration_bytes, image_bytes, image_of}
 use Rattle.model_images.specs.ByteLaws.{AreBytes, Spells, HasBytes, IsDeclared}
 use Rattle.model_images.specs.LoadedBytes.{Left, then_read, after_beginning, after_bytes, after_values, after_slot, after_slots_front, at_end, after_slots, after_number, after_latch, header, after_image_front, fault_of, load_fault, after_load_bytes}
 use Rattle.model_images.specs.LoadedLaws.{AcceptedIsImage, LoadsImage, RefusedStays, KeepsSavedBytes}
-use Rattle.model_images.specs.TakenBytes.{le_number, values_begin, slot_size, taken_slot, taken_slots, taken_image, SlotsAreTaken, IsTakenImage, ImageIsTaken, HoldsDeclared, IsDeclaredGuest, AcceptedIsTaken}
+use Rattle.model_images.specs.TakenBytes.{le_number, values_begin, slot_size, taken_slot, taken_slots, taken_image, SlotsAreTaken, ImageIsTaken, HoldsDeclared, IsDeclaredGuest, AcceptedIsTaken}
 use Rattle.model_images.specs.FrontBytes.{slots_size}
 use Rattle.model_images.proofs.Numbers.{number_again, number_is, number_spells}
 use Rattle.model_images.proofs.Layouts.{fit_count}

@@ -1,12 +1,11 @@
 -- Bytes that a machine doesn't refuse: they are an image that fits it, and each guest stands there as it takes it.
-use Rattle.std.proofs.Common.{◌≡◌, ◌<◌, ◌^◌, ◌&&◌, ℕ, zero, suc, true, List, [], ◌∷◌, ◌++◌, length, None, Result, Ok, refl, sym, ap, ap₂, ◌∙◌, subst, append-nil, arith}
+use Rattle.std.proofs.Common.{◌≡◌, ◌<◌, ◌^◌, ◌&&◌, ℕ, zero, suc, true, List, [], ◌∷◌, ◌++◌, length, None, Result, Ok, sym, ap, ◌∙◌, subst, append-nil, arith}
 use Rattle.std.specs.Prelude.{map, flat_map}
 use Rattle.std.specs.Result.{result_err}
 use Rattle.std.proofs.lemmas.Bool.{and_from, lt-ltb}
 use Rattle.lists.specs.Elements.{Each}
 use Rattle.lists.proofs.EachLemmas.{each_map, each_parts}
 use Rattle.lists.proofs.Tests.{left_true, right_true}
-use Rattle.model_board.specs.Board.{Board}
 use Rattle.model_board.specs.Paths.{Path}
 use Rattle.model_board.specs.AtReset.{board_at}
 use Rattle.model_guests.specs.WorldNow.{WorldNow, names_now}
@@ -14,7 +13,7 @@ use Rattle.model_handoff.specs.ViewLaws.{seated_files}
 use Rattle.model_images.specs.MachineImages.{SavedGuest, MachineImage, saved_handoff, saved_names, shown_handoff, restored_guest}
 use Rattle.model_images.specs.MachineLaws.{IsSavableWorld}
 use Rattle.model_images.proofs.Machines.{opens_alike}
-use Rattle.model_images.specs.Layouts.{parsed, number, le_bytes, fit_times, repeated}
+use Rattle.model_images.specs.Layouts.{parsed, number, fit_times, repeated}
 use Rattle.model_images.specs.ImageBytes.{image_layout}
 use Rattle.model_images.specs.ByteLaws.{AreBytes, Spells}
 use Rattle.model_images.specs.LoadedBytes.{after_beginning, after_bytes, at_end}

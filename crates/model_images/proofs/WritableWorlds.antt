@@ -1,7 +1,7 @@
 -- A machine that can be written whole, at first and after each request.
 --     HoldsWritable, AllHold      a function holds what it can hold, in bytes; all functions of guests
 --     rewritten      so a world can be written after any change that keeps its names, and after which all hold so
-use Rattle.std.proofs.Common.{◌≡◌, ◌<◌, ◌≤◌, ◌^◌, ℕ, suc, List, [], ◌∷◌, Bool, true, false, cond, length, Option, Some, None, refl, sym, ap, ◌∙◌, subst, arith}
+use Rattle.std.proofs.Common.{◌≡◌, ◌<◌, ◌^◌, ℕ, suc, List, [], ◌∷◌, Bool, true, false, cond, length, Option, Some, None, refl, sym, subst, arith}
 use Rattle.std.specs.Prelude.{map, IsTrue, nat_le}
 use Rattle.std.specs.List.{list_all}
 use Rattle.std.specs.Option.{option_map_or}
@@ -18,11 +18,11 @@ use Rattle.model_registers.specs.EndpointTable.{endpoint_reset}
 use Rattle.model_board.specs.AtReset.{board_at}
 use Rattle.model_board.specs.Board.{Board}
 use Rattle.model_board.specs.Paths.{Path, path_eq}
-use Rattle.model_board.specs.State.{BoardFunction, State, with_file}
+use Rattle.model_board.specs.State.{BoardFunction, State}
 use Rattle.model_guests.specs.AgreedBoard.{agreed_function, with_change_at}
-use Rattle.model_guests.specs.Guests.{GuestNow, GuestsNow, guests_at_first, lone_of}
+use Rattle.model_guests.specs.Guests.{GuestNow, GuestsNow, lone_of}
 use Rattle.model_guests.specs.Text.{Text}
-use Rattle.model_guests.specs.World.{World, declared, given_paths, is_letter, is_name, is_name_byte, HasLawfulGuests}
+use Rattle.model_guests.specs.World.{declared, given_paths, is_letter, is_name, is_name_byte}
 use Rattle.model_guests.specs.WorldNow.{WorldNow, names_now, world_over}
 use Rattle.model_guests.proofs.Along.{names_at_first}
 use Rattle.model_handoff.specs.Actions.{Action, after_action}
@@ -30,11 +30,11 @@ use Rattle.model_handoff.specs.Giving.{with_reset_at}
 use Rattle.model_handoff.specs.Handoffs.{files_given, is_given, taken_over}
 use Rattle.model_handoff.specs.Kept.{IsLawfulOver}
 use Rattle.model_images.specs.Images.{Image, Fits, after_load, after_restart, lone_of_image}
-use Rattle.model_images.specs.FitLaws.{AreFitting, HoldsFitting, IsFitting}
-use Rattle.model_images.specs.Requests.{Request, acts, loads, restarts, after_request, after_requests}
-use Rattle.model_images.specs.ByteLaws.{HasBytes, HoldsSavable, IsSavableGuest}
-use Rattle.model_images.specs.MachineByteLaws.{AreWritable, CanBeSaved, IsWritableName, IsWritableWorld}
-use Rattle.model_images.specs.SavedLaws.{AreWritableRequests, IsWritableRequest, WritableAlong, WritableAtFirst}
+use Rattle.model_images.specs.FitLaws.{HoldsFitting, IsFitting}
+use Rattle.model_images.specs.Requests.{Request, acts, loads, restarts, after_request}
+use Rattle.model_images.specs.ByteLaws.{HasBytes, IsSavableGuest}
+use Rattle.model_images.specs.MachineByteLaws.{AreWritable, IsWritableName, IsWritableWorld}
+use Rattle.model_images.specs.SavedLaws.{IsWritableRequest, WritableAlong, WritableAtFirst}
 use Rattle.model_images.proofs.ByteCells.{HoldsByteCells, byte_cells_kept}
 use Rattle.model_images.proofs.Counts.{lawful_along_requests, names_stay}
 use Rattle.model_images.proofs.FewFunctions.{few_functions}

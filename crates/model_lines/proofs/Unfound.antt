@@ -1,6 +1,5 @@
 -- A function that has a number and isn't found by it is what an audit says isn't found.
-use Rattle.std.proofs.Common.{◌≡◌, inr, true, false, ◌&&◌, ◌==◌, not, cond, List, [], ◌∷◌, Option, Some, None, refl, ap, ◌∙◌, subst, arith, eqb-true}
-use Rattle.std.specs.Prelude.{filter}
+use Rattle.std.proofs.Common.{◌≡◌, true, false, ◌&&◌, ◌==◌, not, cond, List, [], ◌∷◌, Option, Some, None, refl, ap, ◌∙◌, subst, arith, eqb-true}
 use Rattle.std.specs.Option.{option_map, option_map_or}
 use Rattle.std.proofs.lemmas.Bool.{and_from, not-true, not_from_false}
 use Rattle.std.proofs.lemmas.Bool.Decides.{nat_tests}
@@ -11,9 +10,8 @@ use Rattle.model_board.specs.Paths.{Path, part_eq, path_eq}
 use Rattle.model_board.specs.State.{BoardFunction}
 use Rattle.model_board.specs.Cycles.{BusAddress, reached}
 use Rattle.model_board.proofs.PathOrder.{part_same, part_self, path_same}
-use Rattle.model_findings.specs.Found.{address_now, path_reached}
+use Rattle.model_findings.specs.Found.{address_now}
 use Rattle.model_findings.specs.Problems as audit
-use Rattle.model_findings.specs.Witnesses.{IsNotFound}
 use Rattle.model_findings.proofs.Found.{lost_function}
 use Rattle.model_lines.specs.Ways.{address_eq, has_number, is_found, not_found, why_number}
 

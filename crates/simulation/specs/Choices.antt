@@ -8,7 +8,7 @@
 --     IsTelling choice f      the choice tells of the fault
 --     IsLacking choice f      memory is out once lines ran
 --     IsOfChoice choice f      a fault that the choice can end with
-use Rattle.std.specs.Prelude.{◌≡◌, Bool, false, if◌then◌else◌, None, Some, Result, Ok, Err, string_bytes, ⊤}
+use Rattle.std.specs.Prelude.{◌≡◌, Bool, if◌then◌else◌, None, Some, Result, Ok, Err, string_bytes, ⊤}
 use Rattle.std.specs.Io.KnownBytes.{Appends}
 use Rattle.model_guests.specs.Text.{Text}
 use Rattle.streams.specs.Ends.{AppendsPart}

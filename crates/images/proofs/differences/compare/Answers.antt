@@ -1,4 +1,4 @@
-use Rattle.std.proofs.Common.{◌≡◌, ◌∙◌, List, ℕ, sym, ap, take}
+use Rattle.std.proofs.Common.{◌∙◌, List, ℕ, sym, ap, take}
 use Rattle.model_images.specs.LoadedBytes.{after_bytes}
 use Rattle.model_images.specs.Differences.{after_comparison, difference}
 use Rattle.images.specs.Differences.{field_of}

@@ -1,5 +1,5 @@
 -- Each text is that of its number: the digits compute.
-use Rattle.std.proofs.Common.{◌≡◌, refl}
+use Rattle.std.proofs.Common.{refl}
 use Rattle.std.specs.Fmt.{digits}
 use Rattle.accesses.proofs.refusal.Refusal.text.Goals as goal
 

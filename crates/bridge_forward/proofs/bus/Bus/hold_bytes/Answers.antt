@@ -1,4 +1,4 @@
-use Rattle.std.proofs.Common.{◌∙◌, List, ap, subst}
+use Rattle.std.proofs.Common.{◌∙◌, ap, subst}
 use Rattle.lists.specs.Elements.{Each}
 use Rattle.model_registers.specs.AccessLaws.{HoldsBytes}
 use Rattle.model_board.specs.State.{BoardFunction}

@@ -5,7 +5,6 @@ use Rattle.model_registers.specs.OwnCopies.{OwnCopies, own_file, HoldsOwn}
 use Rattle.model_registers.proofs.Owned.{own_reads}
 use Rattle.guest_functions.proofs.Copies.{is_away, at_command, at_base, at_away}
 use Rattle.guest_functions.proofs.virtual_function.VirtualFunction.config_read.Goals as goal
-use Rattle.guest_functions.proofs.virtual_function.VirtualFunction.config_read.Goals.{in-Command, in-Base, in-HeaderType}
 
 pub returns-clause-own : goal.returns-clause-own
 returns-clause-own c = grind (arith, at_command, at_base, at_away, is_away)

@@ -5,7 +5,6 @@ use Rattle.model_registers.specs.OwnCopies.{is_own, OwnCopies, own_file, HoldsOw
 use Rattle.model_registers.proofs.Owned.{own_writes}
 use Rattle.guest_functions.proofs.Copies.{is_away, store_command, store_base, store_away}
 use Rattle.guest_functions.proofs.virtual_function.VirtualFunction.config_write.Goals as goal
-use Rattle.guest_functions.proofs.virtual_function.VirtualFunction.config_write.Goals.{in-Command, in-Base, in-HeaderType}
 
 pub returns-clause-own : goal.returns-clause-own
 returns-clause-own c = grind (arith, store_command, store_base, store_away, is_away)

@@ -4,7 +4,6 @@ use Rattle.model_lines.specs.Sessions.{DrivenNow, is_done, after_board_access}
 use Rattle.accesses.specs.Accesses.{reply_of}
 use Rattle.lines.specs.FirmwareLines.{host_asked}
 use Rattle.session.proofs.Handed.{asked_at, written_by, unwritten_by}
-use Rattle.session.proofs.board.Board.write.Goals.{in-Done, in_default}
 use Rattle.session.proofs.board.Board.write.Goals as goal
 
 pub invariant_of-self : goal.invariant_of-self
