@@ -4,20 +4,15 @@
 --     host_target_of, host_access_of      a read by the host
 --     reply_of      an answer
 use Rattle.paths.specs.BusAddresses.{bus_address_of}
-use Rattle.model_guests.specs.Accesses as guests
 use Rattle.model_guests.specs.Grammar.{HostRead, HostTarget, host_configuration, host_port, host_address}
-use Rattle.accesses.specs.declared.access.Access.{Access}
-use Rattle.accesses.specs.declared.access.At.{At}
-use Rattle.accesses.specs.declared.access.At.TheVariants as at
+use Rattle.accesses.specs.{declared.access.{Access.Access, At.At, Reply.Reply, HostAccess.HostAccess, HostAt.HostAt}, Refusals.number_of}
 use Rattle.config_bytes.specs.declared.op.Op.{Op}
-use Rattle.config_bytes.specs.declared.op.Op.TheVariants as op
-use Rattle.accesses.specs.declared.access.Reply.{Reply}
-use Rattle.accesses.specs.declared.access.Reply.TheVariants as reply
-use Rattle.accesses.specs.Refusals.{number_of}
-use Rattle.accesses.specs.declared.access.HostAccess.{HostAccess}
-use Rattle.accesses.specs.declared.access.HostAt.{HostAt}
-use Rattle.accesses.specs.declared.access.HostAt.TheVariants as hostat
 use Rattle.headers.specs.declared.place.Place.{Place}
+use Rattle.model_guests.specs.Accesses as guests
+use Rattle.accesses.specs.declared.access.At.TheVariants as at
+use Rattle.config_bytes.specs.declared.op.Op.TheVariants as op
+use Rattle.accesses.specs.declared.access.Reply.TheVariants as reply
+use Rattle.accesses.specs.declared.access.HostAt.TheVariants as hostat
 use Rattle.headers.specs.declared.place.Place.TheVariants as place
 
 abbrev pub target_of : At → guests.Target

@@ -2,8 +2,7 @@
 --     number_of      the number of a refusal
 --     refusal_numbered n      the refusal of a number
 use Rattle.std.specs.Prelude.{ℕ, Option, None, Some, ◌==◌, if◌then◌else◌}
-use Rattle.accesses.specs.declared.refusal.Refusal.{Refusal}
-use Rattle.accesses.specs.declared.refusal.Refusal.TheVariants.{Misaligned, Width, Range, BadLine, UnknownGuest, LongLine, EmptySlot, SlotTaken}
+use Rattle.accesses.specs.declared.refusal.Refusal.{Refusal, TheVariants.{Misaligned, Width, Range, BadLine, UnknownGuest, LongLine, EmptySlot, SlotTaken}}
 
 abbrev pub number_of : Refusal → ℕ
 number_of Misaligned = 301

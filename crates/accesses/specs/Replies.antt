@@ -2,8 +2,7 @@
 --     IsShown      a value of at most four bytes, done, or a refusal
 --     IsRefusal      a refusal
 use Rattle.std.specs.Prelude.{◌≤◌, ⊤}
-use Rattle.accesses.specs.declared.access.Reply.{Reply}
-use Rattle.accesses.specs.declared.access.Reply.TheVariants.{Value, Done, Refused}
+use Rattle.accesses.specs.declared.access.Reply.{Reply, TheVariants.{Value, Done, Refused}}
 
 abbrev pub IsShown : Reply → Type 0
 IsShown (Value v w) = w ≤ 4

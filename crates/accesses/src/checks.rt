@@ -1,11 +1,8 @@
 //! The checks of accesses, and the answer where there is nothing.
 ghost use Rattle.std.specs.Prelude.{◌≡◌, Option, [], None, option_map};
 ghost use Rattle.model_registers.specs.ByteEnables.{IsWidth};
-ghost use Rattle.model_guests.specs.Slots.{place_number, is_out_of_range, access_fault, fault_of, perform};
-ghost use Rattle.model_guests.specs.HostReads.{host_number, is_out_of_host_range, host_fault};
-ghost use Rattle.accesses.specs.Accesses.{access_of, op_of, target_of, host_target_of, host_access_of, reply_of};
-ghost use Rattle.accesses.specs.Refusals.{number_of};
-ghost use Rattle.accesses.specs.Replies.{IsRefusal, IsShown};
+ghost use Rattle.model_guests.specs.{Slots.{place_number, is_out_of_range, access_fault, fault_of, perform}, HostReads.{host_number, is_out_of_host_range, host_fault}};
+ghost use Rattle.accesses.specs.{Accesses.{access_of, op_of, target_of, host_target_of, host_access_of, reply_of}, Refusals.number_of, Replies.{IsRefusal, IsShown}};
 
 use crate::access::{Access, At, HostAccess, HostAt, Reply};
 use crate::refusal::Refusal;

@@ -1,16 +1,8 @@
 -- The first slot whose region decodes an address.
-use Rattle.std.proofs.Common.{◌≡◌, ℕ, ◌+◌, ◌<◌, ◌^◌, Bool, true, false, not, List, [], ◌∷◌, ◌++◌, map, refl, sym, ap, ◌∙◌, subst, eqb, arith}
-use Rattle.std.specs.Prelude.{Option, Some, None, bit_and}
-use Rattle.std.proofs.Math.Nat.{mod-eq_of_lt}
-use Rattle.std.proofs.lemmas.Bool.{eq-eqb, ne_eqb}
+use Rattle.std.{proofs.{Common.{◌≡◌, ℕ, ◌+◌, ◌<◌, ◌^◌, Bool, true, false, not, List, [], ◌∷◌, ◌++◌, map, refl, sym, ap, ◌∙◌, subst, eqb, arith}, Math.Nat.mod-eq_of_lt, lemmas.Bool.{eq-eqb, ne_eqb}}, specs.Prelude.{Option, Some, None, bit_and}}
 use Rattle.lists.specs.Elements.{first_some}
-use Rattle.model_registers.specs.EndpointTable.{BaseAddress, command_cells, base_file, opened, HasLawfulBases}
-use Rattle.model_registers.specs.Decoding.{Space, command_bit, hit_at, first_hit}
-use Rattle.model_registers.proofs.Hits.{hits_by_bases, hits_of_registers}
-use Rattle.model_registers.proofs.RegisterFiles.{field_reads}
-use Rattle.bars.specs.declared.region.BasedRegion.{BasedRegion}
-use Rattle.bars.specs.Slots.{bases_from}
-use Rattle.bars.specs.Hits.{hit_from}
+use Rattle.model_registers.{specs.{EndpointTable.{BaseAddress, command_cells, base_file, opened, HasLawfulBases}, Decoding.{Space, command_bit, hit_at, first_hit}}, proofs.{Hits.{hits_by_bases, hits_of_registers}, RegisterFiles.field_reads}}
+use Rattle.bars.specs.{declared.region.BasedRegion.BasedRegion, Slots.bases_from, Hits.hit_from}
 
 closed_each : (command : ℕ) (space : Space) (a : ℕ) → not (eqb (bit_and command (command_bit space)) 0) ≡ false → (bs : List BaseAddress) → first_some (hit_at command space a) bs ≡ None
 closed_each command space a shut [] = refl

@@ -1,13 +1,6 @@
 -- What a region's registers show after all ones are written, and the size that it tells.
-use Rattle.std.proofs.Common.{◌≡◌, ℕ, ◌+◌, ◌-◌, ◌*◌, ◌/◌, ◌%◌, ◌^◌, ◌<◌, ◌≤◌, inl, inr, true, false, cond, eqb, sym, subst, ap, ap₂, ◌∙◌, arith}
-use Rattle.std.specs.Prelude.{Some}
-use Rattle.std.proofs.lemmas.Nat.{pow_below, pow-add}
-use Rattle.std.proofs.lemmas.Bool.{cases_lt}
-use Rattle.model_registers.specs.Declarations.{Kind, io_kind, mem32, mem64, Bar, registers_of, least_size, IsLawfulSize}
-use Rattle.model_registers.specs.EndpointTable.{type_bits, base_width}
-use Rattle.model_registers.specs.Sizing.{mask_of, ShowsSize}
-use Rattle.model_registers.proofs.Bases.{size_limits}
-use Rattle.model_registers.proofs.Sizes.{sized_low, sized_high}
+use Rattle.std.{proofs.{Common.{◌≡◌, ℕ, ◌+◌, ◌-◌, ◌*◌, ◌/◌, ◌%◌, ◌^◌, ◌<◌, ◌≤◌, inl, inr, true, false, cond, eqb, sym, subst, ap, ap₂, ◌∙◌, arith}, lemmas.{Nat.{pow_below, pow-add}, Bool.cases_lt}}, specs.Prelude.Some}
+use Rattle.model_registers.{specs.{Declarations.{Kind, io_kind, mem32, mem64, Bar, registers_of, least_size, IsLawfulSize}, EndpointTable.{type_bits, base_width}, Sizing.{mask_of, ShowsSize}}, proofs.{Bases.size_limits, Sizes.{sized_low, sized_high}}}
 use Rattle.bars.proofs.Regions.{size_positive, width_limit}
 
 -- the registers of a kind, joined to one number

@@ -1,9 +1,7 @@
 -- Registers that are passed, as no region there holds the address.
-use Rattle.std.proofs.Common.{◌≡◌, ℕ, zero, suc, ◌+◌, ◌<◌, List, [], ◌∷◌, length, drop, get_or, ap, ◌∙◌, arith}
-use Rattle.std.specs.Prelude.{Option, Some, None}
+use Rattle.std.{proofs.Common.{◌≡◌, ℕ, zero, suc, ◌+◌, ◌<◌, List, [], ◌∷◌, length, drop, get_or, ap, ◌∙◌, arith}, specs.Prelude.{Option, Some, None}}
 use Rattle.model_registers.specs.Decoding.{Space}
-use Rattle.bars.specs.declared.region.BasedRegion.{BasedRegion}
-use Rattle.bars.specs.Hits.{offset_in, hit_from}
+use Rattle.bars.specs.{declared.region.BasedRegion.BasedRegion, Hits.{offset_in, hit_from}}
 
 passed : (space : Space) (a n k : ℕ) (slots : List (Option BasedRegion)) (d : Option BasedRegion) → k < length slots → ((r : BasedRegion) → get_or slots k d ≡ Some r → offset_in space a r ≡ None)
     → hit_from space a n (drop k slots) ≡ hit_from space a (n + 1) (drop (k + 1) slots)

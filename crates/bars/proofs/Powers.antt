@@ -1,10 +1,5 @@
 -- Powers of two are the numbers with one bit set.
-use Rattle.std.proofs.Common.{◌≡◌, ℕ, zero, suc, ◌/◌, ◌%◌, ◌^◌, ◌<◌, ◌⊎◌, inl, inr, true, refl, ap, ◌∙◌, arith, eqb}
-use Rattle.std.specs.Prelude.{count_ones}
-use Rattle.std.specs.Int.{IsPowerOfTwo, is_power_of_two}
-use Rattle.std.proofs.lemmas.Nat.{zero_from_ones, ones_cat}
-use Rattle.std.proofs.lemmas.Bool.{eqb-true}
-use Rattle.std.proofs.Math.Nat.{one-le-pow, pow-suc}
+use Rattle.std.{proofs.{Common.{◌≡◌, ℕ, zero, suc, ◌/◌, ◌%◌, ◌^◌, ◌<◌, ◌⊎◌, inl, inr, true, refl, ap, ◌∙◌, arith, eqb}, lemmas.{Nat.{zero_from_ones, ones_cat}, Bool.eqb-true}, Math.Nat.{one-le-pow, pow-suc}}, specs.{Prelude.count_ones, Int.{IsPowerOfTwo, is_power_of_two}}}
 use lib.Count.{ones_step, ones}
 
 even_or_odd : (n : ℕ) → (n % 2 ≡ 0) ⊎ (n % 2 ≡ 1)

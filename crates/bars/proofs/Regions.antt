@@ -1,15 +1,8 @@
 -- One region: its base in 64 bits, and at reset.
-use Rattle.std.proofs.Common.{◌≡◌, ℕ, ◌+◌, ◌-◌, ◌^◌, ◌<◌, ◌≤◌, List, [], ◌∷◌, map, refl, sym, subst, ap, ap₂, ◌∙◌, arith, rules}
-use Rattle.std.proofs.Math.Nat.{mod-eq_of_lt}
-use Rattle.std.specs.Prelude.{Option, Some, None, bit_and}
-use Rattle.std.proofs.lemmas.Nat.{and_block, pow_pos}
+use Rattle.std.{proofs.{Common.{◌≡◌, ℕ, ◌+◌, ◌-◌, ◌^◌, ◌<◌, ◌≤◌, List, [], ◌∷◌, map, refl, sym, subst, ap, ap₂, ◌∙◌, arith, rules}, Math.Nat.mod-eq_of_lt, lemmas.Nat.{and_block, pow_pos}}, specs.Prelude.{Option, Some, None, bit_and}}
 use Rattle.lists.specs.Elements.{Each}
-use Rattle.model_registers.specs.Declarations.{Kind, Bar, Region, IsLawfulSize, IsLawfulRegion, HasLawfulRegions}
-use Rattle.model_registers.specs.EndpointTable.{base_width, BaseAddress, opened, IsLawfulBase, HasLawfulBases}
-use Rattle.model_registers.specs.BaseLaws.{overwritten}
-use Rattle.bars.specs.declared.region.BasedRegion.{BasedRegion}
-use Rattle.bars.specs.Slots.{placed, bases_from, with_no_base_in}
-use Rattle.bars.specs.Resets.{reset_from, at_reset, with_no_base}
+use Rattle.model_registers.specs.{Declarations.{Kind, Bar, Region, IsLawfulSize, IsLawfulRegion, HasLawfulRegions}, EndpointTable.{base_width, BaseAddress, opened, IsLawfulBase, HasLawfulBases}, BaseLaws.overwritten}
+use Rattle.bars.specs.{declared.region.BasedRegion.BasedRegion, Slots.{placed, bases_from, with_no_base_in}, Resets.{reset_from, at_reset, with_no_base}}
 
 -- a mask of 64 bits clears the same bits of a number of 32 bits
 pub and_narrow : (v m : ℕ) → v < 2 ^ 32 → m < 2 ^ 32 → bit_and v (2 ^ 64 - 1 - m) ≡ bit_and v (2 ^ 32 - 1 - m)

@@ -1,19 +1,8 @@
 -- A slot of a function's registers, and the base address registers before and after it.
-use Rattle.std.proofs.Common.{◌≡◌, ℕ, zero, suc, ◌+◌, ◌*◌, ◌/◌, ◌%◌, ◌^◌, ◌<◌, ◌≤◌, ◌⊎◌, Bool, List, [], ◌∷◌, ◌++◌, map, refl, sym, ap, ap₂, ◌∙◌, subst, arith, rules}
-use Rattle.std.proofs.lemmas.Nat.{shl_whole}
-use Rattle.std.proofs.Math.Nat.{add-zero, zero-add}
-use Rattle.std.specs.Prelude.{Option, Some, None, slice_get, slice_set}
-use Rattle.lists.specs.Elements.{Each, EachPair}
-use Rattle.lists.proofs.Indices.{set_same}
-use Rattle.model_registers.specs.ByteEnables.{enabled_bits}
-use Rattle.model_registers.specs.Declarations.{Region, registers_of, HasLawfulRegions}
-use Rattle.model_registers.specs.EndpointTable.{BaseAddress, opened, IsLawfulBase, HasLawfulBases}
-use Rattle.model_registers.specs.BaseLaws.{shown, word_at, rebased, rewritten}
-use Rattle.model_registers.proofs.Bases.{word_low, word_high, word_apart, rewritten_low, rewritten_high, rewritten_apart, rewritten_lawful, registers_positive}
-use Rattle.bars.specs.declared.region.BasedRegion.{BasedRegion}
-use Rattle.bars.specs.declared.slots.ShownPart.{ShownPart}
-use Rattle.bars.specs.Slots.{placed, bases_from, slot_at}
-use Rattle.bars.specs.Parts.{IsPartAt, IsUnused, IsLowerPart, IsUpperPart}
+use Rattle.std.{proofs.{Common.{◌≡◌, ℕ, zero, suc, ◌+◌, ◌*◌, ◌/◌, ◌%◌, ◌^◌, ◌<◌, ◌≤◌, ◌⊎◌, Bool, List, [], ◌∷◌, ◌++◌, map, refl, sym, ap, ap₂, ◌∙◌, subst, arith, rules}, lemmas.Nat.shl_whole, Math.Nat.{add-zero, zero-add}}, specs.Prelude.{Option, Some, None, slice_get, slice_set}}
+use Rattle.lists.{specs.Elements.{Each, EachPair}, proofs.Indices.set_same}
+use Rattle.model_registers.{specs.{ByteEnables.enabled_bits, Declarations.{Region, registers_of, HasLawfulRegions}, EndpointTable.{BaseAddress, opened, IsLawfulBase, HasLawfulBases}, BaseLaws.{shown, word_at, rebased, rewritten}}, proofs.Bases.{word_low, word_high, word_apart, rewritten_low, rewritten_high, rewritten_apart, rewritten_lawful, registers_positive}}
+use Rattle.bars.specs.{declared.{region.BasedRegion.BasedRegion, slots.ShownPart.ShownPart}, Slots.{placed, bases_from, slot_at}, Parts.{IsPartAt, IsUnused, IsLowerPart, IsUpperPart}}
 
 -- the registers round a region, which stay when it changes
 pub record Split (n : ℕ) (slots : List (Option BasedRegion)) (i : ℕ) (r : BasedRegion) : Type 0 where

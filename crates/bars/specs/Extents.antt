@@ -5,10 +5,7 @@
 --     AreExtents slots e      the same of all ports and of all memory, and of the memory below 4 GB and from there on
 use Rattle.std.specs.Prelude.{◌≡◌, ℕ, ◌<◌, ◌≤◌, ◌^◌, ◌-◌, ◌⊎◌, List, Option, None}
 use Rattle.model_registers.specs.Decoding.{Space, io, memory}
-use Rattle.bars.specs.declared.region.BasedRegion.{BasedRegion}
-use Rattle.bars.specs.declared.extent.Extent.{Extent}
-use Rattle.bars.specs.declared.extent.Extents.{Extents}
-use Rattle.bars.specs.Hits.{hit_from}
+use Rattle.bars.specs.{declared.{region.BasedRegion.BasedRegion, extent.{Extent.Extent, Extents.Extents}}, Hits.hit_from}
 
 abbrev pub IsOutside : Extent → ℕ → Type 0
 IsOutside e a = (a < e.least) ⊎ (e.greatest < a)

@@ -4,11 +4,10 @@
 --     named_space      a space, from the program's word
 use Rattle.std.specs.Prelude.{ℕ}
 use Rattle.model_registers.specs.Declarations.{io_kind, mem32, mem64}
+use Rattle.bars.specs.declared.decl.{Kind.Kind, Space.Space}
 use Rattle.model_registers.specs.Declarations as model
 use Rattle.model_registers.specs.Decoding as decoding
-use Rattle.bars.specs.declared.decl.Kind.{Kind}
 use Rattle.bars.specs.declared.decl.Kind.TheVariants as kind
-use Rattle.bars.specs.declared.decl.Space.{Space}
 use Rattle.bars.specs.declared.decl.Space.TheVariants as space
 
 abbrev pub kind_of : Kind → model.Kind

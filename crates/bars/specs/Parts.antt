@@ -3,9 +3,7 @@
 --     IsUnused slots reg      no region has a register at the index reg
 use Rattle.std.specs.Prelude.{◌≡◌, ℕ, ◌+◌, List, Option, Some, None, ◌⊎◌}
 use Rattle.model_registers.specs.Declarations.{registers_of}
-use Rattle.bars.specs.declared.region.BasedRegion.{BasedRegion}
-use Rattle.bars.specs.declared.slots.ShownPart.{ShownPart}
-use Rattle.bars.specs.Slots.{slot_at}
+use Rattle.bars.specs.{declared.{region.BasedRegion.BasedRegion, slots.ShownPart.ShownPart}, Slots.slot_at}
 
 abbrev pub IsLowerPart : ℕ → ShownPart → Type 0
 IsLowerPart reg p = (p.slot ≡ reg) × (p.shift ≡ 0)

@@ -2,8 +2,7 @@
 --     at_reset      the base address registers of declarations by index, each with base 0
 --     with_no_base      a register with base 0
 use Rattle.std.specs.Prelude.{ℕ, ◌+◌, List, [], ◌∷◌, Option, Some, None}
-use Rattle.model_registers.specs.Declarations.{Bar}
-use Rattle.model_registers.specs.EndpointTable.{BaseAddress}
+use Rattle.model_registers.specs.{Declarations.Bar, EndpointTable.BaseAddress}
 
 abbrev pub reset_from : ℕ → List (Option Bar) → List BaseAddress
 reset_from n [] = []

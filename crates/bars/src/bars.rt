@@ -1,14 +1,7 @@
 //! The base address registers of one function.
 ghost use Rattle.std.specs.Prelude.{◌≡◌, ◌<◌, ◌++◌, map};
-ghost use Rattle.model_registers.specs.Registers.{read, write};
-ghost use Rattle.model_registers.specs.ByteEnables.{lanes};
-ghost use Rattle.model_registers.specs.Declarations.{HasLawfulRegions};
-ghost use Rattle.model_registers.specs.EndpointTable.{base_register, base_file, command_cells, opened, HasLawfulBases};
-ghost use Rattle.model_registers.specs.Decoding.{first_hit};
-ghost use Rattle.bars.specs.Kinds.{named_space};
-ghost use Rattle.bars.specs.Hits.{named_hit};
-ghost use Rattle.bars.specs.Resets.{at_reset, with_no_base};
-ghost use Rattle.bars.specs.Slots.{bases_from};
+ghost use Rattle.model_registers.specs.{Registers.{read, write}, ByteEnables.lanes, Declarations.HasLawfulRegions, EndpointTable.{base_register, base_file, command_cells, opened, HasLawfulBases}, Decoding.first_hit};
+ghost use Rattle.bars.specs.{Kinds.named_space, Hits.named_hit, Resets.{at_reset, with_no_base}, Slots.bases_from};
 
 use crate::decl::{BarDecl, Space};
 use crate::lanes::enabled_bits;

@@ -1,8 +1,6 @@
 //! What a base address register opens.
 ghost use Rattle.std.specs.Prelude.{◌≡◌, ◌==◌, ◌-◌, ◌^◌, ◌↔◌, IsOk, IfOk};
-ghost use Rattle.model_registers.specs.Declarations.{IsLawfulSize, registers_of, least_size, greatest_size};
-ghost use Rattle.model_registers.specs.EndpointTable.{type_bits, base_width};
-ghost use Rattle.model_registers.specs.Decoding.{space_of, command_bit};
+ghost use Rattle.model_registers.specs.{Declarations.{IsLawfulSize, registers_of, least_size, greatest_size}, EndpointTable.{type_bits, base_width}, Decoding.{space_of, command_bit}};
 ghost use Rattle.bars.specs.Kinds.{kind_of, named_space};
 
 use std::marker::Model;

@@ -1,9 +1,6 @@
 //! The addresses between which regions lie.
 ghost use Rattle.std.specs.Prelude.{◌≡◌, ◌≤◌, ◌↔◌, ℕ, List, Option, IsTrue, None};
-ghost use Rattle.bars.specs.Kinds.{named_space};
-ghost use Rattle.bars.specs.Hits.{offset_in, hit_from};
-ghost use Rattle.bars.specs.declared.region.BasedRegion.{BasedRegion};
-ghost use Rattle.bars.specs.Extents.{IsOutside, AreExtents};
+ghost use Rattle.bars.specs.{Kinds.named_space, Hits.{offset_in, hit_from}, declared.region.BasedRegion.BasedRegion, Extents.{IsOutside, AreExtents}};
 
 use crate::decl::Space;
 use crate::region::BasedRegion;

@@ -1,10 +1,7 @@
 //! One region of a function.
 ghost use Rattle.std.specs.Prelude.{◌≡◌};
-ghost use Rattle.model_registers.specs.EndpointTable.{IsLawfulBase};
-ghost use Rattle.model_registers.specs.BaseLaws.{shown, rebased};
-ghost use Rattle.bars.specs.Kinds.{named_space};
-ghost use Rattle.bars.specs.Slots.{placed};
-ghost use Rattle.bars.specs.Hits.{offset_in};
+ghost use Rattle.model_registers.specs.{EndpointTable.IsLawfulBase, BaseLaws.{shown, rebased}};
+ghost use Rattle.bars.specs.{Kinds.named_space, Slots.placed, Hits.offset_in};
 
 use crate::decl::{BarDecl, Space};
 

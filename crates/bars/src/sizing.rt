@@ -1,8 +1,6 @@
 //! Finding the size of a region by what its registers show.
 ghost use Rattle.std.specs.Prelude.{◌≡◌, ◌==◌, ◌+◌, ◌*◌, ◌%◌, ◌^◌, if◌then◌else◌, IfSome, Some, option_map};
-ghost use Rattle.model_registers.specs.Declarations.{Kind as model_kind, Bar, registers_of, least_size, IsLawfulSize};
-ghost use Rattle.model_registers.specs.EndpointTable.{type_bits};
-ghost use Rattle.model_registers.specs.Sizing.{ShowsSize};
+ghost use Rattle.model_registers.specs.{Declarations.{Kind as model_kind, Bar, registers_of, least_size, IsLawfulSize}, EndpointTable.type_bits, Sizing.ShowsSize};
 ghost use Rattle.bars.specs.Kinds.{kind_of, named_bar};
 
 use crate::decl::{BarDecl, Kind};

@@ -1,11 +1,6 @@
 //! The regions of a function by their registers.
 ghost use Rattle.std.specs.Prelude.{◌≡◌, ◌<◌, map, IfSome, IfNone, IsTrue, Some, None, slice_set};
-ghost use Rattle.bars.specs.Kinds.{named_space};
-ghost use Rattle.bars.specs.Hits.{hit_from, named_hit};
-ghost use Rattle.bars.specs.Extents.{IsExtent, AreExtents};
-ghost use Rattle.bars.specs.Resets.{at_reset};
-ghost use Rattle.bars.specs.Slots.{bases_from, with_no_base_in};
-ghost use Rattle.bars.specs.Parts.{IsPartAt, IsUnused};
+ghost use Rattle.bars.specs.{Kinds.named_space, Hits.{hit_from, named_hit}, Extents.{IsExtent, AreExtents}, Resets.at_reset, Slots.{bases_from, with_no_base_in}, Parts.{IsPartAt, IsUnused}};
 
 use crate::decl::{BarDecl, Space};
 use crate::extent::{Extent, Extents};
@@ -25,8 +20,7 @@ pub struct Slots {
 
 impl Model for Slots {
     ghost use Rattle.std.specs.Prelude.{List, Option};
-    ghost use Rattle.bars.specs.declared.region.BasedRegion.{BasedRegion};
-    ghost use Rattle.bars.specs.Extents.{AreExtents};
+    ghost use Rattle.bars.specs.{declared.region.BasedRegion.BasedRegion, Extents.AreExtents};
 
     ghost Value = { List (Option BasedRegion) };
 

@@ -1,30 +1,11 @@
 -- What holds of the entries of a file where no problem of a fault is found.
-use Rattle.std.proofs.Common.{◌≡◌, inl, inr, refl, ℕ, ◌+◌, Bool, true, ◌&&◌, ◌||◌, not, List, length, nat_le, arith}
-use Rattle.std.specs.Prelude.{option_map}
-use Rattle.std.specs.List.{list_all}
-use Rattle.std.specs.Str.{bytes_eq}
-use Rattle.std.proofs.Math.Bool.{and_assoc}
-use Rattle.std.proofs.lemmas.List.FromFn.{length-map-range_with_len}
-use Rattle.std.proofs.lemmas.List.Folds.{list_all-map}
-use Rattle.lists.specs.Elements.{IsIn, all_pairs}
-use Rattle.lists.proofs.Members.{all_in}
+use Rattle.std.{proofs.{Common.{◌≡◌, inl, inr, refl, ℕ, ◌+◌, Bool, true, ◌&&◌, ◌||◌, not, List, length, nat_le, arith}, Math.Bool.and_assoc, lemmas.List.{FromFn.length-map-range_with_len, Folds.list_all-map}}, specs.{Prelude.option_map, List.list_all, Str.bytes_eq}}
+use Rattle.lists.{specs.Elements.{IsIn, all_pairs}, proofs.Members.all_in}
 use Rattle.model_registers.specs.Apertures.{is_io_aperture, is_mem_aperture, has_lawful_pref, are_lawful}
-use Rattle.model_board.specs.Paths.{parent, function_zero}
-use Rattle.model_board.specs.Places.{has_path}
+use Rattle.model_board.specs.{Paths.{parent, function_zero}, Places.has_path}
 use Rattle.model_guests.specs.World.{is_name}
-use Rattle.board_file.specs.Entries.{File}
-use Rattle.board_file.specs.PathTexts.{is_path_text, path_at}
-use Rattle.board_file.specs.Functions.{standings, aperture, apertures}
-use Rattle.board_file.specs.Rules.{has_few_slashes, names_endpoint, is_natural, are_natural, masks_hold}
-use Rattle.board_file.specs.EntryRules.{are_same_place, is_behind_bridge}
-use Rattle.board_file.specs.PathEntries.{place_texts, slot_texts}
-use Rattle.board_file.specs.Problems.{none, problems_in}
-use Rattle.board_file.specs.Meaning.{file_checks}
-use Rattle.board_file.specs.Judged.{keeps, is_lawful_bridge, is_judged}
-use Rattle.board_file.specs.declared.fault.BoardFault.{BoardFault}
-use Rattle.board_file.specs.declared.entry.Entry.{Entry}
+use Rattle.board_file.{specs.{Entries.File, PathTexts.{is_path_text, path_at}, Functions.{standings, aperture, apertures}, Rules.{has_few_slashes, names_endpoint, is_natural, are_natural, masks_hold}, EntryRules.{are_same_place, is_behind_bridge}, PathEntries.{place_texts, slot_texts}, Problems.{none, problems_in}, Meaning.file_checks, Judged.{keeps, is_lawful_bridge, is_judged}, declared.{fault.BoardFault.BoardFault, entry.Entry.Entry}}, proofs.Tests.{all-both, with_earlier, pairs-map, nothing_listed}}
 use Rattle.board_file.specs.declared.fault.BoardFault.TheVariants as fault
-use Rattle.board_file.proofs.Tests.{all-both, with_earlier, pairs-map, nothing_listed}
 
 -- no problem is found under a check of a judged file
 pub unbroken : (f : File) → is_judged f ≡ true → (fault : BoardFault) → IsIn fault file_checks → none (problems_in f fault) ≡ true

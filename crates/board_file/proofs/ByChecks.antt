@@ -2,23 +2,12 @@
 --     judged      where all hold but that of cell masks
 --     refused, accepted, refused_last      what a document means by them
 --     judged_file, refused_first, means_world, means_masks      the same by the first of them that fails, if one does
-use Rattle.std.proofs.Common.{◌≡◌, ℕ, Bool, true, false, List, [], ◌∷◌, ◌++◌, map, Option, None, Some, Ok, Err, refl, sym, ap, subst, ◌∙◌, arith}
-use Rattle.std.specs.Prelude.{option_map}
-use Rattle.std.specs.List.{list_all}
-use Rattle.std.proofs.lemmas.Bool.{and_parts}
+use Rattle.std.{proofs.{Common.{◌≡◌, ℕ, Bool, true, false, List, [], ◌∷◌, ◌++◌, map, Option, None, Some, Ok, Err, refl, sym, ap, subst, ◌∙◌, arith}, lemmas.Bool.and_parts}, specs.{Prelude.option_map, List.list_all}}
 use Rattle.toml.specs.Data.{Members}
 use Rattle.lists.proofs.Tests.{right_true}
 use Rattle.model_registers.specs.DeclarationRules.{first_broken}
-use Rattle.board_file.specs.Entries.{File, file}
-use Rattle.board_file.specs.Faults.{number_of}
-use Rattle.board_file.specs.Judged.{is_judged}
-use Rattle.board_file.specs.KeyProblems.{problems_of}
-use Rattle.board_file.specs.Meaning.{file_checks, order, check, early_checks, checks, unless, world_of, meaning}
-use Rattle.board_file.specs.Problems.{none}
-use Rattle.board_file.specs.Rules.{masks_hold}
-use Rattle.board_file.specs.declared.fault.BoardFault.{BoardFault}
+use Rattle.board_file.{specs.{Entries.{File, file}, Faults.number_of, Judged.is_judged, KeyProblems.problems_of, Meaning.{file_checks, order, check, early_checks, checks, unless, world_of, meaning}, Problems.none, Rules.masks_hold, declared.fault.BoardFault.BoardFault}, proofs.Asked.masks}
 use Rattle.board_file.specs.declared.fault.BoardFault.TheVariants as fault
-use Rattle.board_file.proofs.Asked.{masks}
 
 -- with one check more
 pub broken_before : (cs : List (ℕ × Bool)) (last : ℕ × Bool) (n : ℕ) → first_broken cs ≡ Some n → first_broken (cs ++ last ∷ []) ≡ Some n

@@ -1,24 +1,11 @@
 -- A judged endpoint breaks no rule of declarations but that of blocks that overlap.
-use Rattle.std.proofs.Common.{◌≡◌, inl, inr, ℕ, ◌+◌, ◌<◌, ◌≤◌, ◌^◌, ◌==◌, ℤ, nat_abs, Bool, true, false, ◌&&◌, ◌||◌, not, cond, List, map, length, nat_le, drop, bit_and, Option, Some, None, refl, ◌∙◌, sym, arith, leb-true, le-leb, lt-ltb}
-use Rattle.std.specs.List.{list_all}
-use Rattle.std.proofs.lemmas.Bool.{and_parts}
-use Rattle.std.proofs.lemmas.List.FromFn.{length-map-range_with_len}
-use Rattle.std.proofs.lemmas.List.Folds.{list_all-map}
-use Rattle.lists.specs.Elements.{all_pairs}
-use Rattle.lists.proofs.Tests.{left_true, right_true, asked_true}
-use Rattle.model_registers.specs.DeclarationRules as rules
+use Rattle.std.{proofs.{Common.{◌≡◌, inl, inr, ℕ, ◌+◌, ◌<◌, ◌≤◌, ◌^◌, ◌==◌, ℤ, nat_abs, Bool, true, false, ◌&&◌, ◌||◌, not, cond, List, map, length, nat_le, drop, bit_and, Option, Some, None, refl, ◌∙◌, sym, arith, leb-true, le-leb, lt-ltb}, lemmas.{Bool.and_parts, List.{FromFn.length-map-range_with_len, Folds.list_all-map}}}, specs.List.list_all}
+use Rattle.lists.{specs.Elements.all_pairs, proofs.Tests.{left_true, right_true, asked_true}}
 use Rattle.model_registers.specs.DeclarationRules.{first_broken, endpoint_rules, blocks_apart}
-use Rattle.board_file.specs.Entries.{Bar, Config, Endpoint, Patterns, File}
-use Rattle.board_file.specs.Blocks.{block_cells}
-use Rattle.board_file.specs.Functions.{region, config_block, endpoint_values}
-use Rattle.board_file.specs.Rules.{is_between, has_only_bits, is_size}
+use Rattle.board_file.{specs.{Entries.{Bar, Config, Endpoint, Patterns, File}, Blocks.block_cells, Functions.{region, config_block, endpoint_values}, Rules.{is_between, has_only_bits, is_size}, EntryRules.{has_indices, endpoint_numbers, value_rules, bar_rules}, Judged.{kept, keeps, is_region, is_config_block, is_declarable, is_lawful_bridge, HasSmallNumbers, is_judged}, declared.rule.Rule.Rule}, proofs.{Asked.{unbroken, numbers, registers, sizes}, Tests.{first_three, imply_all, all-both}}}
+use Rattle.model_registers.specs.DeclarationRules as rules
 use Rattle.board_file.specs.EntryRules as asked
-use Rattle.board_file.specs.EntryRules.{has_indices, endpoint_numbers, value_rules, bar_rules}
-use Rattle.board_file.specs.Judged.{kept, keeps, is_region, is_config_block, is_declarable, is_lawful_bridge, HasSmallNumbers, is_judged}
-use Rattle.board_file.specs.declared.rule.Rule.{Rule}
 use Rattle.board_file.specs.declared.fault.BoardFault.TheVariants as fault
-use Rattle.board_file.proofs.Asked.{unbroken, numbers, registers, sizes}
-use Rattle.board_file.proofs.Tests.{first_three, imply_all, all-both}
 
 -- ---- tests
 

@@ -1,7 +1,6 @@
 -- Checks of a number, where it is that of the first one that fails.
 --     at_number      all checks of the number hold
-use Rattle.std.proofs.Common.{◌≡◌, ℕ, Bool, true, false, ◌&&◌, ◌||◌, ◌==◌, not, List, [], ◌∷◌, Some, arith}
-use Rattle.std.proofs.lemmas.Bool.{eqb-true, eq-eqb}
+use Rattle.std.proofs.{Common.{◌≡◌, ℕ, Bool, true, false, ◌&&◌, ◌||◌, ◌==◌, not, List, [], ◌∷◌, Some, arith}, lemmas.Bool.{eqb-true, eq-eqb}}
 use Rattle.lists.specs.Elements.{IsIn}
 use Rattle.model_registers.specs.DeclarationRules.{first_broken}
 

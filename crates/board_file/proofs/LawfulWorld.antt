@@ -1,41 +1,12 @@
 -- The world of a judged file is lawful.
-use Rattle.std.proofs.Common.{◌≡◌, ◌⊎◌, inl, inr, ℕ, ◌+◌, ◌≤◌, Bool, true, false, ◌&&◌, ◌||◌, not, cond, List, [], ◌∷◌, map, length, nat_le, Option, Some, None, refl, sym, ap, ◌∙◌, subst, arith, leb-true, IsTrue, IsFalse, IsSome}
-use Rattle.std.specs.Prelude.{find, flat_map}
-use Rattle.std.specs.List.{list_all, list_any, enumerate_from}
-use Rattle.std.specs.Option.{option_map_or}
-use Rattle.std.specs.Str.{bytes_eq}
-use Rattle.std.proofs.lemmas.Bool.{and_parts, not-true, or_cases}
-use Rattle.std.proofs.lemmas.List.{length-map, map-append}
-use Rattle.std.proofs.lemmas.Simd.{map-map}
-use Rattle.lists.specs.Elements.{IsIn, Each, EachPair, all_pairs}
-use Rattle.lists.proofs.EachLemmas.{each_map, each_of_map, each_from_map, each_test, pairs_map, pairs_from_map, pairs_test}
-use Rattle.lists.proofs.Members.{all_in, each_from, pairs_of_map, pairs_weaker}
-use Rattle.lists.proofs.Tests.{left_true, right_true}
-use Rattle.model_board.specs.Paths.{Path, IsPath, path_eq, parent, function_zero}
-use Rattle.model_board.specs.Board.{Decl, Row, Board, IsBoard, is_bridge, stands_at, is_bridge_at}
-use Rattle.model_board.specs.Places.{Standing, standing, has_path, has_bridge, board_of, IsFounded, AreLawfulPlaces}
-use Rattle.model_board.specs.Lawful.{HasLawfulDecls, IsLawfulDecl}
-use Rattle.model_board.proofs.PlacesLaw.{any_board, apart_turn, each_to_board, lawful_places_are_boards}
-use Rattle.model_registers.specs.Registers as registers
-use Rattle.model_board.specs.State.{row_at, State}
-use Rattle.model_board.specs.AtReset.{reset_state, reset_file, board_at, IsAtReset}
-use Rattle.model_guests.specs.World as world
+use Rattle.std.{proofs.{Common.{◌≡◌, ◌⊎◌, inl, inr, ℕ, ◌+◌, ◌≤◌, Bool, true, false, ◌&&◌, ◌||◌, not, cond, List, [], ◌∷◌, map, length, nat_le, Option, Some, None, refl, sym, ap, ◌∙◌, subst, arith, leb-true, IsTrue, IsFalse, IsSome}, lemmas.{Bool.{and_parts, not-true, or_cases}, List.{length-map, map-append}, Simd.map-map}}, specs.{Prelude.{find, flat_map}, List.{list_all, list_any, enumerate_from}, Option.option_map_or, Str.bytes_eq}}
+use Rattle.lists.{specs.Elements.{IsIn, Each, EachPair, all_pairs}, proofs.{EachLemmas.{each_map, each_of_map, each_from_map, each_test, pairs_map, pairs_from_map, pairs_test}, Members.{all_in, each_from, pairs_of_map, pairs_weaker}, Tests.{left_true, right_true}}}
+use Rattle.model_board.{specs.{Paths.{Path, IsPath, path_eq, parent, function_zero}, Board.{Decl, Row, Board, IsBoard, is_bridge, stands_at, is_bridge_at}, Places.{Standing, standing, has_path, has_bridge, board_of, IsFounded, AreLawfulPlaces}, Lawful.{HasLawfulDecls, IsLawfulDecl}, State.{row_at, State}, AtReset.{reset_state, reset_file, board_at, IsAtReset}}, proofs.PlacesLaw.{any_board, apart_turn, each_to_board, lawful_places_are_boards}}
 use Rattle.model_guests.specs.World.{is_name, declared, HasLawfulGuests, IsLawfulWorld}
-use Rattle.board_file.specs.Entries.{Endpoint, Bridge, Guest, File}
-use Rattle.board_file.specs.Functions.{rows, standings, guest}
-use Rattle.board_file.specs.PathTexts.{is_path_text, path_at}
-use Rattle.board_file.specs.Rules.{is_root, is_endpoint, names_endpoint}
-use Rattle.board_file.specs.EntryRules.{are_same_place, is_behind_bridge}
-use Rattle.board_file.specs.PathEntries.{guest_texts, place_texts, slot_texts}
-use Rattle.board_file.specs.Problems.{none, problems_in}
-use Rattle.board_file.specs.Judged.{is_judged, IsShortGuest}
-use Rattle.board_file.specs.Meaning.{world_of}
-use Rattle.board_file.specs.declared.entry.Entry.{Entry}
+use Rattle.board_file.{specs.{Entries.{Endpoint, Bridge, Guest, File}, Functions.{rows, standings, guest}, PathTexts.{is_path_text, path_at}, Rules.{is_root, is_endpoint, names_endpoint}, EntryRules.{are_same_place, is_behind_bridge}, PathEntries.{guest_texts, place_texts, slot_texts}, Problems.{none, problems_in}, Judged.{is_judged, IsShortGuest}, Meaning.world_of, declared.entry.Entry.Entry}, proofs.{Asked.{others, unbroken, counts, names, places, slots}, ListTests.pairs_of_test, PathParts.path_at_is_path, Tests.{first_three, imply_all}}}
+use Rattle.model_registers.specs.Registers as registers
+use Rattle.model_guests.specs.World as world
 use Rattle.board_file.specs.declared.fault.BoardFault.TheVariants as fault
-use Rattle.board_file.proofs.Asked.{others, unbroken, counts, names, places, slots}
-use Rattle.board_file.proofs.ListTests.{pairs_of_test}
-use Rattle.board_file.proofs.PathParts.{path_at_is_path}
-use Rattle.board_file.proofs.Tests.{first_three, imply_all}
 
 -- ---- texts of paths
 

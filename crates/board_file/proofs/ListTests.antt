@@ -1,10 +1,6 @@
 -- Tests of lists and of sizes, as facts.
-use Rattle.std.proofs.Common.{◌≡◌, ℕ, ℤ, pos, nat_abs, Bool, true, not, List, le-leb, leb-true, IsTrue, IsFalse, arith}
-use Rattle.std.specs.Prelude.{int_le}
-use Rattle.std.proofs.lemmas.Bool.{and_parts, not-true}
-use Rattle.lists.specs.Elements.{EachPair, all_pairs}
-use Rattle.lists.proofs.EachLemmas.{pairs_map, pairs_test}
-use Rattle.lists.proofs.Tests.{same_test}
+use Rattle.std.{proofs.{Common.{◌≡◌, ℕ, ℤ, pos, nat_abs, Bool, true, not, List, le-leb, leb-true, IsTrue, IsFalse, arith}, lemmas.Bool.{and_parts, not-true}}, specs.Prelude.int_le}
+use Rattle.lists.{specs.Elements.{EachPair, all_pairs}, proofs.{EachLemmas.{pairs_map, pairs_test}, Tests.same_test}}
 use Rattle.model_registers.specs.Declarations.{Kind, IsLawfulSize}
 use Rattle.bars.proofs.Powers.{power_of_test, test_of_power}
 use Rattle.board_file.specs.Rules.{is_size}

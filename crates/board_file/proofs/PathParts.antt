@@ -1,8 +1,6 @@
 -- What a text is read as is a path.
-use Rattle.std.proofs.Common.{◌≡◌, ℕ, zero, suc, ◌+◌, ◌-◌, ◌≤◌, ◌==◌, Bool, true, false, ◌&&◌, cond, List, [], ◌∷◌, length, Option, Some, None, option_map, unwrap_or, arith, leb-true}
-use Rattle.std.specs.Prelude.{option_and_then}
-use Rattle.lists.specs.Elements.{Each}
-use Rattle.lists.proofs.Tests.{left_true, right_true}
+use Rattle.std.{proofs.Common.{◌≡◌, ℕ, zero, suc, ◌+◌, ◌-◌, ◌≤◌, ◌==◌, Bool, true, false, ◌&&◌, cond, List, [], ◌∷◌, length, Option, Some, None, option_map, unwrap_or, arith, leb-true}, specs.Prelude.option_and_then}
+use Rattle.lists.{specs.Elements.Each, proofs.Tests.{left_true, right_true}}
 use Rattle.model_board.specs.Paths.{Part, Path, IsPart, IsPath}
 use Rattle.board_file.specs.PathTexts.{is_byte_between, short_part, part_at_front, parts_after, path_at}
 

@@ -1,14 +1,7 @@
 -- Sets of paths: what they hold.
-use Rattle.std.proofs.Common.{◌≡◌, Bool, ◌||◌, List, [], ◌∷◌, map, refl, sym, ap₂, ◌∙◌, arith}
-use Rattle.std.specs.Prelude.{filter}
-use Rattle.std.specs.List.{list_any}
-use Rattle.std.specs.Ordering.{eq_by_cmp}
-use Rattle.std.specs.BTreeSet.{BTreeSet, IsFromIterResult}
-use Rattle.model_board.specs.Paths.{Path, path_eq}
-use Rattle.model_board.specs.Places.{Standing, has_path, has_bridge}
-use Rattle.model_board.proofs.PathEnds.{path_eq-sym}
-use Rattle.paths.specs.PathOrders.{path_cmp}
-use Rattle.paths.specs.PathLaws.{paths_tied}
+use Rattle.std.{proofs.Common.{◌≡◌, Bool, ◌||◌, List, [], ◌∷◌, map, refl, sym, ap₂, ◌∙◌, arith}, specs.{Prelude.filter, List.list_any, Ordering.eq_by_cmp, BTreeSet.{BTreeSet, IsFromIterResult}}}
+use Rattle.model_board.{specs.{Paths.{Path, path_eq}, Places.{Standing, has_path, has_bridge}}, proofs.PathEnds.path_eq-sym}
+use Rattle.paths.specs.{PathOrders.path_cmp, PathLaws.paths_tied}
 use Rattle.board_file.specs.PathSets.{AreSetsOf}
 
 same_is : (q p : Path) → eq_by_cmp path_cmp q p ≡ path_eq p q

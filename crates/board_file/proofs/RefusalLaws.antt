@@ -1,15 +1,8 @@
 -- A document that is refused has a problem of its fault, and one with a problem of a fault fails its check.
 use Rattle.std.proofs.Common.{◌≡◌, ◌≢◌, ℕ, true, false, ◌&&◌, List, [], ◌∷◌, Option, Some, Err, refl, sym, ap, ◌∙◌, arith}
 use Rattle.model_registers.specs.DeclarationRules.{first_broken}
+use Rattle.board_file.{specs.{Entries.file, Faults.number_of, KeyProblems.problems_of, Meaning.{checks, unless, world_of}, Problems.{none, problems_in}, RefusalLaws.{RefusalsHaveProblems, ProblemsBreakChecks}}, proofs.{FirstBroken.{broken_at, from_number, alone}, Tests.nothing_listed}}
 use Rattle.board_file.specs.declared.fault.BoardFault.TheVariants as fault
-use Rattle.board_file.specs.Entries.{file}
-use Rattle.board_file.specs.Faults.{number_of}
-use Rattle.board_file.specs.KeyProblems.{problems_of}
-use Rattle.board_file.specs.Meaning.{checks, unless, world_of}
-use Rattle.board_file.specs.Problems.{none, problems_in}
-use Rattle.board_file.specs.RefusalLaws.{RefusalsHaveProblems, ProblemsBreakChecks}
-use Rattle.board_file.proofs.FirstBroken.{broken_at, from_number, alone}
-use Rattle.board_file.proofs.Tests.{nothing_listed}
 
 some_there : {A : Type 0} (xs : List A) → none xs ≡ false → xs ≢ []
 some_there xs h empty = let wrong : true ≡ false = ap none (sym empty) ∙ h in cc

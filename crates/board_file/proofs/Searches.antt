@@ -1,9 +1,6 @@
 -- Searches of lists that find nothing, and lists that are not empty.
-use Rattle.std.proofs.Common.{◌≡◌, ◌≢◌, inl, inr, ◌≤◌, Bool, true, false, not, List, [], ◌∷◌, ◌++◌, length, None, refl, arith}
-use Rattle.std.specs.List.{list_all, position, position_or_len}
-use Rattle.std.proofs.lemmas.Bool.{not-false}
-use Rattle.lists.specs.Elements.{IsIn}
-use Rattle.lists.proofs.Members.{all_from}
+use Rattle.std.{proofs.{Common.{◌≡◌, ◌≢◌, inl, inr, ◌≤◌, Bool, true, false, not, List, [], ◌∷◌, ◌++◌, length, None, refl, arith}, lemmas.Bool.not-false}, specs.List.{list_all, position, position_or_len}}
+use Rattle.lists.{specs.Elements.IsIn, proofs.Members.all_from}
 
 passed : {A : Type 0} (p : A → Bool) (xs : List A) (x : A) → IsIn x xs → length xs ≤ position_or_len p xs → p x ≡ false
 passed p [] x m h = absurd m

@@ -1,18 +1,11 @@
 -- The set of the paths of some texts.
 --     AreTaken set texts      these are its paths
 --     one_more, entry_more      with one text more
-use Rattle.std.proofs.Common.{◌≡◌, ℕ, ◌+◌, ◌<◌, Bool, not, ◌&&◌, ◌||◌, List, [], ◌∷◌, ◌++◌, map, length, get_or, take, drop, sym, ap, ◌∙◌, append_assoc, arith}
-use Rattle.std.specs.List.{list_any, enumerate_from}
-use Rattle.std.specs.BTreeSet.{BTreeSet, contains}
+use Rattle.std.{proofs.{Common.{◌≡◌, ℕ, ◌+◌, ◌<◌, Bool, not, ◌&&◌, ◌||◌, List, [], ◌∷◌, ◌++◌, map, length, get_or, take, drop, sym, ap, ◌∙◌, append_assoc, arith}, lemmas.List.{take_more, length-map, get_or-map, Folds.list_any-append}}, specs.{List.{list_any, enumerate_from}, BTreeSet.{BTreeSet, contains}}}
 use Rattle.lists.proofs.Tests.{or_false}
-use Rattle.std.proofs.lemmas.List.{take_more, length-map, get_or-map}
-use Rattle.std.proofs.lemmas.List.Folds.{list_any-append}
 use Rattle.model_board.specs.Paths.{Path, path_eq}
 use Rattle.paths.specs.PathOrders.{path_cmp}
-use Rattle.board_file.specs.PathTexts.{is_path_text, path_at}
-use Rattle.board_file.specs.PathEntries.{PathEntry, has_path, is_free, path_entry, path_entries}
-use Rattle.board_file.specs.declared.entry.Entry.{Entry}
-use Rattle.board_file.proofs.NextEntry.{next_is}
+use Rattle.board_file.{specs.{PathTexts.{is_path_text, path_at}, PathEntries.{PathEntry, has_path, is_free, path_entry, path_entries}, declared.entry.Entry.Entry}, proofs.NextEntry.next_is}
 
 abbrev pub AreTaken : BTreeSet Path → List (Entry × List ℕ) → Type 0
 AreTaken set texts = (p : Path) → contains path_cmp set p ≡ list_any (λ s. has_path p s.1) texts

@@ -1,11 +1,6 @@
 -- Tests of all elements of a list, with their indices, and of all pairs; lists that have none.
-use Rattle.std.proofs.Common.{◌≡◌, ℕ, ◌+◌, arith, Bool, true, ◌&&◌, cond, List, [], ◌∷◌, ◌++◌, map, take, refl, sym, ap, ◌∙◌, add-one}
-use Rattle.std.specs.List.{list_all, flat_map, enumerate_from}
-use Rattle.std.proofs.Math.Bool.{and-true, and_comm, and_assoc}
-use Rattle.std.proofs.lemmas.Bool.{and_parts}
-use Rattle.std.proofs.lemmas.List.Folds.{list_all-map}
-use Rattle.lists.specs.Elements.{all_pairs}
-use Rattle.lists.proofs.Members.{all_in, all_from}
+use Rattle.std.{proofs.{Common.{◌≡◌, ℕ, ◌+◌, arith, Bool, true, ◌&&◌, cond, List, [], ◌∷◌, ◌++◌, map, take, refl, sym, ap, ◌∙◌, add-one}, Math.Bool.{and-true, and_comm, and_assoc}, lemmas.{Bool.and_parts, List.Folds.list_all-map}}, specs.List.{list_all, flat_map, enumerate_from}}
+use Rattle.lists.{specs.Elements.all_pairs, proofs.Members.{all_in, all_from}}
 use Rattle.board_file.specs.Problems.{none}
 
 -- ---- tests in another order

@@ -1,11 +1,8 @@
 -- A walk over a list that appends problems of each element.
 --     GoesOn      what is there with those of the elements that are left
 --     range_more, joined      steps of lists of entries
-use Rattle.std.proofs.Common.{◌≡◌, ℕ, ◌+◌, List, [], ◌∷◌, ◌++◌, map, drop, zero-add, append_assoc, arith}
-use Rattle.std.specs.List.{enumerate_from, flat_map, range_with_len}
-use Rattle.std.proofs.lemmas.List.FromFn.{map-range_with_len_more}
-use Rattle.board_file.specs.Problems.{Found, found_of}
-use Rattle.board_file.specs.declared.finding.Breach.{Breach}
+use Rattle.std.{proofs.{Common.{◌≡◌, ℕ, ◌+◌, List, [], ◌∷◌, ◌++◌, map, drop, zero-add, append_assoc, arith}, lemmas.List.FromFn.map-range_with_len_more}, specs.List.{enumerate_from, flat_map, range_with_len}}
+use Rattle.board_file.specs.{Problems.{Found, found_of}, declared.finding.Breach.Breach}
 
 -- with those of the elements from i on, the problems are those at first and those of all elements
 abbrev pub GoesOn : {A : Type 0} → (ℕ × A → List Found) → List A → ℕ → List Breach → List Breach → Type 0

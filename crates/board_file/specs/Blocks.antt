@@ -2,10 +2,8 @@
 --     pattern n text      the bytes of hexadecimal text of 1 to n bytes
 --     is_block n p, block_cells n p      the patterns give n cells, and these cells
 --     Gives t found P      a value of which P holds where the test t does, and none where it does not
-use Rattle.std.specs.Prelude.{ℕ, ◌%◌, ◌==◌, nat_le, Bool, true, false, ◌≡◌, MatchOption, ◌&&◌, List, [], ◌∷◌, length, map, slice_index, Option, Some, None, is_some, unwrap_or, Result, Ok, Err, if◌then◌else◌, bit_and}
-use Rattle.std.specs.List.{list_all, range_with_len}
-use Rattle.hex.specs.Hex.{decode_of}
-use Rattle.hex.specs.declared.error.FromHexError.{FromHexError}
+use Rattle.std.specs.{Prelude.{ℕ, ◌%◌, ◌==◌, nat_le, Bool, true, false, ◌≡◌, MatchOption, ◌&&◌, List, [], ◌∷◌, length, map, slice_index, Option, Some, None, is_some, unwrap_or, Result, Ok, Err, if◌then◌else◌, bit_and}, List.{list_all, range_with_len}}
+use Rattle.hex.specs.{Hex.decode_of, declared.error.FromHexError.FromHexError}
 use Rattle.model_registers.specs.Cell.{Cell}
 use Rattle.board_file.specs.Entries.{Patterns}
 

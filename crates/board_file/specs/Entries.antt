@@ -2,13 +2,10 @@
 -- no value of its type, gives 0, no text or no tables.
 --     Bar, Config, Endpoint, Bridge, Guest      what the tables of these names say
 --     File, file      the whole file, and how it is read from the table of a document
-use Rattle.std.specs.Prelude.{ℕ, ℤ, pos, codes, List, [], ◌∷◌, map, Option, unwrap_or, option_map, option_and_then}
-use Rattle.std.specs.List.{filter_map}
+use Rattle.std.specs.{Prelude.{ℕ, ℤ, pos, codes, List, [], ◌∷◌, map, Option, unwrap_or, option_map, option_and_then}, List.filter_map}
 use Rattle.toml.specs.Data.{Data, no_items, Members, no_members, get_member, as_integer, as_str, as_table, as_array}
 use Rattle.model_registers.specs.Declarations.{Kind, io_kind, IoDecode, no_io, PrefDecode, no_pref}
-use Rattle.board_file.specs.Texts.{region_kind, io_decode, pref_decode}
-use Rattle.board_file.specs.Schema.{list_of}
-use Rattle.board_file.specs.declared.entries.Bounds.{Bounds}
+use Rattle.board_file.specs.{Texts.{region_kind, io_decode, pref_decode}, Schema.list_of, declared.entries.Bounds.Bounds}
 
 -- ---- values at a key
 

@@ -1,22 +1,12 @@
 -- The rules that the entries of a board file are asked, by the fault of a file in which one is broken: each with
 -- whether it is kept.
 --     file_rules, host_rules, path_rules, endpoint_rules, bar_rules, config_rules, bridge_rules, guest_rules
-use Rattle.std.specs.Prelude.{ℕ, ℤ, ◌+◌, nat_abs, pos, int_le, ◌+ℤ◌, Bool, not, ◌&&◌, ◌||◌, length, nat_le, take, map, List, [], ◌∷◌, ◌++◌, option_map}
-use Rattle.std.specs.List.{list_all}
-use Rattle.std.specs.Str.{bytes_eq}
-use Rattle.model_registers.specs.Apertures.{is_io_aperture, is_mem_aperture, has_lawful_pref}
-use Rattle.model_registers.specs.DeclarationRules.{has_own_registers}
-use Rattle.model_board.specs.Paths.{Path, path_eq, parent, function_zero}
-use Rattle.model_board.specs.Places.{Standing, has_path, has_bridge}
+use Rattle.std.specs.{Prelude.{ℕ, ℤ, ◌+◌, nat_abs, pos, int_le, ◌+ℤ◌, Bool, not, ◌&&◌, ◌||◌, length, nat_le, take, map, List, [], ◌∷◌, ◌++◌, option_map}, List.list_all, Str.bytes_eq}
+use Rattle.model_registers.specs.{Apertures.{is_io_aperture, is_mem_aperture, has_lawful_pref}, DeclarationRules.has_own_registers}
+use Rattle.model_board.specs.{Paths.{Path, path_eq, parent, function_zero}, Places.{Standing, has_path, has_bridge}}
 use Rattle.model_guests.specs.World.{is_name}
-use Rattle.board_file.specs.Entries.{Bar, Config, Endpoint, Bridge, Guest, File}
-use Rattle.board_file.specs.Blocks.{is_block}
-use Rattle.board_file.specs.PathTexts.{is_path_text, path_at}
-use Rattle.board_file.specs.Functions.{region, aperture}
-use Rattle.board_file.specs.Rules.{is_between, has_only_bits, has_few_slashes, is_root, is_size, is_natural, are_natural, names_endpoint}
-use Rattle.board_file.specs.declared.rule.Rule.{Rule}
+use Rattle.board_file.specs.{Entries.{Bar, Config, Endpoint, Bridge, Guest, File}, Blocks.is_block, PathTexts.{is_path_text, path_at}, Functions.{region, aperture}, Rules.{is_between, has_only_bits, has_few_slashes, is_root, is_size, is_natural, are_natural, names_endpoint}, declared.{rule.Rule.Rule, fault.BoardFault.BoardFault}}
 use Rattle.board_file.specs.declared.rule.Rule.TheVariants as rule
-use Rattle.board_file.specs.declared.fault.BoardFault.{BoardFault}
 use Rattle.board_file.specs.declared.fault.BoardFault.TheVariants as fault
 
 -- ---- the file and the host

@@ -2,8 +2,7 @@
 --     number_of      the number of a fault
 --     fault_words      what is said of it
 use Rattle.std.specs.Prelude.{ℕ, List, codes}
-use Rattle.board_file.specs.declared.fault.BoardFault.{BoardFault}
-use Rattle.board_file.specs.declared.fault.BoardFault.TheVariants.{NotToml, Key, UnknownKey, Number, Place, Register, Size, TooMany, GuestName, Slot, Aperture, CellMasks, Memory}
+use Rattle.board_file.specs.declared.fault.BoardFault.{BoardFault, TheVariants.{NotToml, Key, UnknownKey, Number, Place, Register, Size, TooMany, GuestName, Slot, Aperture, CellMasks, Memory}}
 
 abbrev pub number_of : BoardFault → ℕ
 number_of NotToml = 101

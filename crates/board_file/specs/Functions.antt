@@ -4,18 +4,12 @@
 --     standings, rows      where functions stand, and the functions there
 --     apertures, guests      the addresses that set-up may give out, and the guests
 use Rattle.std.specs.Prelude.{nat_abs, true, false, List, ◌++◌, map, option_map}
-use Rattle.model_registers.specs.Apertures.{Aperture, Apertures}
-use Rattle.model_registers.specs.Declarations.{Region, ConfigBlock}
+use Rattle.model_registers.specs.{Apertures.{Aperture, Apertures}, Declarations.{Region, ConfigBlock}, DeclarationRules.with_ordered_regions}
+use Rattle.model_board.specs.{Board.Row, Places.Standing}
+use Rattle.board_file.specs.{Entries.{Bar, Config, Endpoint, Bridge, Guest, File}, declared.entries.Bounds.Bounds, Blocks.block_cells, PathTexts.path_at}
 use Rattle.model_registers.specs.Declarations as declared
-use Rattle.model_registers.specs.DeclarationRules.{with_ordered_regions}
-use Rattle.model_board.specs.Board.{Row}
 use Rattle.model_board.specs.Board as board
-use Rattle.model_board.specs.Places.{Standing}
 use Rattle.model_guests.specs.World as world
-use Rattle.board_file.specs.Entries.{Bar, Config, Endpoint, Bridge, Guest, File}
-use Rattle.board_file.specs.declared.entries.Bounds.{Bounds}
-use Rattle.board_file.specs.Blocks.{block_cells}
-use Rattle.board_file.specs.PathTexts.{path_at}
 
 abbrev pub region : Bar → Region
 region b = record {

@@ -5,14 +5,8 @@
 --     HasSmallNumbers      an endpoint's values fit their registers
 --     IsShortGuest      a guest's name and slots fit what holds them
 --     is_judged      of the whole file: no problem is found under any check but that of cell masks
-use Rattle.std.specs.Prelude.{◌<◌, ◌≤◌, ◌^◌, nat_abs, length, Bool, ◌&&◌, List, []}
-use Rattle.std.specs.List.{list_all}
-use Rattle.board_file.specs.Entries.{Bar, Config, Endpoint, Bridge, Guest, File}
-use Rattle.board_file.specs.EntryRules.{endpoint_rules, bar_rules, config_rules, bridge_rules}
-use Rattle.board_file.specs.Meaning.{file_checks}
-use Rattle.board_file.specs.Problems.{none, problems_in}
-use Rattle.board_file.specs.declared.rule.Rule.{Rule}
-use Rattle.board_file.specs.declared.fault.BoardFault.{BoardFault}
+use Rattle.std.specs.{Prelude.{◌<◌, ◌≤◌, ◌^◌, nat_abs, length, Bool, ◌&&◌, List, []}, List.list_all}
+use Rattle.board_file.specs.{Entries.{Bar, Config, Endpoint, Bridge, Guest, File}, EntryRules.{endpoint_rules, bar_rules, config_rules, bridge_rules}, Meaning.file_checks, Problems.{none, problems_in}, declared.{rule.Rule.Rule, fault.BoardFault.BoardFault}}
 use Rattle.board_file.specs.declared.fault.BoardFault.TheVariants as fault
 
 abbrev pub kept : List (Rule × Bool) → Bool

@@ -4,20 +4,11 @@
 --     of_member e l k      at a key that a table has: it is known
 --     key_problems ms fault      all tables that break a rule of keys of this fault
 --     problems_of ms fault      all entries that break a rule of this fault
-use Rattle.std.specs.Prelude.{ℕ, Bool, true, not, ◌||◌, List, [], ◌∷◌, ◌++◌, length, map, flat_map, is_some, if◌then◌else◌}
-use Rattle.std.specs.List.{enumerate_from, range_with_len}
-use Rattle.std.specs.Option.{option_map_or}
+use Rattle.std.specs.{Prelude.{ℕ, Bool, true, not, ◌||◌, List, [], ◌∷◌, ◌++◌, length, map, flat_map, is_some, if◌then◌else◌}, List.{enumerate_from, range_with_len}, Option.option_map_or}
 use Rattle.toml.specs.Data.{Members, no_members, member, get_member}
-use Rattle.board_file.specs.Entries.{Endpoint, File, file}
-use Rattle.board_file.specs.Schema.{Field, fields, form_at, has_form}
-use Rattle.board_file.specs.Tables.{level_of, table_at}
-use Rattle.board_file.specs.Problems.{Found, problems_in}
-use Rattle.board_file.specs.declared.schema.Level.{Level}
-use Rattle.board_file.specs.declared.fault.BoardFault.{BoardFault}
+use Rattle.board_file.specs.{Entries.{Endpoint, File, file}, Schema.{Field, fields, form_at, has_form}, Tables.{level_of, table_at}, Problems.{Found, problems_in}, declared.{schema.Level.Level, fault.BoardFault.BoardFault, rule.Rule.Rule, entry.Entry.Entry}}
 use Rattle.board_file.specs.declared.fault.BoardFault.TheVariants as fault
-use Rattle.board_file.specs.declared.rule.Rule.{Rule}
 use Rattle.board_file.specs.declared.rule.Rule.TheVariants as rule
-use Rattle.board_file.specs.declared.entry.Entry.{Entry}
 use Rattle.board_file.specs.declared.entry.Entry.TheVariants as entry
 
 -- ---- the tables of a file

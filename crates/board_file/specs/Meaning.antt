@@ -8,16 +8,10 @@
 use Rattle.std.specs.Prelude.{ℕ, Bool, List, [], ◌∷◌, ◌++◌, map, Option, Some, None, Result, Ok, Err}
 use Rattle.toml.specs.Data.{Members}
 use Rattle.model_registers.specs.DeclarationRules.{first_broken}
-use Rattle.model_board.specs.Places.{board_of}
+use Rattle.model_board.specs.{Places.board_of, AtReset.board_at}
 use Rattle.model_guests.specs.World.{Guest, World}
-use Rattle.model_board.specs.AtReset.{board_at}
 use Rattle.host_bridge.specs.HostState.{HostState}
-use Rattle.board_file.specs.Entries.{File, file}
-use Rattle.board_file.specs.Functions.{rows, apertures, guests}
-use Rattle.board_file.specs.Faults.{number_of}
-use Rattle.board_file.specs.Problems.{none}
-use Rattle.board_file.specs.KeyProblems.{problems_of}
-use Rattle.board_file.specs.declared.fault.BoardFault.{BoardFault}
+use Rattle.board_file.specs.{Entries.{File, file}, Functions.{rows, apertures, guests}, Faults.number_of, Problems.none, KeyProblems.problems_of, declared.fault.BoardFault.BoardFault}
 use Rattle.board_file.specs.declared.fault.BoardFault.TheVariants as fault
 
 -- those of what a file says

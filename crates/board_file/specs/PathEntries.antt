@@ -3,15 +3,10 @@
 --     place_texts, slot_texts      the texts of all functions, endpoints first, and of all slots, guest after guest
 --     path_texts      those that a check asks
 --     path_entries      the same of some texts
-use Rattle.std.specs.Prelude.{ℕ, Bool, not, ◌&&◌, List, [], ◌++◌, map, flat_map, take}
-use Rattle.std.specs.List.{enumerate_from, list_all}
+use Rattle.std.specs.{Prelude.{ℕ, Bool, not, ◌&&◌, List, [], ◌++◌, map, flat_map, take}, List.{enumerate_from, list_all}}
 use Rattle.model_board.specs.Paths.{Path, path_eq}
-use Rattle.board_file.specs.PathTexts.{is_path_text, path_at}
-use Rattle.board_file.specs.Entries.{Endpoint, Bridge, Guest, File}
-use Rattle.board_file.specs.EntryRules.{are_same_place}
-use Rattle.board_file.specs.declared.fault.BoardFault.{BoardFault}
+use Rattle.board_file.specs.{PathTexts.{is_path_text, path_at}, Entries.{Endpoint, Bridge, Guest, File}, EntryRules.are_same_place, declared.{fault.BoardFault.BoardFault, entry.Entry.Entry}}
 use Rattle.board_file.specs.declared.fault.BoardFault.TheVariants as fault
-use Rattle.board_file.specs.declared.entry.Entry.{Entry}
 use Rattle.board_file.specs.declared.entry.Entry.TheVariants as entry
 
 pub record PathEntry : Type 0 where

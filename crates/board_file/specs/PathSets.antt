@@ -1,9 +1,7 @@
 -- Functions by the sets of their paths.
 --     AreSetsOf ss all bridges      the paths of all functions, and of the bridges among them
-use Rattle.std.specs.Prelude.{◌≡◌, List}
-use Rattle.std.specs.BTreeSet.{BTreeSet, contains}
-use Rattle.model_board.specs.Paths.{Path}
-use Rattle.model_board.specs.Places.{Standing, has_path, has_bridge}
+use Rattle.std.specs.{Prelude.{◌≡◌, List}, BTreeSet.{BTreeSet, contains}}
+use Rattle.model_board.specs.{Paths.Path, Places.{Standing, has_path, has_bridge}}
 use Rattle.paths.specs.PathOrders.{path_cmp}
 
 pub record AreSetsOf (ss : List Standing) (all bridges : BTreeSet Path) : Type 0 where

@@ -5,20 +5,11 @@
 --     problems_in f fault      all entries that break a rule of this fault, in the order of the file
 --     Adds these old new      the problems, and then these
 --     none ps      there are none
-use Rattle.std.specs.Prelude.{◌≡◌, ℕ, Bool, true, false, List, [], ◌∷◌, ◌++◌, map, flat_map, if◌then◌else◌}
-use Rattle.std.specs.List.{enumerate_from}
-use Rattle.board_file.specs.Entries.{Bar, Config, Endpoint, Bridge, Guest, File}
+use Rattle.std.specs.{Prelude.{◌≡◌, ℕ, Bool, true, false, List, [], ◌∷◌, ◌++◌, map, flat_map, if◌then◌else◌}, List.enumerate_from}
+use Rattle.board_file.specs.{Entries.{Bar, Config, Endpoint, Bridge, Guest, File}, Functions.standings, PathEntries.{PathEntry, path_texts, path_entries}, RuleFaults.key_of, EntryRules.{file_rules, host_rules, path_rules, endpoint_rules, bar_rules, config_rules, bridge_rules, guest_rules}, declared.{fault.BoardFault.BoardFault, entry.Entry.Entry, rule.Rule.Rule, finding.Breach.Breach}}
 use Rattle.model_board.specs.Places.{Standing}
-use Rattle.board_file.specs.Functions.{standings}
-use Rattle.board_file.specs.PathEntries.{PathEntry, path_texts, path_entries}
-use Rattle.board_file.specs.RuleFaults.{key_of}
-use Rattle.board_file.specs.EntryRules.{file_rules, host_rules, path_rules, endpoint_rules, bar_rules, config_rules, bridge_rules, guest_rules}
-use Rattle.board_file.specs.declared.fault.BoardFault.{BoardFault}
 use Rattle.board_file.specs.declared.fault.BoardFault.TheVariants as fault
-use Rattle.board_file.specs.declared.entry.Entry.{Entry}
 use Rattle.board_file.specs.declared.entry.Entry.TheVariants as entry
-use Rattle.board_file.specs.declared.rule.Rule.{Rule}
-use Rattle.board_file.specs.declared.finding.Breach.{Breach}
 
 pub record Found : Type 0 where
   pub entry : Entry

@@ -4,10 +4,7 @@
 use Rattle.std.specs.Prelude.{◌≡◌, ◌≢◌, false, [], Err}
 use Rattle.toml.specs.Data.{Members}
 use Rattle.lists.specs.Elements.{IsIn}
-use Rattle.board_file.specs.declared.fault.BoardFault.{BoardFault}
-use Rattle.board_file.specs.Faults.{number_of}
-use Rattle.board_file.specs.KeyProblems.{problems_of}
-use Rattle.board_file.specs.Meaning.{checks, meaning}
+use Rattle.board_file.specs.{declared.fault.BoardFault.BoardFault, Faults.number_of, KeyProblems.problems_of, Meaning.{checks, meaning}}
 
 abbrev pub RefusalsHaveProblems : Type 0
 RefusalsHaveProblems = (ms : Members) (fault : BoardFault) → meaning ms ≡ Err (number_of fault) → problems_of ms fault ≢ []

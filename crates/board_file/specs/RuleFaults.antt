@@ -2,9 +2,7 @@
 --     row_of      the fault of a file in which a rule is broken, and the key at which it is
 --     fault_of, key_of      each of these. A rule of keys is broken at any key, and a slot has none
 use Rattle.std.specs.Prelude.{ℕ, List, [], codes}
-use Rattle.board_file.specs.declared.fault.BoardFault.{BoardFault}
-use Rattle.board_file.specs.declared.fault.BoardFault.TheVariants.{Key, UnknownKey, Number, TooMany, Place, Register, Size, GuestName, Slot, Aperture, CellMasks}
-use Rattle.board_file.specs.declared.rule.Rule.{Rule}
+use Rattle.board_file.specs.declared.{fault.BoardFault.{BoardFault, TheVariants.{Key, UnknownKey, Number, TooMany, Place, Register, Size, GuestName, Slot, Aperture, CellMasks}}, rule.Rule.Rule}
 use Rattle.board_file.specs.declared.rule.Rule.TheVariants as rule
 
 abbrev pub row_of : Rule → BoardFault × List ℕ

@@ -5,19 +5,11 @@
 --     is_size      a power of two within the limits of a region's kind
 --     is_natural, are_natural      both addresses of an aperture are 0 or more
 --     masks_hold      each block of an endpoint has lawful patterns, and no two blocks of own registers overlap
-use Rattle.std.specs.Prelude.{ℕ, ℤ, pos, nat_abs, int_le, Bool, true, false, not, ◌&&◌, List, [], ◌∷◌, map, ◌==◌, nat_le, Option, Some, None, bit_and, count_by}
-use Rattle.std.specs.List.{list_all}
-use Rattle.std.specs.Int.{is_power_of_two}
+use Rattle.std.specs.{Prelude.{ℕ, ℤ, pos, nat_abs, int_le, Bool, true, false, not, ◌&&◌, List, [], ◌∷◌, map, ◌==◌, nat_le, Option, Some, None, bit_and, count_by}, List.list_all, Int.is_power_of_two}
 use Rattle.lists.specs.Elements.{all_pairs}
-use Rattle.model_registers.specs.Declarations.{Kind, least_size, greatest_size}
-use Rattle.model_registers.specs.DeclarationRules.{blocks_apart}
-use Rattle.model_board.specs.Paths.{Path}
-use Rattle.model_board.specs.Places.{Standing, has_path, has_bridge}
-use Rattle.board_file.specs.Entries.{Bar, Config, Endpoint}
-use Rattle.board_file.specs.declared.entries.Bounds.{Bounds}
-use Rattle.board_file.specs.Blocks.{is_block}
-use Rattle.board_file.specs.PathTexts.{is_path_text, path_at}
-use Rattle.board_file.specs.Functions.{config_block}
+use Rattle.model_registers.specs.{Declarations.{Kind, least_size, greatest_size}, DeclarationRules.blocks_apart}
+use Rattle.model_board.specs.{Paths.Path, Places.{Standing, has_path, has_bridge}}
+use Rattle.board_file.specs.{Entries.{Bar, Config, Endpoint}, declared.entries.Bounds.Bounds, Blocks.is_block, PathTexts.{is_path_text, path_at}, Functions.config_block}
 
 -- ---- numbers
 

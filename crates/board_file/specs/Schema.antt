@@ -2,17 +2,10 @@
 --     fields      the keys of a table, whether they are needed, and what stands there
 --     has_form      a value has the type, or is one of the words, that stands at its key
 --     form_at      what stands at a key
-use Rattle.std.specs.Prelude.{ℕ, codes, Bool, true, false, ◌&&◌, List, [], ◌∷◌, length, ◌==◌, Option, Some, None, is_some, if◌then◌else◌}
-use Rattle.std.specs.List.{list_all}
+use Rattle.std.specs.{Prelude.{ℕ, codes, Bool, true, false, ◌&&◌, List, [], ◌∷◌, length, ◌==◌, Option, Some, None, is_some, if◌then◌else◌}, List.list_all}
 use Rattle.toml.specs.Data.{Data, string, array, Items, no_items, item, as_integer, as_str, as_table}
-use Rattle.board_file.specs.Texts.{same_text, region_kind, io_decode, pref_decode}
-use Rattle.board_file.specs.declared.schema.Level.{Level}
+use Rattle.board_file.specs.{Texts.{same_text, region_kind, io_decode, pref_decode}, declared.schema.{Level.Level, Words.{Words, TheVariants.{RegionKind, IoDecode, PrefDecode}}, Form.{Form, TheVariants.{Integer, Text, Word, Pair, Texts, Table, Tables}}, Field.Field as FieldInCode}}
 use Rattle.board_file.specs.declared.schema.Level.TheVariants as level
-use Rattle.board_file.specs.declared.schema.Words.{Words}
-use Rattle.board_file.specs.declared.schema.Words.TheVariants.{RegionKind, IoDecode, PrefDecode}
-use Rattle.board_file.specs.declared.schema.Form.{Form}
-use Rattle.board_file.specs.declared.schema.Form.TheVariants.{Integer, Text, Word, Pair, Texts, Table, Tables}
-use Rattle.board_file.specs.declared.schema.Field.{Field as FieldInCode}
 
 pub record Field : Type 0 where
   pub key : List ℕ

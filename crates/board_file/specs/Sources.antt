@@ -1,8 +1,7 @@
 -- A document beside the bytes of its file.
 --     IsRead      the document is what these bytes are
 use Rattle.std.specs.Prelude.{◌≡◌, Some, IsUtf8}
-use Rattle.toml.specs.Parse.{parse_document}
-use Rattle.toml.specs.View.{table_view}
+use Rattle.toml.specs.{Parse.parse_document, View.table_view}
 use Rattle.board_file.specs.declared.source.Source.{Source}
 
 pub record IsRead (s : Source) : Type 0 where

@@ -6,9 +6,8 @@
 --     level_of entry      the kind of table that it has to be
 use Rattle.std.specs.Prelude.{ℕ, codes, List, Option, Some, None, option_and_then}
 use Rattle.toml.specs.Data.{Data, Members, get_member, at, as_table}
-use Rattle.board_file.specs.declared.schema.Level.{Level}
+use Rattle.board_file.specs.declared.{schema.Level.Level, entry.Entry.Entry}
 use Rattle.board_file.specs.declared.schema.Level.TheVariants as level
-use Rattle.board_file.specs.declared.entry.Entry.{Entry}
 use Rattle.board_file.specs.declared.entry.Entry.TheVariants as entry
 
 -- the table at an index of the list at a key

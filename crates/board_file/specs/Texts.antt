@@ -1,8 +1,7 @@
 -- Texts, and the words that a board file has for kinds.
 --     same_text      two texts have the same bytes
 --     region_kind, io_decode, pref_decode      what a word says of a base address register, and of a bridge's windows
-use Rattle.std.specs.Prelude.{ℕ, codes, Bool, true, false, List, Option, Some, None, if◌then◌else◌}
-use Rattle.std.specs.Str.{bytes_eq}
+use Rattle.std.specs.{Prelude.{ℕ, codes, Bool, true, false, List, Option, Some, None, if◌then◌else◌}, Str.bytes_eq}
 use Rattle.model_registers.specs.Declarations.{Kind, io_kind, mem32, mem64, IoDecode, no_io, io16, io32, PrefDecode, no_pref, pref32, pref64}
 
 abbrev pub same_text : List ℕ → List ℕ → Bool

@@ -1,8 +1,7 @@
 //! The addresses that set-up may give out.
 ghost use Rattle.std.specs.Prelude.{◌≡◌, ◌&&◌, ◌||◌, not, option_map, is_ok, IfOk};
 ghost use Rattle.model_registers.specs.Apertures.{are_lawful, is_io_aperture, is_mem_aperture, has_lawful_pref};
-ghost use Rattle.board_file.specs.Functions.{aperture, apertures};
-ghost use Rattle.board_file.specs.Rules.{is_natural, are_natural};
+ghost use Rattle.board_file.specs.{Functions.{aperture, apertures}, Rules.{is_natural, are_natural}};
 
 use crate::entries::{Bounds, FileEntries};
 use headers::{Aperture, ApertureFault, Apertures};

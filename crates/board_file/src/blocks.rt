@@ -1,8 +1,6 @@
 //! The bytes at the beginning of a region or of a device's own registers.
-ghost use Rattle.std.specs.Prelude.{◌≡◌, ◌+◌, ◌<◌, IfOk, length, nat_abs, nat_le, option_map, take};
-ghost use Rattle.std.specs.List.{list_all};
-ghost use Rattle.board_file.specs.Blocks.{pattern, is_pattern, pattern_bytes, byte_at, are_apart as share_no_bit, cells, is_block, block_cells, Gives};
-ghost use Rattle.board_file.specs.EntryRules.{are_apart};
+ghost use Rattle.std.specs.{Prelude.{◌≡◌, ◌+◌, ◌<◌, IfOk, length, nat_abs, nat_le, option_map, take}, List.list_all};
+ghost use Rattle.board_file.specs.{Blocks.{pattern, is_pattern, pattern_bytes, byte_at, are_apart as share_no_bit, cells, is_block, block_cells, Gives}, EntryRules.are_apart};
 
 use crate::entries::{ConfigEntry, PatternTexts};
 use config_bytes::Cell;

@@ -1,18 +1,10 @@
 //! The board of a table.
-ghost use Rattle.std.specs.Prelude.{◌≡◌, ◌++◌, ◌⊎◌, IsTrue, IfOk, IfErr, map, true, false};
-ghost use Rattle.std.specs.List.{list_all};
+ghost use Rattle.std.specs.{Prelude.{◌≡◌, ◌++◌, ◌⊎◌, IsTrue, IfOk, IfErr, map, true, false}, List.list_all};
 ghost use Rattle.lists.specs.Elements.{Each};
-ghost use Rattle.model_board.specs.AtReset.{IsAtReset, reset_state};
-ghost use Rattle.model_board.specs.Board.{IsBoard};
-ghost use Rattle.model_board.specs.Lawful.{HasLawfulDecls};
-ghost use Rattle.model_board.specs.Places.{board_of};
+ghost use Rattle.model_board.specs.{AtReset.{IsAtReset, reset_state}, Board.IsBoard, Lawful.HasLawfulDecls, Places.board_of};
 ghost use Rattle.model_guests.specs.World.{IsLawfulWorld};
-ghost use Rattle.board_file.specs.Blocks.{Gives};
+ghost use Rattle.board_file.specs.{Blocks.Gives, Judged.{is_judged, is_declarable, is_lawful_bridge, IsShortGuest}, Rules.masks_hold, Meaning.{world_in, world_of}, declared.fault.BoardFault.TheVariants.{Memory, CellMasks}};
 ghost use Rattle.board_file.specs.Functions as said;
-ghost use Rattle.board_file.specs.Judged.{is_judged, is_declarable, is_lawful_bridge, IsShortGuest};
-ghost use Rattle.board_file.specs.Rules.{masks_hold};
-ghost use Rattle.board_file.specs.Meaning.{world_in, world_of};
-ghost use Rattle.board_file.specs.declared.fault.BoardFault.TheVariants.{Memory, CellMasks};
 
 use crate::apertures::apertures;
 use crate::building::{bridge, endpoint, guest};

@@ -1,14 +1,10 @@
 //! The declarations of functions and guests, from entries that were judged.
-ghost use Rattle.std.specs.Prelude.{◌≡◌, ◌<◌, ◌≤◌, ◌^◌, nat_abs, if◌then◌else◌, IsTrue, IfOk, map, length};
-ghost use Rattle.std.specs.List.{list_all};
+ghost use Rattle.std.specs.{Prelude.{◌≡◌, ◌<◌, ◌≤◌, ◌^◌, nat_abs, if◌then◌else◌, IsTrue, IfOk, map, length}, List.list_all};
 ghost use Rattle.model_registers.specs.DeclarationRules.{first_broken, endpoint_rules, blocks_apart, with_ordered_regions, IsLawfulEndpoint, IsLawfulBridge};
 ghost use Rattle.lists.specs.Elements.{all_pairs};
 ghost use Rattle.bars.specs.Kinds.{kind_of};
-ghost use Rattle.board_file.specs.Blocks.{Gives};
+ghost use Rattle.board_file.specs.{Blocks.Gives, PathTexts.path_at, Judged.{is_region, is_config_block, is_declarable, HasSmallNumbers}, Rules.{is_size, bar_holds, config_holds, masks_hold}};
 ghost use Rattle.board_file.specs.Functions as said;
-ghost use Rattle.board_file.specs.PathTexts.{path_at};
-ghost use Rattle.board_file.specs.Judged.{is_region, is_config_block, is_declarable, HasSmallNumbers};
-ghost use Rattle.board_file.specs.Rules.{is_size, bar_holds, config_holds, masks_hold};
 
 use crate::blocks::block;
 use crate::entries::{BarEntry, BridgeEntry, ConfigEntry, EndpointEntry, GuestEntry};

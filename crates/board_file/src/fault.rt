@@ -1,7 +1,6 @@
 //! Why a board file is refused.
 ghost use Rattle.std.specs.Prelude.{◌≡◌, Some};
-ghost use Rattle.board_file.specs.Faults.{number_of, fault_words};
-ghost use Rattle.board_file.specs.declared.fault.BoardFault.TheVariants.{Memory};
+ghost use Rattle.board_file.specs.{Faults.{number_of, fault_words}, declared.fault.BoardFault.TheVariants.Memory};
 
 use std::alloc::{AllocError, AllocFailed};
 use std::error::Error;

@@ -1,7 +1,6 @@
 //! The entries of a file that break a rule.
 ghost use Rattle.std.specs.Prelude.{◌≡◌, IfOk, OnOk, map};
-ghost use Rattle.board_file.specs.EntryRules.{file_rules, host_rules};
-ghost use Rattle.board_file.specs.Problems.{found_of, Adds, broken, of_values, problems_in};
+ghost use Rattle.board_file.specs.{EntryRules.{file_rules, host_rules}, Problems.{found_of, Adds, broken, of_values, problems_in}};
 
 use crate::apertures::{is_io, is_mem, is_pref};
 use crate::entries::FileEntries;

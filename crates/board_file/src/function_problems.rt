@@ -1,8 +1,6 @@
 //! The endpoints and bridges of a file that break a rule.
-ghost use Rattle.std.specs.Prelude.{◌≡◌, OnOk, flat_map};
-ghost use Rattle.std.specs.List.{enumerate_from};
-ghost use Rattle.board_file.specs.EntryRules.{endpoint_numbers, endpoint_rules};
-ghost use Rattle.board_file.specs.Problems.{Adds, broken, of_bar, of_config, of_endpoint, of_bridge};
+ghost use Rattle.std.specs.{Prelude.{◌≡◌, OnOk, flat_map}, List.enumerate_from};
+ghost use Rattle.board_file.specs.{EntryRules.{endpoint_numbers, endpoint_rules}, Problems.{Adds, broken, of_bar, of_config, of_endpoint, of_bridge}};
 
 use crate::blocks::{has_own_offsets, is_block};
 use crate::entries::{BarEntry, BridgeEntry, ConfigEntry, EndpointEntry, FileEntries};

@@ -1,8 +1,6 @@
 //! The guests of a file that break a rule.
-ghost use Rattle.std.specs.Prelude.{◌≡◌, OnOk, flat_map};
-ghost use Rattle.std.specs.List.{enumerate_from};
-ghost use Rattle.board_file.specs.EntryRules.{guest_rules};
-ghost use Rattle.board_file.specs.Problems.{Adds, broken, of_guest};
+ghost use Rattle.std.specs.{Prelude.{◌≡◌, OnOk, flat_map}, List.enumerate_from};
+ghost use Rattle.board_file.specs.{EntryRules.guest_rules, Problems.{Adds, broken, of_guest}};
 
 use crate::entries::{FileEntries, GuestEntry};
 use crate::entry::Entry;

@@ -1,7 +1,5 @@
 //! The names of guests.
-ghost use Rattle.std.specs.Prelude.{◌≡◌, not, take};
-ghost use Rattle.std.specs.List.{list_all};
-ghost use Rattle.std.specs.Str.{bytes_eq};
+ghost use Rattle.std.specs.{Prelude.{◌≡◌, not, take}, List.list_all, Str.bytes_eq};
 ghost use Rattle.model_guests.specs.World.{is_letter, is_name_byte, is_name};
 
 use crate::entries::GuestEntry;

@@ -1,10 +1,7 @@
 //! The tables of a file that break a rule of keys.
-ghost use Rattle.std.specs.Prelude.{◌≡◌, ◌++◌, IfOk, OnOk, flat_map, map, option_map, true};
-ghost use Rattle.std.specs.Option.{option_map_or};
+ghost use Rattle.std.specs.{Prelude.{◌≡◌, ◌++◌, IfOk, OnOk, flat_map, map, option_map, true}, Option.option_map_or};
 ghost use Rattle.toml.specs.View.{view, table_view};
-ghost use Rattle.board_file.specs.KeyProblems.{with_endpoint, tables_of, unless_kept_at, of_field, of_member, keys_in, of_table, of_entry, key_problems};
-ghost use Rattle.board_file.specs.Problems.{found_of, Adds};
-ghost use Rattle.board_file.specs.Schema.{fields, field_of, has_form};
+ghost use Rattle.board_file.specs.{KeyProblems.{with_endpoint, tables_of, unless_kept_at, of_field, of_member, keys_in, of_table, of_entry, key_problems}, Problems.{found_of, Adds}, Schema.{fields, field_of, has_form}};
 
 use crate::entries::{EndpointEntry, FileEntries};
 use crate::entry::Entry;

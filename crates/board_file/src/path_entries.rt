@@ -1,7 +1,6 @@
 //! The entries that have the text of a path: functions, and slots. Which texts have the path of one before
 //! them is found by a set of paths, so none is compared with all others.
-ghost use Rattle.std.specs.Prelude.{◌≡◌, ◌++◌, ◌||◌, not, IfOk, OnOk, map};
-ghost use Rattle.std.specs.BTreeSet.{contains};
+ghost use Rattle.std.specs.{Prelude.{◌≡◌, ◌++◌, ◌||◌, not, IfOk, OnOk, map}, BTreeSet.contains};
 ghost use Rattle.model_board.specs.Paths.{Path as PathValue};
 ghost use Rattle.paths.specs.PathOrders.{path_cmp};
 ghost use Rattle.board_file.specs.PathTexts.{is_path_text, path_at};

@@ -1,8 +1,7 @@
 //! The functions of a file that don't stand as those of a board, and the slots that don't name an endpoint
 //! of their own.
 ghost use Rattle.std.specs.Prelude.{◌≡◌, OnOk};
-ghost use Rattle.board_file.specs.Functions.{standings};
-ghost use Rattle.board_file.specs.Problems.{Adds, of_path, of_paths};
+ghost use Rattle.board_file.specs.{Functions.standings, Problems.{Adds, of_path, of_paths}};
 
 use crate::entries::FileEntries;
 use crate::fault::BoardFault;

@@ -1,10 +1,8 @@
 //! Functions by sets of their paths. A set finds a path by halving, so none is compared with all others.
-ghost use Rattle.std.specs.Prelude.{◌≡◌, ◌<◌, IfOk, length, map, filter};
-ghost use Rattle.std.specs.BTreeSet.{IsFromIterResult};
+ghost use Rattle.std.specs.{Prelude.{◌≡◌, ◌<◌, IfOk, length, map, filter}, BTreeSet.IsFromIterResult};
 ghost use Rattle.model_board.specs.Places.{has_path, has_bridge};
 ghost use Rattle.paths.specs.PathOrders.{path_cmp};
-ghost use Rattle.board_file.specs.EntryRules.{is_behind_bridge};
-ghost use Rattle.board_file.specs.Rules.{names_endpoint};
+ghost use Rattle.board_file.specs.{EntryRules.is_behind_bridge, Rules.names_endpoint};
 
 use crate::path_text::PathText;
 use crate::places::{FunctionPath, path_of};

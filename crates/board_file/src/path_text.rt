@@ -1,7 +1,6 @@
 //! Paths as texts.
 ghost use Rattle.std.specs.Prelude.{◌≡◌, ◌+◌, ◌≤◌, ◌++◌, length, option_map, is_some, IfSome};
-ghost use Rattle.board_file.specs.EntryRules.{are_same_place};
-ghost use Rattle.board_file.specs.PathTexts.{short_part, long_part, part_at_front, parts_after, path_of, is_path_text, path_at};
+ghost use Rattle.board_file.specs.{EntryRules.are_same_place, PathTexts.{short_part, long_part, part_at_front, parts_after, path_of, is_path_text, path_at}};
 
 use paths::{Part, Path};
 use std::marker::Model;

@@ -1,10 +1,7 @@
 //! What the table of a document says, key by key.
-ghost use Rattle.std.specs.Prelude.{◌≡◌, map, unwrap_or, option_and_then, option_map, IfOk, codes};
-ghost use Rattle.std.specs.List.{filter_map};
-ghost use Rattle.toml.specs.Data.{Members, get_member, as_str, as_table, as_array};
-ghost use Rattle.toml.specs.View.{view, array_view, table_view};
-ghost use Rattle.board_file.specs.Schema.{list_of};
-ghost use Rattle.board_file.specs.Entries.{number, text_at, text, values, tables, table_at, patterns, bar, config, endpoint, bridge, guest, integer_of, range_of, range, file};
+ghost use Rattle.std.specs.{Prelude.{◌≡◌, map, unwrap_or, option_and_then, option_map, IfOk, codes}, List.filter_map};
+ghost use Rattle.toml.specs.{Data.{Members, get_member, as_str, as_table, as_array}, View.{view, array_view, table_view}};
+ghost use Rattle.board_file.specs.{Schema.list_of, Entries.{number, text_at, text, values, tables, table_at, patterns, bar, config, endpoint, bridge, guest, integer_of, range_of, range, file}};
 
 use crate::entries::{
     BarEntry, Bounds, BridgeEntry, ConfigEntry, EndpointEntry, FileEntries, GuestEntry,

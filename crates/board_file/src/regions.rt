@@ -2,9 +2,7 @@
 ghost use Rattle.std.specs.Prelude.{◌≡◌, ◌||◌, not, map};
 ghost use Rattle.bars.specs.Kinds.{kind_of};
 ghost use Rattle.model_registers.specs.DeclarationRules.{has_own_registers};
-ghost use Rattle.board_file.specs.EntryRules.{has_indices};
-ghost use Rattle.board_file.specs.Functions.{region};
-ghost use Rattle.board_file.specs.Rules.{is_between, is_size};
+ghost use Rattle.board_file.specs.{EntryRules.has_indices, Functions.region, Rules.{is_between, is_size}};
 
 use crate::entries::{BarEntry, EndpointEntry};
 use bars::{BarDecl, Kind};

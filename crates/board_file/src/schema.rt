@@ -1,8 +1,6 @@
 //! Which keys the tables of a board file have, and what stands at them.
-ghost use Rattle.std.specs.Prelude.{◌≡◌, is_some};
-ghost use Rattle.toml.specs.View.{view};
-ghost use Rattle.std.specs.List.{list_all};
-ghost use Rattle.toml.specs.Data.{as_integer, as_str, as_table};
+ghost use Rattle.std.specs.{Prelude.{◌≡◌, is_some}, List.list_all};
+ghost use Rattle.toml.specs.{View.view, Data.{as_integer, as_str, as_table}};
 ghost use Rattle.board_file.specs.Schema.{fields, form_at, is_listed, has_form};
 
 use crate::keys::fields;

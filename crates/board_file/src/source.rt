@@ -1,17 +1,11 @@
 //! A document with what it says, and the reading of a board file.
 ghost use Rattle.std.specs.Prelude.{◌≡◌, ◌≢◌, IfOk, IfErr, IsUtf8, Ok, Err, map, option_map};
-ghost use Rattle.toml.specs.View.{table_view};
-ghost use Rattle.toml.specs.Parse.{parse_document};
+ghost use Rattle.toml.specs.{View.table_view, Parse.parse_document};
 ghost use Rattle.model_registers.specs.DeclarationRules.{first_broken};
 ghost use Rattle.model_board.specs.AtReset.{IsAtReset};
 ghost use Rattle.model_guests.specs.World.{IsLawfulWorld};
+ghost use Rattle.board_file.specs.{Functions.standings, KeyProblems.problems_of, Problems.found_of, Meaning.{early_checks, world_in, meaning, document_meaning}, Faults.number_of, declared.fault.BoardFault.TheVariants.{NotToml, Memory}};
 ghost use Rattle.board_file.specs.Entries as said;
-ghost use Rattle.board_file.specs.Functions.{standings};
-ghost use Rattle.board_file.specs.KeyProblems.{problems_of};
-ghost use Rattle.board_file.specs.Problems.{found_of};
-ghost use Rattle.board_file.specs.Meaning.{early_checks, world_in, meaning, document_meaning};
-ghost use Rattle.board_file.specs.Faults.{number_of};
-ghost use Rattle.board_file.specs.declared.fault.BoardFault.TheVariants.{NotToml, Memory};
 
 use crate::board::build;
 use crate::checks::order;

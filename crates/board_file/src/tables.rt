@@ -1,7 +1,6 @@
 //! The tables of entries in a document.
 ghost use Rattle.std.specs.Prelude.{◌≡◌, codes, option_map, option_and_then};
-ghost use Rattle.toml.specs.Data.{get_member, at, as_table, as_str};
-ghost use Rattle.toml.specs.View.{view, table_view};
+ghost use Rattle.toml.specs.{Data.{get_member, at, as_table, as_str}, View.{view, table_view}};
 ghost use Rattle.board_file.specs.Tables.{table_in, table_at, value_at, owner_of, owner_key, level_of};
 
 use crate::entry::Entry;

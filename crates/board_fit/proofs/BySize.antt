@@ -1,12 +1,6 @@
 -- Regions by size, one after the other.
-use Rattle.std.proofs.Common.{◌≡◌, ◌<◌, ◌≤◌, ◌+◌, ℕ, zero, suc, Bool, true, false, not, cond, List, [], ◌∷◌, length, get_or, take, Some, None, refl, sym, ap, ◌∙◌, arith}
-use Rattle.std.specs.Prelude.{insert}
-use Rattle.std.specs.List.{position, position_or_len}
-use Rattle.std.proofs.lemmas.Bool.{ltb-false}
-use Rattle.std.proofs.lemmas.List.Sums.{fold_more, prefix_len-le-length}
-use Rattle.board_fit.specs.declared.pool_region.PoolRegion.{PoolRegion}
-use Rattle.board_fit.specs.PoolRegions.{is_smaller, inserted, by_size}
-use Rattle.std.proofs.lemmas.Grind.{common_steps}
+use Rattle.std.{proofs.{Common.{◌≡◌, ◌<◌, ◌≤◌, ◌+◌, ℕ, zero, suc, Bool, true, false, not, cond, List, [], ◌∷◌, length, get_or, take, Some, None, refl, sym, ap, ◌∙◌, arith}, lemmas.{Bool.ltb-false, List.Sums.{fold_more, prefix_len-le-length}, Grind.common_steps}}, specs.{Prelude.insert, List.{position, position_or_len}}}
+use Rattle.board_fit.specs.{declared.pool_region.PoolRegion.PoolRegion, PoolRegions.{is_smaller, inserted, by_size}}
 
 -- the first n of a list in which a region was put, by the first n of the list
 pub take_inserted : (n : ℕ) (r : PoolRegion) (rs : List PoolRegion) → take n (inserted r (take n rs)) ≡ take n (inserted r rs)

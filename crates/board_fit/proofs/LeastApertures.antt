@@ -1,21 +1,10 @@
 -- The least aperture in which a pool fits: what a pool takes of an aperture goes by the first address of the aperture alone.
-use Rattle.std.proofs.Common.{◌≡◌, ℕ, zero, suc, ◌+◌, ◌-◌, ◌%◌, ◌^◌, ◌<◌, ◌≤◌, Bool, true, false, List, [], ◌∷◌, Option, Some, None, option_map, refl, sym, ap, subst, ◌∙◌, arith}
-use Rattle.std.specs.Prelude.{nat_lt, nat_le, MatchOption, if◌then◌else◌}
-use Rattle.std.proofs.lemmas.Bool.{lt-ltb, le-ltb, leb-true, leb-false, le-leb}
-use Rattle.std.proofs.Math.Nat.{div-lt_iff_lt-mul, mul-le-mul_right, suc-mul}
-use Rattle.std.proofs.lemmas.List.Elements.{filter_agree}
-use Rattle.std.proofs.lemmas.Nat.{div-add-mod'}
-use Rattle.model_registers.specs.Declarations.{Kind, Bridge}
-use Rattle.model_registers.specs.Apertures.{Aperture, Apertures, IsOfUnits, IsLawfulApertures}
-use Rattle.model_board.specs.Paths.{Path}
-use Rattle.model_board.specs.Board.{Decl, Board, rows_on}
-use Rattle.model_set_up.specs.Pools.{Pool, io_pool, mem_pool, pref_pool, unit_of, pool_of, aperture_of}
-use Rattle.model_set_up.specs.Placement.{Item, in_order, end_from, round_up, alignment, items_of, items_within, items_on, root_first, fits_items, fits}
-use Rattle.model_set_up.proofs.Packing.{unit_positive, round_up_not_before, round_up_is_multiple}
-use Rattle.window_packing.specs.declared.pool_uses.PoolUse.{PoolUse}
-use Rattle.window_packing.specs.Uses.{told_use}
-use Rattle.board_fit.proofs.PoolsOfRegions.{flat_map_alike}
-use Rattle.board_fit.specs.LeastApertures.{with_aperture, Holds, IsLeast, HoldsNone, IsLeastAperture}
+use Rattle.std.{proofs.{Common.{◌≡◌, ℕ, zero, suc, ◌+◌, ◌-◌, ◌%◌, ◌^◌, ◌<◌, ◌≤◌, Bool, true, false, List, [], ◌∷◌, Option, Some, None, option_map, refl, sym, ap, subst, ◌∙◌, arith}, lemmas.{Bool.{lt-ltb, le-ltb, leb-true, leb-false, le-leb}, List.Elements.filter_agree, Nat.div-add-mod'}, Math.Nat.{div-lt_iff_lt-mul, mul-le-mul_right, suc-mul}}, specs.Prelude.{nat_lt, nat_le, MatchOption, if◌then◌else◌}}
+use Rattle.model_registers.specs.{Declarations.{Kind, Bridge}, Apertures.{Aperture, Apertures, IsOfUnits, IsLawfulApertures}}
+use Rattle.model_board.specs.{Paths.Path, Board.{Decl, Board, rows_on}}
+use Rattle.model_set_up.{specs.{Pools.{Pool, io_pool, mem_pool, pref_pool, unit_of, pool_of, aperture_of}, Placement.{Item, in_order, end_from, round_up, alignment, items_of, items_within, items_on, root_first, fits_items, fits}}, proofs.Packing.{unit_positive, round_up_not_before, round_up_is_multiple}}
+use Rattle.window_packing.specs.{declared.pool_uses.PoolUse.PoolUse, Uses.told_use}
+use Rattle.board_fit.{proofs.PoolsOfRegions.flat_map_alike, specs.LeastApertures.{with_aperture, Holds, IsLeast, HoldsNone, IsLeastAperture}}
 
 -- ---- apertures in their places
 

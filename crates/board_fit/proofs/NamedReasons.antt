@@ -1,31 +1,13 @@
 use Rattle.std.proofs.lemmas.Grind.{common_steps}
 -- Where bridges are too many, or regions of I/O stand behind bridges without an I/O window, an entry of the file is named.
-use Rattle.std.proofs.Common.{◌≡◌, ◌≢◌, ◌⊎◌, inl, inr, ℕ, ◌+◌, Bool, true, false, ◌&&◌, ◌||◌, not, cond, List, [], ◌∷◌, ◌++◌, map, Option, Some, None, refl, sym, ap, ◌∙◌, arith}
-use Rattle.std.specs.Prelude.{filter, flat_map}
-use Rattle.std.specs.Option.{option_map_or}
-use Rattle.std.specs.List.{list_all, list_any, enumerate_from}
-use Rattle.std.proofs.lemmas.Bool.{both_ways, leb-false, lt-ltb, false_from_ne_true}
-use Rattle.std.proofs.lemmas.List.Sums.{sum_by-cons}
-use Rattle.lists.specs.Elements.{Each}
-use Rattle.lists.proofs.EachLemmas.{each_append}
-use Rattle.lists.proofs.Members.{each_in, any_in, from_any, all_from, from_flat_map, from_filter, from_map}
+use Rattle.std.{proofs.{Common.{◌≡◌, ◌≢◌, ◌⊎◌, inl, inr, ℕ, ◌+◌, Bool, true, false, ◌&&◌, ◌||◌, not, cond, List, [], ◌∷◌, ◌++◌, map, Option, Some, None, refl, sym, ap, ◌∙◌, arith}, lemmas.{Bool.{both_ways, leb-false, lt-ltb, false_from_ne_true}, List.Sums.sum_by-cons}}, specs.{Prelude.{filter, flat_map}, Option.option_map_or, List.{list_all, list_any, enumerate_from}}}
+use Rattle.lists.{specs.Elements.Each, proofs.{EachLemmas.each_append, Members.{each_in, any_in, from_any, all_from, from_flat_map, from_filter, from_map}}}
 use Rattle.model_registers.specs.Declarations.{IoDecode}
-use Rattle.model_registers.specs.Declarations as declared
-use Rattle.model_board.specs.Paths.{Path, path_before, leads_to}
-use Rattle.model_board.specs.Board.{Row, Board, is_bridge}
-use Rattle.model_board.specs.BusNumbers.{bridge_count, numbers_suffice}
-use Rattle.model_board.specs.Places.{row_inserted, board_of}
-use Rattle.model_board.proofs.PlacesLaw.{each_to_board}
+use Rattle.model_board.{specs.{Paths.{Path, path_before, leads_to}, Board.{Row, Board, is_bridge}, BusNumbers.{bridge_count, numbers_suffice}, Places.{row_inserted, board_of}}, proofs.PlacesLaw.each_to_board}
 use Rattle.model_set_up.specs.Pools.{opens_io, has_io, bridges_above, has_io_paths}
-use Rattle.board_file.specs.Entries.{Bar, Bridge, Endpoint, File}
-use Rattle.board_file.specs.Functions.{endpoint_row, bridge_row, rows}
-use Rattle.board_file.specs.PathTexts.{path_at}
-use Rattle.board_fit.specs.ReasonLaws.{ReasonsAreTold}
-use Rattle.board_file.proofs.FirstBroken.{alone, broken_at}
-use Rattle.board_file.proofs.Searches.{position_none, not_empty, both_empty}
-use Rattle.board_fit.specs.Reaches.{all_above}
-use Rattle.board_fit.specs.Misfits.{is_io, is_closed, closes, first_closed, closed_region, closed_bars, closed_in, closed_regions, bridge_too_many}
-use Rattle.board_fit.proofs.PoolsOfRegions.{by_file}
+use Rattle.board_file.{specs.{Entries.{Bar, Bridge, Endpoint, File}, Functions.{endpoint_row, bridge_row, rows}, PathTexts.path_at}, proofs.{FirstBroken.{alone, broken_at}, Searches.{position_none, not_empty, both_empty}}}
+use Rattle.board_fit.{specs.{ReasonLaws.ReasonsAreTold, Reaches.all_above, Misfits.{is_io, is_closed, closes, first_closed, closed_region, closed_bars, closed_in, closed_regions, bridge_too_many}}, proofs.PoolsOfRegions.by_file}
+use Rattle.model_registers.specs.Declarations as declared
 
 -- ---- bridges
 

@@ -1,22 +1,12 @@
 -- The regions of a pool by the bridges of a file, and by those of its board.
-use Rattle.std.proofs.Common.{◌≡◌, ℕ, Bool, true, false, ◌&&◌, ◌||◌, not, cond, List, [], ◌∷◌, ◌++◌, map, refl, sym, ap, ◌∙◌, arith}
-use Rattle.std.specs.Prelude.{flat_map}
-use Rattle.std.specs.List.{list_all, enumerate_from}
-use Rattle.model_registers.specs.Apertures.{Apertures}
-use Rattle.model_registers.specs.Declarations.{Kind}
-use Rattle.model_registers.specs.Declarations as declared
-use Rattle.model_board.specs.Paths.{Path, path_before, leads_to}
-use Rattle.model_board.specs.Board.{Decl, endpoint, bridge, Row, Board}
-use Rattle.model_board.specs.Places.{row_inserted, board_of}
+use Rattle.std.{proofs.{Common.{◌≡◌, ℕ, Bool, true, false, ◌&&◌, ◌||◌, not, cond, List, [], ◌∷◌, ◌++◌, map, refl, sym, ap, ◌∙◌, arith}, Math.Bool.{and_assoc, and_comm}}, specs.{Prelude.flat_map, List.{list_all, enumerate_from}}}
+use Rattle.model_registers.specs.{Apertures.Apertures, Declarations.Kind}
+use Rattle.model_board.specs.{Paths.{Path, path_before, leads_to}, Board.{Decl, endpoint, bridge, Row, Board}, Places.{row_inserted, board_of}}
 use Rattle.model_set_up.specs.Pools.{same_pool, has_pref, has_pref64, bridges_above, pool_of}
-use Rattle.board_file.specs.Entries.{Bridge, Endpoint, File}
-use Rattle.board_file.specs.Functions.{endpoint_row, bridge_row, rows}
-use Rattle.board_file.specs.PathTexts.{path_at}
-use Rattle.std.proofs.Math.Bool.{and_assoc, and_comm}
-use Rattle.window_packing.specs.declared.pool.Pool.{Pool}
-use Rattle.window_packing.specs.Plans.{named_pool}
-use Rattle.board_fit.specs.PoolRegions.{region_at, region_in, regions_in, pool_regions}
-use Rattle.board_fit.specs.Reaches.{has_pref_entry, has_pref64_entry, all_above, reaches_of, pool_by, region_by, endpoint_by}
+use Rattle.board_file.specs.{Entries.{Bridge, Endpoint, File}, Functions.{endpoint_row, bridge_row, rows}, PathTexts.path_at}
+use Rattle.window_packing.specs.{declared.pool.Pool.Pool, Plans.named_pool}
+use Rattle.board_fit.specs.{PoolRegions.{region_at, region_in, regions_in, pool_regions}, Reaches.{has_pref_entry, has_pref64_entry, all_above, reaches_of, pool_by, region_by, endpoint_by}}
+use Rattle.model_registers.specs.Declarations as declared
 
 -- ---- a test of all bridges above a path
 

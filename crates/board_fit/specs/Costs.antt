@@ -4,24 +4,16 @@
 --     gaps_text, aperture_text      the line of these, and that of the least aperture in which the pool fits
 --     AreCosts style name bytes b a pool needed text      the lines of its largest regions, and these two
 use Rattle.std.specs.Prelude.{◌≡◌, ℕ, ◌-◌, List, [], ◌++◌, codes, map, Option, Some, None, false}
-use Rattle.toml.specs.Data.{Members}
-use Rattle.toml.specs.Parse.{parse_document}
+use Rattle.toml.specs.{Data.Members, Parse.parse_document}
 use Rattle.model_registers.specs.Apertures.{Aperture, Apertures}
 use Rattle.model_board.specs.Board.{Board}
-use Rattle.model_set_up.specs.Pools.{aperture_of}
-use Rattle.model_set_up.specs.Placement.{fits}
+use Rattle.model_set_up.specs.{Pools.aperture_of, Placement.fits}
 use Rattle.model_guests.specs.PathTexts.{hexadecimal}
 use Rattle.board_file.specs.Entries.{file}
-use Rattle.window_packing.specs.declared.pool.Pool.{Pool}
-use Rattle.window_packing.specs.declared.pool_uses.PoolUse.{PoolUse}
-use Rattle.window_packing.specs.Plans.{named_pool}
+use Rattle.window_packing.specs.{declared.{pool.Pool.Pool, pool_uses.PoolUse.PoolUse}, Plans.named_pool}
 use Rattle.diagnostics.specs.declared.style.Style.{Style}
-use Rattle.board_fit.specs.declared.pool_region.PoolRegion.{PoolRegion}
-use Rattle.board_fit.specs.declared.remark.Remark.{Remark}
+use Rattle.board_fit.specs.{declared.{pool_region.PoolRegion.PoolRegion, remark.Remark.Remark}, PoolRegions.{pool_regions, largest, bytes_of}, LeastApertures.IsLeastAperture, RemarkTexts.AreTold}
 use Rattle.board_fit.specs.declared.remark.Remark.TheVariants as remark
-use Rattle.board_fit.specs.PoolRegions.{pool_regions, largest, bytes_of}
-use Rattle.board_fit.specs.LeastApertures.{IsLeastAperture}
-use Rattle.board_fit.specs.RemarkTexts.{AreTold}
 
 abbrev pub large_region : Pool → PoolRegion → Remark
 large_region pool r = remark.LargeRegion pool r

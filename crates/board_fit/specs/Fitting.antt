@@ -2,18 +2,12 @@
 --     use_text      how much a pool takes
 --     pool_text      the line of a pool
 --     fit_text      `ok`, and the line of each pool
-use Rattle.std.specs.Prelude.{◌++◌, codes, Option, Some, None}
-use Rattle.std.specs.Option.{option_map_or}
+use Rattle.std.specs.{Prelude.{◌++◌, codes, Option, Some, None}, Option.option_map_or}
 use Rattle.model_registers.specs.Apertures.{Apertures}
 use Rattle.model_board.specs.Board.{Board}
 use Rattle.model_set_up.specs.Pools.{aperture_of}
-use Rattle.model_guests.specs.Text.{Text}
-use Rattle.model_guests.specs.PathTexts.{hexadecimal}
-use Rattle.window_packing.specs.declared.pool.Pool.{Pool}
-use Rattle.window_packing.specs.declared.pool.Pool.TheVariants.{Io, Mem, Pref}
-use Rattle.window_packing.specs.declared.pool_uses.PoolUse.{PoolUse}
-use Rattle.window_packing.specs.Plans.{named_pool}
-use Rattle.window_packing.specs.Uses.{told_use}
+use Rattle.model_guests.specs.{Text.Text, PathTexts.hexadecimal}
+use Rattle.window_packing.specs.{declared.{pool.Pool.{Pool, TheVariants.{Io, Mem, Pref}}, pool_uses.PoolUse.PoolUse}, Plans.named_pool, Uses.told_use}
 use Rattle.board_fit.specs.Shortages.{pool_words}
 
 abbrev pub use_text : Option PoolUse → Text

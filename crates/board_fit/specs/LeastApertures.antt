@@ -6,8 +6,7 @@
 use Rattle.std.specs.Prelude.{◌≡◌, ℕ, ◌≤◌, true, Option, Some, option_map, MatchOption}
 use Rattle.model_registers.specs.Apertures.{Aperture, Apertures, IsLawfulApertures}
 use Rattle.model_board.specs.Board.{Board}
-use Rattle.model_set_up.specs.Pools.{Pool, io_pool, mem_pool, pref_pool, aperture_of}
-use Rattle.model_set_up.specs.Placement.{fits}
+use Rattle.model_set_up.specs.{Pools.{Pool, io_pool, mem_pool, pref_pool, aperture_of}, Placement.fits}
 
 abbrev pub with_aperture : Apertures → Pool → Aperture → Apertures
 with_aperture a io_pool x = record a { io = x }

@@ -3,15 +3,11 @@
 --     closed_regions      all regions of I/O behind such a bridge, in order
 --     bridge_too_many      the bridge after the 255 that have bus numbers
 --     reasons f fault      the one or the other, where the fault is that
-use Rattle.std.specs.Prelude.{ℕ, nat_lt, Bool, true, false, ◌&&◌, List, [], ◌∷◌, filter, length, map, flat_map, Option, if◌then◌else◌}
-use Rattle.std.specs.List.{position, enumerate_from}
-use Rattle.std.specs.Option.{option_map_or}
+use Rattle.std.specs.{Prelude.{ℕ, nat_lt, Bool, true, false, ◌&&◌, List, [], ◌∷◌, filter, length, map, flat_map, Option, if◌then◌else◌}, List.{position, enumerate_from}, Option.option_map_or}
 use Rattle.model_registers.specs.Declarations.{Kind, io_kind, mem32, mem64, IoDecode, no_io, io16, io32}
 use Rattle.model_board.specs.Paths.{Path, leads_to}
-use Rattle.bus_scan.specs.declared.fault.Fault.{Fault}
-use Rattle.bus_scan.specs.declared.fault.Fault.TheVariants.{Buses, NoIoWindow}
-use Rattle.board_file.specs.Entries.{Bar, Endpoint, Bridge, File}
-use Rattle.board_file.specs.PathTexts.{path_at}
+use Rattle.bus_scan.specs.declared.fault.Fault.{Fault, TheVariants.{Buses, NoIoWindow}}
+use Rattle.board_file.specs.{Entries.{Bar, Endpoint, Bridge, File}, PathTexts.path_at}
 use Rattle.board_fit.specs.declared.remark.Remark.{Remark}
 use Rattle.board_fit.specs.declared.remark.Remark.TheVariants as remark
 

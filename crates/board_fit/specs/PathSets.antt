@@ -3,16 +3,12 @@
 --         is; none is where that is bus 0
 --     given_paths gs      the paths of the guests' slots
 --     bridges_outside, endpoints_outside      those whose paths are not in a set
-use Rattle.std.specs.Prelude.{◌&&◌, not, List, [], ◌∷◌, Option, Some, None, map, filter, flat_map}
-use Rattle.std.specs.List.{enumerate_from}
-use Rattle.std.specs.BTreeSet.{BTreeSet, contains}
+use Rattle.std.specs.{Prelude.{◌&&◌, not, List, [], ◌∷◌, Option, Some, None, map, filter, flat_map}, List.enumerate_from, BTreeSet.{BTreeSet, contains}}
 use Rattle.model_board.specs.Paths.{Path, parent}
 use Rattle.paths.specs.PathOrders.{path_cmp}
-use Rattle.board_file.specs.Entries.{Bridge, Endpoint, Guest}
-use Rattle.board_file.specs.PathTexts.{path_at, is_path_text}
-use Rattle.board_fit.specs.declared.remark.Remark.{Remark}
+use Rattle.board_file.specs.{Entries.{Bridge, Endpoint, Guest}, PathTexts.{path_at, is_path_text}}
+use Rattle.board_fit.specs.{declared.remark.Remark.Remark, Warnings.{with_index, bridge_path}}
 use Rattle.board_fit.specs.declared.remark.Remark.TheVariants as remark
-use Rattle.board_fit.specs.Warnings.{with_index, bridge_path}
 
 abbrev pub bridge_at : Path → Option Path
 bridge_at [] = None

@@ -4,16 +4,12 @@
 --     by_size rs      the largest first, those of one size in the order that they have
 --     largest rs      the first five of these
 --     bytes_of rs      how many bytes they have together
-use Rattle.std.specs.Prelude.{ℕ, nat_abs, nat_lt, Bool, List, [], ◌∷◌, take, if◌then◌else◌}
-use Rattle.std.specs.List.{enumerate_from, flat_map, fold, sum_by}
+use Rattle.std.specs.{Prelude.{ℕ, nat_abs, nat_lt, Bool, List, [], ◌∷◌, take, if◌then◌else◌}, List.{enumerate_from, flat_map, fold, sum_by}}
 use Rattle.model_registers.specs.Apertures.{Apertures}
 use Rattle.model_board.specs.Places.{board_of}
 use Rattle.model_set_up.specs.Pools.{same_pool, pool_of, bridges_above}
-use Rattle.board_file.specs.Entries.{Bar, Endpoint, File}
-use Rattle.board_file.specs.Functions.{rows}
-use Rattle.board_file.specs.PathTexts.{path_at}
-use Rattle.window_packing.specs.declared.pool.Pool.{Pool}
-use Rattle.window_packing.specs.Plans.{named_pool}
+use Rattle.board_file.specs.{Entries.{Bar, Endpoint, File}, Functions.rows, PathTexts.path_at}
+use Rattle.window_packing.specs.{declared.pool.Pool.Pool, Plans.named_pool}
 use Rattle.board_fit.specs.declared.pool_region.PoolRegion.{PoolRegion}
 
 abbrev pub is_in : File → Apertures → Pool → Endpoint → Bar → Bool

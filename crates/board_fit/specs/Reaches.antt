@@ -3,17 +3,12 @@
 --     reaches_of o bs p wide      prefetchable regions at the path, of 64 bits where they are wide, are placed in their own aperture
 --     pool_by narrow wide k      the pool of a region of a kind, where those of 32 bits and those of 64 are placed there or not
 --     region_by, bars_by, endpoint_by      the regions of an endpoint that are then in a pool
-use Rattle.std.specs.Prelude.{ℕ, ◌^◌, Bool, true, false, ◌&&◌, ◌||◌, not, nat_lt, List, [], ◌∷◌, Option, if◌then◌else◌}
-use Rattle.std.specs.List.{list_all, enumerate_from, flat_map}
-use Rattle.std.specs.Option.{option_map_or}
-use Rattle.model_registers.specs.Apertures.{Aperture, Apertures}
-use Rattle.model_registers.specs.Declarations.{Kind, io_kind, mem32, mem64}
+use Rattle.std.specs.{Prelude.{ℕ, ◌^◌, Bool, true, false, ◌&&◌, ◌||◌, not, nat_lt, List, [], ◌∷◌, Option, if◌then◌else◌}, List.{list_all, enumerate_from, flat_map}, Option.option_map_or}
+use Rattle.model_registers.specs.{Apertures.{Aperture, Apertures}, Declarations.{Kind, io_kind, mem32, mem64}}
 use Rattle.model_board.specs.Paths.{Path, leads_to}
 use Rattle.model_set_up.specs.Pools.{Pool, same_pool, io_pool, mem_pool, pref_pool, has_pref, has_pref64}
-use Rattle.board_file.specs.Entries.{Bar, Bridge, Endpoint, File}
-use Rattle.board_file.specs.PathTexts.{path_at}
-use Rattle.board_fit.specs.declared.pool_region.PoolRegion.{PoolRegion}
-use Rattle.board_fit.specs.PoolRegions.{region_at}
+use Rattle.board_file.specs.{Entries.{Bar, Bridge, Endpoint, File}, PathTexts.path_at}
+use Rattle.board_fit.specs.{declared.pool_region.PoolRegion.PoolRegion, PoolRegions.region_at}
 
 abbrev pub has_pref_entry : Bridge → Bool
 has_pref_entry b = has_pref b.pref

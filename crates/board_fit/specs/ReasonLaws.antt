@@ -5,11 +5,8 @@ use Rattle.std.specs.Prelude.{◌≡◌, ◌≢◌, Bool, true, false, [], Some}
 use Rattle.model_registers.specs.DeclarationRules.{first_broken}
 use Rattle.model_board.specs.Places.{board_of}
 use Rattle.model_set_up.specs.SetUpWrites.{set_up_rules}
-use Rattle.board_file.specs.Entries.{File}
-use Rattle.board_file.specs.Functions.{rows, apertures}
-use Rattle.bus_scan.specs.Faults.{number_of}
-use Rattle.bus_scan.specs.declared.fault.Fault.{Fault}
-use Rattle.bus_scan.specs.declared.fault.Fault.TheVariants.{Buses, NoIoWindow}
+use Rattle.board_file.specs.{Entries.File, Functions.{rows, apertures}}
+use Rattle.bus_scan.specs.{Faults.number_of, declared.fault.Fault.{Fault, TheVariants.{Buses, NoIoWindow}}}
 use Rattle.board_fit.specs.Misfits.{reasons}
 
 abbrev pub names_entries : Fault → Bool

@@ -8,24 +8,14 @@
 --                                                       bytes and in its board, in order
 --     AreReasons style name bytes f text      the same for all in the file that is why its board can't be set up
 use Rattle.std.specs.Prelude.{◌≡◌, ℕ, List, ◌++◌, codes, map, flat_map, Option, Some, option_map, IfSome}
-use Rattle.toml.specs.Data.{Members}
-use Rattle.toml.specs.Parse.{parse_document}
+use Rattle.toml.specs.{Data.Members, Parse.parse_document}
 use Rattle.lists.specs.Elements.{Each}
 use Rattle.model_registers.specs.Apertures.{Apertures}
 use Rattle.model_board.specs.Board.{Board}
 use Rattle.bus_scan.specs.declared.fault.Fault.{Fault}
 use Rattle.board_file.specs.Entries.{file}
-use Rattle.diagnostics.specs.EntryPlaces.{IsPlaceOf, beside_text, entry_of as other_entry}
-use Rattle.diagnostics.specs.declared.entry_places.Other.{Other}
-use Rattle.diagnostics.specs.Excerpts.{below_text}
-use Rattle.diagnostics.specs.Heads.{head_text}
-use Rattle.diagnostics.specs.declared.style.Style.{Style}
-use Rattle.board_fit.specs.declared.remark.Remark.{Remark}
-use Rattle.board_fit.specs.declared.placed_remark.PlacedRemark.{PlacedRemark}
-use Rattle.board_fit.specs.declared.warned.Warned.{Warned}
-use Rattle.board_fit.specs.Warnings.{warnings}
-use Rattle.board_fit.specs.Remarks.{entry_of, key_of, label_of, remark_text, other_of, other_key}
-use Rattle.board_fit.specs.Misfits.{reasons}
+use Rattle.diagnostics.specs.{EntryPlaces.{IsPlaceOf, beside_text, entry_of as other_entry}, declared.{entry_places.Other.Other, style.Style.Style}, Excerpts.below_text, Heads.head_text}
+use Rattle.board_fit.specs.{declared.{remark.Remark.Remark, placed_remark.PlacedRemark.PlacedRemark, warned.Warned.Warned}, Warnings.warnings, Remarks.{entry_of, key_of, label_of, remark_text, other_of, other_key}, Misfits.reasons}
 
 -- FILE:LINE: LABEL ENTRY.KEY = VALUE of OWNER: what is said
 abbrev pub said_text : Remark → Option Other → List ℕ

@@ -5,11 +5,9 @@
 use Rattle.std.specs.Prelude.{ℕ, List, [], ◌++◌, codes, Option, Some, None}
 use Rattle.model_guests.specs.PathTexts.{hexadecimal}
 use Rattle.board_file.specs.declared.entry.Entry.{Entry}
+use Rattle.window_packing.specs.declared.pool.Pool.{Pool, TheVariants.{Io, Mem, Pref}}
+use Rattle.board_fit.specs.{Shortages.pool_words, declared.remark.Remark.Remark}
 use Rattle.board_file.specs.declared.entry.Entry.TheVariants as entry
-use Rattle.window_packing.specs.declared.pool.Pool.{Pool}
-use Rattle.window_packing.specs.declared.pool.Pool.TheVariants.{Io, Mem, Pref}
-use Rattle.board_fit.specs.Shortages.{pool_words}
-use Rattle.board_fit.specs.declared.remark.Remark.{Remark}
 use Rattle.board_fit.specs.declared.remark.Remark.TheVariants as remark
 
 abbrev pub aperture_key : Pool → List ℕ

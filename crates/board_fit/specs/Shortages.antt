@@ -8,16 +8,9 @@
 use Rattle.std.specs.Prelude.{◌≡◌, ◌++◌, codes, decimal, Option, Some, None, option_map}
 use Rattle.model_registers.specs.Apertures.{Apertures}
 use Rattle.model_board.specs.Board.{Board}
-use Rattle.model_guests.specs.Text.{Text}
-use Rattle.model_guests.specs.PathTexts.{hexadecimal}
-use Rattle.bus_scan.specs.Faults.{number_of, fault_words}
-use Rattle.bus_scan.specs.declared.fault.Fault.{Fault}
-use Rattle.bus_scan.specs.declared.fault.Fault.TheVariants.{IoPool, MemoryPool, PrefetchablePool}
-use Rattle.window_packing.specs.declared.pool.Pool.{Pool}
-use Rattle.window_packing.specs.declared.pool.Pool.TheVariants.{Io, Mem, Pref}
-use Rattle.window_packing.specs.declared.pool_uses.PoolUse.{PoolUse}
-use Rattle.window_packing.specs.Plans.{named_pool}
-use Rattle.window_packing.specs.Uses.{told_use}
+use Rattle.model_guests.specs.{Text.Text, PathTexts.hexadecimal}
+use Rattle.bus_scan.specs.{Faults.{number_of, fault_words}, declared.fault.Fault.{Fault, TheVariants.{IoPool, MemoryPool, PrefetchablePool}}}
+use Rattle.window_packing.specs.{declared.{pool.Pool.{Pool, TheVariants.{Io, Mem, Pref}}, pool_uses.PoolUse.PoolUse}, Plans.named_pool, Uses.told_use}
 use Rattle.board_fit.specs.declared.shortage.Shortage.{Shortage}
 
 abbrev pub pool_words : Pool → Text

@@ -5,20 +5,13 @@
 --     IsVerdict style warned name bytes b a fault text      the one of both that is true of the board, with the fault of the
 --         latter
 use Rattle.std.specs.Prelude.{◌≡◌, [], ◌++◌, Option, Some, None, option_map}
-use Rattle.model_registers.specs.Apertures.{Apertures}
-use Rattle.model_registers.specs.DeclarationRules.{first_broken}
+use Rattle.model_registers.specs.{Apertures.Apertures, DeclarationRules.first_broken}
 use Rattle.model_board.specs.Board.{Board}
 use Rattle.model_set_up.specs.SetUpWrites.{set_up_rules}
 use Rattle.model_guests.specs.Text.{Text}
-use Rattle.bus_scan.specs.Faults.{number_of}
-use Rattle.bus_scan.specs.declared.fault.Fault.{Fault}
+use Rattle.bus_scan.specs.{Faults.number_of, declared.fault.Fault.Fault}
 use Rattle.diagnostics.specs.declared.style.Style.{Style}
-use Rattle.board_fit.specs.declared.shortage.Shortage.{Shortage}
-use Rattle.board_fit.specs.declared.warned.Warned.{Warned}
-use Rattle.board_fit.specs.Fitting.{fit_text}
-use Rattle.board_fit.specs.Shortages.{shortage_of, refusal_line}
-use Rattle.board_fit.specs.RemarkTexts.{AreWarnings, AreReasons}
-use Rattle.board_fit.specs.Costs.{AreCosts}
+use Rattle.board_fit.specs.{declared.{shortage.Shortage.Shortage, warned.Warned.Warned}, Fitting.fit_text, Shortages.{shortage_of, refusal_line}, RemarkTexts.{AreWarnings, AreReasons}, Costs.AreCosts}
 
 pub record IsFitText (style : Style) (warned : Warned) (name bytes : Text) (b : Board) (a : Apertures) (text : Text) : Type 0 where
   pub warnings : Text

@@ -5,23 +5,14 @@
 --     empty_bridges, endpoints_of_none (where the file has guests), guests_without_slots      all of which this is so, in order
 --     all_wide_apertures, wide_apertures      the same of apertures; and so where all is warned of
 --     warnings      what is warned of, in order
-use Rattle.std.specs.Prelude.{ℕ, ◌+◌, ◌-◌, ◌*◌, ◌==◌, Bool, false, not, ◌&&◌, nat_lt, List, [], ◌∷◌, ◌++◌, filter, length, map, Option, Some, None, if◌then◌else◌}
-use Rattle.std.specs.List.{list_all, list_any, enumerate_from}
+use Rattle.std.specs.{Prelude.{ℕ, ◌+◌, ◌-◌, ◌*◌, ◌==◌, Bool, false, not, ◌&&◌, nat_lt, List, [], ◌∷◌, ◌++◌, filter, length, map, Option, Some, None, if◌then◌else◌}, List.{list_all, list_any, enumerate_from}}
 use Rattle.model_registers.specs.Apertures.{Aperture, Apertures}
-use Rattle.model_board.specs.Board.{Board}
-use Rattle.model_board.specs.Paths.{Path, path_eq, parent}
+use Rattle.model_board.specs.{Board.Board, Paths.{Path, path_eq, parent}}
 use Rattle.model_set_up.specs.Pools.{aperture_of}
-use Rattle.board_file.specs.Entries.{Endpoint, Bridge, Guest, File}
-use Rattle.board_file.specs.EntryRules.{are_same_place}
-use Rattle.board_file.specs.PathTexts.{path_at}
-use Rattle.window_packing.specs.declared.pool.Pool.{Pool}
-use Rattle.window_packing.specs.declared.pool.Pool.TheVariants.{Io, Mem, Pref}
-use Rattle.window_packing.specs.declared.pool_uses.PoolUse.{PoolUse}
-use Rattle.window_packing.specs.Plans.{named_pool}
-use Rattle.window_packing.specs.Uses.{told_use}
-use Rattle.board_fit.specs.declared.remark.Remark.{Remark}
+use Rattle.board_file.specs.{Entries.{Endpoint, Bridge, Guest, File}, EntryRules.are_same_place, PathTexts.path_at}
+use Rattle.window_packing.specs.{declared.{pool.Pool.{Pool, TheVariants.{Io, Mem, Pref}}, pool_uses.PoolUse.PoolUse}, Plans.named_pool, Uses.told_use}
+use Rattle.board_fit.specs.declared.{remark.Remark.Remark, warned.Warned.Warned}
 use Rattle.board_fit.specs.declared.remark.Remark.TheVariants as remark
-use Rattle.board_fit.specs.declared.warned.Warned.{Warned}
 use Rattle.board_fit.specs.declared.warned.Warned.TheVariants as warned
 
 -- a remark on an entry of the file, by its place there

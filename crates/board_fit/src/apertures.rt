@@ -2,8 +2,7 @@
 ghost use Rattle.std.specs.Prelude.{◌≡◌, ◌++◌, OnOk};
 ghost use Rattle.model_registers.specs.Apertures.{IsLawfulApertures};
 ghost use Rattle.model_board.specs.Board.{Board};
-ghost use Rattle.model_set_up.specs.FunctionTable.{board_in};
-ghost use Rattle.model_set_up.specs.Pools.{aperture_of};
+ghost use Rattle.model_set_up.specs.{FunctionTable.board_in, Pools.aperture_of};
 ghost use Rattle.bus_scan.specs.SizedTables.{IsTableOf};
 ghost use Rattle.window_packing.specs.Plans.{named_pool};
 ghost use Rattle.board_fit.specs.Warnings.{is_wide_use, is_wide_for, wide_aperture, all_wide_apertures, wide_apertures};

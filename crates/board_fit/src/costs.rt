@@ -3,13 +3,9 @@ ghost use Rattle.std.specs.Prelude.{◌≡◌, IfOk, OnOk, string_bytes};
 ghost use Rattle.lists.specs.Texts.{Adds};
 ghost use Rattle.toml.specs.View.{table_view};
 ghost use Rattle.model_board.specs.Board.{Board};
-ghost use Rattle.window_packing.specs.Plans.{named_pool};
-ghost use Rattle.window_packing.specs.Uses.{told_use};
+ghost use Rattle.window_packing.specs.{Plans.named_pool, Uses.told_use};
 ghost use Rattle.board_file.specs.Sources.{IsRead};
-ghost use Rattle.board_fit.specs.Costs.{large_regions, gaps, gaps_text, least_text, aperture_text, AreCostsBy, AreCosts};
-ghost use Rattle.board_fit.specs.RemarkTexts.{AreTold};
-ghost use Rattle.board_fit.specs.Shortages.{IsNeedOf};
-ghost use Rattle.board_fit.specs.Verdicts.{AreCostsOf};
+ghost use Rattle.board_fit.specs.{Costs.{large_regions, gaps, gaps_text, least_text, aperture_text, AreCostsBy, AreCosts}, RemarkTexts.AreTold, Shortages.IsNeedOf, Verdicts.AreCostsOf};
 
 use crate::apertures::aperture_of;
 use crate::hexadecimal::Hexadecimal;

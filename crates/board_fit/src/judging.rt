@@ -1,17 +1,12 @@
 //! Whether a board fits its apertures, and what is said of it.
 ghost use Rattle.std.specs.Prelude.{◌≡◌, ◌≢◌, ◌⊎◌, None, Some, IfOk, IfErr, string_bytes};
 ghost use Rattle.model_registers.specs.DeclarationRules.{first_broken};
-ghost use Rattle.model_board.specs.Board.{Board};
-ghost use Rattle.model_board.specs.AtReset.{IsAtReset};
-ghost use Rattle.model_set_up.specs.FunctionTable.{board_in};
-ghost use Rattle.model_set_up.specs.SetUpWrites.{set_up_rules};
-ghost use Rattle.bus_scan.specs.Faults.{number_of};
-ghost use Rattle.bus_scan.specs.SizedTables.{IsTableOf};
-ghost use Rattle.bus_scan.specs.declared.fault.Fault.TheVariants.{Memory};
+ghost use Rattle.model_board.specs.{Board.Board, AtReset.IsAtReset};
+ghost use Rattle.model_set_up.specs.{FunctionTable.board_in, SetUpWrites.set_up_rules};
+ghost use Rattle.bus_scan.specs.{Faults.number_of, SizedTables.IsTableOf, declared.fault.Fault.TheVariants.Memory};
 ghost use Rattle.window_packing.specs.Readies.{board_below};
 ghost use Rattle.board_file.specs.Sources.{IsRead};
-ghost use Rattle.board_fit.specs.Shortages.{IsNeedOf};
-ghost use Rattle.board_fit.specs.Verdicts.{IsFitText, IsMisfit, IsMisfitText, IsVerdict};
+ghost use Rattle.board_fit.specs.{Shortages.IsNeedOf, Verdicts.{IsFitText, IsMisfit, IsMisfitText, IsVerdict}};
 
 use crate::costs::costs_text;
 use crate::fitting::fit_text;

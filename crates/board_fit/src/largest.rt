@@ -1,6 +1,5 @@
 //! The largest of the regions of a pool, and how many bytes all have.
-ghost use Rattle.std.specs.Prelude.{◌≡◌, ◌≤◌, IfOk, OnOk, length, take};
-ghost use Rattle.std.specs.List.{position, position_or_len};
+ghost use Rattle.std.specs.{Prelude.{◌≡◌, ◌≤◌, IfOk, OnOk, length, take}, List.{position, position_or_len}};
 ghost use Rattle.board_fit.specs.PoolRegions.{is_smaller, inserted, largest, bytes_of};
 
 use crate::pool_region::PoolRegion;

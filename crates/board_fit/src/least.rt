@@ -2,10 +2,8 @@
 ghost use Rattle.std.specs.Prelude.{◌≡◌, ◌-◌, ◌+◌, ◌<◌, ◌≤◌, ◌^◌, ◌↔◌, false, Some, IsOk, IfSome, IfNone, MatchOption};
 ghost use Rattle.model_registers.specs.Apertures.{IsLawfulApertures};
 ghost use Rattle.model_board.specs.Board.{Board};
-ghost use Rattle.model_set_up.specs.Pools.{unit_of, aperture_of};
-ghost use Rattle.model_set_up.specs.Placement.{fits, round_up};
-ghost use Rattle.window_packing.specs.Plans.{named_pool};
-ghost use Rattle.window_packing.specs.Uses.{told_use};
+ghost use Rattle.model_set_up.specs.{Pools.{unit_of, aperture_of}, Placement.{fits, round_up}};
+ghost use Rattle.window_packing.specs.{Plans.named_pool, Uses.told_use};
 ghost use Rattle.board_fit.specs.LeastApertures.{with_aperture, IsLeastAperture};
 
 use crate::apertures::aperture_of;

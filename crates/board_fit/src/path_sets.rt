@@ -1,8 +1,6 @@
 //! Paths that are asked for again and again, in sets. A set finds a path by halving: so no bridge is compared with all
 //! functions, and no endpoint with all slots.
-ghost use Rattle.std.specs.Prelude.{◌≡◌, ◌<◌, IfOk, length};
-ghost use Rattle.std.specs.List.{filter_map};
-ghost use Rattle.std.specs.BTreeSet.{IsFromIterResult};
+ghost use Rattle.std.specs.{Prelude.{◌≡◌, ◌<◌, IfOk, length}, List.filter_map, BTreeSet.IsFromIterResult};
 ghost use Rattle.paths.specs.PathOrders.{path_cmp};
 ghost use Rattle.board_fit.specs.PathSets.{bridge_at, bridge_above, given_paths};
 

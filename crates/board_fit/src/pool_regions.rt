@@ -1,12 +1,10 @@
 //! The regions of a pool, as a board file says them.
-ghost use Rattle.std.specs.Prelude.{◌≡◌, ◌++◌, IfOk, OnOk};
-ghost use Rattle.std.specs.List.{enumerate_from, flat_map};
+ghost use Rattle.std.specs.{Prelude.{◌≡◌, ◌++◌, IfOk, OnOk}, List.{enumerate_from, flat_map}};
 ghost use Rattle.bars.specs.Kinds.{kind_of};
 ghost use Rattle.headers.specs.Decodes.{pref_decode_of};
 ghost use Rattle.model_set_up.specs.Pools.{has_pref, has_pref64};
 ghost use Rattle.window_packing.specs.Plans.{named_pool};
-ghost use Rattle.board_fit.specs.Reaches.{all_above, has_pref_entry, has_pref64_entry, reaches_by, reaches_of, pref_by, pool_by, bars_by, region_by, endpoint_by};
-ghost use Rattle.board_fit.specs.PoolRegions.{pool_regions};
+ghost use Rattle.board_fit.specs.{Reaches.{all_above, has_pref_entry, has_pref64_entry, reaches_by, reaches_of, pref_by, pool_by, bars_by, region_by, endpoint_by}, PoolRegions.pool_regions};
 
 use crate::pool_region::PoolRegion;
 use bars::Kind;

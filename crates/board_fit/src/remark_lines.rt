@@ -1,6 +1,5 @@
 //! The lines of remarks.
-ghost use Rattle.std.specs.Prelude.{OnOk};
-ghost use Rattle.std.specs.List.{flat_map};
+ghost use Rattle.std.specs.{Prelude.OnOk, List.flat_map};
 ghost use Rattle.lists.specs.Texts.{Adds};
 ghost use Rattle.toml.specs.View.{table_view};
 ghost use Rattle.board_fit.specs.RemarkTexts.{said_text, told_text};

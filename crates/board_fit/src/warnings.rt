@@ -1,13 +1,11 @@
 //! What may be a mistake in a file, and is no fault.
-ghost use Rattle.std.specs.Prelude.{◌≡◌, ◌&&◌, IfOk};
-ghost use Rattle.std.specs.BTreeSet.{contains};
+ghost use Rattle.std.specs.{Prelude.{◌≡◌, ◌&&◌, IfOk}, BTreeSet.contains};
 ghost use Rattle.model_board.specs.Board.{Board};
 ghost use Rattle.model_set_up.specs.FunctionTable.{board_in};
 ghost use Rattle.paths.specs.PathOrders.{path_cmp};
 ghost use Rattle.bus_scan.specs.SizedTables.{IsTableOf};
 ghost use Rattle.board_file.specs.PathTexts.{is_path_text, path_at};
-ghost use Rattle.board_fit.specs.PathSets.{bridges_outside, endpoints_outside};
-ghost use Rattle.board_fit.specs.Warnings.{all_paths, empty_bridges, endpoints_of_none, guests_without_slots, warnings};
+ghost use Rattle.board_fit.specs.{PathSets.{bridges_outside, endpoints_outside}, Warnings.{all_paths, empty_bridges, endpoints_of_none, guests_without_slots, warnings}};
 
 use crate::apertures::push_wide_apertures;
 use crate::path_sets::{bridges_above, given_paths};

@@ -1,18 +1,9 @@
 -- Regions of which none is told to have no registers of its own have them all.
-use Rattle.std.proofs.Common.{◌≡◌, ℕ, ◌+◌, ◌≤◌, Bool, true, false, cond, List, [], ◌∷◌, ◌++◌, length, take, map, None, refl, arith, append-nil, append_assoc, length-append}
-use Rattle.std.specs.Prelude.{nat_le, count_by}
-use Rattle.std.specs.List.{list_all, position, enumerate_from}
-use Rattle.std.proofs.lemmas.Bool.{le-leb}
-use Rattle.std.proofs.lemmas.Grind.{common_steps}
-use Rattle.std.proofs.lemmas.List.Sums.{sum_by-cons, sum_by_push}
-use Rattle.std.proofs.Math.Seq.{take-append_seam}
-use Rattle.lists.specs.Elements.{IsIn, first_some}
-use Rattle.lists.proofs.Members.{all_from}
+use Rattle.std.{proofs.{Common.{◌≡◌, ℕ, ◌+◌, ◌≤◌, Bool, true, false, cond, List, [], ◌∷◌, ◌++◌, length, take, map, None, refl, arith, append-nil, append_assoc, length-append}, lemmas.{Bool.le-leb, Grind.common_steps, List.Sums.{sum_by-cons, sum_by_push}}, Math.Seq.take-append_seam}, specs.{Prelude.{nat_le, count_by}, List.{list_all, position, enumerate_from}}}
+use Rattle.lists.{specs.Elements.{IsIn, first_some}, proofs.Members.all_from}
 use Rattle.model_registers.specs.DeclarationRules.{uses, has_own_registers}
 use Rattle.headers.proofs.OwnRegisters.{registers_of_all}
-use Rattle.board_file.specs.Entries.{Bar}
-use Rattle.board_file.specs.Functions.{region}
-use Rattle.board_file.proofs.Searches.{position_none}
+use Rattle.board_file.{specs.{Entries.Bar, Functions.region}, proofs.Searches.position_none}
 use Rattle.board_refusal.specs.RegisterCauses.{end_of, meets, is_past, met_before, taker_at, first_taker}
 
 -- ---- regions that are no takers

@@ -1,41 +1,14 @@
 -- Of each problem of registers and of cell masks something is said beyond the words of its rule.
-use Rattle.std.proofs.Common.{◌≡◌, ◌≢◌, inl, inr, ℕ, suc, ◌+◌, Bool, true, false, ◌||◌, not, List, [], ◌∷◌, ◌++◌, take, map, Option, Some, None, option_map, is_some, refl, sym, ap, subst, ◌∙◌, arith}
-use Rattle.std.specs.Prelude.{filter, slice_get, nat_abs}
-use Rattle.std.specs.List.{flat_map, list_all, enumerate_from}
-use Rattle.std.specs.Option.{option_map_or}
-use Rattle.lists.specs.Elements.{IsIn}
-use Rattle.lists.proofs.Members.{front_or_back, from_flat_map, from_filter, all_in}
+use Rattle.std.{proofs.Common.{◌≡◌, ◌≢◌, inl, inr, ℕ, suc, ◌+◌, Bool, true, false, ◌||◌, not, List, [], ◌∷◌, ◌++◌, take, map, Option, Some, None, option_map, is_some, refl, sym, ap, subst, ◌∙◌, arith}, specs.{Prelude.{filter, slice_get, nat_abs}, List.{flat_map, list_all, enumerate_from}, Option.option_map_or}}
+use Rattle.lists.{specs.Elements.IsIn, proofs.Members.{front_or_back, from_flat_map, from_filter, all_in}}
 use Rattle.toml.specs.Data.{Members, get_member}
 use Rattle.model_registers.specs.DeclarationRules.{has_own_registers}
-use Rattle.board_file.specs.Entries.{Patterns, Bar, Config, Endpoint, Bridge, Guest, File, file}
-use Rattle.board_file.specs.Functions.{region, standings}
-use Rattle.board_file.specs.PathEntries.{path_texts, path_entries}
-use Rattle.board_file.specs.Blocks.{is_block}
-use Rattle.board_file.specs.RuleFaults.{key_of}
-use Rattle.board_file.specs.EntryRules.{file_rules, host_rules, path_rules, endpoint_rules, has_indices, bar_rules, config_rules, are_apart, bridge_rules, guest_rules}
-use Rattle.board_file.specs.Problems.{Found, unless_kept, broken, of_bar, of_config, of_endpoint, of_bridge, of_guest, of_values, of_path, problems_in}
-use Rattle.board_file.specs.KeyProblems.{tables_of, unless_kept_at, of_field, of_member, keys_in, of_table, of_entry, problems_of}
-use Rattle.board_file.specs.Schema.{Field, fields, form_at, has_form}
-use Rattle.board_file.specs.Tables.{level_of, table_at}
-use Rattle.board_file.specs.declared.schema.Level.{Level}
-use Rattle.board_file.specs.declared.fault.BoardFault.{BoardFault}
-use Rattle.board_file.specs.declared.fault.BoardFault.TheVariants as fault
-use Rattle.board_file.specs.declared.rule.Rule.{Rule}
-use Rattle.board_file.specs.declared.rule.Rule.TheVariants as rule
-use Rattle.board_file.specs.declared.entry.Entry.{Entry}
-use Rattle.board_file.specs.declared.entry.Entry.TheVariants as entry
+use Rattle.board_file.{specs.{Entries.{Patterns, Bar, Config, Endpoint, Bridge, Guest, File, file}, Functions.{region, standings}, PathEntries.{path_texts, path_entries}, Blocks.is_block, RuleFaults.key_of, EntryRules.{file_rules, host_rules, path_rules, endpoint_rules, has_indices, bar_rules, config_rules, are_apart, bridge_rules, guest_rules}, Problems.{Found, unless_kept, broken, of_bar, of_config, of_endpoint, of_bridge, of_guest, of_values, of_path, problems_in}, KeyProblems.{tables_of, unless_kept_at, of_field, of_member, keys_in, of_table, of_entry, problems_of}, Schema.{Field, fields, form_at, has_form}, Tables.{level_of, table_at}, declared.{schema.Level.Level, fault.BoardFault.BoardFault, rule.Rule.Rule, entry.Entry.Entry}}, proofs.Searches.{no_position, not_empty, both_empty}}
 use Rattle.diagnostics.specs.declared.entry_places.Other.{Other}
-use Rattle.board_refusal.specs.declared.placed_breach.PlacedBreach.{PlacedBreach}
-use Rattle.board_refusal.specs.Spoiling.{is_clear}
-use Rattle.board_refusal.specs.AllProblems.{with_check, all_from, later_checks}
-use Rattle.board_refusal.specs.PatternCauses.{masks_text}
-use Rattle.board_refusal.specs.RegisterCauses.{taker_of}
-use Rattle.board_refusal.specs.Others.{other_of}
-use Rattle.board_refusal.specs.Causes.{own_text, others_text, cause_text}
-use Rattle.board_refusal.specs.Telling.{found_in, IsTold}
-use Rattle.board_refusal.specs.CauseLaws.{needs_cause, CausesAreTold}
-use Rattle.board_file.proofs.Searches.{no_position, not_empty, both_empty}
-use Rattle.board_refusal.proofs.Takers.{no_takers}
+use Rattle.board_refusal.{specs.{declared.placed_breach.PlacedBreach.PlacedBreach, Spoiling.is_clear, AllProblems.{with_check, all_from, later_checks}, PatternCauses.masks_text, RegisterCauses.taker_of, Others.other_of, Causes.{own_text, others_text, cause_text}, Telling.{found_in, IsTold}, CauseLaws.{needs_cause, CausesAreTold}}, proofs.Takers.no_takers}
+use Rattle.board_file.specs.declared.fault.BoardFault.TheVariants as fault
+use Rattle.board_file.specs.declared.rule.Rule.TheVariants as rule
+use Rattle.board_file.specs.declared.entry.Entry.TheVariants as entry
 
 -- ---- texts
 

@@ -6,12 +6,9 @@
 --     all_problems ms fault      the problems of a check, and then those of the later ones
 use Rattle.std.specs.Prelude.{ℕ, List, [], ◌∷◌, ◌++◌, drop, filter}
 use Rattle.toml.specs.Data.{Members}
-use Rattle.board_file.specs.Problems.{Found}
-use Rattle.board_file.specs.declared.fault.BoardFault.{BoardFault}
-use Rattle.board_file.specs.declared.fault.BoardFault.TheVariants as fault
-use Rattle.board_file.specs.KeyProblems.{problems_of}
-use Rattle.board_file.specs.Meaning.{order}
+use Rattle.board_file.specs.{Problems.Found, declared.fault.BoardFault.BoardFault, KeyProblems.problems_of, Meaning.order}
 use Rattle.board_refusal.specs.Spoiling.{is_clear}
+use Rattle.board_file.specs.declared.fault.BoardFault.TheVariants as fault
 
 -- the faults of bytes that are no document, and of memory, come before and after all checks
 abbrev pub rank : BoardFault → ℕ

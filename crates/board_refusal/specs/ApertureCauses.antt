@@ -3,9 +3,7 @@
 --     pref_text      of the prefetchable aperture beside one of memory, where there is one
 use Rattle.std.specs.Prelude.{ℕ, ◌+◌, ◌%◌, ◌==◌, ◌&&◌, ◌||◌, ◌^◌, Bool, nat_le, nat_lt, List, [], ◌∷◌, codes, Option, Some, None, if◌then◌else◌}
 use Rattle.model_registers.specs.Apertures.{Aperture}
-use Rattle.board_file.specs.Functions.{aperture}
-use Rattle.board_file.specs.Rules.{is_natural}
-use Rattle.board_file.specs.declared.entries.Bounds.{Bounds}
+use Rattle.board_file.specs.{Functions.aperture, Rules.is_natural, declared.entries.Bounds.Bounds}
 
 abbrev pub Part : Type 0
 Part = List ℕ × Bool

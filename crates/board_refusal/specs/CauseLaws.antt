@@ -4,14 +4,9 @@
 use Rattle.std.specs.Prelude.{◌≡◌, ◌≢◌, ℕ, Bool, true, false, List, []}
 use Rattle.toml.specs.Data.{Members}
 use Rattle.lists.specs.Elements.{IsIn}
-use Rattle.board_file.specs.Entries.{file}
-use Rattle.board_file.specs.declared.fault.BoardFault.{BoardFault}
-use Rattle.board_file.specs.declared.rule.Rule.{Rule}
+use Rattle.board_file.specs.{Entries.file, declared.{fault.BoardFault.BoardFault, rule.Rule.Rule}}
+use Rattle.board_refusal.specs.{declared.placed_breach.PlacedBreach.PlacedBreach, AllProblems.all_problems, Causes.cause_text, Telling.{found_in, IsTold}}
 use Rattle.board_file.specs.declared.rule.Rule.TheVariants as rule
-use Rattle.board_refusal.specs.declared.placed_breach.PlacedBreach.{PlacedBreach}
-use Rattle.board_refusal.specs.AllProblems.{all_problems}
-use Rattle.board_refusal.specs.Causes.{cause_text}
-use Rattle.board_refusal.specs.Telling.{found_in, IsTold}
 
 abbrev pub needs_cause : Rule → Bool
 needs_cause rule.OwnRegisters = true

@@ -3,24 +3,12 @@
 --     own_text      what is said of an entry that breaks a rule at a key
 --     others_text      the region without registers of its own and the one that it meets, with their lines
 --     cause_text      all of this
-use Rattle.std.specs.Prelude.{ℕ, nat_abs, List, [], ◌++◌, codes, Option, Some, None}
-use Rattle.std.specs.Option.{option_map_or}
+use Rattle.std.specs.{Prelude.{ℕ, nat_abs, List, [], ◌++◌, codes, Option, Some, None}, Option.option_map_or}
 use Rattle.model_board.specs.Places.{Standing}
-use Rattle.board_file.specs.Entries.{File}
-use Rattle.board_file.specs.Functions.{standings}
-use Rattle.board_file.specs.declared.entry.Entry.{Entry}
-use Rattle.board_file.specs.declared.rule.Rule.{Rule}
+use Rattle.board_file.specs.{Entries.File, Functions.standings, declared.{entry.Entry.Entry, rule.Rule.Rule}, Tables.level_of}
+use Rattle.diagnostics.specs.{declared.entry_places.Other.Other, EntryPlaces.{other_text, beside_text}}
+use Rattle.board_refusal.specs.{declared.placed_breach.PlacedBreach.PlacedBreach, KeyCauses.{known_text, asked_text}, SizeCauses.bar_text, ApertureCauses.{first_words, io_parts, mem_parts, pref_text}, PatternCauses.masks_text, PathCauses.{path_form_text, bridge_text, zero_text, slot_text}, EntryValues.{bar_of, config_of, at_of}}
 use Rattle.board_file.specs.declared.rule.Rule.TheVariants as rule
-use Rattle.board_file.specs.Tables.{level_of}
-use Rattle.diagnostics.specs.declared.entry_places.Other.{Other}
-use Rattle.diagnostics.specs.EntryPlaces.{other_text, beside_text}
-use Rattle.board_refusal.specs.declared.placed_breach.PlacedBreach.{PlacedBreach}
-use Rattle.board_refusal.specs.KeyCauses.{known_text, asked_text}
-use Rattle.board_refusal.specs.SizeCauses.{bar_text}
-use Rattle.board_refusal.specs.ApertureCauses.{first_words, io_parts, mem_parts, pref_text}
-use Rattle.board_refusal.specs.PatternCauses.{masks_text}
-use Rattle.board_refusal.specs.PathCauses.{path_form_text, bridge_text, zero_text, slot_text}
-use Rattle.board_refusal.specs.EntryValues.{bar_of, config_of, at_of}
 
 abbrev pub at_text : List Standing → Rule → List ℕ → List ℕ
 at_text ss rule.Path at = path_form_text at

@@ -1,10 +1,8 @@
 -- What a file says of an entry.
 --     bar_of, config_of      the region, or the block of own registers, of an entry
 --     at_of      the text of the path of a function or a slot
-use Rattle.std.specs.Prelude.{ℕ, List, Option, None, option_map, option_and_then}
-use Rattle.std.specs.List.{slice_get}
-use Rattle.board_file.specs.Entries.{Bar, Config, File}
-use Rattle.board_file.specs.declared.entry.Entry.{Entry}
+use Rattle.std.specs.{Prelude.{ℕ, List, Option, None, option_map, option_and_then}, List.slice_get}
+use Rattle.board_file.specs.{Entries.{Bar, Config, File}, declared.entry.Entry.Entry}
 use Rattle.board_file.specs.declared.entry.Entry.TheVariants as entry
 
 abbrev pub bar_of : File → Entry → Option Bar

@@ -3,16 +3,10 @@
 --     nearest      the key of a table that may be meant: one letter off, or else two, and no more than half of the key
 --     known_text      the key that may be meant, or all that there are
 --     form_text      what to write at a key
-use Rattle.std.specs.Prelude.{ℕ, ◌*◌, codes, Bool, ◌&&◌, nat_le, nat_eq, List, [], ◌∷◌, ◌++◌, length, Option, Some, None, flat_map, option_and_then, if◌then◌else◌}
-use Rattle.std.specs.Option.{option_map_or}
-use Rattle.std.specs.Str.{chars}
+use Rattle.std.specs.{Prelude.{ℕ, ◌*◌, codes, Bool, ◌&&◌, nat_le, nat_eq, List, [], ◌∷◌, ◌++◌, length, Option, Some, None, flat_map, option_and_then, if◌then◌else◌}, Option.option_map_or, Str.chars}
 use Rattle.strsim.specs.Edits.{levenshtein_row}
 use Rattle.lists.specs.Elements.{first_of_two}
-use Rattle.board_file.specs.Schema.{Field, fields, form_at}
-use Rattle.board_file.specs.declared.schema.Level.{Level}
-use Rattle.board_file.specs.declared.schema.Words.TheVariants.{RegionKind, IoDecode, PrefDecode}
-use Rattle.board_file.specs.declared.schema.Form.{Form}
-use Rattle.board_file.specs.declared.schema.Form.TheVariants.{Integer, Text, Word, Pair, Texts, Table, Tables}
+use Rattle.board_file.specs.{Schema.{Field, fields, form_at}, declared.schema.{Level.Level, Words.TheVariants.{RegionKind, IoDecode, PrefDecode}, Form.{Form, TheVariants.{Integer, Text, Word, Pair, Texts, Table, Tables}}}}
 
 -- ---- keys
 

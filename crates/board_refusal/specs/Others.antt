@@ -4,16 +4,11 @@
 --     slot_before      the first slot with a path, of so many guests and so many texts of the guest itself
 --     block_before      the first block of own registers that a block overlaps, of so many
 --     other_of f e rule      this entry, where the rule is broken by one
-use Rattle.std.specs.Prelude.{ℕ, not, List, length, take, Option, None, option_map, option_and_then}
-use Rattle.std.specs.List.{slice_get, position, enumerate_from}
-use Rattle.std.specs.Str.{bytes_eq}
+use Rattle.std.specs.{Prelude.{ℕ, not, List, length, take, Option, None, option_map, option_and_then}, List.{slice_get, position, enumerate_from}, Str.bytes_eq}
 use Rattle.lists.specs.Elements.{first_of_two, first_some}
-use Rattle.board_file.specs.Entries.{Config, Guest, File}
-use Rattle.board_file.specs.EntryRules.{are_same_place, are_apart}
+use Rattle.board_file.specs.{Entries.{Config, Guest, File}, EntryRules.{are_same_place, are_apart}, declared.{rule.Rule.Rule, entry.Entry.Entry}}
 use Rattle.board_refusal.specs.RegisterCauses.{met_of}
-use Rattle.board_file.specs.declared.rule.Rule.{Rule}
 use Rattle.board_file.specs.declared.rule.Rule.TheVariants as rule
-use Rattle.board_file.specs.declared.entry.Entry.{Entry}
 use Rattle.board_file.specs.declared.entry.Entry.TheVariants as entry
 
 abbrev pub place_before : File → ℕ → ℕ → List ℕ → Option Entry

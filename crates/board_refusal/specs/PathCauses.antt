@@ -4,9 +4,7 @@
 --     first_gap      of the beginnings of a path text, the first that is no bridge's path
 --     zero_text      function 0 of the device
 --     slot_text      what stands at a path that is no endpoint's
-use Rattle.std.specs.Prelude.{ℕ, ◌-◌, ◌==◌, ◌&&◌, not, Bool, List, [], ◌∷◌, ◌++◌, length, take, map, codes, Option, Some, None, option_map, if◌then◌else◌}
-use Rattle.std.specs.List.{position, range_with_len, slice_index}
-use Rattle.std.specs.Option.{option_map_or}
+use Rattle.std.specs.{Prelude.{ℕ, ◌-◌, ◌==◌, ◌&&◌, not, Bool, List, [], ◌∷◌, ◌++◌, length, take, map, codes, Option, Some, None, option_map, if◌then◌else◌}, List.{position, range_with_len, slice_index}, Option.option_map_or}
 use Rattle.model_board.specs.Places.{Standing, has_bridge}
 use Rattle.board_file.specs.PathTexts.{is_byte_between, is_path_text, path_at}
 use Rattle.diagnostics.specs.Shown.{shown_byte}

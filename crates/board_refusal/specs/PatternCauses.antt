@@ -2,8 +2,7 @@
 --     pattern_parts n text      what is asked of the text of a pattern of a block of n bytes
 --     pattern_words n text      the first of it that isn't kept
 --     masks_text n p      what is said of the patterns of a block
-use Rattle.std.specs.Prelude.{ℕ, nat_le, nat_lt, ◌==◌, ◌/◌, ◌%◌, Bool, not, ◌&&◌, ◌||◌, List, [], ◌∷◌, ◌++◌, length, slice_index, codes, Option, Some, None, if◌then◌else◌}
-use Rattle.std.specs.List.{list_all}
+use Rattle.std.specs.{Prelude.{ℕ, nat_le, nat_lt, ◌==◌, ◌/◌, ◌%◌, Bool, not, ◌&&◌, ◌||◌, List, [], ◌∷◌, ◌++◌, length, slice_index, codes, Option, Some, None, if◌then◌else◌}, List.list_all}
 use Rattle.board_file.specs.Entries.{Patterns}
 use Rattle.board_refusal.specs.ApertureCauses.{Part, first_words}
 

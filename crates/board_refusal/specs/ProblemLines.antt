@@ -4,17 +4,9 @@
 --     unread_text      what is said of bytes that are no document
 use Rattle.std.specs.Prelude.{ℕ, ◌==◌, true, List, [], ◌∷◌, ◌++◌, length, codes, decimal, Option, flat_map, if◌then◌else◌}
 use Rattle.toml.specs.Data.{Members}
-use Rattle.board_file.specs.declared.fault.BoardFault.{BoardFault}
-use Rattle.board_file.specs.Faults.{number_of, fault_words}
-use Rattle.board_file.specs.Entries.{File, file}
-use Rattle.board_file.specs.RuleFaults.{fault_of}
-use Rattle.diagnostics.specs.declared.text_place.TextPlace.{TextPlace}
-use Rattle.diagnostics.specs.declared.style.Style.{Style}
-use Rattle.diagnostics.specs.Excerpts.{shown_text, below_text}
-use Rattle.diagnostics.specs.Heads.{line_text, head_text}
-use Rattle.board_refusal.specs.declared.placed_breach.PlacedBreach.{PlacedBreach}
-use Rattle.board_refusal.specs.RuleWords.{words_of}
-use Rattle.board_refusal.specs.Causes.{cause_text}
+use Rattle.board_file.specs.{declared.fault.BoardFault.BoardFault, Faults.{number_of, fault_words}, Entries.{File, file}, RuleFaults.fault_of}
+use Rattle.diagnostics.specs.{declared.{text_place.TextPlace.TextPlace, style.Style.Style}, Excerpts.{shown_text, below_text}, Heads.{line_text, head_text}}
+use Rattle.board_refusal.specs.{declared.placed_breach.PlacedBreach.PlacedBreach, RuleWords.words_of, Causes.cause_text}
 
 abbrev pub numbered_text : BoardFault → List ℕ
 numbered_text f = codes "(" ++ decimal (number_of f) ++ codes " " ++ fault_words f ++ codes ")"

@@ -4,14 +4,11 @@
 --     first_taker bs      the first region that is so or meets an earlier one
 --     taker_of f e rule      this region as an entry, where the rule is broken by one
 --     met_of f e      the first region that it meets
-use Rattle.std.specs.Prelude.{ℕ, ◌+◌, nat_abs, nat_lt, Bool, ◌&&◌, ◌||◌, List, take, Option, Some, None, is_some, option_map, option_and_then, if◌then◌else◌}
-use Rattle.std.specs.List.{slice_get, position, enumerate_from}
+use Rattle.std.specs.{Prelude.{ℕ, ◌+◌, nat_abs, nat_lt, Bool, ◌&&◌, ◌||◌, List, take, Option, Some, None, is_some, option_map, option_and_then, if◌then◌else◌}, List.{slice_get, position, enumerate_from}}
 use Rattle.lists.specs.Elements.{first_some}
 use Rattle.model_registers.specs.Declarations.{registers_of}
-use Rattle.board_file.specs.Entries.{Bar, File}
-use Rattle.board_file.specs.declared.rule.Rule.{Rule}
+use Rattle.board_file.specs.{Entries.{Bar, File}, declared.{rule.Rule.Rule, entry.Entry.Entry}}
 use Rattle.board_file.specs.declared.rule.Rule.TheVariants as rule
-use Rattle.board_file.specs.declared.entry.Entry.{Entry}
 use Rattle.board_file.specs.declared.entry.Entry.TheVariants as entry
 
 -- the register after those of a region

@@ -1,8 +1,7 @@
 -- What is said of a size that its kind doesn't allow.
 --     power_below n p k      the greatest that is no more than n, of a power of two p and k doublings of it
 --     size_text      too small or too large for its kind, or the two powers of two next to it
-use Rattle.std.specs.Prelude.{ℕ, zero, suc, ◌*◌, ◌/◌, ℤ, pos, nat_abs, int_le, nat_lt, not, List, [], ◌++◌, codes, if◌then◌else◌}
-use Rattle.std.specs.Int.{is_power_of_two}
+use Rattle.std.specs.{Prelude.{ℕ, zero, suc, ◌*◌, ◌/◌, ℤ, pos, nat_abs, int_le, nat_lt, not, List, [], ◌++◌, codes, if◌then◌else◌}, Int.is_power_of_two}
 use Rattle.model_registers.specs.Declarations.{Kind, io_kind, mem32, mem64, least_size, greatest_size}
 use Rattle.model_guests.specs.PathTexts.{hexadecimal}
 use Rattle.board_file.specs.Entries.{Bar}

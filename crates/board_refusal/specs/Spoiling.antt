@@ -2,16 +2,11 @@
 --     hides q e      the entry stands in a list or a table that is missing, or has another form
 --     spoils q p      what is wrong already may be why the later rule is broken, or belongs to the same entry
 --     is_clear earlier p      none of the earlier problems keeps the rule from being asked; whether a key is known is always asked
-use Rattle.std.specs.Prelude.{ℕ, Bool, true, false, not, ◌&&◌, ◌||◌, List, codes}
-use Rattle.std.specs.List.{list_all}
-use Rattle.board_file.specs.Texts.{same_text}
-use Rattle.board_file.specs.Problems.{Found}
-use Rattle.board_file.specs.declared.rule.Rule.{Rule}
+use Rattle.std.specs.{Prelude.{ℕ, Bool, true, false, not, ◌&&◌, ◌||◌, List, codes}, List.list_all}
+use Rattle.board_file.specs.{Texts.same_text, Problems.Found, declared.{rule.Rule.Rule, entry.Entry.Entry}, Tables.owner_of}
 use Rattle.board_file.specs.declared.rule.Rule.TheVariants as rule
-use Rattle.board_file.specs.declared.entry.Entry.{Entry}
 use Rattle.board_file.specs.declared.entry.Entry.TheVariants as entry
 use Rattle.board_file.specs.contracts.entry.EntryPartialEq.TheImpl as entry_eq
-use Rattle.board_file.specs.Tables.{owner_of}
 
 abbrev pub is_same : Entry → Entry → Bool
 is_same = (entry_eq.ghosts).eq

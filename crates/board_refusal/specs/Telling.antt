@@ -5,26 +5,12 @@
 --     IsTold text ms f told      its place, where it is known, is that of its value, and so are those of the other entries
 --     IsByLine found told      the same problems, in the order of their lines
 --     IsByCheck found told      the same problems, in the order of their checks
-use Rattle.std.specs.Prelude.{◌≡◌, ◌≤◌, ◌⊎◌, ℕ, List, length, map, option_map, Option, Some, None, IfSome, IsUtf8, unwrap_or, IsPermutation}
-use Rattle.std.specs.List.Sorted.{IsNonDecreasingBy, IsStableByKey}
-use Rattle.std.specs.Ordering.{nat_cmp}
-use Rattle.toml.specs.Data.{Members}
-use Rattle.toml.specs.Parse.{parse_document}
+use Rattle.std.specs.{Prelude.{◌≡◌, ◌≤◌, ◌⊎◌, ℕ, List, length, map, option_map, Option, Some, None, IfSome, IsUtf8, unwrap_or, IsPermutation}, List.Sorted.{IsNonDecreasingBy, IsStableByKey}, Ordering.nat_cmp}
+use Rattle.toml.specs.{Data.Members, Parse.parse_document}
 use Rattle.lists.specs.Elements.{Each}
-use Rattle.board_file.specs.declared.fault.BoardFault.{BoardFault}
-use Rattle.board_file.specs.declared.finding.Breach.{Breach}
-use Rattle.board_file.specs.Entries.{File, file}
-use Rattle.diagnostics.specs.declared.text_place.TextPlace.{TextPlace}
-use Rattle.diagnostics.specs.declared.style.Style.{Style}
-use Rattle.diagnostics.specs.LineNumbers.{line_of}
-use Rattle.diagnostics.specs.EntryPlaces.{IsPlaceOf, entry_of}
-use Rattle.board_file.specs.Problems.{Found, found_of}
-use Rattle.board_file.specs.RuleFaults.{fault_of}
-use Rattle.board_refusal.specs.AllProblems.{all_problems, rank}
-use Rattle.board_refusal.specs.declared.placed_breach.PlacedBreach.{PlacedBreach}
-use Rattle.board_refusal.specs.Others.{other_of}
-use Rattle.board_refusal.specs.RegisterCauses.{taker_of}
-use Rattle.board_refusal.specs.ProblemLines.{unread_text, lines_text}
+use Rattle.board_file.specs.{declared.{fault.BoardFault.BoardFault, finding.Breach.Breach}, Entries.{File, file}, Problems.{Found, found_of}, RuleFaults.fault_of}
+use Rattle.diagnostics.specs.{declared.{text_place.TextPlace.TextPlace, style.Style.Style}, LineNumbers.line_of, EntryPlaces.{IsPlaceOf, entry_of}}
+use Rattle.board_refusal.specs.{AllProblems.{all_problems, rank}, declared.placed_breach.PlacedBreach.PlacedBreach, Others.other_of, RegisterCauses.taker_of, ProblemLines.{unread_text, lines_text}}
 
 abbrev pub problem_of : PlacedBreach → Breach
 problem_of t = t.problem

@@ -1,7 +1,6 @@
 //! What is said of an aperture: the first of its rules that it breaks.
 ghost use Rattle.std.specs.Prelude.{◌≡◌, ◌<◌, map};
-ghost use Rattle.board_file.specs.Functions.{aperture};
-ghost use Rattle.board_file.specs.Rules.{is_natural};
+ghost use Rattle.board_file.specs.{Functions.aperture, Rules.is_natural};
 ghost use Rattle.board_refusal.specs.ApertureCauses.{first_words, has_units, is_one_side, are_apart, io_parts, mem_parts, pref_parts, pref_text};
 
 use board_file::entries::Bounds;

@@ -2,8 +2,7 @@
 ghost use Rattle.std.specs.Prelude.{◌≡◌, ◌≤◌, map, filter, IfOk, OnOk};
 ghost use Rattle.toml.specs.View.{table_view};
 ghost use Rattle.board_file.specs.Problems.{found_of};
-ghost use Rattle.board_refusal.specs.Spoiling.{is_clear};
-ghost use Rattle.board_refusal.specs.AllProblems.{rank, later_checks, with_check, all_problems};
+ghost use Rattle.board_refusal.specs.{Spoiling.is_clear, AllProblems.{rank, later_checks, with_check, all_problems}};
 
 use crate::spoiling::is_clear;
 use board_file::{BoardFault, Breach, Source, order};

@@ -1,7 +1,5 @@
 //! The earlier entry that has what another entry asks for itself.
-ghost use Rattle.std.specs.Prelude.{◌≡◌, not, take};
-ghost use Rattle.std.specs.List.{position, enumerate_from};
-ghost use Rattle.std.specs.Str.{bytes_eq};
+ghost use Rattle.std.specs.{Prelude.{◌≡◌, not, take}, List.{position, enumerate_from}, Str.bytes_eq};
 ghost use Rattle.lists.specs.Elements.{first_some};
 ghost use Rattle.board_file.specs.EntryRules.{are_same_place, are_apart};
 ghost use Rattle.board_refusal.specs.Others.{place_before, name_before, slot_in, slot_before, block_before, other_place, other_name, other_slot, other_block, other_of};

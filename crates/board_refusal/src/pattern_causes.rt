@@ -1,8 +1,7 @@
 //! What is said of patterns that are not lawful.
 ghost use Rattle.std.specs.Prelude.{◌≡◌, OnOk, option_map};
 ghost use Rattle.lists.specs.Texts.{Adds};
-ghost use Rattle.board_refusal.specs.PatternCauses.{begins_with_0x, is_digit, are_digits, has_whole_bytes, has_room, pattern_parts, pattern_words, masks_text};
-ghost use Rattle.board_refusal.specs.ApertureCauses.{first_words};
+ghost use Rattle.board_refusal.specs.{PatternCauses.{begins_with_0x, is_digit, are_digits, has_whole_bytes, has_room, pattern_parts, pattern_words, masks_text}, ApertureCauses.first_words};
 
 use crate::aperture_causes::first_words;
 use board_file::entries::PatternTexts;

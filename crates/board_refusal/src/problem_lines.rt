@@ -1,6 +1,5 @@
 //! The lines of problems, and of a file that is refused.
-ghost use Rattle.std.specs.Prelude.{Some, OnOk};
-ghost use Rattle.std.specs.List.{flat_map};
+ghost use Rattle.std.specs.{Prelude.{Some, OnOk}, List.flat_map};
 ghost use Rattle.lists.specs.Texts.{Adds};
 ghost use Rattle.toml.specs.View.{table_view};
 ghost use Rattle.board_file.specs.declared.fault.BoardFault.TheVariants.{NotToml};

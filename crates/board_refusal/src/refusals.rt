@@ -1,9 +1,7 @@
 //! What is told of a board file that is refused.
 ghost use Rattle.std.specs.Prelude.{◌≡◌, IfOk, IfSome, IsUtf8, OnOk, None, string_bytes};
-ghost use Rattle.toml.specs.Errors.{IsWithin};
-ghost use Rattle.toml.specs.Parse.{parse_document};
-ghost use Rattle.board_file.specs.Sources.{IsRead};
-ghost use Rattle.board_file.specs.declared.fault.BoardFault.TheVariants.{NotToml};
+ghost use Rattle.toml.specs.{Errors.IsWithin, Parse.parse_document};
+ghost use Rattle.board_file.specs.{Sources.IsRead, declared.fault.BoardFault.TheVariants.NotToml};
 ghost use Rattle.board_refusal.specs.Telling.{IsRefusal, IsUnread, IsPlaceIn, IsByLine, IsByCheck, line_or_zero, rank_of};
 
 use crate::every_check::{all_problems, rank};

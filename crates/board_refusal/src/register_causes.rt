@@ -1,6 +1,5 @@
 //! Which region of an endpoint has no registers of its own.
-ghost use Rattle.std.specs.Prelude.{◌≡◌, ◌+◌, ◌<◌, ◌≤◌, take};
-ghost use Rattle.std.specs.List.{position};
+ghost use Rattle.std.specs.{Prelude.{◌≡◌, ◌+◌, ◌<◌, ◌≤◌, take}, List.position};
 ghost use Rattle.model_registers.specs.Declarations.{registers_of};
 ghost use Rattle.bars.specs.Kinds.{kind_of};
 ghost use Rattle.board_refusal.specs.RegisterCauses.{end_of, meets, is_past, met_before, taker_at, first_taker, met_in, taker_in, taker_of, met_of};

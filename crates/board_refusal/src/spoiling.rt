@@ -1,6 +1,5 @@
 //! Which rules wait until an earlier problem is mended.
-ghost use Rattle.std.specs.Prelude.{◌≡◌, ◌||◌, codes, map, not};
-ghost use Rattle.std.specs.List.{list_all};
+ghost use Rattle.std.specs.{Prelude.{◌≡◌, ◌||◌, codes, map, not}, List.list_all};
 ghost use Rattle.board_file.specs.Problems.{found_of};
 ghost use Rattle.board_refusal.specs.Spoiling.{is_at, in_endpoint, holds_entry, is_of_form, hides, is_of_keys, hides_lists, asks_functions, hides_functions, asks_guests, hides_guests, asks_parts, is_beside, hides_others, spoils, is_known_rule, is_clear};
 

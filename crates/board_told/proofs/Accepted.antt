@@ -1,17 +1,12 @@
 -- What is said of a file that is accepted.
-use Rattle.std.proofs.Common.{◌≡◌, Option, Some, None, sym, subst, option_map}
-use Rattle.std.specs.Prelude.{◌≢◌}
-use Rattle.model_guests.specs.Text.{Text}
-use Rattle.model_guests.specs.World.{World}
+use Rattle.std.{proofs.Common.{◌≡◌, Option, Some, None, sym, subst, option_map}, specs.Prelude.◌≢◌}
+use Rattle.model_guests.specs.{Text.Text, World.World}
 use Rattle.bus_scan.specs.declared.fault.Fault.{Fault as SetUpFault}
-use Rattle.bus_scan.specs.declared.fault.Fault.TheVariants as set_up
 use Rattle.diagnostics.specs.declared.style.Style.{Style}
-use Rattle.board_fit.specs.declared.warned.Warned.{Warned}
-use Rattle.board_fit.specs.Verdicts.{IsVerdict}
-use Rattle.session.specs.declared.opening.OpenFault.{OpenFault}
-use Rattle.session.specs.declared.opening.OpenFault.TheVariants.{SetUp}
-use Rattle.session.specs.Files.{Declares}
+use Rattle.board_fit.specs.{declared.warned.Warned.Warned, Verdicts.IsVerdict}
+use Rattle.session.specs.{declared.opening.OpenFault.{OpenFault, TheVariants.SetUp}, Files.Declares}
 use Rattle.board_told.specs.Checking.{IsCheckText}
+use Rattle.bus_scan.specs.declared.fault.Fault.TheVariants as set_up
 
 -- the fault of a board is that of the check
 pub said_of : (style : Style) (warned : Warned) (name bytes : Text) (w : World) (fault : Option SetUpFault) (told : Option OpenFault) (text : Text)

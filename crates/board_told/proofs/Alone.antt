@@ -1,8 +1,7 @@
 -- What a guest is told is told of what it holds alone.
 use Rattle.std.proofs.Common.{List, sym, ap, ap₂, ◌∙◌}
 use Rattle.model_guests.specs.Lone.{LoneGuest}
-use Rattle.model_images.specs.Requests.{OwnInput, after_all_own}
-use Rattle.model_images.proofs.Requests.{isolated_by_requests}
+use Rattle.model_images.{specs.Requests.{OwnInput, after_all_own}, proofs.Requests.isolated_by_requests}
 use Rattle.model_lines.specs.WhyGuests.{guest_why_text}
 use Rattle.board_told.specs.Alone.{EqualGuests, EqualAlong}
 

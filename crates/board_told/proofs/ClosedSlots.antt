@@ -3,17 +3,11 @@
 --     slot_told      those of a slot, by the registers that are told of it
 --     slot_holds      the same where Command doesn't open the space
 --     step      one slot more
-use Rattle.std.proofs.Common.{◌≡◌, ℕ, zero, suc, ◌+◌, ◌-◌, ◌<◌, Bool, true, false, cond, List, [], ◌∷◌, ◌++◌, length, drop, Some, None, Option, refl, sym, ap, ◌∙◌, append_assoc, arith}
-use Rattle.std.specs.Prelude.{map, filter, option_map, is_some, if◌then◌else◌}
-use Rattle.std.specs.Option.{option_map_or}
-use Rattle.model_registers.specs.Declarations.{Region}
-use Rattle.model_registers.specs.OwnCopies.{OwnCopies}
-use Rattle.model_registers.specs.Decoding.{Space, Function, opens_space, is_open, command_word, base_address}
+use Rattle.std.{proofs.Common.{◌≡◌, ℕ, zero, suc, ◌+◌, ◌-◌, ◌<◌, Bool, true, false, cond, List, [], ◌∷◌, ◌++◌, length, drop, Some, None, Option, refl, sym, ap, ◌∙◌, append_assoc, arith}, specs.{Prelude.{map, filter, option_map, is_some, if◌then◌else◌}, Option.option_map_or}}
+use Rattle.model_registers.specs.{Declarations.Region, OwnCopies.OwnCopies, Decoding.{Space, Function, opens_space, is_open, command_word, base_address}}
 use Rattle.model_guests.specs.Slots.{Slots, slot_at}
 use Rattle.model_lines.specs.WhyGuests.{closed_region, region_holds, closed_from, ClosedRegion}
-use Rattle.bars.specs.declared.region.BasedRegion.{BasedRegion}
-use Rattle.bars.specs.Slots.{placed}
-use Rattle.bars.specs.Hits.{offset_in}
+use Rattle.bars.specs.{declared.region.BasedRegion.BasedRegion, Slots.placed, Hits.offset_in}
 use Rattle.monitor.specs.OwnTold.{own_now}
 use Rattle.board_told.specs.GuestFindings.{base_holds, closed_base, closed_at, closed_by, closed_in}
 

@@ -1,9 +1,6 @@
 -- A board that is set up, as it is reported.
-use Rattle.std.proofs.Common.{◌≡◌, refl, ap, ap₂, ◌∙◌}
-use Rattle.std.specs.Prelude.{List}
-use Rattle.model_set_up.specs.FunctionTable.{sized_table}
-use Rattle.model_set_up.specs.SetUp.{set_up_state}
-use Rattle.model_set_up.specs.SetUpWrites.{planned}
+use Rattle.std.{proofs.Common.{◌≡◌, refl, ap, ap₂, ◌∙◌}, specs.Prelude.List}
+use Rattle.model_set_up.specs.{FunctionTable.sized_table, SetUp.set_up_state, SetUpWrites.planned}
 use Rattle.host_bridge.specs.HostState.{HostState}
 use Rattle.window_packing.specs.Readies.{ReadyBoard, board_below, IsReady}
 use Rattle.model_guests.specs.World.{Guest}

@@ -1,9 +1,7 @@
 -- The lines of a text, one after the other.
-use Rattle.std.proofs.Common.{◌≡◌, ◌++◌, List, [], ◌∷◌, map, sym, ap, ◌∙◌, append_assoc}
-use Rattle.std.proofs.lemmas.List.{map-append}
-use Rattle.model_guests.specs.Text.{Text, ended, text_of_lines}
+use Rattle.std.proofs.{Common.{◌≡◌, ◌++◌, List, [], ◌∷◌, map, sym, ap, ◌∙◌, append_assoc}, lemmas.List.map-append}
+use Rattle.model_guests.{specs.Text.{Text, ended, text_of_lines}, proofs.WrittenLines.text_of_lines-append}
 use Rattle.model_lines.specs.WhyText.{why_line}
-use Rattle.model_guests.proofs.WrittenLines.{text_of_lines-append}
 
 pub text_whole : (before after : List Text) (head zero one two three : Text) → zero ≡ [] → one ≡ zero ++ text_of_lines (map why_line before) → two ≡ one ++ ended (why_line head)
     → three ≡ two ++ text_of_lines (map why_line after) → three ≡ text_of_lines (map why_line (before ++ head ∷ after))

@@ -3,10 +3,7 @@
 --     AgreeAlong      two guests that hold the same, and of whose actions, loads and restarts the same is their own
 --     EqualAlong      after such requests they are told the same
 use Rattle.std.specs.Prelude.{ℕ, ◌≡◌, List, IsSome}
-use Rattle.model_guests.specs.Accesses.{Target}
-use Rattle.model_guests.specs.Text.{Text}
-use Rattle.model_guests.specs.Guests.{guest_named, lone_of}
-use Rattle.model_guests.specs.WorldNow.{WorldNow}
+use Rattle.model_guests.specs.{Accesses.Target, Text.Text, Guests.{guest_named, lone_of}, WorldNow.WorldNow}
 use Rattle.model_images.specs.Requests.{Request, after_requests, request_inputs}
 use Rattle.model_lines.specs.WhyGuests.{guest_why_text}
 use Rattle.board_told.specs.GuestFindings.{lone_asked}

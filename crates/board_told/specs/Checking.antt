@@ -3,20 +3,16 @@
 --         that doesn't, what is said of the check that it fails. The fault is that of the file or its board, if there is one
 --     IsOutOfMemory f      memory is out
 use Rattle.std.specs.Prelude.{◌≡◌, ◌≢◌, Option, None, Some}
-use Rattle.model_guests.specs.Text.{Text}
-use Rattle.model_guests.specs.World.{World}
+use Rattle.model_guests.specs.{Text.Text, World.World}
 use Rattle.board_file.specs.declared.fault.BoardFault.{BoardFault}
-use Rattle.board_file.specs.declared.fault.BoardFault.TheVariants as file
-use Rattle.board_file.specs.Faults as board_file
 use Rattle.bus_scan.specs.declared.fault.Fault.{Fault as SetUpFault}
-use Rattle.bus_scan.specs.declared.fault.Fault.TheVariants as set_up
 use Rattle.diagnostics.specs.declared.style.Style.{Style}
 use Rattle.board_refusal.specs.Telling.{IsRefusalText}
-use Rattle.board_fit.specs.declared.warned.Warned.{Warned}
-use Rattle.board_fit.specs.Verdicts.{IsVerdict}
-use Rattle.session.specs.declared.opening.OpenFault.{OpenFault}
-use Rattle.session.specs.declared.opening.OpenFault.TheVariants.{File, SetUp}
-use Rattle.session.specs.Files.{Declares, Refuses}
+use Rattle.board_fit.specs.{declared.warned.Warned.Warned, Verdicts.IsVerdict}
+use Rattle.session.specs.{declared.opening.OpenFault.{OpenFault, TheVariants.{File, SetUp}}, Files.{Declares, Refuses}}
+use Rattle.board_file.specs.declared.fault.BoardFault.TheVariants as file
+use Rattle.board_file.specs.Faults as board_file
+use Rattle.bus_scan.specs.declared.fault.Fault.TheVariants as set_up
 
 -- of a file that is refused
 pub record IsRefused (style : Style) (name board : Text) (b : BoardFault) (text : Text) : Type 0 where

@@ -3,16 +3,15 @@
 --     fault_numbered n      the fault of a number
 --     of_open, of_run      the fault of a board that is not set up, and of a run
 use Rattle.std.specs.Prelude.{◌==◌, ℕ, List, [], ◌∷◌, Option, codes, find}
+use Rattle.lines.specs.declared.runs.RunFault.{RunFault}
+use Rattle.session.specs.declared.opening.OpenFault.{OpenFault}
+use Rattle.board_told.specs.declared.fault.Fault.{Fault, TheVariants.{File, SetUp, NotInOrder, NotReady, RefusedLine, Read, Write, Usage, BoardFile, WordMemory}}
 use Rattle.board_file.specs.declared.fault.BoardFault.TheVariants as file
 use Rattle.board_file.specs.Faults as board_file
 use Rattle.bus_scan.specs.declared.fault.Fault.TheVariants as set_up
 use Rattle.bus_scan.specs.Faults as bus_scan
 use Rattle.lines.specs.declared.runs.RunFault.TheVariants as run
-use Rattle.lines.specs.declared.runs.RunFault.{RunFault}
 use Rattle.session.specs.declared.opening.OpenFault.TheVariants as opening
-use Rattle.session.specs.declared.opening.OpenFault.{OpenFault}
-use Rattle.board_told.specs.declared.fault.Fault.{Fault}
-use Rattle.board_told.specs.declared.fault.Fault.TheVariants.{File, SetUp, NotInOrder, NotReady, RefusedLine, Read, Write, Usage, BoardFile, WordMemory}
 
 abbrev pub number_of : Fault → ℕ
 number_of (File b) = board_file.number_of b

@@ -6,27 +6,15 @@
 --     lost_by g d      what a destination finds that hits nothing
 --     closed_told, finding_told      a closed region and a finding, from the program's words
 --     fault_number, IsWhyFault      why nothing is told: its number, and when that is so
-use Rattle.std.specs.Prelude.{ℕ, ◌+◌, ◌≡◌, List, [], Bool, ◌&&◌, if◌then◌else◌, nat_le, nat_lt, map, filter, Option, Some, None}
-use Rattle.std.specs.Option.{option_map_or}
-use Rattle.model_registers.specs.EndpointTable.{BaseAddress}
-use Rattle.model_registers.specs.OwnCopies.{OwnCopies}
-use Rattle.model_registers.specs.Decoding.{Space, same_space, space_of, opens_space, Function}
+use Rattle.std.specs.{Prelude.{ℕ, ◌+◌, ◌≡◌, List, [], Bool, ◌&&◌, if◌then◌else◌, nat_le, nat_lt, map, filter, Option, Some, None}, Option.option_map_or}
+use Rattle.model_registers.specs.{EndpointTable.BaseAddress, OwnCopies.OwnCopies, Decoding.{Space, same_space, space_of, opens_space, Function}}
 use Rattle.model_board.specs.Ports.{selected}
-use Rattle.model_guests.specs.Accesses.{Target, reads}
-use Rattle.model_guests.specs.Slots.{fault_of}
-use Rattle.model_guests.specs.Lone.{LoneGuest, Destination, own_latch, no_function, at_target}
-use Rattle.model_guests.specs.Guests.{lone_of}
-use Rattle.model_guests.specs.WorldNow.{WorldNow}
-use Rattle.model_lines.specs.WhyGuests as model
+use Rattle.model_guests.specs.{Accesses.{Target, reads}, Slots.fault_of, Lone.{LoneGuest, Destination, own_latch, no_function, at_target}, Guests.lone_of, WorldNow.WorldNow}
 use Rattle.paths.specs.BusAddresses.{bus_address_of}
 use Rattle.accesses.specs.Refusals.{number_of}
-use Rattle.monitor.specs.ByIndex.{name_nth}
-use Rattle.monitor.specs.Queries.{hit_named}
-use Rattle.board_told.specs.declared.closed.ClosedInSlot.{ClosedInSlot}
-use Rattle.board_told.specs.declared.finding.Finding.{Finding}
-use Rattle.board_told.specs.declared.finding.Finding.TheVariants.{Answers, Nobody, Empty, NoSlot}
-use Rattle.board_told.specs.declared.finding.WhyFault.{WhyFault}
-use Rattle.board_told.specs.declared.finding.WhyFault.TheVariants.{Refused, Memory}
+use Rattle.monitor.specs.{ByIndex.name_nth, Queries.hit_named}
+use Rattle.board_told.specs.declared.{closed.ClosedInSlot.ClosedInSlot, finding.{Finding.{Finding, TheVariants.{Answers, Nobody, Empty, NoSlot}}, WhyFault.{WhyFault, TheVariants.{Refused, Memory}}}}
+use Rattle.model_lines.specs.WhyGuests as model
 
 abbrev pub lone_asked : WorldNow → ℕ → LoneGuest
 lone_asked w guest = lone_of w.guests (name_nth w guest)

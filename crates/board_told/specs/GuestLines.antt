@@ -5,14 +5,10 @@
 --     lines_of_closed f      the lines of the closed regions of a finding
 --     text_told latch t f      the whole text
 use Rattle.std.specs.Prelude.{ℕ, ◌++◌, ◌∷◌, List, map, codes}
-use Rattle.model_guests.specs.Accesses.{Target}
-use Rattle.model_guests.specs.Text.{Text, ended, text_of_lines}
-use Rattle.model_guests.specs.PathTexts.{hexadecimal}
+use Rattle.model_guests.specs.{Accesses.Target, Text.{Text, ended, text_of_lines}, PathTexts.hexadecimal}
 use Rattle.model_findings.specs.AuditText.{register_text}
-use Rattle.model_lines.specs.WhyText.{why_line}
-use Rattle.model_lines.specs.WhyGuests.{Finding, slot_text, target_text, finding_text, closed_text, closed_lines, target_lines}
-use Rattle.board_told.specs.declared.closed.ClosedInSlot.{ClosedInSlot}
-use Rattle.board_told.specs.GuestFindings.{closed_told}
+use Rattle.model_lines.specs.{WhyText.why_line, WhyGuests.{Finding, slot_text, target_text, finding_text, closed_text, closed_lines, target_lines}}
+use Rattle.board_told.specs.{declared.closed.ClosedInSlot.ClosedInSlot, GuestFindings.closed_told}
 
 abbrev pub head_text : Target → Finding → Text
 head_text t f = target_text t ++ codes ": " ++ finding_text f

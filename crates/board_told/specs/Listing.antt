@@ -2,14 +2,12 @@
 --     reported_in form s, report_in form w      the report in a form of what is reported; of a world
 --     IsReadyOf bytes r guests      r is the board of the world that the bytes declare, set up, and guests are its guests
 use Rattle.std.specs.Prelude.{◌≡◌, List}
-use Rattle.model_guests.specs.Text.{Text}
-use Rattle.model_guests.specs.World.{Guest, World}
+use Rattle.model_guests.specs.{Text.Text, World.{Guest, World}}
 use Rattle.window_packing.specs.Readies.{ReadyBoard, IsReady}
 use Rattle.session.specs.Files.{IsSetUp}
 use Rattle.model_handoff.specs.Report.{SetUpBoard, set_up_board, report_of}
 use Rattle.json_texts.specs.ReportValue.{value_line, report_value}
-use Rattle.board_told.specs.declared.listing.ReportForm.{ReportForm}
-use Rattle.board_told.specs.declared.listing.ReportForm.TheVariants.{Lines, Json}
+use Rattle.board_told.specs.declared.listing.ReportForm.{ReportForm, TheVariants.{Lines, Json}}
 
 abbrev pub reported_in : ReportForm → SetUpBoard → Text
 reported_in Lines s = report_of s

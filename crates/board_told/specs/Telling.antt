@@ -6,15 +6,9 @@ use Rattle.std.specs.Prelude.{ℕ, List, length}
 use Rattle.model_registers.specs.Apertures.{Apertures}
 use Rattle.model_board.specs.State.{BoardFunction}
 use Rattle.model_guests.specs.Text.{Text}
-use Rattle.model_findings.specs.AuditText.{audit_text}
-use Rattle.model_findings.specs.Problems.{Problem, problems}
-use Rattle.model_findings.specs.Lacks.{Lack, lacks, lack_count}
-use Rattle.model_findings.specs.ReadyText.{ready_text}
+use Rattle.model_findings.specs.{AuditText.audit_text, Problems.{Problem, problems}, Lacks.{Lack, lacks, lack_count}, ReadyText.ready_text}
 use Rattle.json_texts.specs.AuditValue.{problems_json, lacks_json}
-use Rattle.board_told.specs.declared.listing.ReportForm.{ReportForm}
-use Rattle.board_told.specs.declared.listing.ReportForm.TheVariants.{Lines, Json}
-use Rattle.board_told.specs.declared.telling.Question.{Question}
-use Rattle.board_told.specs.declared.telling.Question.TheVariants.{Audit, Ready}
+use Rattle.board_told.specs.declared.{listing.ReportForm.{ReportForm, TheVariants.{Lines, Json}}, telling.Question.{Question, TheVariants.{Audit, Ready}}}
 
 abbrev pub audit_in : ReportForm → List Problem → Text
 audit_in Lines ps = audit_text ps

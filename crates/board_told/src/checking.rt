@@ -1,16 +1,12 @@
 //! What is wrong with a board file, or that nothing is.
 ghost use Rattle.std.specs.Prelude.{◌≡◌, ◌≢◌, None, List, Ok, Err, IfOk, IfErr, IsUtf8, option_map, string_bytes};
-ghost use Rattle.toml.specs.Errors.{IsWithin};
-ghost use Rattle.toml.specs.Parse.{parse_document};
-ghost use Rattle.toml.specs.View.{table_view};
+ghost use Rattle.toml.specs.{Errors.IsWithin, Parse.parse_document, View.table_view};
 ghost use Rattle.model_board.specs.AtReset.{IsAtReset};
 ghost use Rattle.model_guests.specs.World.{Guest};
-ghost use Rattle.board_file.specs.Meaning.{world_in, meaning};
-ghost use Rattle.board_file.specs.Sources.{IsRead};
-ghost use Rattle.board_file.specs.Faults as of_file;
-ghost use Rattle.board_file.specs.declared.fault.BoardFault.TheVariants.{Memory};
+ghost use Rattle.board_file.specs.{Meaning.{world_in, meaning}, Sources.IsRead, declared.fault.BoardFault.TheVariants.Memory};
 ghost use Rattle.session.specs.declared.opening.OpenFault.TheVariants.{SetUp};
 ghost use Rattle.board_told.specs.Checking.{IsCheckText, IsOutOfMemory};
+ghost use Rattle.board_file.specs.Faults as of_file;
 
 use board_file::{BoardFault, Source};
 use board_fit::{Warned, judge};

@@ -2,8 +2,7 @@
 ghost use Rattle.std.specs.Prelude.{◌≡◌, ◌++◌, ◌<◌, map, length, IfOk, OnOk};
 ghost use Rattle.model_guests.specs.Slots.{slot_at};
 ghost use Rattle.model_lines.specs.WhyGuests.{closed_from};
-ghost use Rattle.bars.specs.Kinds.{named_space};
-ghost use Rattle.bars.specs.Slots.{placed, bases_from};
+ghost use Rattle.bars.specs.{Kinds.named_space, Slots.{placed, bases_from}};
 ghost use Rattle.board_told.specs.GuestFindings.{lone_asked, base_holds, closed_at, closed_in, closed_told};
 
 use bars::{BasedRegion, Space};

@@ -1,7 +1,6 @@
 //! Why the program fails.
 ghost use Rattle.std.specs.Prelude.{◌≡◌, Some};
-ghost use Rattle.board_told.specs.Faults.{number_of, words_of, of_open, of_run};
-ghost use Rattle.board_told.specs.declared.fault.Fault.TheVariants.{File, SetUp};
+ghost use Rattle.board_told.specs.{Faults.{number_of, words_of, of_open, of_run}, declared.fault.Fault.TheVariants.{File, SetUp}};
 
 use board_file::BoardFault;
 use session::{OpenFault, RunFault};

@@ -1,7 +1,6 @@
 //! What an access of a guest finds (PCI Local Bus 3.0, chapters 3.2.2.3.2 and 6.2.5).
 ghost use Rattle.std.specs.Prelude.{◌≡◌, ◌<◌, None, length, IfOk, IfErr};
-ghost use Rattle.model_guests.specs.Accesses.{port};
-ghost use Rattle.model_guests.specs.Lone.{destination};
+ghost use Rattle.model_guests.specs.{Accesses.port, Lone.destination};
 ghost use Rattle.model_lines.specs.WhyGuests.{guest_finding, nobody, closed_from};
 ghost use Rattle.bars.specs.Kinds.{named_space};
 ghost use Rattle.accesses.specs.Accesses.{target_of};

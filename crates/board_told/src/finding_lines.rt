@@ -1,13 +1,11 @@
 //! Lines of what an access of a guest finds.
 ghost use Rattle.std.specs.Prelude.{OnOk, Some};
 ghost use Rattle.lists.specs.Texts.{Adds};
-ghost use Rattle.model_lines.specs.WhyText.{why_line};
-ghost use Rattle.model_lines.specs.WhyGuests.{answers, target_text, finding_text};
+ghost use Rattle.model_lines.specs.{WhyText.why_line, WhyGuests.{answers, target_text, finding_text}};
 ghost use Rattle.accesses.specs.Accesses.{target_of};
 ghost use Rattle.model_guests.specs.Text.{ended};
 ghost use Rattle.monitor.specs.Queries.{hit_named};
-ghost use Rattle.board_told.specs.GuestFindings.{finding_told};
-ghost use Rattle.board_told.specs.GuestLines.{head_text, place_line, closed_line, told_lines, lines_of_closed};
+ghost use Rattle.board_told.specs.{GuestFindings.finding_told, GuestLines.{head_text, place_line, closed_line, told_lines, lines_of_closed}};
 
 use crate::closed::ClosedInSlot;
 use crate::finding::Finding;

@@ -2,11 +2,9 @@
 ghost use Rattle.std.specs.Prelude.{◌≡◌, ◌<◌, None, length, map, IfOk, IfErr, OnOk, string_bytes};
 ghost use Rattle.lists.specs.Texts.{Adds};
 ghost use Rattle.model_guests.specs.Text.{text_of_lines};
-ghost use Rattle.model_lines.specs.WhyText.{why_line};
-ghost use Rattle.model_lines.specs.WhyGuests.{target_lines, guest_why_text};
+ghost use Rattle.model_lines.specs.{WhyText.why_line, WhyGuests.{target_lines, guest_why_text}};
 ghost use Rattle.accesses.specs.Accesses.{target_of};
-ghost use Rattle.board_told.specs.GuestFindings.{lone_asked, fault_at, finding_told, IsWhyFault};
-ghost use Rattle.board_told.specs.GuestLines.{text_told};
+ghost use Rattle.board_told.specs.{GuestFindings.{lone_asked, fault_at, finding_told, IsWhyFault}, GuestLines.text_told};
 
 use crate::finding::{Finding, WhyFault, find};
 use crate::finding_lines::{push_closed_of, push_head};

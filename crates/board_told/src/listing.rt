@@ -2,8 +2,7 @@
 ghost use Rattle.std.specs.Prelude.{◌≡◌, IfOk, IfErr, string_bytes};
 ghost use Rattle.model_guests.specs.World.{World};
 ghost use Rattle.window_packing.specs.Readies.{IsReady};
-ghost use Rattle.session.specs.Faults.{OnFile, OnSetUp};
-ghost use Rattle.session.specs.Files.{Refuses, Breaks, IsSetUp};
+ghost use Rattle.session.specs.{Faults.{OnFile, OnSetUp}, Files.{Refuses, Breaks, IsSetUp}};
 ghost use Rattle.board_told.specs.Listing.{reported_in, report_in, IsReadyOf};
 
 use accesses::GuestDecl;

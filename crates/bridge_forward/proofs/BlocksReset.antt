@@ -1,6 +1,5 @@
 -- The blocks of an endpoint that go back to reset, one after the other.
-use Rattle.std.proofs.Common.{◌≡◌, ℕ, zero, suc, ◌+◌, ◌≤◌, Some, List, [], ◌∷◌, length, refl, ap, sym, arith, add-one}
-use Rattle.std.specs.List.{slice_get, slice_set}
+use Rattle.std.{proofs.Common.{◌≡◌, ℕ, zero, suc, ◌+◌, ◌≤◌, Some, List, [], ◌∷◌, length, refl, ap, sym, arith, add-one}, specs.List.{slice_get, slice_set}}
 use Rattle.config_bytes.specs.CellFile.{CellFile}
 use Rattle.bridge_forward.specs.EndpointParts.{blocks_after}
 

@@ -1,26 +1,8 @@
 -- Rows that a sort puts into path order are those of the board.
-use Rattle.std.proofs.Common.{◌≡◌, ℕ, suc, ◌<◌, ◌⊎◌, inl, inr, Bool, true, Some, List, [], ◌∷◌, refl, sym, ap, ap₂, ◌∙◌, subst, arith, get_or, map}
-use Rattle.std.specs.Cmp.{IsStrictWeakOrder}
-use Rattle.std.specs.List.{slice_get, IsDistinct, list_any}
-use Rattle.std.specs.List.Sorted.{IsPermutation, IsSortedBy}
-use Rattle.std.proofs.lemmas.Option.{slice_get_within, slice_get-get_or, get_or_from_slice_get}
-use Rattle.std.proofs.lemmas.List.Sorted.{IsPermutation-sym, sorted_far}
-use Rattle.std.proofs.lemmas.Map.Keys.{IsDistinct-from_apart, IsDistinct-IsPermutation, apart_from_distinct}
-use Rattle.std.proofs.lemmas.Simd.{map-map}
-use Rattle.lists.specs.Elements.{Each, EachPair, IsIn}
-use Rattle.lists.proofs.EachLemmas.{each_map, each_permutation, each_of_map}
-use Rattle.lists.proofs.Indices.{each_by_index, map_at, pair_at}
-use Rattle.lists.proofs.Members.{each_in, each_from, pairs_of_map}
-use Rattle.model_board.specs.Paths.{Path, path_eq, path_before, parent, IsPath}
-use Rattle.model_board.specs.Board.{Row, Board, IsBoard, is_bridge_at}
-use Rattle.model_board.specs.Places.{board_of, row_inserted, standing}
-use Rattle.model_board.specs.State.{BoardFunction}
-use Rattle.model_board.proofs.PathOrder.{path_same, before_trans}
-use Rattle.model_board.proofs.PathEnds.{not_before_itself, no_turn, path_eq-sym}
-use Rattle.model_board.proofs.PlacesLaw.{path_total, each_from_board, each_to_board, lawful_places_are_boards}
-use Rattle.bridge_forward.specs.declared.bus.Node.{Node}
-use Rattle.bridge_forward.specs.Layout.{functions_of, paths_of, AreInOrder}
-use Rattle.bridge_forward.specs.Resets.{reset_functions}
+use Rattle.std.{proofs.{Common.{◌≡◌, ℕ, suc, ◌<◌, ◌⊎◌, inl, inr, Bool, true, Some, List, [], ◌∷◌, refl, sym, ap, ap₂, ◌∙◌, subst, arith, get_or, map}, lemmas.{Option.{slice_get_within, slice_get-get_or, get_or_from_slice_get}, List.Sorted.{IsPermutation-sym, sorted_far}, Map.Keys.{IsDistinct-from_apart, IsDistinct-IsPermutation, apart_from_distinct}, Simd.map-map}}, specs.{Cmp.IsStrictWeakOrder, List.{slice_get, IsDistinct, list_any, Sorted.{IsPermutation, IsSortedBy}}}}
+use Rattle.lists.{specs.Elements.{Each, EachPair, IsIn}, proofs.{EachLemmas.{each_map, each_permutation, each_of_map}, Indices.{each_by_index, map_at, pair_at}, Members.{each_in, each_from, pairs_of_map}}}
+use Rattle.model_board.{specs.{Paths.{Path, path_eq, path_before, parent, IsPath}, Board.{Row, Board, IsBoard, is_bridge_at}, Places.{board_of, row_inserted, standing}, State.BoardFunction}, proofs.{PathOrder.{path_same, before_trans}, PathEnds.{not_before_itself, no_turn, path_eq-sym}, PlacesLaw.{path_total, each_from_board, each_to_board, lawful_places_are_boards}}}
+use Rattle.bridge_forward.specs.{declared.bus.Node.Node, Layout.{functions_of, paths_of, AreInOrder}, Resets.reset_functions}
 
 abbrev pub before : Row → Row → Bool
 before r s = path_before r.path s.path

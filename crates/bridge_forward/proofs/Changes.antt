@@ -1,31 +1,13 @@
 -- One node changed: the layout stays, and so do all other functions.
-use Rattle.std.proofs.Common.{◌≡◌, ℕ, Bool, true, false, cond, Option, Some, None, List, [], ◌∷◌, map, zero, suc, refl, ap, ap₂, sym, ◌∙◌, arith, subst, get_or, rules}
-use Rattle.std.specs.Prelude.{find, IsSome}
-use Rattle.std.specs.List.{slice_get, slice_set}
-use Rattle.std.specs.Option.{option_map_or}
-use Rattle.std.proofs.lemmas.Option.{slice_get_within}
+use Rattle.std.{proofs.{Common.{◌≡◌, ℕ, Bool, true, false, cond, Option, Some, None, List, [], ◌∷◌, map, zero, suc, refl, ap, ap₂, sym, ◌∙◌, arith, subst, get_or, rules}, lemmas.Option.slice_get_within}, specs.{Prelude.{find, IsSome}, List.{slice_get, slice_set}, Option.option_map_or}}
 use borrow.Follows.Closed.{read_of}
 use base.Fml.{GName}
 use mathlib.Core.Option.{Option as Opt}
-use Rattle.lists.specs.Elements.{EachPair}
-use Rattle.model_registers.specs.Registers.{File}
+use Rattle.lists.{specs.Elements.EachPair, proofs.Indices.{read_at, same_at, map_at, at_map, map_set, set_same, found_at}}
+use Rattle.model_registers.specs.{Registers.File, CopiedFiles.after_reset}
+use Rattle.model_board.{specs.{Paths.{Path, path_eq, path_before}, Board.endpoint, State.{BoardFunction, with_file}}, proofs.{PathOrder.path_same, PathEnds.{path_self, not_before_itself}}}
+use Rattle.bridge_forward.{specs.{declared.{bus.Node.Node, function.Function.{Function, TheVariants.{Endpoint, Bridge}}}, Functions.{decl_of, file_of, with_cells, endpoint_in}, ResetAlone.after_leaf_reset, Layout.{function_of, functions_of, IsLaidOut}, Lending.{as_endpoint, endpoint_at, with_endpoint, with_endpoint_reset, endpoint_nth, with_endpoint_nth}, Search.IsAt}, proofs.Nodes.ordered}
 use Rattle.model_registers.specs.Decoding as decoding
-use Rattle.model_board.specs.Paths.{Path, path_eq, path_before}
-use Rattle.model_board.specs.Board.{endpoint}
-use Rattle.model_board.specs.State.{BoardFunction, with_file}
-use Rattle.model_board.proofs.PathOrder.{path_same}
-use Rattle.model_board.proofs.PathEnds.{path_self, not_before_itself}
-use Rattle.bridge_forward.specs.declared.bus.Node.{Node}
-use Rattle.bridge_forward.specs.declared.function.Function.{Function}
-use Rattle.bridge_forward.specs.declared.function.Function.TheVariants.{Endpoint, Bridge}
-use Rattle.bridge_forward.specs.Functions.{decl_of, file_of, with_cells, endpoint_in}
-use Rattle.model_registers.specs.CopiedFiles.{after_reset}
-use Rattle.bridge_forward.specs.ResetAlone.{after_leaf_reset}
-use Rattle.bridge_forward.specs.Layout.{function_of, functions_of, IsLaidOut}
-use Rattle.bridge_forward.specs.Lending.{as_endpoint, endpoint_at, with_endpoint, with_endpoint_reset, endpoint_nth, with_endpoint_nth}
-use Rattle.bridge_forward.specs.Search.{IsAt}
-use Rattle.lists.proofs.Indices.{read_at, same_at, map_at, at_map, map_set, set_same, found_at}
-use Rattle.bridge_forward.proofs.Nodes.{ordered}
 
 -- another function at one place leaves the layout
 pub laid_set : (nodes : List Node) (i : ℕ) (n : Node) (f : Function) → slice_get nodes i ≡ Some n → IsLaidOut nodes → IsLaidOut (slice_set nodes i (record n { function = f }))

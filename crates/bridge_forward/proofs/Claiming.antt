@@ -1,23 +1,10 @@
 -- The walk that looks for the first claim.
-use Rattle.std.proofs.Common.{◌≡◌, ℕ, ◌+◌, ◌<◌, ◌≤◌, Bool, true, false, not, ◌&&◌, ◌||◌, cond, Option, Some, None, List, [], ◌∷◌, length, zero, suc, refl, ap, ◌∙◌, arith, ◌⊎◌, rules}
-use Rattle.std.specs.Option.{option_map_or}
-use Rattle.std.specs.List.{slice_get, list_all}
-use Rattle.std.proofs.lemmas.Option.{slice_get_within}
-use Rattle.lists.specs.Elements.{first_of_two, first_some}
-use Rattle.model_registers.specs.Decoding as decoding
+use Rattle.std.{proofs.{Common.{◌≡◌, ℕ, ◌+◌, ◌<◌, ◌≤◌, Bool, true, false, not, ◌&&◌, ◌||◌, cond, Option, Some, None, List, [], ◌∷◌, length, zero, suc, refl, ap, ◌∙◌, arith, ◌⊎◌, rules}, lemmas.Option.slice_get_within}, specs.{Option.option_map_or, List.{slice_get, list_all}}}
+use Rattle.lists.{specs.Elements.{first_of_two, first_some}, proofs.{Indices.{map_at, at_map, fails_at}, Tests.asked_false}}
 use Rattle.model_registers.specs.Decoding.{Space, Hit, lone_claim}
-use Rattle.model_board.specs.Paths.{leads_to}
-use Rattle.model_board.specs.State.{BoardFunction}
-use Rattle.model_board.specs.Windows.{forwards}
-use Rattle.model_board.specs.Claims.{is_forwarded, claim_at, endpoint_hit, claim_of, first_claim}
-use Rattle.bridge_forward.specs.Bridges.{BridgeFunction}
-use Rattle.bridge_forward.specs.declared.bus.Node.{Node}
-use Rattle.bridge_forward.specs.declared.function.Function.{Function}
-use Rattle.bridge_forward.specs.declared.function.Function.TheVariants.{Endpoint, Bridge}
-use Rattle.bridge_forward.specs.Layout.{function_of, functions_of, IsLaidOut}
-use Rattle.lists.proofs.Indices.{map_at, at_map, fails_at}
-use Rattle.lists.proofs.Tests.{asked_false}
-use Rattle.bridge_forward.proofs.Nodes.{inside, leads_within, within_of_leads, nested}
+use Rattle.model_board.specs.{Paths.leads_to, State.BoardFunction, Windows.forwards, Claims.{is_forwarded, claim_at, endpoint_hit, claim_of, first_claim}}
+use Rattle.bridge_forward.{specs.{Bridges.BridgeFunction, declared.{bus.Node.Node, function.Function.{Function, TheVariants.{Endpoint, Bridge}}}, Layout.{function_of, functions_of, IsLaidOut}}, proofs.Nodes.{inside, leads_within, within_of_leads, nested}}
+use Rattle.model_registers.specs.Decoding as decoding
 
 -- ---- lists
 

@@ -1,19 +1,8 @@
 -- Which devices have more functions than function 0, told by the paths of their functions 0.
-use Rattle.std.proofs.Common.{◌≡◌, ◌<◌, inl, inr, Bool, true, false, not, ◌&&◌, ◌||◌, List, [], ◌∷◌, length, map, refl, sym, ap, ap₂, ◌∙◌, arith}
-use Rattle.std.specs.Prelude.{filter}
-use Rattle.std.specs.List.{list_any}
-use Rattle.std.specs.Ordering.{eq_by_cmp}
-use Rattle.std.specs.BTreeSet.{BTreeSet, IsFromIterResult, contains}
-use Rattle.std.proofs.lemmas.Bool.Decides.{nat_tests}
-use Rattle.lists.specs.Elements.{IsIn}
-use Rattle.lists.proofs.Members.{each_in, in_filter, from_filter, any_in, from_any}
-use Rattle.lists.proofs.Tests.{same_test}
-use Rattle.model_board.specs.Paths.{Part, Path, path_eq, parent, same_device, function_zero, IsPath}
-use Rattle.model_board.specs.Board.{Row, Board, IsBoard, is_multifunction, stands_at}
-use Rattle.model_board.proofs.PathOrder.{path_same}
-use Rattle.model_board.proofs.PathEnds.{path_self, path_eq-sym}
-use Rattle.paths.specs.PathOrders.{path_cmp}
-use Rattle.paths.specs.PathLaws.{paths_tied}
+use Rattle.std.{proofs.{Common.{◌≡◌, ◌<◌, inl, inr, Bool, true, false, not, ◌&&◌, ◌||◌, List, [], ◌∷◌, length, map, refl, sym, ap, ap₂, ◌∙◌, arith}, lemmas.Bool.Decides.nat_tests}, specs.{Prelude.filter, List.list_any, Ordering.eq_by_cmp, BTreeSet.{BTreeSet, IsFromIterResult, contains}}}
+use Rattle.lists.{specs.Elements.IsIn, proofs.{Members.{each_in, in_filter, from_filter, any_in, from_any}, Tests.same_test}}
+use Rattle.model_board.{specs.{Paths.{Part, Path, path_eq, parent, same_device, function_zero, IsPath}, Board.{Row, Board, IsBoard, is_multifunction, stands_at}}, proofs.{PathOrder.path_same, PathEnds.{path_self, path_eq-sym}}}
+use Rattle.paths.specs.{PathOrders.path_cmp, PathLaws.paths_tied}
 use Rattle.bridge_forward.specs.Devices.{is_further, shared_devices}
 
 -- ---- paths

@@ -1,32 +1,9 @@
 -- Accesses of an endpoint's file, by the part that they reach.
-use Rattle.std.proofs.Common.{◌≡◌, ◌≢◌, ℕ, zero, suc, ◌+◌, ◌/◌, ◌%◌, ◌<◌, ◌≤◌, ◌⊎◌, inl, inr, Bool, true, false, cond, Some, get_or, List, [], ◌∷◌, ◌++◌, map, length, refl, ap, ap₂, sym, ◌∙◌, subst, arith, rules}
-use Rattle.std.specs.Int.Bits.{or_zero_r, and_zero_r}
-use Rattle.std.specs.Prelude.{◌==◌}
-use Rattle.std.specs.Option.{option_map_or}
-use Rattle.std.specs.List.{slice_get, slice_set}
-use Rattle.std.proofs.lemmas.Option.{slice_get_past, slice_get_within}
-use Rattle.std.proofs.lemmas.List.{length-set}
-use Rattle.std.proofs.lemmas.Bool.{cases_eq}
-use Rattle.std.proofs.lemmas.Bool.Decides.{nat_tests}
-use Rattle.lists.specs.Elements.{Each, EachPair}
-use Rattle.model_registers.specs.Cell.{Cell, raised}
-use Rattle.model_registers.specs.Registers.{config, block, PlacedCell, File, cell_at, read, changed, write, raise, field, in_region}
-use Rattle.model_registers.specs.FileLaws.{has_place, HasNone, IsConfig, IsConfigFile}
-use Rattle.model_registers.specs.Declarations.{Region, Endpoint, HasLawfulRegions, IsLawfulRegion}
-use Rattle.model_registers.specs.EndpointTable.{BaseAddress, register_cells, base_file, opened}
-use Rattle.model_registers.proofs.Files.{joined_write, joined_change, read_none, write_none, change_none, region_has_no_config, region_has_no_other, config_has_no_block, region_write, region_change, config_without_block, config_stays, places_stay, change_keeps_places, changed_config, cell_none, places_changed, places_written}
-use Rattle.model_registers.proofs.Parts.{write_apart, change_outside}
+use Rattle.std.{proofs.{Common.{◌≡◌, ◌≢◌, ℕ, zero, suc, ◌+◌, ◌/◌, ◌%◌, ◌<◌, ◌≤◌, ◌⊎◌, inl, inr, Bool, true, false, cond, Some, get_or, List, [], ◌∷◌, ◌++◌, map, length, refl, ap, ap₂, sym, ◌∙◌, subst, arith, rules}, lemmas.{Option.{slice_get_past, slice_get_within}, List.length-set, Bool.{cases_eq, Decides.nat_tests}}}, specs.{Int.Bits.{or_zero_r, and_zero_r}, Prelude.◌==◌, Option.option_map_or, List.{slice_get, slice_set}}}
+use Rattle.lists.{specs.Elements.{Each, EachPair}, proofs.{EachLemmas.each_append, Indices.read_at}}
+use Rattle.model_registers.{specs.{Cell.{Cell, raised}, Registers.{config, block, PlacedCell, File, cell_at, read, changed, write, raise, field, in_region}, FileLaws.{has_place, HasNone, IsConfig, IsConfigFile}, Declarations.{Region, Endpoint, HasLawfulRegions, IsLawfulRegion}, EndpointTable.{BaseAddress, register_cells, base_file, opened}, DeviceBytes.{is_device_byte, with_value, set_value}}, proofs.{Files.{joined_write, joined_change, read_none, write_none, change_none, region_has_no_config, region_has_no_other, config_has_no_block, region_write, region_change, config_without_block, config_stays, places_stay, change_keeps_places, changed_config, cell_none, places_changed, places_written}, Parts.{write_apart, change_outside}, BareRegions.{bare_lawful, Follows}, Owned.{no_base, base_outside}, Bases.registers_positive, RegisterFiles.place_same, DeviceBytes.device_away}}
 use Rattle.config_bytes.specs.CellFile.{CellFile, places_of}
-use Rattle.lists.proofs.EachLemmas.{each_append}
-use Rattle.lists.proofs.Indices.{read_at}
-use Rattle.model_registers.proofs.BareRegions.{bare_lawful, Follows}
-use Rattle.model_registers.proofs.Owned.{no_base, base_outside}
-use Rattle.model_registers.proofs.Bases.{registers_positive}
-use Rattle.bridge_forward.specs.EndpointParts.{block_at, region_parts, IsShort, AreParts, IsHeaderKept}
-use Rattle.bridge_forward.proofs.RegionParts.{read_same, cell_second, cell_first, config_register, no_config_in, no_other_in, config_cell, Distinct, block_cell, IsChange, parts_changed, write_is_change, changed_is_change}
-use Rattle.model_registers.specs.DeviceBytes.{is_device_byte, with_value, set_value}
-use Rattle.model_registers.proofs.RegisterFiles.{place_same}
-use Rattle.model_registers.proofs.DeviceBytes.{device_away}
+use Rattle.bridge_forward.{specs.EndpointParts.{block_at, region_parts, IsShort, AreParts, IsHeaderKept}, proofs.RegionParts.{read_same, cell_second, cell_first, config_register, no_config_in, no_other_in, config_cell, Distinct, block_cell, IsChange, parts_changed, write_is_change, changed_is_change}}
 
 config_bases : (bs : List BaseAddress) → IsConfigFile (base_file bs)
 config_bases [] = tt

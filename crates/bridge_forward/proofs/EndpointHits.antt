@@ -1,17 +1,8 @@
 -- What an endpoint decodes is told by its Command and its base address registers.
-use Rattle.std.proofs.Common.{◌≡◌, ℕ, zero, suc, ◌+◌, ◌*◌, ◌/◌, ◌^◌, ◌<◌, ◌≤◌, inl, inr, List, [], ◌∷◌, ◌++◌, map, refl, ap, sym, ◌∙◌, arith, rules}
-use Rattle.std.proofs.Math.Nat.{mod-eq_of_lt}
+use Rattle.std.proofs.{Common.{◌≡◌, ℕ, zero, suc, ◌+◌, ◌*◌, ◌/◌, ◌^◌, ◌<◌, ◌≤◌, inl, inr, List, [], ◌∷◌, ◌++◌, map, refl, ap, sym, ◌∙◌, arith, rules}, Math.Nat.mod-eq_of_lt}
 use Rattle.lists.specs.Elements.{Each}
-use Rattle.model_registers.specs.Registers.{config, File, number, all_bytes}
-use Rattle.model_registers.specs.Declarations.{Region, Kind, io_kind, mem32, mem64, registers_of, IsLawfulRegion, Endpoint}
-use Rattle.model_registers.specs.EndpointTable.{BaseAddress, base_file, command_cells, opened, HasLawfulBases}
-use Rattle.model_registers.specs.Decoding.{Space, base, base_address, first_hit}
-use Rattle.model_registers.specs.OwnCopies.{bare}
-use Rattle.model_registers.proofs.Hits.{hits_by_bases, bases_of_registers}
-use Rattle.model_registers.proofs.RegisterFiles.{field_reads}
-use Rattle.model_registers.proofs.Parts.{read_apart}
-use Rattle.bridge_forward.specs.EndpointParts.{region_parts, AreParts}
-use Rattle.bridge_forward.proofs.EndpointAccess.{lawful_bars, read_base, read_config}
+use Rattle.model_registers.{specs.{Registers.{config, File, number, all_bytes}, Declarations.{Region, Kind, io_kind, mem32, mem64, registers_of, IsLawfulRegion, Endpoint}, EndpointTable.{BaseAddress, base_file, command_cells, opened, HasLawfulBases}, Decoding.{Space, base, base_address, first_hit}, OwnCopies.bare}, proofs.{Hits.{hits_by_bases, bases_of_registers}, RegisterFiles.field_reads, Parts.read_apart}}
+use Rattle.bridge_forward.{specs.EndpointParts.{region_parts, AreParts}, proofs.EndpointAccess.{lawful_bars, read_base, read_config}}
 
 standing_bare : (file : File) (rs : List Region) → map (base_address file) (map bare rs) ≡ map (base_address file) rs
 standing_bare file [] = refl

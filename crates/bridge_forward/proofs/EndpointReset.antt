@@ -1,29 +1,10 @@
 -- Cells listed by their offsets.
-use Rattle.std.proofs.Common.{◌≡◌, ◌≢◌, ℕ, zero, suc, ◌+◌, ◌/◌, ◌<◌, ◌≤◌, ◌⊎◌, inr, Bool, false, Option, Some, None, List, [], ◌∷◌, ◌++◌, map, length, refl, ap, ap₂, sym, ◌∙◌, subst, arith, rules, take, add-one}
-use Rattle.std.specs.Prelude.{◌==◌, flat_map}
-use Rattle.std.proofs.lemmas.Bool.{ne_eqb, eq-eqb}
-use Rattle.std.proofs.lemmas.Bool.Decides.{nat_tests}
-use Rattle.std.specs.List.{slice_get}
-use Rattle.std.specs.Option.{option_map_or}
-use Rattle.lists.specs.Elements.{Each, EachPair}
-use Rattle.model_registers.specs.Cell.{Cell}
-use Rattle.model_registers.specs.Registers.{Place, config, PlacedCell, File, field, cells_from}
-use Rattle.model_registers.specs.FileLaws.{has_place, IsConfig, IsConfigFile}
-use Rattle.model_registers.specs.Declarations.{Bar, Region, registers_of, IsLawfulRegion, HasLawfulRegions, ConfigBlock, Endpoint}
-use Rattle.model_registers.specs.DeclarationRules.{IsConfigBlock, IsLawfulEndpoint}
-use Rattle.model_registers.specs.EndpointTable.{BaseAddress, opened, closed, region_cells, block_cells, header_cells, config_reset, endpoint_reset}
-use Rattle.model_registers.proofs.Files.{region_cells as cells_in_region}
-use Rattle.model_registers.proofs.Parts.{IsOutside}
+use Rattle.std.{proofs.{Common.{◌≡◌, ◌≢◌, ℕ, zero, suc, ◌+◌, ◌/◌, ◌<◌, ◌≤◌, ◌⊎◌, inr, Bool, false, Option, Some, None, List, [], ◌∷◌, ◌++◌, map, length, refl, ap, ap₂, sym, ◌∙◌, subst, arith, rules, take, add-one}, lemmas.{Bool.{ne_eqb, eq-eqb, Decides.nat_tests}, Simd.map-map}}, specs.{Prelude.{◌==◌, flat_map}, List.slice_get, Option.option_map_or}}
+use Rattle.lists.{specs.Elements.{Each, EachPair}, proofs.{EachLemmas.{each_append, each_map, pairs_map}, Indices.{each_at, pair_at, find_at, each_by_index, found_at}}}
+use Rattle.model_registers.{specs.{Cell.Cell, Registers.{Place, config, PlacedCell, File, field, cells_from}, FileLaws.{has_place, IsConfig, IsConfigFile}, Declarations.{Bar, Region, registers_of, IsLawfulRegion, HasLawfulRegions, ConfigBlock, Endpoint}, DeclarationRules.{IsConfigBlock, IsLawfulEndpoint}, EndpointTable.{BaseAddress, opened, closed, region_cells, block_cells, header_cells, config_reset, endpoint_reset}}, proofs.{Files.region_cells as cells_in_region, Parts.IsOutside, BareRegions.bare_lawful, Bases.registers_positive}}
 use Rattle.config_bytes.specs.CellFile.{CellFile, offsets_from}
 use Rattle.bars.specs.Resets.{reset_from, at_reset}
-use Rattle.bridge_forward.specs.EndpointParts.{block_at, region_parts, IsElsewhere, AreParts, region_at, declared_bar, declared_block, as_made}
-use Rattle.lists.proofs.EachLemmas.{each_append, each_map, pairs_map}
-use Rattle.std.proofs.lemmas.Simd.{map-map}
-use Rattle.lists.proofs.Indices.{each_at, pair_at, find_at, each_by_index, found_at}
-use Rattle.model_registers.proofs.BareRegions.{bare_lawful}
-use Rattle.model_registers.proofs.Bases.{registers_positive}
-use Rattle.bridge_forward.proofs.RegionParts.{config_field}
-use Rattle.bridge_forward.proofs.EndpointAccess.{no_block}
+use Rattle.bridge_forward.{specs.EndpointParts.{block_at, region_parts, IsElsewhere, AreParts, region_at, declared_bar, declared_block, as_made}, proofs.{RegionParts.config_field, EndpointAccess.no_block}}
 
 next : (xs : List Cell) (a i : ℕ) (x : Cell) → slice_get xs i ≡ Some x → offsets_from a (take (suc i) xs) ≡ offsets_from a (take i xs) ++ (a + i, x) ∷ []
 next [] a i x e = absurd (cc)

@@ -1,14 +1,7 @@
 -- Where that ends which stands behind a path, in a list in path order.
-use Rattle.std.proofs.Common.{◌≡◌, ℕ, ◌+◌, ◌<◌, ◌≤◌, true, false, Some, List, length, ap, ◌∙◌, arith, rules}
-use Rattle.std.specs.List.{slice_get, slice_set}
-use Rattle.std.proofs.lemmas.Bool.Decides.{nat_tests}
-use Rattle.std.proofs.lemmas.Option.{slice_get_within}
-use Rattle.model_board.specs.Paths.{Path, path_before, leads_to}
-use Rattle.model_board.proofs.PathOrder.{behind_trans, leads_before}
-use Rattle.model_board.proofs.PathEnds.{not_before_itself, no_turn}
-use Rattle.bridge_forward.specs.declared.bus.Node.{Node}
-use Rattle.bridge_forward.specs.Layout.{functions_of, paths_of, AreInOrder, EndsAt, IsLaidOut}
-use Rattle.bridge_forward.proofs.EndpointAccess.{set_cases}
+use Rattle.std.{proofs.{Common.{◌≡◌, ℕ, ◌+◌, ◌<◌, ◌≤◌, true, false, Some, List, length, ap, ◌∙◌, arith, rules}, lemmas.{Bool.Decides.nat_tests, Option.slice_get_within}}, specs.List.{slice_get, slice_set}}
+use Rattle.model_board.{specs.Paths.{Path, path_before, leads_to}, proofs.{PathOrder.{behind_trans, leads_before}, PathEnds.{not_before_itself, no_turn}}}
+use Rattle.bridge_forward.{specs.{declared.bus.Node.Node, Layout.{functions_of, paths_of, AreInOrder, EndsAt, IsLaidOut}}, proofs.EndpointAccess.set_cases}
 use Rattle.lists.proofs.Indices.{same_at, at_below, pair_at, map_at, at_map, map_set, set_same}
 
 -- ---- path order

@@ -1,18 +1,8 @@
 -- The search for a path among nodes in path order.
-use Rattle.std.proofs.Common.{◌≡◌, ℕ, ◌+◌, ◌<◌, ◌≤◌, true, false, Some, None, List, [], ◌∷◌, ◌++◌, ap, sym, arith, subst, ◌↔◌, suc, map, drop, length, get_or, add-one, IsFalse}
-use Rattle.std.specs.Prelude.{find}
-use Rattle.std.specs.List.{slice_get}
-use Rattle.std.proofs.Math.Seq.{drop-cons}
-use Rattle.model_board.specs.Paths.{Part, Path, path_eq, path_before}
-use Rattle.model_board.proofs.PathOrder.{path_same}
-use Rattle.model_board.proofs.PathEnds.{not_before_itself, leads_self, no_turn}
-use Rattle.bridge_forward.specs.declared.bus.Node.{Node}
-use Rattle.bridge_forward.specs.Layout.{function_of, functions_of, IsLaidOut}
-use Rattle.bridge_forward.specs.Search.{IsSide, IsAt}
-use Rattle.bridge_forward.proofs.Nodes.{ordered, in_side}
-use Rattle.lists.proofs.Indices.{read_at, same_at, map_at, at_map, find_at, find_none}
-use Rattle.lists.specs.Elements.{Each, EachPair}
-use Rattle.model_board.specs.Places.{Standing, has_path}
+use Rattle.std.{proofs.{Common.{◌≡◌, ℕ, ◌+◌, ◌<◌, ◌≤◌, true, false, Some, None, List, [], ◌∷◌, ◌++◌, ap, sym, arith, subst, ◌↔◌, suc, map, drop, length, get_or, add-one, IsFalse}, Math.Seq.drop-cons}, specs.{Prelude.find, List.slice_get}}
+use Rattle.model_board.{specs.{Paths.{Part, Path, path_eq, path_before}, Places.{Standing, has_path}}, proofs.{PathOrder.path_same, PathEnds.{not_before_itself, leads_self, no_turn}}}
+use Rattle.bridge_forward.{specs.{declared.bus.Node.Node, Layout.{function_of, functions_of, IsLaidOut}, Search.{IsSide, IsAt}}, proofs.Nodes.{ordered, in_side}}
+use Rattle.lists.{proofs.Indices.{read_at, same_at, map_at, at_map, find_at, find_none}, specs.Elements.{Each, EachPair}}
 
 -- the path stands neither below low nor from high on
 pub record Halved (nodes : List Node) (path : Path) (low high : ℕ) : Type 0 where

@@ -1,10 +1,7 @@
 -- An endpoint whose parts hold bytes.
 use Rattle.std.proofs.Common.{◌+◌, ◌/◌, ◌<◌, ℕ, zero, suc, List, [], ◌∷◌, ◌++◌, arith}
-use Rattle.lists.specs.Elements.{Each}
-use Rattle.lists.proofs.EachLemmas.{each_append}
-use Rattle.model_registers.specs.AccessLaws.{HoldsBytes}
-use Rattle.model_registers.specs.EndpointTable.{BaseAddress}
-use Rattle.model_registers.specs.Registers.{Place, PlacedCell, File, after, field, in_region}
+use Rattle.lists.{specs.Elements.Each, proofs.EachLemmas.each_append}
+use Rattle.model_registers.specs.{AccessLaws.HoldsBytes, EndpointTable.BaseAddress, Registers.{Place, PlacedCell, File, after, field, in_region}}
 use Rattle.config_bytes.specs.CellFile.{CellFile}
 use Rattle.bridge_forward.specs.EndpointParts.{block_at, region_parts}
 

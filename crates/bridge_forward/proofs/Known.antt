@@ -1,12 +1,7 @@
 -- What is known of bridges, where an entry changes or the time goes on.
-use Rattle.std.proofs.Common.{◌≡◌, ℕ, suc, ◌+◌, ◌≤◌, ◌<◌, Option, None, List, [], ◌∷◌, length, replicate, get_or, refl, sym, ap, ap₂, ◌∙◌, subst, zero, arith}
-use Rattle.std.proofs.lemmas.Bool.{ne_eqb}
-use Rattle.std.proofs.lemmas.List.{length-replicate}
-use Rattle.std.specs.List.{slice_set}
-use Rattle.lists.specs.Elements.{Each}
-use Rattle.lists.proofs.Indices.{map_set}
-use Rattle.bridge_forward.specs.Known.{known_entry, known_now, AreKept}
-use Rattle.bridge_forward.specs.Leading.{AreUnknown}
+use Rattle.std.{proofs.{Common.{◌≡◌, ℕ, suc, ◌+◌, ◌≤◌, ◌<◌, Option, None, List, [], ◌∷◌, length, replicate, get_or, refl, sym, ap, ap₂, ◌∙◌, subst, zero, arith}, lemmas.{Bool.ne_eqb, List.length-replicate}}, specs.List.slice_set}
+use Rattle.lists.{specs.Elements.Each, proofs.Indices.map_set}
+use Rattle.bridge_forward.specs.{Known.{known_entry, known_now, AreKept}, Leading.AreUnknown}
 
 -- entries of earlier times count for nothing
 earlier : (time : ℕ) (e : ℕ × ℕ) → e.0 < time → known_entry time e ≡ None

@@ -1,28 +1,9 @@
 -- The bridges that are known to lead to buses, where one function or one entry changes.
-use Rattle.std.proofs.Common.{arith, ◌≡◌, ℕ, zero, suc, Bool, true, false, ◌&&◌, cond, Option, Some, None, List, [], ◌∷◌, ◌++◌, replicate, refl, ap, ap₂, sym, ◌∙◌, subst, get_or, rules}
-use Rattle.std.specs.Prelude.{IfSome, find}
-use Rattle.std.specs.List.{slice_get, slice_set}
-use Rattle.std.proofs.lemmas.Grind.{common_steps}
-use Rattle.std.proofs.lemmas.Option.{slice_get_within, get_or_from_slice_get}
-use Rattle.model_board.specs.Paths.{Part, Path}
-use Rattle.model_board.specs.Board.{is_bridge}
-use Rattle.model_board.specs.State.{BoardFunction}
-use Rattle.model_board.specs.Cycles.{taker, takes, is_route}
-use Rattle.bridge_forward.specs.declared.bus.Node.{Node}
-use Rattle.bridge_forward.specs.declared.function.Function.{Function}
-use Rattle.bridge_forward.specs.declared.function.Function.TheVariants.{Endpoint, Bridge}
-use Rattle.config_bytes.specs.declared.op.Op.{Op}
-use Rattle.config_bytes.specs.Ops.{is_write}
-use Rattle.bridge_forward.specs.Cycled.{after_access}
-use Rattle.bridge_forward.specs.Functions.{decl_of, file_of, with_cells, endpoint_in}
-use Rattle.bridge_forward.specs.ResetAlone.{after_leaf_reset}
-use Rattle.bridge_forward.specs.Layout.{function_of, functions_of, paths_of}
-use Rattle.bridge_forward.specs.Leading.{LeadsTo, AreUnknown, AreRoutes, IsBus}
+use Rattle.std.{proofs.{Common.{arith, ◌≡◌, ℕ, zero, suc, Bool, true, false, ◌&&◌, cond, Option, Some, None, List, [], ◌∷◌, ◌++◌, replicate, refl, ap, ap₂, sym, ◌∙◌, subst, get_or, rules}, lemmas.{Grind.common_steps, Option.{slice_get_within, get_or_from_slice_get}}}, specs.{Prelude.{IfSome, find}, List.{slice_get, slice_set}}}
+use Rattle.model_board.specs.{Paths.{Part, Path}, Board.is_bridge, State.BoardFunction, Cycles.{taker, takes, is_route}}
+use Rattle.bridge_forward.{specs.{declared.{bus.Node.Node, function.Function.{Function, TheVariants.{Endpoint, Bridge}}}, Cycled.after_access, Functions.{decl_of, file_of, with_cells, endpoint_in}, ResetAlone.after_leaf_reset, Layout.{function_of, functions_of, paths_of}, Leading.{LeadsTo, AreUnknown, AreRoutes, IsBus}}, proofs.{Reached.taking, Skipping.{covers_none, same_kind, tree_set}, EndpointAccess.set_cases, Changes.laid_set}}
+use Rattle.config_bytes.specs.{declared.op.Op.Op, Ops.is_write}
 use Rattle.lists.proofs.Indices.{at_map, read_at, same_at, map_at, map_set, set_same}
-use Rattle.bridge_forward.proofs.Reached.{taking}
-use Rattle.bridge_forward.proofs.Skipping.{covers_none, same_kind, tree_set}
-use Rattle.bridge_forward.proofs.EndpointAccess.{set_cases}
-use Rattle.bridge_forward.proofs.Changes.{laid_set}
 
 -- a search that passes what was there and what is there now finds the same
 find_set : {A : Type 0} (t : A → Bool) (xs : List A) (i : ℕ) (x y : A) → slice_get xs i ≡ Some x → t x ≡ false → t y ≡ false → find t (slice_set xs i y) ≡ find t xs

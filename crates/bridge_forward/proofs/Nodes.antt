@@ -1,19 +1,8 @@
 -- A tree as one list: what its extents say of paths.
-use Rattle.std.proofs.Common.{◌≡◌, ℕ, ◌+◌, ◌<◌, ◌≤◌, true, false, ◌&&◌, Some, List, [], ◌∷◌, length, refl, sym, arith, inl, inr, ◌⊎◌, subst, rules}
-use Rattle.std.specs.Prelude.{nat_lt}
-use Rattle.std.specs.List.{slice_get}
-use Rattle.std.proofs.lemmas.Bool.Decides.{nat_tests}
-use Rattle.std.proofs.lemmas.Option.{slice_get_within}
-use Rattle.std.proofs.lemmas.List.{length-map}
-use Rattle.lists.specs.Elements.{Each, EachPair}
-use Rattle.model_board.specs.State.{BoardFunction}
-use Rattle.model_board.specs.Paths.{Path, path_eq, path_before, leads_to, parent, last_part, IsPath}
-use Rattle.model_board.proofs.PathOrder.{path_same}
-use Rattle.model_board.proofs.PathEnds.{snoc, leads_up, leads_self, leads_trans, leads_longer}
-use Rattle.bridge_forward.specs.declared.bus.Node.{Node}
-use Rattle.bridge_forward.specs.Layout.{functions_of, paths_of, EndsAt, IsLaidOut}
-use Rattle.bridge_forward.specs.Search.{IsSide}
-use Rattle.lists.proofs.Indices.{at_below, each_at, pair_at, any_at, map_at, at_map}
+use Rattle.std.{proofs.{Common.{◌≡◌, ℕ, ◌+◌, ◌<◌, ◌≤◌, true, false, ◌&&◌, Some, List, [], ◌∷◌, length, refl, sym, arith, inl, inr, ◌⊎◌, subst, rules}, lemmas.{Bool.Decides.nat_tests, Option.slice_get_within, List.length-map}}, specs.{Prelude.nat_lt, List.slice_get}}
+use Rattle.lists.{specs.Elements.{Each, EachPair}, proofs.Indices.{at_below, each_at, pair_at, any_at, map_at, at_map}}
+use Rattle.model_board.{specs.{State.BoardFunction, Paths.{Path, path_eq, path_before, leads_to, parent, last_part, IsPath}}, proofs.{PathOrder.path_same, PathEnds.{snoc, leads_up, leads_self, leads_trans, leads_longer}}}
+use Rattle.bridge_forward.specs.{declared.bus.Node.Node, Layout.{functions_of, paths_of, EndsAt, IsLaidOut}, Search.IsSide}
 use Rattle.paths.proofs.Paths.{length-parent}
 
 -- a path behind a bus stands on it, or its parent is behind that bus

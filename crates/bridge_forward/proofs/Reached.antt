@@ -1,21 +1,8 @@
 -- What a search along the buses says of the function that a cycle reaches.
-use Rattle.std.proofs.Common.{◌≡◌, ℕ, true, false, ◌&&◌, Option, Some, None, List, ap, sym, ◌∙◌, eqb, rules, ◌<◌, ◌≤◌, Bool, refl, arith, ◌⊎◌, subst}
-use Rattle.std.specs.Prelude.{IfSome, IfNone, find}
-use Rattle.std.specs.List.{slice_get}
-use Rattle.lists.proofs.Tests.{left_true, right_true}
-use Rattle.model_board.specs.Paths.{Path, Part, path_eq, parent}
-use Rattle.model_board.specs.Board.{is_bridge}
-use Rattle.model_board.specs.State.{BoardFunction}
-use Rattle.model_board.specs.Cycles.{secondary_register, covers, taker, reached_type1}
-use Rattle.bridge_forward.specs.declared.bus.Node.{Node}
-use Rattle.bridge_forward.specs.Layout.{function_of, functions_of, IsLaidOut}
-use Rattle.bridge_forward.specs.Search.{is_named, IsAt, IsSide}
-use Rattle.lists.proofs.Indices.{same_at, found_at, at_map, find_at, find_none}
-use Rattle.bridge_forward.specs.Leading.{LeadsTo, LeadsNowhere}
-use Rattle.bridge_forward.proofs.Reaching.{Passing, find_same, passing_next, routed, stuck}
-use Rattle.model_board.proofs.PathOrder.{path_same}
-use Rattle.model_board.proofs.PathEnds.{path_self}
-use Rattle.bridge_forward.proofs.Nodes.{path_of, parent_leads, in_side, Ended, met_on_bus, ended_next, passed_by}
+use Rattle.std.{proofs.Common.{◌≡◌, ℕ, true, false, ◌&&◌, Option, Some, None, List, ap, sym, ◌∙◌, eqb, rules, ◌<◌, ◌≤◌, Bool, refl, arith, ◌⊎◌, subst}, specs.{Prelude.{IfSome, IfNone, find}, List.slice_get}}
+use Rattle.lists.proofs.{Tests.{left_true, right_true}, Indices.{same_at, found_at, at_map, find_at, find_none}}
+use Rattle.model_board.{specs.{Paths.{Path, Part, path_eq, parent}, Board.is_bridge, State.BoardFunction, Cycles.{secondary_register, covers, taker, reached_type1}}, proofs.{PathOrder.path_same, PathEnds.path_self}}
+use Rattle.bridge_forward.{specs.{declared.bus.Node.Node, Layout.{function_of, functions_of, IsLaidOut}, Search.{is_named, IsAt, IsSide}, Leading.{LeadsTo, LeadsNowhere}}, proofs.{Reaching.{Passing, find_same, passing_next, routed, stuck}, Nodes.{path_of, parent_leads, in_side, Ended, met_on_bus, ended_next, passed_by}}}
 
 abbrev part_of : ℕ → ℕ → Part
 part_of device function = record { device = device; function = function }

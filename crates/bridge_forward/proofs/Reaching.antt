@@ -1,17 +1,8 @@
 -- The way of a configuration cycle.
-use Rattle.std.proofs.Common.{arith, ◌≡◌, ℕ, ◌<◌, Bool, true, false, not, ◌&&◌, cond, Some, None, List, [], ◌∷◌, ◌++◌, length, refl, ap₂, suc, sym, subst, eqb, append_assoc, rules}
-use Rattle.std.specs.Prelude.{find}
-use Rattle.std.specs.List.{slice_get}
-use Rattle.lists.proofs.Tests.{left_true, right_true, same_test, and_false}
-use Rattle.model_board.specs.Paths.{Part, Path, part_eq, path_eq, parent, last_part}
-use Rattle.model_board.specs.State.{BoardFunction}
-use Rattle.model_board.specs.Cycles.{secondary_register, taker, takes, is_route, ends_in, reached_type1}
-use Rattle.model_board.proofs.PathOrder.{part_same, path_same, part_self}
-use Rattle.model_board.proofs.PathEnds.{snoc, path_self}
-use Rattle.bridge_forward.specs.declared.bus.Node.{Node}
-use Rattle.bridge_forward.specs.Layout.{function_of, functions_of, IsLaidOut}
-use Rattle.lists.proofs.Indices.{at_map, find_none, found_at}
-use Rattle.bridge_forward.proofs.Nodes.{path_of}
+use Rattle.std.{proofs.Common.{arith, ◌≡◌, ℕ, ◌<◌, Bool, true, false, not, ◌&&◌, cond, Some, None, List, [], ◌∷◌, ◌++◌, length, refl, ap₂, suc, sym, subst, eqb, append_assoc, rules}, specs.{Prelude.find, List.slice_get}}
+use Rattle.lists.proofs.{Tests.{left_true, right_true, same_test, and_false}, Indices.{at_map, find_none, found_at}}
+use Rattle.model_board.{specs.{Paths.{Part, Path, part_eq, path_eq, parent, last_part}, State.BoardFunction, Cycles.{secondary_register, taker, takes, is_route, ends_in, reached_type1}}, proofs.{PathOrder.{part_same, path_same, part_self}, PathEnds.{snoc, path_self}}}
+use Rattle.bridge_forward.{specs.{declared.bus.Node.Node, Layout.{function_of, functions_of, IsLaidOut}}, proofs.Nodes.path_of}
 
 pub find_same : {A : Type 0} (t u : A → Bool) (xs : List A) → ((j : ℕ) (x : A) → slice_get xs j ≡ Some x → t x ≡ u x) → find t xs ≡ find u xs
 find_same t u [] h = refl

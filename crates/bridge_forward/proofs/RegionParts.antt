@@ -1,14 +1,7 @@
 -- An endpoint's cells, part by part: what a read finds, and what a change leaves.
-use Rattle.std.proofs.Common.{◌≡◌, ◌≢◌, ℕ, zero, suc, ◌+◌, ◌*◌, ◌/◌, ◌%◌, ◌-◌, ◌^◌, ◌<◌, ◌≤◌, ◌⊎◌, Bool, true, false, List, [], ◌∷◌, ◌++◌, map, length, refl, ap, ap₂, sym, ◌∙◌, arith, append_assoc}
-use Rattle.std.proofs.lemmas.Bool.{cases_eq}
-use Rattle.std.proofs.lemmas.List.{nil_from_length}
+use Rattle.std.proofs.{Common.{◌≡◌, ◌≢◌, ℕ, zero, suc, ◌+◌, ◌*◌, ◌/◌, ◌%◌, ◌-◌, ◌^◌, ◌<◌, ◌≤◌, ◌⊎◌, Bool, true, false, List, [], ◌∷◌, ◌++◌, map, length, refl, ap, ap₂, sym, ◌∙◌, arith, append_assoc}, lemmas.{Bool.cases_eq, List.nil_from_length}}
 use Rattle.lists.specs.Elements.{Each, EachPair}
-use Rattle.model_registers.specs.Cell.{Cell, no_cell}
-use Rattle.model_registers.specs.Registers.{Place, config, block, after, File, cell_at, changed, read, write, field, in_region}
-use Rattle.model_registers.specs.FileLaws.{has_place, HasNone, IsConfigFile}
-use Rattle.model_registers.specs.Declarations.{Region, registers_of}
-use Rattle.model_registers.specs.EndpointTable.{type_bits, base_width, BaseAddress, register_cells, base_file, opened}
-use Rattle.model_registers.proofs.Files.{joined_cell, joined_change, joined_write, cell_none, region_has_no_config, region_has_no_other, region_cell, config_without_block}
+use Rattle.model_registers.{specs.{Cell.{Cell, no_cell}, Registers.{Place, config, block, after, File, cell_at, changed, read, write, field, in_region}, FileLaws.{has_place, HasNone, IsConfigFile}, Declarations.{Region, registers_of}, EndpointTable.{type_bits, base_width, BaseAddress, register_cells, base_file, opened}}, proofs.Files.{joined_cell, joined_change, joined_write, cell_none, region_has_no_config, region_has_no_other, region_cell, config_without_block}}
 use Rattle.bridge_forward.specs.EndpointParts.{region_parts}
 
 -- ---- reads, cell by cell

@@ -1,25 +1,9 @@
 -- One endpoint that is reset alone: its cells, part by part.
-use Rattle.std.proofs.Common.{◌≡◌, ℕ, zero, suc, ◌+◌, ◌*◌, ◌-◌, ◌/◌, ◌^◌, ◌<◌, ◌≤◌, ◌⊎◌, inl, inr, Bool, false, ◌||◌, cond, Some, List, [], ◌∷◌, ◌++◌, map, length, refl, ap, ap₂, sym, ◌∙◌, subst, arith, rules}
-use Rattle.std.specs.Prelude.{Option}
-use Rattle.std.proofs.lemmas.Bool.Decides.{nat_tests}
-use Rattle.std.proofs.lemmas.List.{length-map}
-use Rattle.std.proofs.lemmas.Option.{slice_get-map}
-use Rattle.std.specs.List.{slice_get}
-use Rattle.std.specs.Option.{option_map_or}
-use Rattle.std.proofs.lemmas.Bool.{ne_eqb, eq-eqb, eqb-true, cases_lt}
+use Rattle.std.{proofs.{Common.{◌≡◌, ℕ, zero, suc, ◌+◌, ◌*◌, ◌-◌, ◌/◌, ◌^◌, ◌<◌, ◌≤◌, ◌⊎◌, inl, inr, Bool, false, ◌||◌, cond, Some, List, [], ◌∷◌, ◌++◌, map, length, refl, ap, ap₂, sym, ◌∙◌, subst, arith, rules}, lemmas.{Bool.{Decides.nat_tests, ne_eqb, eq-eqb, eqb-true, cases_lt}, List.length-map, Option.slice_get-map}}, specs.{Prelude.Option, List.slice_get, Option.option_map_or}}
 use Rattle.lists.specs.Elements.{Each}
-use Rattle.model_registers.proofs.Owned.{base_is_own}
-use Rattle.model_registers.specs.Cell.{Cell}
-use Rattle.model_registers.specs.Registers.{Place, config, block, offset_of, place_eq, PlacedCell, File, cell_at, field, cells_from, in_region}
-use Rattle.model_registers.specs.FileLaws.{has_place, IsConfig, IsConfigFile}
-use Rattle.model_registers.specs.Declarations.{Region, registers_of, IsLawfulRegion, Endpoint}
-use Rattle.model_registers.specs.EndpointTable.{type_bits, base_width, BaseAddress, opened, closed, config_reset, endpoint_reset}
-use Rattle.model_registers.specs.OwnCopies.{is_own}
+use Rattle.model_registers.{proofs.Owned.base_is_own, specs.{Cell.Cell, Registers.{Place, config, block, offset_of, place_eq, PlacedCell, File, cell_at, field, cells_from, in_region}, FileLaws.{has_place, IsConfig, IsConfigFile}, Declarations.{Region, registers_of, IsLawfulRegion, Endpoint}, EndpointTable.{type_bits, base_width, BaseAddress, opened, closed, config_reset, endpoint_reset}, OwnCopies.is_own, CopiedFiles.after_reset}}
 use Rattle.config_bytes.specs.CellFile.{CellFile, reset_entry, reset_outside, places_of}
-use Rattle.bridge_forward.specs.EndpointParts.{block_at, block_at_reset, region_parts, AreParts, region_at, declared_block, IsHeaderKept, KnowReset, blocks_after}
-use Rattle.model_registers.specs.CopiedFiles.{after_reset}
-use Rattle.bridge_forward.proofs.EndpointAccess.{cell_of_block, cell_of_config, lawful_bars, no_block}
-use Rattle.bridge_forward.proofs.EndpointReset.{parts_new, file_new}
+use Rattle.bridge_forward.{specs.EndpointParts.{block_at, block_at_reset, region_parts, AreParts, region_at, declared_block, IsHeaderKept, KnowReset, blocks_after}, proofs.{EndpointAccess.{cell_of_block, cell_of_config, lawful_bars, no_block}, EndpointReset.{parts_new, file_new}}}
 
 -- an entry of an endpoint after the reset
 abbrev entry_after : Endpoint → PlacedCell → PlacedCell

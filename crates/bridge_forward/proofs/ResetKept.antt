@@ -1,29 +1,9 @@
 -- What an endpoint knows of its cells at reset: at the beginning, and after each change.
-use Rattle.std.proofs.Common.{◌≡◌, ℕ, ◌+◌, ◌/◌, ◌<◌, ◌≤◌, inl, inr, Bool, true, false, Some, List, [], ◌∷◌, ◌++◌, length, refl, ap, sym, ◌∙◌, subst, arith, get_or, rules, ltb}
-use Rattle.std.specs.Prelude.{flat_map}
-use Rattle.std.specs.Int.Bits.{and_zero_l, and_zero_r, or_zero_r}
-use Rattle.std.specs.List.{slice_get, slice_set}
-use Rattle.std.specs.Option.{option_map_or}
-use Rattle.std.proofs.lemmas.Bool.{ne_eqb, ltb-true, ltb-false}
-use Rattle.std.proofs.lemmas.Bool.Decides.{nat_tests}
-use Rattle.std.proofs.lemmas.List.{length-set}
-use Rattle.std.proofs.lemmas.Option.{slice_get_past}
-use Rattle.lists.specs.Elements.{Each}
-use Rattle.model_registers.specs.Cell.{Cell, written, raised}
-use Rattle.model_registers.specs.Registers.{Place, config, after, File, cell_at, changed, write, field, number}
-use Rattle.model_registers.specs.FileLaws.{has_place, IsConfigFile}
-use Rattle.model_registers.specs.Declarations.{ConfigBlock, Endpoint}
-use Rattle.model_registers.specs.DeclarationRules.{IsConfigBlock, IsLawfulEndpoint}
-use Rattle.model_registers.specs.EndpointTable.{block_cells, header_type, config_reset, BaseAddress}
-use Rattle.model_registers.specs.OwnCopies.{is_own}
+use Rattle.std.{proofs.{Common.{◌≡◌, ℕ, ◌+◌, ◌/◌, ◌<◌, ◌≤◌, inl, inr, Bool, true, false, Some, List, [], ◌∷◌, ◌++◌, length, refl, ap, sym, ◌∙◌, subst, arith, get_or, rules, ltb}, lemmas.{Bool.{ne_eqb, ltb-true, ltb-false, Decides.nat_tests}, List.length-set, Option.slice_get_past}}, specs.{Prelude.flat_map, Int.Bits.{and_zero_l, and_zero_r, or_zero_r}, List.{slice_get, slice_set}, Option.option_map_or}}
+use Rattle.lists.{specs.Elements.Each, proofs.{Indices.read_at, EachLemmas.each_append}}
+use Rattle.model_registers.{specs.{Cell.{Cell, written, raised}, Registers.{Place, config, after, File, cell_at, changed, write, field, number}, FileLaws.{has_place, IsConfigFile}, Declarations.{ConfigBlock, Endpoint}, DeclarationRules.{IsConfigBlock, IsLawfulEndpoint}, EndpointTable.{block_cells, header_type, config_reset, BaseAddress}, OwnCopies.is_own, Decoding.Function}, proofs.Files.{changed_config, change_keeps_places}}
 use Rattle.config_bytes.specs.CellFile.{CellFile, places_of}
-use Rattle.bridge_forward.specs.EndpointParts.{block_at, declared_block, IsConstant, IsHeaderKept, KnowReset, as_made, region_parts, IsShort, IsEndpointFn}
-use Rattle.lists.proofs.Indices.{read_at}
-use Rattle.lists.proofs.EachLemmas.{each_append}
-use Rattle.bridge_forward.proofs.EndpointAccess.{get_set, get_other, block_there, block_set, other_blocks, IsBlockChange, no_block, block_short, config_kept, table_changed, table_kept, nothing_there}
-use Rattle.bridge_forward.proofs.EndpointReset.{none_field, none_cells}
-use Rattle.model_registers.specs.Decoding.{Function}
-use Rattle.model_registers.proofs.Files.{changed_config, change_keeps_places}
+use Rattle.bridge_forward.{specs.EndpointParts.{block_at, declared_block, IsConstant, IsHeaderKept, KnowReset, as_made, region_parts, IsShort, IsEndpointFn}, proofs.{EndpointAccess.{get_set, get_other, block_there, block_set, other_blocks, IsBlockChange, no_block, block_short, config_kept, table_changed, table_kept, nothing_there}, EndpointReset.{none_field, none_cells}}}
 
 -- ---- the header type stays
 

@@ -1,17 +1,9 @@
 -- The regions of six registers, one after the other, and each within 64 bits.
-use Rattle.std.proofs.Common.{◌≡◌, ℕ, zero, suc, ◌+◌, ◌^◌, ◌<◌, ◌≤◌, List, [], ◌∷◌, ◌++◌, length, take, get_or, Option, Some, None, sym, ap, ap₂, ◌∙◌, subst, arith, rules}
-use Rattle.std.specs.Prelude.{map, slice_get}
-use Rattle.std.specs.Option.{option_to_list}
-use Rattle.std.proofs.lemmas.List.{map-append, length-take, take_more}
-use Rattle.std.proofs.lemmas.Option.{slice_get_within, get_or_from_slice_get, slice_get-get_or}
+use Rattle.std.{proofs.{Common.{◌≡◌, ℕ, zero, suc, ◌+◌, ◌^◌, ◌<◌, ◌≤◌, List, [], ◌∷◌, ◌++◌, length, take, get_or, Option, Some, None, sym, ap, ap₂, ◌∙◌, subst, arith, rules}, lemmas.{List.{map-append, length-take, take_more}, Option.{slice_get_within, get_or_from_slice_get, slice_get-get_or}}}, specs.{Prelude.{map, slice_get}, Option.option_to_list}}
 use Rattle.lists.specs.Elements.{Each}
-use Rattle.model_registers.specs.EndpointTable.{BaseAddress, IsLawfulBase}
-use Rattle.model_registers.proofs.Bases.{base_room}
-use Rattle.bars.specs.declared.region.BasedRegion.{BasedRegion}
-use Rattle.bars.specs.Slots.{placed, bases_from}
-use Rattle.bars.proofs.Regions.{width_limit, size_positive}
-use Rattle.bridge_forward.specs.RoutingRows.{base_of}
-use Rattle.bridge_forward.specs.declared.routing_region.RoutingRegion.{RoutingRegion}
+use Rattle.model_registers.{specs.EndpointTable.{BaseAddress, IsLawfulBase}, proofs.Bases.base_room}
+use Rattle.bars.{specs.{declared.region.BasedRegion.BasedRegion, Slots.{placed, bases_from}}, proofs.Regions.{width_limit, size_positive}}
+use Rattle.bridge_forward.specs.{RoutingRows.base_of, declared.routing_region.RoutingRegion.RoutingRegion}
 
 -- ---- one more register
 

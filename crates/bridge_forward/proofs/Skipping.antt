@@ -1,23 +1,9 @@
 -- What a search for a bridge may pass: functions that are no bridges, with nothing behind them.
-use Rattle.std.proofs.Common.{◌≡◌, ℕ, zero, suc, ◌+◌, ◌<◌, ◌≤◌, inl, inr, false, ◌&&◌, Some, List, length, refl, ap, ◌∙◌, subst, arith, rules}
-use Rattle.std.specs.Prelude.{nat_le}
-use Rattle.std.specs.List.{slice_get, slice_set}
-use Rattle.std.proofs.lemmas.Bool.Decides.{nat_tests}
-use Rattle.std.proofs.lemmas.Option.{slice_get_within}
+use Rattle.std.{proofs.{Common.{◌≡◌, ℕ, zero, suc, ◌+◌, ◌<◌, ◌≤◌, inl, inr, false, ◌&&◌, Some, List, length, refl, ap, ◌∙◌, subst, arith, rules}, lemmas.{Bool.Decides.nat_tests, Option.slice_get_within}}, specs.{Prelude.nat_le, List.{slice_get, slice_set}}}
 use Rattle.model_registers.specs.Registers.{File}
-use Rattle.model_board.specs.Paths.{Path}
-use Rattle.model_board.specs.Board.{is_bridge}
-use Rattle.model_board.specs.Cycles.{secondary_register, subordinate_register, covers}
-use Rattle.bridge_forward.specs.declared.bus.Node.{Node}
-use Rattle.bridge_forward.specs.declared.function.Function.{Function}
-use Rattle.bridge_forward.specs.declared.function.Function.TheVariants.{Endpoint, Bridge}
-use Rattle.bridge_forward.specs.Functions.{decl_of, with_cells}
-use Rattle.bridge_forward.specs.Layout.{function_of, functions_of, paths_of, ends_of, IsLaidOut}
-use Rattle.bridge_forward.specs.Skips.{AreSkipped, IsTree, first_bridge}
-use Rattle.bridge_forward.specs.Search.{IsSide}
+use Rattle.model_board.specs.{Paths.Path, Board.is_bridge, Cycles.{secondary_register, subordinate_register, covers}}
+use Rattle.bridge_forward.{specs.{declared.{bus.Node.Node, function.Function.{Function, TheVariants.{Endpoint, Bridge}}}, Functions.{decl_of, with_cells}, Layout.{function_of, functions_of, paths_of, ends_of, IsLaidOut}, Skips.{AreSkipped, IsTree, first_bridge}, Search.IsSide}, proofs.{EndpointAccess.set_cases, Reached.{Passed, passed_next}}}
 use Rattle.lists.proofs.Indices.{at_below, map_at, map_set, set_same, same_at}
-use Rattle.bridge_forward.proofs.EndpointAccess.{set_cases}
-use Rattle.bridge_forward.proofs.Reached.{Passed, passed_next}
 
 -- ---- another function at one place
 

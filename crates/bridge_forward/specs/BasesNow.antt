@@ -1,13 +1,9 @@
 -- Where the regions of one function stand by its registers as they are now: PCI Local Bus 3.0, chapter 6.2.5.
 --     bases_of      those of an endpoint, by register; a bridge has none
 --     bases_nth      those of the function at an index of the list
-use Rattle.std.specs.Prelude.{List, [], ℕ, map, slice_get}
-use Rattle.std.specs.Option.{option_map_or}
-use Rattle.model_registers.specs.Registers.{File}
-use Rattle.model_registers.specs.EndpointTable.{BaseAddress}
-use Rattle.model_registers.specs.Decoding.{base_address}
-use Rattle.model_board.specs.Board.{Decl, endpoint, bridge}
-use Rattle.model_board.specs.State.{BoardFunction}
+use Rattle.std.specs.{Prelude.{List, [], ℕ, map, slice_get}, Option.option_map_or}
+use Rattle.model_registers.specs.{Registers.File, EndpointTable.BaseAddress, Decoding.base_address}
+use Rattle.model_board.specs.{Board.{Decl, endpoint, bridge}, State.BoardFunction}
 
 abbrev pub bases_of : Decl → File → List BaseAddress
 bases_of (endpoint d) file = map (base_address file) d.regions

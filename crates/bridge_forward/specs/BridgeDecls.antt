@@ -1,11 +1,9 @@
 -- What is declared of a bridge of the board.
 --     declared_bridge      of a function, if it is one
 --     declared_bridge_nth      of the one at an index of the list
-use Rattle.std.specs.Prelude.{List, ℕ, Option, Some, None, slice_get}
-use Rattle.std.specs.Option.{option_map_or}
+use Rattle.std.specs.{Prelude.{List, ℕ, Option, Some, None, slice_get}, Option.option_map_or}
 use Rattle.model_registers.specs.Declarations.{Bridge}
-use Rattle.model_board.specs.Board.{Decl, endpoint, bridge}
-use Rattle.model_board.specs.State.{BoardFunction}
+use Rattle.model_board.specs.{Board.{Decl, endpoint, bridge}, State.BoardFunction}
 
 abbrev pub declared_bridge : Decl → Option Bridge
 declared_bridge (endpoint d) = None

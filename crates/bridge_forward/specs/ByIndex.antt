@@ -2,12 +2,9 @@
 --     ranges_told      the regions of six registers, or the windows of a bridge
 --     ranges_nth fs i      those of the function at an index of the list
 use Rattle.std.specs.Prelude.{List, ℕ, Option, option_map, slice_get}
-use Rattle.model_board.specs.State.{BoardFunction}
-use Rattle.model_board.specs.Routing.{Ranges, regions, windows, ranges_of}
+use Rattle.model_board.specs.{State.BoardFunction, Routing.{Ranges, regions, windows, ranges_of}}
 use Rattle.bars.specs.Slots.{bases_from}
-use Rattle.bridge_forward.specs.RoutingRows.{window_of}
-use Rattle.bridge_forward.specs.declared.by_index.RangesNow.{RangesNow}
-use Rattle.bridge_forward.specs.declared.by_index.RangesNow.TheVariants.{Regions, Windows}
+use Rattle.bridge_forward.specs.{RoutingRows.window_of, declared.by_index.RangesNow.{RangesNow, TheVariants.{Regions, Windows}}}
 
 abbrev pub ranges_told : RangesNow → Ranges
 ranges_told (Regions slots) = regions (bases_from 0 slots)

@@ -2,18 +2,11 @@
 --     reached_by fs c      the function that the cycle reaches
 --     reply_to, after_access      what a function answers to the cycle, and its cells afterwards
 --     cycle_reply, after_cycle      the answer of the board, and its functions afterwards
-use Rattle.std.specs.Prelude.{List, ℕ, Option, option_map}
-use Rattle.std.specs.Option.{option_map_or}
-use Rattle.model_registers.specs.Registers.{config, File, read, write}
-use Rattle.model_registers.specs.ByteEnables.{lanes}
-use Rattle.model_board.specs.Paths.{Part}
-use Rattle.model_board.specs.State.{BoardFunction, with_file}
-use Rattle.model_board.specs.Cycles.{reached_type0, reached_type1}
-use Rattle.config_bytes.specs.declared.op.Op.{Op}
-use Rattle.config_bytes.specs.declared.op.Op.TheVariants.{Read, Write}
-use Rattle.bridge_forward.specs.declared.cycle.CycleType.{CycleType}
-use Rattle.bridge_forward.specs.declared.cycle.CycleType.TheVariants.{Type0, Type1}
-use Rattle.bridge_forward.specs.declared.cycle.Cycle.{Cycle}
+use Rattle.std.specs.{Prelude.{List, ℕ, Option, option_map}, Option.option_map_or}
+use Rattle.model_registers.specs.{Registers.{config, File, read, write}, ByteEnables.lanes}
+use Rattle.model_board.specs.{Paths.Part, State.{BoardFunction, with_file}, Cycles.{reached_type0, reached_type1}}
+use Rattle.config_bytes.specs.declared.op.Op.{Op, TheVariants.{Read, Write}}
+use Rattle.bridge_forward.specs.declared.cycle.{CycleType.{CycleType, TheVariants.{Type0, Type1}}, Cycle.Cycle}
 
 abbrev pub reached_part : List BoardFunction → CycleType → Part → Option BoardFunction
 reached_part fs Type0 t = reached_type0 fs t

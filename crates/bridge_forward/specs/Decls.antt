@@ -1,7 +1,6 @@
 -- What is declared of a function, in the words of the definitions.
 use Rattle.model_board.specs.Board.{Decl, endpoint, bridge}
-use Rattle.bridge_forward.specs.declared.decl.Declared.{Declared}
-use Rattle.bridge_forward.specs.declared.decl.Declared.TheVariants.{Endpoint, Bridge}
+use Rattle.bridge_forward.specs.declared.decl.Declared.{Declared, TheVariants.{Endpoint, Bridge}}
 
 abbrev pub declared : Declared → Decl
 declared (Endpoint d) = endpoint d

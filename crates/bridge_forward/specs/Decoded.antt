@@ -2,9 +2,7 @@
 -- 1.2, chapter 3.2.5.
 --     IsDecoded d file n      the numbers are what these cells of the bridge say
 use Rattle.std.specs.Prelude.{◌≡◌, option_map}
-use Rattle.model_registers.specs.Registers.{config, File, number}
-use Rattle.model_registers.specs.Declarations.{Bridge}
-use Rattle.model_registers.specs.Windows.{io_window, mem_window, pref_window}
+use Rattle.model_registers.specs.{Registers.{config, File, number}, Declarations.Bridge, Windows.{io_window, mem_window, pref_window}}
 use Rattle.model_board.specs.Cycles.{secondary_register, subordinate_register}
 use Rattle.headers.specs.WindowPairs.{pair_of}
 use Rattle.bridge_forward.specs.declared.bridge.Decoded.{Decoded}

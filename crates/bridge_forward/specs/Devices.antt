@@ -2,8 +2,7 @@
 --     is_further      a function that is no function 0
 --     shared_devices      the path of function 0 in the device of each such function
 use Rattle.std.specs.Prelude.{Bool, not, List, map, filter, ◌==◌}
-use Rattle.model_board.specs.Paths.{Path, last_part, function_zero}
-use Rattle.model_board.specs.Board.{Board}
+use Rattle.model_board.specs.{Paths.{Path, last_part, function_zero}, Board.Board}
 
 abbrev pub is_further : Path → Bool
 is_further p = not ((last_part p).function == 0)

@@ -9,16 +9,9 @@
 --     blocks_after blocks      blocks after each went back to reset
 --     KnowReset      the cells at reset that the parts of an endpoint keep are those of its declaration
 --     IsEndpointFn      all that the parts of every endpoint keep
-use Rattle.std.specs.Prelude.{List, [], ◌≡◌, ◌≢◌, ◌⊎◌, ℕ, ◌≤◌, ◌<◌, ◌++◌, ◌==◌, true, false, Option, option_map, map, flat_map, find, length, slice_get, bit_and}
-use Rattle.std.specs.Option.{option_map_or}
+use Rattle.std.specs.{Prelude.{List, [], ◌≡◌, ◌≢◌, ◌⊎◌, ℕ, ◌≤◌, ◌<◌, ◌++◌, ◌==◌, true, false, Option, option_map, map, flat_map, find, length, slice_get, bit_and}, Option.option_map_or}
 use Rattle.lists.specs.Elements.{Each}
-use Rattle.model_registers.specs.Cell.{Cell}
-use Rattle.model_registers.specs.Registers.{Place, config, place_eq, PlacedCell, File, cell_at, number, cells_from, in_region}
-use Rattle.model_registers.specs.FileLaws.{has_place, IsConfigFile}
-use Rattle.model_registers.specs.Declarations.{Bar, Region, HasLawfulRegions, Endpoint}
-use Rattle.model_registers.specs.DeclarationRules.{IsLawfulEndpoint}
-use Rattle.model_registers.specs.EndpointTable.{BaseAddress, register_cells, opened, config_reset}
-use Rattle.model_registers.specs.OwnCopies.{bare, is_own}
+use Rattle.model_registers.specs.{Cell.Cell, Registers.{Place, config, place_eq, PlacedCell, File, cell_at, number, cells_from, in_region}, FileLaws.{has_place, IsConfigFile}, Declarations.{Bar, Region, HasLawfulRegions, Endpoint}, DeclarationRules.IsLawfulEndpoint, EndpointTable.{BaseAddress, register_cells, opened, config_reset}, OwnCopies.{bare, is_own}}
 use Rattle.config_bytes.specs.CellFile.{CellFile, places_of}
 
 abbrev pub block_at : List CellFile → ℕ → File

@@ -3,15 +3,11 @@
 --     with_cells      the function with other cells
 --     reset_cells      the cells of a declared function at reset
 --     endpoint_in      the endpoint, if the function is one
-use Rattle.std.specs.Prelude.{Bool, Option, Some, None}
-use Rattle.std.specs.Borrow.{LendsIf, MutBor, Fml}
-use Rattle.model_registers.specs.Registers.{File}
-use Rattle.model_registers.specs.EndpointTable.{endpoint_reset}
-use Rattle.model_registers.specs.BridgeTable.{bridge_reset}
-use Rattle.model_registers.specs.Decoding as decoding
+use Rattle.std.specs.{Prelude.{Bool, Option, Some, None}, Borrow.{LendsIf, MutBor, Fml}}
+use Rattle.model_registers.specs.{Registers.File, EndpointTable.endpoint_reset, BridgeTable.bridge_reset}
 use Rattle.model_board.specs.Board.{Decl, endpoint, bridge}
-use Rattle.bridge_forward.specs.declared.function.Function.{Function}
-use Rattle.bridge_forward.specs.declared.function.Function.TheVariants.{Endpoint, Bridge}
+use Rattle.bridge_forward.specs.declared.function.Function.{Function, TheVariants.{Endpoint, Bridge}}
+use Rattle.model_registers.specs.Decoding as decoding
 use Rattle.bridge_forward.specs.contracts.function.Function as function
 use Rattle.bridge_forward.specs.contracts.endpoint.EndpointFn as endpoint_fn
 

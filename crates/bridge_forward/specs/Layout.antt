@@ -3,13 +3,10 @@
 --     AreInOrder      path order, each path on bus 0 or behind another
 --     EndsAt      where that ends which stands behind a path
 --     IsLaidOut      nodes in order, each with the end of what stands behind it
-use Rattle.std.specs.Prelude.{List, [], ◌≡◌, ◌⊎◌, ℕ, ◌<◌, ◌≤◌, ◌&&◌, nat_lt, Some, map, length, slice_get, IsTrue}
-use Rattle.std.specs.List.{list_any}
+use Rattle.std.specs.{Prelude.{List, [], ◌≡◌, ◌⊎◌, ℕ, ◌<◌, ◌≤◌, ◌&&◌, nat_lt, Some, map, length, slice_get, IsTrue}, List.list_any}
 use Rattle.lists.specs.Elements.{Each, EachPair}
-use Rattle.model_board.specs.Paths.{Path, path_eq, path_before, leads_to, parent, IsPath}
-use Rattle.model_board.specs.State.{BoardFunction}
-use Rattle.bridge_forward.specs.declared.bus.Node.{Node}
-use Rattle.bridge_forward.specs.Functions.{decl_of, file_of}
+use Rattle.model_board.specs.{Paths.{Path, path_eq, path_before, leads_to, parent, IsPath}, State.BoardFunction}
+use Rattle.bridge_forward.specs.{declared.bus.Node.Node, Functions.{decl_of, file_of}}
 
 abbrev pub function_of : Node → BoardFunction
 function_of n = record { path = n.path; decl = decl_of n.function; file = file_of n.function }

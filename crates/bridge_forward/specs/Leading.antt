@@ -5,11 +5,8 @@
 --     AreRoutes nodes known      where a bridge is known for a bus number, it leads there
 --     IsBus nodes known      a tree with such bridges
 use Rattle.std.specs.Prelude.{List, [], ◌∷◌, ◌++◌, ◌≡◌, ℕ, ◌&&◌, ◌<◌, Option, Some, None, length, get_or, slice_get}
-use Rattle.model_board.specs.Paths.{Part, Path, path_eq}
-use Rattle.model_board.specs.Cycles.{ends_in, is_route, reached_type1}
-use Rattle.bridge_forward.specs.declared.bus.Node.{Node}
-use Rattle.bridge_forward.specs.Layout.{functions_of}
-use Rattle.bridge_forward.specs.Skips.{IsTree}
+use Rattle.model_board.specs.{Paths.{Part, Path, path_eq}, Cycles.{ends_in, is_route, reached_type1}}
+use Rattle.bridge_forward.specs.{declared.bus.Node.Node, Layout.functions_of, Skips.IsTree}
 
 pub record LeadsTo (nodes : List Node) (n i : ℕ) : Type 0 where
   pub bridge : Node

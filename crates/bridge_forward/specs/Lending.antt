@@ -4,14 +4,9 @@
 --     endpoint_nth fs i      the endpoint at an index of the list, if one stands there
 --     with_endpoint_reset p fs      the functions with the endpoint at a path reset, alone
 --     with_endpoint_nth i e fs      the functions with this endpoint there, at the path that stands there
-use Rattle.std.specs.Prelude.{List, ℕ, if◌then◌else◌, Option, Some, None, map, find, slice_get, slice_set}
-use Rattle.std.specs.Option.{option_map_or}
-use Rattle.std.specs.Borrow.{LendsIf, MutBor, Fml}
-use Rattle.model_registers.specs.Decoding.{Function}
-use Rattle.model_board.specs.Paths.{Path, path_eq}
-use Rattle.model_board.specs.Board.{endpoint, bridge}
-use Rattle.model_board.specs.State.{BoardFunction, with_file}
-use Rattle.model_registers.specs.CopiedFiles.{after_reset}
+use Rattle.std.specs.{Prelude.{List, ℕ, if◌then◌else◌, Option, Some, None, map, find, slice_get, slice_set}, Option.option_map_or, Borrow.{LendsIf, MutBor, Fml}}
+use Rattle.model_registers.specs.{Decoding.Function, CopiedFiles.after_reset}
+use Rattle.model_board.specs.{Paths.{Path, path_eq}, Board.{endpoint, bridge}, State.{BoardFunction, with_file}}
 use Rattle.bridge_forward.specs.contracts.endpoint.EndpointFn as endpoint_fn
 use Rattle.bridge_forward.specs.contracts.bus.Bus as bus
 

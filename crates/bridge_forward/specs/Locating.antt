@@ -1,9 +1,7 @@
 -- Where an address lands, by the index of its endpoint in the list of functions.
 --     located_claim fs o      the claim at that index
-use Rattle.std.specs.Prelude.{List, Option, None, option_map, slice_get}
-use Rattle.std.specs.Option.{option_map_or}
-use Rattle.model_board.specs.State.{BoardFunction}
-use Rattle.model_board.specs.Claims.{Claim, claim_at}
+use Rattle.std.specs.{Prelude.{List, Option, None, option_map, slice_get}, Option.option_map_or}
+use Rattle.model_board.specs.{State.BoardFunction, Claims.{Claim, claim_at}}
 use Rattle.bridge_forward.specs.declared.bus.Located.{Located}
 
 abbrev pub located_claim : List BoardFunction → Option Located → Option Claim

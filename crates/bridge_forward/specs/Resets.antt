@@ -1,8 +1,7 @@
 -- A board's functions at reset.
 --     reset_function, reset_functions      the functions of a board at reset
 use Rattle.std.specs.Prelude.{List, map}
-use Rattle.model_board.specs.Board.{Row, Board, is_multifunction}
-use Rattle.model_board.specs.State.{BoardFunction}
+use Rattle.model_board.specs.{Board.{Row, Board, is_multifunction}, State.BoardFunction}
 use Rattle.bridge_forward.specs.Functions.{reset_cells}
 
 abbrev pub reset_function : Board → Row → BoardFunction

@@ -4,20 +4,13 @@
 --     named_ranges      the regions of an endpoint, or the windows of a bridge
 --     secondary_of, secondary_nth      the Secondary Bus Number of a bridge; of the one at an index of the list
 --     primary_of, primary_nth      the Primary Bus Number, as well
-use Rattle.std.specs.Prelude.{List, ℕ, Option, Some, None, map, option_map, slice_get}
-use Rattle.std.specs.Option.{option_map_or}
-use Rattle.model_registers.specs.Registers.{config, File, number}
-use Rattle.model_registers.specs.EndpointTable.{BaseAddress}
-use Rattle.model_registers.specs.Windows as model
-use Rattle.model_board.specs.Board.{Decl, endpoint, bridge}
-use Rattle.model_board.specs.State.{BoardFunction}
-use Rattle.model_board.specs.Cycles.{secondary_register}
-use Rattle.model_board.specs.Routing as routing
+use Rattle.std.specs.{Prelude.{List, ℕ, Option, Some, None, map, option_map, slice_get}, Option.option_map_or}
+use Rattle.model_registers.specs.{Registers.{config, File, number}, EndpointTable.BaseAddress}
+use Rattle.model_board.specs.{Board.{Decl, endpoint, bridge}, State.BoardFunction, Cycles.secondary_register}
 use Rattle.bars.specs.Kinds.{kind_of}
-use Rattle.bridge_forward.specs.declared.routing.Window.{Window}
-use Rattle.bridge_forward.specs.declared.routing_region.RoutingRegion.{RoutingRegion}
-use Rattle.bridge_forward.specs.declared.routing.Ranges.{Ranges}
-use Rattle.bridge_forward.specs.declared.routing.Ranges.TheVariants.{Regions, Windows}
+use Rattle.bridge_forward.specs.declared.{routing.{Window.Window, Ranges.{Ranges, TheVariants.{Regions, Windows}}}, routing_region.RoutingRegion.RoutingRegion}
+use Rattle.model_registers.specs.Windows as model
+use Rattle.model_board.specs.Routing as routing
 
 abbrev pub window_of : Window → model.Window
 window_of w = record { first = w.first; last = w.last }

@@ -3,10 +3,8 @@
 --     IsSide      a range of nodes is what stands behind a bridge, or the whole tree
 --     IsAt      the function at an index
 use Rattle.std.specs.Prelude.{List, [], ◌∷◌, ◌++◌, ◌≡◌, ℕ, ◌≤◌, Bool, ◌&&◌, nat_lt, nat_le, Option, Some, length, slice_get}
-use Rattle.model_board.specs.Paths.{Path, path_eq, leads_to}
-use Rattle.model_board.specs.State.{BoardFunction}
-use Rattle.bridge_forward.specs.declared.bus.Node.{Node}
-use Rattle.bridge_forward.specs.Layout.{function_of}
+use Rattle.model_board.specs.{Paths.{Path, path_eq, leads_to}, State.BoardFunction}
+use Rattle.bridge_forward.specs.{declared.bus.Node.Node, Layout.function_of}
 
 abbrev pub is_named : Path → ℕ → ℕ → BoardFunction → Bool
 is_named bus device function f = path_eq f.path (bus ++ record { device = device; function = function } ∷ [])

@@ -5,9 +5,7 @@
 --     IsTree      a list that is laid out, in which each node says where the next bridge stands
 use Rattle.std.specs.Prelude.{List, ◌≡◌, ℕ, ◌+◌, ◌≤◌, ◌<◌, Bool, false, not, ◌&&◌, ◌==◌, if◌then◌else◌, Some, slice_get}
 use Rattle.model_board.specs.Board.{is_bridge}
-use Rattle.bridge_forward.specs.declared.bus.Node.{Node}
-use Rattle.bridge_forward.specs.Functions.{decl_of}
-use Rattle.bridge_forward.specs.Layout.{IsLaidOut}
+use Rattle.bridge_forward.specs.{declared.bus.Node.Node, Functions.decl_of, Layout.IsLaidOut}
 
 abbrev pub is_passed : Node → ℕ → Bool
 is_passed n i = not (is_bridge (decl_of n.function)) && (n.end == i + 1)

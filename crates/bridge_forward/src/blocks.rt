@@ -1,9 +1,7 @@
 //! What an endpoint's declaration has at each base address register.
-ghost use Rattle.std.specs.Prelude.{◌≡◌, ◌≤◌, ◌<◌, ℕ, IfOk, length, map, slice_get, Some, [], ◌∷◌};
-ghost use Rattle.std.specs.Option.{option_copied};
+ghost use Rattle.std.specs.{Prelude.{◌≡◌, ◌≤◌, ◌<◌, ℕ, IfOk, length, map, slice_get, Some, [], ◌∷◌}, Option.option_copied};
 ghost use Rattle.lists.specs.Elements.{Each};
-ghost use Rattle.model_registers.specs.AccessLaws.{HoldsBytes};
-ghost use Rattle.model_registers.specs.Registers.{config, cells_from};
+ghost use Rattle.model_registers.specs.{AccessLaws.HoldsBytes, Registers.{config, cells_from}};
 ghost use Rattle.bridge_forward.specs.EndpointParts.{region_at, declared_bar, declared_block, as_made, blocks_after};
 
 use bars::BarDecl;

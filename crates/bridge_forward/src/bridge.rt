@@ -1,19 +1,10 @@
 //! A bridge of the board, with its registers.
 ghost use Rattle.std.specs.Prelude.{◌≡◌, ◌%◌, ◌&&◌, IfOk, Option, option_map};
-ghost use Rattle.model_registers.specs.AccessLaws.{HoldsBytes};
-ghost use Rattle.model_registers.specs.Registers.{config, number, read, write};
-ghost use Rattle.model_registers.specs.ByteEnables.{lanes};
-ghost use Rattle.model_registers.specs.DeclarationRules.{IsLawfulBridge};
-ghost use Rattle.model_registers.specs.BridgeTable.{bridge_reset};
-ghost use Rattle.model_registers.specs.Decoding.{command_word, is_open};
-ghost use Rattle.model_board.specs.Routing.{windows};
-ghost use Rattle.model_board.specs.Windows.{Window, is_in, is_in_window, io_window, mem_window, pref_window};
-ghost use Rattle.model_board.specs.Cycles.{secondary_register, subordinate_register};
+ghost use Rattle.model_registers.specs.{AccessLaws.HoldsBytes, Registers.{config, number, read, write}, ByteEnables.lanes, DeclarationRules.IsLawfulBridge, BridgeTable.bridge_reset, Decoding.{command_word, is_open}};
+ghost use Rattle.model_board.specs.{Routing.windows, Windows.{Window, is_in, is_in_window, io_window, mem_window, pref_window}, Cycles.{secondary_register, subordinate_register}};
 ghost use Rattle.bars.specs.Kinds.{named_space};
 ghost use Rattle.headers.specs.WindowPairs.{pair_of};
-ghost use Rattle.bridge_forward.specs.ByIndex.{ranges_told};
-ghost use Rattle.bridge_forward.specs.Decoded.{IsDecoded};
-ghost use Rattle.bridge_forward.specs.RoutingRows.{named_ranges};
+ghost use Rattle.bridge_forward.specs.{ByIndex.ranges_told, Decoded.IsDecoded, RoutingRows.named_ranges};
 
 use crate::by_index::RangesNow;
 use crate::routing::{Ranges, window_of};

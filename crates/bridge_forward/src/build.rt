@@ -1,15 +1,8 @@
 //! The tree of a board, built from what is declared of its functions.
-ghost use Rattle.std.specs.Prelude.{◌≡◌, ◌<◌, IfOk, length, map};
-ghost use Rattle.std.specs.BTreeSet.{IsFromIterResult};
-ghost use Rattle.model_board.specs.Board.{IsBoard, is_multifunction};
-ghost use Rattle.model_board.specs.Lawful.{IsLawfulDecl, HasLawfulDecls};
-ghost use Rattle.model_board.specs.Places.{board_of};
+ghost use Rattle.std.specs.{Prelude.{◌≡◌, ◌<◌, IfOk, length, map}, BTreeSet.IsFromIterResult};
+ghost use Rattle.model_board.specs.{Board.{IsBoard, is_multifunction}, Lawful.{IsLawfulDecl, HasLawfulDecls}, Places.board_of};
 ghost use Rattle.paths.specs.PathOrders.{path_cmp};
-ghost use Rattle.bridge_forward.specs.Devices.{shared_devices};
-ghost use Rattle.bridge_forward.specs.Layout.{function_of, functions_of, paths_of, AreInOrder, EndsAt, IsLaidOut};
-ghost use Rattle.bridge_forward.specs.Skips.{IsTree};
-ghost use Rattle.bridge_forward.specs.Functions.{reset_cells};
-ghost use Rattle.bridge_forward.specs.Resets.{reset_function, reset_functions};
+ghost use Rattle.bridge_forward.specs.{Devices.shared_devices, Layout.{function_of, functions_of, paths_of, AreInOrder, EndsAt, IsLaidOut}, Skips.IsTree, Functions.reset_cells, Resets.{reset_function, reset_functions}};
 
 use crate::bus::Node;
 use crate::decl::Decl;

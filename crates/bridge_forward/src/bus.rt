@@ -1,22 +1,10 @@
 //! The functions of a board as a tree of buses.
-ghost use Rattle.std.specs.Prelude.{◌≡◌, ◌%◌, ◌<◌, IfOk, IfSome, IsSome, IsTrue, find, length, slice_get};
-ghost use Rattle.std.specs.Borrow.{sem};
-ghost use Rattle.std.specs.Option.{option_and_then, option_copied_mut};
+ghost use Rattle.std.specs.{Prelude.{◌≡◌, ◌%◌, ◌<◌, IfOk, IfSome, IsSome, IsTrue, find, length, slice_get}, Borrow.sem, Option.{option_and_then, option_copied_mut}};
 ghost use Rattle.lists.specs.Elements.{Each, EachPair};
 ghost use Rattle.model_registers.specs.AccessLaws.{HoldsBytes};
-ghost use Rattle.model_board.specs.Routing.{routing};
-ghost use Rattle.bars.specs.Slots.{bases_from};
-ghost use Rattle.bridge_forward.specs.BasesNow.{bases_nth};
-ghost use Rattle.bridge_forward.specs.Cycled.{reached_by};
-ghost use Rattle.bridge_forward.specs.Layout.{function_of, functions_of};
-ghost use Rattle.bridge_forward.specs.RoutingRows.{primary_nth, secondary_nth};
-ghost use Rattle.model_board.specs.Paths.{path_before, path_eq};
-ghost use Rattle.model_board.specs.Board.{IsBoard};
-ghost use Rattle.model_board.specs.Places.{board_of};
-ghost use Rattle.model_board.specs.State.{row_at};
-ghost use Rattle.model_board.specs.Claims.{first_claim};
-ghost use Rattle.model_board.specs.AtReset.{board_at, reset_state, IsAtReset};
-ghost use Rattle.bars.specs.Kinds.{named_space};
+ghost use Rattle.model_board.specs.{Routing.routing, Paths.{path_before, path_eq}, Board.IsBoard, Places.board_of, State.row_at, Claims.first_claim, AtReset.{board_at, reset_state, IsAtReset}};
+ghost use Rattle.bars.specs.{Slots.bases_from, Kinds.named_space};
+ghost use Rattle.bridge_forward.specs.{BasesNow.bases_nth, Cycled.reached_by, Layout.{function_of, functions_of}, RoutingRows.{primary_nth, secondary_nth}};
 
 use crate::build::{lay_out, nodes_at_reset};
 use crate::cycle::Cycle;
@@ -60,8 +48,7 @@ impl Model for Bus {
 
     ghost Value = { List BoardFunction };
 
-    ghost use Rattle.bridge_forward.specs.Layout.{functions_of};
-    ghost use Rattle.bridge_forward.specs.Leading.{IsBus};
+    ghost use Rattle.bridge_forward.specs.{Layout.functions_of, Leading.IsBus};
 
     ghost view = { λ b. functions_of b.nodes.items };
 
@@ -143,9 +130,7 @@ fn hold_bytes(nodes: &[Node])
 }
 
 impl Bus {
-    ghost use Rattle.bridge_forward.specs.Cycled.{cycle_reply, after_cycle};
-    ghost use Rattle.bridge_forward.specs.Lending.{LendsEndpoint, LendsEndpointNth, endpoint_at, endpoint_nth, with_endpoint_reset};
-    ghost use Rattle.bridge_forward.specs.Locating.{located_claim};
+    ghost use Rattle.bridge_forward.specs.{Cycled.{cycle_reply, after_cycle}, Lending.{LendsEndpoint, LendsEndpointNth, endpoint_at, endpoint_nth, with_endpoint_reset}, Locating.located_claim};
 
     /// The board of these functions, which stand at lawful places, at reset. Nothing else refuses
     /// than that memory is out, and no later call takes memory.

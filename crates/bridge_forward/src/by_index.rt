@@ -1,13 +1,9 @@
 //! What is told of a function by its index, as its registers stand, what is declared of a bridge, and an endpoint to be
 //! read. No answer takes memory.
-ghost use Rattle.std.specs.Prelude.{◌≡◌, length, option_map, slice_get};
-ghost use Rattle.std.specs.Option.{option_copied};
-ghost use Rattle.model_registers.specs.Registers.{config, number};
-ghost use Rattle.model_registers.specs.ByteEnables.{LiesInWord};
+ghost use Rattle.std.specs.{Prelude.{◌≡◌, length, option_map, slice_get}, Option.option_copied};
+ghost use Rattle.model_registers.specs.{Registers.{config, number}, ByteEnables.LiesInWord};
 ghost use Rattle.model_board.specs.State.{BoardFunction};
-ghost use Rattle.bridge_forward.specs.BridgeDecls.{declared_bridge_nth};
-ghost use Rattle.bridge_forward.specs.ByIndex.{ranges_told, ranges_nth};
-ghost use Rattle.bridge_forward.specs.Lending.{endpoint_nth};
+ghost use Rattle.bridge_forward.specs.{BridgeDecls.declared_bridge_nth, ByIndex.{ranges_told, ranges_nth}, Lending.endpoint_nth};
 
 use crate::bus::Bus;
 use crate::endpoint::EndpointFn;

@@ -1,10 +1,6 @@
 //! What a board declares, function by function.
-ghost use Rattle.std.specs.Prelude.{◌≡◌, ◌↔◌, IsTrue};
-ghost use Rattle.std.specs.BTreeSet.{contains};
-ghost use Rattle.std.specs.Ordering.{is_lt};
-ghost use Rattle.model_board.specs.Paths.{path_before, function_zero};
-ghost use Rattle.model_board.specs.Board.{IsBoard};
-ghost use Rattle.model_board.specs.Places.{board_of, standing};
+ghost use Rattle.std.specs.{Prelude.{◌≡◌, ◌↔◌, IsTrue}, BTreeSet.contains, Ordering.is_lt};
+ghost use Rattle.model_board.specs.{Paths.{path_before, function_zero}, Board.IsBoard, Places.{board_of, standing}};
 ghost use Rattle.paths.specs.PathOrders.{path_cmp};
 ghost use Rattle.bridge_forward.specs.Devices.{is_further};
 

@@ -1,17 +1,8 @@
 //! An endpoint of the board, with its registers.
 ghost use Rattle.std.specs.Prelude.{◌≡◌, ◌%◌, ◌+◌, ◌*◌, ◌≤◌, ◌<◌, ◌⊎◌, IfOk, IfSome, IfNone, IsTrue, map};
-ghost use Rattle.model_registers.specs.Registers.{config, block, cell_at, read, write, raise};
-ghost use Rattle.model_registers.specs.AccessLaws.{HoldsBytes};
-ghost use Rattle.model_registers.specs.DeviceBytes.{is_device_byte, set_value};
-ghost use Rattle.model_registers.specs.ByteEnables.{lanes};
-ghost use Rattle.model_registers.specs.DeclarationRules.{IsLawfulEndpoint};
-ghost use Rattle.model_registers.specs.EndpointTable.{endpoint_reset};
-ghost use Rattle.model_registers.specs.Decoding.{base_address, command_word, lone_claim};
-ghost use Rattle.bars.specs.Kinds.{named_space};
-ghost use Rattle.bars.specs.Slots.{bases_from};
-ghost use Rattle.bars.specs.Hits.{named_hit};
+ghost use Rattle.model_registers.specs.{Registers.{config, block, cell_at, read, write, raise}, AccessLaws.HoldsBytes, DeviceBytes.{is_device_byte, set_value}, ByteEnables.lanes, DeclarationRules.IsLawfulEndpoint, EndpointTable.endpoint_reset, Decoding.{base_address, command_word, lone_claim}, CopiedFiles.after_reset};
+ghost use Rattle.bars.specs.{Kinds.named_space, Slots.bases_from, Hits.named_hit};
 ghost use Rattle.headers.specs.Places.{place_of};
-ghost use Rattle.model_registers.specs.CopiedFiles.{after_reset};
 ghost use Rattle.bridge_forward.specs.RoutingRows.{base_of};
 
 use crate::blocks::{bar_decls, block_files, hold_bytes, reset_all};

@@ -1,20 +1,9 @@
 //! What stands at a path.
-ghost use Rattle.std.specs.Prelude.{◌≡◌, ◌%◌, ◌&&◌, ◌==◌, nat_le, IfOk};
-ghost use Rattle.std.specs.Borrow.{sem};
-ghost use Rattle.std.specs.Option.{option_copied, option_copied_mut};
-ghost use Rattle.model_registers.specs.AccessLaws.{HoldsBytes};
-ghost use Rattle.model_registers.specs.Registers.{config, number, read, write};
-ghost use Rattle.model_registers.specs.ByteEnables.{LiesInWord, lanes};
-ghost use Rattle.model_registers.specs.Decoding.{command_word};
-ghost use Rattle.model_board.specs.Board.{is_bridge};
-ghost use Rattle.model_board.specs.Routing.{ranges_of};
+ghost use Rattle.std.specs.{Prelude.{◌≡◌, ◌%◌, ◌&&◌, ◌==◌, nat_le, IfOk}, Borrow.sem, Option.{option_copied, option_copied_mut}};
+ghost use Rattle.model_registers.specs.{AccessLaws.HoldsBytes, Registers.{config, number, read, write}, ByteEnables.{LiesInWord, lanes}, Decoding.command_word};
+ghost use Rattle.model_board.specs.{Board.is_bridge, Routing.ranges_of, Lawful.IsLawfulDecl, Cycles.{secondary_register, subordinate_register}};
 ghost use Rattle.bars.specs.Slots.{bases_from};
-ghost use Rattle.bridge_forward.specs.BasesNow.{bases_of};
-ghost use Rattle.bridge_forward.specs.BridgeDecls.{declared_bridge};
-ghost use Rattle.bridge_forward.specs.ByIndex.{ranges_told};
-ghost use Rattle.bridge_forward.specs.RoutingRows.{named_ranges, primary_of, secondary_of};
-ghost use Rattle.model_board.specs.Lawful.{IsLawfulDecl};
-ghost use Rattle.model_board.specs.Cycles.{secondary_register, subordinate_register};
+ghost use Rattle.bridge_forward.specs.{BasesNow.bases_of, BridgeDecls.declared_bridge, ByIndex.ranges_told, RoutingRows.{named_ranges, primary_of, secondary_of}};
 
 use crate::bridge::BridgeFn;
 use crate::by_index::RangesNow;
@@ -36,10 +25,7 @@ pub(crate) enum Function {
 
 impl Function {
     ghost use Rattle.config_bytes.specs.Ops.{is_write};
-    ghost use Rattle.bridge_forward.specs.Cycled.{reply_to, after_access};
-    ghost use Rattle.bridge_forward.specs.Decls.{declared};
-    ghost use Rattle.bridge_forward.specs.ResetAlone.{after_leaf_reset};
-    ghost use Rattle.bridge_forward.specs.Functions.{decl_of, file_of, with_cells, reset_cells, endpoint_in, LendsLeaf};
+    ghost use Rattle.bridge_forward.specs.{Cycled.{reply_to, after_access}, Decls.declared, ResetAlone.after_leaf_reset, Functions.{decl_of, file_of, with_cells, reset_cells, endpoint_in, LendsLeaf}};
 
     /// The function at reset. `multifunction` says that its device holds other functions.
     pub(crate) fn new(

@@ -1,10 +1,7 @@
 //! Cells by offsets of any size: past those that a file of cells can hold, nothing reads as anything
 //! but 0, and nothing changes.
 ghost use Rattle.std.specs.Prelude.{◌≡◌, ◌%◌};
-ghost use Rattle.model_registers.specs.Registers.{config, cell_at, read, write, raise};
-ghost use Rattle.model_registers.specs.DeviceBytes.{set_value};
-ghost use Rattle.model_registers.specs.ByteEnables.{lanes};
-ghost use Rattle.model_registers.specs.FileLaws.{IsConfigFile};
+ghost use Rattle.model_registers.specs.{Registers.{config, cell_at, read, write, raise}, DeviceBytes.set_value, ByteEnables.lanes, FileLaws.IsConfigFile};
 ghost use Rattle.bridge_forward.specs.EndpointParts.{IsShort};
 
 use config_bytes::Cells;

@@ -1,8 +1,7 @@
 //! Which functions may stand together on a board.
 ghost use Rattle.std.specs.Prelude.{◌≡◌, ◌<◌, ◌↔◌, ◌⊎◌, [], IsTrue, IsFalse, map, drop, length};
 ghost use Rattle.lists.specs.Elements.{Each, EachPair};
-ghost use Rattle.model_board.specs.Paths.{IsPath, path_eq, parent, function_zero};
-ghost use Rattle.model_board.specs.Places.{Standing, IsFounded, AreLawfulPlaces, has_path, has_bridge};
+ghost use Rattle.model_board.specs.{Paths.{IsPath, path_eq, parent, function_zero}, Places.{Standing, IsFounded, AreLawfulPlaces, has_path, has_bridge}};
 
 use paths::{Part, Path};
 

@@ -2,10 +2,10 @@
 //! chapter 6.2.5; PCI-to-PCI Bridge Architecture 1.2, chapters 3.2.5 and 4).
 ghost use Rattle.std.specs.Prelude.{◌≡◌, IfOk, Option, map, option_map};
 ghost use Rattle.model_registers.specs.EndpointTable.{HasLawfulBases};
-ghost use Rattle.model_registers.specs.Windows as model;
 ghost use Rattle.headers.specs.WindowPairs.{pair_of};
 ghost use Rattle.bars.specs.Slots.{bases_from};
 ghost use Rattle.bridge_forward.specs.RoutingRows.{window_of, base_of};
+ghost use Rattle.model_registers.specs.Windows as model;
 
 use crate::routing_region::RoutingRegion;
 use paths::Path;

@@ -1,15 +1,7 @@
 //! Walks along the buses of a tree.
 ghost use Rattle.std.specs.Prelude.{◌≡◌, ◌≤◌, ◌<◌, IfSome, IfNone, IsSome, None, length, find};
-ghost use Rattle.model_board.specs.Paths.{Path as PathValue, path_eq};
-ghost use Rattle.bridge_forward.specs.Layout.{functions_of};
-ghost use Rattle.bridge_forward.specs.Skips.{IsTree};
-ghost use Rattle.bridge_forward.specs.Search.{is_named, IsSide, IsAt};
-ghost use Rattle.bridge_forward.specs.Leading.{LeadsTo, LeadsNowhere, AreRoutes};
-ghost use Rattle.model_board.specs.Cycles.{taker};
-ghost use Rattle.bridge_forward.specs.Cycled.{reached_by};
-ghost use Rattle.bridge_forward.specs.Lending.{endpoint_nth};
-ghost use Rattle.bridge_forward.specs.Locating.{located_claim};
-ghost use Rattle.model_board.specs.Claims.{first_claim};
+ghost use Rattle.model_board.specs.{Paths.{Path as PathValue, path_eq}, Cycles.taker, Claims.first_claim};
+ghost use Rattle.bridge_forward.specs.{Layout.functions_of, Skips.IsTree, Search.{is_named, IsSide, IsAt}, Leading.{LeadsTo, LeadsNowhere, AreRoutes}, Cycled.reached_by, Lending.endpoint_nth, Locating.located_claim};
 ghost use Rattle.bars.specs.Kinds.{named_space};
 
 use crate::bus::{Located, Node};

@@ -1,14 +1,6 @@
 -- Bus numbers are written into a bridge's registers.
-use Rattle.std.proofs.Common.{◌≡◌, ℕ, ◌+◌, ◌-◌, ◌*◌, ◌%◌, ◌<◌, Bool, ◌++◌, ap, ap₂, ◌∙◌, arith}
-use Rattle.std.specs.Prelude.{bit_and, bit_or}
-use Rattle.std.specs.Int.Bits.{and_zero_r, and_zero_l, or_zero_l, or_zero_r}
-use Rattle.std.proofs.lemmas.Nat.{and_mask}
-use Rattle.model_registers.specs.Cell.{Cell, written}
-use Rattle.model_registers.specs.Registers.{config, write}
-use Rattle.model_registers.specs.ByteEnables.{lanes}
-use Rattle.model_registers.specs.Declarations.{IoDecode, PrefDecode, Bridge}
-use Rattle.model_registers.specs.BridgeTable.{no_window, io_cells, mem_cells, pref_cells, bridge_file}
-use Rattle.model_registers.proofs.Files.{joined_write}
+use Rattle.std.{proofs.{Common.{◌≡◌, ℕ, ◌+◌, ◌-◌, ◌*◌, ◌%◌, ◌<◌, Bool, ◌++◌, ap, ap₂, ◌∙◌, arith}, lemmas.Nat.and_mask}, specs.{Prelude.{bit_and, bit_or}, Int.Bits.{and_zero_r, and_zero_l, or_zero_l, or_zero_r}}}
+use Rattle.model_registers.{specs.{Cell.{Cell, written}, Registers.{config, write}, ByteEnables.lanes, Declarations.{IoDecode, PrefDecode, Bridge}, BridgeTable.{no_window, io_cells, mem_cells, pref_cells, bridge_file}}, proofs.Files.joined_write}
 use Rattle.model_set_up.specs.Scanning.{BusNumbers, with_numbers}
 
 -- a byte whose bits are all writable

@@ -1,14 +1,7 @@
 -- What a scan leaves is a numbered board, and what sizing finds is itself a board with the same table.
 use Rattle.std.proofs.Common.{◌≡◌, List, sym, ap, ◌∙◌, subst, arith}
-use Rattle.model_board.specs.Board.{Board, IsBoard}
-use Rattle.model_board.specs.BusNumbers.{Enumerates}
-use Rattle.model_board.specs.Lawful.{HasLawfulDecls}
-use Rattle.model_board.specs.State.{State}
-use Rattle.model_set_up.specs.Scanning.{board_numbers, numbered_file, numbered_state, IsNumbered, HasOwnNumbers}
-use Rattle.model_set_up.specs.FunctionTable.{TableRow, sized_table, board_in}
-use Rattle.model_board.specs.AtReset.{board_at}
-use Rattle.model_board.proofs.StateRows.{state_rows}
-use Rattle.model_set_up.proofs.FoundBoards.{found_few, placed_as_found}
+use Rattle.model_board.{specs.{Board.{Board, IsBoard}, BusNumbers.Enumerates, Lawful.HasLawfulDecls, State.State, AtReset.board_at}, proofs.StateRows.state_rows}
+use Rattle.model_set_up.{specs.{Scanning.{board_numbers, numbered_file, numbered_state, IsNumbered, HasOwnNumbers}, FunctionTable.{TableRow, sized_table, board_in}}, proofs.FoundBoards.{found_few, placed_as_found}}
 use Rattle.host_bridge.specs.HostState.{HostState}
 use Rattle.bus_scan.specs.SizedTables.{IsTableOf}
 

@@ -1,23 +1,9 @@
 -- The rows of the functions that a scan has met.
-use Rattle.model_board.proofs.PlacesLaw.{before_apart}
-use Rattle.std.proofs.Common.{◌≡◌, ℕ, ◌+◌, inr, Bool, true, false, cond, List, [], ◌∷◌, ◌++◌, length, map, refl, sym, ap, ap₂, ◌∙◌, subst, arith}
-use Rattle.std.specs.Prelude.{IsTrue, count_by}
-use Rattle.std.proofs.lemmas.List.{map-append, length-map}
-use Rattle.std.proofs.lemmas.List.Sums.{sum_by-cons}
-use Rattle.std.proofs.Math.ListN.{set}
-use Rattle.std.proofs.Math.Seq.{set-append_seam}
-use Rattle.lists.specs.Elements.{Each, EachPair, IsIn}
-use Rattle.model_board.specs.Paths.{Path, path_eq, path_before}
-use Rattle.model_board.specs.Board.{Board, Row, is_bridge, is_bridge_at, IsBoard}
-use Rattle.model_set_up.specs.FunctionTable.{TableRow}
-use Rattle.model_set_up.specs.ScanOrder.{met}
-use Rattle.lists.proofs.Members.{each_in, from_filter, none_pass, in_back}
-use Rattle.lists.proofs.EachLemmas.{pairs_filter, pairs_after}
-use Rattle.model_board.proofs.PathOrder.{one}
-use Rattle.model_board.proofs.PathEnds.{path_eq-sym}
-use Rattle.model_set_up.proofs.Scanning.{goes_before}
-use Rattle.bus_scan.specs.Scans.{met_row, StandsAt}
-use Rattle.bus_scan.proofs.States.{Numbers, map_same, bridge_there}
+use Rattle.model_board.{proofs.{PlacesLaw.before_apart, PathOrder.one, PathEnds.path_eq-sym}, specs.{Paths.{Path, path_eq, path_before}, Board.{Board, Row, is_bridge, is_bridge_at, IsBoard}}}
+use Rattle.std.{proofs.{Common.{◌≡◌, ℕ, ◌+◌, inr, Bool, true, false, cond, List, [], ◌∷◌, ◌++◌, length, map, refl, sym, ap, ap₂, ◌∙◌, subst, arith}, lemmas.List.{map-append, length-map, Sums.sum_by-cons}, Math.{ListN.set, Seq.set-append_seam}}, specs.Prelude.{IsTrue, count_by}}
+use Rattle.lists.{specs.Elements.{Each, EachPair, IsIn}, proofs.{Members.{each_in, from_filter, none_pass, in_back}, EachLemmas.{pairs_filter, pairs_after}}}
+use Rattle.model_set_up.{specs.{FunctionTable.TableRow, ScanOrder.met}, proofs.Scanning.goes_before}
+use Rattle.bus_scan.{specs.Scans.{met_row, StandsAt}, proofs.States.{Numbers, map_same, bridge_there}}
 
 -- ---- counts
 

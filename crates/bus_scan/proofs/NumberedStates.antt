@@ -1,23 +1,8 @@
 -- A numbered board: each function holds what its declaration says, and the bridges hold the board's numbers.
-use Rattle.std.proofs.Common.{◌≡◌, ◌+◌, ◌<◌, ◌≤◌, inl, inr, Bool, true, ◌&&◌, List, [], ◌∷◌, map, Some, refl, sym, ap, ◌∙◌, subst, arith}
-use Rattle.std.specs.Prelude.{count_by, IsTrue}
-use Rattle.std.proofs.lemmas.List.Sums.{sum_by-cons}
-use Rattle.lists.specs.Elements.{Each, EachPair, IsIn}
-use Rattle.model_board.specs.Paths.{Path, path_eq, path_before, leads_to}
-use Rattle.model_board.specs.Board.{Board, Row, Decl, is_bridge, is_bridge_at, IsBoard}
-use Rattle.model_board.specs.BusNumbers.{secondary, subordinate, bus_of}
-use Rattle.model_board.specs.State.{BoardFunction, State, row_at}
-use Rattle.model_board.specs.Cycles.{BusAddress, reached, secondary_register, subordinate_register}
-use Rattle.model_set_up.specs.Reach.{HasNumbers}
-use Rattle.model_set_up.specs.Scanning.{BusNumbers, board_numbers, numbers_in, numbered_file, IsNumbered}
-use Rattle.model_board.specs.AtReset.{board_at}
-use Rattle.lists.proofs.Members.{each_in, each_from}
-use Rattle.lists.proofs.FirstFound.{each_found}
-use Rattle.model_board.proofs.PathOrder.{one, exclusive, path_same}
-use Rattle.model_board.proofs.PathEnds.{not_before_itself}
-use Rattle.model_board.proofs.BusNumbers.{bridges, bridges-cons, at, count_three, counted}
-use Rattle.model_set_up.proofs.Routes.{bridge_of}
-use Rattle.model_set_up.proofs.Scanning.{numbers_read, bus_not_more}
+use Rattle.std.{proofs.{Common.{◌≡◌, ◌+◌, ◌<◌, ◌≤◌, inl, inr, Bool, true, ◌&&◌, List, [], ◌∷◌, map, Some, refl, sym, ap, ◌∙◌, subst, arith}, lemmas.List.Sums.sum_by-cons}, specs.Prelude.{count_by, IsTrue}}
+use Rattle.lists.{specs.Elements.{Each, EachPair, IsIn}, proofs.{Members.{each_in, each_from}, FirstFound.each_found}}
+use Rattle.model_board.{specs.{Paths.{Path, path_eq, path_before, leads_to}, Board.{Board, Row, Decl, is_bridge, is_bridge_at, IsBoard}, BusNumbers.{secondary, subordinate, bus_of}, State.{BoardFunction, State, row_at}, Cycles.{BusAddress, reached, secondary_register, subordinate_register}, AtReset.board_at}, proofs.{PathOrder.{one, exclusive, path_same}, PathEnds.not_before_itself, BusNumbers.{bridges, bridges-cons, at, count_three, counted}}}
+use Rattle.model_set_up.{specs.{Reach.HasNumbers, Scanning.{BusNumbers, board_numbers, numbers_in, numbered_file, IsNumbered}}, proofs.{Routes.bridge_of, Scanning.{numbers_read, bus_not_more}}}
 
 -- ---- numbers of a board fit
 

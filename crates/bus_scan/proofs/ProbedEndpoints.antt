@@ -1,21 +1,9 @@
 -- What the base address registers of an endpoint at reset read after all ones.
 --     mask_at      what the register at an index reads
-use Rattle.std.proofs.lemmas.Bool.Decides.{nat_tests}
-use Rattle.std.proofs.Common.{◌≡◌, ℕ, ◌+◌, ◌*◌, ◌/◌, ◌%◌, ◌^◌, ◌<◌, ◌≤◌, ◌⊎◌, inl, Bool, false, ◌&&◌, cond, List, [], ◌∷◌, refl, sym, subst, arith, eqb}
-use Rattle.std.specs.Prelude.{flat_map}
-use Rattle.std.proofs.lemmas.Bool.{cases_eq}
-use Rattle.lists.specs.Elements.{Each, EachPair}
-use Rattle.model_registers.specs.Cell.{Cell}
-use Rattle.model_registers.specs.Registers.{config, block, cells_from}
-use Rattle.model_registers.specs.FileLaws.{has_place}
-use Rattle.model_registers.specs.Declarations.{registers_of, Bar, Region, IsLawfulRegion, Endpoint}
-use Rattle.model_registers.specs.DeclarationRules.{IsLawfulEndpoint}
-use Rattle.model_registers.specs.EndpointTable.{base_register, base_cells, region_cells, config_cells, endpoint_reset}
-use Rattle.model_registers.specs.Sizing.{mask_of}
-use Rattle.lists.proofs.EachLemmas.{each_map}
-use Rattle.model_registers.proofs.Bases.{registers_positive, one_or_two}
-use Rattle.bridge_forward.proofs.EndpointAccess.{none_from}
-use Rattle.bridge_forward.proofs.EndpointReset.{none_field, none_joined, reset_away}
+use Rattle.std.{proofs.{lemmas.Bool.{Decides.nat_tests, cases_eq}, Common.{◌≡◌, ℕ, ◌+◌, ◌*◌, ◌/◌, ◌%◌, ◌^◌, ◌<◌, ◌≤◌, ◌⊎◌, inl, Bool, false, ◌&&◌, cond, List, [], ◌∷◌, refl, sym, subst, arith, eqb}}, specs.Prelude.flat_map}
+use Rattle.lists.{specs.Elements.{Each, EachPair}, proofs.EachLemmas.each_map}
+use Rattle.model_registers.{specs.{Cell.Cell, Registers.{config, block, cells_from}, FileLaws.has_place, Declarations.{registers_of, Bar, Region, IsLawfulRegion, Endpoint}, DeclarationRules.IsLawfulEndpoint, EndpointTable.{base_register, base_cells, region_cells, config_cells, endpoint_reset}, Sizing.mask_of}, proofs.Bases.{registers_positive, one_or_two}}
+use Rattle.bridge_forward.proofs.{EndpointAccess.none_from, EndpointReset.{none_field, none_joined, reset_away}}
 use Rattle.bus_scan.proofs.ProbedFiles.{all_four, Probed, probed_none, probed_first, probed_second, probed_low, probed_high}
 
 -- ---- places without cells

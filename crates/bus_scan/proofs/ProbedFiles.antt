@@ -1,22 +1,8 @@
 -- What the registers of a file read after all ones, and that they take back what they held.
 --     Probed      an access of these bytes reads the mask after all ones, and a write of what was read before leaves the file as it was
-use Rattle.std.proofs.Common.{◌≡◌, ℕ, ◌+◌, ◌-◌, ◌*◌, ◌/◌, ◌%◌, ◌^◌, ◌<◌, ◌≤◌, inl, inr, Bool, true, false, List, [], ◌∷◌, ◌++◌, refl, sym, ap, ap₂, ◌∙◌, subst, arith, append-nil}
-use Rattle.std.specs.Prelude.{bit_and, bit_or}
-use Rattle.std.specs.Int.Bits.{or_zero_l, and_zero_l}
-use Rattle.std.proofs.lemmas.Nat.{and_mask, and_comm, pow-add, pow_below, pow_pos}
-use Rattle.std.proofs.lemmas.Bool.{cases_lt}
-use Rattle.std.proofs.Math.Nat.{mod-eq_of_lt}
-use Rattle.model_registers.specs.Registers.{Place, config, File, read, write, field}
-use Rattle.model_registers.specs.FileLaws.{HasNone}
-use Rattle.model_registers.specs.Declarations.{Kind, registers_of, least_size, IsLawfulSize, Bar, IoDecode, no_io, io16, io32, PrefDecode, no_pref, pref32, pref64, Bridge}
-use Rattle.model_registers.specs.EndpointTable.{base_register, type_bits, base_width, BaseAddress, register_cells, IsLawfulBase}
-use Rattle.model_registers.specs.BaseLaws.{shown, rebased}
-use Rattle.model_registers.specs.Sizing.{mask_of}
-use Rattle.model_registers.proofs.Files.{read_none, write_none, read_second, read_first, joined_write}
-use Rattle.model_registers.proofs.Bases.{four, size_limits, write_one, rewritten_low, rewritten_high, read_low, read_high, and_upper, one_or_two}
+use Rattle.std.{proofs.{Common.{◌≡◌, ℕ, ◌+◌, ◌-◌, ◌*◌, ◌/◌, ◌%◌, ◌^◌, ◌<◌, ◌≤◌, inl, inr, Bool, true, false, List, [], ◌∷◌, ◌++◌, refl, sym, ap, ap₂, ◌∙◌, subst, arith, append-nil}, lemmas.{Nat.{and_mask, and_comm, pow-add, pow_below, pow_pos}, Bool.cases_lt}, Math.Nat.mod-eq_of_lt}, specs.{Prelude.{bit_and, bit_or}, Int.Bits.{or_zero_l, and_zero_l}}}
+use Rattle.model_registers.{specs.{Registers.{Place, config, File, read, write, field}, FileLaws.HasNone, Declarations.{Kind, registers_of, least_size, IsLawfulSize, Bar, IoDecode, no_io, io16, io32, PrefDecode, no_pref, pref32, pref64, Bridge}, EndpointTable.{base_register, type_bits, base_width, BaseAddress, register_cells, IsLawfulBase}, BaseLaws.{shown, rebased}, Sizing.mask_of, ByteEnables.lanes, BridgeTable.bridge_file}, proofs.{Files.{read_none, write_none, read_second, read_first, joined_write}, Bases.{four, size_limits, write_one, rewritten_low, rewritten_high, read_low, read_high, and_upper, one_or_two}}}
 use Rattle.bus_scan.proofs.WriteBack.{field_back}
-use Rattle.model_registers.specs.ByteEnables.{lanes}
-use Rattle.model_registers.specs.BridgeTable.{bridge_file}
 use Rattle.model_set_up.specs.Scanning.{BusNumbers, with_numbers}
 
 abbrev pub ones : ℕ

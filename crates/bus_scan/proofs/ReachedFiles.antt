@@ -1,27 +1,11 @@
 -- A register of one function of a numbered board, by configuration cycles: all ones, and what was there before.
 --     IsAll p file fs      whatever stands at the path holds these cells
-use Rattle.std.proofs.Common.{◌≡◌, ℕ, ◌+◌, ◌/◌, ◌≤◌, Bool, true, false, cond, List, [], ◌∷◌, map, Some, refl, ap, ap₂, ◌∙◌, subst, arith, suc, length}
-use Rattle.std.specs.Prelude.{IsTrue}
-use Rattle.std.specs.Option.{option_map_or}
-use Rattle.std.proofs.lemmas.Bool.{ne_eqb}
-use Rattle.model_registers.proofs.DeviceBytes.{change_beside}
-use Rattle.model_registers.proofs.Parts.{IsOutside}
-use Rattle.lists.specs.Elements.{Each, IsIn}
-use Rattle.model_registers.specs.Registers.{config, File, cell_at, write}
-use Rattle.model_board.specs.Paths.{Path, path_eq}
-use Rattle.model_board.specs.Board.{Board, Row, is_bridge, stands_at}
-use Rattle.model_board.specs.BusNumbers.{secondary, subordinate}
-use Rattle.model_board.specs.State.{BoardFunction, State, with_file, row_at}
-use Rattle.model_board.specs.Cycles.{BusAddress, reached, secondary_register, subordinate_register}
-use Rattle.model_set_up.specs.Reach.{address_of}
-use Rattle.model_board.specs.AtReset.{board_at}
-use Rattle.model_set_up.specs.Scanning.{IsNumbered}
-use Rattle.lists.proofs.Members.{each_in, each_from, in_map, any_in}
-use Rattle.model_board.proofs.PathEnds.{path_self}
-use Rattle.model_set_up.proofs.Routes.{reached_by_numbers, only_named}
-use Rattle.bus_scan.specs.Probes.{with_ones, mask_shown, TakesBack}
-use Rattle.bus_scan.proofs.ProbedFiles.{ones, Probed}
-use Rattle.bus_scan.proofs.NumberedStates.{has_numbers, no_latch, each_reached, in_itself, only_there}
+use Rattle.std.{proofs.{Common.{◌≡◌, ℕ, ◌+◌, ◌/◌, ◌≤◌, Bool, true, false, cond, List, [], ◌∷◌, map, Some, refl, ap, ap₂, ◌∙◌, subst, arith, suc, length}, lemmas.Bool.ne_eqb}, specs.{Prelude.IsTrue, Option.option_map_or}}
+use Rattle.model_registers.{proofs.{DeviceBytes.change_beside, Parts.IsOutside}, specs.Registers.{config, File, cell_at, write}}
+use Rattle.lists.{specs.Elements.{Each, IsIn}, proofs.Members.{each_in, each_from, in_map, any_in}}
+use Rattle.model_board.{specs.{Paths.{Path, path_eq}, Board.{Board, Row, is_bridge, stands_at}, BusNumbers.{secondary, subordinate}, State.{BoardFunction, State, with_file, row_at}, Cycles.{BusAddress, reached, secondary_register, subordinate_register}, AtReset.board_at}, proofs.PathEnds.path_self}
+use Rattle.model_set_up.{specs.{Reach.address_of, Scanning.IsNumbered}, proofs.Routes.{reached_by_numbers, only_named}}
+use Rattle.bus_scan.{specs.Probes.{with_ones, mask_shown, TakesBack}, proofs.{ProbedFiles.{ones, Probed}, NumberedStates.{has_numbers, no_latch, each_reached, in_itself, only_there}}}
 
 -- ---- a write leaves what stands elsewhere
 

@@ -1,25 +1,9 @@
 -- What a scan sees at a part, and where it goes on.
-use Rattle.std.proofs.Common.{◌≡◌, ℕ, ◌+◌, ◌%◌, Bool, true, false, not, cond, ◌&&◌, List, [], ◌∷◌, ◌++◌, Option, Some, None, refl, sym, ap, ◌∙◌, eqb, arith}
-use Rattle.std.specs.Prelude.{find}
-use Rattle.model_board.specs.Paths.{Path, path_eq}
-use Rattle.model_board.specs.Board.{Decl, endpoint, bridge, Board, Row, is_bridge, stands_at, is_multifunction}
-use Rattle.model_board.specs.BusNumbers.{bus_behind, bus_of}
-use Rattle.model_set_up.specs.FunctionTable.{TableRow}
-use Rattle.model_board.specs.State.{BoardFunction, State}
-use Rattle.model_board.specs.Cycles.{BusAddress, reached}
-use Rattle.model_board.specs.Lawful.{IsLawfulDecl}
-use Rattle.model_set_up.specs.Scanning.{BusNumbers, scan_numbers, scan_state, numbered_file}
-use Rattle.model_set_up.specs.ScanOrder.{nth_part, on, next_part}
+use Rattle.std.{proofs.Common.{◌≡◌, ℕ, ◌+◌, ◌%◌, Bool, true, false, not, cond, ◌&&◌, List, [], ◌∷◌, ◌++◌, Option, Some, None, refl, sym, ap, ◌∙◌, eqb, arith}, specs.Prelude.find}
+use Rattle.model_board.{specs.{Paths.{Path, path_eq}, Board.{Decl, endpoint, bridge, Board, Row, is_bridge, stands_at, is_multifunction}, BusNumbers.{bus_behind, bus_of}, State.{BoardFunction, State}, Cycles.{BusAddress, reached}, Lawful.IsLawfulDecl}, proofs.PathEnds.parent_snoc}
+use Rattle.model_set_up.specs.{FunctionTable.TableRow, Scanning.{BusNumbers, scan_numbers, scan_state, numbered_file}, ScanOrder.{nth_part, on, next_part}}
 use Rattle.lists.proofs.Members.{each_in}
-use Rattle.model_board.proofs.PathEnds.{parent_snoc}
-use Rattle.bus_scan.specs.declared.seen.Seen.{Seen}
-use Rattle.bus_scan.specs.declared.seen.Layout.TheVariants.{Endpoint as EndpointLayout, Bridge as BridgeLayout}
-use Rattle.bus_scan.specs.declared.table.Found.TheVariants.{Endpoint as FoundEndpoint}
-use Rattle.bus_scan.specs.Rows.{decl_of}
-use Rattle.bus_scan.specs.Sights.{seen_of}
-use Rattle.bus_scan.specs.Scans.{met_row, IsAt, OnBus, IsFound, IsBridgeThere}
-use Rattle.bus_scan.proofs.States.{numbered, none_stands, one_stands, stands}
-use Rattle.bus_scan.proofs.ScanSteps.{before_on, reaches, next_is, stands_true, past_endpoint}
+use Rattle.bus_scan.{specs.{declared.{seen.{Seen.Seen, Layout.TheVariants.{Endpoint as EndpointLayout, Bridge as BridgeLayout}}, table.Found.TheVariants.Endpoint as FoundEndpoint}, Rows.decl_of, Sights.seen_of, Scans.{met_row, IsAt, OnBus, IsFound, IsBridgeThere}}, proofs.{States.{numbered, none_stands, one_stands, stands}, ScanSteps.{before_on, reaches, next_is, stands_true, past_endpoint}}}
 
 -- what is seen at a part
 pub data Sight (b : Board) (bus : Path) (number n : ℕ) (o : Option Seen) : Type 0 where

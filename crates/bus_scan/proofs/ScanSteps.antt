@@ -1,32 +1,10 @@
 -- A scan from one part to the next.
-use Rattle.model_board.proofs.PlacesLaw.{before_apart}
-use Rattle.std.proofs.Common.{◌≡◌, ℕ, ◌+◌, ◌%◌, ◌≤◌, ◌<◌, Bool, true, false, not, cond, ◌&&◌, List, [], ◌∷◌, ◌++◌, length, append_assoc, map, Some, refl, sym, ap, ap₂, ◌∙◌, subst, arith, eqb, get_or}
-use Rattle.std.specs.Prelude.{find, count_by}
-use Rattle.std.proofs.Math.ListN.{set}
-use Rattle.std.proofs.Math.Seq.{get_or-append_seam}
-use Rattle.std.proofs.lemmas.List.{map-append, length-map}
+use Rattle.model_board.{proofs.{PlacesLaw.before_apart, PathOrder.{one, path_same, leads_before, part_self}, PathEnds.{path_self, leads_self, parent_snoc, leads_longer}}, specs.{Paths.{Part, Path, path_eq, path_before, IsPath}, Board.{Decl, endpoint, bridge, Board, Row, is_bridge, is_bridge_at, stands_at, is_multifunction, IsBoard}, BusNumbers.{secondary, subordinate, bus_behind, bus_of, Enumerates}, State.{BoardFunction, State, state_of}, Cycles.{BusAddress, reached}, AtReset.{reset_file, reset_state}}}
+use Rattle.std.{proofs.{Common.{◌≡◌, ℕ, ◌+◌, ◌%◌, ◌≤◌, ◌<◌, Bool, true, false, not, cond, ◌&&◌, List, [], ◌∷◌, ◌++◌, length, append_assoc, map, Some, refl, sym, ap, ap₂, ◌∙◌, subst, arith, eqb, get_or}, Math.{ListN.set, Seq.get_or-append_seam}, lemmas.List.{map-append, length-map}}, specs.Prelude.{find, count_by}}
 use Rattle.model_registers.specs.Declarations.{no_io, no_pref}
-use Rattle.model_board.specs.Paths.{Part, Path, path_eq, path_before, IsPath}
-use Rattle.model_board.specs.Board.{Decl, endpoint, bridge, Board, Row, is_bridge, is_bridge_at, stands_at, is_multifunction, IsBoard}
-use Rattle.model_board.specs.BusNumbers.{secondary, subordinate, bus_behind, bus_of, Enumerates}
-use Rattle.model_set_up.specs.FunctionTable.{TableRow, met_decl, scanned_table, table_row}
-use Rattle.model_board.specs.State.{BoardFunction, State, state_of}
-use Rattle.model_board.specs.Cycles.{BusAddress, reached}
-use Rattle.model_board.specs.AtReset.{reset_file, reset_state}
-use Rattle.model_set_up.specs.Scanning.{BusNumbers, no_numbers, board_numbers, open_numbers, scan_numbers, scan_state, numbered_file, numbered_state}
-use Rattle.model_set_up.specs.ScanOrder.{nth_part, on, next_part, met, GivesNumbersInPathOrder}
+use Rattle.model_set_up.{specs.{FunctionTable.{TableRow, met_decl, scanned_table, table_row}, Scanning.{BusNumbers, no_numbers, board_numbers, open_numbers, scan_numbers, scan_state, numbered_file, numbered_state}, ScanOrder.{nth_part, on, next_part, met, GivesNumbersInPathOrder}}, proofs.{Partings.bridge_at, Scanning.{goes_before, met_before, reached_while_scanning, numbers_of_scan_state}, ScanParts.{before_first, before_last, leads_place, row_path}, ScanOrder.{scan_meets, scan_gives_numbers, no_bridge_here, no_bridge_none}}}
 use Rattle.lists.proofs.Members.{any_in, from_filter, filter_same}
-use Rattle.model_board.proofs.PathOrder.{one, path_same, leads_before, part_self}
-use Rattle.model_board.proofs.PathEnds.{path_self, leads_self, parent_snoc, leads_longer}
-use Rattle.model_set_up.proofs.Partings.{bridge_at}
-use Rattle.model_set_up.proofs.Scanning.{goes_before, met_before, reached_while_scanning, numbers_of_scan_state}
-use Rattle.model_set_up.proofs.ScanParts.{before_first, before_last, leads_place, row_path}
-use Rattle.model_set_up.proofs.ScanOrder.{scan_meets, scan_gives_numbers, no_bridge_here, no_bridge_none}
-use Rattle.bus_scan.specs.declared.seen.Seen.{Seen}
-use Rattle.bus_scan.specs.Rows.{ended as ended_range}
-use Rattle.bus_scan.specs.Scans.{met_row, given, IsAt, OnBus, StandsAt, IsFound}
-use Rattle.bus_scan.proofs.States.{Numbers, numbered, map_same, same_state, bridge_there}
-use Rattle.bus_scan.proofs.MetRows.{count_more, row_same, rows_same, rows_more, met_grows, row_filled}
+use Rattle.bus_scan.{specs.{declared.seen.Seen.Seen, Rows.ended as ended_range, Scans.{met_row, given, IsAt, OnBus, StandsAt, IsFound}}, proofs.{States.{Numbers, numbered, map_same, same_state, bridge_there}, MetRows.{count_more, row_same, rows_same, rows_more, met_grows, row_filled}}}
 
 -- ---- cycles
 

@@ -1,31 +1,13 @@
 -- What begins at a register of an endpoint, by what the register and the next one read after all ones.
 --     Begins      what the register and the next one read, by what begins there
 --     BarsBelow      the host is as it was, and the slots below a register are told
-use Rattle.std.proofs.lemmas.Bool.Decides.{nat_tests}
-use Rattle.lists.proofs.Tests.{and_true}
-use Rattle.std.proofs.Common.{◌≡◌, ℕ, ◌+◌, ◌/◌, ◌%◌, ◌^◌, ◌<◌, ◌≤◌, ◌⊎◌, inl, inr, true, false, ◌&&◌, List, [], ◌∷◌, Option, Some, None, refl, sym, ap, ◌∙◌, arith, eqb, zero, suc, Bool, ◌||◌, map, length, get_or, ap₂, below_more}
-use Rattle.std.specs.Prelude.{bit_and, IfSome, slice_set}
-use Rattle.std.proofs.lemmas.Nat.{and_mask}
-use Rattle.std.proofs.lemmas.Bool.{cases_lt, ne_eqb, cond-true, cond-false, eq-eqb, and_from, or_parts, cases_eq, and_right}
-use Rattle.std.specs.Option.{option_map_or}
-use Rattle.std.proofs.lemmas.List.{get_or-set_same, get_or-set_other, length-set}
-use Rattle.std.proofs.lemmas.Option.{unwrap_or-slice_get}
-use Rattle.lists.specs.Elements.{Each, EachPair}
-use Rattle.model_registers.specs.Declarations.{Kind, io_kind, mem32, mem64, registers_of, Bar, Region, IsLawfulSize, IsLawfulRegion, HasLawfulRegions}
-use Rattle.model_registers.specs.Sizing.{mask_of, ShowsSize}
-use Rattle.lists.proofs.EachLemmas.{each_map}
-use Rattle.model_registers.proofs.Bases.{registers_positive}
-use Rattle.model_registers.proofs.Sizes.{sizes_read}
-use Rattle.bus_scan.specs.SizedRows.{bar_at, is_upper_half, bars_of, is_after_wide}
-use Rattle.bus_scan.proofs.ProbedFiles.{sixteens}
-use Rattle.bus_scan.proofs.ProbedEndpoints.{bar_of, mask_at, at_low, at_high, elsewhere, side, mask_low, mask_high, mask_apart, not_wide}
-use Rattle.model_registers.specs.EndpointTable.{opened}
-use Rattle.model_registers.specs.OwnCopies.{bare}
+use Rattle.std.{proofs.{lemmas.{Bool.{Decides.nat_tests, cases_lt, ne_eqb, cond-true, cond-false, eq-eqb, and_from, or_parts, cases_eq, and_right}, Nat.and_mask, List.{get_or-set_same, get_or-set_other, length-set}, Option.unwrap_or-slice_get}, Common.{◌≡◌, ℕ, ◌+◌, ◌/◌, ◌%◌, ◌^◌, ◌<◌, ◌≤◌, ◌⊎◌, inl, inr, true, false, ◌&&◌, List, [], ◌∷◌, Option, Some, None, refl, sym, ap, ◌∙◌, arith, eqb, zero, suc, Bool, ◌||◌, map, length, get_or, ap₂, below_more}}, specs.{Prelude.{bit_and, IfSome, slice_set}, Option.option_map_or}}
+use Rattle.lists.{proofs.{Tests.and_true, EachLemmas.each_map}, specs.Elements.{Each, EachPair}}
+use Rattle.model_registers.{specs.{Declarations.{Kind, io_kind, mem32, mem64, registers_of, Bar, Region, IsLawfulSize, IsLawfulRegion, HasLawfulRegions}, Sizing.{mask_of, ShowsSize}, EndpointTable.opened, OwnCopies.bare}, proofs.{Bases.registers_positive, Sizes.sizes_read}}
+use Rattle.bus_scan.{specs.{SizedRows.{bar_at, is_upper_half, bars_of, is_after_wide}, Rows.regions_of, Probes.regions_reached}, proofs.{ProbedFiles.sixteens, ProbedEndpoints.{bar_of, mask_at, at_low, at_high, elsewhere, side, mask_low, mask_high, mask_apart, not_wide}}}
 use Rattle.model_board.specs.Cycles.{BusAddress}
 use Rattle.host_bridge.specs.HostState.{HostState}
 use Rattle.bars.specs.Resets.{reset_from}
-use Rattle.bus_scan.specs.Rows.{regions_of}
-use Rattle.bus_scan.specs.Probes.{regions_reached}
 
 pub data Begins (n : ℕ) (rs : List Region) : Type 0 where
   nothing : bar_at n rs ≡ None → mask_at n rs ≡ 0 → Begins n rs

@@ -1,40 +1,11 @@
 -- What sizing finds of the function that a number of a numbered board reaches.
-use Rattle.std.proofs.Common.{◌≡◌, ℕ, ◌+◌, ◌*◌, ◌<◌, List, [], Option, Some, sym, ap, ◌∙◌, subst, arith, true, map}
-use Rattle.std.specs.Prelude.{bit_and, IsTrue}
-use Rattle.std.specs.Option.{option_map_or}
-use Rattle.model_registers.specs.Registers.{config}
-use Rattle.model_registers.specs.ByteEnables.{lanes}
-use Rattle.model_registers.specs.Declarations.{Bridge, HasLawfulRegions, IoDecode, no_io, io16, io32, PrefDecode, no_pref, pref32, pref64, Bar, Endpoint}
-use Rattle.model_registers.specs.DeclarationRules.{IsLawfulEndpoint}
-use Rattle.model_registers.specs.EndpointTable.{endpoint_reset}
-use Rattle.model_registers.specs.BridgeTable.{bridge_file}
-use Rattle.model_board.specs.Board.{Decl, endpoint, bridge, is_bridge, is_multifunction, Board, Row, stands_at}
-use Rattle.model_board.specs.State.{BoardFunction, State, row_at}
-use Rattle.model_board.specs.Cycles.{BusAddress, reached}
-use Rattle.model_board.specs.Lawful.{IsLawfulDecl}
-use Rattle.model_set_up.specs.Scanning.{board_numbers, with_numbers, numbered_file, IsNumbered}
-use Rattle.model_board.specs.AtReset.{board_at}
-use Rattle.bus_scan.specs.Probes.{mask_shown, TakesBack, decl_reached, IsEndpointReached, IsBridgeReached, regions_in, io_in, pref_in, regions_reached, io_reached, pref_reached}
-use Rattle.bus_scan.proofs.ProbedFiles.{Probed, io_mask, pref_mask, probed_io, probed_pref}
-use Rattle.bus_scan.proofs.ProbedEndpoints.{mask_at, probed_endpoint}
-use Rattle.bus_scan.proofs.NumberedStates.{holds, each_reached, each_unmapped, has_numbers, in_itself, only_there}
-use Rattle.bus_scan.proofs.ReachedFiles.{shows, takes_back}
-use Rattle.model_registers.specs.OwnCopies.{bare}
-use Rattle.lists.specs.Elements.{IsIn}
-use Rattle.model_board.specs.Paths.{Path, path_eq, last_part}
-use Rattle.model_set_up.specs.Reach.{address_of}
-use Rattle.model_set_up.specs.FunctionTable.{TableRow, table_row, met_decl, found_decl}
-use Rattle.lists.proofs.Members.{each_in, from_map, any_in}
-use Rattle.model_board.proofs.PathEnds.{path_self}
-use Rattle.model_set_up.proofs.Routes.{reached_by_numbers}
-use Rattle.headers.specs.Decodes.{io_decode_of, pref_decode_of}
-use Rattle.headers.specs.declared.decodes.IoDecode.{IoDecode as ShownIo}
-use Rattle.headers.specs.declared.decodes.PrefDecode.{PrefDecode as ShownPref}
-use Rattle.bus_scan.specs.declared.table.Found.{Found}
-use Rattle.bus_scan.specs.declared.table.Found.TheVariants.{Endpoint as FoundEndpoint, Bridge as FoundBridge}
-use Rattle.bus_scan.specs.Rows.{regions_of, decl_of, range_of}
-use Rattle.bus_scan.specs.SizedRows.{IsScannedRow, bars_of}
-use Rattle.bus_scan.proofs.SizedBars.{regions_of_bars}
+use Rattle.std.{proofs.Common.{◌≡◌, ℕ, ◌+◌, ◌*◌, ◌<◌, List, [], Option, Some, sym, ap, ◌∙◌, subst, arith, true, map}, specs.{Prelude.{bit_and, IsTrue}, Option.option_map_or}}
+use Rattle.model_registers.specs.{Registers.config, ByteEnables.lanes, Declarations.{Bridge, HasLawfulRegions, IoDecode, no_io, io16, io32, PrefDecode, no_pref, pref32, pref64, Bar, Endpoint}, DeclarationRules.IsLawfulEndpoint, EndpointTable.endpoint_reset, BridgeTable.bridge_file, OwnCopies.bare}
+use Rattle.model_board.{specs.{Board.{Decl, endpoint, bridge, is_bridge, is_multifunction, Board, Row, stands_at}, State.{BoardFunction, State, row_at}, Cycles.{BusAddress, reached}, Lawful.IsLawfulDecl, AtReset.board_at, Paths.{Path, path_eq, last_part}}, proofs.PathEnds.path_self}
+use Rattle.model_set_up.{specs.{Scanning.{board_numbers, with_numbers, numbered_file, IsNumbered}, Reach.address_of, FunctionTable.{TableRow, table_row, met_decl, found_decl}}, proofs.Routes.reached_by_numbers}
+use Rattle.bus_scan.{specs.{Probes.{mask_shown, TakesBack, decl_reached, IsEndpointReached, IsBridgeReached, regions_in, io_in, pref_in, regions_reached, io_reached, pref_reached}, declared.table.Found.{Found, TheVariants.{Endpoint as FoundEndpoint, Bridge as FoundBridge}}, Rows.{regions_of, decl_of, range_of}, SizedRows.{IsScannedRow, bars_of}}, proofs.{ProbedFiles.{Probed, io_mask, pref_mask, probed_io, probed_pref}, ProbedEndpoints.{mask_at, probed_endpoint}, NumberedStates.{holds, each_reached, each_unmapped, has_numbers, in_itself, only_there}, ReachedFiles.{shows, takes_back}, SizedBars.regions_of_bars}}
+use Rattle.lists.{specs.Elements.IsIn, proofs.Members.{each_in, from_map, any_in}}
+use Rattle.headers.specs.{Decodes.{io_decode_of, pref_decode_of}, declared.decodes.{IoDecode.IoDecode as ShownIo, PrefDecode.PrefDecode as ShownPref}}
 
 pub reached_decl : (fs : List BoardFunction) (at : BusAddress) (d : Decl) → decl_reached fs at ≡ Some d → (f : BoardFunction) × (reached fs at ≡ Some f) × (f.decl ≡ d)
 reached_decl fs at d h = grind arith

@@ -1,24 +1,10 @@
 -- Boards whose bridges hold some bus numbers, all else at reset.
-use Rattle.std.proofs.Common.{◌≡◌, inl, inr, Bool, true, false, cond, ◌&&◌, List, [], ◌∷◌, map, Option, Some, None, refl, sym, ap, ap₂, ◌∙◌, arith}
-use Rattle.std.specs.Prelude.{find}
-use Rattle.std.specs.List.{list_any}
-use Rattle.std.specs.Option.{option_map_or}
-use Rattle.model_registers.specs.Registers.{config, File, write}
-use Rattle.model_registers.specs.ByteEnables.{lanes}
-use Rattle.lists.specs.Elements.{IsIn}
-use Rattle.model_board.specs.Paths.{Path, path_eq}
-use Rattle.model_board.specs.Board.{Decl, endpoint, bridge, Board, Row, is_bridge, is_bridge_at, stands_at, is_multifunction, IsBoard}
-use Rattle.model_board.specs.State.{BoardFunction, State, with_file, state_of}
-use Rattle.model_board.specs.Cycles.{BusAddress, reached}
-use Rattle.model_board.specs.Ports.{after_config_write}
-use Rattle.model_set_up.specs.Scanning.{BusNumbers, numbered_file}
-use Rattle.lists.proofs.Members.{any_in, from_any}
-use Rattle.model_board.proofs.PathOrder.{path_same}
-use Rattle.model_board.proofs.PathEnds.{path_self}
-use Rattle.model_set_up.proofs.Partings.{one_row, bridge_at}
-use Rattle.lists.proofs.FirstFound.{found}
-use Rattle.bus_scan.specs.Scans.{given, StandsAt}
-use Rattle.bus_scan.proofs.BridgeNumbers.{numbers_word, FitBytes, bridge_written}
+use Rattle.std.{proofs.Common.{◌≡◌, inl, inr, Bool, true, false, cond, ◌&&◌, List, [], ◌∷◌, map, Option, Some, None, refl, sym, ap, ap₂, ◌∙◌, arith}, specs.{Prelude.find, List.list_any, Option.option_map_or}}
+use Rattle.model_registers.specs.{Registers.{config, File, write}, ByteEnables.lanes}
+use Rattle.lists.{specs.Elements.IsIn, proofs.{Members.{any_in, from_any}, FirstFound.found}}
+use Rattle.model_board.{specs.{Paths.{Path, path_eq}, Board.{Decl, endpoint, bridge, Board, Row, is_bridge, is_bridge_at, stands_at, is_multifunction, IsBoard}, State.{BoardFunction, State, with_file, state_of}, Cycles.{BusAddress, reached}, Ports.after_config_write}, proofs.{PathOrder.path_same, PathEnds.path_self}}
+use Rattle.model_set_up.{specs.Scanning.{BusNumbers, numbered_file}, proofs.Partings.{one_row, bridge_at}}
+use Rattle.bus_scan.{specs.Scans.{given, StandsAt}, proofs.BridgeNumbers.{numbers_word, FitBytes, bridge_written}}
 
 abbrev pub Numbers : Type 0
 Numbers = Path → BusNumbers

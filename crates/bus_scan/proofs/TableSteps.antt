@@ -1,12 +1,9 @@
 -- The table while its rows are sized one after the other.
 --     half_sized      the first rows are sized, and the others are as the scan left them
 --     RowsBelow      the host is as it was, and the rows below an index are sized
-use Rattle.std.proofs.Common.{◌≡◌, ℕ, zero, suc, ◌+◌, ◌<◌, ◌≤◌, inl, List, [], ◌∷◌, ◌++◌, map, length, get_or, take, drop, refl, sym, ap, ◌∙◌, arith}
-use Rattle.std.specs.Prelude.{slice_set}
-use Rattle.std.proofs.Math.Seq.{take-append_seam}
+use Rattle.std.{proofs.{Common.{◌≡◌, ℕ, zero, suc, ◌+◌, ◌<◌, ◌≤◌, inl, List, [], ◌∷◌, ◌++◌, map, length, get_or, take, drop, refl, sym, ap, ◌∙◌, arith}, Math.Seq.take-append_seam}, specs.Prelude.slice_set}
 use Rattle.lists.specs.Elements.{IsIn}
-use Rattle.model_board.specs.Board.{Board, Row}
-use Rattle.model_board.specs.AtReset.{board_at}
+use Rattle.model_board.specs.{Board.{Board, Row}, AtReset.board_at}
 use Rattle.model_set_up.specs.FunctionTable.{TableRow, table_row, met_decl, found_decl, scanned_table, sized_table}
 use Rattle.host_bridge.specs.HostState.{HostState}
 use Rattle.bus_scan.specs.SizedRows.{IsScannedRow, SizesRow}

@@ -1,17 +1,6 @@
 -- A register of writable and fixed bits takes back what it held, whatever was written to it in between.
-use Rattle.std.proofs.Common.{◌≡◌, ℕ, zero, suc, ◌+◌, ◌-◌, ◌*◌, ◌/◌, ◌%◌, ◌<◌, Bool, false, ◌||◌, cond, List, [], ◌∷◌, length, refl, ap, ap₂, ◌∙◌, arith, w8, min, max}
-use Rattle.std.specs.Prelude.{bit_and, bit_or}
-use Rattle.std.specs.Int.{bit_at}
-use Rattle.std.specs.Int.Bits.{or_zero_r, and_zero_r}
-use Rattle.std.proofs.lemmas.Nat.{and_mask, and_le_l, and_le_r, or_lt}
-use Rattle.std.proofs.lemmas.Nat.Bits.{bit_at_and, bit_at_or, bit_at_not, bit_at-lt, same_from_bits_below}
-use Rattle.std.proofs.Math.Nat.{mod-eq_of_lt}
-use Rattle.model_registers.specs.Cell.{Cell, written}
-use Rattle.model_registers.specs.Registers.{config, File, read, write, field}
-use Rattle.model_registers.specs.FileLaws.{has_place}
-use Rattle.model_registers.proofs.RegisterFiles.{self, above, read_here}
-use Rattle.model_registers.proofs.EnabledBytes.{read_past, write_past}
-use Rattle.model_registers.proofs.Files.{change_none, places_stay}
+use Rattle.std.{proofs.{Common.{◌≡◌, ℕ, zero, suc, ◌+◌, ◌-◌, ◌*◌, ◌/◌, ◌%◌, ◌<◌, Bool, false, ◌||◌, cond, List, [], ◌∷◌, length, refl, ap, ap₂, ◌∙◌, arith, w8, min, max}, lemmas.Nat.{and_mask, and_le_l, and_le_r, or_lt, Bits.{bit_at_and, bit_at_or, bit_at_not, bit_at-lt, same_from_bits_below}}, Math.Nat.mod-eq_of_lt}, specs.{Prelude.{bit_and, bit_or}, Int.{bit_at, Bits.{or_zero_r, and_zero_r}}}}
+use Rattle.model_registers.{specs.{Cell.{Cell, written}, Registers.{config, File, read, write, field}, FileLaws.has_place}, proofs.{RegisterFiles.{self, above, read_here}, EnabledBytes.{read_past, write_past}, Files.{change_none, places_stay}}}
 
 -- ---- one byte
 

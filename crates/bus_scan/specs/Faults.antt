@@ -2,8 +2,7 @@
 --     number_of      the number of a refusal
 --     fault_words      what is said of it
 use Rattle.std.specs.Prelude.{ℕ, List, codes}
-use Rattle.bus_scan.specs.declared.fault.Fault.{Fault}
-use Rattle.bus_scan.specs.declared.fault.Fault.TheVariants.{Buses, NoIoWindow, IoPool, MemoryPool, PrefetchablePool, Memory}
+use Rattle.bus_scan.specs.declared.fault.Fault.{Fault, TheVariants.{Buses, NoIoWindow, IoPool, MemoryPool, PrefetchablePool, Memory}}
 
 abbrev pub number_of : Fault → ℕ
 number_of Buses = 201

@@ -4,13 +4,9 @@
 --     TakesBack      a write of what was read before leaves all registers as they were
 --     decl_reached, IsEndpointReached, IsBridgeReached      the declaration of the function that a number reaches
 --     regions_reached, io_reached, pref_reached      its regions, or the decode of its windows
-use Rattle.std.specs.Prelude.{◌≡◌, List, [], ℕ, Bool, Option, Some, option_map}
-use Rattle.std.specs.Option.{option_map_or}
+use Rattle.std.specs.{Prelude.{◌≡◌, List, [], ℕ, Bool, Option, Some, option_map}, Option.option_map_or}
 use Rattle.model_registers.specs.Declarations.{Region, Endpoint, Bridge, IoDecode, no_io, PrefDecode, no_pref}
-use Rattle.model_board.specs.Board.{Decl, endpoint, bridge}
-use Rattle.model_board.specs.State.{BoardFunction, State}
-use Rattle.model_board.specs.Cycles.{BusAddress, reached}
-use Rattle.model_board.specs.Ports.{config_reply, after_config_write}
+use Rattle.model_board.specs.{Board.{Decl, endpoint, bridge}, State.{BoardFunction, State}, Cycles.{BusAddress, reached}, Ports.{config_reply, after_config_write}}
 
 abbrev pub with_ones : List BoardFunction → BusAddress → ℕ → List Bool → List BoardFunction
 with_ones fs at off enables = after_config_write fs at off enables 0xffffffff

@@ -3,14 +3,12 @@
 --     decl_of      what was found of a declaration
 --     range_of, ended      the buses behind a bridge; the same with another last number
 use Rattle.std.specs.Prelude.{List, [], ℕ, Option, Some, None, map}
-use Rattle.model_registers.specs.Declarations.{Bar, Region, Endpoint}
-use Rattle.model_registers.specs.EndpointTable.{opened}
+use Rattle.model_registers.specs.{Declarations.{Bar, Region, Endpoint}, EndpointTable.opened}
 use Rattle.model_board.specs.Board.{Decl, endpoint, bridge}
 use Rattle.model_set_up.specs.FunctionTable.{BusRange}
 use Rattle.bars.specs.Resets.{at_reset}
 use Rattle.headers.specs.Decodes.{io_decode_of, pref_decode_of}
-use Rattle.bus_scan.specs.declared.table.Found.{Found}
-use Rattle.bus_scan.specs.declared.table.Found.TheVariants.{Endpoint as FoundEndpoint, Bridge as FoundBridge}
+use Rattle.bus_scan.specs.declared.table.Found.{Found, TheVariants.{Endpoint as FoundEndpoint, Bridge as FoundBridge}}
 
 abbrev pub regions_of : List (Option Bar) → List Region
 regions_of bars = map opened (at_reset bars)

@@ -7,21 +7,10 @@
 --     IsRefused b f s      why it stops before the end, and what it leaves
 use Rattle.std.specs.Prelude.{List, ◌≡◌, ℕ, ◌+◌, ◌<◌, ◌⊎◌, Option, Some, None, map, if◌then◌else◌, IsTrue}
 use Rattle.lists.specs.Elements.{IsIn}
-use Rattle.model_board.specs.Paths.{Path, path_eq}
-use Rattle.model_board.specs.Board.{Decl, endpoint, bridge, is_bridge, Row, Board, is_multifunction, IsBoard}
-use Rattle.model_board.specs.BusNumbers.{secondary, bus_behind, bus_of, Enumerates}
-use Rattle.model_board.specs.State.{State}
-use Rattle.model_board.specs.Cycles.{BusAddress}
-use Rattle.model_board.specs.Lawful.{HasLawfulDecls}
-use Rattle.model_set_up.specs.FunctionTable.{BusRange, TableRow, met_decl}
-use Rattle.model_set_up.specs.Scanning.{BusNumbers, scan_numbers, scan_state, IsBus, HasOwnNumbers}
-use Rattle.model_set_up.specs.ScanOrder.{nth_part, on, met}
+use Rattle.model_board.specs.{Paths.{Path, path_eq}, Board.{Decl, endpoint, bridge, is_bridge, Row, Board, is_multifunction, IsBoard}, BusNumbers.{secondary, bus_behind, bus_of, Enumerates}, State.State, Cycles.BusAddress, Lawful.HasLawfulDecls}
+use Rattle.model_set_up.specs.{FunctionTable.{BusRange, TableRow, met_decl}, Scanning.{BusNumbers, scan_numbers, scan_state, IsBus, HasOwnNumbers}, ScanOrder.{nth_part, on, met}}
 use Rattle.host_bridge.specs.HostState.{HostState}
-use Rattle.bus_scan.specs.declared.enumeration.Enumeration.{Enumeration}
-use Rattle.bus_scan.specs.declared.fault.Fault.{Fault}
-use Rattle.bus_scan.specs.declared.fault.Fault.TheVariants.{Buses, Memory}
-use Rattle.bus_scan.specs.declared.seen.Seen.{Seen}
-use Rattle.bus_scan.specs.Sights.{seen_of}
+use Rattle.bus_scan.specs.{declared.{enumeration.Enumeration.Enumeration, fault.Fault.{Fault, TheVariants.{Buses, Memory}}, seen.Seen.Seen}, Sights.seen_of}
 
 -- a bridge whose side is being scanned has the numbers that its registers hold
 abbrev pub range_of_numbers : BusNumbers → Decl → Option BusRange

@@ -5,8 +5,7 @@
 --         what begins before it
 --     bars_of      what begins at each of the six registers
 --     IsScannedRow, SizesRow      a row as a scan leaves it; and as sizing leaves it then
-use Rattle.std.specs.Prelude.{◌≡◌, List, [], ◌∷◌, ℕ, zero, suc, ◌+◌, Bool, false, ◌&&◌, ◌||◌, ◌==◌, if◌then◌else◌, Option, Some, None, map, slice_get, unwrap_or}
-use Rattle.std.specs.Option.{option_map_or}
+use Rattle.std.specs.{Prelude.{◌≡◌, List, [], ◌∷◌, ℕ, zero, suc, ◌+◌, Bool, false, ◌&&◌, ◌||◌, ◌==◌, if◌then◌else◌, Option, Some, None, map, slice_get, unwrap_or}, Option.option_map_or}
 use Rattle.model_registers.specs.Declarations.{Bar, Region, registers_of}
 use Rattle.lists.specs.Elements.{IsIn}
 use Rattle.model_board.specs.Board.{Board, Row}

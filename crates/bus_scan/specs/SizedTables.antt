@@ -1,9 +1,7 @@
 -- The table of a board as sizing leaves it: PCI Local Bus 3.0, chapter 6.2.5.1.
 --     IsTableOf b t      b is a lawful board that enumerates, and t tells what software finds of it
 use Rattle.std.specs.Prelude.{List, ◌≡◌}
-use Rattle.model_board.specs.Board.{Board, IsBoard}
-use Rattle.model_board.specs.BusNumbers.{Enumerates}
-use Rattle.model_board.specs.Lawful.{HasLawfulDecls}
+use Rattle.model_board.specs.{Board.{Board, IsBoard}, BusNumbers.Enumerates, Lawful.HasLawfulDecls}
 use Rattle.model_set_up.specs.FunctionTable.{TableRow, sized_table}
 
 pub record IsTableOf (b : Board) (t : List TableRow) : Type 0 where

@@ -1,19 +1,9 @@
 //! The scan of a board by configuration cycles (PCI-to-PCI Bridge Architecture 1.2, chapter 3.2.5).
 ghost use Rattle.std.specs.Prelude.{◌≡◌, ◌⊎◌, ◌<◌, ◌+◌, [], ◌∷◌, ◌++◌, length, IfOk, IfErr, MatchResult, IsTrue, Some, find, ℕ, ◌≤◌};
-ghost use Rattle.model_board.specs.Paths.{Path as PathValue, path_eq};
-ghost use Rattle.model_board.specs.Board.{Board, Row, is_bridge_at, is_multifunction, IsBoard};
-ghost use Rattle.model_board.specs.BusNumbers.{Enumerates, secondary};
-ghost use Rattle.model_board.specs.State.{state_of};
-ghost use Rattle.model_board.specs.Cycles.{reached};
-ghost use Rattle.model_set_up.specs.Scanning.{BusNumbers, numbered_file, numbered_state, IsNumbered, HasOwnNumbers};
-ghost use Rattle.model_set_up.specs.ScanOrder.{on, nth_part, next_part, met};
-ghost use Rattle.model_set_up.specs.FunctionTable.{TableRow, scanned_table};
-ghost use Rattle.model_board.specs.AtReset.{board_at, IsAtReset};
+ghost use Rattle.model_board.specs.{Paths.{Path as PathValue, path_eq}, Board.{Board, Row, is_bridge_at, is_multifunction, IsBoard}, BusNumbers.{Enumerates, secondary}, State.state_of, Cycles.reached, AtReset.{board_at, IsAtReset}};
+ghost use Rattle.model_set_up.specs.{Scanning.{BusNumbers, numbered_file, numbered_state, IsNumbered, HasOwnNumbers}, ScanOrder.{on, nth_part, next_part, met}, FunctionTable.{TableRow, scanned_table}};
 ghost use Rattle.paths.specs.BusAddresses.{bus_address_of};
-ghost use Rattle.bus_scan.specs.declared.fault.Fault.TheVariants.{Buses, Memory};
-ghost use Rattle.bus_scan.specs.Scans.{given, ComesTo, OnBus, IsBridgeThere, IsRefused};
-ghost use Rattle.bus_scan.specs.Sights.{seen_of};
-ghost use Rattle.bus_scan.specs.Rows.{decl_of, range_of};
+ghost use Rattle.bus_scan.specs.{declared.fault.Fault.TheVariants.{Buses, Memory}, Scans.{given, ComesTo, OnBus, IsBridgeThere, IsRefused}, Sights.seen_of, Rows.{decl_of, range_of}};
 
 use crate::bus_parts::{DEEPEST, PARTS, address, next_part, path_on};
 use crate::fault::Fault;

@@ -1,12 +1,8 @@
 //! What a function shows of itself to a scan: identity, header type and interrupt pin (PCI Local Bus
 //! 3.0, chapters 6.2.1 and 6.2.4).
 ghost use Rattle.std.specs.Prelude.{◌≡◌, ◌<◌, ◌/◌, ◌%◌, ◌^◌, Some, None};
-ghost use Rattle.model_board.specs.Paths.{Path};
-ghost use Rattle.model_board.specs.Board.{Board, is_multifunction};
-ghost use Rattle.model_board.specs.Cycles.{reached};
-ghost use Rattle.model_board.specs.Lawful.{IsLawfulDecl};
+ghost use Rattle.model_board.specs.{Paths.Path, Board.{Board, is_multifunction}, Cycles.reached, Lawful.IsLawfulDecl, State.BoardFunction};
 ghost use Rattle.model_set_up.specs.Scanning.{BusNumbers, numbered_file};
-ghost use Rattle.model_board.specs.State.{BoardFunction};
 ghost use Rattle.paths.specs.BusAddresses.{bus_address_of};
 ghost use Rattle.host_bridge.specs.HostState.{with_latch};
 ghost use Rattle.bus_scan.specs.Sights.{seen_of};

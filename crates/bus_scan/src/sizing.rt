@@ -1,17 +1,12 @@
 //! Kinds and sizes of regions and the decode of windows, by configuration cycles alone (PCI Local Bus
 //! 3.0, chapter 6.2.5.1; PCI-to-PCI Bridge Architecture 1.2, chapters 3.2.5.6 and 3.2.5.9).
 ghost use Rattle.std.specs.Prelude.{◌≡◌, ◌%◌, ◌<◌, IsFalse, IfSome, Some};
-ghost use Rattle.model_registers.specs.Declarations.{Bar, IsLawfulSize};
-ghost use Rattle.model_registers.specs.Sizing.{ShowsSize};
-ghost use Rattle.model_registers.specs.ByteEnables.{lanes};
+ghost use Rattle.model_registers.specs.{Declarations.{Bar, IsLawfulSize}, Sizing.ShowsSize, ByteEnables.lanes};
 ghost use Rattle.model_board.specs.AtReset.{board_at};
-ghost use Rattle.model_set_up.specs.Scanning.{IsNumbered};
-ghost use Rattle.model_set_up.specs.FunctionTable.{scanned_table, sized_table, board_in};
+ghost use Rattle.model_set_up.specs.{Scanning.IsNumbered, FunctionTable.{scanned_table, sized_table, board_in}};
 ghost use Rattle.headers.specs.Decodes.{io_decode_of, pref_decode_of};
 ghost use Rattle.paths.specs.BusAddresses.{bus_address_of};
-ghost use Rattle.bus_scan.specs.SizedTables.{IsTableOf};
-ghost use Rattle.bus_scan.specs.Probes.{mask_shown, TakesBack, IsEndpointReached, IsBridgeReached, regions_reached, io_reached, pref_reached};
-ghost use Rattle.bus_scan.specs.SizedRows.{bar_at, bars_of, is_upper_half, is_after_wide, IsScannedRow, SizesRow};
+ghost use Rattle.bus_scan.specs.{SizedTables.IsTableOf, Probes.{mask_shown, TakesBack, IsEndpointReached, IsBridgeReached, regions_reached, io_reached, pref_reached}, SizedRows.{bar_at, bars_of, is_upper_half, is_after_wide, IsScannedRow, SizesRow}};
 
 use crate::table::{Found, FunctionRow, FunctionTable};
 use bars::{BarDecl, size_of_mask};

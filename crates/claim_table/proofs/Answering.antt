@@ -1,27 +1,12 @@
 -- What a table answers, where its claims are those of the board.
-use Rattle.std.proofs.Common.{◌≡◌, ℕ, ◌+◌, ◌-◌, ◌≤◌, ◌<◌, Bool, true, false, cond, List, [], ◌∷◌, ◌++◌, length, get_or, Option, Some, None, refl, sym, ap, ap₂, ◌∙◌, subst, leb, ltb}
-use Rattle.std.specs.Prelude.{map, find, slice_get}
-use Rattle.std.specs.Option.{option_map}
-use Rattle.std.proofs.lemmas.List.{map-append}
-use Rattle.std.proofs.lemmas.Simd.{map-map}
-use Rattle.lists.specs.Elements.{Each, first_of_two, first_some}
-use Rattle.lists.proofs.EachLemmas.{each_parts, each_from_map}
+use Rattle.std.{proofs.{Common.{◌≡◌, ℕ, ◌+◌, ◌-◌, ◌≤◌, ◌<◌, Bool, true, false, cond, List, [], ◌∷◌, ◌++◌, length, get_or, Option, Some, None, refl, sym, ap, ap₂, ◌∙◌, subst, leb, ltb}, lemmas.{List.map-append, Simd.map-map, Bool.leb-true, Option.{slice_get_within, slice_get-get_or, unwrap_or-slice_get}}}, specs.{Prelude.{map, find, slice_get}, Option.option_map}}
+use Rattle.lists.{specs.Elements.{Each, first_of_two, first_some}, proofs.{EachLemmas.{each_parts, each_from_map}, Tests.left_true, FirstFound.{found_passes, each_found}}}
 use Rattle.model_registers.specs.Decoding.{Space, io, memory}
-use Rattle.model_board.specs.Paths.{Path}
-use Rattle.model_board.specs.State.{BoardFunction}
-use Rattle.model_board.specs.Claims.{Claim, claim_at, first_claim}
+use Rattle.model_board.specs.{Paths.Path, State.BoardFunction, Claims.{Claim, claim_at, first_claim}}
 use Rattle.bridge_forward.specs.Locating.{located_claim}
-use Rattle.std.proofs.lemmas.Bool.{leb-true}
-use Rattle.lists.proofs.Tests.{left_true}
-use Rattle.std.proofs.lemmas.Option.{slice_get_within, slice_get-get_or, unwrap_or-slice_get}
 use Rattle.model_set_up.specs.PlacedRegions.{claim_in}
-use Rattle.lists.proofs.FirstFound.{found_passes, each_found}
 use Rattle.host_bridge.specs.HostState.{HostState}
-use Rattle.claim_table.specs.declared.region_entry.RegionEntry.{RegionEntry}
-use Rattle.claim_table.specs.Tables.{TableEntry, table_claim, IsOfFunction, FitsTable}
-use Rattle.claim_table.specs.Entries.{lies_in, by_space, AreEntries, path_nth, table_entry, table_of}
-use Rattle.claim_table.specs.Fitting.{paths, nth_path}
-use Rattle.claim_table.proofs.Listing.{region_of}
+use Rattle.claim_table.{specs.{declared.region_entry.RegionEntry.RegionEntry, Tables.{TableEntry, table_claim, IsOfFunction, FitsTable}, Entries.{lies_in, by_space, AreEntries, path_nth, table_entry, table_of}, Fitting.{paths, nth_path}}, proofs.Listing.region_of}
 
 -- ---- the functions
 

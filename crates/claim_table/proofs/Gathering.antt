@@ -1,34 +1,12 @@
 -- The table of a board in order: its regions are the open ones, and its claims are those of the board.
-use Rattle.std.proofs.Common.{◌≡◌, ℕ, Option, suc, ◌+◌, ◌≤◌, ◌<◌, Bool, true, false, cond, List, [], ◌∷◌, ◌++◌, length, Some, refl, sym, ap, ap₂, ◌∙◌, subst, arith}
-use Rattle.std.specs.Prelude.{map, filter, slice_get, option_map, unwrap_or}
-use Rattle.std.proofs.lemmas.List.{map-append, length-map}
-use Rattle.std.proofs.lemmas.Simd.{map-map}
-use Rattle.std.proofs.lemmas.List.Elements.{filter-append}
-use Rattle.std.proofs.lemmas.Option.{slice_get-map}
-use Rattle.lists.specs.Elements.{Each}
-use Rattle.lists.proofs.EachLemmas.{each_append, each_map, each_of_map, each_filter}
-use Rattle.lists.proofs.Members.{each_from}
-use Rattle.model_registers.specs.Registers.{File}
-use Rattle.model_registers.specs.Declarations.{Kind, io_kind, mem32, mem64, least_size, Region, IsLawfulRegion}
-use Rattle.model_registers.specs.EndpointTable.{BaseAddress}
-use Rattle.model_registers.specs.Decoding.{Space, io, memory, space_of, same_space, opens_space, base_address, command_word}
-use Rattle.model_registers.proofs.HitRegions.{space_same}
-use Rattle.model_board.specs.Paths.{Path}
-use Rattle.model_board.specs.Board.{Decl, endpoint, bridge}
-use Rattle.model_board.specs.Lawful.{IsLawfulDecl, HasLawfulDecls}
-use Rattle.model_board.specs.State.{BoardFunction, row_at}
-use Rattle.model_board.specs.Routing.{Ranges, regions, windows, RoutingRow, row_of, routing}
+use Rattle.std.{proofs.{Common.{◌≡◌, ℕ, Option, suc, ◌+◌, ◌≤◌, ◌<◌, Bool, true, false, cond, List, [], ◌∷◌, ◌++◌, length, Some, refl, sym, ap, ap₂, ◌∙◌, subst, arith}, lemmas.{List.{map-append, length-map, Elements.filter-append}, Simd.map-map, Option.slice_get-map}}, specs.Prelude.{map, filter, slice_get, option_map, unwrap_or}}
+use Rattle.lists.{specs.Elements.Each, proofs.{EachLemmas.{each_append, each_map, each_of_map, each_filter}, Members.each_from}}
+use Rattle.model_registers.{specs.{Registers.File, Declarations.{Kind, io_kind, mem32, mem64, least_size, Region, IsLawfulRegion}, EndpointTable.BaseAddress, Decoding.{Space, io, memory, space_of, same_space, opens_space, base_address, command_word}}, proofs.HitRegions.space_same}
+use Rattle.model_board.specs.{Paths.Path, Board.{Decl, endpoint, bridge}, Lawful.{IsLawfulDecl, HasLawfulDecls}, State.{BoardFunction, row_at}, Routing.{Ranges, regions, windows, RoutingRow, row_of, routing}}
 use Rattle.model_set_up.specs.PlacedRegions.{PlacedRegion}
-use Rattle.model_findings.specs.OpenRegions.{region_now, open_of, open_regions}
-use Rattle.model_findings.specs.Orderly.{IsStateOfBoard, IsOrderly, HasClaimsOfRegions}
-use Rattle.model_findings.proofs.Claims.{orderly_claims}
+use Rattle.model_findings.{specs.{OpenRegions.{region_now, open_of, open_regions}, Orderly.{IsStateOfBoard, IsOrderly, HasClaimsOfRegions}}, proofs.Claims.orderly_claims}
 use Rattle.host_bridge.specs.HostState.{HostState}
-use Rattle.claim_table.specs.declared.region_entry.RegionEntry.{RegionEntry}
-use Rattle.claim_table.specs.Tables.{table_claim, FitsTable, IsOfFunction}
-use Rattle.claim_table.specs.Entries.{entry_for, of_space, open_at, open_entries, AreEntries, path_nth, table_entry, table_of}
-use Rattle.claim_table.specs.Fitting.{paths, fits_by_routing}
-use Rattle.claim_table.proofs.Listing.{region_of, is_of, IsSortedOf, AreGathered, entries_are, claims_listed}
-use Rattle.claim_table.proofs.Answering.{of_functions}
+use Rattle.claim_table.{specs.{declared.region_entry.RegionEntry.RegionEntry, Tables.{table_claim, FitsTable, IsOfFunction}, Entries.{entry_for, of_space, open_at, open_entries, AreEntries, path_nth, table_entry, table_of}, Fitting.{paths, fits_by_routing}}, proofs.{Listing.{region_of, is_of, IsSortedOf, AreGathered, entries_are, claims_listed}, Answering.of_functions}}
 
 pub paths_read : {A : Type 0} (path : A → Path) (rows : List A) (j : ℕ) (r : A) → slice_get rows j ≡ Some r → path_nth (map path rows) j ≡ path r
 paths_read path rows j r e = ap (λ (o : Option Path). unwrap_or o []) (slice_get-map path rows j ∙ ap (option_map path) e)

@@ -1,23 +1,12 @@
 -- Some regions that share no address, as a table lists them: its entries stand apart, and its claims are theirs.
 --     region_of, is_of      the region of an entry; whether a region lies in a space
 --     IsSortedOf es fs      fs has the entries es, by first address
-use Rattle.std.proofs.Common.{◌≡◌, ℕ, ◌<◌, ◌⊎◌, inl, inr, Bool, true, List, ◌++◌, length, sym, ap, ap₂, ◌∙◌, subst, arith}
-use Rattle.std.specs.Prelude.{map, filter, ◌↔◌}
-use Rattle.std.specs.List.Sorted.{IsPermutation, IsNonDecreasingBy}
-use Rattle.std.proofs.lemmas.List.{map-append}
-use Rattle.std.proofs.lemmas.Simd.{map-map}
-use Rattle.lists.specs.Elements.{Each, EachPair, first_some, IsIn}
-use Rattle.lists.proofs.EachLemmas.{each_permutation, pairs_map, pairs_filter, each_filter, each_from_map, pairs_from_map}
-use Rattle.lists.proofs.Members.{in_front, in_back, front_or_back, in_map, from_map, in_filter, from_filter}
+use Rattle.std.{proofs.{Common.{◌≡◌, ℕ, ◌<◌, ◌⊎◌, inl, inr, Bool, true, List, ◌++◌, length, sym, ap, ap₂, ◌∙◌, subst, arith}, lemmas.{List.map-append, Simd.map-map}}, specs.{Prelude.{map, filter, ◌↔◌}, List.Sorted.{IsPermutation, IsNonDecreasingBy}}}
+use Rattle.lists.{specs.Elements.{Each, EachPair, first_some, IsIn}, proofs.{EachLemmas.{each_permutation, pairs_map, pairs_filter, each_filter, each_from_map, pairs_from_map}, Members.{in_front, in_back, front_or_back, in_map, from_map, in_filter, from_filter}}}
 use Rattle.model_registers.specs.Decoding.{Space, io, memory, same_space}
 use Rattle.model_board.specs.Paths.{Path}
-use Rattle.model_set_up.specs.PlacedRegions.{PlacedRegion, claim_in}
-use Rattle.model_set_up.specs.UniqueClaimant.{ShareNone}
-use Rattle.model_set_up.proofs.Holders.{self_space, same_members}
-use Rattle.claim_table.specs.declared.region_entry.RegionEntry.{RegionEntry}
-use Rattle.claim_table.specs.Tables.{TableEntry, table_claim}
-use Rattle.claim_table.specs.Entries.{AreEntries, table_entry, table_of}
-use Rattle.claim_table.proofs.Sorting.{moved, moved_back, Disjoint, sorted_apart}
+use Rattle.model_set_up.{specs.{PlacedRegions.{PlacedRegion, claim_in}, UniqueClaimant.ShareNone}, proofs.Holders.{self_space, same_members}}
+use Rattle.claim_table.{specs.{declared.region_entry.RegionEntry.RegionEntry, Tables.{TableEntry, table_claim}, Entries.{AreEntries, table_entry, table_of}}, proofs.Sorting.{moved, moved_back, Disjoint, sorted_apart}}
 
 abbrev pub region_of : List Path → Space → RegionEntry → PlacedRegion
 region_of ps space e = (table_entry ps space e).region

@@ -1,9 +1,7 @@
 -- A board that is set up is in order.
 use Rattle.std.proofs.Common.{sym, subst}
-use Rattle.model_board.specs.State.{State}
-use Rattle.model_board.specs.Routing.{routing}
-use Rattle.model_findings.specs.Orderly.{IsOrderly, IsStateOfBoard}
-use Rattle.model_findings.proofs.SetUpPasses.{set_up_orderly}
+use Rattle.model_board.specs.{State.State, Routing.routing}
+use Rattle.model_findings.{specs.Orderly.{IsOrderly, IsStateOfBoard}, proofs.SetUpPasses.set_up_orderly}
 use Rattle.window_packing.specs.Readies.{ReadyBoard, board_below, IsReady}
 
 pub ready_state : (r : ReadyBoard) → IsReady r → IsStateOfBoard r.host.state.functions

@@ -1,12 +1,7 @@
 -- The search for the region that holds an address, among regions by address.
-use Rattle.std.proofs.Common.{◌≡◌, ℕ, zero, suc, ◌+◌, ◌-◌, ◌≤◌, ◌<◌, Bool, true, false, cond, List, [], ◌∷◌, length, get_or, Some, None, refl, ap, ◌∙◌, arith, leb, ltb}
-use Rattle.std.specs.Prelude.{find, slice_get}
-use Rattle.std.specs.List.Sorted.{IsPartitionPoint, IsPartitionedBy}
-use Rattle.std.proofs.lemmas.Bool.{and_right, leb-true, le-leb, le-ltb, lt-ltb}
-use Rattle.std.proofs.lemmas.Option.{slice_get_within, slice_get-get_or, get_or_from_slice_get}
+use Rattle.std.{proofs.{Common.{◌≡◌, ℕ, zero, suc, ◌+◌, ◌-◌, ◌≤◌, ◌<◌, Bool, true, false, cond, List, [], ◌∷◌, length, get_or, Some, None, refl, ap, ◌∙◌, arith, leb, ltb}, lemmas.{Bool.{and_right, leb-true, le-leb, le-ltb, lt-ltb}, Option.{slice_get_within, slice_get-get_or, get_or_from_slice_get}}}, specs.{Prelude.{find, slice_get}, List.Sorted.{IsPartitionPoint, IsPartitionedBy}}}
 use Rattle.lists.specs.Elements.{Each}
-use Rattle.claim_table.specs.declared.region_entry.RegionEntry.{RegionEntry}
-use Rattle.claim_table.specs.Entries.{lies_in, AreApart}
+use Rattle.claim_table.specs.{declared.region_entry.RegionEntry.RegionEntry, Entries.{lies_in, AreApart}}
 
 abbrev pub begins_by : ℕ → RegionEntry → Bool
 begins_by n e = leb e.first n

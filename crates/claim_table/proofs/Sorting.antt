@@ -1,16 +1,7 @@
 -- Regions that share no address, sorted by first address, stand apart.
-use Rattle.std.proofs.Common.{◌≡◌, suc, ◌+◌, ◌≤◌, ◌<◌, ◌⊎◌, inl, inr, Bool, true, false, ◌||◌, List, [], ◌∷◌, refl, ◌∙◌, arith, leb}
-use Rattle.std.specs.Prelude.{not}
-use Rattle.std.specs.List.{IsDistinct, AllByRecursion}
-use Rattle.std.specs.List.Sorted.{IsPermutation, IsNonDecreasingBy}
-use Rattle.std.proofs.lemmas.Bool.{leb-true, le-leb, not-false, or_cases}
-use Rattle.std.proofs.lemmas.List.Sorted.{IsPermutation-sym}
-use Rattle.std.proofs.lemmas.Map.Keys.{IsDistinct-IsPermutation}
-use Rattle.lists.specs.Elements.{Each, EachPair, IsIn}
-use Rattle.lists.proofs.EachLemmas.{each-all, each_permutation}
-use Rattle.lists.proofs.Members.{each_in, each_from}
-use Rattle.claim_table.specs.declared.region_entry.RegionEntry.{RegionEntry}
-use Rattle.claim_table.specs.Entries.{AreApart}
+use Rattle.std.{proofs.{Common.{◌≡◌, suc, ◌+◌, ◌≤◌, ◌<◌, ◌⊎◌, inl, inr, Bool, true, false, ◌||◌, List, [], ◌∷◌, refl, ◌∙◌, arith, leb}, lemmas.{Bool.{leb-true, le-leb, not-false, or_cases}, List.Sorted.IsPermutation-sym, Map.Keys.IsDistinct-IsPermutation}}, specs.{Prelude.not, List.{IsDistinct, AllByRecursion, Sorted.{IsPermutation, IsNonDecreasingBy}}}}
+use Rattle.lists.{specs.Elements.{Each, EachPair, IsIn}, proofs.{EachLemmas.{each-all, each_permutation}, Members.{each_in, each_from}}}
+use Rattle.claim_table.specs.{declared.region_entry.RegionEntry.RegionEntry, Entries.AreApart}
 
 pub moved : {A : Type 0} (xs ys : List A) → IsPermutation xs ys → (x : A) → IsIn x ys → IsIn x xs
 moved xs ys perm x m = each_in (λ y. IsIn y xs) x ys (each_permutation (λ y. IsIn y xs) xs ys perm (each_from (λ y. IsIn y xs) xs (λ y k. k))) m

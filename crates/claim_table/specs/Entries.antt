@@ -7,12 +7,9 @@
 --     table_entry, table_of      entries with their space and the paths of their functions
 use Rattle.std.specs.Prelude.{List, [], ◌∷◌, ◌++◌, ℕ, ◌+◌, ◌<◌, ◌≤◌, Bool, ◌&&◌, nat_le, nat_lt, if◌then◌else◌, map, filter, length, unwrap_or, slice_get}
 use Rattle.lists.specs.Elements.{Each, EachPair}
-use Rattle.model_registers.specs.Decoding.{Space, io, memory, space_of, same_space, opens_space}
-use Rattle.model_registers.specs.EndpointTable.{BaseAddress}
-use Rattle.model_board.specs.Paths.{Path}
-use Rattle.model_board.specs.Routing.{RoutingRow, regions, windows}
-use Rattle.claim_table.specs.declared.region_entry.RegionEntry.{RegionEntry}
-use Rattle.claim_table.specs.Tables.{TableEntry}
+use Rattle.model_registers.specs.{Decoding.{Space, io, memory, space_of, same_space, opens_space}, EndpointTable.BaseAddress}
+use Rattle.model_board.specs.{Paths.Path, Routing.{RoutingRow, regions, windows}}
+use Rattle.claim_table.specs.{declared.region_entry.RegionEntry.RegionEntry, Tables.TableEntry}
 
 abbrev pub entry_for : ℕ → BaseAddress → RegionEntry
 entry_for i x = record { first = x.base; size = x.size; function = i; region = x.index }

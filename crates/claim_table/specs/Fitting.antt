@@ -1,14 +1,7 @@
 -- A table fits by the routing registers alone.
-use Rattle.std.proofs.Common.{◌≡◌, ℕ, List, sym, ap, ◌∙◌}
-use Rattle.std.specs.Prelude.{map, slice_get}
-use Rattle.std.specs.Option.{option_map}
-use Rattle.std.proofs.lemmas.Option.{slice_get-map}
-use Rattle.std.proofs.lemmas.Simd.{map-map}
+use Rattle.std.{proofs.{Common.{◌≡◌, ℕ, List, sym, ap, ◌∙◌}, lemmas.{Option.slice_get-map, Simd.map-map}}, specs.{Prelude.{map, slice_get}, Option.option_map}}
 use Rattle.lists.proofs.EachLemmas.{each_map}
-use Rattle.model_board.specs.Paths.{Path}
-use Rattle.model_board.specs.State.{BoardFunction}
-use Rattle.model_board.specs.Routing.{RoutingRow, routing}
-use Rattle.model_board.proofs.Routing.{same_claims}
+use Rattle.model_board.{specs.{Paths.Path, State.BoardFunction, Routing.{RoutingRow, routing}}, proofs.Routing.same_claims}
 use Rattle.host_bridge.specs.HostState.{HostState}
 use Rattle.claim_table.specs.Tables.{TableEntry, IsOfFunction, FitsTable}
 

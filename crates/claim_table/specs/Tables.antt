@@ -3,12 +3,10 @@
 --     TableEntry      a placed region, with the index of its function in the list of the board's functions
 --     table_claim t space n      the claim of the region of a table that holds an address
 --     FitsTable t h      the table has the claims of a host, and its indices are those of the host's functions
-use Rattle.std.specs.Prelude.{List, ◌≡◌, ℕ, Option, Some, map, slice_get}
-use Rattle.std.specs.Option.{option_map}
+use Rattle.std.specs.{Prelude.{List, ◌≡◌, ℕ, Option, Some, map, slice_get}, Option.option_map}
 use Rattle.lists.specs.Elements.{Each, first_some}
 use Rattle.model_registers.specs.Decoding.{Space}
-use Rattle.model_board.specs.State.{BoardFunction}
-use Rattle.model_board.specs.Claims.{Claim, first_claim}
+use Rattle.model_board.specs.{State.BoardFunction, Claims.{Claim, first_claim}}
 use Rattle.model_set_up.specs.PlacedRegions.{PlacedRegion, claim_in}
 use Rattle.host_bridge.specs.HostState.{HostState}
 

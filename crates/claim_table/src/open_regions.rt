@@ -1,12 +1,10 @@
 //! The open regions of a board in one space, in the order of their addresses.
-ghost use Rattle.std.specs.Prelude.{◌≡◌, ◌++◌, map, IfOk, OnOk};
-ghost use Rattle.std.specs.List.Sorted.{IsPermutation, IsNonDecreasingBy};
+ghost use Rattle.std.specs.{Prelude.{◌≡◌, ◌++◌, map, IfOk, OnOk}, List.Sorted.{IsPermutation, IsNonDecreasingBy}};
 ghost use Rattle.lists.specs.Texts.{Adds};
 ghost use Rattle.bars.specs.Kinds.{named_space};
 ghost use Rattle.model_registers.specs.Decoding.{opens_space};
 ghost use Rattle.bridge_forward.specs.RoutingRows.{base_of};
-ghost use Rattle.claim_table.specs.declared.region_entry.RegionEntry.{RegionEntry as EntryValue};
-ghost use Rattle.claim_table.specs.Entries.{entry_for, of_space, open_at, open_entries};
+ghost use Rattle.claim_table.specs.{declared.region_entry.RegionEntry.RegionEntry as EntryValue, Entries.{entry_for, of_space, open_at, open_entries}};
 
 use crate::region_entry::RegionEntry;
 use bars::Space;

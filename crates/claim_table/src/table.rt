@@ -22,8 +22,7 @@ pub struct Table {
 
 impl Model for Table {
     ghost use Rattle.std.specs.Prelude.{List};
-    ghost use Rattle.claim_table.specs.Tables.{TableEntry};
-    ghost use Rattle.claim_table.specs.Entries.{table_of, AreEntries};
+    ghost use Rattle.claim_table.specs.{Tables.TableEntry, Entries.{table_of, AreEntries}};
 
     ghost Value = { List TableEntry };
 
@@ -76,8 +75,7 @@ impl Table {
 }
 
 impl Route for Table {
-    ghost use Rattle.claim_table.specs.Tables.{FitsTable};
-    ghost use Rattle.claim_table.specs.Fitting.{fits_by_routing};
+    ghost use Rattle.claim_table.specs.{Tables.FitsTable, Fitting.fits_by_routing};
 
     ghost fits = { FitsTable };
 

@@ -1,15 +1,8 @@
 -- The first word that the command line refuses, word by word.
-use Rattle.std.proofs.Common.{◌≡◌, ◌+◌, ◌<◌, ◌++◌, ℕ, Bool, true, false, cond, List, [], ◌∷◌, Some, Result, Ok, Err, take, drop, map, length, get_or, inl, inr, refl, sym, ap, ◌∙◌, arith, zero, suc}
-use Rattle.std.specs.Prelude.{◌≢◌, IfOk}
-use Rattle.std.specs.Borrow.{Bor}
-use Rattle.std.proofs.lemmas.List.{drop_more, get_or_default, length-map, take-map, take_more}
-use Rattle.clap.specs.Kinds.{Kinds, HasKind, IsAmong}
-use Rattle.clap.specs.Values.{kind_of}
-use Rattle.clap.specs.declared.error.Error.{Error}
-use Rattle.clap.specs.declared.error.kind.ErrorKind.{ErrorKind}
+use Rattle.std.{proofs.{Common.{◌≡◌, ◌+◌, ◌<◌, ◌++◌, ℕ, Bool, true, false, cond, List, [], ◌∷◌, Some, Result, Ok, Err, take, drop, map, length, get_or, inl, inr, refl, sym, ap, ◌∙◌, arith, zero, suc}, lemmas.List.{drop_more, get_or_default, length-map, take-map, take_more}}, specs.{Prelude.{◌≢◌, IfOk}, Borrow.Bor}}
+use Rattle.clap.specs.{Kinds.{Kinds, HasKind, IsAmong}, Values.kind_of, declared.error.{Error.Error, kind.ErrorKind.ErrorKind}}
+use Rattle.command_line.specs.{declared.choice.WordsFault.WordsFault, Usage.{is_begun, is_free, refused_after}}
 use Rattle.clap.specs.declared.error.kind.ErrorKind.TheVariants as kind
-use Rattle.command_line.specs.declared.choice.WordsFault.{WordsFault}
-use Rattle.command_line.specs.Usage.{is_begun, is_free, refused_after}
 
 -- a kind of fault is one
 not_free : (kinds : Kinds) (k : ErrorKind) → IsAmong k kinds → is_free kinds ≡ false

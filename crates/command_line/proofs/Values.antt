@@ -1,23 +1,7 @@
 -- The first value of an argument, by the rows of a parse.
-use Rattle.std.proofs.Common.{◌≡◌, ◌⊎◌, inl, inr, ℕ, Bool, true, false, cond, List, [], ◌∷◌, Option, Some, None, map, refl, sym, ap, ◌∙◌}
-use Rattle.std.specs.Prelude.{option_map, option_and_then, find, slice_get, unwrap_or, codes, Box}
-use Rattle.std.specs.Box.{box_value}
-use Rattle.std.specs.Borrow.{Bor}
-use Rattle.std.specs.Str.{bytes_eq}
-use Rattle.clap.specs.declared.parser.matches.MatchedArg.{MatchedArg}
-use Rattle.clap.specs.declared.parser.matches.Found.{Found}
-use Rattle.clap.specs.Walk.{Row, rows_of, row_of, stop_after}
-use Rattle.clap.specs.Matches.{first_value, subcommand_name_of}
-use Rattle.clap.specs.Simple.{Shape, argument_words, built, entered, names_of, rows_at, subcommand_rows, subcommand_rows_of, subcommand_of}
-use Rattle.clap.specs.Faults.{is_simple_and_free}
-use Rattle.clap.proofs.OnLiterals.{clap_on_literals}
-use Rattle.clap.specs.declared.parser.matches.ArgMatches.{ArgMatches}
-use Rattle.clap.specs.declared.parser.matches.ArgMatches.TheViews.{out-ArgMatches, out-SubCommand}
-use Rattle.clap.specs.declared.parser.matches.SubCommand.{SubCommand}
-use Rattle.command_line.specs.Words.{pciguest_app, is_taken, subcommand, value, value_in}
-use Rattle.command_line.specs.Choices.{is_json, is_all, is_plain, is_strict, is_true, board_in, IsAskedBy, IsNoCommand}
-use Rattle.command_line.specs.declared.choice.Choice.{Choice}
-use Rattle.command_line.specs.declared.choice.Choice.TheVariants.{Help, Demo, List as Lists, Check, Run, Firmware, Audit, Ready}
+use Rattle.std.{proofs.Common.{◌≡◌, ◌⊎◌, inl, inr, ℕ, Bool, true, false, cond, List, [], ◌∷◌, Option, Some, None, map, refl, sym, ap, ◌∙◌}, specs.{Prelude.{option_map, option_and_then, find, slice_get, unwrap_or, codes, Box}, Box.box_value, Borrow.Bor, Str.bytes_eq}}
+use Rattle.clap.{specs.{declared.parser.matches.{MatchedArg.MatchedArg, Found.Found, ArgMatches.{ArgMatches, TheViews.{out-ArgMatches, out-SubCommand}}, SubCommand.SubCommand}, Walk.{Row, rows_of, row_of, stop_after}, Matches.{first_value, subcommand_name_of}, Simple.{Shape, argument_words, built, entered, names_of, rows_at, subcommand_rows, subcommand_rows_of, subcommand_of}, Faults.is_simple_and_free}, proofs.OnLiterals.clap_on_literals}
+use Rattle.command_line.specs.{Words.{pciguest_app, is_taken, subcommand, value, value_in}, Choices.{is_json, is_all, is_plain, is_strict, is_true, board_in, IsAskedBy, IsNoCommand}, declared.choice.Choice.{Choice, TheVariants.{Help, Demo, List as Lists, Check, Run, Firmware, Audit, Ready}}}
 
 -- the command line is one of which all is known that a parse may answer
 pub simple : is_simple_and_free pciguest_app ≡ true

@@ -8,12 +8,8 @@
 --     IsAsked words is_terminal choice      the choice is the subcommand that the words name
 --     IsNoCommand name      the program has no subcommand of this name
 --     IsHelp, IsWork choice      the choice is help, or is none
-use Rattle.std.specs.Prelude.{◌≡◌, ◌≢◌, ℕ, Bool, false, not, ◌||◌, List, [], Option, None, Some, codes, unwrap_or}
-use Rattle.std.specs.Option.{option_map_or}
-use Rattle.std.specs.Str.{bytes_eq}
-use Rattle.command_line.specs.Words.{subcommand, value}
-use Rattle.command_line.specs.declared.choice.Choice.{Choice}
-use Rattle.command_line.specs.declared.choice.Choice.TheVariants.{Help, Demo, List as Lists, Check, Run, Firmware, Audit, Ready}
+use Rattle.std.specs.{Prelude.{◌≡◌, ◌≢◌, ℕ, Bool, false, not, ◌||◌, List, [], Option, None, Some, codes, unwrap_or}, Option.option_map_or, Str.bytes_eq}
+use Rattle.command_line.specs.{Words.{subcommand, value}, declared.choice.Choice.{Choice, TheVariants.{Help, Demo, List as Lists, Check, Run, Firmware, Audit, Ready}}}
 
 abbrev pub is_true : Option (List ℕ) → Bool
 is_true given = option_map_or (λ t. bytes_eq t (codes "true")) given false

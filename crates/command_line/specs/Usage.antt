@@ -4,11 +4,8 @@
 --     refused_after before rest      the first of `rest` with which the words before it are not begun
 --     refused_word words      so too after the program's name
 --     taken_by name, words_taken words      what the program's name may be followed by, for the subcommand that follows it
-use Rattle.std.specs.Prelude.{ℕ, ◌++◌, ◌||◌, Bool, true, false, List, [], ◌∷◌, Option, None, Some, codes, take, drop, slice_get, if◌then◌else◌}
-use Rattle.std.specs.Option.{option_map_or}
-use Rattle.std.specs.Str.{bytes_eq}
-use Rattle.clap.specs.Kinds.{Kinds}
-use Rattle.clap.specs.Faults.{fault_of}
+use Rattle.std.specs.{Prelude.{ℕ, ◌++◌, ◌||◌, Bool, true, false, List, [], ◌∷◌, Option, None, Some, codes, take, drop, slice_get, if◌then◌else◌}, Option.option_map_or, Str.bytes_eq}
+use Rattle.clap.specs.{Kinds.Kinds, Faults.fault_of}
 use Rattle.command_line.specs.Words.{pciguest_app}
 
 abbrev pub is_free : Kinds → Bool

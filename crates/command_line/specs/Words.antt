@@ -5,12 +5,8 @@
 --     is_taken words      the command line takes these words, the program's name among them
 --     subcommand words      the subcommand that they name
 --     value words id      what they give first for one of its arguments
-use Rattle.std.specs.Prelude.{ℕ, Bool, true, List, [], ◌∷◌, Option, Some, codes, option_map, option_and_then, find, slice_get}
-use Rattle.std.specs.Str.{bytes_eq}
-use Rattle.clap.specs.declared.builder.action.ArgAction.TheVariants.{SetTrue}
-use Rattle.clap.specs.Walk.{Row, Rule}
-use Rattle.clap.specs.Simple.{App, Shape, new_app, new_rule, new_shape, with_subcommand, on_top, subcommand_of}
-use Rattle.clap.specs.Takes.{takes}
+use Rattle.std.specs.{Prelude.{ℕ, Bool, true, List, [], ◌∷◌, Option, Some, codes, option_map, option_and_then, find, slice_get}, Str.bytes_eq}
+use Rattle.clap.specs.{declared.builder.action.ArgAction.TheVariants.SetTrue, Walk.{Row, Rule}, Simple.{App, Shape, new_app, new_rule, new_shape, with_subcommand, on_top, subcommand_of}, Takes.takes}
 
 abbrev pub board_rule : Rule
 board_rule = record (new_rule (codes "board")) { required = true }

@@ -1,11 +1,7 @@
 //! What the words of the command line ask for.
-ghost use Rattle.std.specs.Prelude.{◌≡◌, ◌⊎◌, Some, [], true, false, map, option_map, IfOk, IfErr, IfSome, IfNone, Err, MatchResult};
-ghost use Rattle.std.specs.Bool.{OnTrue};
-ghost use Rattle.clap.specs.Faults.{fault_of};
-ghost use Rattle.clap.specs.Matches.{first_value, found_of};
-ghost use Rattle.clap.specs.Values.{kind_of};
-ghost use Rattle.command_line.specs.Words.{pciguest_app, is_taken};
-ghost use Rattle.command_line.specs.Choices.{is_true, board_path, IsAsked, IsAskedBy, IsNoCommand, IsWork, IsHelp};
+ghost use Rattle.std.specs.{Prelude.{◌≡◌, ◌⊎◌, Some, [], true, false, map, option_map, IfOk, IfErr, IfSome, IfNone, Err, MatchResult}, Bool.OnTrue};
+ghost use Rattle.clap.specs.{Faults.fault_of, Matches.{first_value, found_of}, Values.kind_of};
+ghost use Rattle.command_line.specs.{Words.{pciguest_app, is_taken}, Choices.{is_true, board_path, IsAsked, IsAskedBy, IsNoCommand, IsWork, IsHelp}};
 
 use crate::commands::command;
 use clap::error::ErrorKind;

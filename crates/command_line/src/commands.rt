@@ -1,11 +1,7 @@
 //! The command line, as `clap` reads it.
 ghost use Rattle.std.specs.Prelude.{◌≡◌, false, codes, IfOk};
-ghost use Rattle.clap.specs.declared.builder.command.Command.TheViews.{out-Command as fields_of};
-ghost use Rattle.clap.specs.Simple.{app_of, shape_of, new_shape};
-ghost use Rattle.clap.specs.Walk.{rule_of};
-ghost use Rattle.command_line.specs.Words.{board_rule, json_rule, all_rule, plain_rule, strict_rule, list_shape, check_shape, run_shape, firmware_shape, audit_shape, ready_shape};
-ghost use Rattle.command_line.specs.Words.{demo_and_list_app, with_check_app, with_run_app};
-ghost use Rattle.command_line.specs.Words.{with_firmware_app, with_audit_app, pciguest_app};
+ghost use Rattle.clap.specs.{declared.builder.command.Command.TheViews.out-Command as fields_of, Simple.{app_of, shape_of, new_shape}, Walk.rule_of};
+ghost use Rattle.command_line.specs.Words.{board_rule, json_rule, all_rule, plain_rule, strict_rule, list_shape, check_shape, run_shape, firmware_shape, audit_shape, ready_shape, demo_and_list_app, with_check_app, with_run_app, with_firmware_app, with_audit_app, pciguest_app};
 
 use clap::{Arg, ArgAction, Command};
 use std::alloc::{AllocError, Global};

@@ -1,10 +1,7 @@
 -- The test of distinct offsets.
-use Rattle.std.proofs.Common.{◌≡◌, ◌≢◌, ℕ, true, not, ◌&&◌, List, [], ◌∷◌, refl, ap, ap₂, arith}
-use Rattle.std.specs.List.{list_all}
-use Rattle.std.proofs.lemmas.Bool.{ne_eqb, eq-eqb}
-use Rattle.lists.specs.Elements.{Each, all_pairs}
+use Rattle.std.{proofs.{Common.{◌≡◌, ◌≢◌, ℕ, true, not, ◌&&◌, List, [], ◌∷◌, refl, ap, ap₂, arith}, lemmas.Bool.{ne_eqb, eq-eqb}}, specs.List.list_all}
+use Rattle.lists.{specs.Elements.{Each, all_pairs}, proofs.Tests.{left_true, right_true}}
 use Rattle.model_registers.specs.Cell.{Cell}
-use Rattle.lists.proofs.Tests.{left_true, right_true}
 use Rattle.config_bytes.specs.CellFile.{HasDistinctOffsets, differ}
 
 pub all_differ : (c : ℕ × Cell) (cs : List (ℕ × Cell)) → list_all (differ c) cs ≡ true → Each (λ d. c.0 ≢ d.0) cs

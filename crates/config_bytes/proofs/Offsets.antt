@@ -1,10 +1,8 @@
 -- Lists of offsets with cells: that no two stand at one offset, and the files that they are.
 use Rattle.std.proofs.Common.{◌≢◌, ℕ, ◌+◌, ◌<◌, ◌≤◌, List, [], ◌∷◌, ◌++◌, refl, ap, arith}
 use Rattle.lists.specs.Elements.{Each}
-use Rattle.model_registers.specs.Cell.{Cell}
-use Rattle.model_registers.specs.Registers.{config, File}
-use Rattle.config_bytes.specs.CellFile.{HasDistinctOffsets}
-use Rattle.config_bytes.specs.OffsetLaws.{FileOfAppend, FileOfOffsets, WithinWider, WithinAppend, WithinOffsets, DistinctAppend, DistinctPush, DistinctOffsets}
+use Rattle.model_registers.specs.{Cell.Cell, Registers.{config, File}}
+use Rattle.config_bytes.specs.{CellFile.HasDistinctOffsets, OffsetLaws.{FileOfAppend, FileOfOffsets, WithinWider, WithinAppend, WithinOffsets, DistinctAppend, DistinctPush, DistinctOffsets}}
 
 pub file_of-append : FileOfAppend
 file_of-append [] ys = refl

@@ -1,13 +1,8 @@
 -- A table into which the cells of a list are put, but for those at the offsets of a range.
-use Rattle.std.proofs.Common.{◌≡◌, ℕ, ◌<◌, ◌++◌, Bool, true, false, cond, eqb, List, [], ◌∷◌, length, take, drop, refl, sym, ap, ap₂, ◌∙◌, subst, arith}
-use Rattle.std.proofs.Math.ListN.{set}
-use Rattle.std.proofs.lemmas.Bool.{eqb-true, eqb-false}
-use Rattle.std.proofs.lemmas.List.{length-set, get_or-set_same, get_or-set_other, take_at}
+use Rattle.std.proofs.{Common.{◌≡◌, ℕ, ◌<◌, ◌++◌, Bool, true, false, cond, eqb, List, [], ◌∷◌, length, take, drop, refl, sym, ap, ap₂, ◌∙◌, subst, arith}, Math.ListN.set, lemmas.{Bool.{eqb-true, eqb-false}, List.{length-set, get_or-set_same, get_or-set_other, take_at}}}
 use Rattle.lists.specs.Elements.{Each}
-use Rattle.model_registers.specs.Cell.{Cell, no_cell}
-use Rattle.model_registers.specs.Registers.{config, File, cell_at}
-use Rattle.config_bytes.specs.CellFile.{is_between, reset_outside, file_of, file_from, table_at, placed, placed_outside, IsTable}
-use Rattle.config_bytes.proofs.Tables.{HasGaps-table, IsTable-placed, file_from-placed}
+use Rattle.model_registers.specs.{Cell.{Cell, no_cell}, Registers.{config, File, cell_at}}
+use Rattle.config_bytes.{specs.CellFile.{is_between, reset_outside, file_of, file_from, table_at, placed, placed_outside, IsTable}, proofs.Tables.{HasGaps-table, IsTable-placed, file_from-placed}}
 
 module _ (first last : ℕ) where
   abbrev stays : ℕ → Bool

@@ -1,10 +1,5 @@
 -- Shifts by whole bytes, and masks of whole bytes.
-use Rattle.std.proofs.lemmas.Grind.{common_steps}
-use Rattle.std.proofs.Common.{◌≡◌, ℕ, zero, suc, ◌+◌, ◌-◌, ◌*◌, ◌/◌, ◌%◌, ◌^◌, ◌≤◌, refl, sym, ap, ◌∙◌, arith}
-use Rattle.std.specs.Prelude.{bit_and}
-use Rattle.std.proofs.Math.Nat.{pow-suc, one-le-pow}
-use Rattle.std.proofs.Math.Pow.{shl_exact, pow-add}
-use Rattle.std.proofs.lemmas.Nat.{and_mask}
+use Rattle.std.{proofs.{lemmas.{Grind.common_steps, Nat.and_mask}, Common.{◌≡◌, ℕ, zero, suc, ◌+◌, ◌-◌, ◌*◌, ◌/◌, ◌%◌, ◌^◌, ◌≤◌, refl, sym, ap, ◌∙◌, arith}, Math.{Nat.{pow-suc, one-le-pow}, Pow.{shl_exact, pow-add}}}, specs.Prelude.bit_and}
 use Rattle.model_registers.specs.ByteEnables.{LiesInWord, enables_of, into_lanes, from_lanes}
 
 pub byte_power : (k : ℕ) → 2 ^ (8 * k) ≡ 256 ^ k

@@ -1,8 +1,7 @@
 -- What a table of cells shows are bytes.
 use Rattle.std.proofs.Common.{◌≡◌, ◌<◌, ℕ, zero, suc, List, [], ◌∷◌, subst, arith}
 use Rattle.lists.specs.Elements.{Each}
-use Rattle.model_registers.specs.Cell.{Cell, IsCell}
-use Rattle.model_registers.specs.AccessLaws.{HoldsBytes}
+use Rattle.model_registers.specs.{Cell.{Cell, IsCell}, AccessLaws.HoldsBytes}
 use Rattle.config_bytes.specs.CellFile.{CellFile, file_from, file_of, table_at}
 
 at_bytes : (table : List Cell) (off : ℕ) → Each IsCell table → (table_at table off).value < 256

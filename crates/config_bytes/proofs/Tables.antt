@@ -1,16 +1,8 @@
 -- Tables of cells by offset, and the files that they show.
-use Rattle.std.proofs.lemmas.Grind.{common_steps}
-use Rattle.std.proofs.Common.{◌≡◌, ◌≢◌, ℕ, suc, ◌<◌, ◌≤◌, Bool, true, false, cond, eqb, List, [], ◌∷◌, length, take, drop, replicate, get_or, ◌++◌, refl, sym, ap, ap₂, ◌∙◌, subst, arith, rules}
-use Rattle.std.proofs.Math.ListN.{set}
-use Rattle.std.proofs.lemmas.Bool.{eqb-true, eqb-false, eq-eqb, ne_eqb}
-use Rattle.std.proofs.lemmas.List.{length-set, get_or-set_same, get_or-set_other, get_or_past, get_or_default, take_at}
+use Rattle.std.proofs.{lemmas.{Grind.common_steps, Bool.{eqb-true, eqb-false, eq-eqb, ne_eqb}, List.{length-set, get_or-set_same, get_or-set_other, get_or_past, get_or_default, take_at}}, Common.{◌≡◌, ◌≢◌, ℕ, suc, ◌<◌, ◌≤◌, Bool, true, false, cond, eqb, List, [], ◌∷◌, length, take, drop, replicate, get_or, ◌++◌, refl, sym, ap, ap₂, ◌∙◌, subst, arith, rules}, Math.ListN.set}
 use Rattle.lists.specs.Elements.{Each}
-use Rattle.model_registers.specs.Cell.{Cell, no_cell}
-use Rattle.model_registers.specs.Registers.{Place, config, File, cell_at, changed}
-use Rattle.model_registers.specs.FileLaws.{IsConfigFile}
-use Rattle.config_bytes.specs.OffsetLaws.{FileOfConfig}
-use Rattle.model_registers.proofs.RegisterFiles.{change_at_place}
-use Rattle.config_bytes.specs.CellFile.{CellFile, HasDistinctOffsets, KeepsPlaces, places_of, file_of, file_from, table_at, placed, IsTable}
+use Rattle.model_registers.{specs.{Cell.{Cell, no_cell}, Registers.{Place, config, File, cell_at, changed}, FileLaws.IsConfigFile}, proofs.RegisterFiles.change_at_place}
+use Rattle.config_bytes.specs.{OffsetLaws.FileOfConfig, CellFile.{CellFile, HasDistinctOffsets, KeepsPlaces, places_of, file_of, file_from, table_at, placed, IsTable}}
 
 -- ---- one cell changes
 

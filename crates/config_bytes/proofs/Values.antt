@@ -1,19 +1,8 @@
 -- A value that is put into a cell of a table, where one stands.
-use Rattle.std.proofs.Common.{◌≡◌, ℕ, ◌<◌, ◌%◌, Bool, true, false, not, cond, eqb, List, [], ◌∷◌, length, get_or, refl, sym, ap, ◌∙◌, subst, arith}
-use Rattle.std.specs.List.{list_all}
-use Rattle.std.proofs.Math.ListN.{set}
-use Rattle.std.proofs.lemmas.List.{length-set}
+use Rattle.std.{proofs.{Common.{◌≡◌, ℕ, ◌<◌, ◌%◌, Bool, true, false, not, cond, eqb, List, [], ◌∷◌, length, get_or, refl, sym, ap, ◌∙◌, subst, arith}, Math.ListN.set, lemmas.{List.length-set, Bool.eqb-true}}, specs.List.list_all}
 use Rattle.lists.specs.Elements.{Each}
-use Rattle.std.proofs.lemmas.Bool.{eqb-true}
-use Rattle.model_registers.specs.Cell.{Cell}
-use Rattle.model_registers.specs.Registers.{config, File, cell_at, changed}
-use Rattle.model_registers.specs.FileLaws.{has_place}
-use Rattle.model_registers.specs.DeviceBytes.{with_value, set_value}
-use Rattle.model_registers.proofs.RegisterFiles.{place_turned}
-use Rattle.model_registers.proofs.Files.{change_none}
-use Rattle.model_registers.proofs.DeviceBytes.{change_beside, change_there}
-use Rattle.config_bytes.specs.CellFile.{CellFile, file_of, file_from, IsTable}
-use Rattle.config_bytes.proofs.Tables.{ChangesAt, put_changes, file_from-changed, view_changes}
+use Rattle.model_registers.{specs.{Cell.Cell, Registers.{config, File, cell_at, changed}, FileLaws.has_place, DeviceBytes.{with_value, set_value}}, proofs.{RegisterFiles.place_turned, Files.change_none, DeviceBytes.{change_beside, change_there}}}
+use Rattle.config_bytes.{specs.CellFile.{CellFile, file_of, file_from, IsTable}, proofs.Tables.{ChangesAt, put_changes, file_from-changed, view_changes}}
 
 -- no cell stands at the offset
 abbrev pub free : ℕ → List (ℕ × Cell) → Bool

@@ -28,8 +28,7 @@ use Rattle.std.specs.Prelude.{
   slice_index_or,
 }
 use Rattle.lists.specs.Elements.{Each, EachPair}
-use Rattle.model_registers.specs.Cell.{Cell, no_cell}
-use Rattle.model_registers.specs.Registers.{Place, config, block, PlacedCell, File, cell_at}
+use Rattle.model_registers.specs.{Cell.{Cell, no_cell}, Registers.{Place, config, block, PlacedCell, File, cell_at}}
 pub use Rattle.model_registers.specs.CopiedFiles.{places_of}
 
 pub record CellFile : Type 0 where

@@ -2,9 +2,7 @@
 --     IsWithin first end cs      each offset is in a range, its end excluded
 use Rattle.std.specs.Prelude.{◌≡◌, ◌≢◌, ◌≤◌, ◌<◌, ℕ, ◌+◌, List, [], ◌∷◌, ◌++◌, length}
 use Rattle.lists.specs.Elements.{Each}
-use Rattle.model_registers.specs.Cell.{Cell}
-use Rattle.model_registers.specs.Registers.{config, cells_from}
-use Rattle.model_registers.specs.FileLaws.{IsConfigFile}
+use Rattle.model_registers.specs.{Cell.Cell, Registers.{config, cells_from}, FileLaws.IsConfigFile}
 use Rattle.config_bytes.specs.CellFile.{HasDistinctOffsets, file_of, offsets_from}
 
 abbrev pub IsWithin : ℕ → ℕ → List (ℕ × Cell) → Type 0

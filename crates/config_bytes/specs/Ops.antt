@@ -1,8 +1,7 @@
 -- What is done at a place: a read, or a write.
 --     is_write      whether it is a write
 use Rattle.std.specs.Prelude.{Bool, true, false}
-use Rattle.config_bytes.specs.declared.op.Op.{Op}
-use Rattle.config_bytes.specs.declared.op.Op.TheVariants.{Read, Write}
+use Rattle.config_bytes.specs.declared.op.Op.{Op, TheVariants.{Read, Write}}
 
 abbrev pub is_write : Op → Bool
 is_write Read = false

@@ -1,8 +1,7 @@
 //! One byte of configuration space or of a region.
 ghost use Rattle.std.specs.Prelude.{◌≡◌, ◌↔◌, IsOk, IfOk, bit_and};
 ghost use Rattle.lists.specs.Elements.{Each};
-ghost use Rattle.model_registers.specs.Cell.{IsCell, constant, written, raised};
-ghost use Rattle.model_registers.specs.DeviceBytes.{with_value};
+ghost use Rattle.model_registers.specs.{Cell.{IsCell, constant, written, raised}, DeviceBytes.with_value};
 
 use std::marker::Model;
 use thiserror::Error;

@@ -1,13 +1,7 @@
 //! The cells of one function's configuration space, or of one region's block.
-ghost use Rattle.std.specs.Prelude.{◌≡◌, ◌==◌, ◌<◌, ◌%◌, ◌^◌, ◌↔◌, All, IfOk, IsTrue, not, length, if◌then◌else◌};
-ghost use Rattle.std.specs.List.{list_all};
-ghost use Rattle.model_registers.specs.Cell.{written};
+ghost use Rattle.std.specs.{Prelude.{◌≡◌, ◌==◌, ◌<◌, ◌%◌, ◌^◌, ◌↔◌, All, IfOk, IsTrue, not, length, if◌then◌else◌}, List.list_all};
+ghost use Rattle.model_registers.specs.{Cell.written, Registers.{config, changed, read, write, raise, cell_at}, DeviceBytes.set_value, AccessLaws.HoldsBytes, ByteEnables.{enabled_bytes, is_enabled, lanes}, FileLaws.IsConfigFile};
 ghost use Rattle.lists.specs.Elements.{Each, all_pairs};
-ghost use Rattle.model_registers.specs.Registers.{config, changed, read, write, raise, cell_at};
-ghost use Rattle.model_registers.specs.DeviceBytes.{set_value};
-ghost use Rattle.model_registers.specs.AccessLaws.{HoldsBytes};
-ghost use Rattle.model_registers.specs.ByteEnables.{enabled_bytes, is_enabled, lanes};
-ghost use Rattle.model_registers.specs.FileLaws.{IsConfigFile};
 ghost use Rattle.config_bytes.specs.CellFile.{HasDistinctOffsets, differ, KeepsPlaces, file_of, placed, placed_outside, reset_outside};
 
 use crate::cell::{Cell, are_cells};

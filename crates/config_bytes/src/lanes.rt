@@ -1,8 +1,7 @@
 //! Accesses of 1, 2 or 4 bytes as enabled bytes of the word in which they lie (PCI Local Bus 3.0,
 //! chapter 3.2.2). Offsets may be of configuration space, I/O or memory: only the lane counts.
 ghost use Rattle.std.specs.Prelude.{◌≡◌, ◌/◌, ◌%◌, ◌^◌};
-ghost use Rattle.model_registers.specs.Registers.{all_ones};
-ghost use Rattle.model_registers.specs.ByteEnables.{IsWidth, LiesInWord, enables_of, into_lanes, from_lanes};
+ghost use Rattle.model_registers.specs.{Registers.all_ones, ByteEnables.{IsWidth, LiesInWord, enables_of, into_lanes, from_lanes}};
 
 /// The byte enables of `width` bytes from `off` on, lowest byte first.
 pub fn enables_of(off: u64, width: u64) -> u8

@@ -1,13 +1,7 @@
 -- A place that its mark confirms.
-use Rattle.std.proofs.Common.{◌≡◌, ℕ, true, List, Some, option_map, ap, ◌∙◌}
-use Rattle.std.proofs.Math.Logic.{∥∥₁_elim}
-use Rattle.std.proofs.Props.{props}
-use Rattle.toml.specs.Data.{Members, table}
-use Rattle.toml.specs.Parse.{parse_document}
-use Rattle.diagnostics.specs.declared.steps.Step.{Step}
-use Rattle.diagnostics.specs.declared.scanning.Extent.{Extent}
-use Rattle.diagnostics.specs.Marks.{with_marks, is_mark}
-use Rattle.diagnostics.specs.Ways.{value_at}
+use Rattle.std.proofs.{Common.{◌≡◌, ℕ, true, List, Some, option_map, ap, ◌∙◌}, Math.Logic.∥∥₁_elim, Props.props}
+use Rattle.toml.specs.{Data.{Members, table}, Parse.parse_document}
+use Rattle.diagnostics.specs.{declared.{steps.Step.Step, scanning.Extent.Extent}, Marks.{with_marks, is_mark}, Ways.value_at}
 
 pub is_mark_in : (text : List ℕ) (way : List Step) (start : ℕ) (places : List Extent) (m : Members)
     → ∥ parse_document (with_marks text 0 places) ≡ Some m ∥₁ → is_mark start (value_at way (table m)) ≡ true

@@ -1,10 +1,5 @@
 -- Where a line ends, and where it begins.
-use Rattle.std.proofs.Common.{◌≡◌, ℕ, ◌+◌, ◌-◌, Bool, true, not, List, length, take, drop, ap, sym, ◌∙◌, arith}
-use Rattle.std.specs.List.{before_first, after_last, position_or_len, suffix_len}
-use Rattle.std.proofs.lemmas.Bool.{false_from_ne_true, not_from_true}
-use Rattle.std.proofs.lemmas.List.Sums.{position_or_len_is, suffix_len_is}
-use Rattle.std.proofs.Math.Seq.{take-length}
-use Rattle.std.proofs.lemmas.Grind.{common_steps}
+use Rattle.std.{proofs.{Common.{◌≡◌, ℕ, ◌+◌, ◌-◌, Bool, true, not, List, length, take, drop, ap, sym, ◌∙◌, arith}, lemmas.{Bool.{false_from_ne_true, not_from_true}, List.Sums.{position_or_len_is, suffix_len_is}, Grind.common_steps}, Math.Seq.take-length}, specs.List.{before_first, after_last, position_or_len, suffix_len}}
 use Rattle.memchr.specs.Find.{Nowhere, NoneBefore, NoneAfter, Passes, is_byte, is_byte2}
 use Rattle.diagnostics.specs.LineParts.{is_feed, ends_line}
 

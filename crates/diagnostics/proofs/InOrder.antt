@@ -1,9 +1,6 @@
 -- Places that follow each other, and the text with their marks.
-use Rattle.std.proofs.Common.{◌≡◌, ◌≤◌, ◌<◌, ℕ, ◌+◌, ◌-◌, true, List, [], ◌∷◌, ◌++◌, length, get_or, drop, take, append_assoc, arith}
-use Rattle.std.proofs.lemmas.Bool.{leb-true}
-use Rattle.std.proofs.lemmas.List.{drop_more}
-use Rattle.diagnostics.specs.declared.scanning.Extent.{Extent}
-use Rattle.diagnostics.specs.Marks.{mark, quoted, are_in_order, with_marks}
+use Rattle.std.proofs.{Common.{◌≡◌, ◌≤◌, ◌<◌, ℕ, ◌+◌, ◌-◌, true, List, [], ◌∷◌, ◌++◌, length, get_or, drop, take, append_assoc, arith}, lemmas.{Bool.leb-true, List.drop_more}}
+use Rattle.diagnostics.specs.{declared.scanning.Extent.Extent, Marks.{mark, quoted, are_in_order, with_marks}}
 
 pub record Front (from len : ℕ) (e : Extent) (es : List Extent) : Type 0 where
   pub begins : from ≤ e.start

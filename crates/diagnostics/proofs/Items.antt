@@ -1,9 +1,6 @@
 -- Arrays of other lengths, and arrays item by item.
-use Rattle.std.proofs.Common.{◌≡◌, ℕ, suc, ◌+◌, ◌<◌, false, ◌&&◌, List, [], ◌∷◌, length, get_or, drop, refl, ap}
-use Rattle.std.proofs.lemmas.Bool.{and_right}
-use Rattle.toml.specs.View.{view, items_view}
-use Rattle.toml.specs.declared.value.Value.{Value}
-use Rattle.toml.proofs.Views.{items_view-drop}
+use Rattle.std.proofs.{Common.{◌≡◌, ℕ, suc, ◌+◌, ◌<◌, false, ◌&&◌, List, [], ◌∷◌, length, get_or, drop, refl, ap}, lemmas.Bool.and_right}
+use Rattle.toml.{specs.{View.{view, items_view}, declared.value.Value.Value}, proofs.Views.items_view-drop}
 use Rattle.diagnostics.specs.Shapes.{have_one_shape, items_have_one_shape}
 
 pub other_lengths : (vs ws : List Value) → (length vs ≡ length ws → ⊥) → items_have_one_shape (items_view vs) (items_view ws) ≡ false

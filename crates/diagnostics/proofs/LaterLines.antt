@@ -1,11 +1,6 @@
 -- The line of an offset, by that of an offset before it.
-use Rattle.std.proofs.Common.{◌≡◌, ◌≤◌, ◌<◌, ℕ, ◌+◌, ◌-◌, List, [], ◌∷◌, ◌++◌, length, map, get_or, drop, take, ap, ap₂, sym, ◌∙◌, arith}
-use Rattle.std.specs.Prelude.{count_by}
-use Rattle.std.proofs.lemmas.List.{take_more, map_push}
-use Rattle.std.proofs.lemmas.List.Sums.{sum_by-append}
-use Rattle.std.proofs.Math.Seq.{take-add}
-use Rattle.diagnostics.specs.declared.scanning.Extent.{Extent}
-use Rattle.diagnostics.specs.LineNumbers.{is_line_feed, line_of, first_line}
+use Rattle.std.{proofs.{Common.{◌≡◌, ◌≤◌, ◌<◌, ℕ, ◌+◌, ◌-◌, List, [], ◌∷◌, ◌++◌, length, map, get_or, drop, take, ap, ap₂, sym, ◌∙◌, arith}, lemmas.List.{take_more, map_push, Sums.sum_by-append}, Math.Seq.take-add}, specs.Prelude.count_by}
+use Rattle.diagnostics.specs.{declared.scanning.Extent.Extent, LineNumbers.{is_line_feed, line_of, first_line}}
 
 pub later_line : (text : List ℕ) (from to : ℕ) → from ≤ to → line_of from text + count_by is_line_feed (take (to - from) (drop from text)) ≡ line_of to text
 later_line text from to before =

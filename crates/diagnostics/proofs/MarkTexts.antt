@@ -1,8 +1,5 @@
 -- A mark, read back.
-use Rattle.std.proofs.Common.{◌≡◌, ◌≢◌, ◌<◌, ◌^◌, ℕ, List, ◌∷◌, Result, Ok, sym, ◌∙◌}
-use Rattle.std.specs.Prelude.{decimal}
-use Rattle.std.specs.Str.Parse.{ParsesUnsigned}
-use Rattle.std.proofs.lemmas.Fmt.{parse-decimal}
+use Rattle.std.{proofs.{Common.{◌≡◌, ◌≢◌, ◌<◌, ◌^◌, ℕ, List, ◌∷◌, Result, Ok, sym, ◌∙◌}, lemmas.Fmt.parse-decimal}, specs.{Prelude.decimal, Str.Parse.ParsesUnsigned}}
 use Rattle.diagnostics.specs.Marks.{mark}
 
 tail_of : (x : ℕ) (xs ys : List ℕ) → x ∷ xs ≡ x ∷ ys → xs ≡ ys

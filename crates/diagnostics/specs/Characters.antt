@@ -3,8 +3,7 @@
 --                    other character, and nothing at its later ones
 --     blank      a space, or a tab in place of a tab
 --     marks      a mark for each character, and at least one
-use Rattle.std.specs.Prelude.{ℕ, Bool, ◌==◌, ◌&&◌, ◌||◌, nat_le, List, [], ◌∷◌, ◌++◌, codes, drop, if◌then◌else◌}
-use Rattle.std.specs.List.{flat_map}
+use Rattle.std.specs.{Prelude.{ℕ, Bool, ◌==◌, ◌&&◌, ◌||◌, nat_le, List, [], ◌∷◌, ◌++◌, codes, drop, if◌then◌else◌}, List.flat_map}
 
 -- 9 is a tab
 abbrev pub is_shown : ℕ → Bool

@@ -8,15 +8,9 @@
 --     other_text, beside_text      such an entry with its line, and the same after a colon
 use Rattle.std.specs.Prelude.{◌≡◌, ℕ, codes, decimal, List, [], ◌∷◌, ◌++◌, map, Option, Some, None, is_some, if◌then◌else◌}
 use Rattle.toml.specs.Data.{Members}
-use Rattle.diagnostics.specs.declared.steps.Step.{Step}
-use Rattle.diagnostics.specs.declared.steps.Step.TheVariants.{Key, Index}
-use Rattle.diagnostics.specs.declared.text_place.TextPlace.{TextPlace}
-use Rattle.diagnostics.specs.Places.{IsPlaceWithin}
-use Rattle.diagnostics.specs.declared.entry_places.Other.{Other}
-use Rattle.board_file.specs.declared.entry.Entry.{Entry}
+use Rattle.diagnostics.specs.{declared.{steps.Step.{Step, TheVariants.{Key, Index}}, text_place.TextPlace.TextPlace, entry_places.Other.Other}, Places.IsPlaceWithin, EntryTexts.entry_text}
+use Rattle.board_file.specs.{declared.entry.Entry.Entry, Tables.value_at}
 use Rattle.board_file.specs.declared.entry.Entry.TheVariants as entry
-use Rattle.diagnostics.specs.EntryTexts.{entry_text}
-use Rattle.board_file.specs.Tables.{value_at}
 
 pub data Turn : Type 0 where
   at_key : List ℕ → Turn

@@ -7,13 +7,8 @@
 --     below_text      the same at a key of an entry
 use Rattle.std.specs.Prelude.{ℕ, ◌-◌, Bool, nat_le, List, [], ◌++◌, codes, decimal, length, map, take, drop, Option, Some, None, is_some, if◌then◌else◌}
 use Rattle.toml.specs.Data.{Members}
-use Rattle.board_file.specs.Tables.{value_at}
-use Rattle.board_file.specs.declared.entry.Entry.{Entry}
-use Rattle.diagnostics.specs.declared.text_place.TextPlace.{TextPlace}
-use Rattle.diagnostics.specs.declared.style.Style.{Style}
-use Rattle.diagnostics.specs.declared.style.Style.TheVariants.{Plain, WithExcerpts}
-use Rattle.diagnostics.specs.LineParts.{line_before, line_after}
-use Rattle.diagnostics.specs.Characters.{characters, blank, marks}
+use Rattle.board_file.specs.{Tables.value_at, declared.entry.Entry.Entry}
+use Rattle.diagnostics.specs.{declared.{text_place.TextPlace.TextPlace, style.Style.{Style, TheVariants.{Plain, WithExcerpts}}}, LineParts.{line_before, line_after}, Characters.{characters, blank, marks}}
 
 abbrev pub cut_front : List ℕ → List ℕ
 cut_front bs = if nat_le (length bs) 60 then characters bs else codes "..." ++ characters (drop (length bs - 60) bs)

@@ -3,16 +3,10 @@
 --     named_owner      the path of the function, or the name of the guest, that an entry belongs to, unless the value says that
 --     place_text      an entry with its key, its value and its owner
 --     head_text      the file with the line, a label, and such an entry
-use Rattle.std.specs.Prelude.{ℕ, Bool, List, [], ◌++◌, codes, decimal, Option, Some, None, if◌then◌else◌, ◌||◌, option_and_then}
-use Rattle.std.specs.Option.{option_map_or}
+use Rattle.std.specs.{Prelude.{ℕ, Bool, List, [], ◌++◌, codes, decimal, Option, Some, None, if◌then◌else◌, ◌||◌, option_and_then}, Option.option_map_or}
 use Rattle.toml.specs.Data.{Data, string, integer, Members, as_str}
-use Rattle.board_file.specs.Texts.{same_text}
-use Rattle.diagnostics.specs.EntryTexts.{entry_text}
-use Rattle.board_file.specs.Tables.{value_at, owner_key, owner_of}
-use Rattle.board_file.specs.declared.entry.Entry.{Entry}
-use Rattle.diagnostics.specs.declared.text_place.TextPlace.{TextPlace}
-use Rattle.diagnostics.specs.Integers.{integer_text}
-use Rattle.diagnostics.specs.Shown.{quoted_text, key_text}
+use Rattle.board_file.specs.{Texts.same_text, Tables.{value_at, owner_key, owner_of}, declared.entry.Entry.Entry}
+use Rattle.diagnostics.specs.{EntryTexts.entry_text, declared.text_place.TextPlace.TextPlace, Integers.integer_text, Shown.{quoted_text, key_text}}
 
 abbrev pub line_text : Option TextPlace → List ℕ
 line_text None = []

@@ -2,11 +2,8 @@
 --     part_at      what stands at a place of a text
 --     is_one_word      no blank is in it, and no comment
 --     integer_text      the integer as it stands at its place, or in decimal where that is not known
-use Rattle.std.specs.Prelude.{ℕ, ℤ, ◌-◌, ◌==◌, Bool, ◌&&◌, not, nat_lt, List, map, take, drop, Option, Some, None, if◌then◌else◌}
-use Rattle.std.specs.Fmt.{signed_decimal}
-use Rattle.std.specs.List.{list_all}
-use Rattle.diagnostics.specs.declared.text_place.TextPlace.{TextPlace}
-use Rattle.diagnostics.specs.Shown.{shown_byte}
+use Rattle.std.specs.{Prelude.{ℕ, ℤ, ◌-◌, ◌==◌, Bool, ◌&&◌, not, nat_lt, List, map, take, drop, Option, Some, None, if◌then◌else◌}, Fmt.signed_decimal, List.list_all}
+use Rattle.diagnostics.specs.{declared.text_place.TextPlace.TextPlace, Shown.shown_byte}
 
 abbrev pub part_at : List ℕ → TextPlace → List ℕ
 part_at text p = take (p.end - p.start) (drop p.start text)

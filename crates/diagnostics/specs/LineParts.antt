@@ -1,8 +1,7 @@
 -- The line of an offset in a text.
 --     line_before      what stands in the line before the offset
 --     line_after      what stands in it from the offset on
-use Rattle.std.specs.Prelude.{ℕ, Bool, ◌==◌, ◌||◌, List, take, drop}
-use Rattle.std.specs.List.{before_first, after_last}
+use Rattle.std.specs.{Prelude.{ℕ, Bool, ◌==◌, ◌||◌, List, take, drop}, List.{before_first, after_last}}
 
 -- 10 is a line feed
 abbrev pub is_feed : ℕ → Bool

@@ -5,9 +5,7 @@
 --                                       one before
 --     with_marks text from places      the text from an offset on, with its mark in each of these places
 --     is_mark      the value is the mark of a place
-use Rattle.std.specs.Prelude.{ℕ, ◌-◌, codes, Bool, ◌&&◌, nat_le, nat_lt, List, [], ◌∷◌, ◌++◌, take, drop, decimal, Option, option_and_then, false}
-use Rattle.std.specs.Option.{option_map_or}
-use Rattle.std.specs.Str.{bytes_eq}
+use Rattle.std.specs.{Prelude.{ℕ, ◌-◌, codes, Bool, ◌&&◌, nat_le, nat_lt, List, [], ◌∷◌, ◌++◌, take, drop, decimal, Option, option_and_then, false}, Option.option_map_or, Str.bytes_eq}
 use Rattle.toml.specs.Data.{Data, as_str}
 use Rattle.diagnostics.specs.declared.scanning.Extent.{Extent}
 

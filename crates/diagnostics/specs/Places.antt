@@ -5,17 +5,9 @@
 --                  another, is the mark
 --     GoesOn way longer      the longer way begins with the way
 --     IsPlaceWithin      the place of a value at the end of a way, or of one inside that value
-use Rattle.std.specs.Prelude.{◌≡◌, ℕ, true, false, List, ◌++◌, length, Some, option_map}
-use Rattle.std.specs.List.{slice_get}
-use Rattle.toml.specs.Data.{table, Members}
-use Rattle.toml.specs.Parse.{parse_document}
-use Rattle.diagnostics.specs.declared.steps.Step.{Step}
-use Rattle.diagnostics.specs.declared.scanning.Extent.{Extent}
-use Rattle.diagnostics.specs.declared.text_place.TextPlace.{TextPlace}
-use Rattle.diagnostics.specs.LineNumbers.{line_of}
-use Rattle.diagnostics.specs.Marks.{are_in_order, with_marks, is_mark}
-use Rattle.diagnostics.specs.Shapes.{members_have_one_shape}
-use Rattle.diagnostics.specs.Ways.{value_at}
+use Rattle.std.specs.{Prelude.{◌≡◌, ℕ, true, false, List, ◌++◌, length, Some, option_map}, List.slice_get}
+use Rattle.toml.specs.{Data.{table, Members}, Parse.parse_document}
+use Rattle.diagnostics.specs.{declared.{steps.Step.Step, scanning.Extent.Extent, text_place.TextPlace.TextPlace}, LineNumbers.line_of, Marks.{are_in_order, with_marks, is_mark}, Shapes.members_have_one_shape, Ways.value_at}
 
 pub record IsMarked (text : List ℕ) (before : Members) (places : List Extent) : Type 0 where
   pub in_order : are_in_order 0 (length text) places ≡ true

@@ -1,8 +1,6 @@
 -- Documents that differ in their scalars alone.
 --     have_one_shape      the same keys, and arrays of the same length, at every depth
-use Rattle.std.specs.Prelude.{Bool, true, false, not, ◌&&◌, is_some}
-use Rattle.std.specs.Option.{option_map_or}
-use Rattle.std.specs.Str.{bytes_eq}
+use Rattle.std.specs.{Prelude.{Bool, true, false, not, ◌&&◌, is_some}, Option.option_map_or, Str.bytes_eq}
 use Rattle.toml.specs.Data.{Data, array, table, Items, no_items, item, Members, no_members, member, as_array, as_table}
 
 abbrev pub is_scalar : Data → Bool

@@ -3,8 +3,7 @@
 --     value_at      the value at the end of a way
 use Rattle.std.specs.Prelude.{List, [], ◌∷◌, Option, Some, option_and_then}
 use Rattle.toml.specs.Data.{Data, get, at}
-use Rattle.diagnostics.specs.declared.steps.Step.{Step}
-use Rattle.diagnostics.specs.declared.steps.Step.TheVariants.{Key, Index}
+use Rattle.diagnostics.specs.declared.steps.Step.{Step, TheVariants.{Key, Index}}
 
 abbrev pub child : Step → Data → Option Data
 child (Key k) d = get k.now d

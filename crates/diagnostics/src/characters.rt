@@ -1,6 +1,5 @@
 //! Bytes as they are shown: a column for each character.
-ghost use Rattle.std.specs.Prelude.{◌≡◌, ◌<◌, ◌++◌, ◌∷◌, [], OnOk, drop, map, string_bytes};
-ghost use Rattle.std.specs.List.{flat_map};
+ghost use Rattle.std.specs.{Prelude.{◌≡◌, ◌<◌, ◌++◌, ◌∷◌, [], OnOk, drop, map, string_bytes}, List.flat_map};
 ghost use Rattle.lists.specs.Texts.{Adds};
 ghost use Rattle.diagnostics.specs.Characters.{is_shown, is_later, shown_byte, character, characters, blank, mark, marks};
 

@@ -1,11 +1,7 @@
 //! Places that were confirmed: with a mark there, the value that is meant is the mark.
-ghost use Rattle.std.specs.Prelude.{◌≡◌, IfOk, IfSome, List, Some, length, map, ℕ};
-ghost use Rattle.std.specs.Option.{ForSome};
-ghost use Rattle.toml.specs.Parse.{parse_document};
-ghost use Rattle.toml.specs.View.{table_view};
-ghost use Rattle.diagnostics.specs.LineNumbers.{line_of, first_line};
-ghost use Rattle.diagnostics.specs.Marks.{with_marks};
-ghost use Rattle.diagnostics.specs.Places.{IsMarked, Stands, IsPlace, IsPlaceWithin};
+ghost use Rattle.std.specs.{Prelude.{◌≡◌, IfOk, IfSome, List, Some, length, map, ℕ}, Option.ForSome};
+ghost use Rattle.toml.specs.{Parse.parse_document, View.table_view};
+ghost use Rattle.diagnostics.specs.{LineNumbers.{line_of, first_line}, Marks.with_marks, Places.{IsMarked, Stands, IsPlace, IsPlaceWithin}};
 
 use crate::descent::push_descent;
 use crate::line_numbers::first_lines;

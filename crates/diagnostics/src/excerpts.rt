@@ -2,8 +2,7 @@
 ghost use Rattle.std.specs.Prelude.{◌≡◌, ◌-◌, OnOk, decimal, map};
 ghost use Rattle.lists.specs.Texts.{Adds};
 ghost use Rattle.toml.specs.View.{table_view};
-ghost use Rattle.diagnostics.specs.Characters.{blank};
-ghost use Rattle.diagnostics.specs.Excerpts.{cut_front, marked_part, line_row, mark_row, excerpt, shown_text, below_text};
+ghost use Rattle.diagnostics.specs.{Characters.blank, Excerpts.{cut_front, marked_part, line_row, mark_row, excerpt, shown_text, below_text}};
 
 use crate::characters::{push_blanks, push_marks};
 use crate::cuts::{MOST, push_back, push_front};

@@ -1,7 +1,6 @@
 //! Lines of a text.
 ghost use Rattle.std.specs.Prelude.{◌≡◌, ◌≤◌, IfOk, IsTrue, length, map, count_by, ◌==◌};
-ghost use Rattle.diagnostics.specs.LineNumbers.{is_line_feed, line_of, first_line};
-ghost use Rattle.diagnostics.specs.Marks.{are_in_order};
+ghost use Rattle.diagnostics.specs.{LineNumbers.{is_line_feed, line_of, first_line}, Marks.are_in_order};
 
 use crate::scanning::Extent;
 use std::alloc::{AllocError, Global};

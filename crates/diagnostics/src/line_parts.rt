@@ -1,6 +1,5 @@
 //! The line of an offset in a text.
-ghost use Rattle.std.specs.Prelude.{◌≡◌, take, drop};
-ghost use Rattle.std.specs.List.{before_first, after_last};
+ghost use Rattle.std.specs.{Prelude.{◌≡◌, take, drop}, List.{before_first, after_last}};
 ghost use Rattle.diagnostics.specs.LineParts.{is_feed, ends_line, line_before, line_after};
 
 use memchr::{memchr2, memrchr};

@@ -1,6 +1,5 @@
 //! Where the scalars of a TOML text stand. What is found here is confirmed before it is told.
-ghost use Rattle.std.specs.Prelude.{◌≡◌, ◌<◌, ◌≤◌, ◌+◌, ◌^◌, length, unwrap_or};
-ghost use Rattle.std.specs.List.{slice_get};
+ghost use Rattle.std.specs.{Prelude.{◌≡◌, ◌<◌, ◌≤◌, ◌+◌, ◌^◌, length, unwrap_or}, List.slice_get};
 
 use std::alloc::{AllocError, Global};
 

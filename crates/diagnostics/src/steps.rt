@@ -1,7 +1,6 @@
 //! Steps of a way through a document.
 ghost use Rattle.std.specs.Prelude.{◌≡◌, ◌<◌, length, option_map};
-ghost use Rattle.toml.specs.View.{view, table_view};
-ghost use Rattle.toml.specs.Data.{table, get_member};
+ghost use Rattle.toml.specs.{View.{view, table_view}, Data.{table, get_member}};
 ghost use Rattle.diagnostics.specs.Ways.{child, value_at};
 
 use toml::Table;

@@ -6,9 +6,7 @@
 --     devices_below fs n      how many of the devices 0 to n - 1 on bus 0 show a function 0
 use Rattle.std.specs.Prelude.{ℕ, zero, suc, ◌+◌, ◌==◌, if◌then◌else◌, List, Bool, not}
 use Rattle.model_registers.specs.ByteEnables.{lanes}
-use Rattle.model_board.specs.State.{BoardFunction}
-use Rattle.model_board.specs.Cycles.{BusAddress}
-use Rattle.model_board.specs.Ports.{config_reply}
+use Rattle.model_board.specs.{State.BoardFunction, Cycles.BusAddress, Ports.config_reply}
 
 abbrev pub vendor_id : List BoardFunction → BusAddress → ℕ
 vendor_id fs at = config_reply fs at 0 (lanes 3)

@@ -1,16 +1,9 @@
 -- Bridges that lead to a function are all that can be blamed for its regions.
-use Rattle.std.proofs.Common.{◌≡◌, List, [], ◌∷◌, refl, sym, ap, ◌∙◌, arith}
-use Rattle.std.specs.Prelude.{Bool, filter, flat_map}
-use Rattle.std.specs.Option.{option_to_list}
-use Rattle.lists.specs.Elements.{first_some, IsIn}
-use Rattle.model_board.specs.Paths.{Path, leads_to}
-use Rattle.model_board.specs.Routing.{RoutingRow}
+use Rattle.std.{proofs.Common.{◌≡◌, List, [], ◌∷◌, refl, sym, ap, ◌∙◌, arith}, specs.{Prelude.{Bool, filter, flat_map}, Option.option_to_list}}
+use Rattle.lists.{specs.Elements.{first_some, IsIn}, proofs.Members.flat_map_same}
+use Rattle.model_board.specs.{Paths.{Path, leads_to}, Routing.RoutingRow}
 use Rattle.model_set_up.specs.PlacedRegions.{PlacedRegion}
-use Rattle.lists.proofs.Members.{flat_map_same}
-use Rattle.findings.specs.Regions.{regions_of}
-use Rattle.findings.specs.Blames.{sort_blamed, blame, blames_of}
-use Rattle.findings.specs.declared.blame.Charge.{Charge}
-use Rattle.findings.proofs.Sorts.{path_of}
+use Rattle.findings.{specs.{Regions.regions_of, Blames.{sort_blamed, blame, blames_of}, declared.blame.Charge.Charge}, proofs.Sorts.path_of}
 
 abbrev pub leads : Path → RoutingRow → Bool
 leads p r = leads_to r.path p

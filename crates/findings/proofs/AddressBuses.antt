@@ -1,20 +1,8 @@
 -- The bridge above a bus is what stands at its path, if that is a bridge.
-use Rattle.std.proofs.Common.{◌≡◌, ℕ, ◌⊎◌, Bool, true, false, ◌&&◌, cond, List, [], ◌∷◌, Some, None, Option, refl, sym, ap, ◌∙◌, eqb, length, arith}
-use Rattle.std.specs.Prelude.{find, slice_get, unwrap_or, IsTrue}
-use Rattle.std.specs.Option.{option_map_or}
-use Rattle.lists.specs.Elements.{IsIn}
-use Rattle.lists.proofs.EachLemmas.{pairs_from_map}
-use Rattle.model_board.specs.Paths.{Path, path_eq, path_before}
-use Rattle.model_board.proofs.PathOrder.{path_same}
-use Rattle.model_board.proofs.PathEnds.{not_before_itself}
-use Rattle.model_board.specs.Board.{Row, Decl, endpoint, bridge, is_bridge}
-use Rattle.model_board.specs.State.{BoardFunction, row_at}
-use Rattle.model_board.specs.Cycles.{secondary_register}
-use Rattle.model_findings.specs.Orderly.{IsStateOfBoard}
-use Rattle.model_findings.specs.Found.{is_bridge_at, bus_now}
-use Rattle.lists.proofs.FirstFound.{found_in}
-use Rattle.model_findings.proofs.Found.{is_found_at}
-use Rattle.lists.proofs.Members.{pair_in}
+use Rattle.std.{proofs.Common.{◌≡◌, ℕ, ◌⊎◌, Bool, true, false, ◌&&◌, cond, List, [], ◌∷◌, Some, None, Option, refl, sym, ap, ◌∙◌, eqb, length, arith}, specs.{Prelude.{find, slice_get, unwrap_or, IsTrue}, Option.option_map_or}}
+use Rattle.lists.{specs.Elements.IsIn, proofs.{EachLemmas.pairs_from_map, FirstFound.found_in, Members.pair_in}}
+use Rattle.model_board.{specs.{Paths.{Path, path_eq, path_before}, Board.{Row, Decl, endpoint, bridge, is_bridge}, State.{BoardFunction, row_at}, Cycles.secondary_register}, proofs.{PathOrder.path_same, PathEnds.not_before_itself}}
+use Rattle.model_findings.{specs.{Orderly.IsStateOfBoard, Found.{is_bridge_at, bus_now}}, proofs.Found.is_found_at}
 use Rattle.bridge_forward.specs.RoutingRows.{secondary_of, secondary_nth}
 
 abbrev stands_at : Path → BoardFunction → Bool

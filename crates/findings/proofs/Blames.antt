@@ -1,23 +1,11 @@
 -- What is told of blames is what the definitions say of all regions.
-use Rattle.std.proofs.Common.{◌≡◌, ℕ, Bool, true, false, cond, List, [], ◌∷◌, ◌++◌, map, Option, Some, None, refl, ap, ap₂, ◌∙◌}
-use Rattle.std.specs.Prelude.{flat_map}
-use Rattle.std.specs.Option.{option_map, option_to_list}
-use Rattle.std.proofs.lemmas.List.{map-append}
+use Rattle.std.{proofs.{Common.{◌≡◌, ℕ, Bool, true, false, cond, List, [], ◌∷◌, ◌++◌, map, Option, Some, None, refl, ap, ap₂, ◌∙◌}, lemmas.List.map-append}, specs.{Prelude.flat_map, Option.{option_map, option_to_list}}}
 use Rattle.lists.specs.Elements.{first_of_two, first_some}
-use Rattle.model_board.specs.Paths.{leads_to}
-use Rattle.model_board.specs.Routing.{RoutingRow}
+use Rattle.model_board.specs.{Paths.leads_to, Routing.RoutingRow}
 use Rattle.model_set_up.specs.PlacedRegions.{PlacedRegion}
-use Rattle.model_findings.specs.OpenRegions.{open_regions}
-use Rattle.model_findings.specs.Problems.{unforwarded, forwarding_problem}
+use Rattle.model_findings.specs.{OpenRegions.open_regions, Problems.{unforwarded, forwarding_problem}, Lacks.{plain_regions, first_prefetched, prefetch_blame, prefetch_lack}}
+use Rattle.findings.{specs.{Regions.all_regions, Blames.{blame, blames_of, all_blames, unforwarded_problem, prefetched_lack}, declared.{regions.Sort.TheVariants.{Open, Plain}, blame.{Blame.Blame, Charge.{Charge, TheVariants.{NotForwarded, Prefetched}}}}}, proofs.Sorts.{all_open, all_plain}}
 use Rattle.model_findings.specs.Problems as audit
-use Rattle.model_findings.specs.Lacks.{plain_regions, first_prefetched, prefetch_blame, prefetch_lack}
-use Rattle.findings.specs.Regions.{all_regions}
-use Rattle.findings.specs.Blames.{blame, blames_of, all_blames, unforwarded_problem, prefetched_lack}
-use Rattle.findings.specs.declared.regions.Sort.TheVariants.{Open, Plain}
-use Rattle.findings.specs.declared.blame.Blame.{Blame}
-use Rattle.findings.specs.declared.blame.Charge.{Charge}
-use Rattle.findings.specs.declared.blame.Charge.TheVariants.{NotForwarded, Prefetched}
-use Rattle.findings.proofs.Sorts.{all_open, all_plain}
 
 -- if a blame is told as g tells of its region and row, so is the first one, and so are all
 module _ {B : Type 0} (c : Charge) (to : Blame → B) (g : PlacedRegion → RoutingRow → Option B) (same : (q : PlacedRegion) (r : RoutingRow) → option_map to (blame c q r) ≡ g q r) where

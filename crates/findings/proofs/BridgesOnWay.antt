@@ -1,16 +1,8 @@
 -- The bridges on the way of a cycle, one after the other.
-use Rattle.std.proofs.Common.{◌≡◌, ℕ, suc, ◌+◌, ◌-◌, ◌<◌, Bool, true, false, cond, List, [], ◌∷◌, ◌++◌, ◌&&◌, not, Option, Some, None, refl, sym, ap, ap₂, ◌∙◌, arith, append_assoc, append-nil}
-use Rattle.std.specs.Prelude.{map, filter, length, option_map, ◌==◌}
-use Rattle.std.specs.Option.{option_map_or, option_to_list}
-use Rattle.std.proofs.lemmas.List.{map-append}
-use Rattle.model_board.specs.Routing.{RoutingRow, row_of, routing}
-use Rattle.model_board.specs.Paths.{Path, path_eq}
-use Rattle.model_board.specs.State.{BoardFunction}
-use Rattle.model_board.specs.Cycles.{secondary_register, taker, BusAddress, reached}
+use Rattle.std.{proofs.{Common.{◌≡◌, ℕ, suc, ◌+◌, ◌-◌, ◌<◌, Bool, true, false, cond, List, [], ◌∷◌, ◌++◌, ◌&&◌, not, Option, Some, None, refl, sym, ap, ap₂, ◌∙◌, arith, append_assoc, append-nil}, lemmas.List.map-append}, specs.{Prelude.{map, filter, length, option_map, ◌==◌}, Option.{option_map_or, option_to_list}}}
+use Rattle.model_board.specs.{Routing.{RoutingRow, row_of, routing}, Paths.{Path, path_eq}, State.BoardFunction, Cycles.{secondary_register, taker, BusAddress, reached}}
 use Rattle.model_lines.specs.Ways.{takers, takers_by, takers_down, WayEnd, on_bus, no_taker, end_by, way_end, takers_on_way, end_of, Missing, missing_at, missing, has_number, is_found, WhyNumber, why_number}
-use Rattle.findings.specs.declared.cycle_way.Taken.{Taken}
-use Rattle.findings.specs.WhyByRows.{selected}
-use Rattle.findings.specs.WhyOnWay.{taken, missing_by, is_unfound, unfound}
+use Rattle.findings.specs.{declared.cycle_way.Taken.Taken, WhyByRows.selected, WhyOnWay.{taken, missing_by, is_unfound, unfound}}
 
 abbrev path_of : BoardFunction → Path
 path_of f = f.path

@@ -1,13 +1,7 @@
 -- What is told of regions that are held is what is told of the address.
-use Rattle.std.proofs.Common.{◌≡◌, ℕ, Bool, true, false, ◌&&◌, not, cond, List, [], ◌∷◌, ◌++◌, refl, ap, ap₂, ◌∙◌}
-use Rattle.std.specs.Prelude.{map, filter, flat_map}
-use Rattle.std.proofs.lemmas.List.{map-append}
-use Rattle.model_registers.specs.EndpointTable.{BaseAddress}
-use Rattle.model_registers.specs.Decoding.{Space, command_word, base_address}
-use Rattle.model_board.specs.Board.{Decl, endpoint, bridge}
-use Rattle.model_board.specs.Claims.{first_claim}
-use Rattle.model_board.specs.State.{BoardFunction}
-use Rattle.model_board.specs.Routing.{ranges_of, row_of, routing}
+use Rattle.std.{proofs.{Common.{◌≡◌, ℕ, Bool, true, false, ◌&&◌, not, cond, List, [], ◌∷◌, ◌++◌, refl, ap, ap₂, ◌∙◌}, lemmas.List.map-append}, specs.Prelude.{map, filter, flat_map}}
+use Rattle.model_registers.specs.{EndpointTable.BaseAddress, Decoding.{Space, command_word, base_address}}
+use Rattle.model_board.specs.{Board.{Decl, endpoint, bridge}, Claims.first_claim, State.BoardFunction, Routing.{ranges_of, row_of, routing}}
 use Rattle.model_set_up.specs.PlacedRegions.{PlacedRegion, holds}
 use Rattle.model_findings.specs.OpenRegions.{region_now, regions_of}
 use Rattle.model_lines.specs.Why.{is_answer, causes_of, Told, told_of}

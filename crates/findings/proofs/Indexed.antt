@@ -1,12 +1,8 @@
 -- What elements give, from an index on.
-use Rattle.std.proofs.Common.{◌≡◌, ℕ, zero, suc, ◌+◌, List, [], ◌∷◌, ◌++◌, map, drop, refl, sym, ap, ◌∙◌, append-nil, append_assoc, add-one}
-use Rattle.std.specs.Prelude.{flat_map, slice_get}
-use Rattle.std.specs.Option.{option_to_list}
-use Rattle.std.proofs.lemmas.List.{map-append}
+use Rattle.std.{proofs.{Common.{◌≡◌, ℕ, zero, suc, ◌+◌, List, [], ◌∷◌, ◌++◌, map, drop, refl, sym, ap, ◌∙◌, append-nil, append_assoc, add-one}, lemmas.List.map-append}, specs.{Prelude.{flat_map, slice_get}, Option.option_to_list}}
 use Rattle.model_board.specs.State.{BoardFunction}
 use Rattle.model_findings.specs.Lacks.{primary_lack}
-use Rattle.findings.specs.Findings.{lack_of}
-use Rattle.findings.specs.declared.lack.Lack.{Lack}
+use Rattle.findings.specs.{Findings.lack_of, declared.lack.Lack.Lack}
 
 flat_next : {A B : Type 0} (f : A → List B) (xs : List A) (i : ℕ) → flat_map f (drop i xs) ≡ flat_map f (option_to_list (slice_get xs i)) ++ flat_map f (drop (suc i) xs)
 flat_next f [] zero = refl

@@ -1,18 +1,10 @@
 -- The least of addresses that may be there.
-use Rattle.lists.proofs.Tests.{and_false}
-use Rattle.std.proofs.lemmas.List.Elements.{filter-append}
-use Rattle.std.proofs.Common.{◌≡◌, ℕ, Bool, false, ◌&&◌, cond, List, [], ◌∷◌, ◌++◌, Option, None, refl, sym, ap, ap₂, ◌∙◌, arith}
-use Rattle.std.specs.Prelude.{not, map, filter}
-use Rattle.std.specs.List.{list_any}
-use Rattle.std.specs.Option.{option_to_list}
-use Rattle.std.proofs.lemmas.List.{map-append}
+use Rattle.lists.proofs.{Tests.and_false, Members.none_pass}
+use Rattle.std.{proofs.{lemmas.List.{Elements.filter-append, map-append}, Common.{◌≡◌, ℕ, Bool, false, ◌&&◌, cond, List, [], ◌∷◌, ◌++◌, Option, None, refl, sym, ap, ap₂, ◌∙◌, arith}}, specs.{Prelude.{not, map, filter}, List.list_any, Option.option_to_list}}
 use Rattle.model_registers.specs.Decoding.{same_space}
 use Rattle.model_board.specs.Routing.{RoutingRow, row_forwards}
 use Rattle.model_set_up.specs.PlacedRegions.{PlacedRegion, holds}
-use Rattle.lists.proofs.Members.{none_pass}
-use Rattle.model_findings.specs.Agents.{Extent, extent_holds, forwarded_extents, Agent}
-use Rattle.model_findings.specs.Problems.{least, unforwarded, shared}
-use Rattle.model_findings.proofs.Answering.{forwards_extents}
+use Rattle.model_findings.{specs.{Agents.{Extent, extent_holds, forwarded_extents, Agent}, Problems.{least, unforwarded, shared}}, proofs.Answering.forwards_extents}
 use Rattle.findings.specs.Extents.{least_of, first_missed}
 
 filter_same : (t u : ℕ → Bool) (xs : List ℕ) → ((n : ℕ) → t n ≡ u n) → filter t xs ≡ filter u xs

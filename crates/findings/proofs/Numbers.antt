@@ -1,17 +1,8 @@
 -- The bridge above a bus among rows, and what is told of the numbers of functions.
-use Rattle.std.proofs.lemmas.Option.{slice_get-map}
-use Rattle.std.proofs.Common.{◌≡◌, ℕ, suc, ◌+◌, Bool, true, false, cond, List, [], ◌∷◌, ◌++◌, length, Option, Some, None, refl, sym, ap, ap₂, ◌∙◌, arith, eqb}
-use Rattle.std.specs.Prelude.{map, flat_map, find, slice_get, option_map, position, unwrap_or}
-use Rattle.std.specs.Option.{option_and_then, option_map_or}
-use Rattle.std.specs.List.{position_from}
-use Rattle.std.proofs.lemmas.Iterator.Adapters.{position_from-zero}
+use Rattle.std.{proofs.{lemmas.{Option.slice_get-map, Iterator.Adapters.position_from-zero}, Common.{◌≡◌, ℕ, suc, ◌+◌, Bool, true, false, cond, List, [], ◌∷◌, ◌++◌, length, Option, Some, None, refl, sym, ap, ap₂, ◌∙◌, arith, eqb}}, specs.{Prelude.{map, flat_map, find, slice_get, option_map, position, unwrap_or}, Option.{option_and_then, option_map_or}, List.position_from}}
 use Rattle.lists.proofs.Tests.{left_true}
-use Rattle.model_board.specs.Paths.{Path}
-use Rattle.model_board.specs.State.{BoardFunction}
-use Rattle.model_board.specs.Cycles.{secondary_register, BusAddress, reached}
-use Rattle.model_board.specs.Routing.{RoutingRow, row_of, routing}
-use Rattle.model_findings.specs.Found.{is_bridge_at, bus_now, address_now, path_reached}
-use Rattle.model_findings.specs.Problems.{Problem, not_found, numbering_problem, numbering_problems}
+use Rattle.model_board.specs.{Paths.Path, State.BoardFunction, Cycles.{secondary_register, BusAddress, reached}, Routing.{RoutingRow, row_of, routing}}
+use Rattle.model_findings.specs.{Found.{is_bridge_at, bus_now, address_now, path_reached}, Problems.{Problem, not_found, numbering_problem, numbering_problems}}
 use Rattle.bridge_forward.specs.RoutingRows.{secondary_nth}
 use Rattle.findings.specs.Bridges.{is_bridge_row, is_there, lost_function}
 

@@ -1,14 +1,9 @@
 -- The least address of a region that a bridge prefetches.
-use Rattle.std.proofs.Common.{◌≡◌, ℕ, Bool, ◌&&◌, List, [], ◌∷◌, ◌++◌, Option, sym, ap, ◌∙◌}
-use Rattle.std.specs.Prelude.{map, filter}
-use Rattle.std.specs.Option.{option_to_list}
+use Rattle.std.{proofs.Common.{◌≡◌, ℕ, Bool, ◌&&◌, List, [], ◌∷◌, ◌++◌, Option, sym, ap, ◌∙◌}, specs.{Prelude.{map, filter}, Option.option_to_list}}
 use Rattle.model_board.specs.Routing.{RoutingRow}
 use Rattle.model_set_up.specs.PlacedRegions.{PlacedRegion, holds}
-use Rattle.model_findings.specs.Agents.{Extent}
-use Rattle.model_findings.specs.Problems.{least}
-use Rattle.model_findings.specs.Lacks.{prefetches, prefetch_edges, first_prefetched}
-use Rattle.findings.specs.Extents.{least_of}
-use Rattle.findings.proofs.Least.{least_piece, least_last}
+use Rattle.model_findings.specs.{Agents.Extent, Problems.least, Lacks.{prefetches, prefetch_edges, first_prefetched}}
+use Rattle.findings.{specs.Extents.least_of, proofs.Least.{least_piece, least_last}}
 
 abbrev held : RoutingRow → PlacedRegion → ℕ → Bool
 held r q n = holds q.space n q && prefetches n r

@@ -1,19 +1,11 @@
 -- Regions of one sort are those that the definitions name.
-use Rattle.std.proofs.Common.{◌≡◌, ℕ, Bool, ◌&&◌, List, [], ◌∷◌, map, refl, ap, ◌∙◌, arith}
-use Rattle.std.specs.Prelude.{not, filter}
-use Rattle.lists.specs.Elements.{IsIn}
-use Rattle.lists.proofs.Members.{flat_map_same, from_map}
-use Rattle.model_registers.specs.EndpointTable.{BaseAddress}
-use Rattle.model_registers.specs.Decoding.{opens_space, space_of}
-use Rattle.model_board.specs.Paths.{Path}
-use Rattle.model_board.specs.Routing.{Ranges, regions, windows, RoutingRow}
+use Rattle.std.{proofs.Common.{◌≡◌, ℕ, Bool, ◌&&◌, List, [], ◌∷◌, map, refl, ap, ◌∙◌, arith}, specs.Prelude.{not, filter}}
+use Rattle.lists.{specs.Elements.IsIn, proofs.Members.{flat_map_same, from_map}}
+use Rattle.model_registers.specs.{EndpointTable.BaseAddress, Decoding.{opens_space, space_of}}
+use Rattle.model_board.specs.{Paths.Path, Routing.{Ranges, regions, windows, RoutingRow}}
 use Rattle.model_set_up.specs.PlacedRegions.{PlacedRegion}
-use Rattle.model_findings.specs.OpenRegions.{region_now, open_of, closed_of, open_regions, closed_regions}
-use Rattle.model_findings.specs.Agents.{region_agent, agents_of}
-use Rattle.model_findings.specs.Lacks.{is_plain, plain_of, plain_regions}
-use Rattle.findings.specs.Regions.{is_of_sort, regions_of, all_regions}
-use Rattle.findings.specs.declared.regions.Sort.{Sort}
-use Rattle.findings.specs.declared.regions.Sort.TheVariants.{Open, Closed, Plain}
+use Rattle.model_findings.specs.{OpenRegions.{region_now, open_of, closed_of, open_regions, closed_regions}, Agents.{region_agent, agents_of}, Lacks.{is_plain, plain_of, plain_regions}}
+use Rattle.findings.specs.{Regions.{is_of_sort, regions_of, all_regions}, declared.regions.Sort.{Sort, TheVariants.{Open, Closed, Plain}}}
 
 abbrev row_of : Path → ℕ → Ranges → RoutingRow
 row_of p command rs = record { path = p; command = command; ranges = rs }

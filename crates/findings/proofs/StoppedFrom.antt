@@ -1,10 +1,6 @@
 -- What each function adds, and what is found first, from an index on.
-use Rattle.std.proofs.Common.{◌≡◌, ℕ, zero, suc, ◌+◌, Bool, true, false, cond, List, [], ◌∷◌, drop, ◌++◌, refl, sym, ap, ◌∙◌, add-one, append_assoc}
-use Rattle.std.specs.Prelude.{find, slice_get, map, filter, flat_map, reverse}
-use Rattle.std.proofs.lemmas.List.{map-append, reverse-append}
-use Rattle.std.specs.Option.{option_map_or, option_to_list}
-use Rattle.findings.proofs.Indexed.{flat_step}
-use Rattle.findings.specs.WhyByRows.{selected}
+use Rattle.std.{proofs.{Common.{◌≡◌, ℕ, zero, suc, ◌+◌, Bool, true, false, cond, List, [], ◌∷◌, drop, ◌++◌, refl, sym, ap, ◌∙◌, add-one, append_assoc}, lemmas.List.{map-append, reverse-append}}, specs.{Prelude.{find, slice_get, map, filter, flat_map, reverse}, Option.{option_map_or, option_to_list}}}
+use Rattle.findings.{proofs.Indexed.flat_step, specs.WhyByRows.selected}
 
 -- what an index adds to what those before it gave
 pub next_one : {A B : Type 0} (h : A → List B) (xs : List A) (i : ℕ) (whole before after one : List B) → before ++ flat_map h (drop i xs) ≡ whole → one ≡ flat_map h (option_to_list (slice_get xs i)) → after ≡ before ++ one

@@ -1,24 +1,10 @@
 -- Where spans in order end before the next begin, agents are alone; so those of other buses and spaces needn't be compared.
-use Rattle.std.proofs.Common.{◌≡◌, ℕ, zero, suc, ◌+◌, ◌-◌, ◌*◌, ◌<◌, ◌≤◌, ◌⊎◌, inl, inr, Bool, true, false, cond, List, [], ◌∷◌, ◌++◌, length, take, get_or, refl, sym, ap, ap₂, ◌∙◌, subst, arith, append_assoc, append-nil}
-use Rattle.std.specs.Prelude.{filter, flat_map}
-use Rattle.std.specs.List.{Contains}
-use Rattle.std.specs.List.Sorted.{IsNonDecreasingBy, IsPermutation}
-use Rattle.std.proofs.lemmas.List.{length-take, take_more}
-use Rattle.std.proofs.lemmas.List.Sorted.{Contains-permutation}
-use Rattle.std.proofs.Math.Nat.{min-le_left, min-le_right}
-use Rattle.lists.specs.Elements.{IsIn}
-use Rattle.model_registers.specs.Decoding.{Space, same_space}
-use Rattle.model_registers.proofs.HitRegions.{space_same}
-use Rattle.model_board.specs.Paths.{Path, parent}
-use Rattle.lists.proofs.Members.{each_from, in_map, in_front, in_back}
-use Rattle.model_board.proofs.PathOrder.{path_same}
-use Rattle.model_findings.specs.Agents.{Extent, Agent, answers}
-use Rattle.model_findings.specs.Orderly.{AreAlone}
-use Rattle.model_findings.specs.Problems.{contention, contentions}
-use Rattle.model_findings.proofs.Problems.{Within, by_extent, no_contention}
-use Rattle.lists.proofs.Members.{each_none}
-use Rattle.findings.specs.declared.span.Span.{Span}
-use Rattle.findings.specs.Spans.{bus_key, space_key, group_of, extent_span, agent_spans, spans_from, place_of, key_of, crowds, AreApartBut, is_crowded}
+use Rattle.std.{proofs.{Common.{◌≡◌, ℕ, zero, suc, ◌+◌, ◌-◌, ◌*◌, ◌<◌, ◌≤◌, ◌⊎◌, inl, inr, Bool, true, false, cond, List, [], ◌∷◌, ◌++◌, length, take, get_or, refl, sym, ap, ap₂, ◌∙◌, subst, arith, append_assoc, append-nil}, lemmas.List.{length-take, take_more, Sorted.Contains-permutation}, Math.Nat.{min-le_left, min-le_right}}, specs.{Prelude.{filter, flat_map}, List.{Contains, Sorted.{IsNonDecreasingBy, IsPermutation}}}}
+use Rattle.lists.{specs.Elements.IsIn, proofs.Members.{each_from, in_map, in_front, in_back, each_none}}
+use Rattle.model_registers.{specs.Decoding.{Space, same_space}, proofs.HitRegions.space_same}
+use Rattle.model_board.{specs.Paths.{Path, parent}, proofs.PathOrder.path_same}
+use Rattle.model_findings.{specs.{Agents.{Extent, Agent, answers}, Orderly.AreAlone, Problems.{contention, contentions}}, proofs.Problems.{Within, by_extent, no_contention}}
+use Rattle.findings.specs.{declared.span.Span.Span, Spans.{bus_key, space_key, group_of, extent_span, agent_spans, spans_from, place_of, key_of, crowds, AreApartBut, is_crowded}}
 
 -- ---- spans in order
 

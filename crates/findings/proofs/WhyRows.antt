@@ -1,18 +1,9 @@
 -- A row with what is declared of a bridge says of it what its registers say.
-use Rattle.std.proofs.Common.{◌≡◌, ℕ, cond, ◌∷◌, Option, Some, None, refl, sym, ap, ap₂, ◌∙◌, append-nil}
-use Rattle.std.specs.Prelude.{List, ◌++◌, ◌&&◌, [], slice_get, option_map, unwrap_or}
-use Rattle.std.specs.Option.{option_map_or, option_to_list}
-use Rattle.std.proofs.lemmas.Option.{slice_get-map}
+use Rattle.std.{proofs.{Common.{◌≡◌, ℕ, cond, ◌∷◌, Option, Some, None, refl, sym, ap, ap₂, ◌∙◌, append-nil}, lemmas.Option.slice_get-map}, specs.{Prelude.{List, ◌++◌, ◌&&◌, [], slice_get, option_map, unwrap_or}, Option.{option_map_or, option_to_list}}}
 use Rattle.model_registers.specs.Decoding.{Space, io, memory, command_word}
-use Rattle.model_board.specs.Paths.{Path}
-use Rattle.model_board.specs.Board.{Decl, endpoint, bridge}
-use Rattle.model_board.specs.State.{BoardFunction}
-use Rattle.model_board.specs.Routing.{ranges_of, RoutingRow, row_of, routing, row_forwards, is_routed}
-use Rattle.model_board.proofs.Routing.{forwarded_by_routing}
-use Rattle.model_lines.specs.Why.{stop, stops, forwarder, passes_on}
-use Rattle.model_lines.proofs.Why.{by_row}
-use Rattle.bridge_forward.specs.RoutingRows.{secondary_of, secondary_nth}
-use Rattle.bridge_forward.specs.BridgeDecls.{declared_bridge, declared_bridge_nth}
+use Rattle.model_board.{specs.{Paths.Path, Board.{Decl, endpoint, bridge}, State.BoardFunction, Routing.{ranges_of, RoutingRow, row_of, routing, row_forwards, is_routed}}, proofs.Routing.forwarded_by_routing}
+use Rattle.model_lines.{specs.Why.{stop, stops, forwarder, passes_on}, proofs.Why.by_row}
+use Rattle.bridge_forward.specs.{RoutingRows.{secondary_of, secondary_nth}, BridgeDecls.{declared_bridge, declared_bridge_nth}}
 use Rattle.findings.specs.WhyByRows.{row_stop, row_forwarder, forwarders_among}
 
 stop_by_row : (space : Space) (n : ℕ) (p : Path) (f : BoardFunction) → row_stop space n p (declared_bridge f.decl) (row_of f) ≡ stop space n p f

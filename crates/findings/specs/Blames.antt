@@ -5,20 +5,12 @@
 --     blame c q r      its blame, if it is above the region
 --     blames_of c rows q, all_blames c rows      that of the first to blame for a region; for all regions of the sort
 --     unforwarded_problem, prefetched_lack      what is told of a blame
-use Rattle.std.specs.Prelude.{List, ℕ, if◌then◌else◌, Option, None, flat_map}
-use Rattle.std.specs.Option.{option_map, option_to_list}
+use Rattle.std.specs.{Prelude.{List, ℕ, if◌then◌else◌, Option, None, flat_map}, Option.{option_map, option_to_list}}
 use Rattle.lists.specs.Elements.{first_some}
-use Rattle.model_board.specs.Paths.{leads_to}
-use Rattle.model_board.specs.Routing.{RoutingRow}
+use Rattle.model_board.specs.{Paths.leads_to, Routing.RoutingRow}
 use Rattle.model_set_up.specs.PlacedRegions.{PlacedRegion}
-use Rattle.model_findings.specs.Problems.{Problem, not_forwarded, unforwarded}
-use Rattle.model_findings.specs.Lacks.{Lack, prefetched_by, first_prefetched}
-use Rattle.findings.specs.Regions.{all_regions}
-use Rattle.findings.specs.declared.regions.Sort.{Sort}
-use Rattle.findings.specs.declared.regions.Sort.TheVariants.{Open, Plain}
-use Rattle.findings.specs.declared.blame.Blame.{Blame}
-use Rattle.findings.specs.declared.blame.Charge.{Charge}
-use Rattle.findings.specs.declared.blame.Charge.TheVariants.{NotForwarded, Prefetched}
+use Rattle.model_findings.specs.{Problems.{Problem, not_forwarded, unforwarded}, Lacks.{Lack, prefetched_by, first_prefetched}}
+use Rattle.findings.specs.{Regions.all_regions, declared.{regions.Sort.{Sort, TheVariants.{Open, Plain}}, blame.{Blame.Blame, Charge.{Charge, TheVariants.{NotForwarded, Prefetched}}}}}
 
 abbrev pub sort_blamed : Charge → Sort
 sort_blamed NotForwarded = Open

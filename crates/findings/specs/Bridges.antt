@@ -2,13 +2,9 @@
 --     is_bridge_row bus r      the row is that of the bridge above the bus
 --     is_there p o      the path that was reached is p
 --     lost_function fs p      the problem of the function at a path, if it has one
-use Rattle.std.specs.Prelude.{List, [], ◌∷◌, Bool, true, false, ◌&&◌, if◌then◌else◌, Option}
-use Rattle.std.specs.Option.{option_map_or}
-use Rattle.model_board.specs.Paths.{Path, path_eq}
-use Rattle.model_board.specs.State.{BoardFunction}
-use Rattle.model_board.specs.Routing.{Ranges, regions, windows, RoutingRow}
-use Rattle.model_findings.specs.Found.{address_now, path_reached}
-use Rattle.model_findings.specs.Problems.{Problem, not_found}
+use Rattle.std.specs.{Prelude.{List, [], ◌∷◌, Bool, true, false, ◌&&◌, if◌then◌else◌, Option}, Option.option_map_or}
+use Rattle.model_board.specs.{Paths.{Path, path_eq}, State.BoardFunction, Routing.{Ranges, regions, windows, RoutingRow}}
+use Rattle.model_findings.specs.{Found.{address_now, path_reached}, Problems.{Problem, not_found}}
 
 abbrev pub is_windows : Ranges → Bool
 is_windows (regions bs) = false

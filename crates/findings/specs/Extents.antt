@@ -2,12 +2,9 @@
 --     extent_of, extents_of      a window, both ends included, and up to two of them
 --     least_of      the lesser of two numbers that may be there
 --     first_missed es q      the least address of a region that none of some extents holds
-use Rattle.std.specs.Prelude.{List, ◌∷◌, ◌++◌, ℕ, ◌+◌, ◌&&◌, not, min, Option, Some, None, map, filter}
-use Rattle.std.specs.List.{list_any}
-use Rattle.std.specs.Option.{option_map, option_to_list}
+use Rattle.std.specs.{Prelude.{List, ◌∷◌, ◌++◌, ℕ, ◌+◌, ◌&&◌, not, min, Option, Some, None, map, filter}, List.list_any, Option.{option_map, option_to_list}}
 use Rattle.model_set_up.specs.PlacedRegions.{PlacedRegion, holds}
-use Rattle.model_findings.specs.Agents.{Extent, extent_holds}
-use Rattle.model_findings.specs.Problems.{least}
+use Rattle.model_findings.specs.{Agents.{Extent, extent_holds}, Problems.least}
 use Rattle.bridge_forward.specs.declared.routing.Window.{Window}
 
 abbrev pub extent_of : Window → Extent

@@ -1,12 +1,9 @@
 -- Problems and lacks, in the words of the definitions.
 --     problem_of, lack_of      a problem and a lack as the definitions have them
+use Rattle.paths.specs.BusAddresses.{bus_address_of}
+use Rattle.findings.specs.declared.{problem.Problem.{Problem, TheVariants.{NotForwarded, Contended, NotFound}}, lack.Lack.{Lack, TheVariants.{NotOpen, OutsideApertures, Prefetched, OtherPrimary}}}
 use Rattle.model_findings.specs.Problems as audit
 use Rattle.model_findings.specs.Lacks as ready
-use Rattle.paths.specs.BusAddresses.{bus_address_of}
-use Rattle.findings.specs.declared.problem.Problem.{Problem}
-use Rattle.findings.specs.declared.problem.Problem.TheVariants.{NotForwarded, Contended, NotFound}
-use Rattle.findings.specs.declared.lack.Lack.{Lack}
-use Rattle.findings.specs.declared.lack.Lack.TheVariants.{NotOpen, OutsideApertures, Prefetched, OtherPrimary}
 
 abbrev pub problem_of : Problem → audit.Problem
 problem_of (NotForwarded region bridge address) = audit.not_forwarded region bridge address

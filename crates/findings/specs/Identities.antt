@@ -3,8 +3,8 @@
 --     identity_nth fs i      that of the function at an index of the list
 use Rattle.std.specs.Prelude.{List, ℕ, Option, option_map, slice_get}
 use Rattle.model_board.specs.State.{BoardFunction}
-use Rattle.model_handoff.specs.Functions as model
 use Rattle.findings.specs.declared.identities.Identity.{Identity}
+use Rattle.model_handoff.specs.Functions as model
 
 abbrev pub identity_told : Identity → model.Identity
 identity_told i = record {

@@ -4,15 +4,11 @@
 --     regions_among sort p command bs      those of some regions of the function at p that are
 --     regions_of sort r, all_regions sort rows      those of a row, and of all rows
 use Rattle.std.specs.Prelude.{List, [], ℕ, Bool, ◌&&◌, not, map, filter, flat_map}
-use Rattle.model_registers.specs.EndpointTable.{BaseAddress}
-use Rattle.model_registers.specs.Decoding.{space_of, opens_space}
-use Rattle.model_board.specs.Paths.{Path}
-use Rattle.model_board.specs.Routing.{RoutingRow, regions, windows}
+use Rattle.model_registers.specs.{EndpointTable.BaseAddress, Decoding.{space_of, opens_space}}
+use Rattle.model_board.specs.{Paths.Path, Routing.{RoutingRow, regions, windows}}
 use Rattle.model_set_up.specs.PlacedRegions.{PlacedRegion}
-use Rattle.model_findings.specs.OpenRegions.{region_now}
-use Rattle.model_findings.specs.Lacks.{is_plain}
-use Rattle.findings.specs.declared.regions.Sort.{Sort}
-use Rattle.findings.specs.declared.regions.Sort.TheVariants.{Open, Closed, Plain}
+use Rattle.model_findings.specs.{OpenRegions.region_now, Lacks.is_plain}
+use Rattle.findings.specs.declared.regions.Sort.{Sort, TheVariants.{Open, Closed, Plain}}
 
 abbrev pub is_of_sort : Sort → ℕ → BaseAddress → Bool
 is_of_sort Open command b = opens_space command (space_of b.kind)

@@ -6,8 +6,7 @@
 --     crowds groups g      one of some buses and spaces
 --     AreApartBut groups spans      but in these, each span ends before the next one begins
 --     is_crowded groups a      an agent there
-use Rattle.std.specs.Prelude.{List, [], ◌∷◌, ◌++◌, ◌≡◌, ℕ, ◌+◌, ◌-◌, ◌*◌, ◌%◌, ◌<◌, ◌==◌, Bool, IsFalse, min, map, length, slice_index_or}
-use Rattle.std.specs.List.{list_any}
+use Rattle.std.specs.{Prelude.{List, [], ◌∷◌, ◌++◌, ◌≡◌, ℕ, ◌+◌, ◌-◌, ◌*◌, ◌%◌, ◌<◌, ◌==◌, Bool, IsFalse, min, map, length, slice_index_or}, List.list_any}
 use Rattle.model_registers.specs.Decoding.{Space, io, memory}
 use Rattle.model_board.specs.Paths.{Path, parent}
 use Rattle.model_findings.specs.Agents.{Extent, Agent}

@@ -4,18 +4,12 @@
 --     causes_at, told_from      all that keeps such a region from answering, by its path and Command; what is told of it
 --     selected t g xs      of the elements that pass a test
 --     row_forwarder, forwarders_among      a bridge that forwards the address, by its row; those among some functions
-use Rattle.std.specs.Prelude.{List, [], ◌∷◌, ◌++◌, ℕ, Bool, ◌&&◌, not, if◌then◌else◌, Option, Some, None, map, filter, flat_map}
-use Rattle.std.specs.Prelude.{reverse, unwrap_or}
-use Rattle.model_registers.specs.Declarations.{Bridge}
-use Rattle.model_registers.specs.Decoding.{Space, io, memory, opens_space}
-use Rattle.model_board.specs.Paths.{Path, leads_to}
-use Rattle.model_board.specs.Claims.{Claim}
-use Rattle.model_board.specs.State.{BoardFunction}
-use Rattle.model_board.specs.Routing.{Ranges, regions, windows, RoutingRow, row_forwards, is_routed}
+use Rattle.std.specs.Prelude.{List, [], ◌∷◌, ◌++◌, ℕ, Bool, ◌&&◌, not, if◌then◌else◌, Option, Some, None, map, filter, flat_map, reverse, unwrap_or}
+use Rattle.model_registers.specs.{Declarations.Bridge, Decoding.{Space, io, memory, opens_space}}
+use Rattle.model_board.specs.{Paths.{Path, leads_to}, Claims.Claim, State.BoardFunction, Routing.{Ranges, regions, windows, RoutingRow, row_forwards, is_routed}}
 use Rattle.model_set_up.specs.PlacedRegions.{PlacedRegion, holds}
 use Rattle.model_findings.specs.OpenRegions.{regions_of}
-use Rattle.model_lines.specs.Why.{NamedWindow, named, for_memory, io_windows, pref_windows, Hindrance, closes, misses}
-use Rattle.model_lines.specs.Why.{Cause, closed_by, stopped_at, stops, is_answer, Told, Forwarder, forwarder, passes_on}
+use Rattle.model_lines.specs.Why.{NamedWindow, named, for_memory, io_windows, pref_windows, Hindrance, closes, misses, Cause, closed_by, stopped_at, stops, is_answer, Told, Forwarder, forwarder, passes_on}
 use Rattle.findings.specs.declared.holding.Held.{Held}
 
 abbrev pub row_windows : Space → Bridge → Ranges → List NamedWindow

@@ -5,17 +5,10 @@
 --     missing_by      what is missing at the end, unless a path is reached
 --     is_unfound, unfound      a function, by its path, that has a number and isn't reached; those among some rows
 use Rattle.std.specs.Prelude.{List, [], ℕ, Bool, ◌&&◌, ◌==◌, not, Option, Some, None, option_map, unwrap_or, map, filter}
-use Rattle.model_board.specs.Paths.{Path, path_eq, parent}
-use Rattle.model_board.specs.State.{BoardFunction}
-use Rattle.model_board.specs.Cycles.{secondary_register, covers, taker, BusAddress}
-use Rattle.model_board.specs.Routing.{RoutingRow}
+use Rattle.model_board.specs.{Paths.{Path, path_eq, parent}, State.BoardFunction, Cycles.{secondary_register, covers, taker, BusAddress}, Routing.RoutingRow}
 use Rattle.model_findings.specs.Found.{address_now}
+use Rattle.findings.specs.{Bridges.is_there, WhyByRows.selected, declared.cycle_way.{WayEnd.{WayEnd, TheVariants.{OnBus, NoTaker}}, Taken.Taken}}
 use Rattle.model_lines.specs.Ways as ways
-use Rattle.findings.specs.Bridges.{is_there}
-use Rattle.findings.specs.WhyByRows.{selected}
-use Rattle.findings.specs.declared.cycle_way.WayEnd.{WayEnd}
-use Rattle.findings.specs.declared.cycle_way.WayEnd.TheVariants.{OnBus, NoTaker}
-use Rattle.findings.specs.declared.cycle_way.Taken.{Taken}
 
 -- no path names bus 0
 abbrev pub end_told : WayEnd → ways.WayEnd

@@ -3,28 +3,13 @@
 --     forwarder_told, region_told, why_told      of a bridge, of a region, and of an address
 --     missing_told, number_told      of a configuration number
 --     use_told      what the latch makes of a port
-use Rattle.std.specs.Prelude.{List, [], ◌++◌, map, unwrap_or, Option, option_map}
-use Rattle.std.specs.Option.{option_to_list}
+use Rattle.std.specs.{Prelude.{List, [], ◌++◌, map, unwrap_or, Option, option_map}, Option.option_to_list}
 use Rattle.bridge_forward.specs.RoutingRows.{window_of}
+use Rattle.paths.specs.BusAddresses.{bus_address_of}
+use Rattle.findings.specs.declared.{causes.{WindowName.{WindowName, TheVariants.{Io, Memory, Prefetchable}}, NamedWindow.NamedWindow, Hindrance.{Hindrance, TheVariants.{Closes, Misses}}, Cause.{Cause, TheVariants.{ClosedBy, StoppedAt}}, Told.Told, Forwarder.Forwarder, Why.Why}, number_why.{Missing.{Missing, TheVariants.{NoBridge, NoFunction}}, WhyNumber.WhyNumber}, port_why.PortUse.{PortUse, TheVariants.{HoldsLatch, ShowsData, HidesData, LikeOthers}}}
 use Rattle.model_lines.specs.Why as model
 use Rattle.model_lines.specs.Ways as ways
 use Rattle.model_lines.specs.WhyPorts as ports
-use Rattle.paths.specs.BusAddresses.{bus_address_of}
-use Rattle.findings.specs.declared.causes.WindowName.{WindowName}
-use Rattle.findings.specs.declared.causes.WindowName.TheVariants.{Io, Memory, Prefetchable}
-use Rattle.findings.specs.declared.causes.NamedWindow.{NamedWindow}
-use Rattle.findings.specs.declared.causes.Hindrance.{Hindrance}
-use Rattle.findings.specs.declared.causes.Hindrance.TheVariants.{Closes, Misses}
-use Rattle.findings.specs.declared.causes.Cause.{Cause}
-use Rattle.findings.specs.declared.causes.Cause.TheVariants.{ClosedBy, StoppedAt}
-use Rattle.findings.specs.declared.causes.Told.{Told}
-use Rattle.findings.specs.declared.causes.Forwarder.{Forwarder}
-use Rattle.findings.specs.declared.causes.Why.{Why}
-use Rattle.findings.specs.declared.number_why.Missing.{Missing}
-use Rattle.findings.specs.declared.number_why.Missing.TheVariants.{NoBridge, NoFunction}
-use Rattle.findings.specs.declared.number_why.WhyNumber.{WhyNumber}
-use Rattle.findings.specs.declared.port_why.PortUse.{PortUse}
-use Rattle.findings.specs.declared.port_why.PortUse.TheVariants.{HoldsLatch, ShowsData, HidesData, LikeOthers}
 
 abbrev pub name_told : WindowName → model.WindowName
 name_told Io = model.for_io

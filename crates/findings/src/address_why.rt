@@ -3,8 +3,7 @@ ghost use Rattle.std.specs.Prelude.{◌≡◌, map, IfOk};
 ghost use Rattle.bars.specs.Kinds.{named_space};
 ghost use Rattle.model_board.specs.Routing.{routing};
 ghost use Rattle.model_lines.specs.Why.{why};
-ghost use Rattle.findings.specs.WhyByRows.{told_from};
-ghost use Rattle.findings.specs.WhyTold.{region_told, why_told};
+ghost use Rattle.findings.specs.{WhyByRows.told_from, WhyTold.{region_told, why_told}};
 
 use crate::causes::{Told, Why};
 use crate::holding::{Asked, Held, all_held};

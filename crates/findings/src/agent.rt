@@ -1,6 +1,5 @@
 //! What may answer addresses on a bus.
-ghost use Rattle.std.specs.Prelude.{◌≡◌};
-ghost use Rattle.std.specs.List.{list_any};
+ghost use Rattle.std.specs.{Prelude.◌≡◌, List.list_any};
 ghost use Rattle.bars.specs.Kinds.{named_space};
 ghost use Rattle.model_board.specs.Paths.{path_eq};
 ghost use Rattle.model_findings.specs.Agents.{extent_holds, region_agent, bridge_agent, on_one_bus};

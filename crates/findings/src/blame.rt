@@ -2,8 +2,7 @@
 ghost use Rattle.std.specs.Prelude.{◌≡◌, ◌++◌, map, filter, flat_map, IfOk, OnOk};
 ghost use Rattle.lists.specs.Elements.{first_some};
 ghost use Rattle.model_board.specs.Paths.{leads_to};
-ghost use Rattle.findings.specs.Blames.{sort_blamed, address_blamed, blame, blames_of, all_blames};
-ghost use Rattle.findings.specs.Regions.{regions_of};
+ghost use Rattle.findings.specs.{Blames.{sort_blamed, address_blamed, blame, blames_of, all_blames}, Regions.regions_of};
 
 use crate::forwarding::unforwarded;
 use crate::prefetching::first_prefetched;

@@ -1,7 +1,6 @@
 //! The number by which a function is reached (PCI-to-PCI Bridge Architecture 1.2, chapter 3).
 ghost use Rattle.std.specs.Prelude.{◌≡◌, ◌≤◌, ◌<◌, ◌+◌, ◌++◌, length};
-ghost use Rattle.model_findings.specs.Orderly.{IsStateOfBoard};
-ghost use Rattle.model_findings.specs.Found.{bus_now, address_now};
+ghost use Rattle.model_findings.specs.{Orderly.IsStateOfBoard, Found.{bus_now, address_now}};
 ghost use Rattle.paths.specs.BusAddresses.{bus_address_of};
 
 use host_bridge::{Bdf, Host};

@@ -1,11 +1,8 @@
 //! Agents of one bus that answer one address.
-ghost use Rattle.std.specs.Prelude.{◌≡◌, ◌++◌, ◌&&◌, map, filter, flat_map, OnOk, IsTrue};
-ghost use Rattle.std.specs.Option.{option_map, option_to_list};
+ghost use Rattle.std.specs.{Prelude.{◌≡◌, ◌++◌, ◌&&◌, map, filter, flat_map, OnOk, IsTrue}, Option.{option_map, option_to_list}};
 ghost use Rattle.model_registers.specs.Decoding.{same_space};
-ghost use Rattle.model_findings.specs.Agents.{answers};
-ghost use Rattle.model_findings.specs.Problems.{shared, contention, contentions};
-ghost use Rattle.findings.specs.Extents.{extent_of};
-ghost use Rattle.findings.specs.Findings.{problem_of};
+ghost use Rattle.model_findings.specs.{Agents.answers, Problems.{shared, contention, contentions}};
+ghost use Rattle.findings.specs.{Extents.extent_of, Findings.problem_of};
 
 use crate::agent::Agent;
 use crate::missed_address::lesser;

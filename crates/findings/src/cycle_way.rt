@@ -1,9 +1,6 @@
 //! The way of a configuration cycle (PCI-to-PCI Bridge Architecture 1.2, chapter 3).
-ghost use Rattle.std.specs.Prelude.{◌≡◌, ◌++◌, [], false, map, slice_get, unwrap_or, IfOk, OnOk};
-ghost use Rattle.std.specs.Option.{option_and_then, option_map_or, option_to_list};
-ghost use Rattle.model_board.specs.Paths.{path_eq, parent};
-ghost use Rattle.model_board.specs.State.{BoardFunction};
-ghost use Rattle.model_board.specs.Cycles.{covers, taker};
+ghost use Rattle.std.specs.{Prelude.{◌≡◌, ◌++◌, [], false, map, slice_get, unwrap_or, IfOk, OnOk}, Option.{option_and_then, option_map_or, option_to_list}};
+ghost use Rattle.model_board.specs.{Paths.{path_eq, parent}, State.BoardFunction, Cycles.{covers, taker}};
 ghost use Rattle.model_lines.specs.Ways.{takers, takers_down, way_end};
 ghost use Rattle.findings.specs.WhyOnWay.{end_told, is_taker, paths_taking, taken};
 

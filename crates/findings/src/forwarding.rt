@@ -1,8 +1,7 @@
 //! Open regions that a bridge above them doesn't forward.
 ghost use Rattle.std.specs.Prelude.{◌≡◌, ◌++◌, map, OnOk};
 ghost use Rattle.model_findings.specs.Problems.{unforwarded};
-ghost use Rattle.findings.specs.Blames.{unforwarded_problem};
-ghost use Rattle.findings.specs.Findings.{problem_of};
+ghost use Rattle.findings.specs.{Blames.unforwarded_problem, Findings.problem_of};
 
 use crate::blame::Blame;
 use crate::missed_address::first_missed;

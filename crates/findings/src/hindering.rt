@@ -1,12 +1,10 @@
 //! What keeps a bridge from forwarding an address (PCI-to-PCI Bridge Architecture 1.2, chapters 3.2.5 and 4).
-ghost use Rattle.std.specs.Prelude.{◌≡◌, map, option_map};
-ghost use Rattle.std.specs.Option.{option_to_list};
+ghost use Rattle.std.specs.{Prelude.{◌≡◌, map, option_map}, Option.option_to_list};
 ghost use Rattle.bars.specs.Kinds.{named_space};
 ghost use Rattle.model_board.specs.Routing.{row_forwards};
 ghost use Rattle.model_lines.specs.Why.{io_windows, pref_windows};
 ghost use Rattle.bridge_forward.specs.RoutingRows.{named_ranges, window_of};
-ghost use Rattle.findings.specs.WhyByRows.{row_windows, row_hindrance};
-ghost use Rattle.findings.specs.WhyTold.{window_told, windows_told, hindrance_told};
+ghost use Rattle.findings.specs.{WhyByRows.{row_windows, row_hindrance}, WhyTold.{window_told, windows_told, hindrance_told}};
 
 use crate::causes::{Hindrance, NamedWindow, WindowName};
 use crate::row::{is_in, opens};

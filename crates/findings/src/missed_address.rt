@@ -1,7 +1,5 @@
 //! The least address of a region that some windows leave out.
-ghost use Rattle.std.specs.Prelude.{◌≡◌, ◌&&◌, not, map, filter};
-ghost use Rattle.std.specs.Option.{option_map, option_to_list};
-ghost use Rattle.std.specs.List.{list_any};
+ghost use Rattle.std.specs.{Prelude.{◌≡◌, ◌&&◌, not, map, filter}, Option.{option_map, option_to_list}, List.list_any};
 ghost use Rattle.model_set_up.specs.PlacedRegions.{holds};
 ghost use Rattle.model_findings.specs.Agents.{extent_holds};
 ghost use Rattle.findings.specs.Extents.{extent_of, extents_of, least_of, first_missed};

@@ -1,12 +1,9 @@
 //! Why a configuration number reaches what it reaches (PCI-to-PCI Bridge Architecture 1.2, chapter 3).
 ghost use Rattle.std.specs.Prelude.{◌≡◌, map, option_map, IfOk};
-ghost use Rattle.model_board.specs.Cycles.{reached};
-ghost use Rattle.model_board.specs.State.{BoardFunction};
-ghost use Rattle.model_board.specs.Routing.{routing};
+ghost use Rattle.model_board.specs.{Cycles.reached, State.BoardFunction, Routing.routing};
 ghost use Rattle.model_lines.specs.Ways.{takers_on_way, end_of, missing_at, why_number};
 ghost use Rattle.paths.specs.BusAddresses.{bus_address_of};
-ghost use Rattle.findings.specs.WhyOnWay.{end_told, missing_by, is_unfound, unfound};
-ghost use Rattle.findings.specs.WhyTold.{missing_told, number_told};
+ghost use Rattle.findings.specs.{WhyOnWay.{end_told, missing_by, is_unfound, unfound}, WhyTold.{missing_told, number_told}};
 
 use crate::cycle_way::{Way, WayEnd, way_down};
 use crate::numbering::{address_now, is_there};

@@ -1,12 +1,9 @@
 //! Which functions no configuration cycle finds (PCI-to-PCI Bridge Architecture 1.2, chapter 3).
-ghost use Rattle.std.specs.Prelude.{◌≡◌, ◌++◌, map, position, slice_get, OnOk, option_map};
-ghost use Rattle.std.specs.Option.{option_and_then, option_to_list};
+ghost use Rattle.std.specs.{Prelude.{◌≡◌, ◌++◌, map, position, slice_get, OnOk, option_map}, Option.{option_and_then, option_to_list}};
 ghost use Rattle.model_board.specs.Routing.{routing, RoutingRow as RowValue};
-ghost use Rattle.model_findings.specs.Found.{bus_now, address_now};
-ghost use Rattle.model_findings.specs.Problems.{numbering_problems};
+ghost use Rattle.model_findings.specs.{Found.{bus_now, address_now}, Problems.numbering_problems};
 ghost use Rattle.paths.specs.BusAddresses.{bus_address_of};
-ghost use Rattle.findings.specs.Bridges.{is_bridge_row, is_there, lost_function};
-ghost use Rattle.findings.specs.Findings.{problem_of};
+ghost use Rattle.findings.specs.{Bridges.{is_bridge_row, is_there, lost_function}, Findings.problem_of};
 
 use crate::problem::Problem;
 use bridge_forward::{Part, Path, Ranges, RoutingRow};

@@ -1,10 +1,8 @@
 //! Open regions with addresses in no aperture of their space.
-ghost use Rattle.std.specs.Prelude.{◌≡◌, ◌++◌, flat_map, OnOk, map};
-ghost use Rattle.std.specs.Option.{option_map, option_to_list};
+ghost use Rattle.std.specs.{Prelude.{◌≡◌, ◌++◌, flat_map, OnOk, map}, Option.{option_map, option_to_list}};
 ghost use Rattle.bars.specs.Kinds.{named_space};
 ghost use Rattle.model_findings.specs.Lacks.{aperture_extent, aperture_extents, outside_lack};
-ghost use Rattle.findings.specs.Extents.{extent_of, extents_of};
-ghost use Rattle.findings.specs.Findings.{lack_of};
+ghost use Rattle.findings.specs.{Extents.{extent_of, extents_of}, Findings.lack_of};
 
 use crate::lack::Lack;
 use crate::missed_address::first_missed;

@@ -1,6 +1,5 @@
 //! The text of a path, as board files and reports have it.
-ghost use Rattle.std.specs.Prelude.{◌≡◌, ◌≤◌, ◌<◌, ◌+◌, ◌*◌, ◌++◌, length, map, decimal};
-ghost use Rattle.std.specs.List.{join_with_byte};
+ghost use Rattle.std.specs.{Prelude.{◌≡◌, ◌≤◌, ◌<◌, ◌+◌, ◌*◌, ◌++◌, length, map, decimal}, List.join_with_byte};
 ghost use Rattle.model_guests.specs.PathTexts.{part_text, path_text};
 
 use arrayvec::ArrayVec;

@@ -1,12 +1,9 @@
 //! What a bridge forwards of a region by its prefetchable window alone (PCI-to-PCI Bridge Architecture 1.2,
 //! chapter 4).
-ghost use Rattle.std.specs.Prelude.{◌≡◌, [], ◌∷◌, ◌++◌, ◌&&◌, map, filter, OnOk};
-ghost use Rattle.std.specs.Option.{option_map, option_to_list};
+ghost use Rattle.std.specs.{Prelude.{◌≡◌, [], ◌∷◌, ◌++◌, ◌&&◌, map, filter, OnOk}, Option.{option_map, option_to_list}};
 ghost use Rattle.model_set_up.specs.PlacedRegions.{holds};
 ghost use Rattle.model_findings.specs.Lacks.{prefetches, prefetch_edges, first_prefetched};
-ghost use Rattle.findings.specs.Extents.{extent_of};
-ghost use Rattle.findings.specs.Blames.{prefetched_lack};
-ghost use Rattle.findings.specs.Findings.{lack_of};
+ghost use Rattle.findings.specs.{Extents.extent_of, Blames.prefetched_lack, Findings.lack_of};
 
 use crate::blame::Blame;
 use crate::lack::Lack;

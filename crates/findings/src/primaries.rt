@@ -1,6 +1,5 @@
 //! Bridges that don't hold the number of their bus (PCI-to-PCI Bridge Architecture 1.2, chapter 3.2.5.2).
-ghost use Rattle.std.specs.Prelude.{◌≡◌, ◌++◌, map, flat_map, slice_get, OnOk, option_map};
-ghost use Rattle.std.specs.Option.{option_to_list};
+ghost use Rattle.std.specs.{Prelude.{◌≡◌, ◌++◌, map, flat_map, slice_get, OnOk, option_map}, Option.option_to_list};
 ghost use Rattle.model_board.specs.Routing.{routing};
 ghost use Rattle.model_findings.specs.Lacks.{primary_lack};
 ghost use Rattle.findings.specs.Findings.{lack_of};

@@ -1,6 +1,5 @@
 //! A region where its register says now.
-ghost use Rattle.std.specs.Prelude.{◌≡◌, ◌+◌, [], ◌∷◌, filter};
-ghost use Rattle.std.specs.Option.{option_to_list};
+ghost use Rattle.std.specs.{Prelude.{◌≡◌, ◌+◌, [], ◌∷◌, filter}, Option.option_to_list};
 ghost use Rattle.model_set_up.specs.PlacedRegions.{holds};
 ghost use Rattle.findings.specs.Extents.{extent_of};
 

@@ -1,6 +1,5 @@
 //! What routing registers say of one function.
-ghost use Rattle.std.specs.Prelude.{◌≡◌, option_map};
-ghost use Rattle.std.specs.List.{list_any};
+ghost use Rattle.std.specs.{Prelude.{◌≡◌, option_map}, List.list_any};
 ghost use Rattle.bars.specs.Kinds.{named_space};
 ghost use Rattle.model_registers.specs.Decoding.{opens_space, same_space};
 ghost use Rattle.model_board.specs.Windows.{is_in};

@@ -1,7 +1,5 @@
 //! Agents that may answer one address, found by a walk over what they answer in the order of addresses.
-ghost use Rattle.std.specs.Prelude.{◌≡◌, ℕ, ◌++◌, ◌^◌, ◌<◌, IfOk, OnOk, IsTrue, map, filter};
-ghost use Rattle.std.specs.Option.{option_to_list};
-ghost use Rattle.std.specs.List.Sorted.{IsNonDecreasingBy, IsPermutation};
+ghost use Rattle.std.specs.{Prelude.{◌≡◌, ℕ, ◌++◌, ◌^◌, ◌<◌, IfOk, OnOk, IsTrue, map, filter}, Option.option_to_list, List.Sorted.{IsNonDecreasingBy, IsPermutation}};
 ghost use Rattle.model_findings.specs.Problems.{contentions};
 ghost use Rattle.findings.specs.Spans.{bus_key, group_of, key_of, window_span, agent_spans, spans_from, EndsBefore, crowds, AreApartBut, is_crowded};
 

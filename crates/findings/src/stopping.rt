@@ -1,12 +1,10 @@
 //! What keeps a region that holds an address from answering it.
-ghost use Rattle.std.specs.Prelude.{◌≡◌, map, slice_get, option_map, IfOk};
-ghost use Rattle.std.specs.Option.{option_to_list};
+ghost use Rattle.std.specs.{Prelude.{◌≡◌, map, slice_get, option_map, IfOk}, Option.option_to_list};
 ghost use Rattle.bars.specs.Kinds.{named_space};
 ghost use Rattle.model_board.specs.Routing.{routing};
 ghost use Rattle.model_lines.specs.Why.{stops};
 ghost use Rattle.bridge_forward.specs.BridgeDecls.{declared_bridge_nth};
-ghost use Rattle.findings.specs.WhyByRows.{row_stop, causes_at};
-ghost use Rattle.findings.specs.WhyTold.{cause_told};
+ghost use Rattle.findings.specs.{WhyByRows.{row_stop, causes_at}, WhyTold.cause_told};
 
 use crate::causes::Cause;
 use crate::hindering::{forwards, hindrance_of};

@@ -1,12 +1,10 @@
 //! The bridges that forward an address, down to where its way ends (PCI-to-PCI Bridge Architecture 1.2, chapter 4).
-ghost use Rattle.std.specs.Prelude.{◌≡◌, ◌&&◌, map, slice_get, option_map, IfOk};
-ghost use Rattle.std.specs.Option.{option_to_list};
+ghost use Rattle.std.specs.{Prelude.{◌≡◌, ◌&&◌, map, slice_get, option_map, IfOk}, Option.option_to_list};
 ghost use Rattle.bars.specs.Kinds.{named_space};
 ghost use Rattle.model_board.specs.Routing.{routing, row_forwards, is_routed};
 ghost use Rattle.model_lines.specs.Why.{forwarders};
-ghost use Rattle.findings.specs.WhyByRows.{row_forwarder, forwarders_among};
+ghost use Rattle.findings.specs.{WhyByRows.{row_forwarder, forwarders_among}, WhyTold.forwarder_told};
 ghost use Rattle.bridge_forward.specs.RoutingRows.{secondary_nth};
-ghost use Rattle.findings.specs.WhyTold.{forwarder_told};
 
 use crate::causes::Forwarder;
 use crate::hindering::forwards;

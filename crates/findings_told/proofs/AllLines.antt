@@ -1,16 +1,9 @@
 -- The lines of problems and lacks with the last line.
-use Rattle.std.proofs.Common.{◌≡◌, ◌++◌, List, [], ◌∷◌, ℕ, map, length, ap, ap₂, sym, ◌∙◌, append-nil}
-use Rattle.std.proofs.lemmas.List.{length-map}
-use Rattle.model_guests.specs.Text.{Text, ended, text_of_lines}
-use Rattle.model_findings.specs.AuditText.{problem_text, audit_line}
-use Rattle.model_findings.specs.ReadyText.{lack_text, ready_total, ready_line, ready_text}
-use Rattle.model_guests.proofs.WrittenLines.{text_of_lines-append}
-use Rattle.findings.specs.Findings.{problem_of}
-use Rattle.findings.specs.declared.problem.Problem.{Problem}
-use Rattle.findings_told.specs.Lines.{problem_lines}
-use Rattle.findings.specs.Findings.{lack_of}
-use Rattle.findings.specs.declared.lack.Lack.{Lack}
-use Rattle.findings_told.specs.Lines.{lack_lines}
+use Rattle.std.proofs.{Common.{◌≡◌, ◌++◌, List, [], ◌∷◌, ℕ, map, length, ap, ap₂, sym, ◌∙◌, append-nil}, lemmas.List.length-map}
+use Rattle.model_guests.{specs.Text.{Text, ended, text_of_lines}, proofs.WrittenLines.text_of_lines-append}
+use Rattle.model_findings.specs.{AuditText.{problem_text, audit_line}, ReadyText.{lack_text, ready_total, ready_line, ready_text}}
+use Rattle.findings.specs.{Findings.{problem_of, lack_of}, declared.{problem.Problem.Problem, lack.Lack.Lack}}
+use Rattle.findings_told.specs.Lines.{problem_lines, lack_lines}
 
 abbrev last : ℕ → ℕ → Text
 last m n = ready_line (ready_total m n)

@@ -1,11 +1,8 @@
 -- The lines of problems and lacks with the last line.
-use Rattle.std.proofs.Common.{◌≡◌, ◌++◌, List, ℕ, map, length, append_assoc, append-nil, arith}
-use Rattle.std.proofs.lemmas.List.{length-map}
-use Rattle.model_guests.specs.Text.{Text, ended}
+use Rattle.std.proofs.{Common.{◌≡◌, ◌++◌, List, ℕ, map, length, append_assoc, append-nil, arith}, lemmas.List.length-map}
+use Rattle.model_guests.{specs.Text.{Text, ended}, proofs.WrittenLines.text_of_lines-append}
 use Rattle.model_findings.specs.AuditText.{audit_line, total_text, audit_text}
-use Rattle.model_guests.proofs.WrittenLines.{text_of_lines-append}
-use Rattle.findings.specs.Findings.{problem_of}
-use Rattle.findings.specs.declared.problem.Problem.{Problem}
+use Rattle.findings.specs.{Findings.problem_of, declared.problem.Problem.Problem}
 use Rattle.findings_told.specs.Lines.{problem_lines}
 
 pub right_to_left : (a b c d e : Text) → a ++ (b ++ (c ++ (d ++ e))) ≡ a ++ b ++ c ++ d ++ e

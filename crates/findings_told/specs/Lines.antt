@@ -1,11 +1,8 @@
 -- The lines of some problems and of some lacks, in the program's words.
 use Rattle.std.specs.Prelude.{List, map}
 use Rattle.model_guests.specs.Text.{Text, text_of_lines}
-use Rattle.model_findings.specs.AuditText.{problem_text, audit_line}
-use Rattle.model_findings.specs.ReadyText.{lack_text, ready_line}
-use Rattle.findings.specs.Findings.{problem_of, lack_of}
-use Rattle.findings.specs.declared.problem.Problem.{Problem}
-use Rattle.findings.specs.declared.lack.Lack.{Lack}
+use Rattle.model_findings.specs.{AuditText.{problem_text, audit_line}, ReadyText.{lack_text, ready_line}}
+use Rattle.findings.specs.{Findings.{problem_of, lack_of}, declared.{problem.Problem.Problem, lack.Lack.Lack}}
 
 abbrev pub problem_lines : List Problem → Text
 problem_lines ps = text_of_lines (map (λ p. audit_line (problem_text p)) (map problem_of ps))

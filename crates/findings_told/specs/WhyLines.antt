@@ -4,23 +4,18 @@
 --     at_reset_text      how many regions are as at reset
 --     use_text      what the latch makes of a port, if it makes something of it
 --     line_text      what a line says beside its first word
-use Rattle.std.specs.Prelude.{[], ◌++◌, ℕ, Option, ◌==◌, if◌then◌else◌, codes, decimal}
-use Rattle.std.specs.Option.{option_map_or}
+use Rattle.std.specs.{Prelude.{[], ◌++◌, ℕ, Option, ◌==◌, if◌then◌else◌, codes, decimal}, Option.option_map_or}
 use Rattle.model_registers.specs.Decoding.{Space}
-use Rattle.model_board.specs.Paths.{Path}
-use Rattle.model_board.specs.Cycles.{BusAddress}
-use Rattle.model_guests.specs.Text.{Text}
-use Rattle.model_guests.specs.Replies.{hex_digits}
-use Rattle.model_guests.specs.PathTexts.{hexadecimal, path_text}
+use Rattle.model_board.specs.{Paths.Path, Cycles.BusAddress}
+use Rattle.model_guests.specs.{Text.Text, Replies.hex_digits, PathTexts.{hexadecimal, path_text}}
 use Rattle.model_findings.specs.AuditText.{space_text, number_text}
-use Rattle.model_lines.specs.Why as model
-use Rattle.model_lines.specs.WhyPorts as ports
 use Rattle.model_lines.specs.WhyText.{claim_text, no_claim_text, forwarder_text, told_text, missing_text, not_found_text, total_text}
 use Rattle.bars.specs.Kinds.{named_space}
 use Rattle.paths.specs.BusAddresses.{bus_address_of}
 use Rattle.findings.specs.WhyTold.{forwarder_told, region_told, why_told, missing_told, use_told}
-use Rattle.findings_told.specs.declared.why_line.Line.{Line}
-use Rattle.findings_told.specs.declared.why_line.Line.TheVariants.{Port, Address, Forwarder, Region, AtReset, Number, Taker, Missing, NotFound, Total}
+use Rattle.findings_told.specs.declared.why_line.Line.{Line, TheVariants.{Port, Address, Forwarder, Region, AtReset, Number, Taker, Missing, NotFound, Total}}
+use Rattle.model_lines.specs.Why as model
+use Rattle.model_lines.specs.WhyPorts as ports
 
 abbrev pub answer_text : model.Why → Text
 answer_text w = option_map_or claim_text w.answer (no_claim_text w.forwarders)

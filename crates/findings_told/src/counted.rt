@@ -1,9 +1,6 @@
 //! The text of what is found, with its count.
 ghost use Rattle.std.specs.Prelude.{◌≡◌, ◌+◌, length, map, IfOk, string_bytes};
-ghost use Rattle.model_findings.specs.AuditText.{audit_text, audit};
-ghost use Rattle.model_findings.specs.Problems.{problems};
-ghost use Rattle.model_findings.specs.Lacks.{lack_count};
-ghost use Rattle.model_findings.specs.ReadyText.{ready_text, ready_report};
+ghost use Rattle.model_findings.specs.{AuditText.{audit_text, audit}, Problems.problems, Lacks.lack_count, ReadyText.{ready_text, ready_report}};
 ghost use Rattle.findings.specs.Findings.{problem_of, lack_of};
 
 use crate::lack_lines::{push_lacks, push_ready_count};

@@ -2,8 +2,7 @@
 ghost use Rattle.std.specs.Prelude.{OnOk, Some};
 ghost use Rattle.lists.specs.Texts.{Adds};
 ghost use Rattle.paths.specs.BusAddresses.{bus_address_of};
-ghost use Rattle.model_findings.specs.Problems.{not_forwarded, contended, not_found};
-ghost use Rattle.model_findings.specs.AuditText.{agent_text, problem_text, total_text, audit_line};
+ghost use Rattle.model_findings.specs.{Problems.{not_forwarded, contended, not_found}, AuditText.{agent_text, problem_text, total_text, audit_line}};
 ghost use Rattle.findings.specs.Findings.{problem_of};
 ghost use Rattle.findings_told.specs.Lines.{problem_lines};
 ghost use Rattle.model_guests.specs.Text.{ended};

@@ -2,9 +2,7 @@
 ghost use Rattle.std.specs.Prelude.{◌≡◌, OnOk, Some, map};
 ghost use Rattle.lists.specs.Texts.{Adds};
 ghost use Rattle.bars.specs.Kinds.{named_space};
-ghost use Rattle.model_lines.specs.WhyText.{hindrance_text, cause_text};
-ghost use Rattle.model_lines.specs.WhyText.{causes_text, told_text, forwarder_text, claim_text};
-ghost use Rattle.model_lines.specs.WhyText.{no_claim_text};
+ghost use Rattle.model_lines.specs.WhyText.{hindrance_text, cause_text, causes_text, told_text, forwarder_text, claim_text, no_claim_text};
 ghost use Rattle.findings.specs.WhyTold.{hindrance_told, cause_told, forwarder_told, region_told, why_told};
 ghost use Rattle.findings_told.specs.WhyLines.{address_head, answer_text};
 

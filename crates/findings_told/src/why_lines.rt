@@ -2,12 +2,8 @@
 ghost use Rattle.std.specs.Prelude.{◌≡◌, ◌++◌, map, IfOk, OnOk};
 ghost use Rattle.bars.specs.Kinds.{named_space};
 ghost use Rattle.paths.specs.BusAddresses.{bus_address_of};
-ghost use Rattle.model_lines.specs.Why.{is_closed, is_as_at_reset};
-ghost use Rattle.model_lines.specs.WhyText.{forwarder_text, told_text, taker_text, not_found_text};
-ghost use Rattle.model_lines.specs.WhyText.{apart, at_reset, why_lines, number_lines};
-ghost use Rattle.model_lines.specs.WhyPorts.{use_lines};
-ghost use Rattle.findings.specs.WhyTold.{cause_told, forwarder_told, region_told, why_told};
-ghost use Rattle.findings.specs.WhyTold.{number_told, use_told};
+ghost use Rattle.model_lines.specs.{Why.{is_closed, is_as_at_reset}, WhyText.{forwarder_text, told_text, taker_text, not_found_text, apart, at_reset, why_lines, number_lines}, WhyPorts.use_lines};
+ghost use Rattle.findings.specs.WhyTold.{cause_told, forwarder_told, region_told, why_told, number_told, use_told};
 ghost use Rattle.findings_told.specs.WhyLines.{line_text};
 
 use crate::why_line::Line;

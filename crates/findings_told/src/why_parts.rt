@@ -1,6 +1,5 @@
 //! Parts of lines.
-ghost use Rattle.std.specs.Prelude.{◌≡◌, Some, codes, option_map};
-ghost use Rattle.std.specs.Option.{option_map_or};
+ghost use Rattle.std.specs.{Prelude.{◌≡◌, Some, codes, option_map}, Option.option_map_or};
 ghost use Rattle.bridge_forward.specs.RoutingRows.{window_of};
 ghost use Rattle.model_lines.specs.WhyText.{command_text, name_text, range_text, window_text, windows_text};
 ghost use Rattle.findings.specs.WhyTold.{name_told, window_told, windows_told};

@@ -4,11 +4,7 @@ ghost use Rattle.lists.specs.Texts.{Adds};
 ghost use Rattle.bars.specs.Kinds.{named_space};
 ghost use Rattle.paths.specs.BusAddresses.{bus_address_of};
 ghost use Rattle.model_guests.specs.Text.{text_of_lines};
-ghost use Rattle.model_lines.specs.Why.{why};
-ghost use Rattle.model_lines.specs.Ways.{why_number};
-ghost use Rattle.model_lines.specs.WhyText.{why_line, why_lines, number_lines, whole_text};
-ghost use Rattle.model_lines.specs.WhyText.{why_text, why_number_text};
-ghost use Rattle.model_lines.specs.WhyPorts.{use_lines, why_port_text};
+ghost use Rattle.model_lines.specs.{Why.why, Ways.why_number, WhyText.{why_line, why_lines, number_lines, whole_text, why_text, why_number_text}, WhyPorts.{use_lines, why_port_text}};
 ghost use Rattle.findings.specs.WhyTold.{use_told};
 ghost use Rattle.findings_told.specs.WhyLines.{line_text};
 

@@ -1,12 +1,6 @@
 -- A file with a guest's own copies put in: what it reads, and how it changes.
-use Rattle.std.proofs.Common.{◌≡◌, ℕ, ◌+◌, ◌*◌, ◌/◌, ◌%◌, true, false, cond, [], ◌∷◌, refl, ap, ap₂, ◌∙◌, arith}
-use Rattle.std.specs.Prelude.{bit_or}
-use Rattle.std.specs.Int.Bits.{or_zero_r, and_zero_r}
-use Rattle.model_registers.specs.Cell.{Cell, no_cell, written}
-use Rattle.model_registers.specs.Registers.{Place, block, place_eq, after, File, changed}
-use Rattle.model_registers.specs.OwnCopies.{is_own}
-use Rattle.model_registers.proofs.RegisterFiles.{place_same, change_at_place, place_turned}
-use Rattle.model_registers.specs.CopiedFiles.{with_copies}
+use Rattle.std.{proofs.Common.{◌≡◌, ℕ, ◌+◌, ◌*◌, ◌/◌, ◌%◌, true, false, cond, [], ◌∷◌, refl, ap, ap₂, ◌∙◌, arith}, specs.{Prelude.bit_or, Int.Bits.{or_zero_r, and_zero_r}}}
+use Rattle.model_registers.{specs.{Cell.{Cell, no_cell, written}, Registers.{Place, block, place_eq, after, File, changed}, OwnCopies.is_own, CopiedFiles.with_copies}, proofs.RegisterFiles.{place_same, change_at_place, place_turned}}
 use Rattle.guest_functions.specs.CopyLaws.{OtherCell, HandedRead, BlockRead, CopiedWrite, BlockWrite, SameCopies, CopiesHeld}
 
 pub apart : (p q : Place) → is_own p ≡ true → is_own q ≡ false → place_eq p q ≡ false

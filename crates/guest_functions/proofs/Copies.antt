@@ -1,20 +1,8 @@
 -- The own copies in numbers: what a word of them reads, and what a write leaves.
-use Rattle.std.proofs.Common.{◌≡◌, ℕ, ◌+◌, ◌-◌, ◌*◌, ◌/◌, ◌^◌, ◌<◌, ◌≤◌, ◌⊎◌, inl, inr, Bool, List, [], ◌∷◌, ◌++◌, length, map, sym, ap, ap₂, ◌∙◌, arith, lit<, lit≤, zero-add}
-use Rattle.std.specs.Prelude.{bit_and, bit_or}
-use Rattle.std.proofs.lemmas.Nat.{and_block, and_le_l, and_le_r, or_lt}
+use Rattle.std.{proofs.{Common.{◌≡◌, ℕ, ◌+◌, ◌-◌, ◌*◌, ◌/◌, ◌^◌, ◌<◌, ◌≤◌, ◌⊎◌, inl, inr, Bool, List, [], ◌∷◌, ◌++◌, length, map, sym, ap, ap₂, ◌∙◌, arith, lit<, lit≤, zero-add}, lemmas.Nat.{and_block, and_le_l, and_le_r, or_lt}}, specs.Prelude.{bit_and, bit_or}}
 use Rattle.lists.specs.Elements.{Each}
-use Rattle.model_registers.specs.Registers.{config, File, read, write}
-use Rattle.model_registers.specs.ByteEnables.{is_enabled, lanes, enabled_bits}
-use Rattle.model_registers.specs.RegisterLaws.{merged}
-use Rattle.model_registers.specs.Declarations.{registers_of, IsLawfulRegion}
-use Rattle.model_registers.specs.EndpointTable.{base_register, BaseAddress, base_file, command_cells, opened}
-use Rattle.model_registers.specs.OwnCopies.{OwnCopies, own_file, IsLawfulOwn}
-use Rattle.guest_functions.specs.declared.word.Word.{Word}
-use Rattle.guest_functions.specs.declared.word.Word.TheVariants.{HeaderType, Other}
-use Rattle.guest_functions.specs.Words.{IsAt}
-use Rattle.model_registers.proofs.Bases.{four}
-use Rattle.model_registers.proofs.EnabledBytes.{read_field, write_field}
-use Rattle.model_registers.proofs.Parts.{IsApart, read_apart, write_apart, write_append, write_none, read_none, read_above, field_below}
+use Rattle.model_registers.{specs.{Registers.{config, File, read, write}, ByteEnables.{is_enabled, lanes, enabled_bits}, RegisterLaws.merged, Declarations.{registers_of, IsLawfulRegion}, EndpointTable.{base_register, BaseAddress, base_file, command_cells, opened}, OwnCopies.{OwnCopies, own_file, IsLawfulOwn}}, proofs.{Bases.four, EnabledBytes.{read_field, write_field}, Parts.{IsApart, read_apart, write_apart, write_append, write_none, read_none, read_above, field_below}}}
+use Rattle.guest_functions.specs.{declared.word.Word.{Word, TheVariants.{HeaderType, Other}}, Words.IsAt}
 
 -- ---- words without base address registers
 

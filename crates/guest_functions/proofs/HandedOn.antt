@@ -1,16 +1,7 @@
 -- The byte enables that are handed on.
-use Rattle.std.proofs.Common.{◌≡◌, ℕ, ◌+◌, ◌-◌, Bool, not, ◌&&◌, List, [], ◌∷◌, refl, ap, ap₂, ◌∙◌, arith}
-use Rattle.std.specs.Prelude.{bit_and}
-use Rattle.std.specs.Int.{bit_at}
-use Rattle.std.proofs.lemmas.Nat.Bits.{bit_at_and, bit_at-lt}
-use Rattle.std.proofs.lemmas.Bool.{ne_eqb, or_from, and_right, le-ltb}
-use Rattle.std.proofs.lemmas.Bool.Decides.{nat_tests}
-use Rattle.model_registers.specs.Registers.{config}
-use Rattle.model_registers.specs.ByteEnables.{is_enabled, lanes}
-use Rattle.model_registers.specs.OwnCopies.{is_own, handed_on}
-use Rattle.model_registers.proofs.Owned.{base_is_own}
-use Rattle.guest_functions.specs.declared.word.Word.{Word}
-use Rattle.guest_functions.specs.Words.{IsAt, own_lanes}
+use Rattle.std.{proofs.{Common.{◌≡◌, ℕ, ◌+◌, ◌-◌, Bool, not, ◌&&◌, List, [], ◌∷◌, refl, ap, ap₂, ◌∙◌, arith}, lemmas.{Nat.Bits.{bit_at_and, bit_at-lt}, Bool.{ne_eqb, or_from, and_right, le-ltb, Decides.nat_tests}}}, specs.{Prelude.bit_and, Int.bit_at}}
+use Rattle.model_registers.{specs.{Registers.config, ByteEnables.{is_enabled, lanes}, OwnCopies.{is_own, handed_on}}, proofs.Owned.base_is_own}
+use Rattle.guest_functions.specs.{declared.word.Word.Word, Words.{IsAt, own_lanes}}
 
 -- a lane of four that is enabled, and not masked
 kept_lane : (enables m i : ℕ) → bit_at 15 i ≡ 1 → is_enabled (bit_and (bit_and enables 15) m) i ≡ (is_enabled enables i && is_enabled m i)

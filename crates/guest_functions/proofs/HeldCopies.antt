@@ -1,22 +1,8 @@
 -- What a guest's own copies hold: bytes, of which none rises. A file goes on holding them.
-use Rattle.std.proofs.Common.{◌≡◌, ℕ, zero, suc, ◌+◌, ◌/◌, ◌<◌, Bool, true, false, cond, List, [], ◌∷◌, refl, sym, ap, subst, ◌∙◌, arith}
-use Rattle.std.specs.Prelude.{bit_and, bit_or}
-use Rattle.std.proofs.Math.Nat.{pow-suc}
-use Rattle.std.specs.Int.Bits.{or_zero_r, and_zero_r}
-use Rattle.lists.specs.Elements.{Each}
-use Rattle.lists.proofs.EachLemmas.{each_append}
-use Rattle.model_registers.proofs.BareRegions.{bare_lawful}
-use Rattle.model_registers.specs.Cell.{Cell, raised}
-use Rattle.model_registers.specs.Registers.{Place, config, block, place_eq, after, PlacedCell, File, cell_at, write, raise, field}
-use Rattle.model_registers.specs.FileLaws.{IsConfig, IsConfigFile}
-use Rattle.model_registers.specs.Declarations.{HasLawfulRegions}
-use Rattle.model_registers.specs.EndpointTable.{BaseAddress, base_file, command_cells}
-use Rattle.model_registers.specs.OwnCopies.{OwnCopies, own_file, handed_on}
-use Rattle.model_registers.proofs.Files.{write_none, config_has_no_block}
-use Rattle.model_registers.proofs.RegisterFiles.{change_at_place}
-use Rattle.model_registers.proofs.Owned.{none_else, own_writes, raised_none}
-use Rattle.guest_functions.specs.CopyLaws.{CopiedRaise, HiddenRaise, CopiesStay, RaisedHeld, WrittenHeld, BlockWrittenHeld, LawfulCopies, SumOfBytes, EnabledBytesFit}
-use Rattle.guest_functions.proofs.CopiedFiles.{own_change, other_change, hidden_change}
+use Rattle.std.{proofs.{Common.{◌≡◌, ℕ, zero, suc, ◌+◌, ◌/◌, ◌<◌, Bool, true, false, cond, List, [], ◌∷◌, refl, sym, ap, subst, ◌∙◌, arith}, Math.Nat.pow-suc}, specs.{Prelude.{bit_and, bit_or}, Int.Bits.{or_zero_r, and_zero_r}}}
+use Rattle.lists.{specs.Elements.Each, proofs.EachLemmas.each_append}
+use Rattle.model_registers.{proofs.{BareRegions.bare_lawful, Files.{write_none, config_has_no_block}, RegisterFiles.change_at_place, Owned.{none_else, own_writes, raised_none}}, specs.{Cell.{Cell, raised}, Registers.{Place, config, block, place_eq, after, PlacedCell, File, cell_at, write, raise, field}, FileLaws.{IsConfig, IsConfigFile}, Declarations.HasLawfulRegions, EndpointTable.{BaseAddress, base_file, command_cells}, OwnCopies.{OwnCopies, own_file, handed_on}}}
+use Rattle.guest_functions.{specs.CopyLaws.{CopiedRaise, HiddenRaise, CopiesStay, RaisedHeld, WrittenHeld, BlockWrittenHeld, LawfulCopies, SumOfBytes, EnabledBytesFit}, proofs.CopiedFiles.{own_change, other_change, hidden_change}}
 
 -- ---- what the copies are
 

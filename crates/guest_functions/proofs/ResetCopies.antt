@@ -1,8 +1,6 @@
 -- Base address registers whose bases are set to 0.
 use Rattle.std.proofs.Common.{◌≡◌, List, [], ◌∷◌, map, refl, sym, ap, ◌∙◌}
-use Rattle.model_registers.specs.Declarations.{Region}
-use Rattle.model_registers.specs.EndpointTable.{BaseAddress, opened, closed}
-use Rattle.model_registers.specs.OwnCopies.{bare}
+use Rattle.model_registers.specs.{Declarations.Region, EndpointTable.{BaseAddress, opened, closed}, OwnCopies.bare}
 use Rattle.bars.specs.Resets.{with_no_base}
 
 -- they open what they opened

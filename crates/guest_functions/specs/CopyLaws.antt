@@ -2,12 +2,7 @@
 -- that it goes on holding the copies.
 use Rattle.std.specs.Prelude.{◌≡◌, ◌<◌, ◌^◌, ◌+◌, ℕ, Bool, true, false, List, length, map}
 use Rattle.lists.specs.Elements.{Each}
-use Rattle.model_registers.specs.Registers.{Place, block, PlacedCell, File, cell_at, read, write, raise}
-use Rattle.model_registers.specs.ByteEnables.{enabled_bytes}
-use Rattle.model_registers.specs.Declarations.{Region, HasLawfulRegions}
-use Rattle.model_registers.specs.EndpointTable.{opened}
-use Rattle.model_registers.specs.OwnCopies.{is_own, OwnCopies, own_file, HoldsOwn, handed_on, bare, IsLawfulOwn}
-use Rattle.model_registers.specs.CopiedFiles.{with_copies}
+use Rattle.model_registers.specs.{Registers.{Place, block, PlacedCell, File, cell_at, read, write, raise}, ByteEnables.enabled_bytes, Declarations.{Region, HasLawfulRegions}, EndpointTable.opened, OwnCopies.{is_own, OwnCopies, own_file, HoldsOwn, handed_on, bare, IsLawfulOwn}, CopiedFiles.with_copies}
 
 -- ---- what is read
 

@@ -2,8 +2,7 @@
 --     IsAt off w      the word at an offset is w
 --     own_lanes w      the byte enables of its own copies
 use Rattle.std.specs.Prelude.{◌≡◌, ◌≤◌, ◌<◌, ℕ, ◌+◌, ◌*◌, ◌⊎◌}
-use Rattle.guest_functions.specs.declared.word.Word.{Word}
-use Rattle.guest_functions.specs.declared.word.Word.TheVariants.{Command, HeaderType, Base, Other}
+use Rattle.guest_functions.specs.declared.word.Word.{Word, TheVariants.{Command, HeaderType, Base, Other}}
 
 -- the words without own copies: below Command, between Status and the header type's word, above the base address
 -- registers

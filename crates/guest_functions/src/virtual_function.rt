@@ -1,16 +1,8 @@
 //! A guest's own copies of Command, header type and base address registers.
 ghost use Rattle.std.specs.Prelude.{◌≡◌, ◌≤◌, ◌<◌, ◌+◌, ◌%◌, false, if◌then◌else◌, map, bit_and};
 ghost use Rattle.lists.specs.Elements.{Each};
-ghost use Rattle.model_registers.specs.Registers.{Place, config, File, cell_at, read, write};
-ghost use Rattle.model_registers.specs.ByteEnables.{lanes, enabled_bits};
-ghost use Rattle.model_registers.specs.RegisterLaws.{merged};
-ghost use Rattle.model_registers.specs.Declarations.{Endpoint, HasLawfulRegions};
-ghost use Rattle.model_registers.specs.EndpointTable.{opened, closed, endpoint_reset};
-ghost use Rattle.model_registers.specs.Decoding.{Function, lone_claim};
-ghost use Rattle.model_registers.specs.OwnCopies.{is_own, own_file, HoldsOwn, handed_on, bare};
-ghost use Rattle.bars.specs.Kinds.{named_space};
-ghost use Rattle.bars.specs.Hits.{named_hit};
-ghost use Rattle.bars.specs.Resets.{at_reset, with_no_base};
+ghost use Rattle.model_registers.specs.{Registers.{Place, config, File, cell_at, read, write}, ByteEnables.{lanes, enabled_bits}, RegisterLaws.merged, Declarations.{Endpoint, HasLawfulRegions}, EndpointTable.{opened, closed, endpoint_reset}, Decoding.{Function, lone_claim}, OwnCopies.{is_own, own_file, HoldsOwn, handed_on, bare}};
+ghost use Rattle.bars.specs.{Kinds.named_space, Hits.named_hit, Resets.{at_reset, with_no_base}};
 
 use crate::word::Word;
 use bars::{BarDecl, Bars, Space, enabled_bits};
@@ -28,9 +20,7 @@ pub struct VirtualFunction {
 
 impl Model for VirtualFunction {
     ghost use Rattle.std.specs.Prelude.{map};
-    ghost use Rattle.model_registers.specs.Declarations.{HasLawfulRegions};
-    ghost use Rattle.model_registers.specs.EndpointTable.{opened};
-    ghost use Rattle.model_registers.specs.OwnCopies.{OwnCopies};
+    ghost use Rattle.model_registers.specs.{Declarations.HasLawfulRegions, EndpointTable.opened, OwnCopies.OwnCopies};
 
     ghost Value = { OwnCopies };
 

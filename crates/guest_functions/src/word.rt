@@ -1,8 +1,6 @@
 //! The words of configuration space, by what a guest has of them.
 ghost use Rattle.std.specs.Prelude.{◌≡◌, ◌<◌, ◌%◌};
-ghost use Rattle.model_registers.specs.Registers.{config};
-ghost use Rattle.model_registers.specs.ByteEnables.{lanes};
-ghost use Rattle.model_registers.specs.OwnCopies.{handed_on};
+ghost use Rattle.model_registers.specs.{Registers.config, ByteEnables.lanes, OwnCopies.handed_on};
 ghost use Rattle.guest_functions.specs.Words.{IsAt, own_lanes};
 
 /// Which of a guest's own copies lie in a word (PCI Local Bus Specification 3.0, section 6.1).

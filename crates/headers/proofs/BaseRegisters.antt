@@ -1,12 +1,7 @@
 -- Declared base address registers, put at their indices.
-use Rattle.std.proofs.lemmas.Grind.{common_steps}
-use Rattle.std.proofs.Common.{◌≡◌, ℕ, zero, suc, ◌+◌, ◌-◌, ◌*◌, ◌^◌, ◌≤◌, ◌<◌, List, [], ◌∷◌, ◌++◌, Option, Some, None, length, map, get_or, set, take, drop, refl, sym, ap, subst, ◌∙◌, arith, add-one, drop-cons}
-use Rattle.std.proofs.lemmas.List.{get_or-set_other, take_more, map-append}
+use Rattle.std.proofs.{lemmas.{Grind.common_steps, List.{get_or-set_other, take_more, map-append}}, Common.{◌≡◌, ℕ, zero, suc, ◌+◌, ◌-◌, ◌*◌, ◌^◌, ◌≤◌, ◌<◌, List, [], ◌∷◌, ◌++◌, Option, Some, None, length, map, get_or, set, take, drop, refl, sym, ap, subst, ◌∙◌, arith, add-one, drop-cons}}
 use Rattle.lists.specs.Elements.{Each, EachPair}
-use Rattle.model_registers.proofs.Bases.{registers_positive}
-use Rattle.model_registers.specs.Declarations.{Bar, Kind, Region, registers_of, IsLawfulRegion, HasLawfulRegions}
-use Rattle.model_registers.specs.Registers.{config, field}
-use Rattle.model_registers.specs.EndpointTable.{BaseAddress, base_cells, base_width, opened, closed, type_bits}
+use Rattle.model_registers.{proofs.Bases.registers_positive, specs.{Declarations.{Bar, Kind, Region, registers_of, IsLawfulRegion, HasLawfulRegions}, Registers.{config, field}, EndpointTable.{BaseAddress, base_cells, base_width, opened, closed, type_bits}}}
 use Rattle.bars.specs.Resets.{reset_from, at_reset}
 
 pub each_at : (P : Region → Type 0) (rs : List Region) (n : ℕ) (d : Region) → Each P rs → n < length rs → P (get_or rs n d)

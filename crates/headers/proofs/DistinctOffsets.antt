@@ -1,16 +1,7 @@
 -- No two cells of a header and of blocks that lie apart have one offset.
-use Rattle.std.proofs.Common.{◌≡◌, ◌≢◌, ℕ, ◌+◌, ◌<◌, ◌≤◌, Bool, true, List, [], ◌∷◌, ◌++◌, length, eqb, sym, subst, arith, rules}
-use Rattle.std.specs.Prelude.{IsTrue, ◌⊎◌, flat_map, not}
-use Rattle.std.proofs.lemmas.Bool.{ltb-true}
-use Rattle.std.proofs.lemmas.Bool.Decides.{nat_tests}
-use Rattle.lists.specs.Elements.{Each, EachPair, all_pairs}
-use Rattle.model_registers.specs.Cell.{Cell}
-use Rattle.model_registers.specs.Registers.{config, offset_of, PlacedCell, File, cells_from}
-use Rattle.model_registers.specs.Declarations.{ConfigBlock, Endpoint, Bridge}
-use Rattle.model_registers.specs.BridgeTable.{bridge_reset}
-use Rattle.model_registers.specs.DeclarationRules.{blocks_apart, IsConfigBlock, IsLawfulEndpoint}
-use Rattle.model_registers.specs.EndpointTable.{block_cells, config_reset}
-use Rattle.lists.proofs.EachLemmas.{each_map, each_test, pairs_test, each_append, pairs_map}
+use Rattle.std.{proofs.{Common.{◌≡◌, ◌≢◌, ℕ, ◌+◌, ◌<◌, ◌≤◌, Bool, true, List, [], ◌∷◌, ◌++◌, length, eqb, sym, subst, arith, rules}, lemmas.Bool.{ltb-true, Decides.nat_tests}}, specs.Prelude.{IsTrue, ◌⊎◌, flat_map, not}}
+use Rattle.lists.{specs.Elements.{Each, EachPair, all_pairs}, proofs.EachLemmas.{each_map, each_test, pairs_test, each_append, pairs_map}}
+use Rattle.model_registers.specs.{Cell.Cell, Registers.{config, offset_of, PlacedCell, File, cells_from}, Declarations.{ConfigBlock, Endpoint, Bridge}, BridgeTable.bridge_reset, DeclarationRules.{blocks_apart, IsConfigBlock, IsLawfulEndpoint}, EndpointTable.{block_cells, config_reset}}
 use Rattle.config_bytes.specs.CellFile.{HasDistinctOffsets, file_of}
 
 abbrev at : PlacedCell → ℕ

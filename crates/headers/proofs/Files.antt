@@ -1,7 +1,6 @@
 -- Lists of cells with offsets, as files.
 use Rattle.std.proofs.Common.{◌≡◌, ℕ, suc, ◌+◌, ◌-◌, ◌/◌, ◌%◌, ◌<◌, List, [], ◌∷◌, ◌++◌, refl, sym, ap, ◌∙◌, append_assoc, arith}
-use Rattle.model_registers.specs.Cell.{Cell}
-use Rattle.model_registers.specs.Registers.{config, File, field, cells_from}
+use Rattle.model_registers.specs.{Cell.Cell, Registers.{config, File, field, cells_from}}
 use Rattle.config_bytes.specs.CellFile.{file_of}
 
 pub file_of-append : (xs ys : List (ℕ × Cell)) → file_of (xs ++ ys) ≡ file_of xs ++ file_of ys

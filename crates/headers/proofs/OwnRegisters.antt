@@ -1,11 +1,6 @@
 -- The registers of regions, asked of what declares them.
-use Rattle.std.proofs.lemmas.Grind.{common_steps}
-use Rattle.std.proofs.Common.{◌≡◌, ◌+◌, ◌&&◌, List, [], ◌∷◌, map, nat_le, count_by, arith}
-use Rattle.std.specs.List.{list_all}
-use Rattle.std.proofs.lemmas.List.Folds.{list_all-map}
-use Rattle.std.proofs.lemmas.List.Sums.{sum_by-cons}
-use Rattle.model_registers.specs.Declarations.{Region, registers_of}
-use Rattle.model_registers.specs.DeclarationRules.{uses, has_own_registers}
+use Rattle.std.{proofs.{lemmas.{Grind.common_steps, List.{Folds.list_all-map, Sums.sum_by-cons}}, Common.{◌≡◌, ◌+◌, ◌&&◌, List, [], ◌∷◌, map, nat_le, count_by, arith}}, specs.List.list_all}
+use Rattle.model_registers.specs.{Declarations.{Region, registers_of}, DeclarationRules.{uses, has_own_registers}}
 
 pub registers_of_all : {A : Type 0} (f : A → Region) (xs : List A)
     → has_own_registers (map f xs)

@@ -4,10 +4,9 @@
 --     bridge_of      a bridge with these declared values
 use Rattle.std.specs.Prelude.{ℕ}
 use Rattle.model_registers.specs.Declarations.{no_io, io16, io32, no_pref, pref32, pref64}
+use Rattle.headers.specs.declared.decodes.{IoDecode.IoDecode, PrefDecode.PrefDecode}
 use Rattle.model_registers.specs.Declarations as model
-use Rattle.headers.specs.declared.decodes.IoDecode.{IoDecode}
 use Rattle.headers.specs.declared.decodes.IoDecode.TheVariants as io
-use Rattle.headers.specs.declared.decodes.PrefDecode.{PrefDecode}
 use Rattle.headers.specs.declared.decodes.PrefDecode.TheVariants as pref
 
 abbrev pub io_decode_of : IoDecode → model.IoDecode

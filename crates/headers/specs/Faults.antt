@@ -1,7 +1,6 @@
 -- The numbers of refused declarations.
 use Rattle.std.specs.Prelude.{ℕ}
-use Rattle.headers.specs.declared.fault.DeclFault.{DeclFault}
-use Rattle.headers.specs.declared.fault.DeclFault.TheVariants.{Number, Register, Size, CellMasks}
+use Rattle.headers.specs.declared.fault.DeclFault.{DeclFault, TheVariants.{Number, Register, Size, CellMasks}}
 
 abbrev pub number_of : DeclFault → ℕ
 number_of Number = 104

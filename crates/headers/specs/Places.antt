@@ -1,9 +1,8 @@
 -- Where in a function a byte stands, from the program's word.
 use Rattle.std.specs.Prelude.{ℕ}
 use Rattle.model_registers.specs.Registers.{config, block}
+use Rattle.headers.specs.declared.place.Place.{Place, TheVariants.{Cfg, Bar}}
 use Rattle.model_registers.specs.Registers as model
-use Rattle.headers.specs.declared.place.Place.{Place}
-use Rattle.headers.specs.declared.place.Place.TheVariants.{Cfg, Bar}
 
 -- the place of an offset
 abbrev pub place_of : Place → ℕ → model.Place

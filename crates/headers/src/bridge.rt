@@ -2,8 +2,7 @@
 ghost use Rattle.std.specs.Prelude.{◌≡◌, ◌++◌, IfOk, flat_map};
 ghost use Rattle.lists.specs.Elements.{Each};
 ghost use Rattle.model_registers.specs.BridgeTable.{bridge_header, bridge_reset, io_cells, mem_cells, pref_cells, no_bridge_values, no_window};
-ghost use Rattle.headers.specs.Decodes.{io_decode_of, pref_decode_of};
-ghost use Rattle.headers.specs.Rows.{IsRow, row_cells};
+ghost use Rattle.headers.specs.{Decodes.{io_decode_of, pref_decode_of}, Rows.{IsRow, row_cells}};
 
 use crate::bridge_decl::BridgeDecl;
 use crate::decodes::{IoDecode, PrefDecode};

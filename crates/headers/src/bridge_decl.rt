@@ -1,9 +1,7 @@
 //! What a board declares of a bridge.
-ghost use Rattle.std.specs.Prelude.{◌≡◌, IfOk, option_map};
-ghost use Rattle.std.specs.Result.{result_err};
+ghost use Rattle.std.specs.{Prelude.{◌≡◌, IfOk, option_map}, Result.result_err};
 ghost use Rattle.model_registers.specs.DeclarationRules.{first_broken, bridge_rules, IsLawfulBridge};
-ghost use Rattle.headers.specs.Decodes.{bridge_of, io_decode_of, pref_decode_of};
-ghost use Rattle.headers.specs.Faults.{number_of};
+ghost use Rattle.headers.specs.{Decodes.{bridge_of, io_decode_of, pref_decode_of}, Faults.number_of};
 
 use crate::decodes::{IoDecode, PrefDecode};
 use crate::fault::DeclFault;
@@ -20,8 +18,7 @@ pub struct BridgeDecl {
 }
 
 impl Model for BridgeDecl {
-    ghost use Rattle.model_registers.specs.Declarations.{Bridge};
-    ghost use Rattle.model_registers.specs.DeclarationRules.{IsLawfulBridge};
+    ghost use Rattle.model_registers.specs.{Declarations.Bridge, DeclarationRules.IsLawfulBridge};
     ghost use Rattle.headers.specs.Decodes.{bridge_of, named_io_decode, named_pref_decode};
 
     ghost Value = { Bridge };

@@ -1,6 +1,5 @@
 //! Registers of a device's own in configuration space.
-ghost use Rattle.std.specs.Prelude.{◌≡◌};
-ghost use Rattle.std.specs.List.{list_all};
+ghost use Rattle.std.specs.{Prelude.◌≡◌, List.list_all};
 ghost use Rattle.lists.specs.Elements.{all_pairs};
 ghost use Rattle.model_registers.specs.DeclarationRules.{is_config_block, blocks_apart};
 

@@ -1,8 +1,7 @@
 //! Endpoints, which have headers of type 0 (PCI Local Bus 3.0, chapter 6.1).
 ghost use Rattle.std.specs.Prelude.{◌≡◌, ◌++◌, IfOk, OnOk, flat_map};
 ghost use Rattle.lists.specs.Elements.{Each};
-ghost use Rattle.model_registers.specs.DeclarationRules.{IsConfigBlock};
-ghost use Rattle.model_registers.specs.EndpointTable.{block_cells, header_cells, config_reset};
+ghost use Rattle.model_registers.specs.{DeclarationRules.IsConfigBlock, EndpointTable.{block_cells, header_cells, config_reset}};
 ghost use Rattle.config_bytes.specs.CellFile.{file_of};
 ghost use Rattle.headers.specs.Rows.{IsRow, row_cells};
 

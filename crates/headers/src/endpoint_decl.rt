@@ -1,10 +1,7 @@
 //! What a board declares of an endpoint.
-ghost use Rattle.std.specs.Prelude.{◌≡◌, [], IfNone, IfOk, map, option_map};
-ghost use Rattle.std.specs.Result.{result_err};
+ghost use Rattle.std.specs.{Prelude.{◌≡◌, [], IfNone, IfOk, map, option_map}, Result.result_err};
 ghost use Rattle.lists.specs.Elements.{Each};
-ghost use Rattle.model_registers.specs.Declarations.{IsLawfulSize, HasLawfulRegions};
-ghost use Rattle.model_registers.specs.EndpointTable.{opened, closed};
-ghost use Rattle.model_registers.specs.DeclarationRules.{first_broken, has_lawful_numbers, has_own_registers, endpoint_rules, with_ordered_regions, IsLawfulEndpoint};
+ghost use Rattle.model_registers.specs.{Declarations.{IsLawfulSize, HasLawfulRegions}, EndpointTable.{opened, closed}, DeclarationRules.{first_broken, has_lawful_numbers, has_own_registers, endpoint_rules, with_ordered_regions, IsLawfulEndpoint}};
 ghost use Rattle.bars.specs.Resets.{at_reset};
 ghost use Rattle.headers.specs.Faults.{number_of};
 
@@ -125,8 +122,7 @@ pub struct EndpointDecl {
 }
 
 impl Model for EndpointDecl {
-    ghost use Rattle.model_registers.specs.Declarations.{Endpoint};
-    ghost use Rattle.model_registers.specs.DeclarationRules.{IsLawfulEndpoint};
+    ghost use Rattle.model_registers.specs.{Declarations.Endpoint, DeclarationRules.IsLawfulEndpoint};
 
     ghost Value = { Endpoint };
 

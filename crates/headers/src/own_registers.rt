@@ -1,8 +1,6 @@
 //! Which base address registers regions take.
-ghost use Rattle.std.specs.Prelude.{◌≡◌, ◌+◌, ◌≤◌, ◌<◌, [], ◌∷◌, nat_le, map, count_by};
-ghost use Rattle.std.specs.List.{list_all};
-ghost use Rattle.model_registers.specs.Declarations.{Region, registers_of};
-ghost use Rattle.model_registers.specs.DeclarationRules.{uses, has_own_registers};
+ghost use Rattle.std.specs.{Prelude.{◌≡◌, ◌+◌, ◌≤◌, ◌<◌, [], ◌∷◌, nat_le, map, count_by}, List.list_all};
+ghost use Rattle.model_registers.specs.{Declarations.{Region, registers_of}, DeclarationRules.{uses, has_own_registers}};
 ghost use Rattle.bars.specs.Kinds.{kind_of};
 
 use bars::Kind;

@@ -1,12 +1,8 @@
 //! Regions as a board declares them.
-ghost use Rattle.std.specs.Prelude.{◌≡◌, ◌*◌, nat_le, length, map};
-ghost use Rattle.std.specs.List.{list_all};
-ghost use Rattle.model_registers.specs.Declarations.{IsLawfulRegion, IsLawfulSize, HasLawfulRegions, registers_of};
+ghost use Rattle.std.specs.{Prelude.{◌≡◌, ◌*◌, nat_le, length, map}, List.list_all, Bool.OnTrue};
+ghost use Rattle.model_registers.specs.{Declarations.{IsLawfulRegion, IsLawfulSize, HasLawfulRegions, registers_of}, EndpointTable.{base_cells, opened, closed}};
 ghost use Rattle.lists.specs.Elements.{Each};
-ghost use Rattle.std.specs.Bool.{OnTrue};
-ghost use Rattle.model_registers.specs.EndpointTable.{base_cells, opened, closed};
-ghost use Rattle.bars.specs.Kinds.{kind_of};
-ghost use Rattle.bars.specs.Resets.{at_reset};
+ghost use Rattle.bars.specs.{Kinds.kind_of, Resets.at_reset};
 ghost use Rattle.headers.specs.Rows.{IsRow, row_cells};
 
 use crate::own_registers::TakesRegisters;

@@ -1,7 +1,6 @@
 //! Registers of a function's cells as numbers.
 ghost use Rattle.std.specs.Prelude.{◌≡◌, ◌<◌, ◌^◌};
-ghost use Rattle.model_registers.specs.Registers.{config, number};
-ghost use Rattle.model_registers.specs.ByteEnables.{LiesInWord};
+ghost use Rattle.model_registers.specs.{Registers.{config, number}, ByteEnables.LiesInWord};
 
 use crate::registers::{Command, Status};
 use config_bytes::{Cells, enables_of, from_lanes};

@@ -1,8 +1,7 @@
 //! Lists of cells from rows and blocks.
 ghost use Rattle.std.specs.Prelude.{◌≡◌, ◌+◌, ◌≤◌, ◌++◌, OnOk, length, flat_map};
 ghost use Rattle.lists.specs.Elements.{Each};
-ghost use Rattle.model_registers.specs.Registers.{config, cells_from};
-ghost use Rattle.model_registers.specs.EndpointTable.{header_type};
+ghost use Rattle.model_registers.specs.{Registers.{config, cells_from}, EndpointTable.header_type};
 ghost use Rattle.config_bytes.specs.CellFile.{file_of};
 ghost use Rattle.headers.specs.Rows.{IsRow, row_cells};
 

@@ -2,8 +2,7 @@
 //! 3.2.5.6 to 3.2.5.10). Each window is its first and last address, both included, or `None` where it
 //! is unimplemented or its base is above its limit. The Command register does not count here.
 ghost use Rattle.std.specs.Prelude.{◌≡◌, ◌≤◌, ◌<◌, ◌^◌, option_map};
-ghost use Rattle.model_registers.specs.ByteEnables.{LiesInWord};
-ghost use Rattle.model_registers.specs.Windows.{io_window, mem_window, pref_window, window, window_bits};
+ghost use Rattle.model_registers.specs.{ByteEnables.LiesInWord, Windows.{io_window, mem_window, pref_window, window, window_bits}};
 ghost use Rattle.headers.specs.WindowPairs.{pair_of};
 
 use crate::bridge_decl::BridgeDecl;

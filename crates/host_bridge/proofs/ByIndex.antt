@@ -1,28 +1,12 @@
 -- One function of a board, lent by its index: it is the one at its path.
 --     IsLentAt fs i e      the function at an index is the endpoint that is lent
 --     IsLocated fs space a l      the first claim of an address is in the function at an index
-use Rattle.std.proofs.Common.{◌≡◌, ℕ, ◌<◌, zero, suc, cond, List, [], ◌∷◌, length, Option, Some, None, refl, sym, ap, subst, ◌∙◌, rules, arith}
-use Rattle.std.specs.Prelude.{find, map, IsFalse, IsSome}
-use Rattle.std.specs.List.{slice_get, slice_set}
-use Rattle.std.specs.Option.{option_map_or}
-use Rattle.lists.specs.Elements.{Each, first_some}
-use Rattle.model_registers.specs.Registers.{File}
-use Rattle.model_registers.specs.Decoding.{Space, Function}
-use Rattle.model_registers.specs.CopiedFiles.{after_reset}
-use Rattle.model_board.specs.Paths.{Path, path_eq}
-use Rattle.model_board.specs.State.{BoardFunction, with_file}
-use Rattle.model_board.specs.Claims.{Claim, claim_at, claim_of, first_claim}
-use Rattle.model_board.proofs.PathEnds.{path_self, path_eq-sym}
-use Rattle.model_board.proofs.PathOrder.{path_same}
-use Rattle.lists.proofs.FirstFound.{found_passes}
-use Rattle.lists.proofs.Indices.{at_below, each_at, find_at, pair_at}
-use Rattle.bridge_forward.specs.declared.bus.Located.{Located}
-use Rattle.bridge_forward.specs.Lending.{as_endpoint, endpoint_at, with_endpoint, endpoint_nth, with_endpoint_nth}
-use Rattle.bridge_forward.specs.Locating.{located_claim}
-use Rattle.host_bridge.specs.ByIndex.{file_nth, with_file_nth, with_reset_nth}
-use Rattle.host_bridge.specs.HostState.{HostState}
-use Rattle.host_bridge.proofs.Lent.{HasDistinctPaths, changed_endpoint, kept_endpoint, claimed_by, claimed_endpoint}
-use Rattle.host_bridge.proofs.ClaimedAccesses.{IsClaimed}
+use Rattle.std.{proofs.Common.{◌≡◌, ℕ, ◌<◌, zero, suc, cond, List, [], ◌∷◌, length, Option, Some, None, refl, sym, ap, subst, ◌∙◌, rules, arith}, specs.{Prelude.{find, map, IsFalse, IsSome}, List.{slice_get, slice_set}, Option.option_map_or}}
+use Rattle.lists.{specs.Elements.{Each, first_some}, proofs.{FirstFound.found_passes, Indices.{at_below, each_at, find_at, pair_at}}}
+use Rattle.model_registers.specs.{Registers.File, Decoding.{Space, Function}, CopiedFiles.after_reset}
+use Rattle.model_board.{specs.{Paths.{Path, path_eq}, State.{BoardFunction, with_file}, Claims.{Claim, claim_at, claim_of, first_claim}}, proofs.{PathEnds.{path_self, path_eq-sym}, PathOrder.path_same}}
+use Rattle.bridge_forward.specs.{declared.bus.Located.Located, Lending.{as_endpoint, endpoint_at, with_endpoint, endpoint_nth, with_endpoint_nth}, Locating.located_claim}
+use Rattle.host_bridge.{specs.{ByIndex.{file_nth, with_file_nth, with_reset_nth}, HostState.HostState}, proofs.{Lent.{HasDistinctPaths, changed_endpoint, kept_endpoint, claimed_by, claimed_endpoint}, ClaimedAccesses.IsClaimed}}
 
 -- ---- the function at an index is the one at its path
 

@@ -1,14 +1,7 @@
 -- One function of a board by its path: it is the one at the index that is found for the path.
-use Rattle.std.proofs.Common.{◌≡◌, ℕ, List, Option, Some, None, refl, ap, ◌∙◌}
-use Rattle.std.specs.Prelude.{find, IsSome}
-use Rattle.std.specs.List.{slice_get}
-use Rattle.std.specs.Option.{option_map_or}
-use Rattle.model_registers.specs.Registers.{File}
-use Rattle.model_registers.specs.Decoding.{Function}
-use Rattle.model_registers.specs.CopiedFiles.{after_reset}
-use Rattle.model_board.specs.Paths.{Path, path_eq}
-use Rattle.model_board.specs.State.{BoardFunction, with_file}
-use Rattle.model_board.proofs.PathOrder.{path_same}
+use Rattle.std.{proofs.Common.{◌≡◌, ℕ, List, Option, Some, None, refl, ap, ◌∙◌}, specs.{Prelude.{find, IsSome}, List.slice_get, Option.option_map_or}}
+use Rattle.model_registers.specs.{Registers.File, Decoding.Function, CopiedFiles.after_reset}
+use Rattle.model_board.{specs.{Paths.{Path, path_eq}, State.{BoardFunction, with_file}}, proofs.PathOrder.path_same}
 use Rattle.lists.proofs.FirstFound.{found_passes}
 use Rattle.bridge_forward.specs.Lending.{as_endpoint, endpoint_at, endpoint_nth, with_endpoint_reset}
 use Rattle.host_bridge.specs.ByIndex.{with_file_nth, with_reset_nth}

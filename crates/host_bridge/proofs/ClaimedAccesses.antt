@@ -1,14 +1,8 @@
 -- An access at the claim of an address: the claimed region takes it in the word and the byte lanes in which its offset lies.
 use Rattle.std.proofs.Common.{◌≡◌, ℕ, ◌+◌, ◌*◌, ◌/◌, ◌%◌, ◌^◌, ◌≤◌, List, Some, sym, ap, ap₂, subst, ◌∙◌}
-use Rattle.model_registers.specs.Registers.{block, read, write, number, all_bytes}
-use Rattle.model_registers.specs.ByteEnables.{lanes, IsWidth, LiesInWord, enables_of, into_lanes}
-use Rattle.model_registers.specs.Decoding.{Space, Function}
-use Rattle.model_registers.proofs.ByteAccesses.{aligned_lies_in_word, number_by_lanes, write_by_lanes}
-use Rattle.model_board.specs.State.{BoardFunction}
-use Rattle.model_board.specs.Claims.{Claim, first_claim}
-use Rattle.model_board.specs.Ports.{claim_reply, after_claim_write}
+use Rattle.model_registers.{specs.{Registers.{block, read, write, number, all_bytes}, ByteEnables.{lanes, IsWidth, LiesInWord, enables_of, into_lanes}, Decoding.{Space, Function}}, proofs.ByteAccesses.{aligned_lies_in_word, number_by_lanes, write_by_lanes}}
+use Rattle.model_board.{specs.{State.BoardFunction, Claims.{Claim, first_claim}, Ports.{claim_reply, after_claim_write}}, proofs.ClaimLanes.claims_keep_lanes}
 use Rattle.bridge_forward.specs.Lending.{endpoint_at, with_endpoint}
-use Rattle.model_board.proofs.ClaimLanes.{claims_keep_lanes}
 use Rattle.host_bridge.proofs.Lent.{HasDistinctPaths, file_at-endpoint, changed_endpoint}
 
 -- an address has this claim

@@ -1,15 +1,9 @@
 -- What a configuration cycle does to the functions of a board.
-use Rattle.std.proofs.Common.{◌≡◌, ℕ, List, Option, Some, None, refl, ap, ap₂, ◌∙◌}
-use Rattle.std.specs.Option.{option_map_or}
-use Rattle.bridge_forward.proofs.Changes.{same_files}
+use Rattle.std.{proofs.Common.{◌≡◌, ℕ, List, Option, Some, None, refl, ap, ap₂, ◌∙◌}, specs.Option.option_map_or}
+use Rattle.bridge_forward.{proofs.Changes.same_files, specs.{declared.cycle.Cycle.Cycle, Cycled.{reached_by, after_access, after_cycle}}}
 use Rattle.model_registers.specs.ByteEnables.{lanes}
-use Rattle.model_board.specs.State.{BoardFunction, with_file}
-use Rattle.model_board.specs.Cycles.{BusAddress, reached}
-use Rattle.model_board.specs.Ports.{after_config_write}
-use Rattle.config_bytes.specs.declared.op.Op.{Op}
-use Rattle.config_bytes.specs.declared.op.Op.TheVariants.{Read, Write}
-use Rattle.bridge_forward.specs.declared.cycle.Cycle.{Cycle}
-use Rattle.bridge_forward.specs.Cycled.{reached_by, after_access, after_cycle}
+use Rattle.model_board.specs.{State.{BoardFunction, with_file}, Cycles.{BusAddress, reached}, Ports.after_config_write}
+use Rattle.config_bytes.specs.declared.op.Op.{Op, TheVariants.{Read, Write}}
 
 abbrev changed_by : List BoardFunction → Op → ℕ → ℕ → Option BoardFunction → List BoardFunction
 changed_by fs op off enables r = option_map_or (λ (f : BoardFunction). with_file (after_access op off enables) f.path fs) r fs

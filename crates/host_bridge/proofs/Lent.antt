@@ -1,24 +1,11 @@
 -- One function of a board, lent by its path.
 --     HasDistinctPaths fs      no two functions stand at one path
 --     IsEndpointAt fs p      the function at the path is an endpoint
-use Rattle.lists.proofs.EachLemmas.{pairs_map}
-use Rattle.std.proofs.Common.{◌≡◌, ℕ, Bool, true, false, cond, List, [], ◌∷◌, Option, Some, None, refl, sym, ap, ap₂, subst, ◌∙◌, arith}
-use Rattle.std.specs.Prelude.{find, IsTrue, IsFalse, IsSome}
-use Rattle.std.specs.Option.{option_map_or}
-use Rattle.lists.specs.Elements.{Each, EachPair, first_of_two, first_some}
-use Rattle.model_registers.specs.Registers.{File}
-use Rattle.model_registers.specs.Decoding.{Space, Function}
-use Rattle.model_board.specs.Paths.{Path, path_eq, path_before}
-use Rattle.model_board.specs.Board.{Decl, endpoint}
-use Rattle.model_board.specs.State.{BoardFunction, with_file}
-use Rattle.model_board.specs.Claims.{Claim, claim_of, first_claim}
-use Rattle.model_board.specs.Ports.{file_at}
-use Rattle.model_board.proofs.PathOrder.{path_same}
-use Rattle.model_board.proofs.PathEnds.{path_self, path_eq-sym}
-use Rattle.bridge_forward.specs.Lending.{as_endpoint, endpoint_at, with_endpoint}
-use Rattle.lists.proofs.FirstFound.{found_passes, each_found}
-use Rattle.bridge_forward.proofs.Changes.{same_files}
-use Rattle.model_board.proofs.PlacesLaw.{before_apart}
+use Rattle.lists.{proofs.{EachLemmas.pairs_map, FirstFound.{found_passes, each_found}}, specs.Elements.{Each, EachPair, first_of_two, first_some}}
+use Rattle.std.{proofs.Common.{◌≡◌, ℕ, Bool, true, false, cond, List, [], ◌∷◌, Option, Some, None, refl, sym, ap, ap₂, subst, ◌∙◌, arith}, specs.{Prelude.{find, IsTrue, IsFalse, IsSome}, Option.option_map_or}}
+use Rattle.model_registers.specs.{Registers.File, Decoding.{Space, Function}}
+use Rattle.model_board.{specs.{Paths.{Path, path_eq, path_before}, Board.{Decl, endpoint}, State.{BoardFunction, with_file}, Claims.{Claim, claim_of, first_claim}, Ports.file_at}, proofs.{PathOrder.path_same, PathEnds.{path_self, path_eq-sym}, PlacesLaw.before_apart}}
+use Rattle.bridge_forward.{specs.Lending.{as_endpoint, endpoint_at, with_endpoint}, proofs.Changes.same_files}
 
 -- ---- paths in order are distinct
 

@@ -1,11 +1,8 @@
 -- An access at CONFIG_DATA: the selected word takes it in the byte lanes in which the port lies.
-use Rattle.std.proofs.Common.{◌≡◌, ℕ, ◌+◌, ◌-◌, ◌*◌, ◌/◌, ◌%◌, ◌^◌, ◌≤◌, sym, ap, ap₂, subst, ◌∙◌, arith}
-use Rattle.std.proofs.lemmas.Bool.Decides.{nat_tests}
+use Rattle.std.proofs.{Common.{◌≡◌, ℕ, ◌+◌, ◌-◌, ◌*◌, ◌/◌, ◌%◌, ◌^◌, ◌≤◌, sym, ap, ap₂, subst, ◌∙◌, arith}, lemmas.Bool.Decides.nat_tests}
 use Rattle.lists.proofs.Tests.{left_true, right_true}
 use Rattle.model_registers.specs.ByteEnables.{IsWidth, lanes, enables_of, into_lanes}
-use Rattle.model_board.specs.State.{State}
-use Rattle.model_board.specs.Ports.{selected, selected_register, config_reply, after_config_write, config_data, port_target, target_reply, port_reply, after_target_write, after_port_write}
-use Rattle.model_board.proofs.ConfigAccesses.{config_read_by_lanes, config_write_by_lanes}
+use Rattle.model_board.{specs.{State.State, Ports.{selected, selected_register, config_reply, after_config_write, config_data, port_target, target_reply, port_reply, after_target_write, after_port_write}}, proofs.ConfigAccesses.{config_read_by_lanes, config_write_by_lanes}}
 
 -- the latch selects a function and a word, and the port a byte of it
 abbrev IsDataTarget : ℕ → ℕ → ℕ → Type 0

@@ -2,11 +2,8 @@
 --     file_nth fs i      its cells; none past the last
 --     with_file_nth g i fs      the functions with its cells changed, and no other's
 --     with_reset_nth i fs      the functions with the endpoint there reset, alone
-use Rattle.std.specs.Prelude.{List, [], ℕ, slice_get}
-use Rattle.std.specs.Option.{option_map_or}
-use Rattle.model_registers.specs.Registers.{File}
-use Rattle.model_registers.specs.Decoding.{Function}
-use Rattle.model_registers.specs.CopiedFiles.{after_reset}
+use Rattle.std.specs.{Prelude.{List, [], ℕ, slice_get}, Option.option_map_or}
+use Rattle.model_registers.specs.{Registers.File, Decoding.Function, CopiedFiles.after_reset}
 use Rattle.model_board.specs.State.{BoardFunction, with_file}
 use Rattle.bridge_forward.specs.Lending.{endpoint_nth}
 

@@ -3,11 +3,8 @@
 --     IsReached fs i      configuration cycles for some bus, device and function number reach the function there
 use Rattle.std.specs.Prelude.{ℕ, List, Some, ◌≡◌, ◌<◌, ◌%◌, length, slice_get}
 use Rattle.model_registers.specs.Decoding.{Space}
-use Rattle.model_board.specs.State.{BoardFunction}
-use Rattle.model_board.specs.Cycles.{BusAddress, reached}
-use Rattle.model_board.specs.Claims.{first_claim}
-use Rattle.bridge_forward.specs.declared.bus.Located.{Located}
-use Rattle.bridge_forward.specs.Locating.{located_claim}
+use Rattle.model_board.specs.{State.BoardFunction, Cycles.{BusAddress, reached}, Claims.first_claim}
+use Rattle.bridge_forward.specs.{declared.bus.Located.Located, Locating.located_claim}
 
 pub record IsLanding (fs : List BoardFunction) (l : Located) (width : ℕ) : Type 0 where
   pub space : Space

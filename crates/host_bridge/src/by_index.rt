@@ -1,20 +1,12 @@
 //! A function of the board by its index: what is told of it as its registers stand, and what changes them.
 //! No call takes memory.
-ghost use Rattle.std.specs.Prelude.{◌≡◌, ◌%◌, IsSome, IsTrue, length, option_map, slice_get};
-ghost use Rattle.std.specs.Option.{option_copied};
+ghost use Rattle.std.specs.{Prelude.{◌≡◌, ◌%◌, IsSome, IsTrue, length, option_map, slice_get}, Option.option_copied};
 ghost use Rattle.lists.specs.Elements.{Each};
-ghost use Rattle.model_registers.specs.AccessLaws.{HoldsBytes};
-ghost use Rattle.model_registers.specs.Registers.{cell_at, config, number, raise, read, write};
-ghost use Rattle.model_registers.specs.ByteEnables.{LiesInWord, lanes};
-ghost use Rattle.model_registers.specs.DeviceBytes.{is_device_byte, set_value};
+ghost use Rattle.model_registers.specs.{AccessLaws.HoldsBytes, Registers.{cell_at, config, number, raise, read, write}, ByteEnables.{LiesInWord, lanes}, DeviceBytes.{is_device_byte, set_value}};
 ghost use Rattle.model_board.specs.State.{BoardFunction};
 ghost use Rattle.headers.specs.Places.{place_of};
-ghost use Rattle.bridge_forward.specs.BridgeDecls.{declared_bridge_nth};
-ghost use Rattle.bridge_forward.specs.ByIndex.{ranges_told, ranges_nth};
-ghost use Rattle.bridge_forward.specs.Lending.{endpoint_nth};
-ghost use Rattle.host_bridge.specs.ByIndex.{file_nth, with_file_nth, with_reset_nth};
-ghost use Rattle.host_bridge.specs.HostState.{with_functions};
-ghost use Rattle.host_bridge.specs.Landings.{IsReached};
+ghost use Rattle.bridge_forward.specs.{BridgeDecls.declared_bridge_nth, ByIndex.{ranges_told, ranges_nth}, Lending.endpoint_nth};
+ghost use Rattle.host_bridge.specs.{ByIndex.{file_nth, with_file_nth, with_reset_nth}, HostState.with_functions, Landings.IsReached};
 
 use crate::host::Host;
 use bridge_forward::{EndpointFn, Path, RangesNow};

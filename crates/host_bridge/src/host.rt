@@ -1,23 +1,12 @@
 //! The host bridge.
-ghost use Rattle.std.specs.Prelude.{◌≡◌, ◌%◌, ◌<◌, IfOk, IfSome, IsTrue, find, length, slice_get};
-ghost use Rattle.std.specs.Option.{option_and_then};
+ghost use Rattle.std.specs.{Prelude.{◌≡◌, ◌%◌, ◌<◌, IfOk, IfSome, IsTrue, find, length, slice_get}, Option.option_and_then};
 ghost use Rattle.lists.specs.Elements.{EachPair};
 ghost use Rattle.model_registers.specs.ByteEnables.{lanes, IsWidth};
-ghost use Rattle.bars.specs.Kinds.{named_space};
-ghost use Rattle.model_board.specs.Paths.{path_before, path_eq};
-ghost use Rattle.model_board.specs.Board.{IsBoard};
-ghost use Rattle.model_board.specs.AtReset.{board_at, IsAtReset};
-ghost use Rattle.model_board.specs.Cycles.{reached};
-ghost use Rattle.model_board.specs.Routing.{routing};
-ghost use Rattle.model_board.specs.Claims.{first_claim};
-ghost use Rattle.model_board.specs.Ports.{selected, selected_register, config_reply, after_config_write, claim_reply, after_claim_write, port_reply, after_port_write, memory_reply, after_memory_write};
-ghost use Rattle.bridge_forward.specs.Locating.{located_claim};
-ghost use Rattle.bars.specs.Slots.{bases_from};
-ghost use Rattle.bridge_forward.specs.BasesNow.{bases_nth};
-ghost use Rattle.bridge_forward.specs.RoutingRows.{primary_nth, secondary_nth};
+ghost use Rattle.bars.specs.{Kinds.named_space, Slots.bases_from};
+ghost use Rattle.model_board.specs.{Paths.{path_before, path_eq}, Board.IsBoard, AtReset.{board_at, IsAtReset}, Cycles.reached, Routing.routing, Claims.first_claim, Ports.{selected, selected_register, config_reply, after_config_write, claim_reply, after_claim_write, port_reply, after_port_write, memory_reply, after_memory_write}};
+ghost use Rattle.bridge_forward.specs.{Locating.located_claim, BasesNow.bases_nth, RoutingRows.{primary_nth, secondary_nth}};
 ghost use Rattle.paths.specs.BusAddresses.{bus_address_of};
-ghost use Rattle.host_bridge.specs.HostState.{with_functions, with_latch};
-ghost use Rattle.host_bridge.specs.Landings.{IsLanding};
+ghost use Rattle.host_bridge.specs.{HostState.{with_functions, with_latch}, Landings.IsLanding};
 
 use crate::latch::{Target, cycle_of, target_of};
 use crate::route::Route;

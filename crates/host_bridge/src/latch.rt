@@ -1,8 +1,6 @@
 //! Where the address latch leads (PCI Local Bus 3.0, chapter 3.2.2.3.2).
 ghost use Rattle.std.specs.Prelude.{◌≡◌, List};
-ghost use Rattle.model_board.specs.State.{BoardFunction};
-ghost use Rattle.model_board.specs.Cycles.{reached};
-ghost use Rattle.model_board.specs.Ports.{selected, selected_register, port_target};
+ghost use Rattle.model_board.specs.{State.BoardFunction, Cycles.reached, Ports.{selected, selected_register, port_target}};
 ghost use Rattle.bridge_forward.specs.Cycled.{reached_by};
 ghost use Rattle.host_bridge.specs.Targets.{named_target};
 

@@ -1,8 +1,7 @@
 //! Ways to find who claims an address.
 ghost use Rattle.std.specs.Prelude.{◌≡◌, ◌<◌, IfSome, length};
 ghost use Rattle.bars.specs.Kinds.{named_space};
-ghost use Rattle.model_board.specs.Claims.{first_claim};
-ghost use Rattle.model_board.specs.Routing.{routing};
+ghost use Rattle.model_board.specs.{Claims.first_claim, Routing.routing};
 ghost use Rattle.bridge_forward.specs.Locating.{located_claim};
 ghost use Rattle.host_bridge.specs.HostState.{HostState};
 

@@ -1,16 +1,9 @@
 -- Bytes that are compared in two steps.
-use Rattle.std.proofs.Common.{◌≡◌, ◌<◌, ℕ, ◌⊎◌, inl, inr, true, false, List, [], ◌∷◌, ◌++◌, length, take, drop, Ok, Err, refl, sym, ap, ap₂, ◌∙◌, subst, arith}
-use Rattle.std.specs.Prelude.{flat_map}
-use Rattle.std.specs.Str.{bytes_eq}
-use Rattle.std.proofs.lemmas.List.{append-nil, take-append-drop, take_all, take_at}
-use Rattle.std.proofs.lemmas.Slice.Eq.{bytes_eq-Decides}
-use Rattle.model_images.specs.LoadedBytes.{then_read, after_bytes}
+use Rattle.std.{proofs.{Common.{◌≡◌, ◌<◌, ℕ, ◌⊎◌, inl, inr, true, false, List, [], ◌∷◌, ◌++◌, length, take, drop, Ok, Err, refl, sym, ap, ap₂, ◌∙◌, subst, arith}, lemmas.{List.{append-nil, take-append-drop, take_all, take_at}, Slice.Eq.bytes_eq-Decides}}, specs.{Prelude.flat_map, Str.bytes_eq}}
+use Rattle.model_images.{specs.LoadedBytes.{then_read, after_bytes}, proofs.{Savable.block_count, LoadedBytes.{compared, after_both, own_bytes, Follows, FallsShort}}}
 use Rattle.lists.specs.Elements.{Each}
-use Rattle.model_registers.specs.Declarations.{Region, ConfigBlock, Endpoint}
-use Rattle.model_registers.specs.DeclarationRules.{IsConfigBlock, IsLawfulEndpoint}
-use Rattle.model_images.proofs.Savable.{block_count}
+use Rattle.model_registers.specs.{Declarations.{Region, ConfigBlock, Endpoint}, DeclarationRules.{IsConfigBlock, IsLawfulEndpoint}}
 use Rattle.images.specs.Parts.{counted_blocks, region_bytes, rest_bytes}
-use Rattle.model_images.proofs.LoadedBytes.{compared, after_both, own_bytes, Follows, FallsShort}
 
 same : (xs ys : List ℕ) → bytes_eq xs ys ≡ true → xs ≡ ys
 same xs ys h = (bytes_eq-Decides xs ys).0 h

@@ -1,12 +1,8 @@
 -- Bytes that are compared with fields, one after the other.
-use Rattle.std.proofs.Common.{◌≡◌, ◌≤◌, ◌+◌, ◌*◌, ◌/◌, ◌%◌, ℕ, zero, suc, List, [], ◌∷◌, ◌++◌, length, take, refl, sym, ap, ◌∙◌, arith}
-use Rattle.std.specs.Prelude.{codes, flat_map}
-use Rattle.byteorder.specs.Endian.{little_from}
-use Rattle.byteorder.specs.Numbers.{little_from-cons}
+use Rattle.std.{proofs.Common.{◌≡◌, ◌≤◌, ◌+◌, ◌*◌, ◌/◌, ◌%◌, ℕ, zero, suc, List, [], ◌∷◌, ◌++◌, length, take, refl, sym, ap, ◌∙◌, arith}, specs.Prelude.{codes, flat_map}}
+use Rattle.byteorder.specs.{Endian.little_from, Numbers.little_from-cons}
 use Rattle.model_registers.specs.Declarations.{Endpoint}
-use Rattle.model_images.specs.Layouts.{le_bytes}
-use Rattle.model_images.specs.TakenBytes.{le_number}
-use Rattle.model_images.specs.Differences.{Field, Compared, after_field, after_fields, block_fields, endpoint_fields, field, head_fields, of_function, region_fields}
+use Rattle.model_images.specs.{Layouts.le_bytes, TakenBytes.le_number, Differences.{Field, Compared, after_field, after_fields, block_fields, endpoint_fields, field, head_fields, of_function, region_fields}}
 
 -- ---- numbers
 

@@ -1,12 +1,8 @@
 -- Bytes that are compared with a slot that is filled.
 use Rattle.std.proofs.Common.{◌≡◌, ℕ, false, List, [], ◌∷◌, Ok, Err, Some, refl, ap, ◌∙◌}
-use Rattle.model_registers.specs.Decoding.{Function}
-use Rattle.model_registers.specs.Declarations.{Endpoint}
-use Rattle.model_registers.specs.EndpointTable.{endpoint_reset}
-use Rattle.model_images.specs.ImageBytes.{declaration_bytes}
-use Rattle.model_images.specs.LoadedBytes.{Left, after_bytes, after_slot, after_values, then_read}
-use Rattle.images.proofs.ComparedBytes.{ends, goes_on}
-use Rattle.images.specs.Shown.{after_filled}
+use Rattle.model_registers.specs.{Decoding.Function, Declarations.Endpoint, EndpointTable.endpoint_reset}
+use Rattle.model_images.specs.{ImageBytes.declaration_bytes, LoadedBytes.{Left, after_bytes, after_slot, after_values, then_read}}
+use Rattle.images.{proofs.ComparedBytes.{ends, goes_on}, specs.Shown.after_filled}
 
 pub filled_is : (f : Function) (bytes : List ℕ) → after_filled f.decl bytes ≡ after_slot (Some f) bytes
 unfolding after_filled

@@ -1,8 +1,6 @@
 -- The bytes of a declaration, put together from those of its parts.
-use Rattle.std.proofs.Common.{◌≡◌, ℕ, List, [], ◌∷◌, ◌++◌, refl, ap, ap₂, arith}
-use Rattle.std.specs.Prelude.{flat_map}
-use Rattle.model_registers.specs.Cell.{Cell}
-use Rattle.model_registers.specs.Declarations.{Region, ConfigBlock}
+use Rattle.std.{proofs.Common.{◌≡◌, ℕ, List, [], ◌∷◌, ◌++◌, refl, ap, ap₂, arith}, specs.Prelude.flat_map}
+use Rattle.model_registers.specs.{Cell.Cell, Declarations.{Region, ConfigBlock}}
 use Rattle.model_images.specs.ImageBytes.{cell_layout, region_layout, block_layout}
 use Rattle.images.specs.Parts.{cell_bytes, endpoint_head, region_head, block_head, region_bytes, block_bytes, DeclaredBytes}
 

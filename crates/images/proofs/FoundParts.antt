@@ -1,17 +1,8 @@
 -- Devices and functions in turn, as parts of a path, and as they are read.
-use Rattle.std.proofs.Common.{◌≡◌, ◌+◌, ◌*◌, ◌/◌, ◌%◌, ◌<◌, ◌≤◌, ℕ, zero, suc, List, [], ◌∷◌, Option, Some, None, Bool, true, false, length, get_or, take, drop, Fits, w8, refl, sym, ap, ◌∙◌, subst, arith}
-use Rattle.std.specs.Prelude.{find, map, option_map, slice_get}
-use Rattle.std.specs.Option.{option_and_then}
-use Rattle.lists.specs.Elements.{Each}
-use Rattle.lists.proofs.Indices.{each_at, find_none, map_at}
-use Rattle.model_board.specs.AtReset.{board_at}
-use Rattle.model_board.specs.Board.{Row, IsBoard}
-use Rattle.model_board.specs.Paths.{Part, Path, path_eq, IsPart, IsPath}
-use Rattle.model_board.specs.State.{BoardFunction, row_at}
-use Rattle.model_board.proofs.PathOrder.{path_same}
-use Rattle.model_images.specs.Layouts.{Layout, Parsed, parsed, parse_number, parse_times, before, paired, seen, number, through, both}
-use Rattle.model_images.specs.MachineBytes.{path_layout}
-use Rattle.model_images.proofs.Numbers.{number_again}
+use Rattle.std.{proofs.Common.{◌≡◌, ◌+◌, ◌*◌, ◌/◌, ◌%◌, ◌<◌, ◌≤◌, ℕ, zero, suc, List, [], ◌∷◌, Option, Some, None, Bool, true, false, length, get_or, take, drop, Fits, w8, refl, sym, ap, ◌∙◌, subst, arith}, specs.{Prelude.{find, map, option_map, slice_get}, Option.option_and_then}}
+use Rattle.lists.{specs.Elements.Each, proofs.Indices.{each_at, find_none, map_at}}
+use Rattle.model_board.{specs.{AtReset.board_at, Board.{Row, IsBoard}, Paths.{Part, Path, path_eq, IsPart, IsPath}, State.{BoardFunction, row_at}}, proofs.PathOrder.path_same}
+use Rattle.model_images.{specs.{Layouts.{Layout, Parsed, parsed, parse_number, parse_times, before, paired, seen, number, through, both}, MachineBytes.path_layout}, proofs.Numbers.number_again}
 use Rattle.images.specs.FoundPaths.{parts_in}
 
 abbrev pub part_in : List ℕ → ℕ → Part

@@ -1,36 +1,14 @@
 -- What the handoff holds, cell by cell.
-use Rattle.std.proofs.Common.{◌≡◌, ◌%◌, ◌<◌, ℕ, zero, suc, Bool, true, false, not, cond, List, [], ◌∷◌, Option, Some, None, length, refl, sym, ap, ◌∙◌, subst, arith}
-use Rattle.std.specs.Prelude.{flat_map, option_map, slice_get, IsTrue}
-use Rattle.std.specs.Option.{option_map_or}
-use Rattle.std.specs.List.{list_all}
-use Rattle.std.proofs.lemmas.Option.{same_Some, slice_get-map}
-use Rattle.std.proofs.lemmas.List.{length-map}
-use Rattle.lists.specs.Elements.{Each, all_pairs}
-use Rattle.lists.proofs.EachLemmas.{each_test, pairs_map, pairs_test}
-use Rattle.lists.proofs.Indices.{at_below, each_at}
-use Rattle.model_registers.specs.Registers.{Place, config, block, place_eq, PlacedCell, File, cell_at}
-use Rattle.model_registers.specs.Declarations.{IoDecode, no_io, io16, io32, PrefDecode, no_pref, pref32, pref64, Bridge, Endpoint}
-use Rattle.model_registers.specs.DeclarationRules.{IsLawfulEndpoint}
-use Rattle.model_registers.specs.EndpointTable.{endpoint_reset}
-use Rattle.model_registers.specs.BridgeTable.{bridge_reset}
-use Rattle.model_registers.specs.OwnCopies.{is_own}
-use Rattle.model_registers.specs.CopiedFiles.{after_reset, places_of, shape_of}
-use Rattle.model_registers.specs.Decoding.{Function}
-use Rattle.model_board.specs.Board.{Decl, endpoint, bridge}
-use Rattle.model_board.specs.State.{BoardFunction}
-use Rattle.model_guests.proofs.AgreedFiles.{agreed_common, agreed_kept, agreed_places}
-use Rattle.model_guests.proofs.DistinctPlaces.{Apart, HasDistinctPlaces, distinct_places}
-use Rattle.model_guests.proofs.TablePlaces.{found_entries}
-use Rattle.model_images.specs.Images.{values_of}
+use Rattle.std.{proofs.{Common.{◌≡◌, ◌%◌, ◌<◌, ℕ, zero, suc, Bool, true, false, not, cond, List, [], ◌∷◌, Option, Some, None, length, refl, sym, ap, ◌∙◌, subst, arith}, lemmas.{Option.{same_Some, slice_get-map}, List.length-map}}, specs.{Prelude.{flat_map, option_map, slice_get, IsTrue}, Option.option_map_or, List.list_all}}
+use Rattle.lists.{specs.Elements.{Each, all_pairs}, proofs.{EachLemmas.{each_test, pairs_map, pairs_test}, Indices.{at_below, each_at}}}
+use Rattle.model_registers.specs.{Registers.{Place, config, block, place_eq, PlacedCell, File, cell_at}, Declarations.{IoDecode, no_io, io16, io32, PrefDecode, no_pref, pref32, pref64, Bridge, Endpoint}, DeclarationRules.IsLawfulEndpoint, EndpointTable.endpoint_reset, BridgeTable.bridge_reset, OwnCopies.is_own, CopiedFiles.{after_reset, places_of, shape_of}, Decoding.Function}
+use Rattle.model_board.specs.{Board.{Decl, endpoint, bridge}, State.BoardFunction}
+use Rattle.model_guests.proofs.{AgreedFiles.{agreed_common, agreed_kept, agreed_places}, DistinctPlaces.{Apart, HasDistinctPlaces, distinct_places}, TablePlaces.found_entries}
+use Rattle.model_images.{specs.{Images.values_of, Layouts.le_bytes}, proofs.Numbers.one_each}
 use Rattle.model_handoff.specs.Handoffs.{declared_cells, HasDeclaredShape}
-use Rattle.model_images.specs.Layouts.{le_bytes}
-use Rattle.model_images.proofs.Numbers.{one_each}
-use Rattle.bridge_forward.specs.BridgeDecls.{declared_bridge, declared_bridge_nth}
-use Rattle.bridge_forward.specs.ResetAlone.{after_leaf_reset}
-use Rattle.bridge_forward.specs.Lending.{as_endpoint, endpoint_nth}
+use Rattle.bridge_forward.specs.{BridgeDecls.{declared_bridge, declared_bridge_nth}, ResetAlone.after_leaf_reset, Lending.{as_endpoint, endpoint_nth}}
 use Rattle.host_bridge.specs.ByIndex.{file_nth}
-use Rattle.images.specs.Cells.{told_at, entry_of}
-use Rattle.images.specs.BoardBytes.{held_cells, held_nth, held_file, held_value}
+use Rattle.images.specs.{Cells.{told_at, entry_of}, BoardBytes.{held_cells, held_nth, held_file, held_value}}
 
 -- ---- a file as bytes
 

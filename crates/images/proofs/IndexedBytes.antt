@@ -1,9 +1,6 @@
 -- A list, element by element.
-use Rattle.std.proofs.Common.{◌≡◌, ◌+◌, ◌≤◌, ◌<◌, ℕ, zero, suc, List, [], ◌∷◌, ◌++◌, Some, length, take, drop, sym, ap, ◌∙◌, arith}
-use Rattle.std.specs.Prelude.{slice_get}
-use Rattle.std.proofs.lemmas.List.{length-take}
-use Rattle.images.specs.Puts.{put}
-use Rattle.images.proofs.Puts.{put_both}
+use Rattle.std.{proofs.{Common.{◌≡◌, ◌+◌, ◌≤◌, ◌<◌, ℕ, zero, suc, List, [], ◌∷◌, ◌++◌, Some, length, take, drop, sym, ap, ◌∙◌, arith}, lemmas.List.length-take}, specs.Prelude.slice_get}
+use Rattle.images.{specs.Puts.put, proofs.Puts.put_both}
 
 pub take_next : {A : Type 0} (xs : List A) (i : ℕ) (x : A) → slice_get xs i ≡ Some x → take i xs ++ x ∷ [] ≡ take (i + 1) xs
 take_next [] i x h = absurd (grind arith)

@@ -1,6 +1,5 @@
 -- What holds of each element that was looked at.
-use Rattle.std.proofs.Common.{◌≡◌, ℕ, zero, suc, ◌+◌, ◌≤◌, List, [], ◌∷◌, length, take, Some, refl, sym, subst, arith}
-use Rattle.std.specs.Prelude.{slice_get}
+use Rattle.std.{proofs.Common.{◌≡◌, ℕ, zero, suc, ◌+◌, ◌≤◌, List, [], ◌∷◌, length, take, Some, refl, sym, subst, arith}, specs.Prelude.slice_get}
 use Rattle.lists.specs.Elements.{Each}
 
 -- what holds of the first and of the others holds of all

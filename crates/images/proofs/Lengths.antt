@@ -1,14 +1,8 @@
 -- How long the parts of a declaration are.
-use Rattle.std.proofs.Common.{◌≡◌, ◌+◌, ◌*◌, ◌≤◌, ℕ, zero, suc, false, List, [], ◌∷◌, ◌++◌, ◌/◌, length, refl, ap, ◌∙◌, arith, length-append}
-use Rattle.std.specs.Prelude.{flat_map}
-use Rattle.model_registers.specs.Cell.{Cell}
-use Rattle.model_registers.specs.Declarations.{Kind, io_kind, mem32, mem64, registers_of, Region, ConfigBlock, Endpoint}
-use Rattle.model_registers.specs.EndpointTable.{block_cells, endpoint_reset, header_cells, region_cells}
-use Rattle.model_registers.specs.Registers.{Place, after, File, field}
-use Rattle.model_registers.specs.DeclarationRules.{IsLawfulEndpoint}
+use Rattle.std.{proofs.Common.{◌≡◌, ◌+◌, ◌*◌, ◌≤◌, ℕ, zero, suc, false, List, [], ◌∷◌, ◌++◌, ◌/◌, length, refl, ap, ◌∙◌, arith, length-append}, specs.Prelude.flat_map}
+use Rattle.model_registers.specs.{Cell.Cell, Declarations.{Kind, io_kind, mem32, mem64, registers_of, Region, ConfigBlock, Endpoint}, EndpointTable.{block_cells, endpoint_reset, header_cells, region_cells}, Registers.{Place, after, File, field}, DeclarationRules.IsLawfulEndpoint}
 use Rattle.model_images.proofs.Savable.{region_count, block_count}
-use Rattle.images.proofs.TakenValues.{many_cells}
-use Rattle.images.specs.Parts.{cell_bytes, endpoint_head, region_head, block_head, region_bytes, block_bytes, counted_blocks, rest_bytes, declared_bytes}
+use Rattle.images.{proofs.TakenValues.many_cells, specs.Parts.{cell_bytes, endpoint_head, region_head, block_head, region_bytes, block_bytes, counted_blocks, rest_bytes, declared_bytes}}
 
 cells_length : (cs : List Cell) → length (flat_map cell_bytes cs) ≡ 3 * length cs
 unfolding cell_bytes

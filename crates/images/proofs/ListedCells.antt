@@ -1,7 +1,6 @@
 -- The cell at an index of a file that is made of parts.
 use Rattle.std.proofs.Common.{◌≡◌, ℕ, zero, suc, ◌+◌, ◌/◌, ◌%◌, ◌<◌, ◌≤◌, List, [], ◌∷◌, ◌++◌, Some, None, length, get_or, refl, sym, ap, ap₂, ◌∙◌, arith, length-append}
-use Rattle.model_registers.specs.Cell.{Cell}
-use Rattle.model_registers.specs.Registers.{Place, config, after, File, field, cells_from}
+use Rattle.model_registers.specs.{Cell.Cell, Registers.{Place, config, after, File, field, cells_from}}
 use Rattle.model_images.specs.Layouts.{le_bytes}
 use Rattle.images.specs.Cells.{told_at}
 

@@ -1,11 +1,6 @@
 -- The masks of a cell, by what a write and a raise of all ones leave of one that holds 0.
-use Rattle.std.proofs.Common.{◌≡◌, ◌-◌, ◌<◌, ap, ◌∙◌}
-use Rattle.std.specs.Prelude.{bit_and, bit_or}
-use Rattle.std.specs.Int.Bits.{and_zero_l, or_zero_l, or_zero_r}
-use Rattle.std.proofs.lemmas.Nat.{and_comm, and_mask}
-use Rattle.std.proofs.Math.Nat.{mod-eq_of_lt}
-use Rattle.model_registers.specs.Cell.{Cell, written}
-use Rattle.model_registers.specs.DeviceBytes.{with_value}
+use Rattle.std.{proofs.{Common.{◌≡◌, ◌-◌, ◌<◌, ap, ◌∙◌}, lemmas.Nat.{and_comm, and_mask}, Math.Nat.mod-eq_of_lt}, specs.{Prelude.{bit_and, bit_or}, Int.Bits.{and_zero_l, or_zero_l, or_zero_r}}}
+use Rattle.model_registers.specs.{Cell.{Cell, written}, DeviceBytes.with_value}
 
 pub written_ones : (c : Cell) → c.writable < 256 → (written 255 (with_value 0 c)).value ≡ c.writable
 written_ones c fits =

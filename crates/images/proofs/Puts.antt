@@ -1,7 +1,5 @@
 -- What is put into a buffer in two steps.
-use Rattle.std.proofs.Common.{◌≡◌, ℕ, ◌+◌, ◌≤◌, List, [], ◌∷◌, ◌++◌, length, take, drop, sym, ap, ap₂, ◌∙◌, subst, append_assoc, arith, length-append, length-drop}
-use Rattle.std.specs.Prelude.{flat_map}
-use Rattle.std.proofs.lemmas.List.{length-take, take-append-drop, take_at, drop_at, drop-drop}
+use Rattle.std.{proofs.{Common.{◌≡◌, ℕ, ◌+◌, ◌≤◌, List, [], ◌∷◌, ◌++◌, length, take, drop, sym, ap, ap₂, ◌∙◌, subst, append_assoc, arith, length-append, length-drop}, lemmas.List.{length-take, take-append-drop, take_at, drop_at, drop-drop}}, specs.Prelude.flat_map}
 use Rattle.images.specs.Puts.{put}
 
 pub put_length : (at : ℕ) (xs out : List ℕ) → at + length xs ≤ length out → length (put at xs out) ≡ length out

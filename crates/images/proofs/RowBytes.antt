@@ -1,15 +1,9 @@
 -- The bytes of a function's row, part by part.
-use Rattle.std.proofs.Common.{◌≡◌, ◌+◌, ◌*◌, ◌%◌, ℕ, List, [], ◌∷◌, ◌++◌, Option, Some, Ok, Err, false, cond, eqb, length, refl, sym, ap, ◌∙◌, arith}
-use Rattle.std.specs.Prelude.{flat_map, slice_get, option_map}
-use Rattle.model_registers.specs.Declarations.{Bridge, Endpoint}
-use Rattle.model_registers.specs.Decoding.{Function}
-use Rattle.model_board.specs.Paths.{Part, Path}
-use Rattle.model_board.specs.Board.{endpoint, bridge}
-use Rattle.model_board.specs.State.{BoardFunction}
-use Rattle.model_images.specs.ImageBytes.{declaration_bytes}
-use Rattle.model_images.specs.LoadedBytes.{after_bytes}
-use Rattle.bridge_forward.specs.BridgeDecls.{declared_bridge_nth}
-use Rattle.bridge_forward.specs.Lending.{endpoint_nth}
+use Rattle.std.{proofs.Common.{◌≡◌, ◌+◌, ◌*◌, ◌%◌, ℕ, List, [], ◌∷◌, ◌++◌, Option, Some, Ok, Err, false, cond, eqb, length, refl, sym, ap, ◌∙◌, arith}, specs.Prelude.{flat_map, slice_get, option_map}}
+use Rattle.model_registers.specs.{Declarations.{Bridge, Endpoint}, Decoding.Function}
+use Rattle.model_board.specs.{Paths.{Part, Path}, Board.{endpoint, bridge}, State.BoardFunction}
+use Rattle.model_images.specs.{ImageBytes.declaration_bytes, LoadedBytes.after_bytes}
+use Rattle.bridge_forward.specs.{BridgeDecls.declared_bridge_nth, Lending.endpoint_nth}
 use Rattle.images.specs.BoardBytes.{decl_bytes, decl_nth, path_bytes, row_bytes, row_nth}
 
 -- ---- paths

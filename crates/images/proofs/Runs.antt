@@ -1,16 +1,9 @@
 -- Bytes that are put one after the other, from a place on.
-use Rattle.std.proofs.Common.{◌≡◌, ℕ, zero, suc, ◌+◌, ◌*◌, ◌-◌, ◌≤◌, ◌<◌, List, [], ◌∷◌, ◌++◌, length, refl, sym, ap, ◌∙◌, arith, length-append}
-use Rattle.std.specs.Prelude.{flat_map}
-use Rattle.model_registers.specs.Registers.{Place, config, block, after}
-use Rattle.model_registers.specs.Decoding.{Function}
-use Rattle.model_registers.specs.Declarations.{Endpoint, registers_of, Region}
-use Rattle.model_registers.specs.EndpointTable.{base_register}
-use Rattle.model_registers.specs.OwnCopies.{OwnCopies}
-use Rattle.headers.specs.declared.place.Place as headers
+use Rattle.std.{proofs.Common.{◌≡◌, ℕ, zero, suc, ◌+◌, ◌*◌, ◌-◌, ◌≤◌, ◌<◌, List, [], ◌∷◌, ◌++◌, length, refl, sym, ap, ◌∙◌, arith, length-append}, specs.Prelude.flat_map}
+use Rattle.model_registers.specs.{Registers.{Place, config, block, after}, Decoding.Function, Declarations.{Endpoint, registers_of, Region}, EndpointTable.base_register, OwnCopies.OwnCopies}
 use Rattle.headers.specs.Places.{place_of}
-use Rattle.images.specs.Puts.{put}
-use Rattle.images.proofs.Puts.{next, put_none}
-use Rattle.images.specs.Shown.{block_values, bytes_from, header_values, region_values, shown_byte, shown_values}
+use Rattle.images.{specs.{Puts.put, Shown.{block_values, bytes_from, header_values, region_values, shown_byte, shown_values}}, proofs.Puts.{next, put_none}}
+use Rattle.headers.specs.declared.place.Place as headers
 
 after_place : (place : headers.Place) (off : ℕ) → after (place_of place off) ≡ place_of place (off + 1)
 after_place place off = grind arith

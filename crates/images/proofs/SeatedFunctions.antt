@@ -1,17 +1,8 @@
 -- Each function of a board is the one that is declared at its path, so it is at reset where a guest sits there.
-use Rattle.std.proofs.Common.{◌≡◌, ℕ, suc, List, [], ◌∷◌, Option, Some, None, refl, ap, ap₂, arith}
-use Rattle.std.specs.Prelude.{map, slice_get, IsTrue}
-use Rattle.std.specs.Option.{option_map_or}
+use Rattle.std.{proofs.Common.{◌≡◌, ℕ, suc, List, [], ◌∷◌, Option, Some, None, refl, ap, ap₂, arith}, specs.{Prelude.{map, slice_get, IsTrue}, Option.option_map_or}}
 use Rattle.lists.proofs.Indices.{find_at, map_at, pair_at}
-use Rattle.model_board.specs.AtReset.{board_at}
-use Rattle.model_board.specs.Board.{Row, IsBoard}
-use Rattle.model_board.specs.Paths.{path_before, path_eq}
-use Rattle.model_board.specs.State.{BoardFunction, State, row_at}
-use Rattle.model_board.proofs.PathEnds.{path_self}
-use Rattle.model_board.proofs.PlacesLaw.{before_apart}
-use Rattle.model_guests.specs.AgreedBoard.{agreed_function}
-use Rattle.model_guests.specs.Guests.{GuestsNow}
-use Rattle.model_guests.specs.World.{declared, endpoint_of}
+use Rattle.model_board.{specs.{AtReset.board_at, Board.{Row, IsBoard}, Paths.{path_before, path_eq}, State.{BoardFunction, State, row_at}}, proofs.{PathEnds.path_self, PlacesLaw.before_apart}}
+use Rattle.model_guests.specs.{AgreedBoard.agreed_function, Guests.GuestsNow, World.{declared, endpoint_of}}
 use Rattle.model_handoff.specs.ViewLaws.{seated_files}
 use Rattle.images.specs.HeldLaws.{held_function, HeldAsSeated}
 

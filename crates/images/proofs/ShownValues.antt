@@ -1,27 +1,9 @@
 -- The values of a function as its guest has it, part by part.
-use Rattle.std.proofs.Common.{◌≡◌, ◌+◌, ◌/◌, ℕ, zero, suc, false, List, [], ◌∷◌, ◌++◌, length, refl, sym, ap, ap₂, ◌∙◌, subst, append_assoc, arith, length-append}
-use Rattle.std.specs.Prelude.{flat_map, map, option_map, Option}
-use Rattle.std.proofs.lemmas.List.{append-nil, length-map}
-use Rattle.std.proofs.lemmas.List.Concat.{flat_map-append}
-use Rattle.lists.specs.Elements.{EachPair}
-use Rattle.lists.proofs.Members.{each_in, flat_map_flat, flat_map_map, flat_map_same}
-use Rattle.model_registers.specs.Cell.{Cell}
-use Rattle.model_registers.specs.Registers.{Place, config, after, PlacedCell, File, cell_at, field, cells_from}
-use Rattle.model_registers.specs.Declarations.{Region, ConfigBlock, Endpoint}
-use Rattle.model_registers.specs.DeclarationRules.{IsLawfulEndpoint}
-use Rattle.model_registers.specs.EndpointTable.{block_cells, endpoint_reset, header_cells, region_cells}
-use Rattle.model_registers.specs.OwnCopies.{OwnCopies, own_file}
-use Rattle.model_registers.specs.CopiedFiles.{copied, with_copies}
-use Rattle.model_registers.specs.Decoding.{Function}
-use Rattle.model_guests.proofs.DistinctPlaces.{Apart, HasDistinctPlaces, distinct_places}
-use Rattle.model_guests.proofs.TablePlaces.{found_entries}
-use Rattle.model_guests.specs.Lone.{LoneGuest}
-use Rattle.model_guests.specs.Slots.{Slots}
-use Rattle.model_images.specs.Images.{image_of_lone, saved, values_of}
-use Rattle.model_images.specs.Layouts.{le_bytes, optional}
-use Rattle.model_images.specs.ImageBytes.{declaration_bytes, function_layout, image_bytes}
-use Rattle.model_images.specs.LoadedBytes.{header}
-use Rattle.model_images.proofs.Numbers.{one_each}
+use Rattle.std.{proofs.{Common.{◌≡◌, ◌+◌, ◌/◌, ℕ, zero, suc, false, List, [], ◌∷◌, ◌++◌, length, refl, sym, ap, ap₂, ◌∙◌, subst, append_assoc, arith, length-append}, lemmas.List.{append-nil, length-map, Concat.flat_map-append}}, specs.Prelude.{flat_map, map, option_map, Option}}
+use Rattle.lists.{specs.Elements.EachPair, proofs.Members.{each_in, flat_map_flat, flat_map_map, flat_map_same}}
+use Rattle.model_registers.specs.{Cell.Cell, Registers.{Place, config, after, PlacedCell, File, cell_at, field, cells_from}, Declarations.{Region, ConfigBlock, Endpoint}, DeclarationRules.IsLawfulEndpoint, EndpointTable.{block_cells, endpoint_reset, header_cells, region_cells}, OwnCopies.{OwnCopies, own_file}, CopiedFiles.{copied, with_copies}, Decoding.Function}
+use Rattle.model_guests.{proofs.{DistinctPlaces.{Apart, HasDistinctPlaces, distinct_places}, TablePlaces.found_entries}, specs.{Lone.LoneGuest, Slots.Slots}}
+use Rattle.model_images.{specs.{Images.{image_of_lone, saved, values_of}, Layouts.{le_bytes, optional}, ImageBytes.{declaration_bytes, function_layout, image_bytes}, LoadedBytes.header}, proofs.Numbers.one_each}
 use Rattle.images.specs.Shown.{block_values, bytes_from, function_bytes, HasDeclaredPlaces, header_values, region_values, seen, shown_byte, shown_values, slot_bytes}
 
 module _ (e : Function) (own : OwnCopies) where

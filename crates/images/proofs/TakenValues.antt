@@ -1,16 +1,9 @@
 -- Values that are taken one after the other.
-use Rattle.std.proofs.Common.{◌≡◌, ℕ, suc, ◌+◌, ◌-◌, ◌/◌, ◌%◌, ◌<◌, ◌≤◌, true, false, List, [], ◌∷◌, ◌++◌, length, drop, Ok, Err, refl, sym, ap, ap₂, ◌∙◌, arith}
-use Rattle.std.specs.Prelude.{flat_map}
-use Rattle.std.proofs.lemmas.Bool.Decides.{nat_tests}
+use Rattle.std.{proofs.{Common.{◌≡◌, ℕ, suc, ◌+◌, ◌-◌, ◌/◌, ◌%◌, ◌<◌, ◌≤◌, true, false, List, [], ◌∷◌, ◌++◌, length, drop, Ok, Err, refl, sym, ap, ap₂, ◌∙◌, arith}, lemmas.Bool.Decides.nat_tests}, specs.Prelude.flat_map}
 use Rattle.lists.specs.Elements.{Each}
-use Rattle.model_registers.specs.Cell.{Cell}
-use Rattle.model_registers.specs.Registers.{Place, config, block, after, PlacedCell, File, field, cells_from}
-use Rattle.model_registers.specs.Declarations.{Region, ConfigBlock, Endpoint}
-use Rattle.model_registers.specs.EndpointTable.{base_cells, block_cells, header_cells, endpoint_reset}
+use Rattle.model_registers.specs.{Cell.Cell, Registers.{Place, config, block, after, PlacedCell, File, field, cells_from}, Declarations.{Region, ConfigBlock, Endpoint}, EndpointTable.{base_cells, block_cells, header_cells, endpoint_reset}, DeviceBytes.is_device_byte}
+use Rattle.model_images.specs.{Images.can_hold, LoadedBytes.{then_read, after_values}}
 use Rattle.model_registers.specs.EndpointTable as table
-use Rattle.model_registers.specs.DeviceBytes.{is_device_byte}
-use Rattle.model_images.specs.Images.{can_hold}
-use Rattle.model_images.specs.LoadedBytes.{then_read, after_values}
 
 values_both : (xs ys : File) (bytes : List ℕ) → after_values (xs ++ ys) bytes ≡ then_read (after_values ys) (after_values xs bytes)
 values_both [] ys bytes = refl

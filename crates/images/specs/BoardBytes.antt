@@ -6,15 +6,10 @@
 --                                        cell there holds v
 --     bytes_nth g fs i      the bytes of the function at an index; none past the last
 --     decl_nth, row_nth, held_nth      of its declaration, of its row, and of what the handoff holds of it
-use Rattle.std.specs.Prelude.{List, [], ℕ, ◌%◌, Bool, ◌&&◌, not, if◌then◌else◌, slice_get}
-use Rattle.std.specs.Option.{option_map_or}
-use Rattle.model_registers.specs.Registers.{Place, File, cell_at}
-use Rattle.model_registers.specs.OwnCopies.{is_own}
-use Rattle.model_board.specs.Paths.{Path}
-use Rattle.model_board.specs.Board.{Decl}
-use Rattle.model_board.specs.State.{BoardFunction, row_at}
-use Rattle.model_images.specs.Images.{values_of}
-use Rattle.model_images.specs.MachineBytes.{path_layout, decl_layout, row_layout, cells_layout}
+use Rattle.std.specs.{Prelude.{List, [], ℕ, ◌%◌, Bool, ◌&&◌, not, if◌then◌else◌, slice_get}, Option.option_map_or}
+use Rattle.model_registers.specs.{Registers.{Place, File, cell_at}, OwnCopies.is_own}
+use Rattle.model_board.specs.{Paths.Path, Board.Decl, State.{BoardFunction, row_at}}
+use Rattle.model_images.specs.{Images.values_of, MachineBytes.{path_layout, decl_layout, row_layout, cells_layout}}
 use Rattle.bridge_forward.specs.ResetAlone.{after_leaf_reset}
 
 unfoldable pub path_bytes : Path → List ℕ

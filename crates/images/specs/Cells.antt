@@ -5,9 +5,7 @@
 --     IsCellAt file n c      it is the cell at this index
 use Rattle.std.specs.Prelude.{◌≡◌, ℕ, Option, Some, option_map, slice_get}
 use Rattle.model_registers.specs.Registers.{Place, config, block, PlacedCell, File}
-use Rattle.images.specs.declared.cells.CellPlace.{CellPlace}
-use Rattle.images.specs.declared.cells.CellPlace.TheVariants.{Config, Region}
-use Rattle.images.specs.declared.cells.DeclaredCell.{DeclaredCell}
+use Rattle.images.specs.declared.cells.{CellPlace.{CellPlace, TheVariants.{Config, Region}}, DeclaredCell.DeclaredCell}
 
 abbrev pub cell_place : CellPlace → Place
 cell_place (Config off) = config off

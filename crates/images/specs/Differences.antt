@@ -2,13 +2,8 @@
 --     holder_of, field_of, difference_of, slot_difference_of, compared_of      parts, fields, differences, and bytes that are compared
 --     IsNarrow f      a field of 8 bytes at most
 use Rattle.std.specs.Prelude.{◌≤◌, option_map}
+use Rattle.images.specs.declared.{differences.{Holder.{Holder, TheVariants.{Function, Region, Block}}, Field.Field, Difference.Difference, Compared.Compared}, slot_difference.SlotDifference.SlotDifference}
 use Rattle.model_images.specs.Differences as model
-use Rattle.images.specs.declared.differences.Holder.{Holder}
-use Rattle.images.specs.declared.differences.Holder.TheVariants.{Function, Region, Block}
-use Rattle.images.specs.declared.differences.Field.{Field}
-use Rattle.images.specs.declared.differences.Difference.{Difference}
-use Rattle.images.specs.declared.differences.Compared.{Compared}
-use Rattle.images.specs.declared.slot_difference.SlotDifference.{SlotDifference}
 
 abbrev pub holder_of : Holder → model.Holder
 holder_of Function = model.of_function

@@ -2,8 +2,7 @@
 --     number_of why      the number of the fault
 --     of_version n      the number of a refusal, where bytes are to be a version
 use Rattle.std.specs.Prelude.{ℕ, ◌==◌, if◌then◌else◌}
-use Rattle.images.specs.declared.fault.ImageFault.{ImageFault}
-use Rattle.images.specs.declared.fault.ImageFault.TheVariants.{NoImage, OtherFunctions, OtherVersion}
+use Rattle.images.specs.declared.fault.ImageFault.{ImageFault, TheVariants.{NoImage, OtherFunctions, OtherVersion}}
 
 abbrev pub number_of : ImageFault → ℕ
 number_of NoImage = 905

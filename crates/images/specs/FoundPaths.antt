@@ -1,12 +1,9 @@
 -- A path at the front of bytes, and the function that stands there.
 --     parts_in bytes      devices and functions, in turn
 --     IsFoundPath fs bytes found rest      the index of the function at the path at the front, and the bytes behind it
-use Rattle.std.specs.Prelude.{List, [], ◌∷◌, ◌≡◌, ℕ, Option, Some, find, slice_get}
-use Rattle.std.specs.Option.{option_and_then}
-use Rattle.model_board.specs.Paths.{Path, path_eq}
-use Rattle.model_board.specs.State.{BoardFunction}
-use Rattle.model_images.specs.Layouts.{parsed}
-use Rattle.model_images.specs.MachineBytes.{path_layout}
+use Rattle.std.specs.{Prelude.{List, [], ◌∷◌, ◌≡◌, ℕ, Option, Some, find, slice_get}, Option.option_and_then}
+use Rattle.model_board.specs.{Paths.{Path, path_eq}, State.BoardFunction}
+use Rattle.model_images.specs.{Layouts.parsed, MachineBytes.path_layout}
 
 abbrev pub parts_in : List ℕ → Path
 parts_in [] = []

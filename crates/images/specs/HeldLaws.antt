@@ -2,9 +2,7 @@
 --     held_function gs f      a function as the handoff has it, in a slot or not as these guests sit
 --     HeldAsSeated      these are the functions of the handoff with each function in a slot at reset
 use Rattle.std.specs.Prelude.{◌≡◌, map}
-use Rattle.model_board.specs.AtReset.{board_at}
-use Rattle.model_board.specs.Board.{IsBoard}
-use Rattle.model_board.specs.State.{BoardFunction, State}
+use Rattle.model_board.specs.{AtReset.board_at, Board.IsBoard, State.{BoardFunction, State}}
 use Rattle.model_guests.specs.Guests.{GuestsNow}
 use Rattle.model_handoff.specs.ViewLaws.{sits, with_seated_reset}
 use Rattle.images.specs.BoardBytes.{held_file}

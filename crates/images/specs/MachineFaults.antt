@@ -2,8 +2,7 @@
 --     number_of why      the number of the fault
 --     of_board n      the number of a refusal, where bytes are to be those of the board
 use Rattle.std.specs.Prelude.{ℕ, ◌==◌, if◌then◌else◌}
-use Rattle.images.specs.declared.machine_fault.MachineFault.{MachineFault}
-use Rattle.images.specs.declared.machine_fault.MachineFault.TheVariants.{NoImage, OtherFunctions, OtherBoard, OtherVersion}
+use Rattle.images.specs.declared.machine_fault.MachineFault.{MachineFault, TheVariants.{NoImage, OtherFunctions, OtherBoard, OtherVersion}}
 
 abbrev pub number_of : MachineFault → ℕ
 number_of NoImage = 905

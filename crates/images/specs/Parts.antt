@@ -5,11 +5,8 @@
 --     counted_blocks, rest_bytes, declared_bytes      blocks with their count; what follows the head; a declaration
 --     DeclaredBytes      they are the bytes of the declaration
 use Rattle.std.specs.Prelude.{◌≡◌, List, ℕ, ◌++◌, length, flat_map}
-use Rattle.model_registers.specs.Cell.{Cell}
-use Rattle.model_registers.specs.Declarations.{Region, ConfigBlock, Endpoint}
-use Rattle.model_images.specs.Layouts.{le_bytes}
-use Rattle.model_images.specs.ImageBytes.{cell_layout, kind_number, identity_layout, fixed_layout, parts_of_endpoint}
-use Rattle.model_images.specs.ImageBytes.{declaration_bytes}
+use Rattle.model_registers.specs.{Cell.Cell, Declarations.{Region, ConfigBlock, Endpoint}}
+use Rattle.model_images.specs.{Layouts.le_bytes, ImageBytes.{cell_layout, kind_number, identity_layout, fixed_layout, parts_of_endpoint, declaration_bytes}}
 
 unfoldable pub cell_bytes : Cell → List ℕ
 cell_bytes c = cell_layout.bytes c

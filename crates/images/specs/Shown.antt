@@ -7,15 +7,8 @@
 --     function_bytes f, slot_bytes o      the bytes of a function, and of a slot
 --     after_filled d bytes      the bytes after those of a slot that is filled with a function of this declaration
 use Rattle.std.specs.Prelude.{◌≡◌, List, [], ◌∷◌, ◌++◌, ℕ, zero, suc, ◌*◌, ◌%◌, false, if◌then◌else◌, length, flat_map, Option, Some, None}
-use Rattle.model_registers.specs.Registers.{Place, config, block, after, File, cell_at}
-use Rattle.model_registers.specs.Declarations.{registers_of, Region, ConfigBlock, Endpoint}
-use Rattle.model_registers.specs.EndpointTable.{base_register, endpoint_reset}
-use Rattle.model_registers.specs.OwnCopies.{is_own, OwnCopies, own_file}
-use Rattle.model_registers.specs.CopiedFiles.{places_of, with_copies}
-use Rattle.model_registers.specs.Decoding.{Function}
-use Rattle.model_images.specs.Images.{saved}
-use Rattle.model_images.specs.ImageBytes.{function_layout}
-use Rattle.model_images.specs.LoadedBytes.{Left, after_slot}
+use Rattle.model_registers.specs.{Registers.{Place, config, block, after, File, cell_at}, Declarations.{registers_of, Region, ConfigBlock, Endpoint}, EndpointTable.{base_register, endpoint_reset}, OwnCopies.{is_own, OwnCopies, own_file}, CopiedFiles.{places_of, with_copies}, Decoding.Function}
+use Rattle.model_images.specs.{Images.saved, ImageBytes.function_layout, LoadedBytes.{Left, after_slot}}
 
 abbrev pub seen : Function → OwnCopies → Function
 seen e own = record e { file = with_copies (own_file own) e.file }

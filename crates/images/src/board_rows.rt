@@ -1,13 +1,9 @@
 //! A function of the board by its index: its path and what is declared of it.
 ghost use Rattle.std.specs.Prelude.{◌≡◌, ◌≤◌, ◌+◌, Ok, Err, IfErr, IfOk, length};
 ghost use Rattle.model_board.specs.Board.{bridge, endpoint};
-ghost use Rattle.model_images.specs.LoadedBytes.{after_bytes};
-ghost use Rattle.model_images.specs.Layouts.{le_bytes};
-ghost use Rattle.model_images.specs.MachineBytes.{io_number, pref_number};
+ghost use Rattle.model_images.specs.{LoadedBytes.after_bytes, Layouts.le_bytes, MachineBytes.{io_number, pref_number}};
 ghost use Rattle.headers.specs.Decodes.{io_decode_of, pref_decode_of};
-ghost use Rattle.images.specs.Puts.{put};
-ghost use Rattle.images.specs.BoardBytes.{decl_bytes, decl_nth, row_nth};
-ghost use Rattle.images.specs.MachineFaults.{number_of};
+ghost use Rattle.images.specs.{Puts.put, BoardBytes.{decl_bytes, decl_nth, row_nth}, MachineFaults.number_of};
 
 use crate::board_paths::path_bytes;
 use crate::comparing::{after, after_declaration};

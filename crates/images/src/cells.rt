@@ -1,12 +1,7 @@
 //! The cells of a function one after the other: where each stands, and what it holds at reset.
 ghost use Rattle.std.specs.Prelude.{◌≡◌, ◌+◌, IfErr, IfOk, false, flat_map, length, option_map};
 ghost use Rattle.lists.specs.Elements.{Each};
-ghost use Rattle.model_registers.specs.DeclarationRules.{IsConfigBlock, IsLawfulEndpoint};
-ghost use Rattle.model_registers.specs.Declarations.{IsLawfulRegion};
-ghost use Rattle.model_registers.specs.EndpointTable.{block_cells, endpoint_reset, header_cells, region_cells};
-ghost use Rattle.model_registers.specs.BridgeTable.{bridge_reset};
-ghost use Rattle.model_registers.specs.OwnCopies.{is_own};
-ghost use Rattle.model_registers.specs.Registers.{File, config};
+ghost use Rattle.model_registers.specs.{DeclarationRules.{IsConfigBlock, IsLawfulEndpoint}, Declarations.IsLawfulRegion, EndpointTable.{block_cells, endpoint_reset, header_cells, region_cells}, BridgeTable.bridge_reset, OwnCopies.is_own, Registers.{File, config}};
 ghost use Rattle.headers.specs.Rows.{IsRow, row_cells};
 ghost use Rattle.images.specs.Cells.{IsCellAt, told, told_at};
 

@@ -1,12 +1,9 @@
 //! Bytes of an image that are compared with what a function declares.
 ghost use Rattle.std.specs.Prelude.{◌≡◌, ◌≤◌, ◌<◌, Ok, Err, IfErr, IfOk, flat_map, length};
 ghost use Rattle.lists.specs.Elements.{Each};
-ghost use Rattle.model_registers.specs.Declarations.{IsLawfulRegion};
-ghost use Rattle.model_registers.specs.DeclarationRules.{IsConfigBlock, IsLawfulEndpoint};
-ghost use Rattle.model_images.specs.ImageBytes.{declaration_bytes};
-ghost use Rattle.model_images.specs.LoadedBytes.{after_bytes};
-ghost use Rattle.images.specs.Faults.{number_of};
-ghost use Rattle.images.specs.Parts.{block_bytes, cell_bytes, counted_blocks, declared_bytes, region_bytes, rest_bytes};
+ghost use Rattle.model_registers.specs.{Declarations.IsLawfulRegion, DeclarationRules.{IsConfigBlock, IsLawfulEndpoint}};
+ghost use Rattle.model_images.specs.{ImageBytes.declaration_bytes, LoadedBytes.after_bytes};
+ghost use Rattle.images.specs.{Faults.number_of, Parts.{block_bytes, cell_bytes, counted_blocks, declared_bytes, region_bytes, rest_bytes}};
 
 use crate::fault::ImageFault;
 use crate::parts::{block_head, cell_bytes, endpoint_head, region_head};

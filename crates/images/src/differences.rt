@@ -1,10 +1,8 @@
 //! The first field of which bytes of an image have another one than a function declares.
 ghost use Rattle.std.specs.Prelude.{◌≡◌, ◌≤◌, ◌∷◌, [], None, Err, flat_map, length, map, option_map, take};
 ghost use Rattle.lists.specs.Elements.{Each};
-ghost use Rattle.model_images.specs.Differences.{after_comparison, after_field, after_fields, block_fields, cell_fields, compared, difference, endpoint_fields, field, filled, first_difference, head_fields, region_fields};
-ghost use Rattle.model_images.specs.TakenBytes.{le_number};
-ghost use Rattle.images.specs.Differences.{IsNarrow, compared_of, difference_of, field_of, holder_of};
-ghost use Rattle.images.specs.Faults.{number_of};
+ghost use Rattle.model_images.specs.{Differences.{after_comparison, after_field, after_fields, block_fields, cell_fields, compared, difference, endpoint_fields, field, filled, first_difference, head_fields, region_fields}, TakenBytes.le_number};
+ghost use Rattle.images.specs.{Differences.{IsNarrow, compared_of, difference_of, field_of, holder_of}, Faults.number_of};
 
 use crate::comparing::after;
 use crate::fault::ImageFault;

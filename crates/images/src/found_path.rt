@@ -1,12 +1,8 @@
 //! A path at the front of bytes, and the function of the board that stands there.
-ghost use Rattle.std.specs.Prelude.{◌≡◌, ◌≤◌, ◌<◌, ◌*◌, ◌+◌, None, Some, IfErr, IfOk, IfNone, IfSome, find, length, slice_get};
-ghost use Rattle.std.specs.Option.{option_and_then};
-ghost use Rattle.model_board.specs.Paths.{IsPath, path_eq};
-ghost use Rattle.model_board.specs.Board.{IsBoard};
-ghost use Rattle.model_board.specs.AtReset.{board_at};
+ghost use Rattle.std.specs.{Prelude.{◌≡◌, ◌≤◌, ◌<◌, ◌*◌, ◌+◌, None, Some, IfErr, IfOk, IfNone, IfSome, find, length, slice_get}, Option.option_and_then};
+ghost use Rattle.model_board.specs.{Paths.{IsPath, path_eq}, Board.IsBoard, AtReset.board_at};
 ghost use Rattle.model_images.specs.MachineBytes.{path_layout};
-ghost use Rattle.images.specs.MachineFaults.{number_of};
-ghost use Rattle.images.specs.FoundPaths.{IsFoundPath, parts_in};
+ghost use Rattle.images.specs.{MachineFaults.number_of, FoundPaths.{IsFoundPath, parts_in}};
 
 use crate::machine_fault::MachineFault;
 use host_bridge::Host;

@@ -1,9 +1,7 @@
 //! A byte of a function as its guest has it: of the guest's own copies, or of the cells that the board holds.
 ghost use Rattle.std.specs.Prelude.{◌≡◌, ◌/◌, ◌*◌, ◌<◌, ◌%◌};
-ghost use Rattle.model_registers.specs.Registers.{config, read};
-ghost use Rattle.model_registers.specs.ByteEnables.{enables_of, lanes};
-ghost use Rattle.headers.specs.declared.place.Place.TheVariants.{Cfg};
-ghost use Rattle.headers.specs.Places.{place_of};
+ghost use Rattle.model_registers.specs.{Registers.{config, read}, ByteEnables.{enables_of, lanes}};
+ghost use Rattle.headers.specs.{declared.place.Place.TheVariants.Cfg, Places.place_of};
 ghost use Rattle.images.specs.Shown.{shown_byte, source};
 
 use crate::cells::is_own;

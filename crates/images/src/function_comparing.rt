@@ -1,7 +1,6 @@
 //! Bytes of an image that are compared with a function that a guest has.
 ghost use Rattle.std.specs.Prelude.{◌≡◌, Ok, Err, IfErr, IfOk};
-ghost use Rattle.images.specs.Faults.{number_of};
-ghost use Rattle.images.specs.Shown.{after_filled};
+ghost use Rattle.images.specs.{Faults.number_of, Shown.after_filled};
 
 use crate::comparing::after_declaration;
 use crate::fault::ImageFault;

@@ -1,12 +1,9 @@
 //! What the cells of a function hold as its guest has it, put into a buffer.
 ghost use Rattle.std.specs.Prelude.{◌≡◌, ◌≤◌, ◌<◌, ◌+◌, ◌^◌, flat_map, length};
 ghost use Rattle.lists.specs.Elements.{Each};
-ghost use Rattle.model_registers.specs.Declarations.{IsLawfulRegion};
-ghost use Rattle.model_registers.specs.DeclarationRules.{IsConfigBlock, IsLawfulEndpoint};
-ghost use Rattle.headers.specs.declared.place.Place.TheVariants.{Cfg};
-ghost use Rattle.headers.specs.Places.{place_of};
-ghost use Rattle.images.specs.Puts.{put};
-ghost use Rattle.images.specs.Shown.{block_values, bytes_from, header_values, region_values, shown_values};
+ghost use Rattle.model_registers.specs.{Declarations.IsLawfulRegion, DeclarationRules.{IsConfigBlock, IsLawfulEndpoint}};
+ghost use Rattle.headers.specs.{declared.place.Place.TheVariants.Cfg, Places.place_of};
+ghost use Rattle.images.specs.{Puts.put, Shown.{block_values, bytes_from, header_values, region_values, shown_values}};
 
 use crate::function_bytes::byte_at;
 use crate::writing::put;

@@ -1,8 +1,7 @@
 //! A function as its guest has it, as bytes: its declaration, then a byte for each cell.
 ghost use Rattle.std.specs.Prelude.{◌≡◌, ◌≤◌, ◌+◌, length};
 ghost use Rattle.model_registers.specs.OwnCopies.{OwnCopies};
-ghost use Rattle.images.specs.Puts.{put};
-ghost use Rattle.images.specs.Shown.{HasDeclaredPlaces, function_bytes, seen};
+ghost use Rattle.images.specs.{Puts.put, Shown.{HasDeclaredPlaces, function_bytes, seen}};
 
 use crate::function_values::put_values;
 use crate::sizes::{declaration_size, values_size};

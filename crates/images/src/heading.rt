@@ -1,8 +1,6 @@
 //! What stands in an image around functions: its header, the latch, and whether a slot is filled.
 ghost use Rattle.std.specs.Prelude.{◌≡◌, Ok, Err, Some, IfErr, IfOk, [], ◌∷◌, if◌then◌else◌};
-ghost use Rattle.model_images.specs.Layouts.{le_bytes, parse_number, parsed};
-ghost use Rattle.model_images.specs.LoadedBytes.{after_beginning, after_bytes, after_latch, after_version, at_end, header};
-ghost use Rattle.model_images.specs.ImageBytes.{magic, version};
+ghost use Rattle.model_images.specs.{Layouts.{le_bytes, parse_number, parsed}, LoadedBytes.{after_beginning, after_bytes, after_latch, after_version, at_end, header}, ImageBytes.{magic, version}};
 ghost use Rattle.images.specs.Faults.{number_of, of_version};
 
 use crate::comparing::after;

@@ -1,18 +1,12 @@
 //! What the handoff holds of a function of the board: a byte for each cell, in the order of the cells.
 ghost use Rattle.std.specs.Prelude.{◌≡◌, ◌≤◌, ◌<◌, ◌+◌, ◌%◌, Bool, false, Ok, Err, Some, IfErr, IfOk, length, slice_get};
 ghost use Rattle.lists.specs.Elements.{Each};
-ghost use Rattle.model_registers.specs.Registers.{cell_at, config};
-ghost use Rattle.model_registers.specs.BridgeTable.{bridge_reset};
-ghost use Rattle.model_registers.specs.EndpointTable.{endpoint_reset};
+ghost use Rattle.model_registers.specs.{Registers.{cell_at, config}, BridgeTable.bridge_reset, EndpointTable.endpoint_reset};
 ghost use Rattle.model_images.specs.LoadedBytes.{after_bytes};
 ghost use Rattle.model_handoff.specs.Handoffs.{HasDeclaredShape};
-ghost use Rattle.bridge_forward.specs.BridgeDecls.{declared_bridge_nth};
-ghost use Rattle.bridge_forward.specs.Lending.{endpoint_nth};
+ghost use Rattle.bridge_forward.specs.{BridgeDecls.declared_bridge_nth, Lending.endpoint_nth};
 ghost use Rattle.host_bridge.specs.ByIndex.{file_nth};
-ghost use Rattle.images.specs.Cells.{cell_place};
-ghost use Rattle.images.specs.Puts.{put};
-ghost use Rattle.images.specs.BoardBytes.{held_nth, held_value};
-ghost use Rattle.images.specs.MachineFaults.{number_of};
+ghost use Rattle.images.specs.{Cells.cell_place, Puts.put, BoardBytes.{held_nth, held_value}, MachineFaults.number_of};
 
 use crate::board_rows::after_own;
 use crate::cells::{CellPlace, DeclaredCell, bridge_cell, endpoint_cell, is_own};

@@ -1,7 +1,7 @@
 //! Why bytes are no image that a machine takes.
 ghost use Rattle.std.specs.Prelude.{◌≡◌};
-ghost use Rattle.images.specs.Faults as image;
 ghost use Rattle.images.specs.MachineFaults.{number_of, of_board};
+ghost use Rattle.images.specs.Faults as image;
 
 use crate::fault::ImageFault;
 use thiserror::Error;

@@ -2,8 +2,7 @@
 ghost use Rattle.std.specs.Prelude.{◌≡◌, ◌≤◌, ◌<◌, length};
 ghost use Rattle.model_registers.specs.Cell.{IsCell};
 ghost use Rattle.bars.specs.Kinds.{kind_of};
-ghost use Rattle.model_images.specs.Layouts.{le_bytes};
-ghost use Rattle.model_images.specs.ImageBytes.{kind_number};
+ghost use Rattle.model_images.specs.{Layouts.le_bytes, ImageBytes.kind_number};
 ghost use Rattle.images.specs.Parts.{block_head, cell_bytes, endpoint_head, region_head};
 
 use bars::Kind;

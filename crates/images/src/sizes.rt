@@ -1,9 +1,7 @@
 //! How many bytes declarations and their values have in an image.
 ghost use Rattle.std.specs.Prelude.{◌≡◌, ◌≤◌, false, flat_map, length};
 ghost use Rattle.lists.specs.Elements.{Each};
-ghost use Rattle.model_registers.specs.DeclarationRules.{IsConfigBlock};
-ghost use Rattle.model_registers.specs.BridgeTable.{bridge_reset};
-ghost use Rattle.model_registers.specs.EndpointTable.{block_cells, endpoint_reset, region_cells};
+ghost use Rattle.model_registers.specs.{DeclarationRules.IsConfigBlock, BridgeTable.bridge_reset, EndpointTable.{block_cells, endpoint_reset, region_cells}};
 ghost use Rattle.model_images.specs.ImageBytes.{declaration_bytes};
 ghost use Rattle.images.specs.Parts.{block_bytes, declared_bytes, region_bytes};
 

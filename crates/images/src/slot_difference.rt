@@ -1,6 +1,5 @@
 //! The first field of which an image has another one, with its slot, and its text.
-ghost use Rattle.std.specs.Prelude.{◌≡◌, [], Some, IfOk, string_bytes, option_map};
-ghost use Rattle.std.specs.Option.{option_map_or};
+ghost use Rattle.std.specs.{Prelude.{◌≡◌, [], Some, IfOk, string_bytes, option_map}, Option.option_map_or};
 ghost use Rattle.model_guests.specs.PathTexts.{hexadecimal};
 ghost use Rattle.model_images.specs.Differences.{difference_text, field_text, holder_text};
 ghost use Rattle.images.specs.Differences.{difference_of, holder_of, slot_difference_of};

@@ -1,12 +1,8 @@
 //! Values of an image, as far as the cells of a declaration can hold them.
 ghost use Rattle.std.specs.Prelude.{◌≡◌, ◌%◌, ◌<◌, ◌≤◌, Ok, Err, IfErr, IfOk, false, drop, flat_map, length};
 ghost use Rattle.lists.specs.Elements.{Each};
-ghost use Rattle.model_registers.specs.DeclarationRules.{IsConfigBlock};
-ghost use Rattle.model_registers.specs.Declarations.{IsLawfulRegion};
-ghost use Rattle.model_registers.specs.EndpointTable.{block_cells, endpoint_reset, region_cells};
-ghost use Rattle.model_registers.specs.Registers.{config};
-ghost use Rattle.model_images.specs.Images.{can_hold};
-ghost use Rattle.model_images.specs.LoadedBytes.{after_values};
+ghost use Rattle.model_registers.specs.{DeclarationRules.IsConfigBlock, Declarations.IsLawfulRegion, EndpointTable.{block_cells, endpoint_reset, region_cells}, Registers.config};
+ghost use Rattle.model_images.specs.{Images.can_hold, LoadedBytes.after_values};
 ghost use Rattle.headers.specs.Rows.{IsRow, row_cells};
 ghost use Rattle.images.specs.Faults.{number_of};
 

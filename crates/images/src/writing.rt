@@ -1,11 +1,9 @@
 //! Declarations that are written into a buffer.
 ghost use Rattle.std.specs.Prelude.{◌≡◌, ◌≤◌, ◌+◌, ◌<◌, length, flat_map};
 ghost use Rattle.lists.specs.Elements.{Each};
-ghost use Rattle.model_registers.specs.Declarations.{IsLawfulRegion};
-ghost use Rattle.model_registers.specs.DeclarationRules.{IsConfigBlock};
+ghost use Rattle.model_registers.specs.{Declarations.IsLawfulRegion, DeclarationRules.IsConfigBlock};
 ghost use Rattle.model_images.specs.ImageBytes.{declaration_bytes};
-ghost use Rattle.images.specs.Parts.{block_bytes, cell_bytes, declared_bytes, region_bytes};
-ghost use Rattle.images.specs.Puts.{put};
+ghost use Rattle.images.specs.{Parts.{block_bytes, cell_bytes, declared_bytes, region_bytes}, Puts.put};
 
 use crate::parts::{block_head, cell_bytes, endpoint_head, region_head};
 use config_bytes::Cell;

@@ -1,11 +1,8 @@
 -- The values have no float, so what is written of one is its compact text.
 use Rattle.std.proofs.Common.{◌≡◌, ℕ, List, [], ◌∷◌, false, ◌||◌, map, Option, Some, None, refl, ap₂}
-use Rattle.serde_json.specs.View.{items_of}
-use Rattle.serde_json.specs.Written.{has_float, items_have_float}
+use Rattle.serde_json.specs.{View.items_of, Written.{has_float, items_have_float}}
 use Rattle.model_board.specs.Paths.{Path}
-use Rattle.model_findings.specs.Agents.{Agent}
-use Rattle.model_findings.specs.Problems.{Problem, not_forwarded, contended, not_found}
-use Rattle.model_findings.specs.Lacks.{Lack, not_open, outside_apertures, prefetched_by, other_primary}
+use Rattle.model_findings.specs.{Agents.Agent, Problems.{Problem, not_forwarded, contended, not_found}, Lacks.{Lack, not_open, outside_apertures, prefetched_by, other_primary}}
 use Rattle.json_texts.specs.AuditValue.{register_value, reached_value, agent_value, problem_value, problems_value, lack_value, lacks_value}
 
 none_in_register : (o : Option ℕ) → has_float (register_value o) ≡ false

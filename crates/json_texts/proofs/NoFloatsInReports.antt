@@ -1,14 +1,9 @@
 -- The value has no float, so what is written of it is its compact text.
-use Rattle.std.proofs.Common.{◌≡◌, ℕ, ◌+◌, List, [], ◌∷◌, Bool, true, false, ◌||◌, ◌==◌, map, Option, Some, None, refl, ap₂}
-use Rattle.std.specs.Prelude.{nat_lt, if◌then◌else◌}
-use Rattle.serde_json.specs.Data.{Data}
-use Rattle.serde_json.specs.View.{items_of}
-use Rattle.serde_json.specs.Written.{has_float, items_have_float}
+use Rattle.std.{proofs.Common.{◌≡◌, ℕ, ◌+◌, List, [], ◌∷◌, Bool, true, false, ◌||◌, ◌==◌, map, Option, Some, None, refl, ap₂}, specs.Prelude.{nat_lt, if◌then◌else◌}}
+use Rattle.serde_json.specs.{Data.Data, View.items_of, Written.{has_float, items_have_float}}
 use Rattle.model_registers.specs.BridgeTable.{Window}
-use Rattle.model_board.specs.Paths.{Path}
-use Rattle.model_board.specs.Board.{Decl, endpoint, bridge}
-use Rattle.model_set_up.specs.FunctionTable.{BusRange, TableRow}
-use Rattle.model_set_up.specs.SetUpWrites.{Writes, to_endpoint, to_bridge, Setting}
+use Rattle.model_board.specs.{Paths.Path, Board.{Decl, endpoint, bridge}}
+use Rattle.model_set_up.specs.{FunctionTable.{BusRange, TableRow}, SetUpWrites.{Writes, to_endpoint, to_bridge, Setting}}
 use Rattle.model_guests.specs.World.{Guest}
 use Rattle.model_handoff.specs.Report.{SetUpBoard}
 use Rattle.json_texts.specs.ReportValue.{region_value, known_interrupt, named_window, written_regions, written_windows, found_buses, decl_value, function_values, slot_values, guest_value, report_value}

@@ -1,6 +1,5 @@
 -- Reports of boards as JSON.
-use Rattle.std.proofs.Common.{◌≡◌, [], ◌++◌, codes, refl}
-use Rattle.std.specs.Fmt.{digits}
+use Rattle.std.{proofs.Common.{◌≡◌, [], ◌++◌, codes, refl}, specs.Fmt.digits}
 use Rattle.serde_json.proofs.OnLiterals.{serde_json_on_literals}
 use Rattle.model_guests.specs.Examples.{main_world, wide_world, bare}
 use Rattle.json_texts.specs.ReportValue.{report_json_text}

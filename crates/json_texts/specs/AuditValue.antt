@@ -11,22 +11,13 @@
 --     lack_value      what is lacking
 --     lacks_value, lacks_json      problems and lacks; their text, and a line feed
 --     ready_json a fs      that of all that is wrong and all that is lacking, by these apertures
-use Rattle.std.specs.Prelude.{List, [], ◌∷◌, ◌++◌, ℕ, Option, map, codes}
-use Rattle.std.specs.Option.{option_map_or}
-use Rattle.serde_json.specs.Data.{Data, null, number, unsigned, string, array, object, member, no_members}
-use Rattle.serde_json.specs.View.{items_of}
-use Rattle.serde_json.specs.Written.{compact_text}
-use Rattle.model_registers.specs.Decoding.{Space, io, memory}
-use Rattle.model_board.specs.Paths.{Path}
-use Rattle.model_board.specs.State.{BoardFunction}
-use Rattle.model_board.specs.Cycles.{BusAddress}
+use Rattle.std.specs.{Prelude.{List, [], ◌∷◌, ◌++◌, ℕ, Option, map, codes}, Option.option_map_or}
+use Rattle.serde_json.specs.{Data.{Data, null, number, unsigned, string, array, object, member, no_members}, View.items_of, Written.compact_text}
+use Rattle.model_registers.specs.{Decoding.{Space, io, memory}, Apertures.Apertures}
+use Rattle.model_board.specs.{Paths.Path, State.BoardFunction, Cycles.BusAddress}
 use Rattle.model_set_up.specs.PlacedRegions.{PlacedRegion}
-use Rattle.model_guests.specs.Text.{Text}
-use Rattle.model_guests.specs.PathTexts.{path_text}
-use Rattle.model_findings.specs.Agents.{Agent}
-use Rattle.model_findings.specs.Problems.{Problem, not_forwarded, contended, not_found, problems}
-use Rattle.model_findings.specs.Lacks.{Lack, not_open, outside_apertures, prefetched_by, other_primary, lacks}
-use Rattle.model_registers.specs.Apertures.{Apertures}
+use Rattle.model_guests.specs.{Text.Text, PathTexts.path_text}
+use Rattle.model_findings.specs.{Agents.Agent, Problems.{Problem, not_forwarded, contended, not_found, problems}, Lacks.{Lack, not_open, outside_apertures, prefetched_by, other_primary, lacks}}
 
 abbrev pub natural : ℕ → Data
 natural n = number (unsigned n)

@@ -3,10 +3,8 @@
 --     place_members, with_identity      a function's numbers and its path; with its type and identity beside others
 use Rattle.std.specs.Prelude.{ℕ, codes}
 use Rattle.serde_json.specs.Data.{string, Members, member, no_members, put}
-use Rattle.model_board.specs.Paths.{Path, last_part}
-use Rattle.model_board.specs.Board.{Decl, endpoint, bridge}
-use Rattle.model_guests.specs.Text.{Text}
-use Rattle.model_guests.specs.PathTexts.{path_text}
+use Rattle.model_board.specs.{Paths.{Path, last_part}, Board.{Decl, endpoint, bridge}}
+use Rattle.model_guests.specs.{Text.Text, PathTexts.path_text}
 use Rattle.json_texts.specs.ReportValue.{natural}
 
 abbrev pub vendor_of : Decl → ℕ

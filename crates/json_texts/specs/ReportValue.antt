@@ -11,19 +11,11 @@
 --     report_value      the whole value, of what is reported
 --     report_json_text      its text and a line feed, of a world
 use Rattle.std.specs.Prelude.{List, [], ◌∷◌, ℕ, ◌+◌, ◌++◌, if◌then◌else◌, nat_lt, ◌==◌, ◌||◌, Option, Some, None, map, not, count_by, codes}
-use Rattle.serde_json.specs.Data.{Data, null, number, unsigned, string, array, object, member, no_members}
-use Rattle.serde_json.specs.View.{items_of}
-use Rattle.serde_json.specs.Written.{compact_text}
-use Rattle.model_registers.specs.EndpointTable.{BaseAddress}
-use Rattle.model_registers.specs.BridgeTable.{Window}
-use Rattle.model_board.specs.Paths.{Path, last_part}
-use Rattle.model_board.specs.Board.{Decl, endpoint, bridge, is_bridge}
-use Rattle.model_board.specs.Interrupts.{root_device, root_pin}
-use Rattle.model_set_up.specs.FunctionTable.{BusRange, TableRow}
-use Rattle.model_set_up.specs.SetUpWrites.{Writes, to_endpoint, to_bridge, Setting}
-use Rattle.model_guests.specs.Text.{Text}
-use Rattle.model_guests.specs.World.{Guest, World}
-use Rattle.model_guests.specs.PathTexts.{path_text}
+use Rattle.serde_json.specs.{Data.{Data, null, number, unsigned, string, array, object, member, no_members}, View.items_of, Written.compact_text}
+use Rattle.model_registers.specs.{EndpointTable.BaseAddress, BridgeTable.Window}
+use Rattle.model_board.specs.{Paths.{Path, last_part}, Board.{Decl, endpoint, bridge, is_bridge}, Interrupts.{root_device, root_pin}}
+use Rattle.model_set_up.specs.{FunctionTable.{BusRange, TableRow}, SetUpWrites.{Writes, to_endpoint, to_bridge, Setting}}
+use Rattle.model_guests.specs.{Text.Text, World.{Guest, World}, PathTexts.path_text}
 use Rattle.model_handoff.specs.Report.{kind_text, pin_text, SetUpBoard, set_up_board}
 
 abbrev pub natural : ℕ → Data

@@ -1,7 +1,6 @@
 //! The whole values, and their texts.
 ghost use Rattle.std.specs.Prelude.{◌≡◌, ◌++◌, ◌∷◌, [], false, IfOk, map, string_bytes};
-ghost use Rattle.serde_json.specs.View.{view};
-ghost use Rattle.serde_json.specs.Written.{compact_text, has_float};
+ghost use Rattle.serde_json.specs.{View.view, Written.{compact_text, has_float}};
 ghost use Rattle.findings.specs.Findings.{problem_of, lack_of};
 ghost use Rattle.json_texts.specs.AuditValue.{problem_value, problems_value, problems_json, lack_value, lacks_value, lacks_json};
 

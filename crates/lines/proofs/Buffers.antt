@@ -1,15 +1,8 @@
 -- Parts of a buffer.
-use Rattle.std.proofs.Common.{◌≡◌, ℕ, ◌+◌, ◌-◌, ◌<◌, ◌≤◌, Bool, true, false, [], ◌∷◌, ◌++◌, Option, Result, length, take, drop, refl, sym, ap, subst, ◌∙◌, arith, append-nil, length-append, length-drop, length-take-le, take-take}
-use Rattle.std.specs.Prelude.{IfOk, IsTrue}
-use Rattle.std.specs.Io.{ReadsAtMost}
-use Rattle.std.specs.Io.KnownBytes.{Consumes, ReadConsumes}
-use Rattle.std.proofs.Math.Seq.{take-append-add, drop-append_seam}
-use Rattle.std.proofs.lemmas.Slice.{take-put_mid}
+use Rattle.std.{proofs.{Common.{◌≡◌, ℕ, ◌+◌, ◌-◌, ◌<◌, ◌≤◌, Bool, true, false, [], ◌∷◌, ◌++◌, Option, Result, length, take, drop, refl, sym, ap, subst, ◌∙◌, arith, append-nil, length-append, length-drop, length-take-le, take-take}, Math.Seq.{take-append-add, drop-append_seam}, lemmas.Slice.take-put_mid}, specs.{Prelude.{IfOk, IsTrue}, Io.{ReadsAtMost, KnownBytes.{Consumes, ReadConsumes}}}}
 use borrow.Rule.Slice.PartMut.{put_mid}
-use Rattle.model_guests.specs.Text.{Text}
-use Rattle.model_guests.specs.Grammar.{is_long}
-use Rattle.lines.specs.Pieces.{Pending, IsBefore, rest_of}
-use Rattle.lines.proofs.LongLines.{is_long_of, longer, long_before, none_before}
+use Rattle.model_guests.specs.{Text.Text, Grammar.is_long}
+use Rattle.lines.{specs.Pieces.{Pending, IsBefore, rest_of}, proofs.LongLines.{is_long_of, longer, long_before, none_before}}
 
 -- the front of a buffer of which the part from a on was written
 put_front : (a k n : ℕ) (xs ys : Text) → a ≤ length xs → n ≤ length ys → take (a + n) (put_mid a k xs ys) ≡ take a xs ++ take n ys

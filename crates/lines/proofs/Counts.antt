@@ -1,8 +1,6 @@
 -- Lines with too few words or too many. `ws` are references to the words.
 use Rattle.std.proofs.Common.{◌≡◌, ◌<◌, ◌≤◌, List, [], ◌∷◌, None, map, length, take, codes, Bor, refl, arith}
-use Rattle.model_guests.specs.Text.{Text}
-use Rattle.model_guests.specs.Grammar.{event_of, host_read_of}
-use Rattle.model_guests.specs.Lines.{move_of, read_or_move}
+use Rattle.model_guests.specs.{Text.Text, Grammar.{event_of, host_read_of}, Lines.{move_of, read_or_move}}
 
 abbrev pub texts : List (Bor Text) → List Text
 texts ws = map (λ w. w.now) ws

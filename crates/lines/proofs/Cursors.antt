@@ -1,13 +1,7 @@
 -- The front of a text: its first word, and the number that this writes.
-use Rattle.std.proofs.Common.{◌≡◌, ℕ, ◌+◌, ◌<◌, ◌≤◌, ◌==◌, ◌&&◌, ◌||◌, ◌^◌, Bool, true, false, cond, List, [], ◌∷◌, Option, Some, None, length, drop, filter, option_map, refl, sym, ap, ◌∙◌, arith, ◌*◌, get_or, Bor}
-use Rattle.std.specs.Prelude.{MatchOption}
-use Rattle.std.specs.List.{starts_with}
-use Rattle.std.proofs.lemmas.Bool.Decides.{nat_tests}
-use Rattle.model_guests.specs.Text.{Text, onto, pieces, is_blank, words}
-use Rattle.model_guests.specs.Numbers.{below, digit_of, digits_from, digits_in, is_hexadecimal, number_of}
-use Rattle.lines.specs.Cursors.{before_blank, after_blank, IsAtWord, Numbered, numbered}
-use Rattle.lines.proofs.Digits.{longer, longer-None}
-use Rattle.lines.proofs.Splitting.{is_word, place_is}
+use Rattle.std.{proofs.{Common.{◌≡◌, ℕ, ◌+◌, ◌<◌, ◌≤◌, ◌==◌, ◌&&◌, ◌||◌, ◌^◌, Bool, true, false, cond, List, [], ◌∷◌, Option, Some, None, length, drop, filter, option_map, refl, sym, ap, ◌∙◌, arith, ◌*◌, get_or, Bor}, lemmas.Bool.Decides.nat_tests}, specs.{Prelude.MatchOption, List.starts_with}}
+use Rattle.model_guests.specs.{Text.{Text, onto, pieces, is_blank, words}, Numbers.{below, digit_of, digits_from, digits_in, is_hexadecimal, number_of}}
+use Rattle.lines.{specs.Cursors.{before_blank, after_blank, IsAtWord, Numbered, numbered}, proofs.{Digits.{longer, longer-None}, Splitting.{is_word, place_is}}}
 
 by_next : (b : Bool) (c d : ℕ) (ds : Text)
     → onto d (pieces is_blank ds) ≡ (d ∷ before_blank ds) ∷ pieces is_blank (after_blank ds)

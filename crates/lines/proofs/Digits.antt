@@ -1,10 +1,6 @@
 -- A number that is read digit by digit.
-use Rattle.std.proofs.Common.{◌≡◌, ℕ, ◌+◌, ◌*◌, ◌≤◌, Bool, false, cond, [], ◌∷◌, Option, Some, None, length, option_map, refl, arith}
-use Rattle.std.specs.Option.{option_and_then}
-use Rattle.std.proofs.lemmas.Bool.Decides.{nat_tests}
-use Rattle.std.proofs.Math.Nat.{mul-le-mul_left}
-use Rattle.model_guests.specs.Text.{Text}
-use Rattle.model_guests.specs.Numbers.{below, digit_of, digits_from, digits_in}
+use Rattle.std.{proofs.{Common.{◌≡◌, ℕ, ◌+◌, ◌*◌, ◌≤◌, Bool, false, cond, [], ◌∷◌, Option, Some, None, length, option_map, refl, arith}, lemmas.Bool.Decides.nat_tests, Math.Nat.mul-le-mul_left}, specs.Option.option_and_then}
+use Rattle.model_guests.specs.{Text.Text, Numbers.{below, digit_of, digits_from, digits_in}}
 
 pub from_None : (b : Bool) (n : ℕ) → None ≡ cond b (Some n) None → b ≡ false
 from_None b n e = grind arith

@@ -1,17 +1,8 @@
 -- How a run ends: what it wrote of the whole script.
-use Rattle.std.proofs.Common.{◌≡◌, ◌<◌, inl, inr, Bool, List, [], ◌∷◌, ◌++◌, Option, Some, length, take, refl, sym, ap, subst, ◌∙◌, append_assoc, append-nil, arith}
-use Rattle.std.specs.Io.{StartsWith}
-use Rattle.std.specs.Io.KnownBytes.{Appends, Consumes, IsAtEnd}
-use Rattle.std.proofs.KnownBytes.{Appends-trans}
-use Rattle.std.proofs.Transfers.{starts_with_of_append}
+use Rattle.std.{proofs.{Common.{◌≡◌, ◌<◌, inl, inr, Bool, List, [], ◌∷◌, ◌++◌, Option, Some, length, take, refl, sym, ap, subst, ◌∙◌, append_assoc, append-nil, arith}, KnownBytes.Appends-trans, Transfers.starts_with_of_append}, specs.Io.{StartsWith, KnownBytes.{Appends, Consumes, IsAtEnd}}}
 use Rattle.lists.specs.Elements.{Each}
-use Rattle.model_guests.specs.Text.{Text, lines, text_of_lines}
-use Rattle.model_guests.specs.LineRuns.{Protocol, output, after_lines, HasNoEnd, IsStopped, IsCut, first_output}
-use Rattle.model_guests.proofs.WrittenLines.{text_of_lines-append}
-use Rattle.model_guests.proofs.RunLines.{output_along, after_along, lines_of_pieces}
-use Rattle.lines.specs.Pieces.{IsBefore, Reaches, StopsWithin, IsStoppedIn, LacksWithin, IsLackingIn}
-use Rattle.lines.proofs.EndsInPieces.{no_end_along, some_line}
-use Rattle.lines.proofs.Reaching.{text_of_one}
+use Rattle.model_guests.{specs.{Text.{Text, lines, text_of_lines}, LineRuns.{Protocol, output, after_lines, HasNoEnd, IsStopped, IsCut, first_output}}, proofs.{WrittenLines.text_of_lines-append, RunLines.{output_along, after_along, lines_of_pieces}}}
+use Rattle.lines.{specs.Pieces.{IsBefore, Reaches, StopsWithin, IsStoppedIn, LacksWithin, IsLackingIn}, proofs.{EndsInPieces.{no_end_along, some_line}, Reaching.text_of_one}}
 
 -- what is left of a known script
 consumed : (a b : Option Text) (xs script : Text) → Consumes a b xs → a ≡ Some script → (rest : Text) × (script ≡ xs ++ rest) × (IsAtEnd b → rest ≡ [])

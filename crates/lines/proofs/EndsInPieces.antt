@@ -1,13 +1,6 @@
 -- Where line feeds stand in a text.
-use Rattle.std.proofs.Common.{◌≡◌, ℕ, suc, ◌+◌, ◌<◌, ◌||◌, Bool, false, not, cond, List, [], ◌∷◌, ◌++◌, Some, None, length, take, drop, get_or, refl, sym, ap, ap₂, ◌∙◌, arith, take-append-drop}
-use Rattle.std.specs.List.{list_any, position, position_from, position_or_len}
-use Rattle.std.proofs.Math.Seq.{drop-cons}
-use Rattle.std.proofs.lemmas.Bool.{or_parts}
-use Rattle.std.proofs.lemmas.Bool.Decides.{nat_tests}
-use Rattle.std.proofs.lemmas.Iterator.Adapters.{position_from-zero}
-use Rattle.std.proofs.lemmas.List.Quantifiers.{position-Some}
-use Rattle.model_guests.specs.Text.{Text, ends_line, lines, onto}
-use Rattle.model_guests.specs.LineRuns.{HasNoEnd}
+use Rattle.std.{proofs.{Common.{◌≡◌, ℕ, suc, ◌+◌, ◌<◌, ◌||◌, Bool, false, not, cond, List, [], ◌∷◌, ◌++◌, Some, None, length, take, drop, get_or, refl, sym, ap, ap₂, ◌∙◌, arith, take-append-drop}, Math.Seq.drop-cons, lemmas.{Bool.{or_parts, Decides.nat_tests}, Iterator.Adapters.position_from-zero, List.Quantifiers.position-Some}}, specs.List.{list_any, position, position_from, position_or_len}}
+use Rattle.model_guests.specs.{Text.{Text, ends_line, lines, onto}, LineRuns.HasNoEnd}
 
 pub no_end_along : (a b : Text) → HasNoEnd a → HasNoEnd b → HasNoEnd (a ++ b)
 no_end_along [] b p q = q

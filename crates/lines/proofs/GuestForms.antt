@@ -1,16 +1,8 @@
 -- A guest's line is of the form that its first word after the name tells.
-use Rattle.std.proofs.Common.{◌≡◌, ℕ, ◌^◌, ◌==◌, Bool, true, false, cond, List, [], ◌∷◌, Option, Some, None, option_map, length, codes, refl, sym, ap, ◌∙◌, subst, arith}
-use Rattle.std.specs.Option.{option_and_then}
-use Rattle.std.specs.Str.{bytes_eq}
-use Rattle.std.proofs.lemmas.Bool.Decides.{nat_tests}
-use Rattle.std.proofs.lemmas.Slice.Eq.{bytes_eq-Decides}
+use Rattle.std.{proofs.{Common.{◌≡◌, ℕ, ◌^◌, ◌==◌, Bool, true, false, cond, List, [], ◌∷◌, Option, Some, None, option_map, length, codes, refl, sym, ap, ◌∙◌, subst, arith}, lemmas.{Bool.Decides.nat_tests, Slice.Eq.bytes_eq-Decides}}, specs.{Option.option_and_then, Str.bytes_eq}}
 use Rattle.lists.specs.Elements.{first_of_two}
-use Rattle.model_guests.specs.Accesses.{Event, access, Target, configuration, port, address, reads, writes}
-use Rattle.model_guests.specs.Text.{Text}
-use Rattle.model_guests.specs.Numbers.{below, number_of}
-use Rattle.model_guests.specs.Grammar.{event_of, given}
-use Rattle.lines.specs.Cursors.{Numbered, numbered}
-use Rattle.lines.specs.Forms.{Placed, placed, Operated, operated, ended, accessed}
+use Rattle.model_guests.specs.{Accesses.{Event, access, Target, configuration, port, address, reads, writes}, Text.Text, Numbers.{below, number_of}, Grammar.{event_of, given}}
+use Rattle.lines.specs.{Cursors.{Numbered, numbered}, Forms.{Placed, placed, Operated, operated, ended, accessed}}
 
 -- W at the end
 abbrev reads_at : Target → List Text → Option Event

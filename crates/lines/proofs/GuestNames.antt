@@ -1,9 +1,6 @@
 -- Guests as they are now, by their places.
-use Rattle.std.proofs.Common.{◌≡◌, ℕ, zero, suc, [], ◌∷◌, refl}
-use Rattle.std.specs.Prelude.{unwrap_or, slice_get}
-use Rattle.model_guests.specs.Lone.{reset_guest}
-use Rattle.model_guests.specs.Guests.{GuestNow, GuestsNow}
-use Rattle.model_guests.specs.WorldNow.{names_of}
+use Rattle.std.{proofs.Common.{◌≡◌, ℕ, zero, suc, [], ◌∷◌, refl}, specs.Prelude.{unwrap_or, slice_get}}
+use Rattle.model_guests.specs.{Lone.reset_guest, Guests.{GuestNow, GuestsNow}, WorldNow.names_of}
 use Rattle.lines.specs.Lines.{name_of}
 
 -- there is no guest past the last one

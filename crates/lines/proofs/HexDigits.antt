@@ -1,10 +1,6 @@
 -- The hexadecimal digits of a number, the highest first.
-use Rattle.std.proofs.Common.{◌≡◌, ℕ, zero, suc, ◌/◌, ◌%◌, ◌^◌, ◌*◌, ◌<◌, ◌≤◌, min, false, ◌∷◌, [], ◌++◌, sym, ap, ◌∙◌, arith, append_assoc, append-nil}
-use Rattle.std.proofs.Math.Nat.{div-div-eq-div-mul, div-one, mul_comm}
-use Rattle.std.proofs.lemmas.Nat.{pow-add}
-use Rattle.std.specs.Fmt.{digit_glyph}
-use Rattle.model_guests.specs.Text.{Text}
-use Rattle.model_guests.specs.Replies.{hex_digits}
+use Rattle.std.{proofs.{Common.{◌≡◌, ℕ, zero, suc, ◌/◌, ◌%◌, ◌^◌, ◌*◌, ◌<◌, ◌≤◌, min, false, ◌∷◌, [], ◌++◌, sym, ap, ◌∙◌, arith, append_assoc, append-nil}, Math.Nat.{div-div-eq-div-mul, div-one, mul_comm}, lemmas.Nat.pow-add}, specs.Fmt.digit_glyph}
+use Rattle.model_guests.specs.{Text.Text, Replies.hex_digits}
 
 power_up : (k : ℕ) → 16 * 2 ^ (4 * k) ≡ 2 ^ (4 * suc k)
 power_up k = sym (pow-add 2 4 (4 * k)) ∙ ap (λ e. 2 ^ e) (omega arith)

@@ -1,8 +1,5 @@
 -- The first place of a byte, as the search for it says it.
-use Rattle.std.proofs.Common.{◌≡◌, ℕ, Bool, true, false, cond, Option, Some, None, length, nat_lt, sym, ap, ◌∙◌, arith}
-use Rattle.std.specs.List.{position}
-use Rattle.std.proofs.lemmas.Bool.Decides.{nat_tests}
-use Rattle.std.proofs.lemmas.List.Sums.{position_or_len_is}
+use Rattle.std.{proofs.{Common.{◌≡◌, ℕ, Bool, true, false, cond, Option, Some, None, length, nat_lt, sym, ap, ◌∙◌, arith}, lemmas.{Bool.Decides.nat_tests, List.Sums.position_or_len_is}}, specs.List.position}
 use Rattle.model_guests.specs.Text.{Text}
 use Rattle.memchr.specs.Find.{IsFirstByte}
 

@@ -1,9 +1,6 @@
 -- Lines of more than 200 bytes.
-use Rattle.std.proofs.Common.{◌≡◌, ◌<◌, ◌==◌, not, Bool, true, false, [], ◌∷◌, ◌++◌, length, subst, ◌∙◌, append-nil, length-append, arith}
-use Rattle.std.specs.Prelude.{IsTrue}
-use Rattle.std.proofs.lemmas.Bool.Decides.{nat_tests}
-use Rattle.model_guests.specs.Text.{Text}
-use Rattle.model_guests.specs.Grammar.{is_long}
+use Rattle.std.{proofs.{Common.{◌≡◌, ◌<◌, ◌==◌, not, Bool, true, false, [], ◌∷◌, ◌++◌, length, subst, ◌∙◌, append-nil, length-append, arith}, lemmas.Bool.Decides.nat_tests}, specs.Prelude.IsTrue}
+use Rattle.model_guests.specs.{Text.Text, Grammar.is_long}
 use Rattle.lines.specs.Pieces.{IsBefore}
 
 pub more_than_200 : (t : Text) → IsTrue (is_long t) → 200 < length t

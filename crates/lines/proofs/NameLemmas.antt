@@ -1,19 +1,8 @@
 -- The guest of a name, and what a line means by its first word.
-use Rattle.std.proofs.Common.{◌≡◌, ℕ, ◌+◌, true, false, cond, List, [], ◌∷◌, Option, Some, None, map, codes, length, refl, sym, ap, subst, ◌∙◌, ◌≤◌, arith}
-use Rattle.std.specs.List.{position, position_from}
-use Rattle.std.specs.Str.{bytes_eq}
-use Rattle.std.proofs.lemmas.Iterator.Adapters.{position_from-zero}
-use Rattle.std.proofs.lemmas.List.Quantifiers.{position-Some}
-use Rattle.std.proofs.lemmas.Bool.Decides.{nat_tests}
-use Rattle.std.proofs.lemmas.Slice.Eq.{bytes_eq-Decides}
-use Rattle.arrayvec.specs.ArrayVec.{ArrayVec}
-use Rattle.arrayvec.specs.ArrayString.{ArrayString}
-use Rattle.model_guests.specs.Text.{Text, words}
-use Rattle.model_guests.specs.Grammar.{nobody, is_comment, has_name, event_of}
-use Rattle.model_guests.specs.Guests.{Move}
-use Rattle.model_guests.specs.Lines.{bad, event_or_bad, between_guests, meaning_of_words, meaning}
-use Rattle.lines.specs.Lines.{texts, name_of, GuestsAre, IsFirst}
-use Rattle.lines.specs.declared.line.What.{What}
+use Rattle.std.{proofs.{Common.{◌≡◌, ℕ, ◌+◌, true, false, cond, List, [], ◌∷◌, Option, Some, None, map, codes, length, refl, sym, ap, subst, ◌∙◌, ◌≤◌, arith}, lemmas.{Iterator.Adapters.position_from-zero, List.Quantifiers.position-Some, Bool.Decides.nat_tests, Slice.Eq.bytes_eq-Decides}}, specs.{List.{position, position_from}, Str.bytes_eq}}
+use Rattle.arrayvec.specs.{ArrayVec.ArrayVec, ArrayString.ArrayString}
+use Rattle.model_guests.specs.{Text.{Text, words}, Grammar.{nobody, is_comment, has_name, event_of}, Guests.Move, Lines.{bad, event_or_bad, between_guests, meaning_of_words, meaning}}
+use Rattle.lines.specs.{Lines.{texts, name_of, GuestsAre, IsFirst}, declared.line.What.What}
 use Rattle.lines.specs.declared.line.What.TheVariants as what
 
 -- where the first of a name stands

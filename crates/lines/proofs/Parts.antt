@@ -3,16 +3,10 @@
 --     runs_of_part      so does a run
 --     same_refusals      each line is refused as it is of the part
 --     same_error, same_end      how a run ended tells the same whatever it gives
-use Rattle.std.proofs.Common.{◌≡◌, ◌++◌, ◌||◌, Bool, List, [], ◌∷◌, Option, is_some, Result, Ok, Err, refl, ap, ap₂, ◌∙◌, subst, take}
-use Rattle.std.specs.Io.{StartsWith}
-use Rattle.std.specs.Io.KnownBytes.{Appends}
-use Rattle.model_guests.specs.Text.{Text, lines}
-use Rattle.model_guests.specs.LineRuns.{Protocol, output, after_lines, first_output, IsCut, IsStopped}
-use Rattle.lines.specs.Pieces.{IsStoppedIn, IsLackingIn}
-use Rattle.lines.specs.Runs.{Ends, Runs}
-use Rattle.lines.specs.declared.runs.RunFault.{RunFault}
+use Rattle.std.{proofs.Common.{◌≡◌, ◌++◌, ◌||◌, Bool, List, [], ◌∷◌, Option, is_some, Result, Ok, Err, refl, ap, ap₂, ◌∙◌, subst, take}, specs.Io.{StartsWith, KnownBytes.Appends}}
+use Rattle.model_guests.specs.{Text.{Text, lines}, LineRuns.{Protocol, output, after_lines, first_output, IsCut, IsStopped}}
+use Rattle.lines.specs.{Pieces.{IsStoppedIn, IsLackingIn}, Runs.{Ends, Runs}, declared.runs.RunFault.RunFault, Refusals.{Refusal, refuses}}
 use Rattle.lines.specs.declared.runs.RunFault.TheVariants as run
-use Rattle.lines.specs.Refusals.{Refusal, refuses}
 
 pub record IsPart {S T : Type 0} (p : Protocol S) (q : Protocol T) (part : S → T) : Type 0 where
   pub writes : (s : S) (line : Text) → p.writes s line ≡ q.writes (part s) line

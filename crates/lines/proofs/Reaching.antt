@@ -1,16 +1,8 @@
 -- How runs over pieces are put together.
-use Rattle.std.proofs.Common.{◌≡◌, ◌<◌, Bool, false, List, [], ◌∷◌, ◌++◌, Option, length, refl, sym, ap, subst, ◌∙◌, append_assoc, append-nil, length-append, arith}
-use Rattle.std.specs.Io.{StartsWith}
-use Rattle.std.specs.Io.KnownBytes.{Appends, Keeps}
-use Rattle.std.proofs.KnownBytes.{Appends-trans, Appends-nil, Appends-kept}
-use Rattle.std.proofs.Transfers.{starts_with_of_eq}
+use Rattle.std.{proofs.{Common.{◌≡◌, ◌<◌, Bool, false, List, [], ◌∷◌, ◌++◌, Option, length, refl, sym, ap, subst, ◌∙◌, append_assoc, append-nil, length-append, arith}, KnownBytes.{Appends-trans, Appends-nil, Appends-kept}, Transfers.starts_with_of_eq}, specs.Io.{StartsWith, KnownBytes.{Appends, Keeps}}}
 use Rattle.lists.proofs.EachLemmas.{each_append, each_parts}
-use Rattle.model_guests.specs.Text.{Text, text_of_lines}
-use Rattle.model_guests.specs.LineRuns.{Protocol, output, after_lines, HasNoEnd}
-use Rattle.model_guests.proofs.WrittenLines.{text_of_lines-append}
-use Rattle.model_guests.proofs.RunLines.{output_along, after_along}
-use Rattle.lines.specs.Pieces.{IsBefore, Reaches, StopsWithin, LacksWithin}
-use Rattle.lines.proofs.EndsInPieces.{no_end_along, no_end_first}
+use Rattle.model_guests.{specs.{Text.{Text, text_of_lines}, LineRuns.{Protocol, output, after_lines, HasNoEnd}}, proofs.{WrittenLines.text_of_lines-append, RunLines.{output_along, after_along}}}
+use Rattle.lines.{specs.Pieces.{IsBefore, Reaches, StopsWithin, LacksWithin}, proofs.EndsInPieces.{no_end_along, no_end_first}}
 
 -- one line and what comes after it
 pub text_of_one : (l rest : Text) → text_of_lines (l ∷ []) ++ rest ≡ l ++ 10 ∷ rest

@@ -1,13 +1,9 @@
 -- Lines that ask something, with too few words or too many; and writes, which ask nothing. `ws` are references to the words.
 use Rattle.std.proofs.Common.{◌≡◌, ◌<◌, ◌≤◌, List, [], ◌∷◌, Option, None, Some, option_map, length, take, Bor, refl, arith}
 use Rattle.model_guests.specs.Text.{Text}
-use Rattle.model_lines.specs.Requests.{request_of}
-use Rattle.model_lines.specs.HostAccesses.{HostAccess}
-use Rattle.model_lines.specs.FirmwareLines.{asked}
-use Rattle.lines.specs.FirmwareLines.{firmware_meaning_of, requested}
-use Rattle.lines.specs.declared.firmware_line.FirmwareWhat.{FirmwareWhat}
+use Rattle.model_lines.specs.{Requests.request_of, HostAccesses.HostAccess, FirmwareLines.asked}
+use Rattle.lines.{specs.{FirmwareLines.{firmware_meaning_of, requested}, declared.firmware_line.FirmwareWhat.FirmwareWhat}, proofs.Counts.texts}
 use Rattle.lines.specs.declared.firmware_line.FirmwareWhat.TheVariants as what
-use Rattle.lines.proofs.Counts.{texts}
 
 pub no_request_of_few : (ws : List (Bor Text)) → length ws < 3 → (length ws ≡ 1 → ⊥) → None ≡ request_of (texts ws)
 no_request_of_few [] h other = refl

@@ -1,12 +1,8 @@
 -- What a clause says of a result whose kind is known.
-use Rattle.std.proofs.Common.{◌≡◌, ◌⊎◌, Bool, true, false, Result, Ok, Err, refl, sym, subst, arith}
-use Rattle.std.specs.Prelude.{OnOk, OnErr, IsErrOf, IsTrue, IsFalse}
-use Rattle.std.specs.Result.{is_err, IsErrAnd}
-use Rattle.lines.specs.declared.pieces.Stop.{Stop}
+use Rattle.std.{proofs.Common.{◌≡◌, ◌⊎◌, Bool, true, false, Result, Ok, Err, refl, sym, subst, arith}, specs.{Prelude.{OnOk, OnErr, IsErrOf, IsTrue, IsFalse}, Result.{is_err, IsErrAnd}}}
+use Rattle.lines.specs.{declared.{pieces.Stop.Stop, runs.RunFault.RunFault}, Faults.of_stop}
 use Rattle.lines.specs.declared.pieces.Stop.TheVariants as stop
-use Rattle.lines.specs.declared.runs.RunFault.{RunFault}
 use Rattle.lines.specs.declared.runs.RunFault.TheVariants as run
-use Rattle.lines.specs.Faults.{of_stop}
 
 pub ok_part : {T E P : Type 0} (r : Result T E) → is_err r ≡ false → OnOk r P → P
 ok_part r e p = grind arith

@@ -1,15 +1,7 @@
 -- Tables with a place for each byte: they hold what the definitions say, by computing.
-use Rattle.std.proofs.Common.{◌≡◌, ℕ, ◌+◌, ◌*◌, ◌/◌, ◌%◌, ◌<◌, ◌≤◌, ◌==◌, Bool, true, false, cond, map, get_or, Option, Some, None, refl, ap, ◌∙◌, arith}
-use Rattle.std.specs.Prelude.{unwrap_or}
-use Rattle.std.specs.List.{range_with_len}
-use Rattle.std.proofs.lemmas.Bool.Decides.{nat_tests}
-use Rattle.std.proofs.lemmas.List.FromFn.{get_or-map-range_with_len}
-use Rattle.model_guests.specs.Text.{is_blank}
-use Rattle.model_guests.specs.Numbers.{below, digit_of}
-use Rattle.std.specs.Fmt.{digit_glyph}
-use Rattle.lines.specs.declared.numbers.TheConstants.{DIGITS}
-use Rattle.lines.specs.declared.replies.TheConstants.{PAIRS}
-use Rattle.lines.specs.declared.words.TheConstants.{BLANKS}
+use Rattle.std.{proofs.{Common.{◌≡◌, ℕ, ◌+◌, ◌*◌, ◌/◌, ◌%◌, ◌<◌, ◌≤◌, ◌==◌, Bool, true, false, cond, map, get_or, Option, Some, None, refl, ap, ◌∙◌, arith}, lemmas.{Bool.Decides.nat_tests, List.FromFn.get_or-map-range_with_len}}, specs.{Prelude.unwrap_or, List.range_with_len, Fmt.digit_glyph}}
+use Rattle.model_guests.specs.{Text.is_blank, Numbers.{below, digit_of}}
+use Rattle.lines.specs.declared.{numbers.TheConstants.DIGITS, replies.TheConstants.PAIRS, words.TheConstants.BLANKS}
 
 abbrev digit_mark : ℕ → ℕ
 digit_mark b = unwrap_or (digit_of b) 255

@@ -1,14 +1,8 @@
 -- A run of which it is told whether a line was refused, as the run that it is, and what it tells.
 --     watched_end, watched_early, plain_early      what a run did, by whether it was watched and how it ended
-use Rattle.std.proofs.Common.{◌≡◌, ◌||◌, Bool, true, false, List, [], ◌∷◌, Result, Ok, Err, is_some, refl, sym, subst, ap, ◌∙◌}
-use Rattle.std.specs.Result.{IsErrAnd}
-use Rattle.model_guests.specs.Text.{Text, lines}
-use Rattle.model_guests.specs.LineRuns.{Protocol, after_lines}
-use Rattle.lines.specs.declared.runs.RunFault.{RunFault}
-use Rattle.lines.specs.Runs.{Ends, Runs}
-use Rattle.lines.specs.declared.watching.Watched.{Watched}
-use Rattle.lines.specs.Refusals.{Refusal, refuses, watched, IsWatched}
-use Rattle.lines.proofs.Parts.{IsPart, runs_of_part, same_end, same_error}
+use Rattle.std.{proofs.Common.{◌≡◌, ◌||◌, Bool, true, false, List, [], ◌∷◌, Result, Ok, Err, is_some, refl, sym, subst, ap, ◌∙◌}, specs.Result.IsErrAnd}
+use Rattle.model_guests.specs.{Text.{Text, lines}, LineRuns.{Protocol, after_lines}}
+use Rattle.lines.{specs.{declared.{runs.RunFault.RunFault, watching.Watched.Watched}, Runs.{Ends, Runs}, Refusals.{Refusal, refuses, watched, IsWatched}}, proofs.Parts.{IsPart, runs_of_part, same_end, same_error}}
 
 server_part : {S : Type 0} (p : Protocol S) (f : Refusal S) → IsPart (watched p f) p (λ (w : Watched S). w.server)
 server_part p f = record { writes = λ w line. refl; next = λ w line. refl }

@@ -1,8 +1,6 @@
 -- Writes of firmware, by their first word.
-use Rattle.std.proofs.Common.{◌≡◌, true, false, [], ◌∷◌, codes, refl}
-use Rattle.std.specs.Str.{bytes_eq}
-use Rattle.model_guests.specs.Grammar.{host_port, host_address, host_at}
-use Rattle.model_guests.specs.Text.{Text}
+use Rattle.std.{proofs.Common.{◌≡◌, true, false, [], ◌∷◌, codes, refl}, specs.Str.bytes_eq}
+use Rattle.model_guests.specs.{Grammar.{host_port, host_address, host_at}, Text.Text}
 use Rattle.model_lines.specs.FirmwareLines.{config_place, written_at, host_write_of}
 
 pub write_of_iw : (op a w v : Text) → bytes_eq op (codes "iw") ≡ true → written_at v (host_at host_port a w) ≡ host_write_of (op ∷ a ∷ w ∷ v ∷ [])

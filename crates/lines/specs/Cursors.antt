@@ -4,8 +4,7 @@
 --     IsAtWord      no blank stands at the front
 --     Numbered, numbered ws      the number that the first word writes, with the words after it
 use Rattle.std.specs.Prelude.{◌≡◌, ℕ, ◌^◌, List, [], ◌∷◌, Option, None, ⊤, false, if◌then◌else◌, option_map}
-use Rattle.model_guests.specs.Text.{Text, is_blank}
-use Rattle.model_guests.specs.Numbers.{below, digits_from, number_of}
+use Rattle.model_guests.specs.{Text.{Text, is_blank}, Numbers.{below, digits_from, number_of}}
 
 abbrev pub before_blank : Text → Text
 before_blank [] = []

@@ -5,10 +5,8 @@
 --     of_stop      the fault of a run for that of a piece
 --     number_of      the number of a fault
 use Rattle.std.specs.Prelude.{ℕ, Result, Ok, Err}
-use Rattle.lines.specs.declared.pieces.Stop.{Stop}
+use Rattle.lines.specs.declared.{pieces.Stop.Stop, runs.RunFault.{RunFault, TheVariants.{Read, Write, Memory}}}
 use Rattle.lines.specs.declared.pieces.Stop.TheVariants as stop
-use Rattle.lines.specs.declared.runs.RunFault.{RunFault}
-use Rattle.lines.specs.declared.runs.RunFault.TheVariants.{Read, Write, Memory}
 
 abbrev pub read_failures_of : {T : Type 0} → Result T RunFault → ℕ
 read_failures_of (Ok x) = 0

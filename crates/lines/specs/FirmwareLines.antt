@@ -2,17 +2,12 @@
 --     host_asked place op      what the host does at a place and in a width
 --     firmware_meaning_of what      what a line means: one that asks something is no access
 --     requested what      what it asks, if it does
-use Rattle.model_guests.specs.Accesses.{Op, reads, writes}
-use Rattle.model_guests.specs.Grammar.{host, nobody}
-use Rattle.model_lines.specs.HostAccesses as firmware
-use Rattle.model_lines.specs.FirmwareLines.{Meaning, nothing, asked, bad}
-use Rattle.accesses.specs.Accesses.{host_target_of}
-use Rattle.accesses.specs.Refusals.{number_of}
-use Rattle.accesses.specs.declared.access.HostAccess.{HostAccess}
+use Rattle.model_guests.specs.{Accesses.{Op, reads, writes}, Grammar.{host, nobody}}
+use Rattle.model_lines.specs.{FirmwareLines.{Meaning, nothing, asked, bad}, Requests.Request}
+use Rattle.accesses.specs.{Accesses.host_target_of, Refusals.number_of, declared.access.HostAccess.HostAccess}
 use Rattle.std.specs.Prelude.{Option, None, Some}
-use Rattle.model_lines.specs.Requests.{Request}
-use Rattle.lines.specs.Requests.{request_of}
-use Rattle.lines.specs.declared.firmware_line.FirmwareWhat.{FirmwareWhat}
+use Rattle.lines.specs.{Requests.request_of, declared.firmware_line.FirmwareWhat.FirmwareWhat}
+use Rattle.model_lines.specs.HostAccesses as firmware
 use Rattle.lines.specs.declared.firmware_line.FirmwareWhat.TheVariants as what
 
 abbrev pub host_asked : HostAccess → Op → firmware.HostAccess

@@ -4,12 +4,9 @@
 --     Operated, operated kind ws      what it does, by the letter of its kind, with the words after it
 --     accessed space kind ws      an access
 use Rattle.std.specs.Prelude.{ℕ, ◌^◌, ◌==◌, if◌then◌else◌, List, [], ◌∷◌, Option, None, Some, option_map, option_and_then}
-use Rattle.model_guests.specs.Accesses.{Event, access, raises, Target, configuration, port, address, Op, reads, writes}
-use Rattle.model_guests.specs.Text.{Text}
-use Rattle.model_guests.specs.Numbers.{below}
-use Rattle.lines.specs.Cursors.{Numbered, numbered}
+use Rattle.model_guests.specs.{Accesses.{Event, access, raises, Target, configuration, port, address, Op, reads, writes}, Text.Text, Numbers.below}
+use Rattle.lines.specs.{Cursors.{Numbered, numbered}, declared.forms.Asked.Asked}
 use Rattle.accesses.specs.Accesses.{access_of, part_of}
-use Rattle.lines.specs.declared.forms.Asked.{Asked}
 use Rattle.lines.specs.declared.forms.Asked.TheVariants as asked
 
 abbrev pub event_asked : Asked → Event

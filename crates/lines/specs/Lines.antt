@@ -4,19 +4,14 @@
 --     meaning_of names what      what a line means
 --     GuestIs P who, GuestsAre P what      P holds of the guest that is answered, or of each that a line names
 --     IsFirst names g      guest g is the first of its name
-use Rattle.std.specs.Prelude.{◌≡◌, ℕ, List, [], Some, ⊤, map, position, slice_index_or}
-use Rattle.std.specs.Str.{bytes_eq}
-use Rattle.arrayvec.specs.ArrayVec.{ArrayVec}
-use Rattle.arrayvec.specs.ArrayString.{ArrayString}
-use Rattle.model_guests.specs.Accesses.{access, raises}
-use Rattle.model_guests.specs.Text.{Text}
+use Rattle.std.specs.{Prelude.{◌≡◌, ℕ, List, [], Some, ⊤, map, position, slice_index_or}, Str.bytes_eq}
+use Rattle.arrayvec.specs.{ArrayVec.ArrayVec, ArrayString.ArrayString}
+use Rattle.model_guests.specs.{Accesses.{access, raises}, Text.Text}
+use Rattle.accesses.specs.{Accesses.{access_of, part_of, host_access_of}, Refusals.number_of}
+use Rattle.lines.specs.declared.line.{Who.Who, What.What}
 use Rattle.model_guests.specs.Grammar as grammar
 use Rattle.model_guests.specs.Lines as meanings
-use Rattle.accesses.specs.Accesses.{access_of, part_of, host_access_of}
-use Rattle.accesses.specs.Refusals.{number_of}
-use Rattle.lines.specs.declared.line.Who.{Who}
 use Rattle.lines.specs.declared.line.Who.TheVariants as who
-use Rattle.lines.specs.declared.line.What.{What}
 use Rattle.lines.specs.declared.line.What.TheVariants as what
 
 abbrev pub texts : ArrayVec ArrayString → List Text

@@ -7,14 +7,9 @@
 --     StopsWithin      a failed write or flush at a line that LF ends
 --     IsStoppedIn      a failed write or flush, of what was read of a script
 --     LacksWithin, IsLackingIn      memory is out for a line: within a text, and of what was read of a script
-use Rattle.std.specs.Prelude.{◌≡◌, ◌⊎◌, ◌++◌, ◌-◌, ℕ, Bool, true, false, List, [], ◌∷◌, Option, None, Some}
-use Rattle.std.specs.Prelude.{take, drop, length, IsTrue}
-use Rattle.std.specs.Io.{StartsWith}
-use Rattle.std.specs.Io.KnownBytes.{Appends, Consumes, IsAtEnd}
+use Rattle.std.specs.{Prelude.{◌≡◌, ◌⊎◌, ◌++◌, ◌-◌, ℕ, Bool, true, false, List, [], ◌∷◌, Option, None, Some, take, drop, length, IsTrue}, Io.{StartsWith, KnownBytes.{Appends, Consumes, IsAtEnd}}}
 use Rattle.lists.specs.Elements.{Each}
-use Rattle.model_guests.specs.Text.{Text, lines, text_of_lines}
-use Rattle.model_guests.specs.Grammar.{is_long}
-use Rattle.model_guests.specs.LineRuns.{Protocol, output, after_lines, HasNoEnd, IsStopped}
+use Rattle.model_guests.specs.{Text.{Text, lines, text_of_lines}, Grammar.is_long, LineRuns.{Protocol, output, after_lines, HasNoEnd, IsStopped}}
 
 pub record Pending : Type 0 where
   pub text : Text

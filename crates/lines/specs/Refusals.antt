@@ -2,13 +2,9 @@
 --     refuses p refusal s ls      one of the lines is refused, by some number
 --     watched p refusal      what answers lines, and whether it refused one, as a protocol
 --     IsWatched strict p refusal s at result      what a run did, and whether it refused a line, where that is asked
-use Rattle.std.specs.Prelude.{◌≡◌, ◌&&◌, ◌||◌, ℕ, Bool, true, false, List, [], ◌∷◌, Option, Result, IfOk, is_some}
-use Rattle.std.specs.Option.{ForSome}
-use Rattle.model_guests.specs.Text.{Text, lines}
-use Rattle.model_guests.specs.LineRuns.{Protocol}
-use Rattle.lines.specs.declared.runs.RunFault.{RunFault}
-use Rattle.lines.specs.declared.watching.Watched.{Watched}
-use Rattle.lines.specs.Runs.{Ends, Runs}
+use Rattle.std.specs.{Prelude.{◌≡◌, ◌&&◌, ◌||◌, ℕ, Bool, true, false, List, [], ◌∷◌, Option, Result, IfOk, is_some}, Option.ForSome}
+use Rattle.model_guests.specs.{Text.{Text, lines}, LineRuns.Protocol}
+use Rattle.lines.specs.{declared.{runs.RunFault.RunFault, watching.Watched.Watched}, Runs.{Ends, Runs}}
 
 -- the number by which each line is refused, if it is
 abbrev pub Refusal : Type 0 → Type 0

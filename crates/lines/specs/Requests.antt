@@ -1,12 +1,9 @@
 -- What firmware asks of a session, in the words of its definitions.
 --     why_asked_of      what is asked about where why is asked
 --     request_of      what a line asks
-use Rattle.model_lines.specs.Requests as model
 use Rattle.paths.specs.BusAddresses.{bus_address_of}
-use Rattle.lines.specs.declared.requests.WhyAsked.{WhyAsked}
-use Rattle.lines.specs.declared.requests.WhyAsked.TheVariants.{Mem, Io, Config}
-use Rattle.lines.specs.declared.requests.Request.{Request}
-use Rattle.lines.specs.declared.requests.Request.TheVariants.{Audit, Ready, Guests, Why}
+use Rattle.lines.specs.declared.requests.{WhyAsked.{WhyAsked, TheVariants.{Mem, Io, Config}}, Request.{Request, TheVariants.{Audit, Ready, Guests, Why}}}
+use Rattle.model_lines.specs.Requests as model
 
 abbrev pub why_asked_of : WhyAsked → model.WhyAsked
 why_asked_of (Mem addr) = model.of_address addr

@@ -4,14 +4,9 @@
 --     ends      these, one after the other
 --     IsWhole p s end at      all lines were read, answered, written and flushed
 --     Runs p s end at result      what a run from s to `end` did
-use Rattle.std.specs.Prelude.{◌≡◌, Option, Result, Ok, Err}
-use Rattle.std.specs.Option.{ForSome}
-use Rattle.std.specs.Io.KnownBytes.{Appends, IsAtEnd}
-use Rattle.model_guests.specs.Text.{Text, lines}
-use Rattle.model_guests.specs.LineRuns.{Protocol, output, after_lines, IsCut}
-use Rattle.lines.specs.declared.runs.RunFault.{RunFault}
-use Rattle.lines.specs.declared.runs.RunFault.TheVariants.{Read, Write, Memory}
-use Rattle.lines.specs.Pieces.{IsStoppedIn, IsLackingIn}
+use Rattle.std.specs.{Prelude.{◌≡◌, Option, Result, Ok, Err}, Option.ForSome, Io.KnownBytes.{Appends, IsAtEnd}}
+use Rattle.model_guests.specs.{Text.{Text, lines}, LineRuns.{Protocol, output, after_lines, IsCut}}
+use Rattle.lines.specs.{declared.runs.RunFault.{RunFault, TheVariants.{Read, Write, Memory}}, Pieces.{IsStoppedIn, IsLackingIn}}
 
 -- of an end whose bytes are known
 pub record Ends : Type 0 where

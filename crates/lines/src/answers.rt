@@ -1,7 +1,6 @@
 //! What answers lines.
 ghost use Rattle.std.specs.Prelude.{◌≡◌, ◌++◌, ℕ, [], Option, None, Some, option_map, string_bytes, IfOk, OnOk, OnErr};
-ghost use Rattle.model_guests.specs.Text.{Text};
-ghost use Rattle.model_guests.specs.LineRuns.{Protocol};
+ghost use Rattle.model_guests.specs.{Text.Text, LineRuns.Protocol};
 ghost use Rattle.lines.specs.Pieces.{IsBefore, with_more};
 
 use crate::replies::LineText;

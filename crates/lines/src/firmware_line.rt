@@ -1,15 +1,9 @@
 //! Lines of firmware.
 ghost use Rattle.std.specs.Prelude.{◌≡◌, None, [], ◌∷◌, map, option_map, ◌^◌};
-ghost use Rattle.model_guests.specs.Grammar.{host_port, host_address, host_at};
-ghost use Rattle.model_guests.specs.Numbers.{below, number_of};
-ghost use Rattle.model_guests.specs.Text.{words};
-ghost use Rattle.model_lines.specs.FirmwareLines.{asked, config_place, written_at, host_write_of};
-ghost use Rattle.model_lines.specs.FirmwareLines.{host_access_of as access_of_words, access_or_bad};
-ghost use Rattle.model_lines.specs.FirmwareLines.{meaning_of_words, meaning};
+ghost use Rattle.model_guests.specs.{Grammar.{host_port, host_address, host_at}, Numbers.{below, number_of}, Text.words};
+ghost use Rattle.model_lines.specs.{FirmwareLines.{asked, config_place, written_at, host_write_of, host_access_of as access_of_words, access_or_bad, meaning_of_words, meaning}, Requests.{request, request_in, request_of}};
 ghost use Rattle.accesses.specs.Accesses.{host_access_of};
-ghost use Rattle.model_lines.specs.Requests.{request, request_in, request_of};
-ghost use Rattle.lines.specs.Requests.{request_of as request_told};
-ghost use Rattle.lines.specs.FirmwareLines.{firmware_meaning_of, requested};
+ghost use Rattle.lines.specs.{Requests.request_of as request_told, FirmwareLines.{firmware_meaning_of, requested}};
 
 use crate::cursor::name_word;
 use crate::forms::{bus_address, host_form};

@@ -1,9 +1,6 @@
 //! The forms of a script's lines, after the word that says whose they are.
 ghost use Rattle.std.specs.Prelude.{◌≡◌, [], ◌∷◌, Some, None, map, length, option_map, MatchOption, IfSome, codes};
-ghost use Rattle.model_guests.specs.Text.{words};
-ghost use Rattle.model_guests.specs.Accesses.{access};
-ghost use Rattle.model_guests.specs.Numbers.{below, number_of};
-ghost use Rattle.model_guests.specs.Grammar.{raise_part, to_raise, event_of, hex_pair, bus_address, host_read_of};
+ghost use Rattle.model_guests.specs.{Text.words, Accesses.access, Numbers.{below, number_of}, Grammar.{raise_part, to_raise, event_of, hex_pair, bus_address, host_read_of}};
 ghost use Rattle.paths.specs.BusAddresses.{bus_address_of};
 ghost use Rattle.accesses.specs.Accesses.{access_of, target_of, op_of, part_of, host_access_of};
 ghost use Rattle.lines.specs.Forms.{event_asked, placed, operated};

@@ -1,10 +1,6 @@
 //! Lines of a script.
-ghost use Rattle.std.specs.Prelude.{◌≡◌, ◌<◌, ◌∷◌, [], List, length, map, take, position, option_map, IfSome};
-ghost use Rattle.std.specs.Str.{bytes_eq};
-ghost use Rattle.model_guests.specs.Text.{Text, words};
-ghost use Rattle.model_guests.specs.Grammar.{is_comment, event_of, host_read_of};
-ghost use Rattle.model_guests.specs.Lines.{host_move, event_or_bad, read_or_move, between_guests, move_of};
-ghost use Rattle.model_guests.specs.Lines.{meaning_of_words, meaning};
+ghost use Rattle.std.specs.{Prelude.{◌≡◌, ◌<◌, ◌∷◌, [], List, length, map, take, position, option_map, IfSome}, Str.bytes_eq};
+ghost use Rattle.model_guests.specs.{Text.{Text, words}, Grammar.{is_comment, event_of, host_read_of}, Lines.{host_move, event_or_bad, read_or_move, between_guests, move_of, meaning_of_words, meaning}};
 ghost use Rattle.lines.specs.Lines.{texts, name_of, meaning_of, GuestsAre, IsFirst};
 
 use crate::cursor::name_word;

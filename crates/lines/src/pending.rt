@@ -1,10 +1,7 @@
 //! What a run holds of its lines: bytes that were read and are not run yet.
-ghost use Rattle.std.specs.Prelude.{◌≡◌, ◌≤◌, ◌<◌, ◌+◌, ◌-◌, ◌^◌, ◌++◌, [], true, false, take, length};
-ghost use Rattle.std.specs.Prelude.{IfOk, OnErr, IsTrue, IsFalse};
-ghost use Rattle.std.specs.Io.KnownBytes.{Consumes, IsAtEnd, Keeps};
+ghost use Rattle.std.specs.{Prelude.{◌≡◌, ◌≤◌, ◌<◌, ◌+◌, ◌-◌, ◌^◌, ◌++◌, [], true, false, take, length, IfOk, OnErr, IsTrue, IsFalse}, Io.KnownBytes.{Consumes, IsAtEnd, Keeps}};
 ghost use Rattle.streams.specs.Ends.{failures_of};
-ghost use Rattle.model_guests.specs.Text.{Text};
-ghost use Rattle.model_guests.specs.LineRuns.{HasNoEnd};
+ghost use Rattle.model_guests.specs.{Text.Text, LineRuns.HasNoEnd};
 ghost use Rattle.lines.specs.Pieces.{IsBefore, rest_of};
 
 use crate::line::LONGEST_LINE;

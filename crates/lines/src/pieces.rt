@@ -1,13 +1,8 @@
 //! Runs over pieces of a text.
-ghost use Rattle.std.specs.Prelude.{◌≡◌, ℕ, ◌≤◌, ◌<◌, ◌+◌, ◌-◌, ◌^◌, ◌++◌, ◌∷◌, [], length};
-ghost use Rattle.std.specs.Prelude.{OnOk, OnErr, IfOk, IsErrOf, MatchOption, IsTrue, IsFalse};
-ghost use Rattle.std.specs.Prelude.{◌⊎◌, option_map, string_bytes};
-ghost use Rattle.std.specs.Io.KnownBytes.{Appends, Keeps};
+ghost use Rattle.std.specs.{Prelude.{◌≡◌, ℕ, ◌≤◌, ◌<◌, ◌+◌, ◌-◌, ◌^◌, ◌++◌, ◌∷◌, [], length, OnOk, OnErr, IfOk, IsErrOf, MatchOption, IsTrue, IsFalse, ◌⊎◌, option_map, string_bytes}, Io.KnownBytes.{Appends, Keeps}};
 ghost use Rattle.streams.specs.Ends.{failures_of, AppendsPart};
-ghost use Rattle.model_guests.specs.Text.{Text, lines};
-ghost use Rattle.model_guests.specs.LineRuns.{output, after_lines, HasNoEnd, IsStopped};
-ghost use Rattle.lines.specs.Faults.{stop_failures_of};
-ghost use Rattle.lines.specs.Pieces.{IsBefore, rest_of, with_more, Reaches, StopsWithin, LacksWithin};
+ghost use Rattle.model_guests.specs.{Text.{Text, lines}, LineRuns.{output, after_lines, HasNoEnd, IsStopped}};
+ghost use Rattle.lines.specs.{Faults.stop_failures_of, Pieces.{IsBefore, rest_of, with_more, Reaches, StopsWithin, LacksWithin}};
 
 use crate::answers::Answers;
 use crate::pending::Pending;

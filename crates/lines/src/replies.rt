@@ -1,9 +1,8 @@
 //! The text of output lines.
 ghost use Rattle.std.specs.Prelude.{◌≡◌, ◌≤◌, ◌<◌, ◌+◌, ◌*◌, ◌++◌, ◌∷◌, [], length, codes};
 ghost use Rattle.model_guests.specs.Replies.{who_text, reply_text, line_text, hex_digits};
-ghost use Rattle.accesses.specs.Accesses.{reply_of};
+ghost use Rattle.accesses.specs.{Accesses.reply_of, Replies.IsShown};
 ghost use Rattle.lines.specs.Lines.{texts, who_of, GuestIs};
-ghost use Rattle.accesses.specs.Replies.{IsShown};
 
 use crate::line::Who;
 use accesses::{Names, Reply};

@@ -1,11 +1,7 @@
 //! A run of a whole script.
-ghost use Rattle.std.specs.Prelude.{◌≡◌, ◌+◌, ◌-◌, ◌^◌, ◌<◌, [], false, ◌⊎◌, OnOk, IfErr, IsErrOf, Err};
-ghost use Rattle.std.specs.Io.KnownBytes.{Consumes, IsAtEnd};
-ghost use Rattle.model_guests.specs.Text.{Text};
-ghost use Rattle.model_guests.specs.LineRuns.{HasNoEnd};
-ghost use Rattle.lines.specs.Faults.{read_failures_of, write_failures_of, number_of, of_stop};
-ghost use Rattle.lines.specs.Pieces.{Reaches};
-ghost use Rattle.lines.specs.Runs.{Runs, ends};
+ghost use Rattle.std.specs.{Prelude.{◌≡◌, ◌+◌, ◌-◌, ◌^◌, ◌<◌, [], false, ◌⊎◌, OnOk, IfErr, IsErrOf, Err}, Io.KnownBytes.{Consumes, IsAtEnd}};
+ghost use Rattle.model_guests.specs.{Text.Text, LineRuns.HasNoEnd};
+ghost use Rattle.lines.specs.{Faults.{read_failures_of, write_failures_of, number_of, of_stop}, Pieces.Reaches, Runs.{Runs, ends}};
 
 use crate::answers::Answers;
 use crate::pending::Pending;

@@ -1,8 +1,6 @@
 //! Runs of lines of which it is told whether one was refused.
 ghost use Rattle.std.specs.Prelude.{◌≡◌, ◌+◌, ◌-◌, ◌^◌, ◌<◌, ◌⊎◌, IsErrOf};
-ghost use Rattle.lines.specs.Faults.{read_failures_of, write_failures_of};
-ghost use Rattle.lines.specs.Refusals.{watched, IsWatched};
-ghost use Rattle.lines.specs.Runs.{ends};
+ghost use Rattle.lines.specs.{Faults.{read_failures_of, write_failures_of}, Refusals.{watched, IsWatched}, Runs.ends};
 
 use crate::answers::{Answer, Answers};
 use crate::replies::LineText;

@@ -1,12 +1,6 @@
 -- What holds of each element, or of each pair: lists end to end, maps, filters, tests and permutations.
-use Rattle.std.proofs.Common.{◌≡◌, zero, suc, Bool, true, List, [], ◌∷◌, ◌++◌, refl, arith}
-use Rattle.std.specs.Prelude.{IsTrue, map, filter}
-use Rattle.std.specs.List.{All, list_all}
-use Rattle.std.specs.List.Sorted.{IsPermutation}
-use Rattle.std.proofs.lemmas.List.Sorted.{All-permutation}
-use Rattle.lists.specs.Elements.{Each, EachPair, all_pairs}
-use Rattle.std.proofs.lemmas.Bool.{and_from}
-use Rattle.lists.proofs.Tests.{left_true, right_true}
+use Rattle.std.{proofs.{Common.{◌≡◌, zero, suc, Bool, true, List, [], ◌∷◌, ◌++◌, refl, arith}, lemmas.{List.Sorted.All-permutation, Bool.and_from}}, specs.{Prelude.{IsTrue, map, filter}, List.{All, list_all, Sorted.IsPermutation}}}
+use Rattle.lists.{specs.Elements.{Each, EachPair, all_pairs}, proofs.Tests.{left_true, right_true}}
 
 pub each_append : {A : Type 0} (P : A → Type 0) (xs ys : List A) → Each P xs → Each P ys → Each P (xs ++ ys)
 each_append P [] ys h k = k

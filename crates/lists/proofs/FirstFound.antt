@@ -1,9 +1,6 @@
 -- The first of a list that passes a test, or gives something.
-use Rattle.std.proofs.Common.{◌≡◌, Bool, true, List, [], ◌∷◌, ◌++◌, Option, Some, None, refl, ap, ◌∙◌, arith, rules}
-use Rattle.std.specs.Prelude.{find}
-use Rattle.std.specs.List.{list_any}
-use Rattle.lists.specs.Elements.{IsIn, Each, first_of_two, first_some}
-use Rattle.lists.proofs.Indices.{each_at, found_at, index_in}
+use Rattle.std.{proofs.Common.{◌≡◌, Bool, true, List, [], ◌∷◌, ◌++◌, Option, Some, None, refl, ap, ◌∙◌, arith, rules}, specs.{Prelude.find, List.list_any}}
+use Rattle.lists.{specs.Elements.{IsIn, Each, first_of_two, first_some}, proofs.Indices.{each_at, found_at, index_in}}
 
 -- it is what the function gives of one of the elements
 pub first_some_of : {A B : Type 0} (f : A → Option B) (xs : List A) (y : B) → first_some f xs ≡ Some y → (x : A) × IsIn x xs × (f x ≡ Some y)

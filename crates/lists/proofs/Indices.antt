@@ -1,10 +1,5 @@
 -- Lists by index: what a test of all, a search or a map says of the element at an index.
-use Rattle.std.proofs.Common.{◌≡◌, ℕ, ◌<◌, Bool, true, false, ◌||◌, cond, inl, inr, Some, None, List, [], ◌∷◌, map, length, zero, suc, refl, ap, sym, ◌∙◌, arith, get_or, subst}
-use Rattle.std.specs.Prelude.{find, option_map}
-use Rattle.std.specs.List.{slice_get, slice_set, list_any, list_all}
-use Rattle.std.proofs.lemmas.Bool.{and_left, and_right}
-use Rattle.std.proofs.lemmas.List.{map-set, set-get_or}
-use Rattle.std.proofs.lemmas.Option.{slice_get_read, slice_get-map, get_or_from_slice_get}
+use Rattle.std.{proofs.{Common.{◌≡◌, ℕ, ◌<◌, Bool, true, false, ◌||◌, cond, inl, inr, Some, None, List, [], ◌∷◌, map, length, zero, suc, refl, ap, sym, ◌∙◌, arith, get_or, subst}, lemmas.{Bool.{and_left, and_right}, List.{map-set, set-get_or}, Option.{slice_get_read, slice_get-map, get_or_from_slice_get}}}, specs.{Prelude.{find, option_map}, List.{slice_get, slice_set, list_any, list_all}}}
 use Rattle.lists.specs.Elements.{IsIn, Each, EachPair}
 
 -- what indexing gives

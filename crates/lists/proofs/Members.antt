@@ -1,14 +1,6 @@
 -- Membership, and facts on pairs of elements, through filters, maps and lists end to end.
-use Rattle.std.proofs.Common.{◌≡◌, ◌⊎◌, inl, inr, Bool, true, false, cond, List, [], ◌∷◌, ◌++◌, Option, Some, refl, sym, ap, ap₂, ◌∙◌, subst, arith}
-use Rattle.std.specs.Prelude.{map, filter, flat_map}
-use Rattle.std.specs.List.{list_any, list_all}
-use Rattle.std.specs.Option.{option_to_list}
-use Rattle.std.proofs.lemmas.Grind.{flat_map-append}
-use Rattle.std.proofs.lemmas.Bool.{or_right}
-use Rattle.lists.specs.Elements.{IsIn, Each, EachPair}
-use Rattle.lists.proofs.EachLemmas.{pair_parts}
-use Rattle.lists.proofs.Indices.{any_at, index_in}
-use Rattle.lists.proofs.Tests.{left_true, right_true}
+use Rattle.std.{proofs.{Common.{◌≡◌, ◌⊎◌, inl, inr, Bool, true, false, cond, List, [], ◌∷◌, ◌++◌, Option, Some, refl, sym, ap, ap₂, ◌∙◌, subst, arith}, lemmas.{Grind.flat_map-append, Bool.or_right}}, specs.{Prelude.{map, filter, flat_map}, List.{list_any, list_all}, Option.option_to_list}}
+use Rattle.lists.{specs.Elements.{IsIn, Each, EachPair}, proofs.{EachLemmas.pair_parts, Indices.{any_at, index_in}, Tests.{left_true, right_true}}}
 
 -- ---- what holds of each element
 

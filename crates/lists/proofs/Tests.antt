@@ -1,6 +1,5 @@
 -- Tests of two parts.
-use Rattle.std.proofs.Common.{◌≡◌, Bool, true, false, not, ◌&&◌, ◌||◌, Option, Some, arith}
-use Rattle.std.specs.Prelude.{is_some}
+use Rattle.std.{proofs.Common.{◌≡◌, Bool, true, false, not, ◌&&◌, ◌||◌, Option, Some, arith}, specs.Prelude.is_some}
 
 pub left_true : (a b : Bool) → (a && b) ≡ true → a ≡ true
 left_true a b h = grind arith

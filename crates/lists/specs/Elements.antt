@@ -2,8 +2,7 @@
 --     IsIn x xs      x is an element of the list
 --     Each P xs, EachPair R xs      P of each element; R of each element and each later one
 --     first_some f xs      the first that f gives of an element
-use Rattle.std.specs.Prelude.{List, [], ◌∷◌, ◌≡◌, ◌⊎◌, ⊤, Bool, true, ◌&&◌, Option, Some, None}
-use Rattle.std.specs.List.{list_all}
+use Rattle.std.specs.{Prelude.{List, [], ◌∷◌, ◌≡◌, ◌⊎◌, ⊤, Bool, true, ◌&&◌, Option, Some, None}, List.list_all}
 
 abbrev pub IsIn : {A : Type 0} → A → List A → Type 0
 IsIn x [] = ⊥

@@ -1,16 +1,8 @@
 -- Guests of equal declarations: they refuse the same bytes, and take the same image of others.
 use Rattle.std.proofs.Common.{◌≡◌, ℕ, false, List, [], ◌∷◌, ◌++◌, Some, None, Option, refl, sym, ap, ◌∙◌, arith}
-use Rattle.model_registers.specs.EndpointTable.{endpoint_reset}
-use Rattle.model_registers.specs.Decoding.{Function}
-use Rattle.model_guests.specs.Slots.{Slots}
-use Rattle.model_guests.specs.Lone.{LoneGuest}
-use Rattle.model_images.specs.Images.{SavedFunction, Image, Fits, FitsSlot, FitSlots}
-use Rattle.model_images.specs.ImageBytes.{declaration_bytes}
-use Rattle.model_images.specs.LoadedBytes.{Left, then_read, after_bytes, after_values, after_slot, after_slots, load_fault}
-use Rattle.model_images.specs.LoadedLaws.{IsFittingImage}
-use Rattle.model_images.specs.TakenBytes.{taken_image}
-use Rattle.model_images.proofs.ImageBytes.{read_are_bytes}
-use Rattle.model_images.proofs.TakenBytes.{taken_again}
+use Rattle.model_registers.specs.{EndpointTable.endpoint_reset, Decoding.Function}
+use Rattle.model_guests.specs.{Slots.Slots, Lone.LoneGuest}
+use Rattle.model_images.{specs.{Images.{SavedFunction, Image, Fits, FitsSlot, FitSlots}, ImageBytes.declaration_bytes, LoadedBytes.{Left, then_read, after_bytes, after_values, after_slot, after_slots, load_fault}, LoadedLaws.IsFittingImage, TakenBytes.taken_image}, proofs.{ImageBytes.read_are_bytes, TakenBytes.taken_again}}
 
 -- ---- guests of equal declarations
 

@@ -1,18 +1,10 @@
 -- A machine along requests: its names and its board stay.
-use Rattle.std.proofs.Common.{◌≡◌, ◌+◌, ℕ, zero, suc, List, [], ◌∷◌, ◌++◌, drop, Some, refl, ap, ◌∙◌, arith}
-use Rattle.std.specs.Prelude.{flat_map, slice_get}
+use Rattle.std.{proofs.Common.{◌≡◌, ◌+◌, ℕ, zero, suc, List, [], ◌∷◌, ◌++◌, drop, Some, refl, ap, ◌∙◌, arith}, specs.Prelude.{flat_map, slice_get}}
 use Rattle.model_registers.specs.Registers.{File}
-use Rattle.model_board.specs.Paths.{Path}
-use Rattle.model_board.specs.Board.{Board}
-use Rattle.model_board.specs.AtReset.{board_at}
-use Rattle.model_board.specs.State.{BoardFunction, State, with_file}
+use Rattle.model_board.specs.{Paths.Path, Board.Board, AtReset.board_at, State.{BoardFunction, State, with_file}}
 use Rattle.model_guests.specs.WorldNow.{WorldNow, names_now}
-use Rattle.model_handoff.specs.Changes.{MachineNow}
-use Rattle.model_handoff.specs.Giving.{with_reset_at}
-use Rattle.model_images.specs.Requests.{Request, after_request, after_requests}
-use Rattle.model_images.specs.RequestLaws.{after_request_on_machine, after_all_requests}
-use Rattle.model_images.specs.FitLaws.{AreFittingRequests}
-use Rattle.model_images.proofs.Counts.{names_stay}
+use Rattle.model_handoff.specs.{Changes.MachineNow, Giving.with_reset_at}
+use Rattle.model_images.{specs.{Requests.{Request, after_request, after_requests}, RequestLaws.{after_request_on_machine, after_all_requests}, FitLaws.AreFittingRequests}, proofs.Counts.names_stay}
 
 -- ---- requests, one list after another
 

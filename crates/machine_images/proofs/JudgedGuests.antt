@@ -1,29 +1,12 @@
 -- Guests as a walk over bytes reads them, slot by slot and guest by guest: what is left decides as all does, and the run of
 -- bytes that holds the image of each guest is cut out.
-use Rattle.std.proofs.Common.{◌≡◌, ◌+◌, ◌*◌, ◌<◌, ◌≤◌, ℕ, zero, suc, List, [], ◌∷◌, ◌++◌, Option, None, Ok, Err, length, take, drop, ◌-◌, refl, sym, ap, ap₂, ◌∙◌, subst, arith, append_assoc, length-append}
-use Rattle.std.specs.Prelude.{flat_map, map}
-use Rattle.std.proofs.Math.Seq.{take-append_seam}
-use Rattle.std.proofs.lemmas.List.{append-nil, drop_at, map-append, take_rest}
-use Rattle.std.proofs.lemmas.List.Concat.{flat_map-append}
+use Rattle.std.{proofs.{Common.{◌≡◌, ◌+◌, ◌*◌, ◌<◌, ◌≤◌, ℕ, zero, suc, List, [], ◌∷◌, ◌++◌, Option, None, Ok, Err, length, take, drop, ◌-◌, refl, sym, ap, ap₂, ◌∙◌, subst, arith, append_assoc, length-append}, Math.Seq.take-append_seam, lemmas.List.{append-nil, drop_at, map-append, take_rest, Concat.flat_map-append}}, specs.Prelude.{flat_map, map}}
 use Rattle.arrayvec.specs.ArrayString.{ArrayString}
-use Rattle.model_board.specs.Paths.{Path}
-use Rattle.model_board.specs.Board.{Board}
-use Rattle.model_board.specs.AtReset.{board_at}
-use Rattle.model_board.specs.State.{BoardFunction}
-use Rattle.model_guests.specs.Text.{Text}
-use Rattle.model_guests.specs.Lone.{LoneGuest}
-use Rattle.model_guests.specs.WorldNow.{WorldNow, names_now}
+use Rattle.model_board.specs.{Paths.Path, Board.Board, AtReset.board_at, State.BoardFunction}
+use Rattle.model_guests.specs.{Text.Text, Lone.LoneGuest, WorldNow.{WorldNow, names_now}}
 use Rattle.model_handoff.proofs.Keeping.{keeps_board}
-use Rattle.model_images.specs.MachineImages.{SavedGuest}
-use Rattle.model_images.specs.Layouts.{Parsed, parsed}
-use Rattle.model_images.specs.LoadedBytes.{Left, after_bytes, after_image_front, load_fault}
-use Rattle.model_images.specs.MachineBytes.{name_layout}
-use Rattle.model_images.specs.TakenBytes.{taken_image}
-use Rattle.model_images.specs.LoadedMachines.{Read, and_then, with_path, with_paths, read_slot, read_slots, guest_at, read_image, read_guest, read_guests}
-use Rattle.model_images.proofs.FrontBytes.{run_there}
-use Rattle.model_images.proofs.TakenBytes.{front_fits}
-use Rattle.machine_images.specs.Judging.{AreRuns, AreSlotsRead, IsGuestRead, IsRunOf, functions_now, guest_seated, path_seated, paths_seated, taken_by}
-use Rattle.machine_images.proofs.JudgedReads.{behind, read_ends, reads_on, taken_both}
+use Rattle.model_images.{specs.{MachineImages.SavedGuest, Layouts.{Parsed, parsed}, LoadedBytes.{Left, after_bytes, after_image_front, load_fault}, MachineBytes.name_layout, TakenBytes.taken_image, LoadedMachines.{Read, and_then, with_path, with_paths, read_slot, read_slots, guest_at, read_image, read_guest, read_guests}}, proofs.{FrontBytes.run_there, TakenBytes.front_fits}}
+use Rattle.machine_images.{specs.Judging.{AreRuns, AreSlotsRead, IsGuestRead, IsRunOf, functions_now, guest_seated, path_seated, paths_seated, taken_by}, proofs.JudgedReads.{behind, read_ends, reads_on, taken_both}}
 
 abbrev pub texts_of : List ArrayString → List Text
 texts_of names = map (λ n. n.bytes) names

@@ -1,39 +1,16 @@
 -- What a handoff holds under guests, function after function.
-use Rattle.std.proofs.Common.{◌≡◌, ◌<◌, ◌+◌, ◌%◌, drop, ℕ, Bool, false, ◌||◌, List, [], ◌∷◌, ◌++◌, length, Some, Option, refl, sym, ap, ap₂, ◌∙◌, subst, arith}
-use Rattle.std.specs.Prelude.{flat_map, map, slice_get}
-use Rattle.std.specs.Option.{option_map_or}
-use Rattle.std.proofs.lemmas.List.{length-map}
-use Rattle.arrayvec.specs.ArrayString.{ArrayString}
-use Rattle.arrayvec.specs.ArrayVec.{ArrayVec, array_vec_len}
-use Rattle.lists.proofs.Indices.{at_below}
-use Rattle.lists.proofs.Members.{flat_map_map, flat_map_same}
+use Rattle.std.{proofs.{Common.{◌≡◌, ◌<◌, ◌+◌, ◌%◌, drop, ℕ, Bool, false, ◌||◌, List, [], ◌∷◌, ◌++◌, length, Some, Option, refl, sym, ap, ap₂, ◌∙◌, subst, arith}, lemmas.List.length-map}, specs.{Prelude.{flat_map, map, slice_get}, Option.option_map_or}}
+use Rattle.arrayvec.specs.{ArrayString.ArrayString, ArrayVec.{ArrayVec, array_vec_len}}
+use Rattle.lists.proofs.{Indices.at_below, Members.{flat_map_map, flat_map_same}}
 use Rattle.model_registers.specs.Registers.{File}
-use Rattle.model_board.specs.Paths.{Path}
-use Rattle.model_board.specs.Board.{Decl, IsBoard, Row, Board}
-use Rattle.model_board.specs.AtReset.{board_at}
-use Rattle.model_board.specs.State.{BoardFunction, State, row_at}
-use Rattle.model_guests.specs.Guests.{GuestsNow}
-use Rattle.model_guests.specs.WorldNow.{WorldNow, board_state, names_now}
-use Rattle.model_guests.proofs.Changes.{agreed_twice}
-use Rattle.model_handoff.specs.ViewLaws.{with_seated_reset}
-use Rattle.model_handoff.proofs.Keeping.{keeps_board}
-use Rattle.model_handoff.proofs.Regions.{state_stays}
-use Rattle.model_handoff.proofs.Views.{reset_shown}
-use Rattle.model_images.specs.Images.{values_of}
-use Rattle.model_images.specs.MachineImages.{SavedGuest, restored_guest}
-use Rattle.model_images.specs.MachineLaws.{IsSavableWorld}
-use Rattle.model_images.specs.ByteLaws.{AreBytes}
-use Rattle.model_images.specs.Layouts.{bytes_each, le_bytes}
-use Rattle.model_images.specs.MachineBytes.{board_layout, cells_layout, name_layout, row_layout}
-use Rattle.model_images.specs.LoadedMachines.{known_bytes, held_bytes, under_guests}
-use Rattle.images.specs.BoardBytes.{bytes_nth, held_file, row_bytes}
-use Rattle.images.specs.HeldLaws.{held_function}
-use Rattle.images.proofs.SeatedFunctions.{held_as_seated}
-use Rattle.images.specs.BoardBytes as own
-use Rattle.images.proofs.IndexedBytes.{drop_next}
+use Rattle.model_board.specs.{Paths.Path, Board.{Decl, IsBoard, Row, Board}, AtReset.board_at, State.{BoardFunction, State, row_at}}
+use Rattle.model_guests.{specs.{Guests.GuestsNow, WorldNow.{WorldNow, board_state, names_now}}, proofs.Changes.agreed_twice}
+use Rattle.model_handoff.{specs.ViewLaws.with_seated_reset, proofs.{Keeping.keeps_board, Regions.state_stays, Views.reset_shown}}
+use Rattle.model_images.specs.{Images.values_of, MachineImages.{SavedGuest, restored_guest}, MachineLaws.IsSavableWorld, ByteLaws.AreBytes, Layouts.{bytes_each, le_bytes}, MachineBytes.{board_layout, cells_layout, name_layout, row_layout}, LoadedMachines.{known_bytes, held_bytes, under_guests}}
+use Rattle.images.{specs.{BoardBytes.{bytes_nth, held_file, row_bytes}, HeldLaws.held_function}, proofs.{SeatedFunctions.held_as_seated, IndexedBytes.drop_next}}
 use Rattle.monitor.specs.Views.{texts}
-use Rattle.machine_images.specs.Judging.{functions_now, has_seat, held_under, paths_seated}
-use Rattle.machine_images.proofs.JudgedReads.{restored_sit}
+use Rattle.machine_images.{specs.Judging.{functions_now, has_seat, held_under, paths_seated}, proofs.JudgedReads.restored_sit}
+use Rattle.images.specs.BoardBytes as own
 
 -- ---- a board as bytes
 

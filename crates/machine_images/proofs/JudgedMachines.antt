@@ -1,20 +1,10 @@
 -- What a machine reads of bytes, from front to back, and what its guests then get.
-use Rattle.std.proofs.Common.{◌≡◌, ◌++◌, ℕ, List, [], ◌∷◌, Option, Some, Result, Ok, Err, length, ap, ◌∙◌, sym, arith}
-use Rattle.std.specs.Result.{result_err}
+use Rattle.std.{proofs.Common.{◌≡◌, ◌++◌, ℕ, List, [], ◌∷◌, Option, Some, Result, Ok, Err, length, ap, ◌∙◌, sym, arith}, specs.Result.result_err}
 use Rattle.lists.specs.Elements.{Each}
-use Rattle.model_board.specs.Paths.{Path}
-use Rattle.model_board.specs.State.{State}
+use Rattle.model_board.specs.{Paths.Path, State.State}
 use Rattle.model_guests.specs.WorldNow.{WorldNow, names_now}
-use Rattle.model_images.specs.MachineImages.{SavedGuest, MachineImage, saved_handoff}
-use Rattle.model_images.specs.MachineLaws.{IsSavableWorld}
-use Rattle.model_images.specs.Layouts.{le_bytes, parsed}
-use Rattle.model_images.specs.MachineBytes.{machine_magic, machine_version}
-use Rattle.model_images.specs.LoadedBytes.{Left, after_beginning, after_bytes, at_end, then_read}
-use Rattle.model_images.specs.LoadedMachines.{Read, and_then, held_bytes, known_bytes, load_all_fault, read_guests, read_held, read_machine, under_guests, with_paths}
-use Rattle.model_images.proofs.ReadMachines.{AreGoodGuests, guests_good}
-use Rattle.model_images.proofs.TakenMachines.{read_fits}
-use Rattle.machine_images.specs.Judging.{AreGuestsRead, IsPlanned, functions_now, held_under, paths_seated}
-use Rattle.machine_images.proofs.JudgedHandoffs.{held_is}
+use Rattle.model_images.{specs.{MachineImages.{SavedGuest, MachineImage, saved_handoff}, MachineLaws.IsSavableWorld, Layouts.{le_bytes, parsed}, MachineBytes.{machine_magic, machine_version}, LoadedBytes.{Left, after_beginning, after_bytes, at_end, then_read}, LoadedMachines.{Read, and_then, held_bytes, known_bytes, load_all_fault, read_guests, read_held, read_machine, under_guests, with_paths}}, proofs.{ReadMachines.{AreGoodGuests, guests_good}, TakenMachines.read_fits}}
+use Rattle.machine_images.{specs.Judging.{AreGuestsRead, IsPlanned, functions_now, held_under, paths_seated}, proofs.JudgedHandoffs.held_is}
 
 each_32 : (s : State) (taken : List Path) (gs : List SavedGuest) → AreGoodGuests s taken gs → Each (λ (g : SavedGuest). length g.paths ≡ 32) gs
 each_32 s taken [] good = tt

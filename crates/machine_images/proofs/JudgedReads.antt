@@ -1,13 +1,8 @@
 -- Lists that are read one element after the other, and the paths that are taken meanwhile.
-use Rattle.std.proofs.Common.{◌≡◌, ℕ, ◌||◌, List, [], ◌∷◌, ◌++◌, Some, None, Option, Ok, Err, refl, sym, ap, ◌∙◌, append_assoc, arith}
-use Rattle.std.specs.Prelude.{flat_map, map}
-use Rattle.std.specs.List.{list_any}
-use Rattle.std.proofs.lemmas.List.Folds.{list_any-append}
+use Rattle.std.{proofs.{Common.{◌≡◌, ℕ, ◌||◌, List, [], ◌∷◌, ◌++◌, Some, None, Option, Ok, Err, refl, sym, ap, ◌∙◌, append_assoc, arith}, lemmas.List.Folds.list_any-append}, specs.{Prelude.{flat_map, map}, List.list_any}}
 use Rattle.model_board.specs.Paths.{Path, path_eq}
 use Rattle.model_handoff.specs.ViewLaws.{is_at, sits}
-use Rattle.model_images.specs.MachineImages.{SavedGuest, restored_guest}
-use Rattle.model_images.specs.Layouts.{Parsed, parsed}
-use Rattle.model_images.specs.LoadedMachines.{Read, and_then, preceded, with_path, with_paths}
+use Rattle.model_images.specs.{MachineImages.{SavedGuest, restored_guest}, Layouts.{Parsed, parsed}, LoadedMachines.{Read, and_then, preceded, with_path, with_paths}}
 
 -- what is read, behind what was read before
 abbrev pub behind : {A : Type 0} → List A → Read (List A) → Read (List A)

@@ -1,43 +1,16 @@
 -- Functions by their index on a board, and by their path.
-use Rattle.std.proofs.Common.{◌≡◌, ◌<◌, ◌⊎◌, ℕ, Bool, false, cond, eqb, not, ◌&&◌, ◌||◌, List, [], ◌∷◌, Some, None, Option, Result, Ok, Err, length, refl, sym, ap, ap₂, ◌∙◌, subst, arith}
-use Rattle.std.specs.Prelude.{find, map, option_map, option_and_then, slice_get}
-use Rattle.std.specs.List.{list_any}
-use Rattle.std.specs.Option.{option_map_or}
-use Rattle.std.proofs.lemmas.Bool.Decides.{nat_tests}
-use Rattle.lists.proofs.EachLemmas.{pairs_from_map}
-use Rattle.lists.proofs.FirstFound.{found_passes}
-use Rattle.lists.proofs.Indices.{at_below, each_at, pair_at, same_at}
-use Rattle.model_registers.specs.Decoding.{Function}
-use Rattle.model_registers.specs.Declarations.{Endpoint}
-use Rattle.model_registers.specs.Registers.{File}
-use Rattle.model_board.specs.Paths.{Path, path_eq}
-use Rattle.model_board.specs.Board.{Decl}
-use Rattle.model_board.specs.AtReset.{board_at}
-use Rattle.model_board.specs.State.{BoardFunction, State}
-use Rattle.model_board.proofs.PathEnds.{path_self, path_eq-sym}
-use Rattle.model_board.proofs.PathOrder.{path_same}
-use Rattle.model_board.proofs.PlacesLaw.{before_apart}
+use Rattle.std.{proofs.{Common.{◌≡◌, ◌<◌, ◌⊎◌, ℕ, Bool, false, cond, eqb, not, ◌&&◌, ◌||◌, List, [], ◌∷◌, Some, None, Option, Result, Ok, Err, length, refl, sym, ap, ap₂, ◌∙◌, subst, arith}, lemmas.Bool.Decides.nat_tests}, specs.{Prelude.{find, map, option_map, option_and_then, slice_get}, List.list_any, Option.option_map_or}}
+use Rattle.lists.proofs.{EachLemmas.pairs_from_map, FirstFound.found_passes, Indices.{at_below, each_at, pair_at, same_at}}
+use Rattle.model_registers.specs.{Decoding.Function, Declarations.Endpoint, Registers.File}
+use Rattle.model_board.{specs.{Paths.{Path, path_eq}, Board.Decl, AtReset.board_at, State.{BoardFunction, State}}, proofs.{PathEnds.{path_self, path_eq-sym}, PathOrder.path_same, PlacesLaw.before_apart}}
 use Rattle.model_findings.specs.Orderly.{IsStateOfBoard}
-use Rattle.model_guests.specs.Slots.{Slots, reset_function}
-use Rattle.model_guests.specs.World.{declared, endpoint_of}
-use Rattle.model_guests.specs.Lone.{LoneGuest}
-use Rattle.model_guests.specs.WorldNow.{WorldNow, board_state}
-use Rattle.model_handoff.specs.Handoffs.{IsHandoff}
-use Rattle.model_handoff.specs.ViewLaws.{is_at}
-use Rattle.model_handoff.proofs.Functions.{Facts, facts}
-use Rattle.model_handoff.proofs.Keeping.{keeps_board}
-use Rattle.model_images.specs.LoadedBytes.{Left, after_beginning, after_bytes, after_image_front, after_latch, after_slot, after_slots_front, then_read}
-use Rattle.model_images.specs.ImageBytes.{magic, version}
-use Rattle.model_images.specs.Layouts.{Parsed, parsed}
-use Rattle.model_images.specs.LoadedMachines.{Read, can_have, is_open_there, read_slot}
+use Rattle.model_guests.specs.{Slots.{Slots, reset_function}, World.{declared, endpoint_of}, Lone.LoneGuest, WorldNow.{WorldNow, board_state}}
+use Rattle.model_handoff.{specs.{Handoffs.IsHandoff, ViewLaws.is_at}, proofs.{Functions.{Facts, facts}, Keeping.keeps_board}}
+use Rattle.model_images.specs.{LoadedBytes.{Left, after_beginning, after_bytes, after_image_front, after_latch, after_slot, after_slots_front, then_read}, ImageBytes.{magic, version}, Layouts.{Parsed, parsed}, LoadedMachines.{Read, can_have, is_open_there, read_slot}}
 use Rattle.bridge_forward.specs.Lending.{as_endpoint, endpoint_nth}
-use Rattle.images.specs.Shown.{after_filled}
-use Rattle.images.proofs.ComparedFunctions.{filled_is}
+use Rattle.images.{specs.{Shown.after_filled, FoundPaths.IsFoundPath}, proofs.ComparedFunctions.filled_is}
 use Rattle.monitor.proofs.TakenOver.{declared_there}
-use Rattle.images.specs.FoundPaths.{IsFoundPath}
-use Rattle.machine_images.specs.Judging.{functions_now, guest_seated, is_index, path_seated, paths_seated, slot_seated, taken_by}
-use Rattle.machine_images.proofs.JudgedReads.{is_taken}
-use Rattle.machine_images.proofs.JudgedSlots.{path_read}
+use Rattle.machine_images.{specs.Judging.{functions_now, guest_seated, is_index, path_seated, paths_seated, slot_seated, taken_by}, proofs.{JudgedReads.is_taken, JudgedSlots.path_read}}
 
 sides : (i j : ℕ) → eqb j i ≡ false → (i < j) ⊎ (j < i)
 sides i j e = grind (arith, nat_tests)

@@ -1,12 +1,7 @@
 -- What a machine reads of the bytes of a slot.
-use Rattle.std.proofs.Common.{◌≡◌, ℕ, cond, List, ◌∷◌, ◌++◌, Some, None, Option, Ok, Err, refl, ap, ◌∙◌, arith}
-use Rattle.std.specs.Prelude.{option_map}
-use Rattle.model_board.specs.Paths.{Path}
-use Rattle.model_board.specs.State.{State}
-use Rattle.model_images.specs.Layouts.{Parsed, parsed, seen, optional}
-use Rattle.model_images.specs.MachineBytes.{path_layout}
-use Rattle.model_images.specs.LoadedMachines.{Read, and_then, or_refused, can_have, if_free, read_slot}
-use Rattle.model_images.proofs.MachineBytes.{slot_path_is}
+use Rattle.std.{proofs.Common.{◌≡◌, ℕ, cond, List, ◌∷◌, ◌++◌, Some, None, Option, Ok, Err, refl, ap, ◌∙◌, arith}, specs.Prelude.option_map}
+use Rattle.model_board.specs.{Paths.Path, State.State}
+use Rattle.model_images.{specs.{Layouts.{Parsed, parsed, seen, optional}, MachineBytes.path_layout, LoadedMachines.{Read, and_then, or_refused, can_have, if_free, read_slot}}, proofs.MachineBytes.slot_path_is}
 
 abbrev parse : List ℕ → Option (Parsed (Option Path))
 parse bytes = (optional path_layout).parse bytes

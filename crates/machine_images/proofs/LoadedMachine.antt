@@ -1,29 +1,11 @@
 -- A machine that is emptied, filled and loaded as bytes say that it doesn't refuse.
-use Rattle.std.proofs.Common.{◌≡◌, ◌*◌, ℕ, List, [], ◌∷◌, ◌++◌, length, Option, Some, refl, sym, ap, ◌∙◌, subst, length-append, arith}
-use Rattle.std.specs.Prelude.{flat_map, map}
-use Rattle.std.specs.Result.{result_err}
-use Rattle.std.proofs.lemmas.List.{length-map}
+use Rattle.std.{proofs.{Common.{◌≡◌, ◌*◌, ℕ, List, [], ◌∷◌, ◌++◌, length, Option, Some, refl, sym, ap, ◌∙◌, subst, length-append, arith}, lemmas.List.length-map}, specs.{Prelude.{flat_map, map}, Result.result_err}}
 use Rattle.lists.specs.Elements.{Each}
 use Rattle.model_board.specs.Board.{Board}
-use Rattle.model_guests.specs.Text.{Text}
-use Rattle.model_guests.specs.WorldNow.{WorldNow, names_now}
+use Rattle.model_guests.specs.{Text.Text, WorldNow.{WorldNow, names_now}}
 use Rattle.model_handoff.specs.Changes.{MachineNow}
-use Rattle.model_images.specs.Requests.{Request, after_requests}
-use Rattle.model_images.specs.RequestLaws.{after_all_requests}
-use Rattle.model_images.specs.FitLaws.{AreFittingRequests}
-use Rattle.model_images.specs.MachineImages.{SavedGuest}
-use Rattle.model_images.specs.MachineLaws.{IsSavableWorld, load_of, takings}
-use Rattle.model_images.specs.ByteLaws.{AreBytes}
-use Rattle.model_images.specs.MachineBytes.{machine_of}
-use Rattle.model_images.specs.MachineByteLaws.{IsWritableMachine}
-use Rattle.model_images.proofs.MachineLoads.{loads_all_by_requests}
-use Rattle.model_images.proofs.ReadMachines.{same_ok}
-use Rattle.model_images.proofs.TakenMachines.{accepted_is_machine}
-use Rattle.model_images.proofs.Counts.{world_along}
-use Rattle.machine_images.specs.Judging.{AreRuns, IsPlanned, functions_now, paths_seated}
-use Rattle.machine_images.specs.Loading.{GivesSeats, LoadsAll, LoadsRuns}
-use Rattle.machine_images.proofs.Along.{board_of, both_along, fit_later}
-use Rattle.machine_images.proofs.LoadedWalks.{gifts_of, many_names, many_runs, same_along, same_many, same_paths}
+use Rattle.model_images.{specs.{Requests.{Request, after_requests}, RequestLaws.after_all_requests, FitLaws.AreFittingRequests, MachineImages.SavedGuest, MachineLaws.{IsSavableWorld, load_of, takings}, ByteLaws.AreBytes, MachineBytes.machine_of, MachineByteLaws.IsWritableMachine}, proofs.{MachineLoads.loads_all_by_requests, ReadMachines.same_ok, TakenMachines.accepted_is_machine, Counts.world_along}}
+use Rattle.machine_images.{specs.{Judging.{AreRuns, IsPlanned, functions_now, paths_seated}, Loading.{GivesSeats, LoadsAll, LoadsRuns}}, proofs.{Along.{board_of, both_along, fit_later}, LoadedWalks.{gifts_of, many_names, many_runs, same_along, same_many, same_paths}}}
 
 many_paths : (gs : List SavedGuest) → Each (λ (g : SavedGuest). length g.paths ≡ 32) gs → length (flat_map (λ (g : SavedGuest). g.paths) gs) ≡ 32 * length gs
 many_paths [] h = refl

@@ -1,35 +1,12 @@
 -- Walks over the guests of a machine: one is emptied, filled or loaded after the other.
-use Rattle.std.proofs.Common.{◌≡◌, ◌<◌, ◌+◌, ℕ, zero, suc, List, [], ◌∷◌, ◌++◌, length, drop, Some, None, Option, refl, sym, ap, ap₂, ◌∙◌, subst, arith}
-use Rattle.std.specs.Prelude.{flat_map, map, option_map, slice_get, unwrap_or}
-use Rattle.std.proofs.lemmas.List.{length-map, length-append, map-append}
-use Rattle.std.proofs.lemmas.Option.{slice_get-map}
+use Rattle.std.{proofs.{Common.{◌≡◌, ◌<◌, ◌+◌, ℕ, zero, suc, List, [], ◌∷◌, ◌++◌, length, drop, Some, None, Option, refl, sym, ap, ap₂, ◌∙◌, subst, arith}, lemmas.{List.{length-map, length-append, map-append}, Option.slice_get-map}}, specs.Prelude.{flat_map, map, option_map, slice_get, unwrap_or}}
 use Rattle.lists.proofs.Indices.{at_below, map_at, same_at}
-use Rattle.model_board.specs.Paths.{Path}
-use Rattle.model_board.specs.Board.{Row, Board}
-use Rattle.model_board.specs.AtReset.{board_at}
-use Rattle.model_board.specs.State.{BoardFunction}
-use Rattle.model_guests.specs.Text.{Text}
-use Rattle.model_guests.specs.Lone.{LoneGuest, reset_guest}
-use Rattle.model_guests.specs.Guests.{GuestNow, lone_of}
-use Rattle.model_guests.specs.WorldNow.{WorldNow, names_now}
-use Rattle.model_handoff.specs.Actions.{takes}
-use Rattle.model_handoff.specs.Changes.{MachineNow, after_on_machine}
-use Rattle.model_handoff.proofs.Keeping.{keeps_board}
-use Rattle.model_images.specs.Images.{Fits}
-use Rattle.model_images.specs.Requests.{Request, loads}
-use Rattle.model_images.specs.RequestLaws.{after_request_on_machine, after_all_requests}
-use Rattle.model_images.specs.FitLaws.{AreFittingRequests}
-use Rattle.model_images.specs.MachineImages.{SavedGuest}
-use Rattle.model_images.specs.MachineLaws.{gift, gifts, load_of, takings}
-use Rattle.model_images.specs.LoadedBytes.{load_fault}
-use Rattle.model_images.specs.LoadedMachines.{guest_at}
-use Rattle.model_images.specs.LoadedLaws.{IsFittingImage}
-use Rattle.monitor.specs.ByIndex.{name_nth}
-use Rattle.monitor.specs.Loads.{IsLoaded}
-use Rattle.machine_images.specs.Judging.{IsRunOf, AreRuns, functions_now, path_seated, paths_seated}
-use Rattle.machine_images.specs.Loading.{GivesSeats, LoadsRuns}
-use Rattle.machine_images.proofs.AlikeGuests.{alike_faults, same_image}
-use Rattle.machine_images.proofs.Along.{board_along, board_of, both_along, names_along}
+use Rattle.model_board.specs.{Paths.Path, Board.{Row, Board}, AtReset.board_at, State.BoardFunction}
+use Rattle.model_guests.specs.{Text.Text, Lone.{LoneGuest, reset_guest}, Guests.{GuestNow, lone_of}, WorldNow.{WorldNow, names_now}}
+use Rattle.model_handoff.{specs.{Actions.takes, Changes.{MachineNow, after_on_machine}}, proofs.Keeping.keeps_board}
+use Rattle.model_images.specs.{Images.Fits, Requests.{Request, loads}, RequestLaws.{after_request_on_machine, after_all_requests}, FitLaws.AreFittingRequests, MachineImages.SavedGuest, MachineLaws.{gift, gifts, load_of, takings}, LoadedBytes.load_fault, LoadedMachines.guest_at, LoadedLaws.IsFittingImage}
+use Rattle.monitor.specs.{ByIndex.name_nth, Loads.IsLoaded}
+use Rattle.machine_images.{specs.{Judging.{IsRunOf, AreRuns, functions_now, path_seated, paths_seated}, Loading.{GivesSeats, LoadsRuns}}, proofs.{AlikeGuests.{alike_faults, same_image}, Along.{board_along, board_of, both_along, names_along}}}
 
 -- ---- guests by their index
 

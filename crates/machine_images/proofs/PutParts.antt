@@ -6,14 +6,9 @@
 --     rest_fits, both_put      two parts
 --     IsCounted f xs i before size      how many bytes there are with the first i parts of a list, after others
 --     count_begun, count_next, count_done      before the first, after one more, and after the last
-use Rattle.std.proofs.Common.{◌≡◌, ◌+◌, ◌^◌, ◌<◌, ◌≤◌, ℕ, List, [], ◌++◌, length, drop, Option, refl, sym, ap, ◌∙◌, subst, arith, length-append}
-use Rattle.std.specs.Prelude.{flat_map, slice_get, unwrap_or}
-use Rattle.std.specs.Option.{option_map_or}
-use Rattle.std.proofs.lemmas.List.{append-nil, drop_all}
+use Rattle.std.{proofs.{Common.{◌≡◌, ◌+◌, ◌^◌, ◌<◌, ◌≤◌, ℕ, List, [], ◌++◌, length, drop, Option, refl, sym, ap, ◌∙◌, subst, arith, length-append}, lemmas.List.{append-nil, drop_all}}, specs.{Prelude.{flat_map, slice_get, unwrap_or}, Option.option_map_or}}
 use Rattle.lists.proofs.Indices.{at_below}
-use Rattle.images.specs.Puts.{put}
-use Rattle.images.proofs.Puts.{next, put_none}
-use Rattle.images.proofs.IndexedBytes.{drop_next}
+use Rattle.images.{specs.Puts.put, proofs.{Puts.{next, put_none}, IndexedBytes.drop_next}}
 use Rattle.machine_images.specs.SavedParts.{IsPut, capped, part_nth}
 
 pub record IsLeft (whole rest : List ℕ) (at n : ℕ) (before now : List ℕ) : Type 0 where

@@ -1,27 +1,10 @@
 -- The bytes of a machine's image are its parts.
-use Rattle.std.proofs.Common.{◌≡◌, ◌+◌, ℕ, List, [], ◌∷◌, ◌++◌, length, refl, sym, ap, ap₂, arith, length-append}
-use Rattle.std.specs.Prelude.{map, flat_map}
-use Rattle.std.proofs.lemmas.List.{length-map}
-use Rattle.lists.proofs.Members.{flat_map_map}
-use Rattle.lists.specs.Elements.{Each}
-use Rattle.model_board.specs.Board.{Board}
-use Rattle.model_board.specs.AtReset.{board_at}
-use Rattle.model_board.specs.State.{BoardFunction, State, row_at}
-use Rattle.model_guests.specs.Guests.{GuestsNow}
-use Rattle.model_guests.specs.World.{declared, endpoint_of}
-use Rattle.model_guests.specs.WorldNow.{WorldNow, board_state}
-use Rattle.model_guests.specs.AgreedBoard.{agreed_function}
-use Rattle.model_handoff.specs.Kept.{IsLawfulOver}
-use Rattle.model_handoff.specs.ViewLaws.{seated_files, with_seated_reset}
-use Rattle.model_handoff.proofs.Functions.{Facts, facts}
-use Rattle.model_handoff.proofs.Keeping.{rows_stay}
-use Rattle.model_handoff.proofs.Regions.{state_stays}
-use Rattle.model_handoff.proofs.Views.{reset_shown}
-use Rattle.model_images.specs.Images.{values_of}
-use Rattle.model_images.specs.MachineImages.{image_of_machine, saved_guest, saved_handoff, shown_handoff, values_in}
-use Rattle.model_images.specs.LoadedMachines.{machine_header}
-use Rattle.model_images.specs.Layouts.{bytes_each, le_bytes}
-use Rattle.model_images.specs.MachineBytes.{cells_layout, guest_layout, machine_bytes, row_layout}
+use Rattle.std.{proofs.{Common.{◌≡◌, ◌+◌, ℕ, List, [], ◌∷◌, ◌++◌, length, refl, sym, ap, ap₂, arith, length-append}, lemmas.List.length-map}, specs.Prelude.{map, flat_map}}
+use Rattle.lists.{proofs.Members.flat_map_map, specs.Elements.Each}
+use Rattle.model_board.specs.{Board.Board, AtReset.board_at, State.{BoardFunction, State, row_at}}
+use Rattle.model_guests.specs.{Guests.GuestsNow, World.{declared, endpoint_of}, WorldNow.{WorldNow, board_state}, AgreedBoard.agreed_function}
+use Rattle.model_handoff.{specs.{Kept.IsLawfulOver, ViewLaws.{seated_files, with_seated_reset}}, proofs.{Functions.{Facts, facts}, Keeping.rows_stay, Regions.state_stays, Views.reset_shown}}
+use Rattle.model_images.specs.{Images.values_of, MachineImages.{image_of_machine, saved_guest, saved_handoff, shown_handoff, values_in}, LoadedMachines.machine_header, Layouts.{bytes_each, le_bytes}, MachineBytes.{cells_layout, guest_layout, machine_bytes, row_layout}}
 use Rattle.images.specs.BoardBytes.{held_cells, row_bytes}
 use Rattle.machine_images.specs.SavedParts.{board_bytes, guest_bytes, guests_bytes, held_now, name_bytes, own_bytes, saved_bytes, seat_bytes}
 

@@ -6,34 +6,16 @@
 --     many_seats, seat_there      its slots
 --     guest_count, many_guests      how many bytes it has, and how many guests there are
 --     held_count      how many bytes the handoff has of a function of the board
-use Rattle.std.proofs.Common.{◌≡◌, ◌+◌, ◌*◌, ◌-◌, ◌%◌, ◌<◌, ◌≤◌, ℕ, Bool, List, [], ◌∷◌, ◌++◌, length, get_or, Fits, w8, Some, None, Option, refl, sym, ap, ap₂, ◌∙◌, arith, length-append, length-drop}
-use Rattle.std.specs.Prelude.{flat_map, map, slice_get, unwrap_or}
-use Rattle.std.specs.Option.{option_map_or}
-use Rattle.std.proofs.lemmas.List.{append-nil, drop-drop, drop_all, length-map, take_rest}
+use Rattle.std.{proofs.{Common.{◌≡◌, ◌+◌, ◌*◌, ◌-◌, ◌%◌, ◌<◌, ◌≤◌, ℕ, Bool, List, [], ◌∷◌, ◌++◌, length, get_or, Fits, w8, Some, None, Option, refl, sym, ap, ap₂, ◌∙◌, arith, length-append, length-drop}, lemmas.List.{append-nil, drop-drop, drop_all, length-map, take_rest}}, specs.{Prelude.{flat_map, map, slice_get, unwrap_or}, Option.option_map_or}}
 use Rattle.lists.proofs.Indices.{at_below, at_map, each_at, map_at}
 use Rattle.arrayvec.specs.ArrayString.{ArrayString}
-use Rattle.model_board.specs.Paths.{Path}
-use Rattle.model_board.specs.AtReset.{board_at}
-use Rattle.model_board.specs.State.{BoardFunction}
-use Rattle.model_guests.specs.Text.{Text}
-use Rattle.model_guests.specs.Lone.{reset_guest}
-use Rattle.model_guests.specs.Guests.{GuestNow, GuestsNow}
-use Rattle.model_guests.specs.WorldNow.{WorldNow, names_now}
-use Rattle.model_guests.specs.Seated.{IsSeatedGuest}
-use Rattle.model_guests.proofs.Along.{by_index}
-use Rattle.model_handoff.specs.ViewLaws.{sits}
-use Rattle.model_handoff.specs.Kept.{IsLawfulOver}
-use Rattle.model_images.specs.Images.{image_of_guest, image_of_lone}
-use Rattle.model_images.specs.ImageBytes.{image_bytes}
-use Rattle.model_images.specs.Layouts.{le_bytes}
-use Rattle.model_images.proofs.Numbers.{one_each}
-use Rattle.images.specs.Puts.{put}
-use Rattle.images.specs.BoardBytes.{bytes_nth, held_cells, path_bytes}
-use Rattle.images.proofs.FoundParts.{AreBytes, are_bytes}
-use Rattle.images.proofs.RowBytes.{path_length}
+use Rattle.model_board.specs.{Paths.Path, AtReset.board_at, State.BoardFunction}
+use Rattle.model_guests.{specs.{Text.Text, Lone.reset_guest, Guests.{GuestNow, GuestsNow}, WorldNow.{WorldNow, names_now}, Seated.IsSeatedGuest}, proofs.Along.by_index}
+use Rattle.model_handoff.specs.{ViewLaws.sits, Kept.IsLawfulOver}
+use Rattle.model_images.{specs.{Images.{image_of_guest, image_of_lone}, ImageBytes.image_bytes, Layouts.le_bytes}, proofs.Numbers.one_each}
+use Rattle.images.{specs.{Puts.put, BoardBytes.{bytes_nth, held_cells, path_bytes}}, proofs.{FoundParts.{AreBytes, are_bytes}, RowBytes.path_length}}
 use Rattle.monitor.specs.ByIndex.{guest_nth, name_nth}
-use Rattle.machine_images.specs.SavedParts.{IsPut, guest_bytes, held_now, name_bytes, own_bytes, part_nth, seat_bytes}
-use Rattle.machine_images.proofs.PutParts.{nth_is}
+use Rattle.machine_images.{specs.SavedParts.{IsPut, guest_bytes, held_now, name_bytes, own_bytes, part_nth, seat_bytes}, proofs.PutParts.nth_is}
 use borrow.Rule.Slice.PartMut.{mid_of, put_mid}
 
 -- ---- paths and names

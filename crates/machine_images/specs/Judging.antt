@@ -10,29 +10,13 @@
 --     IsRunOf b g run, AreRuns b gs runs      the run of bytes that holds the image of a guest; of each guest
 --     AreSlotsRead, IsGuestRead, AreGuestsRead      slots, a guest with its run, and all guests with theirs that were read
 --     IsPlanned w bytes seats runs      the slots and the runs of all guests of a machine that bytes hold and that fits
-use Rattle.std.specs.Prelude.{List, [], ◌∷◌, ◌++◌, ◌≡◌, ℕ, ◌==◌, Bool, false, ◌||◌, length, map, flat_map, option_map, slice_get}
-use Rattle.std.specs.Prelude.{Option, None, option_and_then, Ok, ⊤}
-use Rattle.std.specs.List.{list_any}
-use Rattle.std.specs.Option.{option_map_or}
+use Rattle.std.specs.{Prelude.{List, [], ◌∷◌, ◌++◌, ◌≡◌, ℕ, ◌==◌, Bool, false, ◌||◌, length, map, flat_map, option_map, slice_get, Option, None, option_and_then, Ok, ⊤}, List.list_any, Option.option_map_or}
 use Rattle.lists.specs.Elements.{Each}
 use Rattle.model_registers.specs.Decoding.{Function}
-use Rattle.model_board.specs.Paths.{Path}
-use Rattle.model_board.specs.Board.{Board}
-use Rattle.model_board.specs.AtReset.{board_at}
-use Rattle.model_board.specs.State.{BoardFunction}
-use Rattle.model_guests.specs.Lone.{LoneGuest}
-use Rattle.model_guests.specs.Slots.{reset_function}
-use Rattle.model_guests.specs.Text.{Text}
-use Rattle.model_guests.specs.World.{declared}
-use Rattle.model_guests.specs.WorldNow.{WorldNow, board_state, names_now}
-use Rattle.model_handoff.specs.Kept.{IsLawfulOver}
-use Rattle.model_handoff.specs.ViewLaws.{is_at, sits}
-use Rattle.model_images.specs.Images.{Fits}
-use Rattle.model_images.specs.MachineImages.{SavedGuest, MachineImage, FitsMachine}
-use Rattle.model_images.specs.Layouts.{parsed}
-use Rattle.model_images.specs.LoadedBytes.{load_fault}
-use Rattle.model_images.specs.TakenBytes.{taken_image}
-use Rattle.model_images.specs.LoadedMachines.{with_paths, read_slots, guest_at, read_guest, read_guests, read_machine}
+use Rattle.model_board.specs.{Paths.Path, Board.Board, AtReset.board_at, State.BoardFunction}
+use Rattle.model_guests.specs.{Lone.LoneGuest, Slots.reset_function, Text.Text, World.declared, WorldNow.{WorldNow, board_state, names_now}}
+use Rattle.model_handoff.specs.{Kept.IsLawfulOver, ViewLaws.{is_at, sits}}
+use Rattle.model_images.specs.{Images.Fits, MachineImages.{SavedGuest, MachineImage, FitsMachine}, Layouts.parsed, LoadedBytes.load_fault, TakenBytes.taken_image, LoadedMachines.{with_paths, read_slots, guest_at, read_guest, read_guests, read_machine}}
 use Rattle.images.specs.BoardBytes.{held_cells}
 
 abbrev pub functions_now : WorldNow → List BoardFunction

@@ -7,11 +7,7 @@ use Rattle.lists.specs.Elements.{Each}
 use Rattle.model_board.specs.AtReset.{board_at}
 use Rattle.model_guests.specs.WorldNow.{names_now}
 use Rattle.model_handoff.specs.Changes.{MachineNow}
-use Rattle.model_images.specs.FitLaws.{AreFittingRequests}
-use Rattle.model_images.specs.MachineImages.{SavedGuest, MachineImage, FitsMachine}
-use Rattle.model_images.specs.MachineLaws.{after_load_all_on_machine, load_of}
-use Rattle.model_images.specs.MachineBytes.{machine_of}
-use Rattle.model_images.specs.LoadedMachines.{read_machine}
+use Rattle.model_images.specs.{FitLaws.AreFittingRequests, MachineImages.{SavedGuest, MachineImage, FitsMachine}, MachineLaws.{after_load_all_on_machine, load_of}, MachineBytes.machine_of, LoadedMachines.read_machine}
 use Rattle.machine_images.specs.Judging.{AreRuns, functions_now, paths_seated}
 
 pub record LoadsAll (m : MachineNow) (bytes : List ℕ) (new : MachineNow) : Type 0 where

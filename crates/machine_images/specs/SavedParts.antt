@@ -8,20 +8,12 @@
 --     part_nth f xs i      the bytes of the element at an index; none past the last
 --     IsPut part at before next after      a buffer in which the part was put from an index on, and the index behind it
 --     capped n      the number, or the greatest that a machine word has
-use Rattle.std.specs.Prelude.{List, [], ◌≡◌, ℕ, ◌+◌, ◌^◌, ◌-◌, ◌++◌, Option, length, flat_map, min, slice_get}
-use Rattle.std.specs.Option.{option_map_or}
-use Rattle.model_board.specs.Paths.{Path}
-use Rattle.model_board.specs.State.{BoardFunction}
-use Rattle.model_guests.specs.Text.{Text}
-use Rattle.model_guests.specs.Guests.{GuestNow, GuestsNow}
+use Rattle.std.specs.{Prelude.{List, [], ◌≡◌, ℕ, ◌+◌, ◌^◌, ◌-◌, ◌++◌, Option, length, flat_map, min, slice_get}, Option.option_map_or}
+use Rattle.model_board.specs.{Paths.Path, State.BoardFunction}
+use Rattle.model_guests.specs.{Text.Text, Guests.{GuestNow, GuestsNow}}
 use Rattle.model_handoff.specs.ViewLaws.{sits}
-use Rattle.model_images.specs.Images.{image_of_lone}
-use Rattle.model_images.specs.Layouts.{le_bytes, optional}
-use Rattle.model_images.specs.ImageBytes.{image_bytes}
-use Rattle.model_images.specs.LoadedMachines.{machine_header}
-use Rattle.model_images.specs.MachineBytes.{name_layout, path_layout}
-use Rattle.images.specs.Puts.{put}
-use Rattle.images.specs.BoardBytes.{held_cells, row_bytes}
+use Rattle.model_images.specs.{Images.image_of_lone, Layouts.{le_bytes, optional}, ImageBytes.image_bytes, LoadedMachines.machine_header, MachineBytes.{name_layout, path_layout}}
+use Rattle.images.specs.{Puts.put, BoardBytes.{held_cells, row_bytes}}
 
 abbrev pub board_bytes : List BoardFunction → List ℕ
 board_bytes fs = le_bytes 4 (length fs) ++ flat_map row_bytes fs

@@ -1,7 +1,6 @@
 //! What the image of a machine begins with, and counts as bytes, least byte first.
 ghost use Rattle.std.specs.Prelude.{◌≡◌};
-ghost use Rattle.model_images.specs.Layouts.{le_bytes};
-ghost use Rattle.model_images.specs.LoadedMachines.{machine_header};
+ghost use Rattle.model_images.specs.{Layouts.le_bytes, LoadedMachines.machine_header};
 
 /// What the image of a machine begins with: `PCIM`, and the version of the format.
 pub(crate) fn header() -> [u8; 8]

@@ -1,17 +1,13 @@
 //! Whether bytes can be loaded into a machine, and what its guests get of them. They are compared
 //! with what it has, from front to back, and the first that fails decides.
 ghost use Rattle.std.specs.Prelude.{◌≡◌, ◌≤◌, ◌+◌, ◌++◌, [], Some, Ok, Err, IfErr, IfOk, length, map, option_map, slice_get};
-ghost use Rattle.model_board.specs.AtReset.{board_at};
-ghost use Rattle.model_board.specs.State.{BoardFunction};
+ghost use Rattle.model_board.specs.{AtReset.board_at, State.BoardFunction};
 ghost use Rattle.model_findings.specs.Orderly.{IsStateOfBoard};
 ghost use Rattle.model_guests.specs.WorldNow.{names_now};
-ghost use Rattle.model_images.specs.Layouts.{le_bytes};
-ghost use Rattle.model_images.specs.LoadedBytes.{after_beginning, after_bytes, at_end, then_read};
-ghost use Rattle.model_images.specs.LoadedMachines.{load_all_fault, read_guest, read_guests};
-ghost use Rattle.model_images.specs.MachineBytes.{board_layout, machine_magic, machine_version, name_layout};
-ghost use Rattle.images.specs.Faults as image;
+ghost use Rattle.model_images.specs.{Layouts.le_bytes, LoadedBytes.{after_beginning, after_bytes, at_end, then_read}, LoadedMachines.{load_all_fault, read_guest, read_guests}, MachineBytes.{board_layout, machine_magic, machine_version, name_layout}};
 ghost use Rattle.images.specs.MachineFaults.{number_of};
 ghost use Rattle.machine_images.specs.Judging.{AreGuestsRead, IsGuestRead, IsPlanned, functions_now, has_seat, held_under, taken_by};
+ghost use Rattle.images.specs.Faults as image;
 
 use crate::heading::{four, two};
 use crate::seats::{Seats, after_image, is_taken, read_slots};

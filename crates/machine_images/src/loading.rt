@@ -2,15 +2,10 @@
 //! and which bytes hold the image of each guest. Then all slots are emptied and filled again, and each guest is loaded.
 ghost use Rattle.std.specs.Prelude.{◌≡◌, ◌≤◌, ◌<◌, ◌+◌, ◌*◌, List, None, IfSome, IsSome, flat_map, length, map, option_map};
 ghost use Rattle.model_guests.specs.WorldNow.{names_now};
-ghost use Rattle.model_images.specs.MachineImages.{SavedGuest};
-ghost use Rattle.model_images.specs.MachineLaws.{gift, gifts, load_of, takings};
-ghost use Rattle.model_images.specs.RequestLaws.{after_all_requests};
-ghost use Rattle.model_images.specs.LoadedMachines.{load_all_fault};
-ghost use Rattle.model_images.specs.MachineBytes.{machine_of};
+ghost use Rattle.model_images.specs.{MachineImages.SavedGuest, MachineLaws.{gift, gifts, load_of, takings}, RequestLaws.after_all_requests, LoadedMachines.load_all_fault, MachineBytes.machine_of};
 ghost use Rattle.images.specs.MachineFaults.{number_of};
 ghost use Rattle.monitor.specs.ByIndex.{name_nth};
-ghost use Rattle.machine_images.specs.Judging.{functions_now, path_seated, paths_seated};
-ghost use Rattle.machine_images.specs.Loading.{GivesSeats, LoadsAll, LoadsRuns};
+ghost use Rattle.machine_images.specs.{Judging.{functions_now, path_seated, paths_seated}, Loading.{GivesSeats, LoadsAll, LoadsRuns}};
 
 use crate::judging::judge;
 use arrayvec::ArrayVec;

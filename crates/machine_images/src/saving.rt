@@ -1,12 +1,8 @@
 //! The image of a machine as it is now: how many bytes it has, and writing it into a buffer. No call takes memory.
 ghost use Rattle.std.specs.Prelude.{◌≡◌, ◌≤◌, ◌<◌, ◌+◌, length, flat_map};
 ghost use Rattle.model_guests.specs.WorldNow.{WorldNow, board_state};
-ghost use Rattle.model_images.specs.MachineImages.{image_of_machine};
-ghost use Rattle.model_images.specs.LoadedMachineLaws.{IsTaken};
-ghost use Rattle.model_images.specs.MachineLaws.{AreAlike, IsSavableWorld};
-ghost use Rattle.model_images.specs.MachineBytes.{machine_bytes};
-ghost use Rattle.images.specs.Puts.{put};
-ghost use Rattle.images.specs.BoardBytes.{row_bytes};
+ghost use Rattle.model_images.specs.{MachineImages.image_of_machine, LoadedMachineLaws.IsTaken, MachineLaws.{AreAlike, IsSavableWorld}, MachineBytes.machine_bytes};
+ghost use Rattle.images.specs.{Puts.put, BoardBytes.row_bytes};
 ghost use Rattle.monitor.specs.ByIndex.{guest_nth};
 ghost use Rattle.machine_images.specs.SavedParts.{IsPut, board_bytes, capped, guest_bytes, guests_bytes, held_now, name_bytes, own_bytes, part_nth, saved_bytes, seat_bytes};
 

@@ -1,17 +1,13 @@
 //! The slots of guests as bytes have them: which function of the board stands in each, and what
 //! its image holds.
-ghost use Rattle.std.specs.Prelude.{◌≡◌, ◌≤◌, ◌+◌, ◌∷◌, Ok, Err, Some, IfErr, IfOk, length, map, option_copied, slice_get};
-ghost use Rattle.std.specs.Prelude.{option_and_then};
-ghost use Rattle.std.specs.List.{list_any};
+ghost use Rattle.std.specs.{Prelude.{◌≡◌, ◌≤◌, ◌+◌, ◌∷◌, Ok, Err, Some, IfErr, IfOk, length, map, option_copied, slice_get, option_and_then}, List.list_any};
 ghost use Rattle.model_findings.specs.Orderly.{IsStateOfBoard};
 ghost use Rattle.model_board.specs.State.{BoardFunction};
-ghost use Rattle.model_images.specs.Layouts.{parsed};
-ghost use Rattle.model_images.specs.LoadedBytes.{after_image_front, after_slot, after_slots_front};
-ghost use Rattle.model_images.specs.LoadedMachines.{can_have, read_slot, read_slots};
+ghost use Rattle.model_images.specs.{Layouts.parsed, LoadedBytes.{after_image_front, after_slot, after_slots_front}, LoadedMachines.{can_have, read_slot, read_slots}};
 ghost use Rattle.bridge_forward.specs.Lending.{endpoint_nth};
-ghost use Rattle.images.specs.Faults as image;
 ghost use Rattle.images.specs.MachineFaults.{number_of};
 ghost use Rattle.machine_images.specs.Judging.{AreSlotsRead, functions_now, guest_seated, is_index, path_seated, slot_seated, taken_by};
+ghost use Rattle.images.specs.Faults as image;
 
 use arrayvec::ArrayVec;
 use bridge_forward::EndpointFn;

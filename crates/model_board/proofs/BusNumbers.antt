@@ -1,13 +1,7 @@
 -- Bus numbers as counts say where a bridge stands.
-use Rattle.std.proofs.lemmas.Grind.{common_steps}
-use Rattle.std.proofs.Common.{◌≡◌, ℕ, ◌+◌, ◌≤◌, Bool, true, false, ◌&&◌, [], ◌∷◌, refl, arith}
-use Rattle.std.specs.Prelude.{count_by, IsTrue}
-use Rattle.std.proofs.lemmas.List.Sums.{sum_by-cons}
+use Rattle.std.{proofs.{lemmas.{Grind.common_steps, List.Sums.sum_by-cons}, Common.{◌≡◌, ℕ, ◌+◌, ◌≤◌, Bool, true, false, ◌&&◌, [], ◌∷◌, refl, arith}}, specs.Prelude.{count_by, IsTrue}}
 use Rattle.lists.specs.Elements.{Each, EachPair}
-use Rattle.model_board.specs.Board.{Board, Row, is_bridge, is_bridge_at}
-use Rattle.model_board.specs.Paths.{Path, path_eq, path_before, leads_to}
-use Rattle.model_board.specs.Numbering.{Numbering}
-use Rattle.model_board.proofs.PathOrder.{one, before_trans, behind_trans, behind_bound, leads_before, path_same}
+use Rattle.model_board.{specs.{Board.{Board, Row, is_bridge, is_bridge_at}, Paths.{Path, path_eq, path_before, leads_to}, Numbering.Numbering}, proofs.PathOrder.{one, before_trans, behind_trans, behind_bound, leads_before, path_same}}
 
 -- how many bridges of the board pass a test of their paths
 abbrev pub bridges : (Path → Bool) → Board → ℕ

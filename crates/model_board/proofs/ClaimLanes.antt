@@ -1,10 +1,7 @@
 -- A region begins at a multiple of 4, so an access lies in the same byte lanes in the region as at its address.
 use Rattle.std.proofs.Common.{◌≡◌, ℕ, ◌%◌, List, Some, arith}
-use Rattle.model_registers.proofs.HitRegions.{hit_is_of_region}
-use Rattle.model_registers.specs.Decoding.{Space}
-use Rattle.model_board.specs.State.{BoardFunction}
-use Rattle.model_board.specs.Claims.{Claim, claim_of}
-use Rattle.model_board.specs.PortLaws.{ClaimsKeepLanes}
+use Rattle.model_registers.{proofs.HitRegions.hit_is_of_region, specs.Decoding.Space}
+use Rattle.model_board.specs.{State.BoardFunction, Claims.{Claim, claim_of}, PortLaws.ClaimsKeepLanes}
 use Rattle.lists.proofs.FirstFound.{first_some_has}
 
 function_in_lane : (fs : List BoardFunction) (space : Space) (a : ℕ) (f : BoardFunction) (c : Claim) → claim_of fs space a f ≡ Some c → c.offset % 4 ≡ a % 4

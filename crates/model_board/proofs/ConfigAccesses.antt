@@ -1,8 +1,6 @@
 -- An access of 1, 2 or 4 bytes to a function is one of enabled bytes of a word.
 use Rattle.std.proofs.Common.{◌≡◌, inl, inr, ℕ, zero, suc, ◌+◌, ◌-◌, ◌*◌, ◌/◌, ◌^◌, ◌≤◌, refl, sym, subst, arith, rules}
-use Rattle.model_registers.specs.Registers.{all_bytes}
-use Rattle.model_registers.specs.ByteEnables.{IsWidth, lanes, enabled_bits}
-use Rattle.model_registers.proofs.ByteAccesses.{aligned_lies_in_word, number_by_lanes, write_by_lanes}
+use Rattle.model_registers.{specs.{Registers.all_bytes, ByteEnables.{IsWidth, lanes, enabled_bits}}, proofs.ByteAccesses.{aligned_lies_in_word, number_by_lanes, write_by_lanes}}
 use Rattle.model_board.specs.PortLaws.{ConfigReadByLanes, ConfigWriteByLanes, PortsWhileNotEnabled}
 
 -- all ones in the lanes of an access are all ones of its width

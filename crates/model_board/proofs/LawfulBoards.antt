@@ -1,14 +1,8 @@
 -- The main board of the worked examples is a board, and its declarations are lawful.
-use Rattle.std.proofs.Common.{arith}
-use Rattle.std.proofs.Common.{◌≡◌, ℕ, ◌≤◌, ◌<◌, ◌^◌, List, [], ◌∷◌, length, refl, lit≤}
-use Rattle.std.specs.Prelude.{bit_and}
+use Rattle.std.{proofs.Common.{arith, ◌≡◌, ℕ, ◌≤◌, ◌<◌, ◌^◌, List, [], ◌∷◌, length, refl, lit≤}, specs.Prelude.bit_and}
 use Rattle.lists.specs.Elements.{Each}
-use Rattle.model_registers.specs.Declarations.{Region, HasLawfulRegions}
-use Rattle.model_registers.specs.DeclarationRules.{IsLawfulEndpoint}
-use Rattle.model_board.specs.Paths.{IsPath}
-use Rattle.model_board.specs.Board.{IsBoard}
-use Rattle.model_board.specs.Lawful.{HasLawfulDecls}
-use Rattle.model_board.specs.Examples.{part, plain, first_endpoint, second_endpoint, third_endpoint, main_board}
+use Rattle.model_registers.specs.{Declarations.{Region, HasLawfulRegions}, DeclarationRules.IsLawfulEndpoint}
+use Rattle.model_board.specs.{Paths.IsPath, Board.IsBoard, Lawful.HasLawfulDecls, Examples.{part, plain, first_endpoint, second_endpoint, third_endpoint, main_board}}
 
 on_bus_0 : (d : ℕ) → d < 16 → IsPath (part d 0 ∷ [])
 on_bus_0 d h = grind arith

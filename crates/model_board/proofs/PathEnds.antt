@@ -1,9 +1,6 @@
 -- The last part of a path, and what leads to a path.
-use Rattle.std.proofs.lemmas.Grind.{common_steps}
-use Rattle.std.proofs.Common.{◌≡◌, ◌+◌, ◌<◌, ◌⊎◌, true, [], ◌∷◌, ◌++◌, length, refl, ap, arith}
-use Rattle.std.proofs.lemmas.Bool.Decides.{nat_tests}
-use Rattle.model_board.specs.Paths.{Part, Path, part_eq, path_eq, path_before, leads_to, parent, last_part}
-use Rattle.model_board.proofs.PathOrder.{one, before_trans, path_same, part_self}
+use Rattle.std.proofs.{lemmas.{Grind.common_steps, Bool.Decides.nat_tests}, Common.{◌≡◌, ◌+◌, ◌<◌, ◌⊎◌, true, [], ◌∷◌, ◌++◌, length, refl, ap, arith}}
+use Rattle.model_board.{specs.Paths.{Part, Path, part_eq, path_eq, path_before, leads_to, parent, last_part}, proofs.PathOrder.{one, before_trans, path_same, part_self}}
 use Rattle.lists.proofs.Tests.{left_true, right_true}
 
 pub path_self : (p : Path) → path_eq p p ≡ true

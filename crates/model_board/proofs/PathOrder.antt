@@ -1,8 +1,5 @@
 -- Path order, seen from a third path.
-use Rattle.std.proofs.lemmas.Grind.{common_steps}
-use Rattle.std.proofs.Common.{◌≡◌, ℕ, ◌+◌, ◌≤◌, Bool, true, false, ◌&&◌, ◌||◌, cond, [], ◌∷◌, refl, ap₂, arith, rules}
-use Rattle.std.proofs.lemmas.Bool.Decides.{nat_tests}
-use Rattle.std.proofs.lemmas.Bool.{eqb-true}
+use Rattle.std.proofs.{lemmas.{Grind.common_steps, Bool.{Decides.nat_tests, eqb-true}}, Common.{◌≡◌, ℕ, ◌+◌, ◌≤◌, Bool, true, false, ◌&&◌, ◌||◌, cond, [], ◌∷◌, refl, ap₂, arith, rules}}
 use Rattle.model_board.specs.Paths.{Part, Path, part_eq, part_before, path_eq, path_before, leads_to}
 use Rattle.lists.proofs.Tests.{left_true, right_true}
 

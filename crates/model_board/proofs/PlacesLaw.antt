@@ -1,14 +1,7 @@
 -- Lawful places are those of a board: path order takes nothing away and adds nothing.
-use Rattle.std.proofs.Common.{◌≡◌, Bool, true, false, ◌||◌, cond, List, [], ◌∷◌, map, refl, sym, ap, ◌∙◌, arith, ◌⊎◌, rules}
-use Rattle.std.specs.List.{list_any}
-use Rattle.std.proofs.lemmas.Bool.Decides.{nat_tests}
-use Rattle.lists.specs.Elements.{Each, EachPair}
-use Rattle.lists.proofs.Tests.{left_true, right_true}
-use Rattle.model_board.specs.Paths.{Part, Path, part_eq, path_eq, path_before, parent, function_zero, IsPath}
-use Rattle.model_board.specs.Board.{Row, Board, IsBoard, is_bridge_at, stands_at}
-use Rattle.model_board.specs.Places.{Standing, standing, has_path, has_bridge, AreLawfulPlaces, row_inserted, board_of, LawfulPlacesAreBoards}
-use Rattle.model_board.proofs.PathOrder.{one, exclusive, before_trans}
-use Rattle.lists.proofs.EachLemmas.{each_map, each_both}
+use Rattle.std.{proofs.{Common.{◌≡◌, Bool, true, false, ◌||◌, cond, List, [], ◌∷◌, map, refl, sym, ap, ◌∙◌, arith, ◌⊎◌, rules}, lemmas.Bool.Decides.nat_tests}, specs.List.list_any}
+use Rattle.lists.{specs.Elements.{Each, EachPair}, proofs.{Tests.{left_true, right_true}, EachLemmas.{each_map, each_both}}}
+use Rattle.model_board.{specs.{Paths.{Part, Path, part_eq, path_eq, path_before, parent, function_zero, IsPath}, Board.{Row, Board, IsBoard, is_bridge_at, stands_at}, Places.{Standing, standing, has_path, has_bridge, AreLawfulPlaces, row_inserted, board_of, LawfulPlacesAreBoards}}, proofs.PathOrder.{one, exclusive, before_trans}}
 
 -- ---- path order is total
 

@@ -1,21 +1,8 @@
 -- Claims depend on routing registers alone.
-use Rattle.std.proofs.Common.{◌≡◌, ℕ, zero, suc, ◌+◌, ◌*◌, ◌≤◌, ◌<◌, Bool, true, cond, List, [], ◌∷◌, ◌++◌, Option, Some, None, refl, sym, ap, ap₂, ◌∙◌, arith, rules}
-use Rattle.std.specs.Prelude.{map, flat_map, slice_get, IsTrue}
-use Rattle.std.specs.Option.{option_map_or, option_to_list}
-use Rattle.std.proofs.lemmas.Bool.Decides.{nat_tests}
-use Rattle.lists.specs.Elements.{Each, first_of_two, first_some}
-use Rattle.lists.proofs.Members.{flat_map_map}
-use Rattle.model_registers.specs.Registers.{config, File, cell_at, number}
-use Rattle.model_registers.specs.Declarations.{Region, IsLawfulRegion, Endpoint, IoDecode, PrefDecode, Bridge}
-use Rattle.model_registers.specs.Decoding.{Space, base_address, Hit}
-use Rattle.model_board.specs.Paths.{Path}
-use Rattle.model_board.specs.Board.{Decl, endpoint, bridge}
-use Rattle.model_board.specs.State.{BoardFunction}
-use Rattle.model_board.specs.Windows.{io_window, pref_window}
-use Rattle.model_board.specs.Claims.{Claim, claim_at, endpoint_hits, endpoint_hit, claims_of, claim_of, is_forwarded, claims, first_claim}
-use Rattle.model_board.specs.Routing.{regions, ranges_of, routing, row_claims}
-use Rattle.model_board.specs.Lawful.{IsLawfulDecl}
-use Rattle.model_board.specs.RoutingLaws.{is_routing_register, HasSameRouting, SameRouting, ForwardedByRouting, ClaimsByRouting, FirstByRouting, SameClaims, RoutingOfCells, RoutingOfChange}
+use Rattle.std.{proofs.{Common.{◌≡◌, ℕ, zero, suc, ◌+◌, ◌*◌, ◌≤◌, ◌<◌, Bool, true, cond, List, [], ◌∷◌, ◌++◌, Option, Some, None, refl, sym, ap, ap₂, ◌∙◌, arith, rules}, lemmas.Bool.Decides.nat_tests}, specs.{Prelude.{map, flat_map, slice_get, IsTrue}, Option.{option_map_or, option_to_list}}}
+use Rattle.lists.{specs.Elements.{Each, first_of_two, first_some}, proofs.Members.flat_map_map}
+use Rattle.model_registers.specs.{Registers.{config, File, cell_at, number}, Declarations.{Region, IsLawfulRegion, Endpoint, IoDecode, PrefDecode, Bridge}, Decoding.{Space, base_address, Hit}}
+use Rattle.model_board.specs.{Paths.Path, Board.{Decl, endpoint, bridge}, State.BoardFunction, Windows.{io_window, pref_window}, Claims.{Claim, claim_at, endpoint_hits, endpoint_hit, claims_of, claim_of, is_forwarded, claims, first_claim}, Routing.{regions, ranges_of, routing, row_claims}, Lawful.IsLawfulDecl, RoutingLaws.{is_routing_register, HasSameRouting, SameRouting, ForwardedByRouting, ClaimsByRouting, FirstByRouting, SameClaims, RoutingOfCells, RoutingOfChange}}
 
 -- ---- forwarding and claims by rows
 

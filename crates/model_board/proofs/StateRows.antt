@@ -1,12 +1,7 @@
 -- The rows of a board's states are the board.
-use Rattle.std.proofs.Common.{◌≡◌, List, [], ◌∷◌, refl, ap, arith}
-use Rattle.std.specs.Prelude.{map}
+use Rattle.std.{proofs.Common.{◌≡◌, List, [], ◌∷◌, refl, ap, arith}, specs.Prelude.map}
 use Rattle.model_registers.specs.Registers.{File}
-use Rattle.model_board.specs.Paths.{Path}
-use Rattle.model_board.specs.Board.{Decl, Row, Board, IsBoard}
-use Rattle.model_board.specs.State.{BoardFunction, row_at, state_of}
-use Rattle.model_board.specs.Lawful.{HasLawfulDecls}
-use Rattle.model_board.specs.AtReset.{reset_state, board_at, IsAtReset}
+use Rattle.model_board.specs.{Paths.Path, Board.{Decl, Row, Board, IsBoard}, State.{BoardFunction, row_at, state_of}, Lawful.HasLawfulDecls, AtReset.{reset_state, board_at, IsAtReset}}
 
 pub rows_of : (file : Path → Decl → File) (rs : List Row) → map row_at (map (λ (r : Row). record { path = r.path; decl = r.decl; file = file r.path r.decl }) rs) ≡ rs
 rows_of file [] = refl

@@ -4,13 +4,8 @@
 --     board_at      the board whose functions hold these cells
 --     IsAtReset      a lawful board, all cells at reset and the latch clear
 use Rattle.std.specs.Prelude.{List, ◌≡◌, map}
-use Rattle.model_registers.specs.Registers.{File}
-use Rattle.model_registers.specs.EndpointTable.{endpoint_reset}
-use Rattle.model_registers.specs.BridgeTable.{bridge_reset}
-use Rattle.model_board.specs.Paths.{Path}
-use Rattle.model_board.specs.Board.{Decl, endpoint, bridge, Board, is_multifunction, IsBoard}
-use Rattle.model_board.specs.State.{BoardFunction, State, row_at, state_of}
-use Rattle.model_board.specs.Lawful.{HasLawfulDecls}
+use Rattle.model_registers.specs.{Registers.File, EndpointTable.endpoint_reset, BridgeTable.bridge_reset}
+use Rattle.model_board.specs.{Paths.Path, Board.{Decl, endpoint, bridge, Board, is_multifunction, IsBoard}, State.{BoardFunction, State, row_at, state_of}, Lawful.HasLawfulDecls}
 
 abbrev pub reset_file : Board → Path → Decl → File
 reset_file b p (endpoint d) = endpoint_reset d (is_multifunction b p)

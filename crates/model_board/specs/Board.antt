@@ -3,8 +3,7 @@
 --     Row, Board      a path with its declaration; rows in path order
 --     rows_on, is_multifunction      the functions of one bus; another function stands in the same device
 --     IsBoard      no path twice, each path behind a bridge or on bus 0, and a function 0 in each device
-use Rattle.std.specs.Prelude.{List, [], ◌≡◌, Bool, true, false, ◌&&◌, not, filter, IsTrue, ◌⊎◌}
-use Rattle.std.specs.List.{list_any}
+use Rattle.std.specs.{Prelude.{List, [], ◌≡◌, Bool, true, false, ◌&&◌, not, filter, IsTrue, ◌⊎◌}, List.list_any}
 use Rattle.lists.specs.Elements.{Each, EachPair}
 use Rattle.model_registers.specs.Declarations.{Endpoint, Bridge}
 use Rattle.model_board.specs.Paths.{Path, path_eq, path_before, parent, same_device, function_zero, IsPath}

@@ -3,15 +3,10 @@
 --     is_forwarded      each bridge of the path forwards the address
 --     claims      all claims, in path order, then by register
 --     first_claim      the first claim in path order, then by register
-use Rattle.std.specs.Prelude.{List, [], ℕ, Bool, if◌then◌else◌, not, ◌||◌, Option, Some, None, map, flat_map}
-use Rattle.std.specs.List.{list_all}
-use Rattle.std.specs.Option.{option_map_or, option_to_list}
+use Rattle.std.specs.{Prelude.{List, [], ℕ, Bool, if◌then◌else◌, not, ◌||◌, Option, Some, None, map, flat_map}, List.list_all, Option.{option_map_or, option_to_list}}
 use Rattle.lists.specs.Elements.{first_some}
 use Rattle.model_registers.specs.Decoding.{Space, Hit, hit_of, lone_claim}
-use Rattle.model_board.specs.Paths.{Path, leads_to}
-use Rattle.model_board.specs.Board.{endpoint, bridge}
-use Rattle.model_board.specs.State.{BoardFunction}
-use Rattle.model_board.specs.Windows.{forwards}
+use Rattle.model_board.specs.{Paths.{Path, leads_to}, Board.{endpoint, bridge}, State.BoardFunction, Windows.forwards}
 
 pub record Claim : Type 0 where
   pub path : Path

@@ -3,13 +3,9 @@
 --     taker      the bridge of a bus that takes a cycle for another bus
 --     is_route      the bridges that a cycle goes through
 --     reached      the function that a cycle for a bus, device and function reaches
-use Rattle.std.specs.Prelude.{List, [], ◌∷◌, ℕ, Bool, true, false, ◌&&◌, ◌==◌, if◌then◌else◌, ◌++◌, not, nat_le, Option}
-use Rattle.std.specs.Prelude.{find}
-use Rattle.std.specs.Option.{option_map_or}
+use Rattle.std.specs.{Prelude.{List, [], ◌∷◌, ℕ, Bool, true, false, ◌&&◌, ◌==◌, if◌then◌else◌, ◌++◌, not, nat_le, Option, find}, Option.option_map_or}
 use Rattle.model_registers.specs.Registers.{config, File, number}
-use Rattle.model_board.specs.Paths.{Part, Path, part_eq, path_eq, parent}
-use Rattle.model_board.specs.Board.{is_bridge}
-use Rattle.model_board.specs.State.{BoardFunction}
+use Rattle.model_board.specs.{Paths.{Part, Path, part_eq, path_eq, parent}, Board.is_bridge, State.BoardFunction}
 
 abbrev pub secondary_register : File → ℕ
 secondary_register file = number file (config 0x19) 1

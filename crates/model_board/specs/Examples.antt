@@ -4,12 +4,8 @@
 --     many_bridges      255 bridges
 --     chain      bridges one behind the other, and an endpoint at the end
 use Rattle.std.specs.Prelude.{List, [], ◌∷◌, ℕ, zero, suc, ◌/◌, ◌%◌, true, false, replicate, ◌^◌, ◌++◌, Some}
-use Rattle.model_registers.specs.Cell.{Cell}
-use Rattle.model_registers.specs.Declarations.{Kind, io_kind, mem32, mem64, Region, Endpoint, no_io, io16, no_pref}
-use Rattle.model_registers.specs.Declarations.{pref64, Bridge}
-use Rattle.model_board.specs.Paths.{Part, Path}
-use Rattle.model_board.specs.Board.{Decl, endpoint, bridge, Row, Board}
-use Rattle.model_registers.specs.Apertures.{Aperture, Apertures}
+use Rattle.model_registers.specs.{Cell.Cell, Declarations.{Kind, io_kind, mem32, mem64, Region, Endpoint, no_io, io16, no_pref, pref64, Bridge}, Apertures.{Aperture, Apertures}}
+use Rattle.model_board.specs.{Paths.{Part, Path}, Board.{Decl, endpoint, bridge, Row, Board}}
 
 abbrev pub part : ℕ → ℕ → Part
 part d f = record { device = d; function = f }

@@ -3,9 +3,7 @@
 --     NumbersLead b r q      how the numbers of two bridges lie, by where the bridges stand
 --     Numbering      they lie so for all bridges of a board
 use Rattle.std.specs.Prelude.{◌<◌, ◌≤◌, IsTrue, IsFalse}
-use Rattle.model_board.specs.Paths.{Path, path_before, leads_to}
-use Rattle.model_board.specs.Board.{Board, is_bridge_at, IsBoard}
-use Rattle.model_board.specs.BusNumbers.{secondary, subordinate}
+use Rattle.model_board.specs.{Paths.{Path, path_before, leads_to}, Board.{Board, is_bridge_at, IsBoard}, BusNumbers.{secondary, subordinate}}
 
 pub record NumbersLead (b : Board) (r q : Path) : Type 0 where
   pub inside : IsTrue (leads_to r q) → (secondary b r < secondary b q) × (secondary b q ≤ subordinate b r)

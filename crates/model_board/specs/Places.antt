@@ -2,11 +2,9 @@
 --     Standing      a path, and whether a bridge stands there
 --     IsFounded, AreLawfulPlaces      no path twice, each behind a bridge or on bus 0, a function 0 in each device
 --     board_of      the rows in path order
-use Rattle.std.specs.Prelude.{List, [], ◌∷◌, ◌≡◌, ◌⊎◌, Bool, ◌&&◌, if◌then◌else◌, map, IsTrue, IsFalse, ◌↔◌}
-use Rattle.std.specs.List.{list_any}
+use Rattle.std.specs.{Prelude.{List, [], ◌∷◌, ◌≡◌, ◌⊎◌, Bool, ◌&&◌, if◌then◌else◌, map, IsTrue, IsFalse, ◌↔◌}, List.list_any}
 use Rattle.lists.specs.Elements.{Each, EachPair}
-use Rattle.model_board.specs.Paths.{Path, path_eq, path_before, parent, function_zero, IsPath}
-use Rattle.model_board.specs.Board.{Row, Board, IsBoard, is_bridge}
+use Rattle.model_board.specs.{Paths.{Path, path_eq, path_before, parent, function_zero, IsPath}, Board.{Row, Board, IsBoard, is_bridge}}
 
 pub record Standing : Type 0 where
   pub path : Path

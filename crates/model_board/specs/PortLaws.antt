@@ -3,13 +3,8 @@
 --     ClaimsKeepLanes      a region takes an access in the byte lanes of its address
 --     PortsWhileNotEnabled      without the enable bit only the latch itself is no ordinary port
 use Rattle.std.specs.Prelude.{List, ◌≡◌, ℕ, ◌*◌, ◌/◌, ◌%◌, ◌^◌, false, ◌&&◌, ◌==◌, if◌then◌else◌, Some}
-use Rattle.model_registers.specs.Registers.{all_bytes}
-use Rattle.model_registers.specs.ByteEnables.{IsWidth, lanes, enables_of, into_lanes}
-use Rattle.model_registers.specs.Decoding.{Space}
-use Rattle.model_board.specs.State.{BoardFunction}
-use Rattle.model_board.specs.Claims.{Claim, first_claim}
-use Rattle.model_board.specs.Cycles.{BusAddress}
-use Rattle.model_board.specs.Ports.{config_reply, after_config_write, is_enabled, config_address, ordinary, port_target}
+use Rattle.model_registers.specs.{Registers.all_bytes, ByteEnables.{IsWidth, lanes, enables_of, into_lanes}, Decoding.Space}
+use Rattle.model_board.specs.{State.BoardFunction, Claims.{Claim, first_claim}, Cycles.BusAddress, Ports.{config_reply, after_config_write, is_enabled, config_address, ordinary, port_target}}
 
 abbrev pub ConfigReadByLanes : Type 0
 ConfigReadByLanes = (fs : List BoardFunction) (at : BusAddress) (off w : ℕ) → IsWidth w → off % w ≡ 0

@@ -7,18 +7,11 @@
 --     PortTarget, port_target      where an access at a port goes: the latch, a configuration cycle or a claim
 --     port_reply, after_port_write      an access at a port
 --     memory_reply, after_memory_write      an access at a memory address
-use Rattle.std.specs.Prelude.{List, [], ℕ, Bool, ◌&&◌, if◌then◌else◌, Option, Some, None, find}
-use Rattle.std.specs.Option.{option_map_or}
-use Rattle.model_registers.specs.Registers.{config, block, File, read, write, all_bytes, number, all_ones}
-use Rattle.model_registers.specs.ByteEnables.{enabled_bits}
+use Rattle.std.specs.{Prelude.{List, [], ℕ, Bool, ◌&&◌, if◌then◌else◌, Option, Some, None, find}, Option.option_map_or}
+use Rattle.model_registers.specs.{Registers.{config, block, File, read, write, all_bytes, number, all_ones}, ByteEnables.enabled_bits}
 pub use Rattle.model_registers.specs.ConfigAddress.{latched, is_enabled, selected_register}
-use Rattle.model_registers.specs.ConfigAddress.{selected_bus, selected_device, selected_function, is_address_port}
-use Rattle.model_registers.specs.ConfigAddress.{is_data_port, selected_offset}
-use Rattle.model_registers.specs.Decoding.{io, memory}
-use Rattle.model_board.specs.Paths.{Path, path_eq}
-use Rattle.model_board.specs.State.{BoardFunction, State, with_file}
-use Rattle.model_board.specs.Claims.{Claim, first_claim}
-use Rattle.model_board.specs.Cycles.{BusAddress, reached}
+use Rattle.model_registers.specs.{ConfigAddress.{selected_bus, selected_device, selected_function, is_address_port, is_data_port, selected_offset}, Decoding.{io, memory}}
+use Rattle.model_board.specs.{Paths.{Path, path_eq}, State.{BoardFunction, State, with_file}, Claims.{Claim, first_claim}, Cycles.{BusAddress, reached}}
 
 -- ---- the address latch
 

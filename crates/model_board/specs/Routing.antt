@@ -19,16 +19,9 @@ use Rattle.std.specs.Prelude.{
   flat_map,
   slice_get,
 }
-use Rattle.std.specs.List.{list_all}
-use Rattle.std.specs.Option.{option_to_list}
-use Rattle.model_registers.specs.Registers.{File}
-use Rattle.model_registers.specs.EndpointTable.{BaseAddress}
-use Rattle.model_registers.specs.Decoding.{Space, opens_space, command_word, base_address, Hit, hit_at}
-use Rattle.model_board.specs.Paths.{Path, leads_to}
-use Rattle.model_board.specs.Board.{Decl, endpoint, bridge}
-use Rattle.model_board.specs.State.{BoardFunction}
-use Rattle.model_board.specs.Windows.{Window, io_window, mem_window, pref_window, in_windows}
-use Rattle.model_board.specs.Claims.{Claim, claim_at}
+use Rattle.std.specs.{List.list_all, Option.option_to_list}
+use Rattle.model_registers.specs.{Registers.File, EndpointTable.BaseAddress, Decoding.{Space, opens_space, command_word, base_address, Hit, hit_at}}
+use Rattle.model_board.specs.{Paths.{Path, leads_to}, Board.{Decl, endpoint, bridge}, State.BoardFunction, Windows.{Window, io_window, mem_window, pref_window, in_windows}, Claims.{Claim, claim_at}}
 
 -- the regions of an endpoint, or the I/O, memory and prefetchable window of a bridge
 pub data Ranges : Type 0 where

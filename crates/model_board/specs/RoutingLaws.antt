@@ -6,14 +6,8 @@
 --     RoutingOfCells, RoutingOfChange      the same bytes are the same routing, so a change of other cells keeps it
 use Rattle.std.specs.Prelude.{List, [], ◌∷◌, ◌≡◌, ℕ, ◌+◌, Bool, ◌&&◌, ◌||◌, nat_lt, nat_le, ⊤, IsTrue, map}
 use Rattle.lists.specs.Elements.{Each}
-use Rattle.model_registers.specs.Registers.{config, cell_at}
-use Rattle.model_registers.specs.Decoding.{Space}
-use Rattle.model_board.specs.Paths.{Path}
-use Rattle.model_board.specs.Board.{Decl, endpoint, bridge}
-use Rattle.model_board.specs.State.{BoardFunction}
-use Rattle.model_board.specs.Claims.{is_forwarded, claims, first_claim}
-use Rattle.model_board.specs.Routing.{routing, is_routed, routed_claims, routed_claim}
-use Rattle.model_board.specs.Lawful.{IsLawfulDecl}
+use Rattle.model_registers.specs.{Registers.{config, cell_at}, Decoding.Space}
+use Rattle.model_board.specs.{Paths.Path, Board.{Decl, endpoint, bridge}, State.BoardFunction, Claims.{is_forwarded, claims, first_claim}, Routing.{routing, is_routed, routed_claims, routed_claim}, Lawful.IsLawfulDecl}
 
 abbrev pub is_within : ℕ → ℕ → ℕ → Bool
 is_within first count n = nat_le first n && nat_lt n (first + count)

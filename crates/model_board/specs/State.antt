@@ -6,8 +6,7 @@
 --     state_of      the functions of a board with these cells, and no latch
 use Rattle.std.specs.Prelude.{List, ℕ, if◌then◌else◌, map}
 use Rattle.model_registers.specs.Registers.{File}
-use Rattle.model_board.specs.Paths.{Path, path_eq}
-use Rattle.model_board.specs.Board.{Decl, Row, Board}
+use Rattle.model_board.specs.{Paths.{Path, path_eq}, Board.{Decl, Row, Board}}
 
 pub record BoardFunction : Type 0 where
   pub path : Path

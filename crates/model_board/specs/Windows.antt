@@ -3,11 +3,8 @@
 --     is_in_window      a window of the space holds an address
 --     forwards      a bridge forwards an address
 use Rattle.std.specs.Prelude.{ℕ, Bool, false, ◌&&◌, ◌||◌, nat_le, Option, Some, None}
-use Rattle.model_registers.specs.Registers.{File}
-use Rattle.model_registers.specs.Declarations.{Bridge}
-use Rattle.model_registers.specs.Decoding.{Space, io, memory, is_open}
-use Rattle.model_board.specs.Board.{endpoint, bridge}
-use Rattle.model_board.specs.State.{BoardFunction}
+use Rattle.model_registers.specs.{Registers.File, Declarations.Bridge, Decoding.{Space, io, memory, is_open}}
+use Rattle.model_board.specs.{Board.{endpoint, bridge}, State.BoardFunction}
 pub use Rattle.model_registers.specs.Windows.{Window, window, window_bits, io_window, mem_window, pref_window}
 
 abbrev pub is_in : ℕ → Option Window → Bool

@@ -4,10 +4,7 @@
 //! claims and ports.
 #![tactic(auto)]
 
-ghost use Rattle.model_board.specs.Numbering.{Numbering};
-ghost use Rattle.model_board.specs.Places.{LawfulPlacesAreBoards};
-ghost use Rattle.model_board.specs.PortLaws.{ClaimsKeepLanes, ConfigReadByLanes, ConfigWriteByLanes, PortsWhileNotEnabled};
-ghost use Rattle.model_board.specs.RoutingLaws.{ClaimsByRouting, FirstByRouting, ForwardedByRouting, RoutingOfCells, RoutingOfChange, SameClaims};
+ghost use Rattle.model_board.specs.{Numbering.Numbering, Places.LawfulPlacesAreBoards, PortLaws.{ClaimsKeepLanes, ConfigReadByLanes, ConfigWriteByLanes, PortsWhileNotEnabled}, RoutingLaws.{ClaimsByRouting, FirstByRouting, ForwardedByRouting, RoutingOfCells, RoutingOfChange, SameClaims}};
 
 /// Functions declared in any order stand at lawful places exactly where their rows in path order are
 /// a board.

@@ -1,12 +1,8 @@
 -- What holds or forwards an address answers it.
-use Rattle.std.proofs.Common.{◌≡◌, ℕ, true, refl, arith}
-use Rattle.std.specs.List.{list_any}
-use Rattle.std.proofs.lemmas.Bool.Decides.{nat_tests}
+use Rattle.std.{proofs.{Common.{◌≡◌, ℕ, true, refl, arith}, lemmas.Bool.Decides.nat_tests}, specs.List.list_any}
 use Rattle.model_registers.specs.Decoding.{Space, same_space}
-use Rattle.model_board.specs.Paths.{Path}
-use Rattle.model_board.specs.Routing.{Ranges, regions, windows, RoutingRow, row_forwards}
-use Rattle.model_set_up.specs.PlacedRegions.{PlacedRegion, holds}
-use Rattle.model_set_up.proofs.Holders.{self_space}
+use Rattle.model_board.specs.{Paths.Path, Routing.{Ranges, regions, windows, RoutingRow, row_forwards}}
+use Rattle.model_set_up.{specs.PlacedRegions.{PlacedRegion, holds}, proofs.Holders.self_space}
 use Rattle.model_findings.specs.Agents.{extent_holds, forwarded_extents, region_agent, bridge_agent, answers}
 use Rattle.lists.proofs.Tests.{or_false}
 

@@ -1,33 +1,11 @@
 -- In an orderly state no two open regions of one space share an address: where they stand on one bus, they are agents of
 -- it; elsewhere the bridges that lead to them are.
-use Rattle.std.proofs.Common.{◌≡◌, ℕ, ◌+◌, ◌≤◌, ◌<◌, true, false, ◌||◌, not, List, [], ◌∷◌, ◌++◌, length, refl, sym, ap, ◌∙◌, subst, arith}
-use Rattle.std.proofs.lemmas.Bool.Decides.{nat_tests}
-use Rattle.std.proofs.lemmas.Bool.{leb-true}
-use Rattle.std.specs.Prelude.{map, IsTrue}
-use Rattle.lists.proofs.Members.{pairs_of_map, each_in, in_map, from_map, from_filter, in_flat_map, pairs_weaker, pairs_flat_map, all_in, pairs_of_part}
-use Rattle.lists.specs.Elements.{EachPair, IsIn}
-use Rattle.lists.proofs.EachLemmas.{each_from_map, pairs_from_map}
-use Rattle.lists.proofs.Tests.{asked_true}
-use Rattle.model_board.proofs.PathOrder.{part_self}
-use Rattle.model_registers.specs.Declarations.{Region, Endpoint}
-use Rattle.model_registers.specs.Decoding.{Space, same_space, base_address}
-use Rattle.model_registers.specs.Registers.{File}
-use Rattle.model_registers.proofs.HitRegions.{space_same}
-use Rattle.model_set_up.specs.Extents.{AreApart}
-use Rattle.model_board.specs.Paths.{Part, Path, part_eq, path_before, leads_to, parent, IsPath}
-use Rattle.model_board.specs.Board.{Board, Row, Decl, endpoint, is_bridge}
-use Rattle.model_board.specs.State.{row_at, BoardFunction}
-use Rattle.model_board.specs.Routing.{RoutingRow, row_of, routing, row_forwards, is_routed}
-use Rattle.model_set_up.specs.PlacedRegions.{PlacedRegion, holds}
-use Rattle.model_set_up.specs.UniqueClaimant.{ShareNone}
-use Rattle.model_board.proofs.PathEnds.{path_self, parent_snoc, last_snoc, length_snoc, not_before_itself}
-use Rattle.model_set_up.proofs.Partings.{Meeting, Same, Above, Below, Parting, meet, leads_down, one_row, BridgeAt, bridge_above}
-use Rattle.lists.proofs.Members.{pair_in}
-use Rattle.model_set_up.proofs.Holders.{is_held, self_space}
-use Rattle.model_findings.specs.OpenRegions.{region_now, open_of, open_regions}
-use Rattle.model_findings.specs.Agents.{Agent, region_agent, bridge_agent, agents_of, agents, answers}
-use Rattle.model_findings.specs.Orderly.{IsForwarded, AreAlone, IsOrderly, IsStateOfBoard}
-use Rattle.model_findings.proofs.Answering.{bridge_answers, region_answers}
+use Rattle.std.{proofs.{Common.{◌≡◌, ℕ, ◌+◌, ◌≤◌, ◌<◌, true, false, ◌||◌, not, List, [], ◌∷◌, ◌++◌, length, refl, sym, ap, ◌∙◌, subst, arith}, lemmas.Bool.{Decides.nat_tests, leb-true}}, specs.Prelude.{map, IsTrue}}
+use Rattle.lists.{proofs.{Members.{pairs_of_map, each_in, in_map, from_map, from_filter, in_flat_map, pairs_weaker, pairs_flat_map, all_in, pairs_of_part, pair_in}, EachLemmas.{each_from_map, pairs_from_map}, Tests.asked_true}, specs.Elements.{EachPair, IsIn}}
+use Rattle.model_board.{proofs.{PathOrder.part_self, PathEnds.{path_self, parent_snoc, last_snoc, length_snoc, not_before_itself}}, specs.{Paths.{Part, Path, part_eq, path_before, leads_to, parent, IsPath}, Board.{Board, Row, Decl, endpoint, is_bridge}, State.{row_at, BoardFunction}, Routing.{RoutingRow, row_of, routing, row_forwards, is_routed}}}
+use Rattle.model_registers.{specs.{Declarations.{Region, Endpoint}, Decoding.{Space, same_space, base_address}, Registers.File}, proofs.HitRegions.space_same}
+use Rattle.model_set_up.{specs.{Extents.AreApart, PlacedRegions.{PlacedRegion, holds}, UniqueClaimant.ShareNone}, proofs.{Partings.{Meeting, Same, Above, Below, Parting, meet, leads_down, one_row, BridgeAt, bridge_above}, Holders.{is_held, self_space}}}
+use Rattle.model_findings.{specs.{OpenRegions.{region_now, open_of, open_regions}, Agents.{Agent, region_agent, bridge_agent, agents_of, agents, answers}, Orderly.{IsForwarded, AreAlone, IsOrderly, IsStateOfBoard}}, proofs.Answering.{bridge_answers, region_answers}}
 
 -- ---- where an open region comes from
 

@@ -1,24 +1,10 @@
 -- In an orderly state the claims of an address are those of the open regions that hold it: one at most.
-use Rattle.std.proofs.Common.{◌≡◌, ℕ, ◌+◌, ◌-◌, ◌<◌, inl, Bool, true, ◌&&◌, cond, List, [], ◌∷◌, refl, sym, ap, ◌∙◌, subst, arith}
-use Rattle.std.specs.Prelude.{map, filter, flat_map, slice_get}
-use Rattle.std.specs.Option.{option_to_list}
-use Rattle.std.proofs.lemmas.Grind.{flat_map-append}
-use Rattle.lists.specs.Elements.{Each, EachPair, IsIn}
-use Rattle.model_registers.specs.EndpointTable.{BaseAddress}
-use Rattle.model_registers.specs.Decoding.{Space, space_of, opens_space, hit_at}
-use Rattle.model_registers.proofs.HitRegions.{space_same}
-use Rattle.model_board.specs.Paths.{Path}
-use Rattle.model_board.specs.Claims.{claim_at, claims, first_claim}
-use Rattle.model_board.specs.Routing.{Ranges, regions, windows, RoutingRow, routing, is_routed, row_claims, routed_claims}
-use Rattle.model_set_up.specs.PlacedRegions.{PlacedRegion, holds}
-use Rattle.model_set_up.specs.UniqueClaimant.{IsClaimed, ShareNone}
-use Rattle.lists.proofs.Members.{each_in, each_from, in_map, in_filter, in_flat_map}
-use Rattle.model_set_up.proofs.Holders.{Holds, holds_is, is_held, self_space, claims_in, one_at_most, holder_first}
-use Rattle.model_set_up.proofs.UniqueClaimant.{no_claims}
-use Rattle.model_board.proofs.Routing.{first_listed, first_of_claims, forwarded_by_routing, claims_by_routing}
-use Rattle.model_findings.specs.OpenRegions.{region_now, open_of, open_regions, open_claim}
-use Rattle.model_findings.specs.Orderly.{IsForwarded, OrderlyClaims}
-use Rattle.model_findings.proofs.Apart.{open_apart}
+use Rattle.std.{proofs.{Common.{◌≡◌, ℕ, ◌+◌, ◌-◌, ◌<◌, inl, Bool, true, ◌&&◌, cond, List, [], ◌∷◌, refl, sym, ap, ◌∙◌, subst, arith}, lemmas.Grind.flat_map-append}, specs.{Prelude.{map, filter, flat_map, slice_get}, Option.option_to_list}}
+use Rattle.lists.{specs.Elements.{Each, EachPair, IsIn}, proofs.Members.{each_in, each_from, in_map, in_filter, in_flat_map}}
+use Rattle.model_registers.{specs.{EndpointTable.BaseAddress, Decoding.{Space, space_of, opens_space, hit_at}}, proofs.HitRegions.space_same}
+use Rattle.model_board.{specs.{Paths.Path, Claims.{claim_at, claims, first_claim}, Routing.{Ranges, regions, windows, RoutingRow, routing, is_routed, row_claims, routed_claims}}, proofs.Routing.{first_listed, first_of_claims, forwarded_by_routing, claims_by_routing}}
+use Rattle.model_set_up.{specs.{PlacedRegions.{PlacedRegion, holds}, UniqueClaimant.{IsClaimed, ShareNone}}, proofs.{Holders.{Holds, holds_is, is_held, self_space, claims_in, one_at_most, holder_first}, UniqueClaimant.no_claims}}
+use Rattle.model_findings.{specs.{OpenRegions.{region_now, open_of, open_regions, open_claim}, Orderly.{IsForwarded, OrderlyClaims}}, proofs.Apart.open_apart}
 
 -- ---- one function
 

@@ -1,32 +1,11 @@
 -- Where no function is told as not found, a state is numbered: each function is reached by its address alone. A board
 -- that holds its own numbers is numbered.
-use Rattle.std.proofs.Common.{◌≡◌, ℕ, ◌⊎◌, inl, inr, Bool, true, false, ◌&&◌, List, [], ◌∷◌, ◌++◌, Option, Some, None, refl, sym, ap, ◌∙◌, subst, arith, append_assoc}
-use Rattle.std.specs.Prelude.{find, IsTrue}
-use Rattle.std.specs.Option.{option_map, option_map_or}
-use Rattle.std.proofs.lemmas.Bool.{eqb-true, and_from}
-use Rattle.lists.proofs.Tests.{left_true, right_true}
-use Rattle.lists.specs.Elements.{IsIn}
-use Rattle.model_board.specs.Paths.{Part, Path, path_eq, parent, last_part}
-use Rattle.model_board.specs.Board.{Board, Row, is_bridge, IsBoard}
+use Rattle.std.{proofs.{Common.{◌≡◌, ℕ, ◌⊎◌, inl, inr, Bool, true, false, ◌&&◌, List, [], ◌∷◌, ◌++◌, Option, Some, None, refl, sym, ap, ◌∙◌, subst, arith, append_assoc}, lemmas.Bool.{eqb-true, and_from}}, specs.{Prelude.{find, IsTrue}, Option.{option_map, option_map_or}}}
+use Rattle.lists.{proofs.{Tests.{left_true, right_true}, Members.{each_in, each_from, in_map, from_map, any_in, pair_in, none_each, each_none}, FirstFound.{found, found_in}, EachLemmas.{each_map, pairs_from_map}}, specs.Elements.IsIn}
+use Rattle.model_board.{specs.{Paths.{Part, Path, path_eq, parent, last_part}, Board.{Board, Row, is_bridge, IsBoard}, BusNumbers.{secondary, bus_behind}, State.{BoardFunction, row_at}, Cycles.{secondary_register, takes, is_route, ends_in, reached_type0, reached_type1, BusAddress, reached}}, proofs.{PathEnds.{path_self, not_before_itself, snoc_some}, PathOrder.path_same}}
+use Rattle.model_set_up.{specs.Reach.{HasNumbers, address_of}, proofs.{Partings.{BridgeAt, bridge_at}, Routes.{reached_by_numbers, ends_is_last, last_flag}}}
+use Rattle.model_findings.specs.{Orderly.IsStateOfBoard, Found.{is_bridge_at, bus_now, address_now, path_reached, FoundOnce, NumbersOfBoard}, Problems.{Problem, not_found, numbering_problem}, Witnesses.{IsNotFound, NumberingDecides}}
 use Rattle.model_board.specs.Board as board
-use Rattle.model_board.specs.BusNumbers.{secondary, bus_behind}
-use Rattle.model_board.specs.State.{BoardFunction, row_at}
-use Rattle.model_board.specs.Cycles.{secondary_register, takes, is_route, ends_in, reached_type0, reached_type1, BusAddress, reached}
-use Rattle.model_set_up.specs.Reach.{HasNumbers, address_of}
-use Rattle.lists.proofs.Members.{each_in, each_from, in_map, from_map, any_in}
-use Rattle.model_board.proofs.PathEnds.{path_self, not_before_itself, snoc_some}
-use Rattle.model_board.proofs.PathOrder.{path_same}
-use Rattle.model_set_up.proofs.Partings.{BridgeAt, bridge_at}
-use Rattle.lists.proofs.Members.{pair_in}
-use Rattle.lists.proofs.FirstFound.{found}
-use Rattle.model_set_up.proofs.Routes.{reached_by_numbers, ends_is_last, last_flag}
-use Rattle.model_findings.specs.Orderly.{IsStateOfBoard}
-use Rattle.model_findings.specs.Found.{is_bridge_at, bus_now, address_now, path_reached, FoundOnce, NumbersOfBoard}
-use Rattle.model_findings.specs.Problems.{Problem, not_found, numbering_problem}
-use Rattle.model_findings.specs.Witnesses.{IsNotFound, NumberingDecides}
-use Rattle.lists.proofs.Members.{none_each, each_none}
-use Rattle.lists.proofs.EachLemmas.{each_map, pairs_from_map}
-use Rattle.lists.proofs.FirstFound.{found_in}
 
 -- ---- what is told of one function
 

@@ -1,43 +1,11 @@
 -- What answers an address after set-up has a row of the layout that holds it, and two rows of one bus hold no address of
 -- one space both.
-use Rattle.std.proofs.Common.{◌≡◌, ℕ, ◌+◌, ◌-◌, ◌≤◌, ◌<◌, ◌⊎◌, inl, inr, true, List, [], ◌∷◌, Option, MatchOption, refl, sym, ap, ◌∙◌, subst, arith, leb}
-use Rattle.std.proofs.lemmas.Bool.{leb-true, or_cases}
-use Rattle.lists.specs.Elements.{Each, IsIn}
-use Rattle.model_registers.specs.Registers.{File}
-use Rattle.model_registers.specs.Apertures.{IsLawfulApertures, IsPrefOption, Aperture, Apertures}
-use Rattle.model_registers.specs.Declarations.{Region, Endpoint, Bridge}
-use Rattle.model_registers.specs.Decoding.{Space, io, memory, space_of, opens_space, command_word}
-use Rattle.model_registers.proofs.HitRegions.{space_same}
-use Rattle.lists.proofs.Tests.{left_true, right_true}
-use Rattle.model_board.specs.Board.{Board, Row, Decl, endpoint, bridge}
-use Rattle.model_board.specs.Paths.{Path, path_before, parent, IsPath}
-use Rattle.model_set_up.specs.Pools.{Pool, io_pool, mem_pool, pref_pool, unit_of, bridges_above}
-use Rattle.model_set_up.specs.Extents.{IsInside, AreApart}
-use Rattle.model_set_up.specs.Placement.{Item, need, items_on, bus_first}
-use Rattle.model_set_up.specs.Layout.{LayoutRow, IsLawful, pool_rows, layout}
-use Rattle.model_set_up.specs.PlacementLaws.{region_row, window_row, HasRows}
-use Rattle.model_board.specs.Windows.{is_in, in_windows, io_window, mem_window, pref_window}
-use Rattle.model_set_up.specs.WindowLaws.{window_over, placed_window, ForwardsPlaced, HasPlacedWindows}
-use Rattle.model_set_up.specs.SetUp.{set_up_file}
-use Rattle.model_board.specs.Routing.{RoutingRow, row_of, row_forwards}
-use Rattle.model_set_up.specs.PlacedRegions.{pool_space, PlacedRegion, placed, holds}
-use Rattle.model_set_up.specs.UniqueClaimant.{CanBePlaced}
-use Rattle.lists.proofs.Members.{each_in, in_flat_map, from_map, from_filter}
-use Rattle.model_board.proofs.PathEnds.{path_self, not_before_itself}
-use Rattle.lists.proofs.Members.{pair_in}
-use Rattle.model_set_up.proofs.Holders.{Holds, holds_is}
-use Rattle.model_set_up.proofs.PlacedApart.{pool_of_space}
-use Rattle.model_set_up.proofs.PlacedRegions.{region_there, each_pool}
-use Rattle.model_set_up.proofs.DeclaredRows.{has_window_row}
-use Rattle.model_set_up.proofs.Items.{some_end, end_below_need, items_placeable}
-use Rattle.model_set_up.proofs.Nesting.{HasItems}
-use Rattle.model_set_up.proofs.Packing.{unit_positive}
-use Rattle.model_set_up.proofs.LawfulPlacement.{pool_self}
-use Rattle.model_set_up.proofs.UniqueClaimant.{left}
-use Rattle.model_findings.specs.OpenRegions.{open_of}
-use Rattle.model_findings.specs.Agents.{Agent, region_agent, bridge_agent, agents_of, answers}
-use Rattle.model_findings.proofs.Answering.{bridge_answers, region_answers}
-use Rattle.model_findings.proofs.Placing.{regions_placed}
+use Rattle.std.proofs.{Common.{◌≡◌, ℕ, ◌+◌, ◌-◌, ◌≤◌, ◌<◌, ◌⊎◌, inl, inr, true, List, [], ◌∷◌, Option, MatchOption, refl, sym, ap, ◌∙◌, subst, arith, leb}, lemmas.Bool.{leb-true, or_cases}}
+use Rattle.lists.{specs.Elements.{Each, IsIn}, proofs.{Tests.{left_true, right_true}, Members.{each_in, in_flat_map, from_map, from_filter, pair_in}}}
+use Rattle.model_registers.{specs.{Registers.File, Apertures.{IsLawfulApertures, IsPrefOption, Aperture, Apertures}, Declarations.{Region, Endpoint, Bridge}, Decoding.{Space, io, memory, space_of, opens_space, command_word}}, proofs.HitRegions.space_same}
+use Rattle.model_board.{specs.{Board.{Board, Row, Decl, endpoint, bridge}, Paths.{Path, path_before, parent, IsPath}, Windows.{is_in, in_windows, io_window, mem_window, pref_window}, Routing.{RoutingRow, row_of, row_forwards}}, proofs.PathEnds.{path_self, not_before_itself}}
+use Rattle.model_set_up.{specs.{Pools.{Pool, io_pool, mem_pool, pref_pool, unit_of, bridges_above}, Extents.{IsInside, AreApart}, Placement.{Item, need, items_on, bus_first}, Layout.{LayoutRow, IsLawful, pool_rows, layout}, PlacementLaws.{region_row, window_row, HasRows}, WindowLaws.{window_over, placed_window, ForwardsPlaced, HasPlacedWindows}, SetUp.set_up_file, PlacedRegions.{pool_space, PlacedRegion, placed, holds}, UniqueClaimant.CanBePlaced}, proofs.{Holders.{Holds, holds_is}, PlacedApart.pool_of_space, PlacedRegions.{region_there, each_pool}, DeclaredRows.has_window_row, Items.{some_end, end_below_need, items_placeable}, Nesting.HasItems, Packing.unit_positive, LawfulPlacement.pool_self, UniqueClaimant.left}}
+use Rattle.model_findings.{specs.{OpenRegions.open_of, Agents.{Agent, region_agent, bridge_agent, agents_of, answers}}, proofs.{Answering.{bridge_answers, region_answers}, Placing.regions_placed}}
 
 -- ---- rows of one bus
 

@@ -1,28 +1,10 @@
 -- Each lack is real, and there is none where and only where nothing is lacking.
-use Rattle.std.proofs.Common.{◌≡◌, ℕ, ◌+◌, ◌⊎◌, inl, inr, Bool, true, false, ◌&&◌, ◌==◌, not, cond, List, [], ◌∷◌, ◌++◌, length, Option, Some, None, refl, ap, ap₂, arith, rules}
-use Rattle.std.specs.Prelude.{map, flat_map, IsTrue}
-use Rattle.std.specs.Option.{option_map, option_to_list}
-use Rattle.std.proofs.lemmas.Bool.Decides.{nat_tests}
-use Rattle.std.proofs.lemmas.Bool.{not_from_false}
-use Rattle.lists.specs.Elements.{IsIn, Each, first_some}
-use Rattle.lists.proofs.Members.{each_in, each_from, front_or_back, from_flat_map, from_map, from_filter, in_filter}
-use Rattle.lists.proofs.EachLemmas.{each_map}
-use Rattle.model_registers.specs.Apertures.{Apertures}
-use Rattle.model_registers.specs.Decoding.{opens_space}
-use Rattle.model_board.specs.Paths.{leads_to}
-use Rattle.model_board.specs.State.{BoardFunction}
-use Rattle.model_board.specs.Routing.{RoutingRow, routing}
+use Rattle.std.{proofs.{Common.{◌≡◌, ℕ, ◌+◌, ◌⊎◌, inl, inr, Bool, true, false, ◌&&◌, ◌==◌, not, cond, List, [], ◌∷◌, ◌++◌, length, Option, Some, None, refl, ap, ap₂, arith, rules}, lemmas.Bool.{Decides.nat_tests, not_from_false}}, specs.{Prelude.{map, flat_map, IsTrue}, Option.{option_map, option_to_list}}}
+use Rattle.lists.{specs.Elements.{IsIn, Each, first_some}, proofs.{Members.{each_in, each_from, front_or_back, from_flat_map, from_map, from_filter, in_filter, from_option, none_front, none_back, none_each, each_none, no_elements}, EachLemmas.each_map, FirstFound.{IsFirstTold, first_from}}}
+use Rattle.model_registers.specs.{Apertures.Apertures, Decoding.opens_space}
+use Rattle.model_board.specs.{Paths.leads_to, State.BoardFunction, Routing.{RoutingRow, routing}}
 use Rattle.model_set_up.specs.PlacedRegions.{PlacedRegion}
-use Rattle.model_findings.specs.OpenRegions.{regions_of, closed_of, open_regions, closed_regions}
-use Rattle.model_findings.specs.Agents.{Extent}
-use Rattle.lists.proofs.Members.{from_option}
-use Rattle.lists.proofs.FirstFound.{IsFirstTold, first_from}
-use Rattle.lists.proofs.Members.{none_front, none_back, none_each, each_none, no_elements}
-use Rattle.model_findings.proofs.Witnesses.{problems_decide}
-use Rattle.model_findings.specs.Lacks.{aperture_extents, is_in_apertures, plain_regions, prefetches, prefetch_edges, first_outside, first_prefetched, Lack, not_open, outside_apertures, prefetched_by, outside_lack, prefetch_blame, prefetch_lack, primary_lack, routing_lacks, lacks}
-use Rattle.model_findings.specs.ReadyLaws.{IsWithinApertures, PrefetchesNone, IsClosed, IsRealLack, LacksAreReal, LacksNothing, LacksDecide, ReadyDecides}
-use Rattle.model_findings.proofs.Told.{first_none, none_first, map_none}
-use Rattle.model_findings.proofs.LeastHeld.{IsLeastHeld, least_is, least_finds, outside_begins, prefetch_begins}
+use Rattle.model_findings.{specs.{OpenRegions.{regions_of, closed_of, open_regions, closed_regions}, Agents.Extent, Lacks.{aperture_extents, is_in_apertures, plain_regions, prefetches, prefetch_edges, first_outside, first_prefetched, Lack, not_open, outside_apertures, prefetched_by, outside_lack, prefetch_blame, prefetch_lack, primary_lack, routing_lacks, lacks}, ReadyLaws.{IsWithinApertures, PrefetchesNone, IsClosed, IsRealLack, LacksAreReal, LacksNothing, LacksDecide, ReadyDecides}}, proofs.{Witnesses.problems_decide, Told.{first_none, none_first, map_none}, LeastHeld.{IsLeastHeld, least_is, least_finds, outside_begins, prefetch_begins}}}
 
 -- ---- closed regions
 

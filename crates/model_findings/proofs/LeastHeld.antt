@@ -1,22 +1,11 @@
 -- The least address of a region that passes a test is found among its first one and the places where the test begins to
 -- hold.
-use Rattle.std.proofs.Common.{◌≡◌, ℕ, zero, suc, ◌+◌, ◌-◌, ◌≤◌, inl, inr, Bool, true, false, ◌&&◌, not, List, ◌∷◌, Some, refl, sym, subst, arith}
-use Rattle.std.specs.Prelude.{map, filter}
-use Rattle.std.specs.List.{list_any}
-use Rattle.std.proofs.lemmas.Bool.Decides.{nat_tests}
-use Rattle.std.proofs.lemmas.Bool.{and_from}
-use Rattle.lists.specs.Elements.{IsIn}
-use Rattle.lists.proofs.Tests.{left_true, right_true}
-use Rattle.lists.proofs.Members.{in_map, in_filter, from_filter, any_in, from_any}
-use Rattle.model_board.specs.Paths.{Path}
-use Rattle.model_board.specs.Routing.{RoutingRow, Ranges, regions, windows}
-use Rattle.model_registers.specs.Apertures.{Apertures}
-use Rattle.model_registers.specs.Decoding.{Space}
-use Rattle.model_set_up.specs.PlacedRegions.{PlacedRegion, holds}
-use Rattle.model_set_up.proofs.Holders.{Holds, holds_is, is_held, self_space}
-use Rattle.model_findings.specs.Agents.{Extent, extent_holds}
-use Rattle.model_findings.proofs.Problems.{IsLeast, found_least, finds}
-use Rattle.model_findings.specs.Lacks.{aperture_extents, is_in_apertures, prefetches, prefetch_edges, least_held}
+use Rattle.std.{proofs.{Common.{◌≡◌, ℕ, zero, suc, ◌+◌, ◌-◌, ◌≤◌, inl, inr, Bool, true, false, ◌&&◌, not, List, ◌∷◌, Some, refl, sym, subst, arith}, lemmas.Bool.{Decides.nat_tests, and_from}}, specs.{Prelude.{map, filter}, List.list_any}}
+use Rattle.lists.{specs.Elements.IsIn, proofs.{Tests.{left_true, right_true}, Members.{in_map, in_filter, from_filter, any_in, from_any}}}
+use Rattle.model_board.specs.{Paths.Path, Routing.{RoutingRow, Ranges, regions, windows}}
+use Rattle.model_registers.specs.{Apertures.Apertures, Decoding.Space}
+use Rattle.model_set_up.{specs.PlacedRegions.{PlacedRegion, holds}, proofs.Holders.{Holds, holds_is, is_held, self_space}}
+use Rattle.model_findings.{specs.{Agents.{Extent, extent_holds}, Lacks.{aperture_extents, is_in_apertures, prefetches, prefetch_edges, least_held}}, proofs.Problems.{IsLeast, found_least, finds}}
 
 -- a test begins to hold at these numbers alone
 abbrev pub BeginsAt : (ℕ → Bool) → List ℕ → Type 0

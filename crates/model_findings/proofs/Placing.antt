@@ -1,19 +1,9 @@
 -- After set-up the regions of a function stand where they were placed.
-use Rattle.std.proofs.Common.{◌≡◌, List, [], ◌∷◌, refl, ap, ap₂}
-use Rattle.std.specs.Prelude.{map}
-use Rattle.lists.specs.Elements.{Each, IsIn}
-use Rattle.model_registers.specs.Decoding.{base, base_address}
-use Rattle.model_board.specs.Board.{Board, Decl, endpoint, bridge}
-use Rattle.model_board.specs.Paths.{Path}
-use Rattle.model_registers.specs.Apertures.{Apertures}
-use Rattle.model_set_up.specs.Layout.{IsLawful, layout}
-use Rattle.model_set_up.specs.PlacementLaws.{HasRows}
-use Rattle.model_set_up.specs.SetUp.{first_of, set_up_file}
-use Rattle.model_board.specs.Routing.{row_of}
-use Rattle.model_set_up.specs.PlacedRegions.{placed, placed_at}
-use Rattle.model_set_up.specs.UniqueClaimant.{CanBePlaced}
-use Rattle.lists.proofs.Members.{each_in, each_from}
-use Rattle.model_set_up.proofs.UniqueClaimant.{left, bases}
+use Rattle.std.{proofs.Common.{◌≡◌, List, [], ◌∷◌, refl, ap, ap₂}, specs.Prelude.map}
+use Rattle.lists.{specs.Elements.{Each, IsIn}, proofs.Members.{each_in, each_from}}
+use Rattle.model_registers.specs.{Decoding.{base, base_address}, Apertures.Apertures}
+use Rattle.model_board.specs.{Board.{Board, Decl, endpoint, bridge}, Paths.Path, Routing.row_of}
+use Rattle.model_set_up.{specs.{Layout.{IsLawful, layout}, PlacementLaws.HasRows, SetUp.{first_of, set_up_file}, PlacedRegions.{placed, placed_at}, UniqueClaimant.CanBePlaced}, proofs.UniqueClaimant.{left, bases}}
 use Rattle.model_findings.specs.OpenRegions.{region_now, regions_of}
 
 maps_same : {A B C : Type 0} (f : B → C) (g : A → B) (h : A → C) (xs : List A) → Each (λ x. f (g x) ≡ h x) xs → map f (map g xs) ≡ map h xs

@@ -1,28 +1,10 @@
 -- A state without problems is orderly, and what a problem says is so.
-use Rattle.std.proofs.Common.{◌≡◌, ℕ, zero, suc, ◌+◌, ◌≤◌, ◌<◌, ◌⊎◌, inl, inr, Bool, true, false, ◌&&◌, ◌||◌, cond, List, [], ◌∷◌, ◌++◌, Option, Some, None, refl, ap₂, ◌∙◌, subst, arith, leb, ltb}
-use Rattle.std.specs.Prelude.{not, map, filter, flat_map, IsTrue}
-use Rattle.std.specs.List.{list_all, list_any}
-use Rattle.std.specs.Option.{option_map, option_to_list}
-use Rattle.std.proofs.Math.Nat.{min-le_left, min-le_right}
-use Rattle.std.proofs.lemmas.Bool.Decides.{nat_tests}
-use Rattle.std.proofs.lemmas.Bool.{leb-true, ltb-true, le-leb, lt-ltb, and_from, not-true, not_from_false}
-use Rattle.lists.specs.Elements.{Each, EachPair, first_some, IsIn}
-use Rattle.model_registers.specs.Decoding.{Space, same_space}
-use Rattle.model_registers.proofs.HitRegions.{space_same}
-use Rattle.lists.proofs.Tests.{left_true, right_true}
-use Rattle.lists.proofs.EachLemmas.{each_map}
-use Rattle.model_board.specs.Paths.{leads_to}
-use Rattle.model_board.specs.Routing.{RoutingRow, row_forwards}
-use Rattle.model_set_up.specs.PlacedRegions.{PlacedRegion, holds}
-use Rattle.lists.proofs.Members.{each_in, each_from, in_map, in_filter, from_filter, in_front, in_back, front_or_back, from_flat_map, any_in, from_any, all_from, from_option, none_front, none_back, none_each, each_none, no_elements}
-use Rattle.lists.proofs.FirstFound.{IsFirstTold, first_from}
-use Rattle.model_set_up.proofs.Holders.{Holds, holds_is, is_held, self_space}
-use Rattle.model_findings.specs.OpenRegions.{open_regions}
-use Rattle.model_findings.specs.Agents.{Extent, extent_holds, forwarded_extents, Agent, agents, answers}
-use Rattle.model_findings.specs.Orderly.{IsForwarded, AreAlone, IsOrderly}
-use Rattle.model_findings.specs.Problems.{least, unforwarded, shared, Problem, not_forwarded, contended, not_found, blame, forwarding_problem, contention, contentions, routing_problems}
-use Rattle.model_findings.specs.Witnesses.{ForwardsAll, IsNotForwarded, IsBefore, IsContended, RoutingDecides}
-use Rattle.model_findings.proofs.Answering.{forwards_extents}
+use Rattle.std.{proofs.{Common.{◌≡◌, ℕ, zero, suc, ◌+◌, ◌≤◌, ◌<◌, ◌⊎◌, inl, inr, Bool, true, false, ◌&&◌, ◌||◌, cond, List, [], ◌∷◌, ◌++◌, Option, Some, None, refl, ap₂, ◌∙◌, subst, arith, leb, ltb}, Math.Nat.{min-le_left, min-le_right}, lemmas.Bool.{Decides.nat_tests, leb-true, ltb-true, le-leb, lt-ltb, and_from, not-true, not_from_false}}, specs.{Prelude.{not, map, filter, flat_map, IsTrue}, List.{list_all, list_any}, Option.{option_map, option_to_list}}}
+use Rattle.lists.{specs.Elements.{Each, EachPair, first_some, IsIn}, proofs.{Tests.{left_true, right_true}, EachLemmas.each_map, Members.{each_in, each_from, in_map, in_filter, from_filter, in_front, in_back, front_or_back, from_flat_map, any_in, from_any, all_from, from_option, none_front, none_back, none_each, each_none, no_elements}, FirstFound.{IsFirstTold, first_from}}}
+use Rattle.model_registers.{specs.Decoding.{Space, same_space}, proofs.HitRegions.space_same}
+use Rattle.model_board.specs.{Paths.leads_to, Routing.{RoutingRow, row_forwards}}
+use Rattle.model_set_up.{specs.PlacedRegions.{PlacedRegion, holds}, proofs.Holders.{Holds, holds_is, is_held, self_space}}
+use Rattle.model_findings.{specs.{OpenRegions.open_regions, Agents.{Extent, extent_holds, forwarded_extents, Agent, agents, answers}, Orderly.{IsForwarded, AreAlone, IsOrderly}, Problems.{least, unforwarded, shared, Problem, not_forwarded, contended, not_found, blame, forwarding_problem, contention, contentions, routing_problems}, Witnesses.{ForwardsAll, IsNotForwarded, IsBefore, IsContended, RoutingDecides}}, proofs.Answering.forwards_extents}
 
 -- ---- the least of some numbers
 

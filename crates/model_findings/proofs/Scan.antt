@@ -1,17 +1,8 @@
 -- A scan of all addresses finds all functions of a numbered state.
-use Rattle.std.proofs.Common.{◌≡◌, ℕ, zero, suc, ◌+◌, ◌*◌, ◌/◌, ◌%◌, ◌<◌, inl, inr, List, [], ◌∷◌, length, Option, Some, None, refl, sym, subst, arith}
-use Rattle.std.specs.Prelude.{map, find}
-use Rattle.std.specs.List.{range_with_len}
-use Rattle.std.specs.Option.{option_to_list, option_map_or}
-use Rattle.lists.specs.Elements.{Each, IsIn}
-use Rattle.model_board.specs.Paths.{Path, parent, last_part, IsPart, IsPath}
-use Rattle.model_board.specs.Board.{Row}
-use Rattle.model_board.specs.State.{BoardFunction, row_at}
-use Rattle.model_board.specs.Cycles.{secondary_register, BusAddress, reached}
-use Rattle.lists.proofs.Members.{each_in, each_from, in_map, in_flat_map}
-use Rattle.model_findings.specs.Found.{is_bridge_at, bus_now, address_now, IsFoundOnce, address_at, scan_order, scanned, ScanFindsAll}
-use Rattle.lists.proofs.FirstFound.{found_in}
-use Rattle.model_findings.proofs.Found.{found_once}
+use Rattle.std.{proofs.Common.{◌≡◌, ℕ, zero, suc, ◌+◌, ◌*◌, ◌/◌, ◌%◌, ◌<◌, inl, inr, List, [], ◌∷◌, length, Option, Some, None, refl, sym, subst, arith}, specs.{Prelude.{map, find}, List.range_with_len, Option.{option_to_list, option_map_or}}}
+use Rattle.lists.{specs.Elements.{Each, IsIn}, proofs.{Members.{each_in, each_from, in_map, in_flat_map}, FirstFound.found_in}}
+use Rattle.model_board.specs.{Paths.{Path, parent, last_part, IsPart, IsPath}, Board.Row, State.{BoardFunction, row_at}, Cycles.{secondary_register, BusAddress, reached}}
+use Rattle.model_findings.{specs.Found.{is_bridge_at, bus_now, address_now, IsFoundOnce, address_at, scan_order, scanned, ScanFindsAll}, proofs.Found.found_once}
 
 in_range : (a n k : ℕ) → k < n → IsIn (a + k) (range_with_len a n)
 in_range a zero k h = absurd (omega arith)

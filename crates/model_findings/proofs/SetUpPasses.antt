@@ -1,38 +1,10 @@
 -- What set-up leaves has no problem.
-use Rattle.std.proofs.Common.{◌≡◌, ◌+◌, ◌-◌, ◌<◌, List, [], ◌∷◌, ◌++◌, refl, sym, ap, subst, arith}
-use Rattle.std.specs.Prelude.{map, flat_map, IsTrue}
-use Rattle.lists.proofs.Members.{pairs_of_map, each_in, each_from, in_flat_map, from_flat_map, from_map, from_filter, pairs_weaker, pairs_flat_map, pairs_of_part}
-use Rattle.lists.specs.Elements.{Each, EachPair, IsIn}
-use Rattle.model_registers.specs.Decoding.{opens_space}
-use Rattle.model_board.specs.Board.{Board, Row, Decl}
-use Rattle.model_board.specs.Paths.{Path, path_before}
-use Rattle.model_board.specs.State.{BoardFunction}
-use Rattle.model_registers.specs.Apertures.{Apertures}
-use Rattle.model_set_up.specs.Layout.{IsLawful, layout}
-use Rattle.model_set_up.specs.PlacementLaws.{HasRows}
-use Rattle.model_set_up.specs.SetUp.{set_up_state}
-use Rattle.model_board.specs.Routing.{RoutingRow, row_of, routing}
-use Rattle.model_set_up.specs.PlacedRegions.{PlacedRegion, placed_at, placed_regions}
-use Rattle.model_set_up.specs.UniqueClaimant.{CanBePlaced, HasUniqueClaims}
-use Rattle.model_set_up.specs.WindowLaws.{HasPlacedWindows}
-use Rattle.lists.proofs.EachLemmas.{pairs_filter}
-use Rattle.model_board.proofs.PathOrder.{path_same}
-use Rattle.model_set_up.proofs.Holders.{Holds, holds_is}
-use Rattle.model_board.proofs.Routing.{forwarded_by_routing}
-use Rattle.model_set_up.proofs.LawfulPlacement.{layout_is_lawful}
-use Rattle.model_set_up.proofs.DeclaredRows.{rows_are_declared}
-use Rattle.model_set_up.proofs.BoardWindows.{set_up_windows}
-use Rattle.model_set_up.proofs.SetUpNumbers.{set_up_has_numbers}
-use Rattle.model_set_up.proofs.UniqueClaimant.{unique_claimant, left}
-use Rattle.model_findings.specs.OpenRegions.{open_of, open_regions, regions_of}
-use Rattle.model_findings.specs.Agents.{Agent, agents_of, agents}
-use Rattle.model_findings.specs.Orderly.{IsForwarded, AreAlone, IsOrderly}
-use Rattle.model_findings.proofs.Answering.{region_answers}
-use Rattle.model_findings.proofs.Found.{numbers_of_board}
-use Rattle.model_findings.proofs.Witnesses.{problems_decide}
-use Rattle.model_findings.specs.SetUpPasses.{SetUpPasses, RoutedAsSetUp}
-use Rattle.model_findings.proofs.Placing.{regions_placed}
-use Rattle.model_findings.proofs.Holding.{one_holds, agent_held}
+use Rattle.std.{proofs.Common.{◌≡◌, ◌+◌, ◌-◌, ◌<◌, List, [], ◌∷◌, ◌++◌, refl, sym, ap, subst, arith}, specs.Prelude.{map, flat_map, IsTrue}}
+use Rattle.lists.{proofs.{Members.{pairs_of_map, each_in, each_from, in_flat_map, from_flat_map, from_map, from_filter, pairs_weaker, pairs_flat_map, pairs_of_part}, EachLemmas.pairs_filter}, specs.Elements.{Each, EachPair, IsIn}}
+use Rattle.model_registers.specs.{Decoding.opens_space, Apertures.Apertures}
+use Rattle.model_board.{specs.{Board.{Board, Row, Decl}, Paths.{Path, path_before}, State.BoardFunction, Routing.{RoutingRow, row_of, routing}}, proofs.{PathOrder.path_same, Routing.forwarded_by_routing}}
+use Rattle.model_set_up.{specs.{Layout.{IsLawful, layout}, PlacementLaws.HasRows, SetUp.set_up_state, PlacedRegions.{PlacedRegion, placed_at, placed_regions}, UniqueClaimant.{CanBePlaced, HasUniqueClaims}, WindowLaws.HasPlacedWindows}, proofs.{Holders.{Holds, holds_is}, LawfulPlacement.layout_is_lawful, DeclaredRows.rows_are_declared, BoardWindows.set_up_windows, SetUpNumbers.set_up_has_numbers, UniqueClaimant.{unique_claimant, left}}}
+use Rattle.model_findings.{specs.{OpenRegions.{open_of, open_regions, regions_of}, Agents.{Agent, agents_of, agents}, Orderly.{IsForwarded, AreAlone, IsOrderly}, SetUpPasses.{SetUpPasses, RoutedAsSetUp}}, proofs.{Answering.region_answers, Found.numbers_of_board, Witnesses.problems_decide, Placing.regions_placed, Holding.{one_holds, agent_held}}}
 
 module _ (b : Board) (a : Apertures) (can : CanBePlaced b a) (lawful : IsLawful b a (layout b a)) (has : HasRows b a) (windows : Each (λ r. HasPlacedWindows b a r.path r.decl) b) (unique : HasUniqueClaims b a (set_up_state b a).functions) where
   abbrev fs : List BoardFunction

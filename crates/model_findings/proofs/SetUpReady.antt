@@ -1,48 +1,10 @@
 -- What set-up leaves lacks nothing.
-use Rattle.std.proofs.Common.{◌≡◌, ℕ, ◌+◌, ◌≤◌, ◌<◌, ◌⊎◌, true, false, List, [], ◌∷◌, Option, refl, sym, ◌∙◌, subst, arith, rules}
-use Rattle.std.specs.Prelude.{map, filter, IsTrue}
-use Rattle.std.proofs.lemmas.Bool.Decides.{nat_tests}
-use Rattle.lists.specs.Elements.{Each, IsIn}
-use Rattle.lists.proofs.Members.{each_in, each_from, from_flat_map, from_map, from_filter, any_in}
-use Rattle.model_registers.specs.Apertures.{Aperture, Apertures}
-use Rattle.model_registers.specs.Declarations.{Region, Endpoint}
-use Rattle.model_registers.specs.Decoding.{Space, base_address, space_of, same_space, opens_space}
-use Rattle.model_registers.specs.EndpointTable.{BaseAddress}
-use Rattle.model_registers.specs.Registers.{File}
-use Rattle.model_board.specs.Board.{Board, Row, Decl, endpoint, bridge, is_bridge, is_bridge_at, is_multifunction}
-use Rattle.model_board.specs.BusNumbers.{Enumerates, bus_behind}
-use Rattle.model_board.specs.Paths.{Path, IsPath, parent}
-use Rattle.model_board.specs.State.{BoardFunction}
-use Rattle.model_board.specs.Routing.{RoutingRow, row_of, routing}
-use Rattle.model_board.specs.Windows.{is_in}
-use Rattle.model_set_up.specs.Pools.{Pool, pref_pool, bridges_above}
-use Rattle.model_set_up.specs.Layout.{LayoutRow, IsLawful, layout}
-use Rattle.model_set_up.specs.PlacementLaws.{pool_at, region_row, HasRows}
-use Rattle.model_set_up.specs.PlacedRegions.{PlacedRegion, placed, pool_space, holds}
-use Rattle.model_set_up.specs.SetUp.{first_of, set_up_file, set_up_state}
-use Rattle.model_set_up.specs.UniqueClaimant.{CanBePlaced}
-use Rattle.model_set_up.specs.WindowLaws.{placed_window, HasPlacedWindows}
-use Rattle.model_set_up.proofs.Holders.{Holds, holds_is, self_space}
-use Rattle.model_set_up.proofs.PlacedApart.{pool_of_space}
-use Rattle.model_set_up.proofs.PlacedReads.{InAperture}
-use Rattle.model_set_up.proofs.PlacedRegions.{region_there}
-use Rattle.model_set_up.proofs.SetUpNumbers.{numbers_small, set_up_has_numbers}
-use Rattle.model_set_up.proofs.SetUpRegisters.{endpoint_opens}
-use Rattle.model_set_up.proofs.UniqueClaimant.{bases}
-use Rattle.model_set_up.proofs.LawfulPlacement.{layout_is_lawful}
-use Rattle.model_set_up.proofs.DeclaredRows.{rows_are_declared}
-use Rattle.model_set_up.proofs.BoardWindows.{set_up_windows}
-use Rattle.model_findings.specs.OpenRegions.{region_now, regions_of, open_of, open_regions}
-use Rattle.model_findings.specs.Found.{bus_now}
-use Rattle.model_findings.proofs.Found.{numbers_of_board}
-use Rattle.model_findings.proofs.Holding.{window_row_held}
-use Rattle.lists.proofs.Members.{none_front, each_none}
-use Rattle.model_set_up.proofs.UniqueClaimant.{left}
-use Rattle.model_findings.proofs.Placing.{regions_placed}
-use Rattle.model_findings.proofs.SetUpPasses.{set_up_passes, routed_as_set_up}
-use Rattle.model_findings.specs.Lacks.{primary_register, is_in_apertures, is_plain, plain_of, plain_regions, prefetches, primary_lack, lacks}
-use Rattle.model_findings.specs.ReadyLaws.{IsWithinApertures, PrefetchesNone, LacksNothing, SetUpIsReady, ReadyAsSetUp}
-use Rattle.model_findings.proofs.Lacks.{nothing_lacking}
+use Rattle.std.{proofs.{Common.{◌≡◌, ℕ, ◌+◌, ◌≤◌, ◌<◌, ◌⊎◌, true, false, List, [], ◌∷◌, Option, refl, sym, ◌∙◌, subst, arith, rules}, lemmas.Bool.Decides.nat_tests}, specs.Prelude.{map, filter, IsTrue}}
+use Rattle.lists.{specs.Elements.{Each, IsIn}, proofs.Members.{each_in, each_from, from_flat_map, from_map, from_filter, any_in, none_front, each_none}}
+use Rattle.model_registers.specs.{Apertures.{Aperture, Apertures}, Declarations.{Region, Endpoint}, Decoding.{Space, base_address, space_of, same_space, opens_space}, EndpointTable.BaseAddress, Registers.File}
+use Rattle.model_board.specs.{Board.{Board, Row, Decl, endpoint, bridge, is_bridge, is_bridge_at, is_multifunction}, BusNumbers.{Enumerates, bus_behind}, Paths.{Path, IsPath, parent}, State.BoardFunction, Routing.{RoutingRow, row_of, routing}, Windows.is_in}
+use Rattle.model_set_up.{specs.{Pools.{Pool, pref_pool, bridges_above}, Layout.{LayoutRow, IsLawful, layout}, PlacementLaws.{pool_at, region_row, HasRows}, PlacedRegions.{PlacedRegion, placed, pool_space, holds}, SetUp.{first_of, set_up_file, set_up_state}, UniqueClaimant.CanBePlaced, WindowLaws.{placed_window, HasPlacedWindows}}, proofs.{Holders.{Holds, holds_is, self_space}, PlacedApart.pool_of_space, PlacedReads.InAperture, PlacedRegions.region_there, SetUpNumbers.{numbers_small, set_up_has_numbers}, SetUpRegisters.endpoint_opens, UniqueClaimant.{bases, left}, LawfulPlacement.layout_is_lawful, DeclaredRows.rows_are_declared, BoardWindows.set_up_windows}}
+use Rattle.model_findings.{specs.{OpenRegions.{region_now, regions_of, open_of, open_regions}, Found.bus_now, Lacks.{primary_register, is_in_apertures, is_plain, plain_of, plain_regions, prefetches, primary_lack, lacks}, ReadyLaws.{IsWithinApertures, PrefetchesNone, LacksNothing, SetUpIsReady, ReadyAsSetUp}}, proofs.{Found.numbers_of_board, Holding.window_row_held, Placing.regions_placed, SetUpPasses.{set_up_passes, routed_as_set_up}, Lacks.nothing_lacking}}
 
 -- ---- apertures
 

@@ -1,6 +1,5 @@
 -- Where nothing is told of the elements of a list.
-use Rattle.std.proofs.Common.{◌≡◌, List, [], ◌∷◌, Option, None, refl, arith}
-use Rattle.std.specs.Prelude.{map}
+use Rattle.std.{proofs.Common.{◌≡◌, List, [], ◌∷◌, Option, None, refl, arith}, specs.Prelude.map}
 use Rattle.lists.specs.Elements.{Each, first_some}
 
 -- where nothing is told, nothing is told of any element, and the other way round

@@ -1,22 +1,10 @@
 -- In a ready state each byte of each declared region is claimed where its register says, within the apertures.
 use Rattle.std.proofs.Common.{◌≡◌, ℕ, ◌<◌, true, arith}
-use Rattle.lists.specs.Elements.{Each, IsIn}
-use Rattle.lists.proofs.Members.{each_in, in_map, in_filter, in_flat_map}
-use Rattle.model_registers.specs.Declarations.{Region, Endpoint}
-use Rattle.model_registers.specs.Decoding.{base_address, opens_space, command_word, space_of}
-use Rattle.model_registers.specs.Registers.{File}
-use Rattle.model_board.specs.Board.{Decl, endpoint}
-use Rattle.model_board.specs.Paths.{Path}
-use Rattle.model_board.specs.Routing.{row_of, routing}
-use Rattle.model_set_up.specs.PlacedRegions.{PlacedRegion}
-use Rattle.model_set_up.specs.UniqueClaimant.{IsClaimed}
-use Rattle.model_findings.specs.OpenRegions.{region_now, regions_of, open_of, open_regions}
-use Rattle.model_findings.proofs.Claims.{orderly_claims}
-use Rattle.model_findings.proofs.Found.{found_once}
-use Rattle.model_findings.proofs.Witnesses.{problems_decide}
-use Rattle.model_findings.specs.Lacks.{is_plain, plain_of, plain_regions}
-use Rattle.model_findings.specs.ReadyLaws.{IsWithinApertures, PrefetchesNone, LacksNothing, ReadyIsUsable, ReadyIsFound}
-use Rattle.model_findings.proofs.Lacks.{lacking_nothing}
+use Rattle.lists.{specs.Elements.{Each, IsIn}, proofs.Members.{each_in, in_map, in_filter, in_flat_map}}
+use Rattle.model_registers.specs.{Declarations.{Region, Endpoint}, Decoding.{base_address, opens_space, command_word, space_of}, Registers.File}
+use Rattle.model_board.specs.{Board.{Decl, endpoint}, Paths.Path, Routing.{row_of, routing}}
+use Rattle.model_set_up.specs.{PlacedRegions.PlacedRegion, UniqueClaimant.IsClaimed}
+use Rattle.model_findings.{specs.{OpenRegions.{region_now, regions_of, open_of, open_regions}, Lacks.{is_plain, plain_of, plain_regions}, ReadyLaws.{IsWithinApertures, PrefetchesNone, LacksNothing, ReadyIsUsable, ReadyIsFound}}, proofs.{Claims.orderly_claims, Found.found_once, Witnesses.problems_decide, Lacks.lacking_nothing}}
 
 -- a declared region is one of its function's, where its register says
 pub region_here : (p : Path) (decl : Decl) (file : File) (d : Endpoint) (g : Region) → decl ≡ endpoint d → IsIn g d.regions

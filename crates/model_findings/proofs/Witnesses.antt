@@ -1,14 +1,8 @@
 -- Each problem is real, and there is none where and only where a state is in order.
 use Rattle.std.proofs.Common.{List, arith}
-use Rattle.lists.specs.Elements.{IsIn}
-use Rattle.model_board.specs.State.{BoardFunction}
-use Rattle.model_board.specs.Routing.{routing}
-use Rattle.lists.proofs.Members.{each_from, front_or_back, from_flat_map}
-use Rattle.model_findings.specs.Problems.{Problem, numbering_problems}
-use Rattle.model_findings.specs.Witnesses.{IsReal, ProblemsAreReal, ProblemsDecide}
-use Rattle.model_findings.proofs.Problems.{IsRouted, routing_is_real, routing_decides}
-use Rattle.lists.proofs.Members.{none_front, none_back}
-use Rattle.model_findings.proofs.Found.{lost_function, numbering_decides}
+use Rattle.lists.{specs.Elements.IsIn, proofs.Members.{each_from, front_or_back, from_flat_map, none_front, none_back}}
+use Rattle.model_board.specs.{State.BoardFunction, Routing.routing}
+use Rattle.model_findings.{specs.{Problems.{Problem, numbering_problems}, Witnesses.{IsReal, ProblemsAreReal, ProblemsDecide}}, proofs.{Problems.{IsRouted, routing_is_real, routing_decides}, Found.{lost_function, numbering_decides}}}
 
 of_routing : (fs : List BoardFunction) (p : Problem) → IsRouted (routing fs) p → IsReal fs p
 of_routing fs p h = grind arith

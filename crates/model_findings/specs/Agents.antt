@@ -5,13 +5,9 @@
 --     Agent, agents      an open region, or a bridge in one of the spaces
 --     answers space n a      the agent answers the address
 --     on_one_bus a b      both stand on one bus
-use Rattle.std.specs.Prelude.{List, [], ◌∷◌, ◌++◌, ℕ, ◌+◌, Bool, ◌&&◌, nat_le, nat_lt, if◌then◌else◌, Option, Some}
-use Rattle.std.specs.Prelude.{None, map, flat_map}
-use Rattle.std.specs.List.{list_any}
+use Rattle.std.specs.{Prelude.{List, [], ◌∷◌, ◌++◌, ℕ, ◌+◌, Bool, ◌&&◌, nat_le, nat_lt, if◌then◌else◌, Option, Some, None, map, flat_map}, List.list_any}
 use Rattle.model_registers.specs.Decoding.{Space, io, memory, same_space, opens_space}
-use Rattle.model_board.specs.Paths.{Path, path_eq, parent}
-use Rattle.model_board.specs.Windows.{Window}
-use Rattle.model_board.specs.Routing.{RoutingRow, regions, windows}
+use Rattle.model_board.specs.{Paths.{Path, path_eq, parent}, Windows.Window, Routing.{RoutingRow, regions, windows}}
 use Rattle.model_set_up.specs.PlacedRegions.{PlacedRegion}
 use Rattle.model_findings.specs.OpenRegions.{open_of}
 

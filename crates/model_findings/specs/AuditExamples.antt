@@ -3,26 +3,11 @@
 --     one_card, two_bridges      a bridge with a card of 1 MB behind it; the same behind each of two bridges
 --     renumbered n      the main board after set-up, with another Secondary Bus Number in its bridge
 use Rattle.std.specs.Prelude.{List, [], ◌∷◌, ◌≡◌, ℕ, ◌*◌, false, Option, Some, None, codes}
-use Rattle.model_registers.specs.Registers.{config, write}
-use Rattle.model_registers.specs.ByteEnables.{lanes}
-use Rattle.model_registers.specs.Declarations.{mem32}
-use Rattle.model_registers.specs.EndpointTable.{BaseAddress}
-use Rattle.model_registers.specs.Decoding.{memory}
-use Rattle.model_board.specs.Paths.{Path}
-use Rattle.model_board.specs.State.{BoardFunction, with_file}
-use Rattle.model_board.specs.Examples.{part, main_board, main_apertures}
-use Rattle.model_set_up.specs.SetUp.{set_up_state}
-use Rattle.model_board.specs.AtReset.{reset_state}
-use Rattle.model_board.specs.Windows.{Window}
-use Rattle.model_board.specs.Cycles.{BusAddress}
-use Rattle.model_board.specs.Routing.{RoutingRow, regions, windows, routing}
-use Rattle.model_set_up.specs.PlacedRegions.{PlacedRegion}
+use Rattle.model_registers.specs.{Registers.{config, write}, ByteEnables.lanes, Declarations.mem32, EndpointTable.BaseAddress, Decoding.memory}
+use Rattle.model_board.specs.{Paths.Path, State.{BoardFunction, with_file}, Examples.{part, main_board, main_apertures}, AtReset.reset_state, Windows.Window, Cycles.BusAddress, Routing.{RoutingRow, regions, windows, routing}}
+use Rattle.model_set_up.specs.{SetUp.set_up_state, PlacedRegions.PlacedRegion}
 use Rattle.model_guests.specs.Text.{text_of_lines}
-use Rattle.model_findings.specs.OpenRegions.{region_now, closed_regions}
-use Rattle.model_findings.specs.Agents.{region_agent, bridge_agent}
-use Rattle.model_findings.specs.Problems.{not_forwarded, contended, not_found, routing_problems, problems}
-use Rattle.model_findings.specs.Notes.{idle, notes}
-use Rattle.model_findings.specs.AuditText.{audit_text, audit}
+use Rattle.model_findings.specs.{OpenRegions.{region_now, closed_regions}, Agents.{region_agent, bridge_agent}, Problems.{not_forwarded, contended, not_found, routing_problems, problems}, Notes.{idle, notes}, AuditText.{audit_text, audit}}
 
 abbrev pub between : ℕ → ℕ → Option Window
 between first last = Some (record { first = first; last = last })

@@ -5,17 +5,12 @@
 --     problem_text      a problem with its witness
 --     total_text n      how many problems there are
 --     audit_text ps, audit fs      the whole text of some problems, and of a register state
-use Rattle.std.specs.Prelude.{List, [], ◌∷◌, ◌++◌, ℕ, ◌==◌, if◌then◌else◌, map, length, codes, decimal}
-use Rattle.std.specs.Option.{option_map_or}
+use Rattle.std.specs.{Prelude.{List, [], ◌∷◌, ◌++◌, ℕ, ◌==◌, if◌then◌else◌, map, length, codes, decimal}, Option.option_map_or}
 use Rattle.model_registers.specs.Decoding.{Space, io, memory}
-use Rattle.model_board.specs.State.{BoardFunction}
-use Rattle.model_board.specs.Cycles.{BusAddress}
+use Rattle.model_board.specs.{State.BoardFunction, Cycles.BusAddress}
 use Rattle.model_set_up.specs.PlacedRegions.{PlacedRegion}
-use Rattle.model_guests.specs.Text.{Text, text_of_lines}
-use Rattle.model_guests.specs.Replies.{hex_digits}
-use Rattle.model_guests.specs.PathTexts.{hexadecimal, path_text}
-use Rattle.model_findings.specs.Agents.{Agent}
-use Rattle.model_findings.specs.Problems.{Problem, not_forwarded, contended, not_found, problems}
+use Rattle.model_guests.specs.{Text.{Text, text_of_lines}, Replies.hex_digits, PathTexts.{hexadecimal, path_text}}
+use Rattle.model_findings.specs.{Agents.Agent, Problems.{Problem, not_forwarded, contended, not_found, problems}}
 
 abbrev pub register_text : ℕ → Text
 register_text n = codes " bar" ++ decimal n

@@ -8,14 +8,9 @@
 --     IsFoundOnce fs f, FoundOnce      then it is reached by that address alone
 --     scanned fs, ScanFindsAll      what cycles for all addresses reach, in scan order: all functions
 --     NumbersOfBoard      a board that holds its own numbers is numbered, and its addresses are those of the board
-use Rattle.std.specs.Prelude.{List, [], ◌∷◌, ◌≡◌, ℕ, ◌<◌, ◌/◌, ◌%◌, Bool, ◌&&◌, Option, Some, find, flat_map, map}
-use Rattle.std.specs.Option.{option_map, option_map_or, option_to_list}
-use Rattle.std.specs.List.{range_with_len}
+use Rattle.std.specs.{Prelude.{List, [], ◌∷◌, ◌≡◌, ℕ, ◌<◌, ◌/◌, ◌%◌, Bool, ◌&&◌, Option, Some, find, flat_map, map}, Option.{option_map, option_map_or, option_to_list}, List.range_with_len}
 use Rattle.lists.specs.Elements.{Each, IsIn}
-use Rattle.model_board.specs.Paths.{Path, path_eq, parent, last_part}
-use Rattle.model_board.specs.Board.{is_bridge, Board, IsBoard}
-use Rattle.model_board.specs.State.{BoardFunction}
-use Rattle.model_board.specs.Cycles.{secondary_register, BusAddress, reached}
+use Rattle.model_board.specs.{Paths.{Path, path_eq, parent, last_part}, Board.{is_bridge, Board, IsBoard}, State.BoardFunction, Cycles.{secondary_register, BusAddress, reached}}
 use Rattle.model_set_up.specs.Reach.{HasNumbers, address_of}
 use Rattle.model_findings.specs.Orderly.{IsStateOfBoard}
 

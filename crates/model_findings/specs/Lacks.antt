@@ -11,26 +11,12 @@
 --     lacks a fs      all lacks, kind by kind, in path order, then by register
 --     lack_count a fs      how many problems and lacks there are
 --     is_ready, IsReady      neither problems nor lacks
-use Rattle.std.specs.Prelude.{List, [], ◌∷◌, ◌++◌, ◌≡◌, ℕ, ◌+◌, Bool, false, ◌&&◌, ◌==◌, not, if◌then◌else◌}
-use Rattle.std.specs.Prelude.{Option, None, map, filter, flat_map, length}
-use Rattle.std.specs.List.{list_any}
-use Rattle.std.specs.Option.{option_map, option_to_list}
+use Rattle.std.specs.{Prelude.{List, [], ◌∷◌, ◌++◌, ◌≡◌, ℕ, ◌+◌, Bool, false, ◌&&◌, ◌==◌, not, if◌then◌else◌, Option, None, map, filter, flat_map, length}, List.list_any, Option.{option_map, option_to_list}}
 use Rattle.lists.specs.Elements.{first_some}
-use Rattle.model_registers.specs.Registers.{config, File, number}
-use Rattle.model_registers.specs.Apertures.{Aperture, Apertures}
-use Rattle.model_registers.specs.Declarations.{Kind, io_kind, mem32, mem64}
-use Rattle.model_registers.specs.Decoding.{Space, io, memory, opens_space}
-use Rattle.model_registers.specs.EndpointTable.{BaseAddress}
-use Rattle.model_board.specs.Paths.{Path, leads_to, parent}
-use Rattle.model_board.specs.Board.{is_bridge}
-use Rattle.model_board.specs.State.{BoardFunction}
-use Rattle.model_board.specs.Windows.{is_in}
-use Rattle.model_board.specs.Routing.{RoutingRow, regions, windows, routing}
+use Rattle.model_registers.specs.{Registers.{config, File, number}, Apertures.{Aperture, Apertures}, Declarations.{Kind, io_kind, mem32, mem64}, Decoding.{Space, io, memory, opens_space}, EndpointTable.BaseAddress}
+use Rattle.model_board.specs.{Paths.{Path, leads_to, parent}, Board.is_bridge, State.BoardFunction, Windows.is_in, Routing.{RoutingRow, regions, windows, routing}}
 use Rattle.model_set_up.specs.PlacedRegions.{PlacedRegion, holds}
-use Rattle.model_findings.specs.OpenRegions.{region_now, open_regions, closed_regions}
-use Rattle.model_findings.specs.Agents.{Extent, extent_holds, window_extent}
-use Rattle.model_findings.specs.Problems.{least, problems}
-use Rattle.model_findings.specs.Found.{bus_now}
+use Rattle.model_findings.specs.{OpenRegions.{region_now, open_regions, closed_regions}, Agents.{Extent, extent_holds, window_extent}, Problems.{least, problems}, Found.bus_now}
 
 -- ---- apertures
 

@@ -2,14 +2,11 @@
 -- chapter 4.
 --     Note      a window that opens on nothing
 --     notes rows      all of them, in path order
-use Rattle.std.specs.Prelude.{List, [], ◌∷◌, ◌++◌, ◌+◌, Bool, ◌&&◌, nat_lt, if◌then◌else◌, flat_map}
-use Rattle.std.specs.List.{list_any}
+use Rattle.std.specs.{Prelude.{List, [], ◌∷◌, ◌++◌, ◌+◌, Bool, ◌&&◌, nat_lt, if◌then◌else◌, flat_map}, List.list_any}
 use Rattle.model_registers.specs.Decoding.{Space, io, memory, same_space}
-use Rattle.model_board.specs.Paths.{Path, leads_to}
-use Rattle.model_board.specs.Routing.{RoutingRow}
+use Rattle.model_board.specs.{Paths.{Path, leads_to}, Routing.RoutingRow}
 use Rattle.model_set_up.specs.PlacedRegions.{PlacedRegion}
-use Rattle.model_findings.specs.OpenRegions.{open_regions}
-use Rattle.model_findings.specs.Agents.{Extent, forwarded_extents}
+use Rattle.model_findings.specs.{OpenRegions.open_regions, Agents.{Extent, forwarded_extents}}
 
 pub data Note : Type 0 where
   -- an open window of a bridge, in which no open region behind it has an address

@@ -4,11 +4,8 @@
 --     open_claim      the claim of the first open region that holds an address
 use Rattle.std.specs.Prelude.{List, [], ℕ, not, Option, map, filter, flat_map}
 use Rattle.lists.specs.Elements.{first_some}
-use Rattle.model_registers.specs.EndpointTable.{BaseAddress}
-use Rattle.model_registers.specs.Decoding.{Space, space_of, opens_space}
-use Rattle.model_board.specs.Paths.{Path}
-use Rattle.model_board.specs.Claims.{Claim}
-use Rattle.model_board.specs.Routing.{RoutingRow, regions, windows}
+use Rattle.model_registers.specs.{EndpointTable.BaseAddress, Decoding.{Space, space_of, opens_space}}
+use Rattle.model_board.specs.{Paths.Path, Claims.Claim, Routing.{RoutingRow, regions, windows}}
 use Rattle.model_set_up.specs.PlacedRegions.{PlacedRegion, claim_in}
 
 -- a region where its register says now

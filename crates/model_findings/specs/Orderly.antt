@@ -6,19 +6,12 @@
 --     IsStateOfBoard fs      lawful declarations at lawful places, whatever the registers hold
 --     HasClaimsOfRegions fs      the claims are those of the open regions, and each address has one at most
 --     OrderlyClaims      so it is in each orderly state
-use Rattle.std.specs.Prelude.{List, ◌≡◌, ℕ, ◌<◌, IsTrue, IsFalse, map}
-use Rattle.std.specs.Option.{option_to_list}
+use Rattle.std.specs.{Prelude.{List, ◌≡◌, ℕ, ◌<◌, IsTrue, IsFalse, map}, Option.option_to_list}
 use Rattle.lists.specs.Elements.{Each, EachPair}
 use Rattle.model_registers.specs.Decoding.{Space}
-use Rattle.model_board.specs.Board.{IsBoard}
-use Rattle.model_board.specs.Lawful.{HasLawfulDecls}
-use Rattle.model_board.specs.State.{BoardFunction, row_at}
-use Rattle.model_board.specs.Claims.{claims, first_claim}
-use Rattle.model_board.specs.Routing.{RoutingRow, routing, is_routed}
-use Rattle.model_set_up.specs.PlacedRegions.{PlacedRegion, holds}
-use Rattle.model_set_up.specs.UniqueClaimant.{IsClaimed, ShareNone}
-use Rattle.model_findings.specs.OpenRegions.{open_regions, open_claim}
-use Rattle.model_findings.specs.Agents.{Agent, agents, answers, on_one_bus}
+use Rattle.model_board.specs.{Board.IsBoard, Lawful.HasLawfulDecls, State.{BoardFunction, row_at}, Claims.{claims, first_claim}, Routing.{RoutingRow, routing, is_routed}}
+use Rattle.model_set_up.specs.{PlacedRegions.{PlacedRegion, holds}, UniqueClaimant.{IsClaimed, ShareNone}}
+use Rattle.model_findings.specs.{OpenRegions.{open_regions, open_claim}, Agents.{Agent, agents, answers, on_one_bus}}
 
 abbrev pub IsForwarded : List RoutingRow → PlacedRegion → Type 0
 IsForwarded rows q = (n : ℕ) → IsTrue (holds q.space n q) → IsTrue (is_routed rows q.path q.space n)

@@ -7,18 +7,11 @@
 --     routing_problems rows      those of the first two kinds: region by region, then pair by pair of agents
 --     numbering_problems fs      those of the third, function by function
 --     problems fs      all of them
-use Rattle.std.specs.Prelude.{List, [], ◌∷◌, ◌++◌, ℕ, false, ◌&&◌, not, min, if◌then◌else◌, Option, Some, None}
-use Rattle.std.specs.Prelude.{map, filter, flat_map}
-use Rattle.std.specs.Option.{option_map, option_map_or, option_to_list}
+use Rattle.std.specs.{Prelude.{List, [], ◌∷◌, ◌++◌, ℕ, false, ◌&&◌, not, min, if◌then◌else◌, Option, Some, None, map, filter, flat_map}, Option.{option_map, option_map_or, option_to_list}}
 use Rattle.lists.specs.Elements.{first_some}
-use Rattle.model_board.specs.Paths.{Path, path_eq, leads_to}
-use Rattle.model_board.specs.State.{BoardFunction}
-use Rattle.model_board.specs.Cycles.{BusAddress}
-use Rattle.model_board.specs.Routing.{RoutingRow, routing, row_forwards}
+use Rattle.model_board.specs.{Paths.{Path, path_eq, leads_to}, State.BoardFunction, Cycles.BusAddress, Routing.{RoutingRow, routing, row_forwards}}
 use Rattle.model_set_up.specs.PlacedRegions.{PlacedRegion, holds}
-use Rattle.model_findings.specs.OpenRegions.{open_regions}
-use Rattle.model_findings.specs.Agents.{forwarded_extents, Agent, agents, answers, on_one_bus}
-use Rattle.model_findings.specs.Found.{address_now, path_reached}
+use Rattle.model_findings.specs.{OpenRegions.open_regions, Agents.{forwarded_extents, Agent, agents, answers, on_one_bus}, Found.{address_now, path_reached}}
 
 abbrev pub least : List ℕ → Option ℕ
 least [] = None

@@ -3,21 +3,11 @@
 --     with_primary n      the same with another Primary Bus Number in its bridge
 --     ReadyExamples      what is told of some states
 use Rattle.std.specs.Prelude.{List, [], ◌∷◌, ◌≡◌, ℕ, true, false, None, codes}
-use Rattle.model_registers.specs.Registers.{config, write}
-use Rattle.model_registers.specs.ByteEnables.{lanes}
-use Rattle.model_registers.specs.Decoding.{Space, io, memory}
-use Rattle.model_board.specs.Paths.{Path}
-use Rattle.model_board.specs.State.{BoardFunction, with_file}
-use Rattle.model_board.specs.AtReset.{reset_state}
-use Rattle.model_board.specs.Examples.{main_board, main_apertures}
-use Rattle.model_set_up.specs.SetUp.{set_up_state}
-use Rattle.model_set_up.specs.PlacedRegions.{PlacedRegion}
+use Rattle.model_registers.specs.{Registers.{config, write}, ByteEnables.lanes, Decoding.{Space, io, memory}}
+use Rattle.model_board.specs.{Paths.Path, State.{BoardFunction, with_file}, AtReset.reset_state, Examples.{main_board, main_apertures}}
+use Rattle.model_set_up.specs.{SetUp.set_up_state, PlacedRegions.PlacedRegion}
 use Rattle.model_guests.specs.Text.{text_of_lines}
-use Rattle.model_findings.specs.Problems.{routing_problems}
-use Rattle.model_findings.specs.AuditExamples.{between, card, card_at, on_root, behind, one_card}
-use Rattle.model_findings.specs.Lacks.{not_open, outside_apertures, prefetched_by, other_primary}
-use Rattle.model_findings.specs.Lacks.{routing_lacks, lacks, is_ready}
-use Rattle.model_findings.specs.ReadyText.{ready_report}
+use Rattle.model_findings.specs.{Problems.routing_problems, AuditExamples.{between, card, card_at, on_root, behind, one_card}, Lacks.{not_open, outside_apertures, prefetched_by, other_primary, routing_lacks, lacks, is_ready}, ReadyText.ready_report}
 
 abbrev pub left : List BoardFunction
 left = (set_up_state main_board main_apertures).functions

@@ -11,24 +11,10 @@
 --     HasPrimaries, ReadyAsSetUp      and each state with its routing registers and bus numbers is
 use Rattle.std.specs.Prelude.{List, [], ◌∷◌, ◌++◌, ◌≡◌, ℕ, ◌≤◌, ◌<◌, IsTrue, IsFalse, ◌↔◌}
 use Rattle.lists.specs.Elements.{IsIn, Each}
-use Rattle.model_registers.specs.Apertures.{Apertures}
-use Rattle.model_registers.specs.Declarations.{Region, Endpoint}
-use Rattle.model_registers.specs.Decoding.{opens_space, is_open, space_of, base_address}
-use Rattle.model_board.specs.Paths.{Path, leads_to, parent}
-use Rattle.model_board.specs.Board.{Board, endpoint, is_bridge}
-use Rattle.model_board.specs.BusNumbers.{bus_of, Enumerates}
-use Rattle.model_board.specs.State.{BoardFunction}
-use Rattle.model_board.specs.Routing.{RoutingRow, routing}
-use Rattle.model_set_up.specs.PlacedRegions.{PlacedRegion, holds}
-use Rattle.model_set_up.specs.Reach.{HasNumbers}
-use Rattle.model_set_up.specs.SetUp.{set_up_state}
-use Rattle.model_set_up.specs.UniqueClaimant.{CanBePlaced, IsClaimed}
-use Rattle.model_findings.specs.OpenRegions.{region_now, regions_of, open_regions}
-use Rattle.model_findings.specs.Orderly.{IsStateOfBoard}
-use Rattle.model_findings.specs.Found.{bus_now, IsFoundOnce}
-use Rattle.model_findings.specs.Witnesses.{IsInOrder}
-use Rattle.model_findings.specs.Lacks.{is_in_apertures, is_plain, plain_regions, prefetches, Lack}
-use Rattle.model_findings.specs.Lacks.{primary_register, not_open, outside_apertures, prefetched_by, other_primary, lacks, is_ready, IsReady}
+use Rattle.model_registers.specs.{Apertures.Apertures, Declarations.{Region, Endpoint}, Decoding.{opens_space, is_open, space_of, base_address}}
+use Rattle.model_board.specs.{Paths.{Path, leads_to, parent}, Board.{Board, endpoint, is_bridge}, BusNumbers.{bus_of, Enumerates}, State.BoardFunction, Routing.{RoutingRow, routing}}
+use Rattle.model_set_up.specs.{PlacedRegions.{PlacedRegion, holds}, Reach.HasNumbers, SetUp.set_up_state, UniqueClaimant.{CanBePlaced, IsClaimed}}
+use Rattle.model_findings.specs.{OpenRegions.{region_now, regions_of, open_regions}, Orderly.IsStateOfBoard, Found.{bus_now, IsFoundOnce}, Witnesses.IsInOrder, Lacks.{is_in_apertures, is_plain, plain_regions, prefetches, Lack, primary_register, not_open, outside_apertures, prefetched_by, other_primary, lacks, is_ready, IsReady}}
 
 abbrev pub IsWithinApertures : Apertures → PlacedRegion → Type 0
 IsWithinApertures a q = (n : ℕ) → IsTrue (holds q.space n q) → IsTrue (is_in_apertures a q.space n)

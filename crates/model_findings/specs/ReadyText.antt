@@ -7,12 +7,8 @@
 use Rattle.std.specs.Prelude.{List, [], ◌∷◌, ◌++◌, ℕ, ◌==◌, if◌then◌else◌, map, length, codes, decimal}
 use Rattle.model_registers.specs.Apertures.{Apertures}
 use Rattle.model_board.specs.State.{BoardFunction}
-use Rattle.model_guests.specs.Text.{Text, text_of_lines}
-use Rattle.model_guests.specs.Replies.{hex_digits}
-use Rattle.model_guests.specs.PathTexts.{hexadecimal, path_text}
-use Rattle.model_findings.specs.AuditText.{region_text, problem_text, total_text, audit_line}
-use Rattle.model_findings.specs.Problems.{Problem, problems}
-use Rattle.model_findings.specs.Lacks.{Lack, not_open, outside_apertures, prefetched_by, other_primary, lacks}
+use Rattle.model_guests.specs.{Text.{Text, text_of_lines}, Replies.hex_digits, PathTexts.{hexadecimal, path_text}}
+use Rattle.model_findings.specs.{AuditText.{region_text, problem_text, total_text, audit_line}, Problems.{Problem, problems}, Lacks.{Lack, not_open, outside_apertures, prefetched_by, other_primary, lacks}}
 
 abbrev pub lack_text : Lack → Text
 lack_text (not_open q) = region_text q ++ codes " is closed"

@@ -3,14 +3,9 @@
 --     SetUpPasses      so it is on every board that set-up takes
 --     RoutedAsSetUp      and as long as routing registers and bus numbers are those that set-up left
 use Rattle.std.specs.Prelude.{List, [], ◌≡◌}
-use Rattle.model_board.specs.Board.{Board}
-use Rattle.model_board.specs.BusNumbers.{Enumerates}
-use Rattle.model_board.specs.State.{BoardFunction}
+use Rattle.model_board.specs.{Board.Board, BusNumbers.Enumerates, State.BoardFunction, Routing.routing}
 use Rattle.model_registers.specs.Apertures.{Apertures}
-use Rattle.model_board.specs.Routing.{routing}
-use Rattle.model_set_up.specs.Reach.{HasNumbers}
-use Rattle.model_set_up.specs.SetUp.{set_up_state}
-use Rattle.model_set_up.specs.UniqueClaimant.{CanBePlaced}
+use Rattle.model_set_up.specs.{Reach.HasNumbers, SetUp.set_up_state, UniqueClaimant.CanBePlaced}
 use Rattle.model_findings.specs.Problems.{problems}
 
 abbrev pub SetUpPasses : Type 0

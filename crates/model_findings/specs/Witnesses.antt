@@ -5,20 +5,11 @@
 --     IsReal, ProblemsAreReal      each problem of a state is so
 --     IsInOrder fs      orderly, and each function is found
 --     RoutingDecides, NumberingDecides, ProblemsDecide      no problems where and only where it is so
-use Rattle.std.specs.Prelude.{List, [], ◌∷◌, ◌++◌, ◌≡◌, ℕ, ◌≤◌, Option, Some, IsTrue, IsFalse, ◌↔◌, ◌⊎◌}
-use Rattle.std.specs.Option.{option_map}
+use Rattle.std.specs.{Prelude.{List, [], ◌∷◌, ◌++◌, ◌≡◌, ℕ, ◌≤◌, Option, Some, IsTrue, IsFalse, ◌↔◌, ◌⊎◌}, Option.option_map}
 use Rattle.lists.specs.Elements.{IsIn, Each}
-use Rattle.model_board.specs.Paths.{Path, leads_to}
-use Rattle.model_board.specs.State.{BoardFunction}
-use Rattle.model_board.specs.Cycles.{BusAddress, reached}
-use Rattle.model_board.specs.Routing.{RoutingRow, routing, row_forwards}
+use Rattle.model_board.specs.{Paths.{Path, leads_to}, State.BoardFunction, Cycles.{BusAddress, reached}, Routing.{RoutingRow, routing, row_forwards}}
 use Rattle.model_set_up.specs.PlacedRegions.{PlacedRegion, holds}
-use Rattle.model_findings.specs.OpenRegions.{open_regions}
-use Rattle.model_findings.specs.Agents.{Agent, agents, answers, on_one_bus}
-use Rattle.model_findings.specs.Orderly.{IsOrderly}
-use Rattle.model_findings.specs.Found.{address_now, IsNumbered}
-use Rattle.model_findings.specs.Problems.{Problem, not_forwarded, contended, not_found}
-use Rattle.model_findings.specs.Problems.{routing_problems, numbering_problems, problems}
+use Rattle.model_findings.specs.{OpenRegions.open_regions, Agents.{Agent, agents, answers, on_one_bus}, Orderly.IsOrderly, Found.{address_now, IsNumbered}, Problems.{Problem, not_forwarded, contended, not_found, routing_problems, numbering_problems, problems}}
 
 abbrev pub ForwardsAll : PlacedRegion → RoutingRow → Type 0
 ForwardsAll q r = (n : ℕ) → IsTrue (holds q.space n q) → IsTrue (row_forwards q.space n r)

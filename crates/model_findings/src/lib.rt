@@ -5,14 +5,7 @@
 //! apertures and fetched only as it may be, and does each bridge know its bus? What our own set-up leaves passes both.
 #![tactic(auto)]
 
-ghost use Rattle.model_findings.specs.AuditExamples.{WorkedExamples};
-ghost use Rattle.model_findings.specs.Found.{FoundOnce, NumbersOfBoard, ScanFindsAll};
-ghost use Rattle.model_findings.specs.Orderly.{OrderlyClaims};
-ghost use Rattle.model_findings.specs.Witnesses.{NumberingDecides, ProblemsAreReal, ProblemsDecide, RoutingDecides};
-ghost use Rattle.model_findings.specs.SetUpPasses.{RoutedAsSetUp, SetUpPasses};
-ghost use Rattle.model_findings.specs.ReadyExamples.{ReadyExamples};
-ghost use Rattle.model_findings.specs.ReadyLaws.{LacksAreReal, LacksDecide, ReadyAsSetUp, ReadyDecides, ReadyIsFound};
-ghost use Rattle.model_findings.specs.ReadyLaws.{ReadyIsUsable, SetUpIsReady};
+ghost use Rattle.model_findings.specs.{AuditExamples.WorkedExamples, Found.{FoundOnce, NumbersOfBoard, ScanFindsAll}, Orderly.OrderlyClaims, Witnesses.{NumberingDecides, ProblemsAreReal, ProblemsDecide, RoutingDecides}, SetUpPasses.{RoutedAsSetUp, SetUpPasses}, ReadyExamples.ReadyExamples, ReadyLaws.{LacksAreReal, LacksDecide, ReadyAsSetUp, ReadyDecides, ReadyIsFound, ReadyIsUsable, SetUpIsReady}};
 
 /// In an orderly state an address has the claim of the open region that holds it and no other, and each byte of an
 /// open region is claimed through every bridge above it.

@@ -1,10 +1,7 @@
 -- One function of the board as it agrees with a guest's file, and after a change at a path.
-use Rattle.std.proofs.Common.{◌≡◌, true, false, cond, Option, arith}
-use Rattle.std.specs.Option.{option_map_or}
-use Rattle.model_registers.specs.Registers.{File}
-use Rattle.model_board.specs.Paths.{Path, path_eq}
-use Rattle.model_board.specs.State.{BoardFunction}
-use Rattle.model_registers.specs.CopiedFiles.{agreed_file}
+use Rattle.std.{proofs.Common.{◌≡◌, true, false, cond, Option, arith}, specs.Option.option_map_or}
+use Rattle.model_registers.specs.{Registers.File, CopiedFiles.agreed_file}
+use Rattle.model_board.specs.{Paths.{Path, path_eq}, State.BoardFunction}
 
 abbrev pub changed_function : (File → File) → Path → BoardFunction → BoardFunction
 changed_function change p f = cond (path_eq f.path p) (record f { file = change f.file }) f

@@ -1,19 +1,8 @@
 -- The file that agrees with a guest's file: what it holds, that it is the only one, and how it changes.
-use Rattle.std.proofs.Common.{◌≡◌, ◌/◌, Bool, true, false, cond, List, [], ◌∷◌, refl, arith}
-use Rattle.std.specs.Prelude.{IsFalse}
-use Rattle.std.specs.List.{list_any}
-use Rattle.std.proofs.lemmas.Bool.Decides.{nat_tests}
-use Rattle.lists.specs.Elements.{Each}
-use Rattle.lists.proofs.Members.{each_from}
-use Rattle.model_registers.specs.Cell.{Cell, no_cell}
-use Rattle.model_registers.specs.Registers.{Place, place_eq, after, PlacedCell, File, cell_at, changed}
-use Rattle.model_registers.proofs.RegisterFiles.{change_at_place, place_same, place_turned}
-use Rattle.model_registers.proofs.Owned.{raised_none, no_cell_stays}
-use Rattle.model_registers.specs.OwnCopies.{is_own}
-use Rattle.model_registers.specs.CopiedFiles.{agreed_file, places_of}
-use Rattle.model_guests.proofs.DistinctPlaces.{HasDistinctPlaces}
-use Rattle.model_guests.specs.AgreedLaws.{HoldsFile, ShowsFile}
-use Rattle.model_guests.specs.ChangeLaws.{WritesAlike, RaisesAlike}
+use Rattle.std.{proofs.{Common.{◌≡◌, ◌/◌, Bool, true, false, cond, List, [], ◌∷◌, refl, arith}, lemmas.Bool.Decides.nat_tests}, specs.{Prelude.IsFalse, List.list_any}}
+use Rattle.lists.{specs.Elements.Each, proofs.Members.each_from}
+use Rattle.model_registers.{specs.{Cell.{Cell, no_cell}, Registers.{Place, place_eq, after, PlacedCell, File, cell_at, changed}, OwnCopies.is_own, CopiedFiles.{agreed_file, places_of}}, proofs.{RegisterFiles.{change_at_place, place_same, place_turned}, Owned.{raised_none, no_cell_stays}}}
+use Rattle.model_guests.{proofs.DistinctPlaces.HasDistinctPlaces, specs.{AgreedLaws.{HoldsFile, ShowsFile}, ChangeLaws.{WritesAlike, RaisesAlike}}}
 
 -- ---- places
 

@@ -1,21 +1,8 @@
 -- Along a script guests stay seated and keep their names, and the handoff stays.
-use Rattle.std.proofs.Common.{◌≡◌, ℕ, zero, suc, cond, List, [], ◌∷◌, Some, refl, ap, ap₂, ◌∙◌, subst, arith}
-use Rattle.std.specs.Prelude.{map, slice_set}
+use Rattle.std.{proofs.Common.{◌≡◌, ℕ, zero, suc, cond, List, [], ◌∷◌, Some, refl, ap, ap₂, ◌∙◌, subst, arith}, specs.Prelude.{map, slice_set}}
 use Rattle.model_board.specs.Board.{Board}
-use Rattle.model_guests.specs.Text.{Text}
-use Rattle.model_guests.specs.World.{Guest, World, names}
-use Rattle.model_guests.specs.Guests.{GuestNow, GuestsNow, guest_at_first, guests_at_first, guest_named, with_guest}
-use Rattle.model_guests.specs.Lines.{Meaning, meaning}
-use Rattle.model_guests.specs.WorldNow.{WorldNow, world_over, names_of, names_now, guests_after, after_line, after_lines}
-use Rattle.model_guests.specs.Seated.{AreSeated, ByIndex, SeatedAlong}
-use Rattle.model_guests.specs.WorldLaws.{NamesStay, NamesAlong, HandoffStays}
+use Rattle.model_guests.{specs.{Text.Text, World.{Guest, World, names}, Guests.{GuestNow, GuestsNow, guest_at_first, guests_at_first, guest_named, with_guest}, Lines.{Meaning, meaning}, WorldNow.{WorldNow, world_over, names_of, names_now, guests_after, after_line, after_lines}, Seated.{AreSeated, ByIndex, SeatedAlong}, WorldLaws.{NamesStay, NamesAlong, HandoffStays}}, proofs.{Names.same_text, GuestFiles.other_name, GuestsByName.{Keeps, one_name}, Seats.seated_after_events, SeatedMoves.seated_after_moves, FoundFiles.others_stay}}
 use Rattle.lists.proofs.Indices.{each_at}
-use Rattle.model_guests.proofs.Names.{same_text}
-use Rattle.model_guests.proofs.GuestFiles.{other_name}
-use Rattle.model_guests.proofs.GuestsByName.{Keeps, one_name}
-use Rattle.model_guests.proofs.Seats.{seated_after_events}
-use Rattle.model_guests.proofs.SeatedMoves.{seated_after_moves}
-use Rattle.model_guests.proofs.FoundFiles.{others_stay}
 
 pub seated_meaning : (b : Board) (gs : GuestsNow) (m : Meaning) → AreSeated b gs → AreSeated b (guests_after gs m)
 seated_meaning b gs m h = grind (arith, seated_after_events, seated_after_moves)

@@ -1,19 +1,6 @@
 -- What a guest is told by a call, and holds after it, is that of its own.
-use Rattle.std.proofs.Common.{◌≡◌, Bool, cond, List, [], ◌∷◌, ◌++◌, refl, ◌∙◌, arith}
-use Rattle.std.specs.Prelude.{map, IsSome}
-use Rattle.std.specs.Str.{bytes_eq}
-use Rattle.model_guests.specs.Accesses.{Reply, refused}
-use Rattle.model_guests.specs.Text.{Text}
-use Rattle.model_guests.specs.Grammar.{guest, host, nobody}
-use Rattle.model_guests.specs.Lone.{LoneGuest, answer, after_event}
-use Rattle.model_guests.specs.Guests.{GuestsNow, guest_named, lone_of, guest_after}
-use Rattle.model_guests.specs.Lines.{nothing, guest_event, host_read, host_move, bad}
-use Rattle.model_guests.specs.WorldNow.{WorldNow}
-use Rattle.model_guests.specs.Inputs.{Input, after_input, after_inputs}
-use Rattle.model_guests.proofs.Names.{equal_texts}
-use Rattle.model_guests.specs.DeviceEvents.{device_answer, after_device_event, device_after}
-use Rattle.model_guests.specs.Calls.{Call, asks, at_device, after_call, told, CallInput, own_event, own_bad, own_device, moved, inputs_of_call, alone_told, all_alone_told, after_own_calls}
-use Rattle.model_guests.proofs.OneGuest.{lone_by, still, touched}
+use Rattle.std.{proofs.Common.{◌≡◌, Bool, cond, List, [], ◌∷◌, ◌++◌, refl, ◌∙◌, arith}, specs.{Prelude.{map, IsSome}, Str.bytes_eq}}
+use Rattle.model_guests.{specs.{Accesses.{Reply, refused}, Text.Text, Grammar.{guest, host, nobody}, Lone.{LoneGuest, answer, after_event}, Guests.{GuestsNow, guest_named, lone_of, guest_after}, Lines.{nothing, guest_event, host_read, host_move, bad}, WorldNow.WorldNow, Inputs.{Input, after_input, after_inputs}, DeviceEvents.{device_answer, after_device_event, device_after}, Calls.{Call, asks, at_device, after_call, told, CallInput, own_event, own_bad, own_device, moved, inputs_of_call, alone_told, all_alone_told, after_own_calls}}, proofs.{Names.equal_texts, OneGuest.{lone_by, still, touched}}}
 
 -- ---- moves
 

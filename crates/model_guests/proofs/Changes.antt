@@ -1,28 +1,8 @@
 -- A change of one guest's function changes the board there, and nowhere else.
-use Rattle.std.proofs.Common.{◌≡◌, ℕ, false, List, [], ◌∷◌, Some, Option, refl, sym, ap, ap₂, ◌∙◌, arith}
-use Rattle.std.specs.Prelude.{map, IsFalse}
-use Rattle.model_board.proofs.PlacesLaw.{apart_turn}
-use Rattle.model_registers.specs.Registers.{File}
-use Rattle.model_registers.specs.Decoding.{Function}
-use Rattle.model_registers.specs.EndpointTable.{endpoint_reset}
-use Rattle.model_board.specs.Paths.{Path, path_eq}
-use Rattle.model_board.specs.Board.{Board}
-use Rattle.model_board.specs.AtReset.{board_at}
-use Rattle.model_board.specs.State.{BoardFunction, State}
-use Rattle.model_board.proofs.PathOrder.{path_same}
-use Rattle.model_guests.specs.Text.{Text}
-use Rattle.model_guests.specs.Guests.{GuestsNow, file_of, function_in, guest_named, path_in, with_guest}
-use Rattle.model_registers.specs.CopiedFiles.{agreed_file}
-use Rattle.model_guests.specs.AgreedBoard.{agreed_function, state_over, with_change_at, with_files}
-use Rattle.model_guests.specs.Seated.{AreSeated}
-use Rattle.model_guests.specs.ChangeLaws.{ChangesAlike, ChangesOneFunction, LatchKeepsBoard, OneFile, ResetsAlike, with_slot_changed, with_latch}
-use Rattle.model_guests.proofs.AgreedChanges.{changed_function, agreed_by, changed_here, unchanged}
-use Rattle.model_guests.proofs.GuestFiles.{slot_set, with_file_there}
-use Rattle.model_guests.proofs.Names.{same_text}
-use Rattle.model_guests.proofs.GuestsByName.{named_with, found, function_of, function_named}
-use Rattle.model_guests.proofs.Seats.{paths_stay}
-use Rattle.model_guests.proofs.SeatedMoves.{seat_in}
-use Rattle.model_guests.proofs.FoundFiles.{file_beside, file_found, file_stays, NamesApart, PathsApart}
+use Rattle.std.{proofs.Common.{◌≡◌, ℕ, false, List, [], ◌∷◌, Some, Option, refl, sym, ap, ap₂, ◌∙◌, arith}, specs.Prelude.{map, IsFalse}}
+use Rattle.model_board.{proofs.{PlacesLaw.apart_turn, PathOrder.path_same}, specs.{Paths.{Path, path_eq}, Board.Board, AtReset.board_at, State.{BoardFunction, State}}}
+use Rattle.model_registers.specs.{Registers.File, Decoding.Function, EndpointTable.endpoint_reset, CopiedFiles.agreed_file}
+use Rattle.model_guests.{specs.{Text.Text, Guests.{GuestsNow, file_of, function_in, guest_named, path_in, with_guest}, AgreedBoard.{agreed_function, state_over, with_change_at, with_files}, Seated.AreSeated, ChangeLaws.{ChangesAlike, ChangesOneFunction, LatchKeepsBoard, OneFile, ResetsAlike, with_slot_changed, with_latch}}, proofs.{AgreedChanges.{changed_function, agreed_by, changed_here, unchanged}, GuestFiles.{slot_set, with_file_there}, Names.same_text, GuestsByName.{named_with, found, function_of, function_named}, Seats.paths_stay, SeatedMoves.seat_in, FoundFiles.{file_beside, file_found, file_stays, NamesApart, PathsApart}}}
 
 -- ---- whatever tells the files
 

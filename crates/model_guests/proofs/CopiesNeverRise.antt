@@ -1,24 +1,9 @@
 -- A guest's copies have no bits that a device raises, at reset.
-use Rattle.std.proofs.Common.{◌≡◌, ℕ, zero, suc, ◌+◌, ◌/◌, ◌≤◌, Bool, true, false, not, ◌||◌, List, [], ◌∷◌, refl, ap, ◌∙◌, arith, eqb}
-use Rattle.std.specs.Prelude.{flat_map, ⊤, MatchOption, bit_and, bit_or}
-use Rattle.std.specs.Int.Bits.{or_zero_r, and_zero_r}
-use Rattle.std.proofs.lemmas.Bool.{eqb-true}
-use Rattle.std.proofs.lemmas.Bool.Decides.{nat_tests}
-use Rattle.model_registers.specs.Cell.{Cell, raised}
-use Rattle.lists.specs.Elements.{Each}
-use Rattle.model_registers.specs.Registers.{Place, config, block, PlacedCell, File, raise, field, cells_from}
-use Rattle.model_registers.specs.Declarations.{Region, ConfigBlock, Endpoint}
-use Rattle.model_registers.specs.DeclarationRules.{IsLawfulEndpoint}
-use Rattle.model_registers.specs.EndpointTable.{region_cells, block_cells, endpoint_reset}
-use Rattle.lists.proofs.Tests.{left_true, right_true}
-use Rattle.model_board.specs.Paths.{Path}
-use Rattle.model_board.specs.Board.{Board}
-use Rattle.model_board.specs.Lawful.{IsLawfulDecl}
-use Rattle.model_registers.specs.OwnCopies.{is_own}
-use Rattle.model_guests.specs.World.{declared}
-use Rattle.model_guests.proofs.DistinctPlaces.{own_blocks}
-use Rattle.lists.proofs.EachLemmas.{each_append}
-use Rattle.model_registers.proofs.RegisterFiles.{place_same}
+use Rattle.std.{proofs.{Common.{◌≡◌, ℕ, zero, suc, ◌+◌, ◌/◌, ◌≤◌, Bool, true, false, not, ◌||◌, List, [], ◌∷◌, refl, ap, ◌∙◌, arith, eqb}, lemmas.Bool.{eqb-true, Decides.nat_tests}}, specs.{Prelude.{flat_map, ⊤, MatchOption, bit_and, bit_or}, Int.Bits.{or_zero_r, and_zero_r}}}
+use Rattle.model_registers.{specs.{Cell.{Cell, raised}, Registers.{Place, config, block, PlacedCell, File, raise, field, cells_from}, Declarations.{Region, ConfigBlock, Endpoint}, DeclarationRules.IsLawfulEndpoint, EndpointTable.{region_cells, block_cells, endpoint_reset}, OwnCopies.is_own}, proofs.RegisterFiles.place_same}
+use Rattle.lists.{specs.Elements.Each, proofs.{Tests.{left_true, right_true}, EachLemmas.each_append}}
+use Rattle.model_board.specs.{Paths.Path, Board.Board, Lawful.IsLawfulDecl}
+use Rattle.model_guests.{specs.World.declared, proofs.DistinctPlaces.own_blocks}
 
 -- no bit of the cell rises where the guest has a copy
 abbrev pub stays_low : PlacedCell → Bool

@@ -1,22 +1,8 @@
 -- Statements that are false, each with what shows it.
-use Rattle.std.proofs.Common.{◌≡◌, ℕ, true, false, cond, [], ◌∷◌, Some, None, refl, ap, ◌∙◌, eqb, lit≤}
-use Rattle.std.specs.Prelude.{map, codes, sum}
-use Rattle.model_registers.specs.Registers.{config, place_eq, PlacedCell, File, cell_at, raise}
-use Rattle.model_registers.specs.Declarations.{Endpoint}
-use Rattle.model_registers.specs.EndpointTable.{endpoint_reset}
-use Rattle.model_board.specs.Paths.{Path}
-use Rattle.model_board.specs.Board.{endpoint}
-use Rattle.model_registers.specs.Decoding.{Function}
-use Rattle.model_board.specs.AtReset.{board_at, reset_state}
-use Rattle.model_board.specs.State.{State}
-use Rattle.model_board.specs.Examples.{part, function_at, plain, main_apertures}
-use Rattle.model_guests.specs.World.{World}
-use Rattle.model_guests.specs.Guests.{GuestsNow, Move, after_move, function_in, guests_at_first, move_fault, path_in}
-use Rattle.model_registers.specs.CopiedFiles.{after_reset, places_of}
-use Rattle.model_registers.proofs.RegisterFiles.{self}
-use Rattle.model_guests.specs.AgreedBoard.{state_over, with_change_at}
-use Rattle.model_guests.specs.Seated.{AreSeated}
-use Rattle.model_guests.proofs.SeatedFirst.{seated_at_first}
+use Rattle.std.{proofs.Common.{◌≡◌, ℕ, true, false, cond, [], ◌∷◌, Some, None, refl, ap, ◌∙◌, eqb, lit≤}, specs.Prelude.{map, codes, sum}}
+use Rattle.model_registers.{specs.{Registers.{config, place_eq, PlacedCell, File, cell_at, raise}, Declarations.Endpoint, EndpointTable.endpoint_reset, Decoding.Function, CopiedFiles.{after_reset, places_of}}, proofs.RegisterFiles.self}
+use Rattle.model_board.specs.{Paths.Path, Board.endpoint, AtReset.{board_at, reset_state}, State.State, Examples.{part, function_at, plain, main_apertures}}
+use Rattle.model_guests.{specs.{World.World, Guests.{GuestsNow, Move, after_move, function_in, guests_at_first, move_fault, path_in}, AgreedBoard.{state_over, with_change_at}, Seated.AreSeated}, proofs.SeatedFirst.seated_at_first}
 
 differ : (a b : ℕ) → eqb a b ≡ false → a ≡ b → ⊥
 differ a b h e = let no : eqb a a ≡ false = ap (eqb a) e ∙ h in let yes : eqb a a ≡ true = self a in cc

@@ -1,13 +1,8 @@
 -- The rows of a board by their paths.
-use Rattle.std.proofs.Common.{◌≡◌, true, false, [], ◌∷◌, Some, arith}
-use Rattle.std.specs.Prelude.{IsTrue}
+use Rattle.std.{proofs.Common.{◌≡◌, true, false, [], ◌∷◌, Some, arith}, specs.Prelude.IsTrue}
 use Rattle.lists.specs.Elements.{Each, EachPair, IsIn}
 use Rattle.model_registers.specs.Declarations.{Endpoint}
-use Rattle.model_board.specs.Paths.{Path, path_eq, path_before}
-use Rattle.model_board.specs.Board.{endpoint, Row, Board}
-use Rattle.model_board.proofs.PathEnds.{path_self}
-use Rattle.model_board.proofs.PathOrder.{path_same}
-use Rattle.model_board.proofs.PlacesLaw.{before_apart}
+use Rattle.model_board.{specs.{Paths.{Path, path_eq, path_before}, Board.{endpoint, Row, Board}}, proofs.{PathEnds.path_self, PathOrder.path_same, PlacesLaw.before_apart}}
 use Rattle.model_guests.specs.World.{declared, endpoint_of}
 
 -- in path order each row is found by its path

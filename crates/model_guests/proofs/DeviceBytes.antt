@@ -1,35 +1,8 @@
 -- What a device reads and writes of its function's registers: the checks, the guest afterwards, and the board.
-use Rattle.std.proofs.Common.{◌≡◌, ℕ, Bool, true, false, not, cond, [], ◌∷◌, Some, None, Option, refl, sym, ap, ◌∙◌, arith}
-use Rattle.std.specs.Prelude.{is_some, nat_le}
-use Rattle.std.specs.Option.{option_map_or}
-use Rattle.model_registers.specs.Cell.{Cell}
-use Rattle.model_registers.specs.Registers.{Place, File, cell_at, changed}
-use Rattle.model_registers.specs.FileLaws.{has_place}
-use Rattle.model_registers.specs.OwnCopies.{is_own}
-use Rattle.model_registers.specs.DeviceBytes.{is_device_byte, set_value}
-use Rattle.model_registers.specs.Decoding.{Function}
-use Rattle.model_registers.specs.CopiedFiles.{agreed_file}
-use Rattle.model_registers.proofs.RegisterFiles.{place_same, place_turned}
-use Rattle.model_registers.proofs.Files.{change_none}
-use Rattle.model_registers.proofs.DeviceBytes.{device_not_own, change_beside, change_there}
-use Rattle.model_board.specs.Paths.{Path}
-use Rattle.model_board.specs.Board.{Board}
-use Rattle.model_board.specs.AtReset.{board_at}
-use Rattle.model_board.specs.State.{State}
-use Rattle.model_guests.specs.Accesses.{answered, done, refused}
-use Rattle.model_guests.specs.Slots.{Slots, slot_at, with_file, raise_place}
-use Rattle.model_guests.specs.Text.{Text}
-use Rattle.model_guests.specs.Lone.{LoneGuest}
-use Rattle.model_guests.specs.Guests.{GuestNow, GuestsNow, guest_named, path_in, function_in, file_of, lone_of, with_guest}
-use Rattle.model_guests.specs.AgreedBoard.{state_over, with_change_at}
-use Rattle.model_guests.specs.ChangeLaws.{with_slot_changed}
-use Rattle.model_guests.specs.Seated.{AreSeated}
-use Rattle.model_guests.proofs.GuestFiles.{slot_set, with_file_there}
-use Rattle.model_guests.proofs.GuestsByName.{function_named}
-use Rattle.model_guests.proofs.Changes.{one_file_of, file_before, file_after, file_others}
-use Rattle.model_guests.specs.DeviceEvents.{DeviceByte, device_reads, device_writes, if_device_byte, device_place, byte_landing, byte_fault, byte_in, with_byte, device_fault, device_answer, after_device_event, after_guest_device}
-use Rattle.model_guests.specs.DeviceByteLaws.{ReadsLeaveGuests, ReadsWritten, byte_change, WriteReachesBoard}
-use Rattle.model_guests.proofs.OneGuest.{lone_found, with_alike, guest_of_function}
+use Rattle.std.{proofs.Common.{◌≡◌, ℕ, Bool, true, false, not, cond, [], ◌∷◌, Some, None, Option, refl, sym, ap, ◌∙◌, arith}, specs.{Prelude.{is_some, nat_le}, Option.option_map_or}}
+use Rattle.model_registers.{specs.{Cell.Cell, Registers.{Place, File, cell_at, changed}, FileLaws.has_place, OwnCopies.is_own, DeviceBytes.{is_device_byte, set_value}, Decoding.Function, CopiedFiles.agreed_file}, proofs.{RegisterFiles.{place_same, place_turned}, Files.change_none, DeviceBytes.{device_not_own, change_beside, change_there}}}
+use Rattle.model_board.specs.{Paths.Path, Board.Board, AtReset.board_at, State.State}
+use Rattle.model_guests.{specs.{Accesses.{answered, done, refused}, Slots.{Slots, slot_at, with_file, raise_place}, Text.Text, Lone.LoneGuest, Guests.{GuestNow, GuestsNow, guest_named, path_in, function_in, file_of, lone_of, with_guest}, AgreedBoard.{state_over, with_change_at}, ChangeLaws.with_slot_changed, Seated.AreSeated, DeviceEvents.{DeviceByte, device_reads, device_writes, if_device_byte, device_place, byte_landing, byte_fault, byte_in, with_byte, device_fault, device_answer, after_device_event, after_guest_device}, DeviceByteLaws.{ReadsLeaveGuests, ReadsWritten, byte_change, WriteReachesBoard}}, proofs.{GuestFiles.{slot_set, with_file_there}, GuestsByName.function_named, Changes.{one_file_of, file_before, file_after, file_others}, OneGuest.{lone_found, with_alike, guest_of_function}}}
 
 -- ---- the place
 

@@ -1,16 +1,7 @@
 -- After an event at a device guests stay seated, and hold what the law says.
 use Rattle.std.proofs.Common.{ℕ, List, Option, refl, arith}
-use Rattle.model_board.specs.Paths.{Path}
-use Rattle.model_board.specs.Board.{Board}
-use Rattle.model_guests.specs.Lone.{LoneGuest}
-use Rattle.model_guests.specs.Seated.{AreSeats}
-use Rattle.model_guests.proofs.GuestsByName.{path_at}
-use Rattle.model_guests.proofs.Seats.{seats_at, seats_set, changed_shape, with_file_seats, names_stay, guests_stay, paths_stay, at_reset_there}
-use Rattle.model_guests.specs.DeviceEvents.{DeviceEvent, device_changed, reset_in, after_device_event, device_after}
-use Rattle.model_guests.specs.DeviceLaws.{NamesAfterDevices, OthersAfterDevice, OwnAfterDevice, SeatedAfterDevices}
-use Rattle.model_guests.proofs.OneGuest.{lone_own, lone_other}
-use Rattle.model_guests.proofs.FoundFiles.{put_back}
-use Rattle.model_guests.proofs.Along.{names_with}
+use Rattle.model_board.specs.{Paths.Path, Board.Board}
+use Rattle.model_guests.{specs.{Lone.LoneGuest, Seated.AreSeats, DeviceEvents.{DeviceEvent, device_changed, reset_in, after_device_event, device_after}, DeviceLaws.{NamesAfterDevices, OthersAfterDevice, OwnAfterDevice, SeatedAfterDevices}}, proofs.{GuestsByName.path_at, Seats.{seats_at, seats_set, changed_shape, with_file_seats, names_stay, guests_stay, paths_stay, at_reset_there}, OneGuest.{lone_own, lone_other}, FoundFiles.put_back, Along.names_with}}
 
 -- ---- one guest's slots
 

@@ -1,17 +1,7 @@
 -- No place of an endpoint's file stands twice: registers and blocks are runs of places, and no two runs meet.
-use Rattle.std.proofs.Common.{◌≡◌, ℕ, zero, suc, ◌+◌, ◌*◌, ◌≤◌, ◌<◌, ◌⊎◌, inl, inr, Bool, false, List, [], ◌∷◌, ◌++◌, length, refl, sym, ap, ap₂, ◌∙◌, subst, arith}
-use Rattle.std.specs.Prelude.{flat_map, IsFalse}
-use Rattle.std.proofs.lemmas.Bool.{leb-true}
-use Rattle.std.proofs.lemmas.Bool.Decides.{nat_tests}
-use Rattle.model_registers.specs.Cell.{Cell}
-use Rattle.lists.specs.Elements.{Each, EachPair}
-use Rattle.model_registers.specs.Registers.{Place, config, block, place_eq, after, File, cells_from}
-use Rattle.model_registers.specs.Declarations.{registers_of, Region, ConfigBlock, Endpoint, IsLawfulRegion, HasLawfulRegions}
-use Rattle.model_registers.specs.DeclarationRules.{IsConfigBlock, IsLawfulEndpoint}
-use Rattle.model_registers.specs.EndpointTable.{base_register, region_cells, block_cells, endpoint_file}
-use Rattle.lists.proofs.EachLemmas.{each_map, pairs_map, each_append}
-use Rattle.model_registers.proofs.Bases.{registers_positive}
-use Rattle.model_registers.specs.CopiedFiles.{places_of}
+use Rattle.std.{proofs.{Common.{◌≡◌, ℕ, zero, suc, ◌+◌, ◌*◌, ◌≤◌, ◌<◌, ◌⊎◌, inl, inr, Bool, false, List, [], ◌∷◌, ◌++◌, length, refl, sym, ap, ap₂, ◌∙◌, subst, arith}, lemmas.Bool.{leb-true, Decides.nat_tests}}, specs.Prelude.{flat_map, IsFalse}}
+use Rattle.model_registers.{specs.{Cell.Cell, Registers.{Place, config, block, place_eq, after, File, cells_from}, Declarations.{registers_of, Region, ConfigBlock, Endpoint, IsLawfulRegion, HasLawfulRegions}, DeclarationRules.{IsConfigBlock, IsLawfulEndpoint}, EndpointTable.{base_register, region_cells, block_cells, endpoint_file}, CopiedFiles.places_of}, proofs.Bases.registers_positive}
+use Rattle.lists.{specs.Elements.{Each, EachPair}, proofs.EachLemmas.{each_map, pairs_map, each_append}}
 
 -- ---- what a lawful declaration says of places
 

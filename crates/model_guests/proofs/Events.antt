@@ -1,24 +1,8 @@
 -- What an event of a guest does to the board.
-use Rattle.std.proofs.Common.{◌≡◌, [], Some, None, Option, refl, ap, ◌∙◌, arith}
-use Rattle.std.specs.Option.{option_map_or}
-use Rattle.model_registers.specs.Registers.{Place}
-use Rattle.model_registers.specs.Decoding.{Function}
-use Rattle.model_board.specs.Paths.{Path}
-use Rattle.model_board.specs.Board.{Board}
-use Rattle.model_board.specs.AtReset.{board_at}
-use Rattle.model_board.specs.State.{State}
-use Rattle.model_guests.specs.Accesses.{Event, access, raises}
-use Rattle.model_guests.specs.Slots.{Landing, Slots, slot_at, with_file}
-use Rattle.model_guests.specs.Lone.{after_event, reset_guest}
-use Rattle.model_guests.specs.Text.{Text}
-use Rattle.model_guests.specs.Guests.{GuestNow, GuestsNow, file_in, function_in, guest_after, guest_named, lone_of, path_in, with_guest}
-use Rattle.model_guests.specs.AgreedBoard.{state_over, with_change_at}
-use Rattle.model_guests.specs.Seated.{AreSeated, IsSeat}
-use Rattle.model_guests.specs.ChangeLaws.{ChangesAlike, EventReachesBoard, board_after, board_effect, lands, own_effect, with_slot_changed}
-use Rattle.model_guests.proofs.AgreedFiles.{writes_alike, raises_alike}
-use Rattle.model_guests.proofs.SeatedMoves.{seat_in}
-use Rattle.model_guests.proofs.FoundFiles.{file_stays, file_alike}
-use Rattle.model_guests.proofs.Changes.{changes_one_function, same_files_over}
+use Rattle.std.{proofs.Common.{◌≡◌, [], Some, None, Option, refl, ap, ◌∙◌, arith}, specs.Option.option_map_or}
+use Rattle.model_registers.specs.{Registers.Place, Decoding.Function}
+use Rattle.model_board.specs.{Paths.Path, Board.Board, AtReset.board_at, State.State}
+use Rattle.model_guests.{specs.{Accesses.{Event, access, raises}, Slots.{Landing, Slots, slot_at, with_file}, Lone.{after_event, reset_guest}, Text.Text, Guests.{GuestNow, GuestsNow, file_in, function_in, guest_after, guest_named, lone_of, path_in, with_guest}, AgreedBoard.{state_over, with_change_at}, Seated.{AreSeated, IsSeat}, ChangeLaws.{ChangesAlike, EventReachesBoard, board_after, board_effect, lands, own_effect, with_slot_changed}}, proofs.{AgreedFiles.{writes_alike, raises_alike}, SeatedMoves.seat_in, FoundFiles.{file_stays, file_alike}, Changes.{changes_one_function, same_files_over}}}
 
 part_alike : (e : Event) (p : Place) → ChangesAlike (own_effect e p) (board_effect e p)
 part_alike (access a) p left own = grind (arith, writes_alike)

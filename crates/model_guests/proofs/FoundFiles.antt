@@ -1,25 +1,9 @@
 -- Which file a path finds among seated guests, and what of it a change of one guest changes.
-use Rattle.std.proofs.Common.{◌≡◌, ℕ, zero, suc, Bool, true, false, cond, List, [], ◌∷◌, Some, None, Option, refl, sym, ap, ap₂, ◌∙◌, subst, arith}
-use Rattle.std.specs.Prelude.{slice_set, option_map, IsFalse}
-use Rattle.std.specs.Str.{bytes_eq}
-use Rattle.std.proofs.lemmas.List.{set-get_or}
-use Rattle.std.proofs.lemmas.Option.{unwrap_or-slice_get}
+use Rattle.std.{proofs.{Common.{◌≡◌, ℕ, zero, suc, Bool, true, false, cond, List, [], ◌∷◌, Some, None, Option, refl, sym, ap, ap₂, ◌∙◌, subst, arith}, lemmas.{List.set-get_or, Option.unwrap_or-slice_get}}, specs.{Prelude.{slice_set, option_map, IsFalse}, Str.bytes_eq}}
 use Rattle.lists.specs.Elements.{Each, EachPair, first_of_two}
-use Rattle.model_board.proofs.PathEnds.{path_self}
-use Rattle.model_registers.specs.Registers.{Place, File}
-use Rattle.model_registers.specs.Decoding.{Function}
-use Rattle.model_board.specs.Paths.{Path, path_eq}
-use Rattle.model_board.specs.Board.{Board}
-use Rattle.model_board.proofs.PathOrder.{path_same}
-use Rattle.model_guests.specs.Slots.{Slots, slot_at}
-use Rattle.model_guests.specs.Text.{Text}
-use Rattle.model_guests.specs.Guests.{GuestNow, GuestsNow, file_in, file_of, guest_named, path_in, with_guest}
-use Rattle.model_registers.specs.CopiedFiles.{places_of, shape_of}
-use Rattle.model_guests.specs.Seated.{AreSeats, IsSeatedGuest}
-use Rattle.model_guests.proofs.Names.{equal_texts, same_text}
-use Rattle.model_guests.proofs.GuestFiles.{other_name}
-use Rattle.model_guests.proofs.SlotPlaces.{IsFileOf}
-use Rattle.model_guests.proofs.GuestsByName.{path_at, path_of, function_of, past_first}
+use Rattle.model_board.{proofs.{PathEnds.path_self, PathOrder.path_same}, specs.{Paths.{Path, path_eq}, Board.Board}}
+use Rattle.model_registers.specs.{Registers.{Place, File}, Decoding.Function, CopiedFiles.{places_of, shape_of}}
+use Rattle.model_guests.{specs.{Slots.{Slots, slot_at}, Text.Text, Guests.{GuestNow, GuestsNow, file_in, file_of, guest_named, path_in, with_guest}, Seated.{AreSeats, IsSeatedGuest}}, proofs.{Names.{equal_texts, same_text}, GuestFiles.other_name, SlotPlaces.IsFileOf, GuestsByName.{path_at, path_of, function_of, past_first}}}
 
 -- ---- files of one shape have the same places
 

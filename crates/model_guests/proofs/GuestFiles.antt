@@ -1,19 +1,9 @@
 -- Slots, paths and names, one by one: which are the same, and what is in a slot after a change.
-use Rattle.std.proofs.Common.{arith}
-use Rattle.std.proofs.Common.{◌≡◌, ℕ, zero, suc, false, List, [], ◌∷◌, Some, Option, refl, ap}
-use Rattle.std.specs.Prelude.{map, find, flat_map, slice_get, slice_set, IsFalse}
-use Rattle.std.specs.Option.{option_map_or}
-use Rattle.std.specs.Str.{bytes_eq}
-use Rattle.lists.specs.Elements.{Each, EachPair}
-use Rattle.model_registers.specs.Registers.{File}
-use Rattle.model_registers.specs.Decoding.{Function}
+use Rattle.std.{proofs.Common.{arith, ◌≡◌, ℕ, zero, suc, false, List, [], ◌∷◌, Some, Option, refl, ap}, specs.{Prelude.{map, find, flat_map, slice_get, slice_set, IsFalse}, Option.option_map_or, Str.bytes_eq}}
+use Rattle.lists.{specs.Elements.{Each, EachPair}, proofs.{Indices.each_at, EachLemmas.each_parts}}
+use Rattle.model_registers.specs.{Registers.File, Decoding.Function}
 use Rattle.model_board.specs.Paths.{Path, path_eq}
-use Rattle.model_guests.specs.Slots.{Slots, slot_at, with_file}
-use Rattle.model_guests.specs.Text.{Text}
-use Rattle.model_guests.specs.World.{Guest}
-use Rattle.lists.proofs.Indices.{each_at}
-use Rattle.lists.proofs.EachLemmas.{each_parts}
-use Rattle.model_guests.proofs.Names.{equal_texts, same_text}
+use Rattle.model_guests.{specs.{Slots.{Slots, slot_at, with_file}, Text.Text, World.Guest}, proofs.Names.{equal_texts, same_text}}
 
 pub slot_set : (slots : Slots) (n : ℕ) (f g : Function) → slot_at slots n ≡ Some f → slot_at (slice_set slots n (Some g)) n ≡ Some g
 slot_set [] n f g there = cc

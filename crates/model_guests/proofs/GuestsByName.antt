@@ -1,14 +1,9 @@
 -- A guest by its name, after a change of one guest.
-use Rattle.std.proofs.Common.{◌≡◌, ℕ, zero, suc, false, cond, List, [], ◌∷◌, Some, None, Option, refl, arith}
-use Rattle.std.specs.Prelude.{map, replicate, slice_get, unwrap_or, option_map, option_and_then, IsFalse}
-use Rattle.std.specs.Str.{bytes_eq}
+use Rattle.std.{proofs.Common.{◌≡◌, ℕ, zero, suc, false, cond, List, [], ◌∷◌, Some, None, Option, refl, arith}, specs.{Prelude.{map, replicate, slice_get, unwrap_or, option_map, option_and_then, IsFalse}, Str.bytes_eq}}
 use Rattle.lists.specs.Elements.{Each}
 use Rattle.model_registers.specs.Decoding.{Function}
 use Rattle.model_board.specs.Paths.{Path}
-use Rattle.model_guests.specs.Slots.{reset_function, slot_at}
-use Rattle.model_guests.specs.Text.{Text}
-use Rattle.model_guests.specs.Guests.{GuestNow, GuestsNow, function_in, guest_named, with_guest}
-use Rattle.model_guests.proofs.Names.{equal_texts}
+use Rattle.model_guests.{specs.{Slots.{reset_function, slot_at}, Text.Text, Guests.{GuestNow, GuestsNow, function_in, guest_named, with_guest}}, proofs.Names.equal_texts}
 
 abbrev pub path_at : List (Option Path) → ℕ → Option Path
 path_at qs n = unwrap_or (slice_get qs n) None

@@ -1,30 +1,8 @@
 -- Each guest's reply lines, and what it holds, are those of its inputs.
-use Rattle.std.proofs.Common.{◌≡◌, Bool, true, false, cond, List, [], ◌∷◌, ◌++◌, Some, None, Option, refl, sym, ap, ◌∙◌, eqb, arith}
-use Rattle.std.specs.Prelude.{codes, IsTrue, drop, filter, map, find}
-use Rattle.std.specs.List.{starts_with}
-use Rattle.std.specs.Option.{option_map_or}
-use Rattle.std.specs.Str.{bytes_eq}
-use Rattle.std.proofs.lemmas.List.Elements.{filter-append}
-use Rattle.std.proofs.lemmas.Bool.{not-true}
-use Rattle.lists.specs.Elements.{Each}
-use Rattle.lists.proofs.Tests.{left_true, right_true}
+use Rattle.std.{proofs.{Common.{◌≡◌, Bool, true, false, cond, List, [], ◌∷◌, ◌++◌, Some, None, Option, refl, sym, ap, ◌∙◌, eqb, arith}, lemmas.{List.Elements.filter-append, Bool.not-true}}, specs.{Prelude.{codes, IsTrue, drop, filter, map, find}, List.starts_with, Option.option_map_or, Str.bytes_eq}}
+use Rattle.lists.{specs.Elements.Each, proofs.Tests.{left_true, right_true}}
 use Rattle.model_board.specs.Paths.{Path}
-use Rattle.model_guests.specs.Accesses.{Event, refused}
-use Rattle.model_guests.specs.Lone.{LoneGuest, after_event, answer, reset_guest}
-use Rattle.model_guests.specs.Text.{Text, lines}
-use Rattle.model_guests.specs.Grammar.{HostRead, event_of, guest, has_first_word, has_name, host, host_read_of, is_comment, is_own_line, nobody}
-use Rattle.model_guests.specs.World.{Guest, World, declared, is_name, names}
-use Rattle.model_guests.specs.Guests.{GuestsNow, Move, guest_after, guest_at_first, lone_of}
-use Rattle.model_guests.specs.Lines.{Meaning, bad, event_or_bad, guest_event, host_move, host_read, meaning, meaning_of_words, move_of, nothing, read_or_move}
-use Rattle.model_guests.specs.Replies.{reply_text}
-use Rattle.model_guests.specs.WorldNow.{WorldNow, world_over, names_of, names_now, host_reply, move_reply, written_by, after_meaning, after_line, after_lines}
-use Rattle.model_guests.specs.Inputs.{Input, after_input, after_inputs, after_own, inputs, inputs_of_meaning, lone_event, lone_output, own_line}
-use Rattle.model_guests.specs.Isolation.{Isolated, TwoWorlds}
-use Rattle.model_guests.proofs.Names.{lacks, NameFacts, named_facts, begins, equal_texts, same_text}
-use Rattle.model_guests.proofs.GuestFiles.{other_name}
-use Rattle.model_guests.proofs.Along.{names_stay, names_at_first}
-use Rattle.model_guests.proofs.WrittenLines.{written_along, lines_written}
-use Rattle.model_guests.proofs.OneGuest.{lone_by, named_there, touched}
+use Rattle.model_guests.{specs.{Accesses.{Event, refused}, Lone.{LoneGuest, after_event, answer, reset_guest}, Text.{Text, lines}, Grammar.{HostRead, event_of, guest, has_first_word, has_name, host, host_read_of, is_comment, is_own_line, nobody}, World.{Guest, World, declared, is_name, names}, Guests.{GuestsNow, Move, guest_after, guest_at_first, lone_of}, Lines.{Meaning, bad, event_or_bad, guest_event, host_move, host_read, meaning, meaning_of_words, move_of, nothing, read_or_move}, Replies.reply_text, WorldNow.{WorldNow, world_over, names_of, names_now, host_reply, move_reply, written_by, after_meaning, after_line, after_lines}, Inputs.{Input, after_input, after_inputs, after_own, inputs, inputs_of_meaning, lone_event, lone_output, own_line}, Isolation.{Isolated, TwoWorlds}}, proofs.{Names.{lacks, NameFacts, named_facts, begins, equal_texts, same_text}, GuestFiles.other_name, Along.{names_stay, names_at_first}, WrittenLines.{written_along, lines_written}, OneGuest.{lone_by, named_there, touched}}}
 
 -- ---- one guest among all
 

@@ -1,20 +1,8 @@
 -- A device raises no bits of the registers of which a guest has copies; and a path finds the file of its slot.
-use Rattle.std.proofs.Common.{arith}
-use Rattle.std.proofs.Common.{false, [], ◌∷◌, Some, Option, sym, ◌∙◌, subst}
-use Rattle.model_registers.specs.Registers.{File}
-use Rattle.model_registers.specs.Decoding.{Function}
-use Rattle.model_registers.specs.EndpointTable.{endpoint_reset}
-use Rattle.model_board.specs.Paths.{Path}
-use Rattle.model_board.specs.Board.{Board}
-use Rattle.model_board.specs.Lawful.{HasLawfulDecls}
-use Rattle.model_guests.proofs.CopiesNeverRise.{StaysLow, not_raised, reset_low, declared_lawful}
-use Rattle.model_guests.specs.Guests.{path_in}
-use Rattle.model_registers.specs.CopiedFiles.{shape_of}
-use Rattle.model_guests.specs.Seated.{IsSeat}
-use Rattle.model_guests.specs.AgreedLaws.{CopiesNeverRise, FileOfSeat}
-use Rattle.model_guests.proofs.GuestsByName.{function_named}
-use Rattle.model_guests.proofs.SeatedMoves.{seat_in}
-use Rattle.model_guests.proofs.FoundFiles.{file_found}
+use Rattle.std.proofs.Common.{arith, false, [], ◌∷◌, Some, Option, sym, ◌∙◌, subst}
+use Rattle.model_registers.specs.{Registers.File, Decoding.Function, EndpointTable.endpoint_reset, CopiedFiles.shape_of}
+use Rattle.model_board.specs.{Paths.Path, Board.Board, Lawful.HasLawfulDecls}
+use Rattle.model_guests.{proofs.{CopiesNeverRise.{StaysLow, not_raised, reset_low, declared_lawful}, GuestsByName.function_named, SeatedMoves.seat_in, FoundFiles.file_found}, specs.{Guests.path_in, Seated.IsSeat, AgreedLaws.{CopiesNeverRise, FileOfSeat}}}
 
 shape_low : (file : File) → StaysLow file → StaysLow (shape_of file)
 shape_low [] h = tt

@@ -1,22 +1,9 @@
 -- What a move does to the guests, by their indices, and to the slots.
-use Rattle.std.proofs.Common.{◌≡◌, ℕ, Some, None, Option, refl, sym, ap, ◌∙◌, subst, arith}
-use Rattle.std.specs.Prelude.{slice_get, slice_set, IsFalse, IsSome}
-use Rattle.std.specs.Str.{bytes_eq}
-use Rattle.lists.specs.Elements.{EachPair}
-use Rattle.lists.proofs.Indices.{get_set, get_other}
-use Rattle.std.proofs.lemmas.List.{set-set}
+use Rattle.std.{proofs.{Common.{◌≡◌, ℕ, Some, None, Option, refl, sym, ap, ◌∙◌, subst, arith}, lemmas.List.set-set}, specs.{Prelude.{slice_get, slice_set, IsFalse, IsSome}, Str.bytes_eq}}
+use Rattle.lists.{specs.Elements.EachPair, proofs.Indices.{get_set, get_other}}
 use Rattle.model_registers.specs.Decoding.{Function}
-use Rattle.model_board.specs.Paths.{Path}
-use Rattle.model_board.specs.Board.{Board}
-use Rattle.model_guests.specs.Guests.{GuestNow, GuestsNow, guest_named, path_in, function_in, with_guest, Move, with_slot_emptied, with_slot_filled, after_move}
-use Rattle.model_guests.specs.Seated.{AreSeated, IsSeat}
-use Rattle.model_guests.specs.MoveLaws.{IsDone, MoveWithin, MoveBetween, InputsWithin, IsMoved, MovedFunction}
-use Rattle.model_guests.proofs.Along.{by_index}
-use Rattle.model_guests.proofs.Names.{same_text}
-use Rattle.model_guests.proofs.GuestsByName.{function_named}
-use Rattle.model_guests.proofs.Seats.{names_stay}
-use Rattle.model_guests.proofs.SeatedMoves.{seat_in, Placed, put_there, was_there, placed, place_left}
-use Rattle.model_guests.proofs.MovedFunctions.{NoFault, no_fault, moved, moved_seated, takes}
+use Rattle.model_board.specs.{Paths.Path, Board.Board}
+use Rattle.model_guests.{specs.{Guests.{GuestNow, GuestsNow, guest_named, path_in, function_in, with_guest, Move, with_slot_emptied, with_slot_filled, after_move}, Seated.{AreSeated, IsSeat}, MoveLaws.{IsDone, MoveWithin, MoveBetween, InputsWithin, IsMoved, MovedFunction}}, proofs.{Along.by_index, Names.same_text, GuestsByName.function_named, Seats.names_stay, SeatedMoves.{seat_in, Placed, put_there, was_there, placed, place_left}, MovedFunctions.{NoFault, no_fault, moved, moved_seated, takes}}}
 
 module _ (gs : GuestsNow) (m : Move) (p : Path) (f : Function) (i : ℕ) (g : GuestNow) (is : IsDone gs m p f i g) where
   abbrev emptied : GuestNow

@@ -1,25 +1,8 @@
 -- A move resets one function of the board, but for what guests have copies of.
-use Rattle.std.proofs.Common.{◌≡◌, ℕ, ◌<◌, true, false, cond, List, length, Some, None, Option, sym, ap, ◌∙◌, arith}
-use Rattle.std.specs.Prelude.{slice_get, slice_set, unwrap_or, is_some, option_map, IsFalse, IsSome}
-use Rattle.std.proofs.lemmas.Bool.Decides.{nat_tests}
-use Rattle.std.proofs.lemmas.List.{get_or-set_same}
-use Rattle.std.proofs.lemmas.Option.{unwrap_or-slice_get}
-use Rattle.model_registers.specs.Decoding.{Function}
-use Rattle.model_registers.specs.EndpointTable.{endpoint_reset}
-use Rattle.model_board.specs.Paths.{Path, path_eq}
-use Rattle.model_board.specs.Board.{Board}
-use Rattle.model_board.specs.AtReset.{board_at}
-use Rattle.model_guests.specs.Guests.{GuestNow, GuestsNow, Move, file_of, function_in, guest_named, handed_over, move_fault, path_in, with_guest, with_slot_emptied, with_slot_filled}
-use Rattle.model_registers.specs.CopiedFiles.{after_reset}
-use Rattle.model_guests.specs.AgreedBoard.{state_over}
-use Rattle.model_guests.specs.Seated.{AreSeated}
-use Rattle.model_guests.specs.ChangeLaws.{MoveResetsOneFunction}
-use Rattle.model_guests.proofs.Names.{same_text}
-use Rattle.model_guests.proofs.Seats.{as_many}
-use Rattle.model_guests.proofs.GuestsByName.{one, named_with, found, path_of, function_of, function_named}
-use Rattle.model_guests.proofs.SeatedMoves.{seat_in, Placed, place_left, left_names, left_guests, seated_handed}
-use Rattle.model_guests.proofs.FoundFiles.{file_past, file_found, file_stays}
-use Rattle.model_guests.proofs.Changes.{one_file, resets_alike}
+use Rattle.std.{proofs.{Common.{◌≡◌, ℕ, ◌<◌, true, false, cond, List, length, Some, None, Option, sym, ap, ◌∙◌, arith}, lemmas.{Bool.Decides.nat_tests, List.get_or-set_same, Option.unwrap_or-slice_get}}, specs.Prelude.{slice_get, slice_set, unwrap_or, is_some, option_map, IsFalse, IsSome}}
+use Rattle.model_registers.specs.{Decoding.Function, EndpointTable.endpoint_reset, CopiedFiles.after_reset}
+use Rattle.model_board.specs.{Paths.{Path, path_eq}, Board.Board, AtReset.board_at}
+use Rattle.model_guests.{specs.{Guests.{GuestNow, GuestsNow, Move, file_of, function_in, guest_named, handed_over, move_fault, path_in, with_guest, with_slot_emptied, with_slot_filled}, AgreedBoard.state_over, Seated.AreSeated, ChangeLaws.MoveResetsOneFunction}, proofs.{Names.same_text, Seats.as_many, GuestsByName.{one, named_with, found, path_of, function_of, function_named}, SeatedMoves.{seat_in, Placed, place_left, left_names, left_guests, seated_handed}, FoundFiles.{file_past, file_found, file_stays}, Changes.{one_file, resets_alike}}}
 
 pub record NoFault (s : GuestsNow) (m : Move) : Type 0 where
   pub in_range : m.target < 32

@@ -1,16 +1,7 @@
 -- What a lawful name is not: no name of another, no comment, and without colon or line feed.
-use Rattle.std.proofs.Common.{◌≡◌, ℕ, Bool, true, false, not, List, [], ◌∷◌, ◌++◌, refl, arith, eqb}
-use Rattle.std.specs.Prelude.{codes, IsTrue}
-use Rattle.std.specs.List.{list_all, starts_with}
-use Rattle.std.specs.Str.{bytes_eq}
-use Rattle.std.proofs.lemmas.Bool.{eqb-true, and_from, not-true}
-use Rattle.std.proofs.lemmas.Bool.Decides.{nat_tests}
-use Rattle.std.proofs.lemmas.Slice.Eq.{bytes_eq-Decides}
-use Rattle.lists.specs.Elements.{Each}
-use Rattle.lists.proofs.Tests.{left_true, right_true}
-use Rattle.model_guests.specs.Text.{Text}
-use Rattle.model_guests.specs.Grammar.{is_comment, has_name}
-use Rattle.model_guests.specs.World.{is_name, is_name_byte}
+use Rattle.std.{proofs.{Common.{◌≡◌, ℕ, Bool, true, false, not, List, [], ◌∷◌, ◌++◌, refl, arith, eqb}, lemmas.{Bool.{eqb-true, and_from, not-true, Decides.nat_tests}, Slice.Eq.bytes_eq-Decides}}, specs.{Prelude.{codes, IsTrue}, List.{list_all, starts_with}, Str.bytes_eq}}
+use Rattle.lists.{specs.Elements.Each, proofs.Tests.{left_true, right_true}}
+use Rattle.model_guests.specs.{Text.Text, Grammar.{is_comment, has_name}, World.{is_name, is_name_byte}}
 
 -- the text is without this byte
 abbrev pub lacks : ℕ → Text → Bool

@@ -1,22 +1,9 @@
 -- One guest among all, by its name: where it stands, and what changes of it come to.
-use Rattle.std.proofs.Common.{◌≡◌, ℕ, Bool, true, false, cond, [], ◌∷◌, ◌++◌, Some, None, Option, refl, sym, ap, ◌∙◌, arith}
-use Rattle.std.specs.Prelude.{slice_get, slice_set, IsFalse, IsSome}
-use Rattle.std.specs.Option.{option_map_or}
-use Rattle.std.specs.Str.{bytes_eq}
-use Rattle.lists.specs.Elements.{EachPair}
-use Rattle.lists.proofs.FirstFound.{found_passes}
-use Rattle.lists.proofs.Indices.{set_same, found_at}
+use Rattle.std.{proofs.Common.{◌≡◌, ℕ, Bool, true, false, cond, [], ◌∷◌, ◌++◌, Some, None, Option, refl, sym, ap, ◌∙◌, arith}, specs.{Prelude.{slice_get, slice_set, IsFalse, IsSome}, Option.option_map_or, Str.bytes_eq}}
+use Rattle.lists.{specs.Elements.EachPair, proofs.{FirstFound.found_passes, Indices.{set_same, found_at}}}
 use Rattle.model_registers.specs.Decoding.{Function}
 use Rattle.model_board.specs.Paths.{Path}
-use Rattle.model_guests.specs.Text.{Text}
-use Rattle.model_guests.specs.Grammar.{has_name}
-use Rattle.model_guests.specs.Lone.{LoneGuest, emptied, filled, reset_guest}
-use Rattle.model_guests.specs.Guests.{GuestNow, GuestsNow, guest_named, handed_over, lone_of, Move, with_guest, with_slot_emptied, with_slot_filled}
-use Rattle.model_guests.specs.WorldNow.{names_of}
-use Rattle.model_guests.specs.Inputs.{after_inputs, gets, inputs_of_move, loses}
-use Rattle.model_guests.proofs.Names.{equal_texts, same_text}
-use Rattle.model_guests.proofs.Along.{by_index}
-use Rattle.model_guests.proofs.GuestsByName.{function_of, Keeps, one_name, named_with}
+use Rattle.model_guests.{specs.{Text.Text, Grammar.has_name, Lone.{LoneGuest, emptied, filled, reset_guest}, Guests.{GuestNow, GuestsNow, guest_named, handed_over, lone_of, Move, with_guest, with_slot_emptied, with_slot_filled}, WorldNow.names_of, Inputs.{after_inputs, gets, inputs_of_move, loses}}, proofs.{Names.{equal_texts, same_text}, Along.by_index, GuestsByName.{function_of, Keeps, one_name, named_with}}}
 
 abbrev pub AreApart : GuestsNow → Type 0
 AreApart gs = EachPair (λ (g h : GuestNow). IsFalse (bytes_eq g.name h.name)) gs

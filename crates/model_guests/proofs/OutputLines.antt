@@ -1,16 +1,7 @@
 -- Cut into lines, a text of lines that were put together is these lines again: no reply holds a line feed.
-use Rattle.std.proofs.Common.{◌≡◌, ℕ, zero, suc, Bool, true, false, not, cond, List, [], ◌∷◌, ◌++◌, ◌/◌, ◌%◌, refl, ap, arith, eqb}
-use Rattle.std.specs.Prelude.{decimal}
-use Rattle.std.specs.Fmt.{digits, digit_glyph}
-use Rattle.std.proofs.lemmas.Bool.Decides.{nat_tests}
-use Rattle.std.proofs.lemmas.Bool.{and_from, not-true}
-use Rattle.lists.specs.Elements.{Each}
-use Rattle.lists.proofs.Tests.{left_true, right_true}
-use Rattle.model_guests.specs.Accesses.{Reply}
-use Rattle.model_guests.specs.Text.{Text, lines, text_of_lines}
-use Rattle.model_guests.specs.Replies.{hex_digits, who_text, line_text}
-use Rattle.model_guests.specs.Grammar.{Who}
-use Rattle.model_guests.proofs.Names.{lacks}
+use Rattle.std.{proofs.{Common.{◌≡◌, ℕ, zero, suc, Bool, true, false, not, cond, List, [], ◌∷◌, ◌++◌, ◌/◌, ◌%◌, refl, ap, arith, eqb}, lemmas.Bool.{Decides.nat_tests, and_from, not-true}}, specs.{Prelude.decimal, Fmt.{digits, digit_glyph}}}
+use Rattle.lists.{specs.Elements.Each, proofs.Tests.{left_true, right_true}}
+use Rattle.model_guests.{specs.{Accesses.Reply, Text.{Text, lines, text_of_lines}, Replies.{hex_digits, who_text, line_text}, Grammar.Who}, proofs.Names.lacks}
 
 lacks_append : (b : ℕ) (s t : Text) → lacks b s ≡ true → lacks b t ≡ true → lacks b (s ++ t) ≡ true
 lacks_append b [] t h k = k

@@ -1,17 +1,7 @@
 -- In a script without moves a guest's inputs are its own lines.
-use Rattle.std.proofs.Common.{◌≡◌, false, List, [], ◌∷◌, refl, subst, arith}
-use Rattle.std.specs.Prelude.{map, IsFalse}
+use Rattle.std.{proofs.Common.{◌≡◌, false, List, [], ◌∷◌, refl, subst, arith}, specs.Prelude.{map, IsFalse}}
 use Rattle.lists.specs.Elements.{Each}
-use Rattle.model_guests.specs.Text.{Text, lines}
-use Rattle.model_guests.specs.Grammar.{own_lines}
-use Rattle.model_guests.specs.World.{names}
-use Rattle.model_guests.specs.Guests.{GuestsNow, guests_at_first}
-use Rattle.model_guests.specs.Lines.{Meaning, meaning}
-use Rattle.model_guests.specs.WorldNow.{world_over, names_of, guests_after}
-use Rattle.model_guests.specs.Inputs.{Input, own_line, inputs_of_meaning, inputs}
-use Rattle.model_guests.specs.Isolation.{is_move, OwnLinesAlone, IsDecidedBy, IsolatedByOwnLines, TwoWorldsByOwnLines}
-use Rattle.model_guests.proofs.Along.{names_meaning, names_at_first}
-use Rattle.model_guests.proofs.Isolation.{isolated_over}
+use Rattle.model_guests.{specs.{Text.{Text, lines}, Grammar.own_lines, World.names, Guests.{GuestsNow, guests_at_first}, Lines.{Meaning, meaning}, WorldNow.{world_over, names_of, guests_after}, Inputs.{Input, own_line, inputs_of_meaning, inputs}, Isolation.{is_move, OwnLinesAlone, IsDecidedBy, IsolatedByOwnLines, TwoWorldsByOwnLines}}, proofs.{Along.{names_meaning, names_at_first}, Isolation.isolated_over}}
 
 touches_no_one : (name : Text) (gs : GuestsNow) (m : Meaning) → is_move m ≡ false → inputs_of_meaning name gs m ≡ []
 touches_no_one name gs m h = grind arith

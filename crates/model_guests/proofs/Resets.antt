@@ -1,35 +1,8 @@
 -- A reset of a function is a move to an empty slot and back, and resets the function on the board.
-use Rattle.std.proofs.Common.{◌≡◌, ℕ, true, false, List, Some, None, Option, refl, sym, ap, ◌∙◌, subst, arith}
-use Rattle.std.specs.Prelude.{slice_get, slice_set, unwrap_or, is_some, nat_le, option_map, IsSome}
-use Rattle.std.specs.Option.{option_map_or}
-use Rattle.std.proofs.lemmas.List.{set-set, set-get_or}
-use Rattle.std.proofs.lemmas.Option.{unwrap_or-slice_get}
-use Rattle.model_registers.specs.Registers.{File}
-use Rattle.model_registers.specs.Decoding.{Function}
-use Rattle.model_registers.specs.EndpointTable.{endpoint_reset}
-use Rattle.model_registers.specs.CopiedFiles.{after_reset}
-use Rattle.model_board.specs.Paths.{Path}
-use Rattle.model_board.specs.Board.{Board}
-use Rattle.model_board.specs.AtReset.{board_at}
-use Rattle.model_guests.specs.Accesses.{done, refused}
-use Rattle.model_guests.specs.Slots.{Slots, slot_at}
-use Rattle.model_guests.specs.Text.{Text}
-use Rattle.model_guests.specs.Lone.{LoneGuest, filled}
-use Rattle.model_guests.specs.Guests.{GuestNow, GuestsNow, guest_named, lone_of, path_in, function_in, with_guest, Move, move_fault, after_move, with_slot_emptied, with_slot_filled}
-use Rattle.model_guests.specs.AgreedBoard.{state_over}
-use Rattle.model_guests.specs.ChangeLaws.{with_slot_changed}
-use Rattle.model_guests.specs.Seated.{AreSeated, IsSeat}
-use Rattle.model_guests.specs.MoveLaws.{IsMoved}
-use Rattle.model_guests.proofs.GuestsByName.{path_of, function_of, function_named, one, named_with}
-use Rattle.model_guests.proofs.GuestFiles.{with_file_there}
-use Rattle.model_guests.proofs.SeatedMoves.{seat_in, Placed, put_there, was_there, place_left, left_names, left_guests}
-use Rattle.model_guests.proofs.MoveIndices.{moved_function}
-use Rattle.model_guests.proofs.Changes.{changes_one_function, resets_alike}
-use Rattle.model_guests.specs.DeviceEvents.{resets, slot_fault, after_device_event, device_answer, after_guest_device}
-use Rattle.model_guests.specs.DeviceLaws.{between, IsMoveAndBack, ResetByMoves, ResetReachesBoard}
-use Rattle.model_guests.proofs.OneGuest.{lone_found, with_alike, with_none, with_twice, guest_of_function}
-use Rattle.model_guests.proofs.Seats.{no_path, some_path}
-use Rattle.model_guests.proofs.FoundFiles.{put_back}
+use Rattle.std.{proofs.{Common.{◌≡◌, ℕ, true, false, List, Some, None, Option, refl, sym, ap, ◌∙◌, subst, arith}, lemmas.{List.{set-set, set-get_or}, Option.unwrap_or-slice_get}}, specs.{Prelude.{slice_get, slice_set, unwrap_or, is_some, nat_le, option_map, IsSome}, Option.option_map_or}}
+use Rattle.model_registers.specs.{Registers.File, Decoding.Function, EndpointTable.endpoint_reset, CopiedFiles.after_reset}
+use Rattle.model_board.specs.{Paths.Path, Board.Board, AtReset.board_at}
+use Rattle.model_guests.{specs.{Accesses.{done, refused}, Slots.{Slots, slot_at}, Text.Text, Lone.{LoneGuest, filled}, Guests.{GuestNow, GuestsNow, guest_named, lone_of, path_in, function_in, with_guest, Move, move_fault, after_move, with_slot_emptied, with_slot_filled}, AgreedBoard.state_over, ChangeLaws.with_slot_changed, Seated.{AreSeated, IsSeat}, MoveLaws.IsMoved, DeviceEvents.{resets, slot_fault, after_device_event, device_answer, after_guest_device}, DeviceLaws.{between, IsMoveAndBack, ResetByMoves, ResetReachesBoard}}, proofs.{GuestsByName.{path_of, function_of, function_named, one, named_with}, GuestFiles.with_file_there, SeatedMoves.{seat_in, Placed, put_there, was_there, place_left, left_names, left_guests}, MoveIndices.moved_function, Changes.{changes_one_function, resets_alike}, OneGuest.{lone_found, with_alike, with_none, with_twice, guest_of_function}, Seats.{no_path, some_path}, FoundFiles.put_back}}
 use Rattle.lists.proofs.Tests.{some_there}
 
 -- ---- lists

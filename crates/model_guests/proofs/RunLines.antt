@@ -1,13 +1,6 @@
 -- What a run writes along lines and pieces, and where it ends early.
-use Rattle.std.proofs.Common.{◌≡◌, true, false, [], ◌∷◌, ◌++◌, refl, ap, append_assoc, arith}
-use Rattle.std.specs.List.{list_any}
-use Rattle.std.specs.Io.{StartsWith}
-use Rattle.std.proofs.lemmas.Bool.{and_from}
-use Rattle.model_guests.specs.Text.{Text, ends_line}
-use Rattle.model_guests.specs.LineRuns.{Protocol, StoppedIsBeginning, CutIsBeginning, OutputAlong, AfterAlong, LinesOfPieces}
-use Rattle.model_guests.specs.WorldLaws.{LongLinesAlike}
-use Rattle.model_guests.proofs.Names.{lacks}
-use Rattle.model_guests.proofs.OutputLines.{first_line, one_more}
+use Rattle.std.{proofs.{Common.{◌≡◌, true, false, [], ◌∷◌, ◌++◌, refl, ap, append_assoc, arith}, lemmas.Bool.and_from}, specs.{List.list_any, Io.StartsWith}}
+use Rattle.model_guests.{specs.{Text.{Text, ends_line}, LineRuns.{Protocol, StoppedIsBeginning, CutIsBeginning, OutputAlong, AfterAlong, LinesOfPieces}, WorldLaws.LongLinesAlike}, proofs.{Names.lacks, OutputLines.{first_line, one_more}}}
 
 pub after_along : {S : Type 0} (p : Protocol S) → AfterAlong p
 after_along p s [] ms = refl

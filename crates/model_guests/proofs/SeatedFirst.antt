@@ -1,23 +1,8 @@
 -- Guests are seated at first.
-use Rattle.std.proofs.Common.{◌≡◌, ℕ, zero, suc, ◌≤◌, Bool, true, false, cond, List, [], ◌∷◌, ◌++◌, length, Some, None, refl, sym, ap, ◌∙◌, subst, arith}
-use Rattle.std.specs.Prelude.{map, find, flat_map, replicate, slice_get, IsFalse, IsSome}
-use Rattle.std.specs.Option.{option_map_or}
-use Rattle.std.specs.Str.{bytes_eq}
-use Rattle.std.proofs.lemmas.List.{length-append, length-map, length-replicate}
-use Rattle.lists.specs.Elements.{Each, EachPair}
-use Rattle.model_board.specs.Paths.{Path, path_eq}
-use Rattle.model_board.specs.Board.{Board}
-use Rattle.model_guests.specs.Slots.{reset_function}
-use Rattle.model_guests.specs.Text.{Text}
-use Rattle.model_guests.specs.World.{Guest, World, declared}
-use Rattle.model_guests.specs.Guests.{GuestNow, guest_at_first, path_in}
-use Rattle.model_guests.specs.Seated.{AreSeats, IsSeatedGuest, SeatedAtFirst}
-use Rattle.lists.proofs.Indices.{each_at}
-use Rattle.lists.proofs.EachLemmas.{each_parts, PairParts, pair_parts}
-use Rattle.model_board.proofs.PathEnds.{path_self}
-use Rattle.model_guests.proofs.Names.{equal_texts}
-use Rattle.model_guests.proofs.GuestFiles.{slots_among, NamesApart, PathsApart, of_slot}
-use Rattle.model_guests.proofs.GuestsByName.{path_at}
+use Rattle.std.{proofs.{Common.{◌≡◌, ℕ, zero, suc, ◌≤◌, Bool, true, false, cond, List, [], ◌∷◌, ◌++◌, length, Some, None, refl, sym, ap, ◌∙◌, subst, arith}, lemmas.List.{length-append, length-map, length-replicate}}, specs.{Prelude.{map, find, flat_map, replicate, slice_get, IsFalse, IsSome}, Option.option_map_or, Str.bytes_eq}}
+use Rattle.lists.{specs.Elements.{Each, EachPair}, proofs.{Indices.each_at, EachLemmas.{each_parts, PairParts, pair_parts}}}
+use Rattle.model_board.{specs.{Paths.{Path, path_eq}, Board.Board}, proofs.PathEnds.path_self}
+use Rattle.model_guests.{specs.{Slots.reset_function, Text.Text, World.{Guest, World, declared}, Guests.{GuestNow, guest_at_first, path_in}, Seated.{AreSeats, IsSeatedGuest, SeatedAtFirst}}, proofs.{Names.equal_texts, GuestFiles.{slots_among, NamesApart, PathsApart, of_slot}, GuestsByName.path_at}}
 
 -- ---- one guest
 

@@ -1,18 +1,9 @@
 -- Guests stay seated when a function is moved.
-use Rattle.std.proofs.Common.{◌≡◌, ℕ, zero, suc, Bool, cond, List, [], ◌∷◌, Some, None, Option, refl, sym, ap, ◌∙◌, subst, arith}
-use Rattle.std.specs.Prelude.{slice_set, is_some, option_map, IsFalse}
-use Rattle.std.specs.Str.{bytes_eq}
-use Rattle.std.proofs.lemmas.List.{length-set}
+use Rattle.std.{proofs.{Common.{◌≡◌, ℕ, zero, suc, Bool, cond, List, [], ◌∷◌, Some, None, Option, refl, sym, ap, ◌∙◌, subst, arith}, lemmas.List.length-set}, specs.{Prelude.{slice_set, is_some, option_map, IsFalse}, Str.bytes_eq}}
 use Rattle.lists.specs.Elements.{Each, EachPair}
 use Rattle.model_registers.specs.Decoding.{Function}
-use Rattle.model_board.specs.Paths.{Path}
-use Rattle.model_board.specs.Board.{Board}
-use Rattle.model_guests.specs.Text.{Text}
-use Rattle.model_guests.specs.Guests.{GuestNow, GuestsNow, Move, function_in, guest_named, handed_over, move_fault, path_in, with_guest, with_slot_emptied, with_slot_filled}
-use Rattle.model_guests.specs.Seated.{AreSeated, IsSeat, IsSeatedGuest, SeatedAfterMoves}
-use Rattle.model_guests.proofs.Names.{equal_texts, same_text}
-use Rattle.model_guests.proofs.GuestsByName.{path_at, Keeps, one, named_with, found, path_of, function_named}
-use Rattle.model_guests.proofs.Seats.{seats_at, seats_set, names_stay, guests_stay, at_reset_there}
+use Rattle.model_board.specs.{Paths.Path, Board.Board}
+use Rattle.model_guests.{specs.{Text.Text, Guests.{GuestNow, GuestsNow, Move, function_in, guest_named, handed_over, move_fault, path_in, with_guest, with_slot_emptied, with_slot_filled}, Seated.{AreSeated, IsSeat, IsSeatedGuest, SeatedAfterMoves}}, proofs.{Names.{equal_texts, same_text}, GuestsByName.{path_at, Keeps, one, named_with, found, path_of, function_named}, Seats.{seats_at, seats_set, names_stay, guests_stay, at_reset_there}}}
 
 pub seat_in : (b : Board) (s : GuestsNow) → Each (IsSeatedGuest b) s → (a : Text) (n : ℕ) → IsSeat b (path_in s a n) (function_in s a n)
 seat_in b s all a n = grind (arith, function_named, seats_at, found)

@@ -1,21 +1,9 @@
 -- Guests stay seated.
-use Rattle.std.proofs.Common.{◌≡◌, ℕ, zero, suc, ◌/◌, ◌%◌, Bool, cond, List, [], ◌∷◌, length, Some, None, Option, refl, ap, ap₂, ◌∙◌, arith}
-use Rattle.std.specs.Prelude.{slice_set, IsFalse}
-use Rattle.std.specs.Str.{bytes_eq}
+use Rattle.std.{proofs.Common.{◌≡◌, ℕ, zero, suc, ◌/◌, ◌%◌, Bool, cond, List, [], ◌∷◌, length, Some, None, Option, refl, ap, ap₂, ◌∙◌, arith}, specs.{Prelude.{slice_set, IsFalse}, Str.bytes_eq}}
 use Rattle.lists.specs.Elements.{Each, EachPair}
-use Rattle.model_registers.specs.Cell.{Cell, written}
-use Rattle.model_registers.specs.Registers.{Place, after, File, changed, write}
-use Rattle.model_registers.specs.Decoding.{Function}
-use Rattle.model_board.specs.Paths.{Path}
-use Rattle.model_board.specs.Board.{Board}
-use Rattle.model_guests.specs.Accesses.{Event}
-use Rattle.model_guests.specs.Slots.{Slots, slot_at, reset_function, with_file}
-use Rattle.model_guests.specs.Lone.{LoneGuest, changed_by}
-use Rattle.model_guests.specs.Text.{Text}
-use Rattle.model_guests.specs.Guests.{GuestNow, GuestsNow, path_in, with_guest}
-use Rattle.model_registers.specs.CopiedFiles.{shape_of}
-use Rattle.model_guests.specs.Seated.{AreSeats, IsSeat, SeatedAfterEvents}
-use Rattle.model_guests.proofs.GuestsByName.{path_at, Keeps, one, one_name, named_with}
+use Rattle.model_registers.specs.{Cell.{Cell, written}, Registers.{Place, after, File, changed, write}, Decoding.Function, CopiedFiles.shape_of}
+use Rattle.model_board.specs.{Paths.Path, Board.Board}
+use Rattle.model_guests.{specs.{Accesses.Event, Slots.{Slots, slot_at, reset_function, with_file}, Lone.{LoneGuest, changed_by}, Text.Text, Guests.{GuestNow, GuestsNow, path_in, with_guest}, Seated.{AreSeats, IsSeat, SeatedAfterEvents}}, proofs.GuestsByName.{path_at, Keeps, one, one_name, named_with}}
 
 -- ---- a change of values leaves the shape
 

@@ -1,10 +1,7 @@
 -- What a file in a guest's slot was declared as.
 use Rattle.std.proofs.Common.{◌≡◌, false, Some}
-use Rattle.model_registers.specs.Registers.{File}
-use Rattle.model_registers.specs.Declarations.{Endpoint}
-use Rattle.model_registers.specs.EndpointTable.{endpoint_reset}
-use Rattle.model_board.specs.Paths.{Path}
-use Rattle.model_board.specs.Board.{Board}
+use Rattle.model_registers.specs.{Registers.File, Declarations.Endpoint, EndpointTable.endpoint_reset}
+use Rattle.model_board.specs.{Paths.Path, Board.Board}
 use Rattle.model_guests.specs.World.{declared}
 
 -- the file is the declared endpoint's at reset, as far as F tells

@@ -1,15 +1,8 @@
 -- The table of an endpoint after set-up and at reset: the same places, and the same cells but for those of which a guest has copies.
-use Rattle.std.proofs.Common.{◌≡◌, ℕ, Bool, false, List, [], ◌∷◌, ◌++◌, refl, ap₂, arith}
-use Rattle.std.specs.Prelude.{flat_map, ⊤, IsFalse}
+use Rattle.std.{proofs.Common.{◌≡◌, ℕ, Bool, false, List, [], ◌∷◌, ◌++◌, refl, ap₂, arith}, specs.Prelude.{flat_map, ⊤, IsFalse}}
 use Rattle.lists.specs.Elements.{Each}
-use Rattle.model_registers.proofs.Owned.{base_is_own}
-use Rattle.model_registers.specs.Registers.{Place, place_eq, PlacedCell, File, cell_at}
-use Rattle.model_registers.specs.Declarations.{Region, Endpoint, IsLawfulRegion}
-use Rattle.model_registers.specs.EndpointTable.{region_cells, endpoint_file, endpoint_reset}
-use Rattle.model_registers.specs.OwnCopies.{is_own}
-use Rattle.model_registers.specs.CopiedFiles.{agreed_file, places_of}
-use Rattle.model_guests.proofs.DistinctPlaces.{HasDistinctPlaces}
-use Rattle.model_guests.proofs.AgreedFiles.{place_self}
+use Rattle.model_registers.{proofs.Owned.base_is_own, specs.{Registers.{Place, place_eq, PlacedCell, File, cell_at}, Declarations.{Region, Endpoint, IsLawfulRegion}, EndpointTable.{region_cells, endpoint_file, endpoint_reset}, OwnCopies.is_own, CopiedFiles.{agreed_file, places_of}}}
+use Rattle.model_guests.proofs.{DistinctPlaces.HasDistinctPlaces, AgreedFiles.place_self}
 
 -- entry by entry: the same place, and the same cell unless the guest has a copy of it
 pub record AlikeEntries (own left : PlacedCell) : Type 0 where

@@ -1,11 +1,7 @@
 -- Worked examples that no row of tests/rows can ask: of all bytes of configuration space a guest's own copies, and what an access
 -- hands on to the board.
-use Rattle.std.proofs.Common.{◌≡◌, [], ◌∷◌, true, false, refl}
-use Rattle.std.specs.Prelude.{filter}
-use Rattle.std.specs.List.{range_with_len}
-use Rattle.model_registers.specs.Registers.{config, block}
-use Rattle.model_registers.specs.ByteEnables.{lanes}
-use Rattle.model_registers.specs.OwnCopies.{is_own, handed_on}
+use Rattle.std.{proofs.Common.{◌≡◌, [], ◌∷◌, true, false, refl}, specs.{Prelude.filter, List.range_with_len}}
+use Rattle.model_registers.specs.{Registers.{config, block}, ByteEnables.lanes, OwnCopies.{is_own, handed_on}}
 
 -- Command, Header Type and the base address registers
 pub own_copies : filter (λ off. is_own (config off)) (range_with_len 0 256)

@@ -1,14 +1,8 @@
 -- A guest's file is the board's with the guest's copies put in.
-use Rattle.std.proofs.Common.{◌≡◌, false, [], ◌∷◌, refl, ◌∙◌, arith}
-use Rattle.std.specs.Prelude.{IsTrue}
+use Rattle.std.{proofs.Common.{◌≡◌, false, [], ◌∷◌, refl, ◌∙◌, arith}, specs.Prelude.IsTrue}
 use Rattle.lists.specs.Elements.{Each}
-use Rattle.model_registers.proofs.Owned.{other_cell}
-use Rattle.model_registers.specs.Registers.{Place, File, cell_at}
-use Rattle.model_registers.specs.OwnCopies.{is_own}
-use Rattle.model_registers.specs.CopiedFiles.{agreed_file, places_of, with_copies}
-use Rattle.model_guests.specs.ViewLaws.{ViewAgrees, ViewIsFile}
-use Rattle.model_guests.proofs.AgreedFiles.{agreed_common}
-use Rattle.model_guests.proofs.TablePlaces.{found_entries}
+use Rattle.model_registers.{proofs.Owned.other_cell, specs.{Registers.{Place, File, cell_at}, OwnCopies.is_own, CopiedFiles.{agreed_file, places_of, with_copies}}}
+use Rattle.model_guests.{specs.ViewLaws.{ViewAgrees, ViewIsFile}, proofs.{AgreedFiles.agreed_common, TablePlaces.found_entries}}
 
 module _ (full copies : File) (held : (p : Place) → IsTrue (is_own p) → cell_at full p ≡ cell_at copies p) where
   entries_are : (ls os : File) → places_of os ≡ places_of ls → Each (λ e. cell_at full e.place ≡ e.cell) os → with_copies copies (agreed_file ls full) ≡ os

@@ -1,21 +1,8 @@
 -- Every line that is written is one line: cut into lines, the output is these lines again.
 --     written_along      the lines that lines of a script write
-use Rattle.std.proofs.Common.{◌≡◌, Bool, true, cond, List, [], ◌∷◌, ◌++◌, Option, refl, sym, ap, ◌∙◌, append_assoc, arith}
-use Rattle.std.specs.Prelude.{IsTrue}
-use Rattle.lists.specs.Elements.{Each}
-use Rattle.model_guests.specs.Accesses.{Event, refused}
-use Rattle.model_guests.specs.Lone.{answer}
-use Rattle.model_guests.specs.Text.{Text, lines, text_of_lines}
-use Rattle.model_guests.specs.Grammar.{HostRead, guest, host, nobody}
-use Rattle.model_guests.specs.World.{is_name}
-use Rattle.model_guests.specs.Guests.{Move, lone_of}
-use Rattle.model_guests.specs.Lines.{Meaning, bad, event_or_bad, guest_event, host_move, host_read, meaning, nothing, read_or_move}
-use Rattle.model_guests.specs.Replies.{who_text}
-use Rattle.model_guests.specs.WorldNow.{WorldNow, names_now, host_reply, move_reply, written_by, after_line, output}
-use Rattle.model_guests.proofs.Along.{names_stay}
-use Rattle.model_guests.proofs.Names.{lacks, named_facts}
-use Rattle.lists.proofs.EachLemmas.{each_append}
-use Rattle.model_guests.proofs.OutputLines.{lines_again, line_one_line}
+use Rattle.std.{proofs.Common.{◌≡◌, Bool, true, cond, List, [], ◌∷◌, ◌++◌, Option, refl, sym, ap, ◌∙◌, append_assoc, arith}, specs.Prelude.IsTrue}
+use Rattle.lists.{specs.Elements.Each, proofs.EachLemmas.each_append}
+use Rattle.model_guests.{specs.{Accesses.{Event, refused}, Lone.answer, Text.{Text, lines, text_of_lines}, Grammar.{HostRead, guest, host, nobody}, World.is_name, Guests.{Move, lone_of}, Lines.{Meaning, bad, event_or_bad, guest_event, host_move, host_read, meaning, nothing, read_or_move}, Replies.who_text, WorldNow.{WorldNow, names_now, host_reply, move_reply, written_by, after_line, output}}, proofs.{Along.names_stay, Names.{lacks, named_facts}, OutputLines.{lines_again, line_one_line}}}
 
 abbrev pub written_along : WorldNow → List Text → List Text
 written_along w [] = []

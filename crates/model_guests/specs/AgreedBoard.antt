@@ -2,12 +2,9 @@
 --     with_files files s      the state with these files in it, wherever a guest has a function
 --     state_over s gs      the state of the whole board: all else is as it was handed over
 --     with_change_at change p s      the state with the file of the function at p changed
-use Rattle.std.specs.Prelude.{map, Option}
-use Rattle.std.specs.Option.{option_map_or}
-use Rattle.model_registers.specs.Registers.{File}
-use Rattle.model_registers.specs.CopiedFiles.{agreed_file}
-use Rattle.model_board.specs.Paths.{Path}
-use Rattle.model_board.specs.State.{BoardFunction, State, with_file}
+use Rattle.std.specs.{Prelude.{map, Option}, Option.option_map_or}
+use Rattle.model_registers.specs.{Registers.File, CopiedFiles.agreed_file}
+use Rattle.model_board.specs.{Paths.Path, State.{BoardFunction, State, with_file}}
 use Rattle.model_guests.specs.Guests.{GuestsNow, file_of}
 
 -- `files` says what the guests have of each function

@@ -4,17 +4,9 @@
 --     CopiesNeverRise      no device raises bits of the registers of which a guest has a copy
 --     FileOfSeat      what a path finds is the file of the slot with the path
 use Rattle.std.specs.Prelude.{List, [], ◌∷◌, ◌≡◌, ℕ, Bool, Option, Some, ⊤, IsTrue, IsFalse, MatchOption}
-use Rattle.model_registers.specs.Registers.{Place, File, cell_at, read, raise}
-use Rattle.model_registers.specs.OwnCopies.{is_own, handed_on}
-use Rattle.model_registers.specs.Decoding.{Function}
-use Rattle.model_registers.specs.CopiedFiles.{places_of, agreed_file}
-use Rattle.model_board.specs.Paths.{Path}
-use Rattle.model_board.specs.Board.{Board}
-use Rattle.model_board.specs.Lawful.{HasLawfulDecls}
-use Rattle.model_board.specs.State.{BoardFunction, State}
-use Rattle.model_guests.specs.Text.{Text}
-use Rattle.model_guests.specs.Guests.{GuestsNow, path_in, function_in, file_of}
-use Rattle.model_guests.specs.Seated.{AreSeated}
+use Rattle.model_registers.specs.{Registers.{Place, File, cell_at, read, raise}, OwnCopies.{is_own, handed_on}, Decoding.Function, CopiedFiles.{places_of, agreed_file}}
+use Rattle.model_board.specs.{Paths.Path, Board.Board, Lawful.HasLawfulDecls, State.{BoardFunction, State}}
+use Rattle.model_guests.specs.{Text.Text, Guests.{GuestsNow, path_in, function_in, file_of}, Seated.AreSeated}
 
 -- a function in a slot, which was handed over with the first file, where the guest has the second, and the board now has
 -- the third: the registers of which the guest has a copy are as they were handed over, and every other place is as in the

@@ -6,17 +6,8 @@
 --     CallInput, inputs_of_call      what is a guest's own of a call
 --     alone_told, after_own_call      what such an input comes to over the guest alone
 --     all_alone_told, after_own_calls      and what such inputs do, one after the other
-use Rattle.std.specs.Prelude.{List, [], ◌∷◌, ◌++◌, ℕ, if◌then◌else◌, map}
-use Rattle.std.specs.Str.{bytes_eq}
-use Rattle.model_guests.specs.Accesses.{Event, Reply, refused}
-use Rattle.model_guests.specs.Text.{Text}
-use Rattle.model_guests.specs.Grammar.{guest, host, nobody}
-use Rattle.model_guests.specs.Lone.{LoneGuest, answer, after_event}
-use Rattle.model_guests.specs.Guests.{GuestsNow, lone_of}
-use Rattle.model_guests.specs.Lines.{Meaning, nothing, guest_event, host_read, host_move, bad}
-use Rattle.model_guests.specs.WorldNow.{WorldNow, after_meaning}
-use Rattle.model_guests.specs.Inputs.{Input, inputs_of_meaning, after_input}
-use Rattle.model_guests.specs.DeviceEvents.{DeviceEvent, device_answer, after_device_event, after_device}
+use Rattle.std.specs.{Prelude.{List, [], ◌∷◌, ◌++◌, ℕ, if◌then◌else◌, map}, Str.bytes_eq}
+use Rattle.model_guests.specs.{Accesses.{Event, Reply, refused}, Text.Text, Grammar.{guest, host, nobody}, Lone.{LoneGuest, answer, after_event}, Guests.{GuestsNow, lone_of}, Lines.{Meaning, nothing, guest_event, host_read, host_move, bad}, WorldNow.{WorldNow, after_meaning}, Inputs.{Input, inputs_of_meaning, after_input}, DeviceEvents.{DeviceEvent, device_answer, after_device_event, after_device}}
 
 pub data Call : Type 0 where
   asks : Meaning → Call

@@ -5,26 +5,10 @@
 --     OneFile, ChangesOneFunction, LatchKeepsBoard      a guest's change of a function changes the board there alone
 --     MoveResetsOneFunction      a move resets the function, but for what its guests have copies of
 --     lands, EventReachesBoard      where an event changes a function, and what it does there to the board
-use Rattle.std.specs.Prelude.{List, ◌≡◌, ℕ, Bool, false, if◌then◌else◌, Option, Some, None, option_map, is_some}
-use Rattle.std.specs.Prelude.{IsFalse, IsSome}
-use Rattle.std.specs.Option.{option_map_or}
-use Rattle.model_registers.specs.Registers.{Place, File, write, raise, all_bytes}
-use Rattle.model_registers.specs.Declarations.{Endpoint}
-use Rattle.model_registers.specs.Decoding.{Function}
-use Rattle.model_registers.specs.EndpointTable.{endpoint_reset}
-use Rattle.model_registers.specs.OwnCopies.{is_own, handed_on}
-use Rattle.model_board.specs.Paths.{Path, path_eq}
-use Rattle.model_board.specs.AtReset.{board_at}
-use Rattle.model_board.specs.State.{State}
-use Rattle.model_guests.specs.Accesses.{Event, access, raises, Op, reads, writes}
-use Rattle.model_registers.specs.CopiedFiles.{agreed_file, after_reset}
-use Rattle.model_guests.specs.Slots.{slot_at, with_file, Landing, landing, raise_landing, event_fault}
-use Rattle.model_guests.specs.Text.{Text}
-use Rattle.model_guests.specs.Lone.{LoneGuest, Destination, own_latch, no_function, at_target, destination}
-use Rattle.model_guests.specs.Guests.{GuestNow, GuestsNow, guest_named, lone_of, with_guest, after_guest_event}
-use Rattle.model_guests.specs.Guests.{function_in, path_in, Move, move_fault, after_move}
-use Rattle.model_guests.specs.AgreedBoard.{with_files, state_over, with_change_at}
-use Rattle.model_guests.specs.Seated.{AreSeated}
+use Rattle.std.specs.{Prelude.{List, ◌≡◌, ℕ, Bool, false, if◌then◌else◌, Option, Some, None, option_map, is_some, IsFalse, IsSome}, Option.option_map_or}
+use Rattle.model_registers.specs.{Registers.{Place, File, write, raise, all_bytes}, Declarations.Endpoint, Decoding.Function, EndpointTable.endpoint_reset, OwnCopies.{is_own, handed_on}, CopiedFiles.{agreed_file, after_reset}}
+use Rattle.model_board.specs.{Paths.{Path, path_eq}, AtReset.board_at, State.State}
+use Rattle.model_guests.specs.{Accesses.{Event, access, raises, Op, reads, writes}, Slots.{slot_at, with_file, Landing, landing, raise_landing, event_fault}, Text.Text, Lone.{LoneGuest, Destination, own_latch, no_function, at_target, destination}, Guests.{GuestNow, GuestsNow, guest_named, lone_of, with_guest, after_guest_event, function_in, path_in, Move, move_fault, after_move}, AgreedBoard.{with_files, state_over, with_change_at}, Seated.AreSeated}
 
 abbrev pub ChangesAlike : (File → File) → (File → File) → Type 0
 ChangesAlike own_change board_change = (left own : File)

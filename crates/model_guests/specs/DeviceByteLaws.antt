@@ -4,20 +4,9 @@
 --     byte_change own v p      where a guest's file has a cell at a place, the byte of another file there; else nothing
 --     WriteReachesBoard      a write changes the board in the function of that slot alone, by that byte
 use Rattle.std.specs.Prelude.{◌≡◌, ◌%◌, ℕ, if◌then◌else◌, Some, None, IsTrue}
-use Rattle.model_registers.specs.Registers.{Place, File}
-use Rattle.model_registers.specs.FileLaws.{has_place}
-use Rattle.model_registers.specs.DeviceBytes.{set_value}
-use Rattle.model_registers.specs.Decoding.{Function}
+use Rattle.model_registers.specs.{Registers.{Place, File}, FileLaws.has_place, DeviceBytes.set_value, Decoding.Function}
 use Rattle.model_board.specs.Paths.{Path}
-use Rattle.model_guests.specs.Accesses.{answered}
-use Rattle.model_guests.specs.Slots.{slot_at}
-use Rattle.model_guests.specs.Text.{Text}
-use Rattle.model_guests.specs.Lone.{LoneGuest}
-use Rattle.model_guests.specs.Guests.{GuestsNow, lone_of, path_in, function_in}
-use Rattle.model_guests.specs.AgreedBoard.{state_over, with_change_at}
-use Rattle.model_guests.specs.ChangeLaws.{OverSeated}
-use Rattle.model_guests.specs.DeviceEvents.{DeviceByte, device_reads, device_writes, device_place, device_fault}
-use Rattle.model_guests.specs.DeviceEvents.{device_answer, after_device_event, after_guest_device}
+use Rattle.model_guests.specs.{Accesses.answered, Slots.slot_at, Text.Text, Lone.LoneGuest, Guests.{GuestsNow, lone_of, path_in, function_in}, AgreedBoard.{state_over, with_change_at}, ChangeLaws.OverSeated, DeviceEvents.{DeviceByte, device_reads, device_writes, device_place, device_fault, device_answer, after_device_event, after_guest_device}}
 
 abbrev pub ReadsLeaveGuests : Type 0
 ReadsLeaveGuests = (name : Text) (d : DeviceByte) (gs : GuestsNow) → after_guest_device name (device_reads d) gs ≡ gs

@@ -8,17 +8,9 @@
 --     byte_in, with_byte      what the cell holds, whatever its masks; the slots with another value in it
 --     device_answer, after_device_event      the reply, and the guest after it
 --     after_guest_device, after_device      all guests after it, and the world
-use Rattle.std.specs.Prelude.{ℕ, not, nat_le, if◌then◌else◌, is_some, Option, Some, None}
-use Rattle.std.specs.Option.{option_map_or}
-use Rattle.model_registers.specs.Registers.{Place, cell_at}
-use Rattle.model_registers.specs.DeviceBytes.{is_device_byte, set_value}
-use Rattle.model_registers.specs.Decoding.{Function}
-use Rattle.model_guests.specs.Accesses.{RaisePlace, Reply, answered, done, refused}
-use Rattle.model_guests.specs.Slots.{Slots, slot_at, file_at, with_file, raise_place}
-use Rattle.model_guests.specs.Text.{Text}
-use Rattle.model_guests.specs.Lone.{LoneGuest, filled}
-use Rattle.model_guests.specs.Guests.{GuestNow, GuestsNow, with_guest}
-use Rattle.model_guests.specs.WorldNow.{WorldNow}
+use Rattle.std.specs.{Prelude.{ℕ, not, nat_le, if◌then◌else◌, is_some, Option, Some, None}, Option.option_map_or}
+use Rattle.model_registers.specs.{Registers.{Place, cell_at}, DeviceBytes.{is_device_byte, set_value}, Decoding.Function}
+use Rattle.model_guests.specs.{Accesses.{RaisePlace, Reply, answered, done, refused}, Slots.{Slots, slot_at, file_at, with_file, raise_place}, Text.Text, Lone.{LoneGuest, filled}, Guests.{GuestNow, GuestsNow, with_guest}, WorldNow.WorldNow}
 
 pub record DeviceByte : Type 0 where
   pub slot : ℕ

@@ -6,9 +6,7 @@
 use Rattle.std.specs.Prelude.{[], ◌∷◌, ◌≡◌, ℕ, Some, false}
 use Rattle.model_registers.specs.Declarations.{mem32, Endpoint}
 use Rattle.model_board.specs.Examples.{plain, writable_cell, constant_cell}
-use Rattle.model_guests.specs.Accesses.{RaisePlace, in_config, in_region, access, configuration, reads, answered, refused}
-use Rattle.model_guests.specs.Lone.{LoneGuest, reset_guest, answer}
-use Rattle.model_guests.specs.DeviceEvents.{DeviceByte, device_reads, device_writes, device_answer, after_device_event}
+use Rattle.model_guests.specs.{Accesses.{RaisePlace, in_config, in_region, access, configuration, reads, answered, refused}, Lone.{LoneGuest, reset_guest, answer}, DeviceEvents.{DeviceByte, device_reads, device_writes, device_answer, after_device_event}}
 
 abbrev pub counting : Endpoint
 counting =

@@ -3,21 +3,10 @@
 --     ResetReachesBoard      it resets the function on the board, but for what guests have copies of
 --     SeatedAfterDevices, NamesAfterDevices      guests stay seated, and keep their names
 --     OwnAfterDevice, OthersAfterDevice      what the guest holds then is told by what it held; all others hold the same
-use Rattle.std.specs.Prelude.{◌≡◌, ℕ, Some, None, IsFalse, IsSome}
-use Rattle.std.specs.Str.{bytes_eq}
-use Rattle.model_registers.specs.Decoding.{Function}
-use Rattle.model_registers.specs.CopiedFiles.{after_reset}
-use Rattle.model_board.specs.Paths.{Path}
-use Rattle.model_board.specs.Board.{Board}
-use Rattle.model_guests.specs.Accesses.{done}
-use Rattle.model_guests.specs.Text.{Text}
-use Rattle.model_guests.specs.Guests.{GuestsNow, guest_named, lone_of, path_in, function_in, Move, move_fault, after_move}
-use Rattle.model_guests.specs.WorldNow.{names_of}
-use Rattle.model_guests.specs.AgreedBoard.{state_over, with_change_at}
-use Rattle.model_guests.specs.ChangeLaws.{OverSeated}
-use Rattle.model_guests.specs.Seated.{AreSeated}
-use Rattle.model_guests.specs.DeviceEvents.{DeviceEvent, resets, device_fault, device_answer, after_device_event}
-use Rattle.model_guests.specs.DeviceEvents.{after_guest_device}
+use Rattle.std.specs.{Prelude.{◌≡◌, ℕ, Some, None, IsFalse, IsSome}, Str.bytes_eq}
+use Rattle.model_registers.specs.{Decoding.Function, CopiedFiles.after_reset}
+use Rattle.model_board.specs.{Paths.Path, Board.Board}
+use Rattle.model_guests.specs.{Accesses.done, Text.Text, Guests.{GuestsNow, guest_named, lone_of, path_in, function_in, Move, move_fault, after_move}, WorldNow.names_of, AgreedBoard.{state_over, with_change_at}, ChangeLaws.OverSeated, Seated.AreSeated, DeviceEvents.{DeviceEvent, resets, device_fault, device_answer, after_device_event, after_guest_device}}
 
 abbrev pub between : Text → ℕ → Text → ℕ → Move
 between a n b m = record { from = a; slot = n; to = b; target = m }

@@ -6,13 +6,8 @@
 --     deep_world, high_world      a bridge behind a bridge; a region in the last unit below 4 GB
 --     chain_world      fifteen bridges, each behind the one before
 use Rattle.std.specs.Prelude.{List, [], ◌∷◌, ℕ, true, false, ◌^◌, ◌++◌, Some, None, codes}
-use Rattle.model_registers.specs.Cell.{Cell, constant}
-use Rattle.model_registers.specs.Declarations.{io_kind, mem32, mem64, Endpoint, Bridge}
-use Rattle.model_board.specs.Paths.{Path}
-use Rattle.model_board.specs.Board.{endpoint, bridge, Board}
-use Rattle.model_registers.specs.Apertures.{Apertures}
-use Rattle.model_board.specs.Examples.{part, function_at, aperture, plain, first_endpoint, third_endpoint, main_bridge}
-use Rattle.model_board.specs.Examples.{main_board, main_board_with, main_apertures, memory_bridge, memory_of, chain}
+use Rattle.model_registers.specs.{Cell.{Cell, constant}, Declarations.{io_kind, mem32, mem64, Endpoint, Bridge}, Apertures.Apertures}
+use Rattle.model_board.specs.{Paths.Path, Board.{endpoint, bridge, Board}, Examples.{part, function_at, aperture, plain, first_endpoint, third_endpoint, main_bridge, main_board, main_board_with, main_apertures, memory_bridge, memory_of, chain}}
 use Rattle.model_guests.specs.World.{Guest, World}
 
 abbrev pub on_bus_0 : ℕ → Path

@@ -4,16 +4,10 @@
 --     Who      under whose name a line is answered
 --     is_comment, is_long      the line makes no output; it is refused whatever stands in it
 --     own_lines      the lines that begin with a guest's name
-use Rattle.std.specs.Prelude.{List, [], ◌∷◌, ℕ, Bool, false, ◌&&◌, ◌==◌, if◌then◌else◌, length, ◌^◌, not, nat_lt}
-use Rattle.std.specs.Prelude.{Option, Some, None, filter, codes, option_and_then}
-use Rattle.std.specs.List.{list_any}
-use Rattle.std.specs.Str.{bytes_eq}
+use Rattle.std.specs.{Prelude.{List, [], ◌∷◌, ℕ, Bool, false, ◌&&◌, ◌==◌, if◌then◌else◌, length, ◌^◌, not, nat_lt, Option, Some, None, filter, codes, option_and_then}, List.list_any, Str.bytes_eq}
 use Rattle.lists.specs.Elements.{first_of_two}
 use Rattle.model_board.specs.Cycles.{BusAddress}
-use Rattle.model_guests.specs.Accesses.{Target, configuration, port, address, Op, reads, writes, RaisePlace, in_config}
-use Rattle.model_guests.specs.Accesses.{in_region, Event, access, raises}
-use Rattle.model_guests.specs.Text.{Text, words}
-use Rattle.model_guests.specs.Numbers.{below, digits_in, number_of}
+use Rattle.model_guests.specs.{Accesses.{Target, configuration, port, address, Op, reads, writes, RaisePlace, in_config, in_region, Event, access, raises}, Text.{Text, words}, Numbers.{below, digits_in, number_of}}
 
 -- what is made of a number, if it is one
 abbrev pub given : {A : Type 0} → Option ℕ → (ℕ → Option A) → Option A

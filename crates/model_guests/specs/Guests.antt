@@ -6,21 +6,11 @@
 --     path_in, function_in      which path has a slot of a guest, and what stands there
 --     Move, move_fault, after_move      a function handed to a slot; the checks, in their order; all guests after it
 --     file_of      the guest's file of the function at a path, wherever it is now
-use Rattle.std.specs.Prelude.{List, [], ◌∷◌, ℕ, ◌-◌, ◌++◌, ◌||◌, not, if◌then◌else◌, nat_le, Option, Some, None}
-use Rattle.std.specs.Prelude.{unwrap_or, slice_get, slice_set, map, find, length, replicate, is_some, option_map}
-use Rattle.std.specs.Prelude.{option_and_then}
-use Rattle.std.specs.Option.{option_map_or}
-use Rattle.std.specs.Str.{bytes_eq}
+use Rattle.std.specs.{Prelude.{List, [], ◌∷◌, ℕ, ◌-◌, ◌++◌, ◌||◌, not, if◌then◌else◌, nat_le, Option, Some, None, unwrap_or, slice_get, slice_set, map, find, length, replicate, is_some, option_map, option_and_then}, Option.option_map_or, Str.bytes_eq}
 use Rattle.lists.specs.Elements.{first_some}
-use Rattle.model_registers.specs.Registers.{File}
-use Rattle.model_registers.specs.Declarations.{Endpoint}
-use Rattle.model_registers.specs.Decoding.{Function}
+use Rattle.model_registers.specs.{Registers.File, Declarations.Endpoint, Decoding.Function}
 use Rattle.model_board.specs.Paths.{Path, path_eq}
-use Rattle.model_guests.specs.Accesses.{Event}
-use Rattle.model_guests.specs.Slots.{Slots, slot_at}
-use Rattle.model_guests.specs.Text.{Text}
-use Rattle.model_guests.specs.World.{Guest, World, declared}
-use Rattle.model_guests.specs.Lone.{LoneGuest, after_event, reset_guest, filled, emptied}
+use Rattle.model_guests.specs.{Accesses.Event, Slots.{Slots, slot_at}, Text.Text, World.{Guest, World, declared}, Lone.{LoneGuest, after_event, reset_guest, filled, emptied}}
 
 -- a slot has a path just where it has a function
 pub record GuestNow : Type 0 where

@@ -3,14 +3,10 @@
 --     host_fault      the checks of a host read
 --     shown      what stands at a bus address, a port or a memory address
 --     host_answer      the reply: a refusal, or what is shown
-use Rattle.std.specs.Prelude.{ℕ, Bool, false, ◌^◌, nat_le, Option}
-use Rattle.std.specs.Option.{option_map_or}
+use Rattle.std.specs.{Prelude.{ℕ, Bool, false, ◌^◌, nat_le, Option}, Option.option_map_or}
 use Rattle.model_registers.specs.Registers.{all_bytes}
-use Rattle.model_board.specs.State.{State}
-use Rattle.model_board.specs.Ports.{config_reply, port_reply, memory_reply}
-use Rattle.model_guests.specs.Accesses.{Reply, answered, refused}
-use Rattle.model_guests.specs.Slots.{access_fault}
-use Rattle.model_guests.specs.Grammar.{HostTarget, host_configuration, host_port, host_address, HostRead}
+use Rattle.model_board.specs.{State.State, Ports.{config_reply, port_reply, memory_reply}}
+use Rattle.model_guests.specs.{Accesses.{Reply, answered, refused}, Slots.access_fault, Grammar.{HostTarget, host_configuration, host_port, host_address, HostRead}}
 
 abbrev pub host_number : HostTarget → ℕ
 host_number (host_configuration at off) = off

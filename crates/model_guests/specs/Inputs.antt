@@ -2,18 +2,9 @@
 --     Input, inputs gs name lines      an own line, or a done move out of or into a slot; those of lines, in their order
 --     lone_event, lone_reply      the event of an own line, and the reply to it
 --     after_input, lone_output, after_inputs      what inputs write and leave over the guest alone
-use Rattle.std.specs.Prelude.{List, [], ◌∷◌, ℕ, if◌then◌else◌, ◌++◌, Option, Some, None, is_some, drop}
-use Rattle.std.specs.Str.{bytes_eq}
-use Rattle.model_registers.specs.Declarations.{Endpoint}
-use Rattle.model_registers.specs.Decoding.{Function}
-use Rattle.model_guests.specs.Accesses.{Event, Reply, refused}
-use Rattle.model_guests.specs.Text.{Text, words}
-use Rattle.model_guests.specs.Grammar.{event_of, guest, is_own_line}
-use Rattle.model_guests.specs.Replies.{line_text}
-use Rattle.model_guests.specs.Lone.{LoneGuest, answer, after_event, filled, emptied}
-use Rattle.model_guests.specs.Guests.{GuestsNow, Move, move_fault, function_in}
-use Rattle.model_guests.specs.Lines.{Meaning, nothing, guest_event, host_read, host_move, bad, meaning}
-use Rattle.model_guests.specs.WorldNow.{names_of, guests_after}
+use Rattle.std.specs.{Prelude.{List, [], ◌∷◌, ℕ, if◌then◌else◌, ◌++◌, Option, Some, None, is_some, drop}, Str.bytes_eq}
+use Rattle.model_registers.specs.{Declarations.Endpoint, Decoding.Function}
+use Rattle.model_guests.specs.{Accesses.{Event, Reply, refused}, Text.{Text, words}, Grammar.{event_of, guest, is_own_line}, Replies.line_text, Lone.{LoneGuest, answer, after_event, filled, emptied}, Guests.{GuestsNow, Move, move_fault, function_in}, Lines.{Meaning, nothing, guest_event, host_read, host_move, bad, meaning}, WorldNow.{names_of, guests_after}}
 
 -- a slot that loses its function, and a slot that gets one
 pub data Input : Type 0 where

@@ -8,15 +8,7 @@
 use Rattle.std.specs.Prelude.{List, ◌≡◌, Bool, true, false, map, IsTrue, IsFalse}
 use Rattle.lists.specs.Elements.{Each}
 use Rattle.model_board.specs.State.{State}
-use Rattle.model_guests.specs.Text.{Text, lines}
-use Rattle.model_guests.specs.Grammar.{has_name, own_lines}
-use Rattle.model_guests.specs.World.{World, names, declarations, HasLawfulNames}
-use Rattle.model_guests.specs.Replies.{reply_lines}
-use Rattle.model_guests.specs.Lone.{reset_guest}
-use Rattle.model_guests.specs.Guests.{guests_at_first, lone_of}
-use Rattle.model_guests.specs.Lines.{Meaning, nothing, guest_event, host_read, host_move, bad, meaning}
-use Rattle.model_guests.specs.WorldNow.{WorldNow, world_over, output, after_lines}
-use Rattle.model_guests.specs.Inputs.{Input, own_line, inputs, lone_output, after_inputs}
+use Rattle.model_guests.specs.{Text.{Text, lines}, Grammar.{has_name, own_lines}, World.{World, names, declarations, HasLawfulNames}, Replies.reply_lines, Lone.reset_guest, Guests.{guests_at_first, lone_of}, Lines.{Meaning, nothing, guest_event, host_read, host_move, bad, meaning}, WorldNow.{WorldNow, world_over, output, after_lines}, Inputs.{Input, own_line, inputs, lone_output, after_inputs}}
 
 -- over its own functions in a world of no one else; the board isn't among them
 pub record IsDecidedBy (is : List Input) (w : World) (m : WorldNow) (name script : Text) : Type 0 where

@@ -6,10 +6,7 @@
 --     CutIsBeginning, StoppedIsBeginning      either way a beginning of the output was written
 --     OutputAlong, AfterAlong      what pieces write and leave, one after the other
 --     LinesOfPieces      whole lines before more text are its first lines
-use Rattle.std.specs.Prelude.{◌≡◌, ◌++◌, List, [], ◌∷◌, Option, take, IsFalse}
-use Rattle.std.specs.List.{list_any}
-use Rattle.std.specs.Io.{StartsWith}
-use Rattle.std.specs.Io.KnownBytes.{Appends, Consumes}
+use Rattle.std.specs.{Prelude.{◌≡◌, ◌++◌, List, [], ◌∷◌, Option, take, IsFalse}, List.list_any, Io.{StartsWith, KnownBytes.{Appends, Consumes}}}
 use Rattle.lists.specs.Elements.{Each}
 use Rattle.model_guests.specs.Text.{Text, ends_line, lines, text_of_lines}
 

@@ -1,14 +1,8 @@
 -- What the lines of a script mean.
 --     move_of names ws      the words of a host's line: a move between guests that are there
 --     Meaning, meaning names line      an event of a guest, a read or a move by the host, a refusal, or nothing
-use Rattle.std.specs.Prelude.{List, [], ◌∷◌, ℕ, ◌&&◌, if◌then◌else◌, Option, Some, None, codes}
-use Rattle.std.specs.Str.{bytes_eq}
-use Rattle.model_guests.specs.Accesses.{Event}
-use Rattle.model_guests.specs.Text.{Text, words}
-use Rattle.model_guests.specs.Numbers.{number_of}
-use Rattle.model_guests.specs.Grammar.{given, on_word, event_of, HostRead, host_read_of, Who, guest, host, nobody}
-use Rattle.model_guests.specs.Grammar.{has_name, is_comment, is_long}
-use Rattle.model_guests.specs.Guests.{Move}
+use Rattle.std.specs.{Prelude.{List, [], ◌∷◌, ℕ, ◌&&◌, if◌then◌else◌, Option, Some, None, codes}, Str.bytes_eq}
+use Rattle.model_guests.specs.{Accesses.Event, Text.{Text, words}, Numbers.number_of, Grammar.{given, on_word, event_of, HostRead, host_read_of, Who, guest, host, nobody, has_name, is_comment, is_long}, Guests.Move}
 
 abbrev pub between_guests : List Text → Move → Option Move
 between_guests names m = if has_name names m.from && has_name names m.to then Some m else None

@@ -6,15 +6,9 @@
 --     answer, after_event      the reply to an event, and the guest after it
 --     filled n d, emptied n      a function comes into slot n, at reset, or leaves it
 --     reset_guest      the guest at reset
-use Rattle.std.specs.Prelude.{List, ℕ, ◌&&◌, ◌==◌, if◌then◌else◌, not, Option, None, Some, slice_set, is_some}
-use Rattle.std.specs.Option.{option_map_or}
-use Rattle.model_registers.specs.Declarations.{Endpoint}
-use Rattle.model_registers.specs.ConfigAddress.{latched, is_enabled, selected_bus, selected_device, selected_function}
-use Rattle.model_registers.specs.ConfigAddress.{is_address_port, is_data_port, selected_offset}
-use Rattle.model_guests.specs.Accesses.{Target, configuration, port, address, Op, reads, writes, Event, access, raises}
-use Rattle.model_guests.specs.Accesses.{Reply, answered, done, refused}
-use Rattle.model_guests.specs.Slots.{Slots, landing, perform, effect, affected, event_fault, reset_function}
-use Rattle.model_guests.specs.Slots.{reset_slots}
+use Rattle.std.specs.{Prelude.{List, ℕ, ◌&&◌, ◌==◌, if◌then◌else◌, not, Option, None, Some, slice_set, is_some}, Option.option_map_or}
+use Rattle.model_registers.specs.{Declarations.Endpoint, ConfigAddress.{latched, is_enabled, selected_bus, selected_device, selected_function, is_address_port, is_data_port, selected_offset}}
+use Rattle.model_guests.specs.{Accesses.{Target, configuration, port, address, Op, reads, writes, Event, access, raises, Reply, answered, done, refused}, Slots.{Slots, landing, perform, effect, affected, event_fault, reset_function, reset_slots}}
 
 pub record LoneGuest : Type 0 where
   pub slots : Slots

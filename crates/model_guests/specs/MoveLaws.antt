@@ -3,17 +3,11 @@
 --     MoveBetween      from one guest to another: a slot of the first is emptied, and one of the second filled
 --     InputsWithin      a guest that hands a function to itself loses it, then gets it
 --     MovedFunction      afterwards the target slot has the function of the path, at reset, and the source none
-use Rattle.std.specs.Prelude.{[], ◌∷◌, ◌≡◌, ℕ, false, Some, None, IsFalse, IsSome, slice_get, slice_set}
-use Rattle.std.specs.Str.{bytes_eq}
+use Rattle.std.specs.{Prelude.{[], ◌∷◌, ◌≡◌, ℕ, false, Some, None, IsFalse, IsSome, slice_get, slice_set}, Str.bytes_eq}
 use Rattle.lists.specs.Elements.{EachPair}
-use Rattle.model_registers.specs.Decoding.{Function}
-use Rattle.model_registers.specs.EndpointTable.{endpoint_reset}
-use Rattle.model_board.specs.Paths.{Path}
-use Rattle.model_board.specs.Board.{Board}
-use Rattle.model_guests.specs.Guests.{GuestNow, GuestsNow, guest_named, path_in, function_in, Move, move_fault}
-use Rattle.model_guests.specs.Guests.{with_slot_emptied, with_slot_filled, after_move}
-use Rattle.model_guests.specs.Inputs.{loses, gets, inputs_of_move}
-use Rattle.model_guests.specs.Seated.{AreSeated}
+use Rattle.model_registers.specs.{Decoding.Function, EndpointTable.endpoint_reset}
+use Rattle.model_board.specs.{Paths.Path, Board.Board}
+use Rattle.model_guests.specs.{Guests.{GuestNow, GuestsNow, guest_named, path_in, function_in, Move, move_fault, with_slot_emptied, with_slot_filled, after_move}, Inputs.{loses, gets, inputs_of_move}, Seated.AreSeated}
 
 -- a move that is not refused, of this function at this path, from this guest
 pub record IsDone (gs : GuestsNow) (m : Move) (p : Path) (f : Function) (i : ℕ) (g : GuestNow) : Type 0 where

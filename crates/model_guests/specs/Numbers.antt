@@ -1,8 +1,6 @@
 -- Numbers in a script.
 --     number_of      decimal digits, or 0x and hexadecimal digits, below 2^64
-use Rattle.std.specs.Prelude.{[], ◌∷◌, ℕ, ◌-◌, ◌+◌, ◌*◌, Bool, ◌&&◌, ◌==◌, if◌then◌else◌, ◌^◌, ◌||◌, nat_lt, nat_le}
-use Rattle.std.specs.Prelude.{Option, Some, None, drop, codes, option_and_then}
-use Rattle.std.specs.List.{starts_with}
+use Rattle.std.specs.{Prelude.{[], ◌∷◌, ℕ, ◌-◌, ◌+◌, ◌*◌, Bool, ◌&&◌, ◌==◌, if◌then◌else◌, ◌^◌, ◌||◌, nat_lt, nat_le, Option, Some, None, drop, codes, option_and_then}, List.starts_with}
 use Rattle.model_guests.specs.Text.{Text}
 
 -- 0 to 9, a to f, A to F

@@ -1,9 +1,7 @@
 -- Numbers and paths as they are written.
 --     hexadecimal      a number, from its first digit on
 --     part_text, path_text      a device and a function; these from bus 0 down, parted by slashes
-use Rattle.std.specs.Prelude.{ℕ, false, ◌++◌, map, codes, decimal}
-use Rattle.std.specs.Fmt.{digits}
-use Rattle.std.specs.List.{join_with_byte}
+use Rattle.std.specs.{Prelude.{ℕ, false, ◌++◌, map, codes, decimal}, Fmt.digits, List.join_with_byte}
 use Rattle.model_board.specs.Paths.{Part, Path}
 use Rattle.model_guests.specs.Text.{Text}
 

@@ -3,13 +3,8 @@
 --     refusal_words      what each number of a refusal says
 --     reply_text, line_text      a reply; a reply under the name of who is told
 --     reply_lines      the lines of a text that speak to a guest
-use Rattle.std.specs.Prelude.{List, [], ◌∷◌, ℕ, zero, suc, ◌*◌, ◌/◌, ◌%◌, false, ◌==◌, if◌then◌else◌, ◌++◌, filter}
-use Rattle.std.specs.Prelude.{codes, decimal}
-use Rattle.std.specs.Fmt.{digit_glyph}
-use Rattle.std.specs.List.{starts_with}
-use Rattle.model_guests.specs.Accesses.{Reply, answered, done, refused}
-use Rattle.model_guests.specs.Text.{Text, lines}
-use Rattle.model_guests.specs.Grammar.{Who, guest, host, nobody}
+use Rattle.std.specs.{Prelude.{List, [], ◌∷◌, ℕ, zero, suc, ◌*◌, ◌/◌, ◌%◌, false, ◌==◌, if◌then◌else◌, ◌++◌, filter, codes, decimal}, Fmt.digit_glyph, List.starts_with}
+use Rattle.model_guests.specs.{Accesses.{Reply, answered, done, refused}, Text.{Text, lines}, Grammar.{Who, guest, host, nobody}}
 
 -- the lowest k hexadecimal digits of n
 abbrev pub hex_digits : ℕ → ℕ → Text

@@ -3,22 +3,11 @@
 --     IsSeatedGuest, AreSeated      32 such slots each, and no name and no path twice
 --     SeatedAtFirst, SeatedAfterEvents, SeatedAfterMoves, SeatedAlong      so it is at first, and so it stays
 --     ByIndex      a guest by its index
-use Rattle.std.specs.Prelude.{List, [], ◌∷◌, ◌≡◌, ℕ, false, Option, Some, None, ⊤, IsFalse, length, slice_get}
-use Rattle.std.specs.Prelude.{slice_set}
-use Rattle.std.specs.Str.{bytes_eq}
+use Rattle.std.specs.{Prelude.{List, [], ◌∷◌, ◌≡◌, ℕ, false, Option, Some, None, ⊤, IsFalse, length, slice_get, slice_set}, Str.bytes_eq}
 use Rattle.lists.specs.Elements.{Each, EachPair}
-use Rattle.model_registers.specs.Decoding.{Function}
-use Rattle.model_registers.specs.EndpointTable.{endpoint_reset}
-use Rattle.model_board.specs.Paths.{Path}
-use Rattle.model_board.specs.Board.{Board}
-use Rattle.model_guests.specs.Accesses.{Event}
-use Rattle.model_registers.specs.CopiedFiles.{shape_of}
-use Rattle.model_guests.specs.Slots.{Slots}
-use Rattle.model_guests.specs.Text.{Text}
-use Rattle.model_guests.specs.World.{World, declared, HasLawfulGuests}
-use Rattle.model_guests.specs.Guests.{GuestNow, GuestsNow, guests_at_first, guest_named, path_in, with_guest}
-use Rattle.model_guests.specs.Guests.{after_guest_event, Move, after_move}
-use Rattle.model_guests.specs.WorldNow.{WorldNow, after_lines}
+use Rattle.model_registers.specs.{Decoding.Function, EndpointTable.endpoint_reset, CopiedFiles.shape_of}
+use Rattle.model_board.specs.{Paths.Path, Board.Board}
+use Rattle.model_guests.specs.{Accesses.Event, Slots.Slots, Text.Text, World.{World, declared, HasLawfulGuests}, Guests.{GuestNow, GuestsNow, guests_at_first, guest_named, path_in, with_guest, after_guest_event, Move, after_move}, WorldNow.{WorldNow, after_lines}}
 
 -- with its cells, whatever they hold
 pub record IsSeatedAt (b : Board) (p : Path) (f : Function) : Type 0 where

@@ -5,18 +5,10 @@
 --     perform, effect      what an access that landed there replies, and the slots after it
 --     raise_landing, affected      where a raise sets bits; the slots after an event that no check refused
 --     reset_slots      the slots at reset
-use Rattle.std.specs.Prelude.{List, [], ◌∷◌, ℕ, ◌-◌, ◌+◌, ◌%◌, Bool, false, ◌&&◌, ◌==◌, if◌then◌else◌, replicate}
-use Rattle.std.specs.Prelude.{length, ◌^◌, ◌++◌, not, ◌||◌, nat_lt, nat_le, Option, Some, None, map, slice_get}
-use Rattle.std.specs.Prelude.{slice_set, unwrap_or, is_some, option_map}
-use Rattle.std.specs.List.{list_any}
-use Rattle.std.specs.Option.{option_map_or}
+use Rattle.std.specs.{Prelude.{List, [], ◌∷◌, ℕ, ◌-◌, ◌+◌, ◌%◌, Bool, false, ◌&&◌, ◌==◌, if◌then◌else◌, replicate, length, ◌^◌, ◌++◌, not, ◌||◌, nat_lt, nat_le, Option, Some, None, map, slice_get, slice_set, unwrap_or, is_some, option_map}, List.list_any, Option.option_map_or}
 use Rattle.lists.specs.Elements.{first_of_two}
-use Rattle.model_registers.specs.Registers.{Place, config, block, File, write, raise, all_bytes, number, all_ones}
-use Rattle.model_registers.specs.Declarations.{Endpoint}
-use Rattle.model_registers.specs.EndpointTable.{endpoint_reset}
-use Rattle.model_registers.specs.Decoding.{Space, io, memory, Function, Hit, lone_claim}
-use Rattle.model_guests.specs.Accesses.{Target, configuration, port, address, Op, reads, writes, Access, RaisePlace}
-use Rattle.model_guests.specs.Accesses.{in_config, in_region, Raise, Event, access, raises, Reply, answered, done}
+use Rattle.model_registers.specs.{Registers.{Place, config, block, File, write, raise, all_bytes, number, all_ones}, Declarations.Endpoint, EndpointTable.endpoint_reset, Decoding.{Space, io, memory, Function, Hit, lone_claim}}
+use Rattle.model_guests.specs.Accesses.{Target, configuration, port, address, Op, reads, writes, Access, RaisePlace, in_config, in_region, Raise, Event, access, raises, Reply, answered, done}
 
 -- the three checks of any access, in their order: the width, the alignment of its place, the range
 abbrev pub access_fault : ℕ → ℕ → Bool → Option ℕ

@@ -2,10 +2,8 @@
 --     ViewIsFile      of a board that agrees with the guest's file, the view is that file
 --     ViewAgrees      the board agrees with its own view, whatever the copies hold
 use Rattle.std.specs.Prelude.{◌≡◌, IsTrue, IsFalse}
-use Rattle.model_registers.specs.Registers.{Place, place_eq, File, cell_at}
+use Rattle.model_registers.specs.{Registers.{Place, place_eq, File, cell_at}, OwnCopies.is_own, CopiedFiles.{places_of, agreed_file, with_copies}}
 use Rattle.lists.specs.Elements.{EachPair}
-use Rattle.model_registers.specs.OwnCopies.{is_own}
-use Rattle.model_registers.specs.CopiedFiles.{places_of, agreed_file, with_copies}
 
 abbrev pub HasPlacesApart : File → Type 0
 HasPlacesApart file = EachPair (λ p q. IsFalse (place_eq p q)) (places_of file)

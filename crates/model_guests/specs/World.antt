@@ -2,17 +2,10 @@
 --     Guest, World      a name with the paths of its slots; a board, its apertures and guests
 --     paths_of, declarations      the paths of a guest's slots, and what stands there
 --     HasLawfulNames, HasLawfulGuests, IsLawfulWorld      what holds of any board and guests that a board file gives
-use Rattle.std.specs.Prelude.{List, [], ◌∷◌, ℕ, Bool, false, ◌&&◌, ◌||◌, ◌≤◌, length, not, nat_le, Option, Some, None}
-use Rattle.std.specs.Prelude.{map, find, flat_map, codes, IsTrue, IsFalse, IsSome}
-use Rattle.std.specs.List.{list_all}
-use Rattle.std.specs.Option.{option_map_or}
-use Rattle.std.specs.Str.{bytes_eq}
+use Rattle.std.specs.{Prelude.{List, [], ◌∷◌, ℕ, Bool, false, ◌&&◌, ◌||◌, ◌≤◌, length, not, nat_le, Option, Some, None, map, find, flat_map, codes, IsTrue, IsFalse, IsSome}, List.list_all, Option.option_map_or, Str.bytes_eq}
 use Rattle.lists.specs.Elements.{Each, EachPair}
-use Rattle.model_registers.specs.Declarations.{Endpoint}
-use Rattle.model_board.specs.Paths.{Path, path_eq}
-use Rattle.model_board.specs.Board.{endpoint, bridge, Row, Board, IsBoard}
-use Rattle.model_registers.specs.Apertures.{Apertures}
-use Rattle.model_board.specs.Lawful.{HasLawfulDecls}
+use Rattle.model_registers.specs.{Declarations.Endpoint, Apertures.Apertures}
+use Rattle.model_board.specs.{Paths.{Path, path_eq}, Board.{endpoint, bridge, Row, Board, IsBoard}, Lawful.HasLawfulDecls}
 use Rattle.model_guests.specs.Text.{Text}
 
 -- a guest and the paths of its slots, slot 0 first

@@ -4,10 +4,7 @@
 --     LongLinesAlike      a line of more than 200 bytes writes the same whatever stands in it, and changes nothing
 use Rattle.std.specs.Prelude.{◌≡◌, List, IsTrue}
 use Rattle.model_board.specs.State.{State}
-use Rattle.model_guests.specs.Text.{Text}
-use Rattle.model_guests.specs.Grammar.{is_long}
-use Rattle.model_guests.specs.World.{World, names}
-use Rattle.model_guests.specs.WorldNow.{WorldNow, world_over, names_now, line_output, after_line, after_lines}
+use Rattle.model_guests.specs.{Text.Text, Grammar.is_long, World.{World, names}, WorldNow.{WorldNow, world_over, names_now, line_output, after_line, after_lines}}
 
 abbrev pub NamesStay : Type 0
 NamesStay = (w : WorldNow) (line : Text) → names_now (after_line w line) ≡ names_now w

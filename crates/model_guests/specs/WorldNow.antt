@@ -6,21 +6,9 @@
 --     line_output, after_line      what a line writes, and the world after it
 --     world_protocol      the two as a protocol
 --     output, after_lines      the same along lines
-use Rattle.std.specs.Prelude.{List, [], ◌∷◌, map}
-use Rattle.std.specs.Option.{option_map_or}
+use Rattle.std.specs.{Prelude.{List, [], ◌∷◌, map}, Option.option_map_or}
 use Rattle.model_board.specs.State.{State}
-use Rattle.model_guests.specs.Accesses.{Reply, done, refused}
-use Rattle.model_guests.specs.Text.{Text, text_of_lines}
-use Rattle.model_guests.specs.Grammar.{HostRead, guest, host}
-use Rattle.model_guests.specs.World.{World}
-use Rattle.model_guests.specs.HostReads.{host_answer}
-use Rattle.model_guests.specs.Replies.{line_text}
-use Rattle.model_guests.specs.Lone.{answer}
-use Rattle.model_guests.specs.Guests.{GuestNow, GuestsNow, guests_at_first, lone_of, after_guest_event, Move}
-use Rattle.model_guests.specs.Guests.{move_fault, after_move}
-use Rattle.model_guests.specs.AgreedBoard.{state_over}
-use Rattle.model_guests.specs.Lines.{Meaning, nothing, guest_event, host_read, host_move, bad, meaning}
-use Rattle.model_guests.specs.LineRuns.{Protocol}
+use Rattle.model_guests.specs.{Accesses.{Reply, done, refused}, Text.{Text, text_of_lines}, Grammar.{HostRead, guest, host}, World.World, HostReads.host_answer, Replies.line_text, Lone.answer, Guests.{GuestNow, GuestsNow, guests_at_first, lone_of, after_guest_event, Move, move_fault, after_move}, AgreedBoard.state_over, Lines.{Meaning, nothing, guest_event, host_read, host_move, bad, meaning}, LineRuns.Protocol}
 use Rattle.model_guests.specs.LineRuns as runs
 
 -- the board's registers stand nowhere here: the guests and the handoff tell them

@@ -4,18 +4,7 @@
 //! laws about them.
 #![tactic(auto)]
 
-ghost use Rattle.model_guests.specs.Isolation.{Isolated, IsolatedByOwnLines, OwnLinesAlone, TwoWorlds, TwoWorldsByOwnLines};
-ghost use Rattle.model_guests.specs.Seated.{ByIndex, SeatedAfterEvents, SeatedAfterMoves, SeatedAlong, SeatedAtFirst};
-ghost use Rattle.model_guests.specs.AgreedLaws.{CopiesNeverRise, FileOfSeat, ShowsFile};
-ghost use Rattle.model_guests.specs.ChangeLaws.{ChangesOneFunction, EventReachesBoard, LatchKeepsBoard, MoveResetsOneFunction, OneFile, RaisesAlike, ResetsAlike, WritesAlike};
-ghost use Rattle.model_guests.specs.ViewLaws.{ViewAgrees, ViewIsFile};
-ghost use Rattle.model_guests.specs.MoveLaws.{InputsWithin, MoveBetween, MoveWithin, MovedFunction};
-ghost use Rattle.model_guests.specs.LineRuns.{AfterAlong, CutIsBeginning, LinesOfPieces, OutputAlong, StoppedIsBeginning};
-ghost use Rattle.model_guests.specs.WorldNow.{world_protocol};
-ghost use Rattle.model_guests.specs.WorldLaws.{HandoffStays, LongLinesAlike, NamesAlong, NamesStay};
-ghost use Rattle.model_guests.specs.DeviceByteLaws.{ReadsLeaveGuests, ReadsWritten, WriteReachesBoard};
-ghost use Rattle.model_guests.specs.DeviceExamples.{CountingDevice};
-ghost use Rattle.model_guests.specs.DeviceLaws.{NamesAfterDevices, OthersAfterDevice, OwnAfterDevice, ResetByMoves, ResetReachesBoard, SeatedAfterDevices};
+ghost use Rattle.model_guests.specs.{Isolation.{Isolated, IsolatedByOwnLines, OwnLinesAlone, TwoWorlds, TwoWorldsByOwnLines}, Seated.{ByIndex, SeatedAfterEvents, SeatedAfterMoves, SeatedAlong, SeatedAtFirst}, AgreedLaws.{CopiesNeverRise, FileOfSeat, ShowsFile}, ChangeLaws.{ChangesOneFunction, EventReachesBoard, LatchKeepsBoard, MoveResetsOneFunction, OneFile, RaisesAlike, ResetsAlike, WritesAlike}, ViewLaws.{ViewAgrees, ViewIsFile}, MoveLaws.{InputsWithin, MoveBetween, MoveWithin, MovedFunction}, LineRuns.{AfterAlong, CutIsBeginning, LinesOfPieces, OutputAlong, StoppedIsBeginning}, WorldNow.world_protocol, WorldLaws.{HandoffStays, LongLinesAlike, NamesAlong, NamesStay}, DeviceByteLaws.{ReadsLeaveGuests, ReadsWritten, WriteReachesBoard}, DeviceExamples.CountingDevice, DeviceLaws.{NamesAfterDevices, OthersAfterDevice, OwnAfterDevice, ResetByMoves, ResetReachesBoard, SeatedAfterDevices}};
 
 /// To each guest a script's replies, and what it then holds, are those of its own functions and
 /// latch alone, to its own lines and the moves that touch it, over any handoff.

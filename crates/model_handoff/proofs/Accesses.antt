@@ -1,42 +1,11 @@
 -- Reads and writes of the board over a handoff, where a guest has a function.
-use Rattle.std.proofs.Common.{◌≡◌, ℕ, ◌+◌, Bool, List, [], ◌∷◌, Some, Option, refl, sym, ap, ◌∙◌, subst, arith}
-use Rattle.std.specs.Prelude.{find, option_map}
-use Rattle.std.specs.Option.{option_map_or}
-use Rattle.lists.specs.Elements.{Each, IsIn}
-use Rattle.lists.proofs.Members.{each_in}
-use Rattle.model_registers.specs.Registers.{config, block, File, read, write, all_bytes, number}
-use Rattle.model_registers.specs.ByteEnables.{enabled_bits}
-use Rattle.model_registers.specs.Decoding.{Function}
-use Rattle.model_registers.specs.OwnCopies.{handed_on}
-use Rattle.model_registers.specs.CopiedFiles.{agreed_file, places_of}
-use Rattle.model_board.specs.Paths.{Path, path_eq}
-use Rattle.model_board.specs.Board.{endpoint, Board}
-use Rattle.model_board.specs.AtReset.{board_at}
-use Rattle.model_board.specs.Claims.{Claim}
-use Rattle.model_board.specs.Cycles.{reached}
-use Rattle.model_board.specs.Ports.{file_at, claim_reply, after_claim_write, target_reply, after_target_write}
-use Rattle.model_board.specs.State.{BoardFunction, State}
-use Rattle.model_findings.specs.Found.{address_now, IsNumbered}
-use Rattle.model_findings.specs.Orderly.{IsStateOfBoard}
-use Rattle.lists.proofs.FirstFound.{found_in}
-use Rattle.model_guests.specs.Guests.{GuestsNow, file_of}
-use Rattle.model_guests.specs.AgreedBoard.{agreed_function, state_over}
-use Rattle.model_guests.specs.ChangeLaws.{ChangesAlike}
-use Rattle.model_guests.specs.Seated.{AreSeated, IsSeatedAt}
-use Rattle.model_guests.specs.Text.{Text}
-use Rattle.model_guests.proofs.AgreedChanges.{agreed_by}
-use Rattle.model_guests.proofs.AgreedFiles.{writes_alike, shows_file}
-use Rattle.model_guests.proofs.KeptCopies.{file_of_seat}
-use Rattle.model_guests.proofs.Changes.{changes_slot}
-use Rattle.model_guests.proofs.DeclaredRows.{declared_row}
-use Rattle.model_handoff.specs.Handoffs.{HasDeclaredShape}
-use Rattle.model_handoff.specs.Regions.{base_in}
-use Rattle.model_handoff.specs.RegionLaws.{HitActs, ActsOver, ReachesOver, RegionReads, RegionWrites, MemoryBySpace, PortsBySpace, CycleReads, CycleWrites, HasSlot}
-use Rattle.model_handoff.proofs.Functions.{Facts, facts, path_stays, decl_stays}
-use Rattle.model_handoff.proofs.Agreement.{places_in}
-use Rattle.model_handoff.proofs.Keeping.{find_path, keeps_reach}
-use Rattle.model_handoff.proofs.Standing.{at_path, endpoint_at, StandsAt, found, stands}
-use Rattle.model_handoff.proofs.Regions.{hit_reaches_over, region_is_claimed, seat_of}
+use Rattle.std.{proofs.Common.{◌≡◌, ℕ, ◌+◌, Bool, List, [], ◌∷◌, Some, Option, refl, sym, ap, ◌∙◌, subst, arith}, specs.{Prelude.{find, option_map}, Option.option_map_or}}
+use Rattle.lists.{specs.Elements.{Each, IsIn}, proofs.{Members.each_in, FirstFound.found_in}}
+use Rattle.model_registers.specs.{Registers.{config, block, File, read, write, all_bytes, number}, ByteEnables.enabled_bits, Decoding.Function, OwnCopies.handed_on, CopiedFiles.{agreed_file, places_of}}
+use Rattle.model_board.specs.{Paths.{Path, path_eq}, Board.{endpoint, Board}, AtReset.board_at, Claims.Claim, Cycles.reached, Ports.{file_at, claim_reply, after_claim_write, target_reply, after_target_write}, State.{BoardFunction, State}}
+use Rattle.model_findings.specs.{Found.{address_now, IsNumbered}, Orderly.IsStateOfBoard}
+use Rattle.model_guests.{specs.{Guests.{GuestsNow, file_of}, AgreedBoard.{agreed_function, state_over}, ChangeLaws.ChangesAlike, Seated.{AreSeated, IsSeatedAt}, Text.Text}, proofs.{AgreedChanges.agreed_by, AgreedFiles.{writes_alike, shows_file}, KeptCopies.file_of_seat, Changes.changes_slot, DeclaredRows.declared_row}}
+use Rattle.model_handoff.{specs.{Handoffs.HasDeclaredShape, Regions.base_in, RegionLaws.{HitActs, ActsOver, ReachesOver, RegionReads, RegionWrites, MemoryBySpace, PortsBySpace, CycleReads, CycleWrites, HasSlot}}, proofs.{Functions.{Facts, facts, path_stays, decl_stays}, Agreement.places_in, Keeping.{find_path, keeps_reach}, Standing.{at_path, endpoint_at, StandsAt, found, stands}, Regions.{hit_reaches_over, region_is_claimed, seat_of}}}
 
 -- in a region there are no copies
 all_handed : (n a : ℕ) (ons : List Bool) → handed_on (block n a) ons ≡ ons

@@ -1,20 +1,10 @@
 -- What a guest is told by actions, and holds after them, is that of its own.
-use Rattle.std.proofs.Common.{◌≡◌, Bool, true, false, cond, List, [], ◌∷◌, Some, None, Option, refl, sym, ap, ◌∙◌, append_assoc, append-nil, arith}
-use Rattle.std.specs.Prelude.{is_some, IsSome}
-use Rattle.std.specs.Str.{bytes_eq}
+use Rattle.std.{proofs.Common.{◌≡◌, Bool, true, false, cond, List, [], ◌∷◌, Some, None, Option, refl, sym, ap, ◌∙◌, append_assoc, append-nil, arith}, specs.{Prelude.{is_some, IsSome}, Str.bytes_eq}}
 use Rattle.model_registers.specs.Declarations.{Endpoint}
 use Rattle.model_board.specs.AtReset.{board_at}
-use Rattle.model_guests.specs.Text.{Text}
-use Rattle.model_guests.specs.World.{declared}
-use Rattle.model_guests.specs.WorldNow.{WorldNow}
-use Rattle.model_guests.specs.Lone.{emptied, filled}
-use Rattle.model_guests.specs.Inputs.{loses, gets}
-use Rattle.model_guests.specs.Guests.{guest_named, lone_of, with_slot_emptied, with_slot_filled}
-use Rattle.model_guests.specs.Calls.{told, moved, inputs_of_call, all_alone_told, after_own_calls}
+use Rattle.model_guests.{specs.{Text.Text, World.declared, WorldNow.WorldNow, Lone.{emptied, filled}, Inputs.{loses, gets}, Guests.{guest_named, lone_of, with_slot_emptied, with_slot_filled}, Calls.{told, moved, inputs_of_call, all_alone_told, after_own_calls}}, proofs.OneGuest.{lone_by, still}}
+use Rattle.model_handoff.specs.{Giving.{give_fault, take_fault, given, taken}, Actions.{Action, calls, gives, takes, after_action, after_actions, told_by, all_told_by, inputs_of_gift, inputs_of_action, action_inputs, IsolatedByActions}}
 use Rattle.model_guests.proofs.Calls as device_calls
-use Rattle.model_guests.proofs.OneGuest.{lone_by, still}
-use Rattle.model_handoff.specs.Giving.{give_fault, take_fault, given, taken}
-use Rattle.model_handoff.specs.Actions.{Action, calls, gives, takes, after_action, after_actions, told_by, all_told_by, inputs_of_gift, inputs_of_action, action_inputs, IsolatedByActions}
 
 -- ---- a guest that is there stays there
 

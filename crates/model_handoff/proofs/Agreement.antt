@@ -1,27 +1,10 @@
 -- There is one state that agrees with seated guests over a handoff.
-use Rattle.std.proofs.Common.{◌≡◌, false, List, [], ◌∷◌, Some, None, Option, refl, sym, ap₂, subst, arith}
-use Rattle.std.specs.Prelude.{map}
+use Rattle.std.{proofs.Common.{◌≡◌, false, List, [], ◌∷◌, Some, None, Option, refl, sym, ap₂, subst, arith}, specs.Prelude.map}
 use Rattle.lists.specs.Elements.{Each, EachPair}
-use Rattle.model_registers.specs.Registers.{Place, File}
-use Rattle.model_registers.specs.Declarations.{Endpoint}
-use Rattle.model_registers.specs.EndpointTable.{endpoint_reset}
-use Rattle.model_registers.specs.CopiedFiles.{agreed_file, places_of, shape_of}
-use Rattle.model_board.specs.Board.{Decl, endpoint, Board}
-use Rattle.model_board.specs.Lawful.{IsLawfulDecl}
-use Rattle.model_board.specs.State.{BoardFunction}
-use Rattle.model_guests.specs.World.{declared, endpoint_of}
-use Rattle.model_guests.specs.Guests.{GuestsNow, file_of}
-use Rattle.model_guests.specs.AgreedBoard.{agreed_function}
-use Rattle.model_guests.specs.AgreedLaws.{AgreesAt, AgreesAtEach}
-use Rattle.model_guests.specs.Seated.{IsSeatedGuest}
-use Rattle.model_guests.proofs.AgreedChanges.{agreed_by}
-use Rattle.model_guests.proofs.AgreedFiles.{agreed_holds, only_file}
-use Rattle.model_guests.proofs.DistinctPlaces.{Apart, HasDistinctPlaces, distinct_places}
-use Rattle.model_guests.proofs.FoundFiles.{same_places}
-use Rattle.model_guests.proofs.SlotPlaces.{IsFileOf}
-use Rattle.model_handoff.specs.Handoffs.{declared_cells, HasDeclaredShape}
-use Rattle.model_handoff.specs.AgreementLaws.{StateAgrees, StateIsOnly}
-use Rattle.model_handoff.proofs.Functions.{Facts, facts, file_is}
+use Rattle.model_registers.specs.{Registers.{Place, File}, Declarations.Endpoint, EndpointTable.endpoint_reset, CopiedFiles.{agreed_file, places_of, shape_of}}
+use Rattle.model_board.specs.{Board.{Decl, endpoint, Board}, Lawful.IsLawfulDecl, State.BoardFunction}
+use Rattle.model_guests.{specs.{World.{declared, endpoint_of}, Guests.{GuestsNow, file_of}, AgreedBoard.agreed_function, AgreedLaws.{AgreesAt, AgreesAtEach}, Seated.IsSeatedGuest}, proofs.{AgreedChanges.agreed_by, AgreedFiles.{agreed_holds, only_file}, DistinctPlaces.{Apart, HasDistinctPlaces, distinct_places}, FoundFiles.same_places, SlotPlaces.IsFileOf}}
+use Rattle.model_handoff.{specs.{Handoffs.{declared_cells, HasDeclaredShape}, AgreementLaws.{StateAgrees, StateIsOnly}}, proofs.Functions.{Facts, facts, file_is}}
 
 -- a file with the places of the declaration at a path
 pub record HasPlaces (left own : File) : Type 0 where

@@ -1,40 +1,11 @@
 -- A handoff with the files of seated guests in it is a handoff of the same board, and so is what guests get of one.
-use Rattle.std.proofs.Common.{◌≡◌, ◌+◌, ◌*◌, List, [], Option, refl, sym, ap, ap₂, ◌∙◌, subst, arith}
-use Rattle.std.specs.Prelude.{map, filter, find, option_map}
-use Rattle.std.specs.Option.{option_map_or}
-use Rattle.model_registers.specs.Registers.{File, config}
-use Rattle.model_registers.specs.Cell.{Cell}
-use Rattle.model_registers.specs.Declarations.{Region}
-use Rattle.model_registers.specs.CopiedFiles.{agreed_file}
-use Rattle.model_registers.specs.Decoding.{command_word}
-use Rattle.model_board.specs.Paths.{Path, path_eq}
-use Rattle.model_board.specs.Board.{Board}
-use Rattle.model_board.specs.AtReset.{board_at}
-use Rattle.model_board.specs.Ports.{file_at}
-use Rattle.model_board.specs.Routing.{RoutingRow, routing}
-use Rattle.model_board.specs.State.{BoardFunction, State}
+use Rattle.std.{proofs.Common.{◌≡◌, ◌+◌, ◌*◌, List, [], Option, refl, sym, ap, ap₂, ◌∙◌, subst, arith}, specs.{Prelude.{map, filter, find, option_map}, Option.option_map_or}}
+use Rattle.model_registers.specs.{Registers.{File, config}, Cell.Cell, Declarations.Region, CopiedFiles.agreed_file, Decoding.command_word}
+use Rattle.model_board.specs.{Paths.{Path, path_eq}, Board.Board, AtReset.board_at, Ports.file_at, Routing.{RoutingRow, routing}, State.{BoardFunction, State}}
 use Rattle.model_set_up.specs.PlacedRegions.{PlacedRegion}
-use Rattle.model_findings.specs.OpenRegions.{closed_regions}
-use Rattle.model_findings.specs.Witnesses.{IsInOrder}
-use Rattle.model_guests.specs.World.{World, HasLawfulGuests}
-use Rattle.model_guests.specs.Guests.{GuestsNow, file_of, guests_at_first}
-use Rattle.model_guests.specs.AgreedBoard.{agreed_function, state_over}
-use Rattle.model_guests.specs.Seated.{AreSeated}
-use Rattle.model_guests.specs.WorldNow.{world_over}
-use Rattle.model_guests.proofs.AgreedFiles.{agreed_kept}
-use Rattle.model_guests.proofs.FoundFiles.{seated_file}
-use Rattle.model_guests.proofs.SeatedFirst.{seated_at_first}
-use Rattle.model_handoff.specs.Handoffs.{IsHandoff, is_given, taken_over}
-use Rattle.model_handoff.specs.Kept.{IsLawfulOver}
-use Rattle.model_handoff.specs.Regions.{opens_region, CanBeGiven}
-use Rattle.model_handoff.specs.ViewLaws.{with_seated_reset}
-use Rattle.model_handoff.proofs.First.{first_is_reset}
-use Rattle.model_handoff.proofs.Functions.{facts, path_stays, decl_stays}
-use Rattle.model_handoff.proofs.Keeping.{find_path, keeps_board, keeps_routing, stays_in_order}
-use Rattle.model_handoff.proofs.Kept.{lawful_at_first}
-use Rattle.model_handoff.proofs.Regions.{state_stays}
-use Rattle.model_handoff.proofs.Shapes.{shapes_with}
-use Rattle.model_handoff.proofs.Views.{over_reset, reset_at_first}
+use Rattle.model_findings.specs.{OpenRegions.closed_regions, Witnesses.IsInOrder}
+use Rattle.model_guests.{specs.{World.{World, HasLawfulGuests}, Guests.{GuestsNow, file_of, guests_at_first}, AgreedBoard.{agreed_function, state_over}, Seated.AreSeated, WorldNow.world_over}, proofs.{AgreedFiles.agreed_kept, FoundFiles.seated_file, SeatedFirst.seated_at_first}}
+use Rattle.model_handoff.{specs.{Handoffs.{IsHandoff, is_given, taken_over}, Kept.IsLawfulOver, Regions.{opens_region, CanBeGiven}, ViewLaws.with_seated_reset}, proofs.{First.first_is_reset, Functions.{facts, path_stays, decl_stays}, Keeping.{find_path, keeps_board, keeps_routing, stays_in_order}, Kept.lawful_at_first, Regions.state_stays, Shapes.shapes_with, Views.{over_reset, reset_at_first}}}
 
 -- ---- Command stays, as guests have copies of it
 

@@ -1,8 +1,6 @@
 -- A run of a script over a machine is one over its world: the counts stand beside it.
 use Rattle.std.proofs.Common.{◌≡◌, ◌++◌, List, [], ◌∷◌, refl, ap}
-use Rattle.model_guests.specs.Text.{Text}
-use Rattle.model_guests.specs.WorldNow.{world_protocol, line_output}
-use Rattle.model_guests.specs.LineRuns.{output, after_lines}
+use Rattle.model_guests.specs.{Text.Text, WorldNow.{world_protocol, line_output}, LineRuns.{output, after_lines}}
 use Rattle.model_handoff.specs.Changes.{MachineNow, machine_protocol, after_line_on_machine}
 
 pub output_aside : (m : MachineNow) (ls : List Text) → output machine_protocol m ls ≡ output world_protocol m.world ls

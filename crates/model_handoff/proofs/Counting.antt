@@ -5,38 +5,10 @@
 --     counted_by      a machine after anything that changes no name, counted by a test of names
 --     none_counted      what has the count that it had has not changed
 --     there_by_index      a guest that a name is found for by its index
-use Rattle.std.proofs.Common.{◌≡◌, ◌<◌, ◌+◌, ◌^◌, ◌%◌, ℕ, Bool, true, false, ◌&&◌, ◌||◌, not, cond, eqb, List, [], ◌∷◌, Some, None, Option, refl, sym, ap, ap₂, ◌∙◌, subst, arith, zero-add}
-use Rattle.std.specs.Prelude.{is_some, IsSome, slice_get}
-use Rattle.std.specs.Option.{option_map_or}
-use Rattle.std.specs.Str.{bytes_eq}
-use Rattle.std.proofs.lemmas.Bool.{and_parts}
+use Rattle.std.{proofs.{Common.{◌≡◌, ◌<◌, ◌+◌, ◌^◌, ◌%◌, ℕ, Bool, true, false, ◌&&◌, ◌||◌, not, cond, eqb, List, [], ◌∷◌, Some, None, Option, refl, sym, ap, ap₂, ◌∙◌, subst, arith, zero-add}, lemmas.Bool.and_parts}, specs.{Prelude.{is_some, IsSome, slice_get}, Option.option_map_or, Str.bytes_eq}}
 use Rattle.model_board.specs.AtReset.{board_at}
-use Rattle.model_guests.specs.Accesses.{Event, access, raises, Access}
-use Rattle.model_guests.specs.Slots.{Landing, fault_of}
-use Rattle.model_guests.specs.Text.{Text}
-use Rattle.model_guests.specs.Lone.{LoneGuest, after_event, changed_by}
-use Rattle.model_guests.specs.Guests.{GuestsNow, guest_named, lone_of, guest_after, move_fault}
-use Rattle.model_guests.specs.Lines.{nothing, guest_event, host_read, host_move, bad}
-use Rattle.model_guests.specs.WorldNow.{names_of}
-use Rattle.model_guests.proofs.Along.{names_with}
-use Rattle.model_guests.proofs.Names.{equal_texts, same_text}
-use Rattle.model_guests.specs.DeviceEvents.{resets, device_reads, device_writes, slot_fault, device_after, after_device_event, reset_in}
-use Rattle.model_guests.specs.Calls.{Call, asks, at_device, after_call}
-use Rattle.model_handoff.specs.GuestRegions.{region_answer}
-use Rattle.model_handoff.specs.Located.{located}
-use Rattle.model_handoff.specs.StayLaws.{any_tells, is_write, rewrites, touches, moves_regions}
-use Rattle.model_handoff.proofs.Staying.{regions_stay}
-use Rattle.model_handoff.specs.Kept.{IsLawfulOver}
-use Rattle.model_guests.specs.WorldNow.{WorldNow, names_now}
-use Rattle.model_handoff.proofs.DevicesOver.{lawful_after_devices}
-use Rattle.model_handoff.proofs.Kept.{lawful_after_meaning}
-use Rattle.model_guests.proofs.Along.{names_meaning}
-use Rattle.model_guests.proofs.OneGuest.{lone_by}
-use Rattle.model_handoff.specs.Actions.{Action, after_action, after_actions}
-use Rattle.model_handoff.specs.Changes.{moves_own, moves_by_call, changes, changes_along, after_change, counts_where, MachineNow, after_on_machine, after_all_on_machine}
-use Rattle.model_handoff.specs.CountLaws.{HaveSameAnswers, RegionsStayAlong, ChangesTouchSlots, IsCounted, CountsGrow, AnswersStay}
-use Rattle.model_handoff.proofs.Actions.{there_after}
-use Rattle.model_handoff.proofs.Giving.{lawful_after_gift, lawful_after_taking, others_after_gift, others_after_taking}
+use Rattle.model_guests.{specs.{Accesses.{Event, access, raises, Access}, Slots.{Landing, fault_of}, Text.Text, Lone.{LoneGuest, after_event, changed_by}, Guests.{GuestsNow, guest_named, lone_of, guest_after, move_fault}, Lines.{nothing, guest_event, host_read, host_move, bad}, WorldNow.{names_of, WorldNow, names_now}, DeviceEvents.{resets, device_reads, device_writes, slot_fault, device_after, after_device_event, reset_in}, Calls.{Call, asks, at_device, after_call}}, proofs.{Along.{names_with, names_meaning}, Names.{equal_texts, same_text}, OneGuest.lone_by}}
+use Rattle.model_handoff.{specs.{GuestRegions.region_answer, Located.located, StayLaws.{any_tells, is_write, rewrites, touches, moves_regions}, Kept.IsLawfulOver, Actions.{Action, after_action, after_actions}, Changes.{moves_own, moves_by_call, changes, changes_along, after_change, counts_where, MachineNow, after_on_machine, after_all_on_machine}, CountLaws.{HaveSameAnswers, RegionsStayAlong, ChangesTouchSlots, IsCounted, CountsGrow, AnswersStay}}, proofs.{Staying.regions_stay, DevicesOver.lawful_after_devices, Kept.lawful_after_meaning, Actions.there_after, Giving.{lawful_after_gift, lawful_after_taking, others_after_gift, others_after_taking}}}
 use Rattle.lists.proofs.Tests.{and_false}
 use Rattle.model_registers.proofs.RegisterFiles.{self}
 

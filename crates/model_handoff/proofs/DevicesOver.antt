@@ -1,10 +1,7 @@
 -- What happens at devices leaves the world lawful.
 use Rattle.std.proofs.Common.{refl, arith}
-use Rattle.model_guests.specs.DeviceEvents.{device_after}
-use Rattle.model_guests.proofs.DeviceSeats.{seated_after}
-use Rattle.model_handoff.specs.DevicesOver.{LawfulAfterDevices, ResetAfterDevices}
-use Rattle.model_handoff.proofs.Served.{served_with}
-use Rattle.model_handoff.proofs.Views.{reset_with}
+use Rattle.model_guests.{specs.DeviceEvents.device_after, proofs.DeviceSeats.seated_after}
+use Rattle.model_handoff.{specs.DevicesOver.{LawfulAfterDevices, ResetAfterDevices}, proofs.{Served.served_with, Views.reset_with}}
 
 pub lawful_after_devices : LawfulAfterDevices
 lawful_after_devices w name e h = grind (arith, seated_after, served_with)

@@ -1,31 +1,10 @@
 -- Before any event each given function is at reset.
-use Rattle.std.proofs.Common.{◌≡◌, ℕ, zero, suc, Bool, false, ◌||◌, cond, List, [], ◌∷◌, ◌++◌, Some, None, Option, refl, ap₂, arith}
-use Rattle.std.specs.Prelude.{map, flat_map, replicate, option_map, IsTrue}
-use Rattle.std.specs.List.{list_any}
-use Rattle.std.specs.Option.{option_map_or}
-use Rattle.std.proofs.lemmas.List.Folds.{list_any-append}
+use Rattle.std.{proofs.{Common.{◌≡◌, ℕ, zero, suc, Bool, false, ◌||◌, cond, List, [], ◌∷◌, ◌++◌, Some, None, Option, refl, ap₂, arith}, lemmas.List.Folds.list_any-append}, specs.{Prelude.{map, flat_map, replicate, option_map, IsTrue}, List.list_any, Option.option_map_or}}
 use Rattle.lists.specs.Elements.{Each}
-use Rattle.model_registers.specs.Registers.{File}
-use Rattle.model_registers.specs.Declarations.{Endpoint}
-use Rattle.model_registers.specs.CopiedFiles.{after_reset, shape_of}
-use Rattle.model_board.specs.Paths.{Path, path_eq}
-use Rattle.model_board.specs.Board.{Decl, endpoint, bridge, Board}
-use Rattle.model_board.specs.AtReset.{board_at}
-use Rattle.model_board.specs.Lawful.{IsLawfulDecl}
-use Rattle.model_board.specs.State.{BoardFunction, with_file}
-use Rattle.model_board.proofs.PathEnds.{path_eq-sym}
-use Rattle.model_board.proofs.PathOrder.{path_same}
-use Rattle.model_guests.specs.Slots.{reset_function}
-use Rattle.model_guests.specs.World.{Guest, World, declared, endpoint_of}
-use Rattle.model_guests.specs.Guests.{file_in, file_of, guest_at_first, guests_at_first}
-use Rattle.model_guests.specs.AgreedBoard.{agreed_function}
-use Rattle.model_guests.proofs.AgreedChanges.{agreed_by}
-use Rattle.model_guests.proofs.AgreedFiles.{only_file}
-use Rattle.model_guests.proofs.Changes.{files_same}
-use Rattle.model_handoff.specs.Handoffs.{declared_cells, HasDeclaredShape, is_given, file_at_reset, files_given, reset_files, HoldsReset}
-use Rattle.model_handoff.specs.AgreementLaws.{FirstIsReset, FirstIsHandoff}
-use Rattle.model_handoff.proofs.Functions.{Facts, facts}
-use Rattle.model_handoff.proofs.Agreement.{distinct_left}
+use Rattle.model_registers.specs.{Registers.File, Declarations.Endpoint, CopiedFiles.{after_reset, shape_of}}
+use Rattle.model_board.{specs.{Paths.{Path, path_eq}, Board.{Decl, endpoint, bridge, Board}, AtReset.board_at, Lawful.IsLawfulDecl, State.{BoardFunction, with_file}}, proofs.{PathEnds.path_eq-sym, PathOrder.path_same}}
+use Rattle.model_guests.{specs.{Slots.reset_function, World.{Guest, World, declared, endpoint_of}, Guests.{file_in, file_of, guest_at_first, guests_at_first}, AgreedBoard.agreed_function}, proofs.{AgreedChanges.agreed_by, AgreedFiles.only_file, Changes.files_same}}
+use Rattle.model_handoff.{specs.{Handoffs.{declared_cells, HasDeclaredShape, is_given, file_at_reset, files_given, reset_files, HoldsReset}, AgreementLaws.{FirstIsReset, FirstIsHandoff}}, proofs.{Functions.{Facts, facts}, Agreement.distinct_left}}
 
 module _ (w : World) (p : Path) where
   abbrev reset_here : Option File

@@ -1,15 +1,9 @@
 -- A seat that is told holds the function, and where none is told no slot does.
-use Rattle.std.proofs.Common.{◌≡◌, ℕ, suc, ◌+◌, Bool, true, false, cond, List, [], ◌∷◌, Option, Some, None, refl, sym, ap, ◌∙◌, arith}
-use Rattle.std.specs.Prelude.{option_map, position, unwrap_or, slice_get}
-use Rattle.std.specs.List.{position_from}
-use Rattle.std.proofs.lemmas.Iterator.Adapters.{position_from-zero}
+use Rattle.std.{proofs.{Common.{◌≡◌, ℕ, suc, ◌+◌, Bool, true, false, cond, List, [], ◌∷◌, Option, Some, None, refl, sym, ap, ◌∙◌, arith}, lemmas.Iterator.Adapters.position_from-zero}, specs.{Prelude.{option_map, position, unwrap_or, slice_get}, List.position_from}}
 use Rattle.lists.specs.Elements.{first_of_two}
-use Rattle.model_board.specs.Paths.{Path}
-use Rattle.model_board.proofs.PathOrder.{path_same}
-use Rattle.model_board.proofs.PathEnds.{path_self}
+use Rattle.model_board.{specs.Paths.Path, proofs.{PathOrder.path_same, PathEnds.path_self}}
 use Rattle.model_guests.specs.Guests.{GuestNow, GuestsNow}
-use Rattle.model_handoff.specs.Functions.{Seat, is_there, seat_from}
-use Rattle.model_handoff.specs.FunctionLaws.{path_in_seat, SeatsHold, NoSeatHolds}
+use Rattle.model_handoff.specs.{Functions.{Seat, is_there, seat_from}, FunctionLaws.{path_in_seat, SeatsHold, NoSeatHolds}}
 
 -- ---- the first of a list that passes a test
 

@@ -1,22 +1,10 @@
 -- The functions of a state of a lawful board, with the guests that are seated there.
 use Rattle.std.proofs.Common.{◌≡◌, true, List, Some, None, Option, refl, ap, arith}
-use Rattle.lists.specs.Elements.{Each}
-use Rattle.lists.proofs.EachLemmas.{each_both, each_map, each_from_map}
-use Rattle.model_registers.specs.Registers.{File}
-use Rattle.model_registers.specs.CopiedFiles.{shape_of}
-use Rattle.model_board.specs.Board.{Decl, endpoint, bridge, Row, Board, is_bridge}
-use Rattle.model_board.specs.AtReset.{board_at}
-use Rattle.model_board.specs.State.{BoardFunction, row_at}
-use Rattle.model_board.specs.Lawful.{IsLawfulDecl}
+use Rattle.lists.{specs.Elements.Each, proofs.EachLemmas.{each_both, each_map, each_from_map}}
+use Rattle.model_registers.specs.{Registers.File, CopiedFiles.shape_of}
+use Rattle.model_board.specs.{Board.{Decl, endpoint, bridge, Row, Board, is_bridge}, AtReset.board_at, State.{BoardFunction, row_at}, Lawful.IsLawfulDecl}
 use Rattle.model_findings.specs.Orderly.{IsStateOfBoard}
-use Rattle.model_guests.specs.World.{declared, endpoint_of}
-use Rattle.model_guests.specs.Guests.{GuestsNow, file_of}
-use Rattle.model_guests.specs.AgreedBoard.{agreed_function}
-use Rattle.model_guests.specs.Seated.{IsSeatedGuest}
-use Rattle.model_guests.proofs.AgreedChanges.{agreed_by}
-use Rattle.model_guests.proofs.DeclaredRows.{rows_found}
-use Rattle.model_guests.proofs.FoundFiles.{seated_file}
-use Rattle.model_guests.proofs.SlotPlaces.{IsFileOf}
+use Rattle.model_guests.{specs.{World.{declared, endpoint_of}, Guests.{GuestsNow, file_of}, AgreedBoard.agreed_function, Seated.IsSeatedGuest}, proofs.{AgreedChanges.agreed_by, DeclaredRows.rows_found, FoundFiles.seated_file, SlotPlaces.IsFileOf}}
 
 pub record Facts (b : Board) (f : BoardFunction) : Type 0 where
   pub found : declared b f.path ≡ endpoint_of (row_at f)

@@ -1,32 +1,11 @@
 -- Guests of whom one gets a function that nobody has, or loses one: all stay seated, and every other path finds the file
 -- that it found.
-use Rattle.std.proofs.Common.{◌≡◌, ℕ, zero, suc, ◌<◌, Bool, true, false, ◌||◌, cond, List, [], ◌∷◌, length, Some, None, Option, refl, sym, ap, ap₂, ◌∙◌, subst, arith}
-use Rattle.std.specs.Prelude.{slice_set, is_some, nat_le, IsFalse, IsSome}
-use Rattle.std.specs.List.{list_any}
-use Rattle.std.specs.Str.{bytes_eq}
-use Rattle.std.proofs.lemmas.Bool.Decides.{nat_tests}
-use Rattle.std.proofs.lemmas.List.{length-set}
+use Rattle.std.{proofs.{Common.{◌≡◌, ℕ, zero, suc, ◌<◌, Bool, true, false, ◌||◌, cond, List, [], ◌∷◌, length, Some, None, Option, refl, sym, ap, ap₂, ◌∙◌, subst, arith}, lemmas.{Bool.Decides.nat_tests, List.length-set}}, specs.{Prelude.{slice_set, is_some, nat_le, IsFalse, IsSome}, List.list_any, Str.bytes_eq}}
 use Rattle.lists.specs.Elements.{Each, EachPair}
-use Rattle.model_registers.specs.Registers.{File}
-use Rattle.model_registers.specs.Declarations.{Endpoint}
-use Rattle.model_registers.specs.EndpointTable.{endpoint_reset}
-use Rattle.model_registers.specs.Decoding.{Function}
-use Rattle.model_board.specs.Paths.{Path, path_eq}
-use Rattle.model_board.specs.Board.{Board}
-use Rattle.model_board.proofs.PathOrder.{path_same}
-use Rattle.model_guests.specs.Text.{Text}
-use Rattle.model_guests.specs.World.{declared}
-use Rattle.model_guests.specs.Guests.{GuestNow, GuestsNow, file_of, function_in, guest_named, path_in, with_guest, with_slot_emptied, with_slot_filled}
-use Rattle.model_guests.specs.Seated.{AreSeated, IsSeat, IsSeatedGuest}
-use Rattle.model_guests.proofs.FoundFiles.{file_found, file_past, file_stays, in_rest}
-use Rattle.model_guests.proofs.GuestsByName.{found, function_named, function_of, named_with, path_at, path_of}
-use Rattle.model_guests.proofs.Names.{same_text}
-use Rattle.model_guests.proofs.SeatedMoves.{Placed, placed, put_there, was_there, seat_in}
-use Rattle.model_guests.proofs.MovedFunctions.{put_at}
-use Rattle.model_guests.proofs.Seats.{as_many, guests_stay, names_stay, seats_set, no_path}
-use Rattle.model_guests.proofs.Resets.{none_is_some}
-use Rattle.model_handoff.specs.ViewLaws.{is_at, sits}
-use Rattle.model_handoff.proofs.Views.{sits_is}
+use Rattle.model_registers.specs.{Registers.File, Declarations.Endpoint, EndpointTable.endpoint_reset, Decoding.Function}
+use Rattle.model_board.{specs.{Paths.{Path, path_eq}, Board.Board}, proofs.PathOrder.path_same}
+use Rattle.model_guests.{specs.{Text.Text, World.declared, Guests.{GuestNow, GuestsNow, file_of, function_in, guest_named, path_in, with_guest, with_slot_emptied, with_slot_filled}, Seated.{AreSeated, IsSeat, IsSeatedGuest}}, proofs.{FoundFiles.{file_found, file_past, file_stays, in_rest}, GuestsByName.{found, function_named, function_of, named_with, path_at, path_of}, Names.same_text, SeatedMoves.{Placed, placed, put_there, was_there, seat_in}, MovedFunctions.put_at, Seats.{as_many, guests_stay, names_stay, seats_set, no_path}, Resets.none_is_some}}
+use Rattle.model_handoff.{specs.ViewLaws.{is_at, sits}, proofs.Views.sits_is}
 
 abbrev pub fresh : Endpoint → Function
 fresh d = record { decl = d; file = endpoint_reset d false }

@@ -1,47 +1,10 @@
 -- What is given and taken: the world after it.
-use Rattle.std.proofs.Common.{◌≡◌, ℕ, Bool, true, false, not, cond, List, [], ◌∷◌, inl, inr, ◌⊎◌, Some, None, Option, refl, sym, ap, ap₂, ◌∙◌, subst, arith}
-use Rattle.std.specs.Prelude.{map, option_map, is_some, nat_le, IsTrue, IsSome}
-use Rattle.std.specs.List.{list_any}
-use Rattle.std.specs.Option.{option_map_or}
-use Rattle.lists.specs.Elements.{Each}
-use Rattle.lists.proofs.Tests.{some_there}
-use Rattle.model_registers.specs.Registers.{File}
-use Rattle.model_registers.specs.Declarations.{Region, Endpoint}
-use Rattle.model_registers.specs.EndpointTable.{endpoint_reset}
-use Rattle.model_registers.specs.CopiedFiles.{agreed_file, after_reset}
-use Rattle.model_registers.specs.Decoding.{Function}
-use Rattle.model_board.specs.Paths.{Path, path_eq}
-use Rattle.model_board.specs.Board.{Board}
-use Rattle.model_board.specs.AtReset.{board_at}
-use Rattle.model_board.specs.State.{BoardFunction, State, with_file}
-use Rattle.model_board.proofs.PathEnds.{path_eq-sym}
-use Rattle.model_board.proofs.PathOrder.{path_same}
-use Rattle.model_guests.specs.Slots.{slot_at}
-use Rattle.model_guests.specs.Text.{Text}
-use Rattle.model_guests.specs.World.{declared}
-use Rattle.model_guests.specs.Guests.{GuestNow, GuestsNow, file_of, function_in, guest_named, path_in, with_guest, with_slot_emptied, with_slot_filled}
-use Rattle.model_guests.specs.AgreedBoard.{agreed_function, with_files, state_over, with_change_at}
-use Rattle.model_guests.specs.Seated.{AreSeated}
-use Rattle.model_guests.proofs.AgreedChanges.{agreed_by, changed_function}
-use Rattle.model_guests.proofs.Changes.{one_file, resets_alike}
-use Rattle.model_guests.proofs.GuestsByName.{function_named, path_at}
-use Rattle.model_guests.proofs.SeatedMoves.{placed, put_there, was_there, seat_in}
-use Rattle.model_guests.proofs.OneGuest.{lone_other, with_none, with_twice}
-use Rattle.model_handoff.specs.Handoffs.{IsHandoff, file_at_reset}
-use Rattle.model_handoff.specs.Kept.{IsLawfulOver}
-use Rattle.model_handoff.specs.Regions.{AreServed, HasOpenRegions, opens_region}
-use Rattle.model_handoff.specs.ViewLaws.{seated_files, sits, with_seated_reset}
-use Rattle.model_guests.specs.WorldNow.{WorldNow, board_state}
-use Rattle.model_handoff.proofs.Functions.{path_stays}
-use Rattle.model_handoff.proofs.Keeping.{keeps_board, rows_stay}
-use Rattle.model_handoff.proofs.Views.{sits_is}
-use Rattle.model_guests.proofs.Resets.{set_back}
-use Rattle.model_guests.proofs.Seats.{no_path, some_path}
-use Rattle.model_handoff.specs.Giving.{Gift, with_reset_at, has_closed_region, give_fault, take_fault, given, taken, after_give, after_take}
-use Rattle.model_handoff.specs.GivingLaws.{BoardAfterGift, BoardAfterTaking, LawfulAfterGift, LawfulAfterTaking, ShownAfterGift, ShownAfterTaking, GivenFunction, GivenBack, OthersAfterGift, OthersAfterTaking}
-use Rattle.model_handoff.proofs.OneReset.{alike, reset_is}
-use Rattle.model_handoff.proofs.Alike.{IsAlike}
-use Rattle.model_handoff.proofs.GivenSeats.{fresh, declared_there, sits_nowhere, came_seated, came_path, came_function, came_file, came_others, left, left_was, left_seated, left_file, left_others}
+use Rattle.std.{proofs.Common.{◌≡◌, ℕ, Bool, true, false, not, cond, List, [], ◌∷◌, inl, inr, ◌⊎◌, Some, None, Option, refl, sym, ap, ap₂, ◌∙◌, subst, arith}, specs.{Prelude.{map, option_map, is_some, nat_le, IsTrue, IsSome}, List.list_any, Option.option_map_or}}
+use Rattle.lists.{specs.Elements.Each, proofs.Tests.some_there}
+use Rattle.model_registers.specs.{Registers.File, Declarations.{Region, Endpoint}, EndpointTable.endpoint_reset, CopiedFiles.{agreed_file, after_reset}, Decoding.Function}
+use Rattle.model_board.{specs.{Paths.{Path, path_eq}, Board.Board, AtReset.board_at, State.{BoardFunction, State, with_file}}, proofs.{PathEnds.path_eq-sym, PathOrder.path_same}}
+use Rattle.model_guests.{specs.{Slots.slot_at, Text.Text, World.declared, Guests.{GuestNow, GuestsNow, file_of, function_in, guest_named, path_in, with_guest, with_slot_emptied, with_slot_filled}, AgreedBoard.{agreed_function, with_files, state_over, with_change_at}, Seated.AreSeated, WorldNow.{WorldNow, board_state}}, proofs.{AgreedChanges.{agreed_by, changed_function}, Changes.{one_file, resets_alike}, GuestsByName.{function_named, path_at}, SeatedMoves.{placed, put_there, was_there, seat_in}, OneGuest.{lone_other, with_none, with_twice}, Resets.set_back, Seats.{no_path, some_path}}}
+use Rattle.model_handoff.{specs.{Handoffs.{IsHandoff, file_at_reset}, Kept.IsLawfulOver, Regions.{AreServed, HasOpenRegions, opens_region}, ViewLaws.{seated_files, sits, with_seated_reset}, Giving.{Gift, with_reset_at, has_closed_region, give_fault, take_fault, given, taken, after_give, after_take}, GivingLaws.{BoardAfterGift, BoardAfterTaking, LawfulAfterGift, LawfulAfterTaking, ShownAfterGift, ShownAfterTaking, GivenFunction, GivenBack, OthersAfterGift, OthersAfterTaking}}, proofs.{Functions.path_stays, Keeping.{keeps_board, rows_stay}, Views.sits_is, OneReset.{alike, reset_is}, Alike.IsAlike, GivenSeats.{fresh, declared_there, sits_nowhere, came_seated, came_path, came_function, came_file, came_others, left, left_was, left_seated, left_file, left_others}}}
 
 -- ---- files of which one is reset beneath
 

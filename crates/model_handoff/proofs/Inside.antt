@@ -1,20 +1,9 @@
 -- A hit lies in a region that is told there, and each address of an open region hits something.
-use Rattle.std.proofs.Common.{◌≡◌, ◌≤◌, ◌<◌, inl, inr, ℕ, zero, suc, ◌+◌, ◌-◌, true, eqb, List, [], ◌∷◌, Some, None, Option, Ok, refl, ap, ◌∙◌, arith}
-use Rattle.std.specs.Prelude.{find, option_map, is_some}
-use Rattle.std.proofs.lemmas.Bool.Decides.{nat_tests}
-use Rattle.lists.specs.Elements.{IsIn, EachPair, first_of_two}
-use Rattle.lists.proofs.Tests.{left_true, right_true}
-use Rattle.lists.proofs.Members.{each_in}
-use Rattle.lists.proofs.Indices.{found_at, index_in}
-use Rattle.lists.proofs.FirstFound.{first_some_of}
-use Rattle.model_registers.specs.Registers.{block, File}
-use Rattle.model_registers.specs.Declarations.{Region, registers_of}
-use Rattle.model_registers.specs.Decoding.{Space, space_of, base, is_open, Hit, hit_of, Function, lone_claim, first_hit}
-use Rattle.model_registers.proofs.HitRegions.{space_same}
-use Rattle.model_guests.specs.Slots.{Slots, slot_at, Landing, landing_in, landing_from}
-use Rattle.model_guests.specs.Lone.{LoneGuest}
-use Rattle.model_handoff.specs.GuestRegions.{RegionNow, region_now, region_at, region_answer}
-use Rattle.model_handoff.specs.QueryLaws.{HitIsInside, InsideIsHit}
+use Rattle.std.{proofs.{Common.{◌≡◌, ◌≤◌, ◌<◌, inl, inr, ℕ, zero, suc, ◌+◌, ◌-◌, true, eqb, List, [], ◌∷◌, Some, None, Option, Ok, refl, ap, ◌∙◌, arith}, lemmas.Bool.Decides.nat_tests}, specs.Prelude.{find, option_map, is_some}}
+use Rattle.lists.{specs.Elements.{IsIn, EachPair, first_of_two}, proofs.{Tests.{left_true, right_true}, Members.each_in, Indices.{found_at, index_in}, FirstFound.first_some_of}}
+use Rattle.model_registers.{specs.{Registers.{block, File}, Declarations.{Region, registers_of}, Decoding.{Space, space_of, base, is_open, Hit, hit_of, Function, lone_claim, first_hit}}, proofs.HitRegions.space_same}
+use Rattle.model_guests.specs.{Slots.{Slots, slot_at, Landing, landing_in, landing_from}, Lone.LoneGuest}
+use Rattle.model_handoff.specs.{GuestRegions.{RegionNow, region_now, region_at, region_answer}, QueryLaws.{HitIsInside, InsideIsHit}}
 
 -- ---- a hit in a function
 

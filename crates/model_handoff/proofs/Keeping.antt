@@ -1,37 +1,12 @@
 -- What guests can't change of a handoff: its board, its routing registers, what configuration cycles reach, and what an
 -- audit tells.
-use Rattle.std.proofs.Common.{◌≡◌, ℕ, Bool, true, false, ◌&&◌, List, [], ◌∷◌, ◌++◌, Option, refl, sym, ap, ap₂, ◌∙◌, subst, arith}
-use Rattle.std.specs.Prelude.{map, find}
-use Rattle.std.specs.Option.{option_map}
-use Rattle.lists.specs.Elements.{Each}
-use Rattle.lists.proofs.EachLemmas.{each_both, each_map, each_of_map}
-use Rattle.lists.proofs.Tests.{and_false}
-use Rattle.lists.proofs.Members.{flat_map_map}
-use Rattle.model_registers.specs.Registers.{config, File, cell_at}
-use Rattle.model_registers.specs.Declarations.{Endpoint}
-use Rattle.model_registers.specs.CopiedFiles.{agreed_file}
-use Rattle.std.proofs.lemmas.Bool.Decides.{nat_tests}
-use Rattle.std.proofs.Common.{arith}
-use Rattle.model_board.specs.Paths.{Part, Path}
-use Rattle.model_board.specs.Board.{Decl, endpoint, bridge, Row, Board, is_bridge}
-use Rattle.model_board.specs.AtReset.{board_at}
-use Rattle.model_board.specs.BusNumbers.{secondary, subordinate}
-use Rattle.model_board.specs.Cycles.{secondary_register, subordinate_register, takes, is_route, BusAddress, reached}
-use Rattle.model_board.specs.Lawful.{IsLawfulDecl}
-use Rattle.model_board.specs.Routing.{routing}
-use Rattle.model_board.specs.RoutingLaws.{is_routing_register, HasSameRouting}
-use Rattle.model_board.specs.State.{BoardFunction, State, row_at}
-use Rattle.model_board.proofs.Routing.{routing_of_change}
-use Rattle.model_findings.specs.Found.{address_now, path_reached}
-use Rattle.model_findings.specs.Problems.{numbering_problems}
-use Rattle.model_findings.proofs.Witnesses.{problems_decide}
-use Rattle.model_guests.specs.Guests.{GuestsNow, file_of}
-use Rattle.model_guests.specs.AgreedBoard.{agreed_function, state_over}
-use Rattle.model_guests.specs.Seated.{IsSeatedGuest}
-use Rattle.model_guests.proofs.AgreedChanges.{agreed_by}
-use Rattle.model_guests.proofs.AgreedFiles.{agreed_kept}
-use Rattle.model_handoff.specs.AgreementLaws.{KeepsBoard, KeepsBridges, KeepsNumbers, KeepsRouting, KeepsReach, KeepsAddresses, KeepsProblems, StaysInOrder}
-use Rattle.model_handoff.proofs.Functions.{Facts, facts, bridge_stays, path_stays, decl_stays, row_stays}
+use Rattle.std.{proofs.{Common.{◌≡◌, ℕ, Bool, true, false, ◌&&◌, List, [], ◌∷◌, ◌++◌, Option, refl, sym, ap, ap₂, ◌∙◌, subst, arith, arith}, lemmas.Bool.Decides.nat_tests}, specs.{Prelude.{map, find}, Option.option_map}}
+use Rattle.lists.{specs.Elements.Each, proofs.{EachLemmas.{each_both, each_map, each_of_map}, Tests.and_false, Members.flat_map_map}}
+use Rattle.model_registers.specs.{Registers.{config, File, cell_at}, Declarations.Endpoint, CopiedFiles.agreed_file}
+use Rattle.model_board.{specs.{Paths.{Part, Path}, Board.{Decl, endpoint, bridge, Row, Board, is_bridge}, AtReset.board_at, BusNumbers.{secondary, subordinate}, Cycles.{secondary_register, subordinate_register, takes, is_route, BusAddress, reached}, Lawful.IsLawfulDecl, Routing.routing, RoutingLaws.{is_routing_register, HasSameRouting}, State.{BoardFunction, State, row_at}}, proofs.Routing.routing_of_change}
+use Rattle.model_findings.{specs.{Found.{address_now, path_reached}, Problems.numbering_problems}, proofs.Witnesses.problems_decide}
+use Rattle.model_guests.{specs.{Guests.{GuestsNow, file_of}, AgreedBoard.{agreed_function, state_over}, Seated.IsSeatedGuest}, proofs.{AgreedChanges.agreed_by, AgreedFiles.agreed_kept}}
+use Rattle.model_handoff.{specs.AgreementLaws.{KeepsBoard, KeepsBridges, KeepsNumbers, KeepsRouting, KeepsReach, KeepsAddresses, KeepsProblems, StaysInOrder}, proofs.Functions.{Facts, facts, bridge_stays, path_stays, decl_stays, row_stays}}
 
 -- ---- the same rows
 

@@ -1,13 +1,8 @@
 -- Along a script guests stay seated and served.
 use Rattle.std.proofs.Common.{[], ◌∷◌, arith}
 use Rattle.model_board.specs.AtReset.{board_at}
-use Rattle.model_guests.specs.Lines.{Meaning, nothing, guest_event, host_read, host_move, bad, meaning}
-use Rattle.model_guests.proofs.SeatedFirst.{seated_at_first}
-use Rattle.model_guests.specs.WorldNow.{WorldNow, names_now, guests_after, after_meaning, after_line}
-use Rattle.model_guests.proofs.Along.{seated_meaning}
-use Rattle.model_handoff.specs.Regions.{AreServed}
-use Rattle.model_handoff.specs.Kept.{IsLawfulOver, LawfulAtFirst, LawfulAfter, LawfulAlong}
-use Rattle.model_handoff.proofs.Served.{served_at_first, served_after_events, served_after_moves}
+use Rattle.model_guests.{specs.{Lines.{Meaning, nothing, guest_event, host_read, host_move, bad, meaning}, WorldNow.{WorldNow, names_now, guests_after, after_meaning, after_line}}, proofs.{SeatedFirst.seated_at_first, Along.seated_meaning}}
+use Rattle.model_handoff.{specs.{Regions.AreServed, Kept.{IsLawfulOver, LawfulAtFirst, LawfulAfter, LawfulAlong}}, proofs.Served.{served_at_first, served_after_events, served_after_moves}}
 
 pub lawful_at_first : LawfulAtFirst
 lawful_at_first w s handoff same guests can = grind (arith, seated_at_first, served_at_first)

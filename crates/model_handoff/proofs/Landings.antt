@@ -1,13 +1,9 @@
 -- What is told of a place is what an access there does.
-use Rattle.std.proofs.Common.{◌≡◌, ℕ, Bool, false, cond, sym, subst, arith}
-use Rattle.std.specs.Prelude.{◌==◌}
+use Rattle.std.{proofs.Common.{◌≡◌, ℕ, Bool, false, cond, sym, subst, arith}, specs.Prelude.◌==◌}
 use Rattle.lists.proofs.Tests.{and_false}
 use Rattle.model_registers.specs.ConfigAddress.{is_address_port}
-use Rattle.model_guests.specs.Accesses.{Target, configuration, port, address, Op}
-use Rattle.model_guests.specs.Slots.{effect}
-use Rattle.model_guests.specs.Lone.{LoneGuest, Destination, own_latch, no_function, at_target, ordinary, nowhere, in_slot, Select, by_select, select_at, destination, after_access_at}
-use Rattle.model_handoff.specs.Located.{landing_at, is_latch_access}
-use Rattle.model_handoff.specs.QueryLaws.{AccessLands, NothingHit}
+use Rattle.model_guests.specs.{Accesses.{Target, configuration, port, address, Op}, Slots.effect, Lone.{LoneGuest, Destination, own_latch, no_function, at_target, ordinary, nowhere, in_slot, Select, by_select, select_at, destination, after_access_at}}
+use Rattle.model_handoff.specs.{Located.{landing_at, is_latch_access}, QueryLaws.{AccessLands, NothingHit}}
 
 -- no byte is CONFIG_ADDRESS
 no_byte : (a : ℕ) → is_address_port a 1 ≡ false

@@ -1,23 +1,9 @@
 -- A handoff in which one endpoint is reset, but for what guests have copies of, is a handoff of the same board.
-use Rattle.std.proofs.Common.{◌≡◌, List, [], ◌∷◌, Some, None, Option, sym, ap, ◌∙◌, subst, arith}
-use Rattle.std.specs.Prelude.{codes}
-use Rattle.std.specs.Option.{option_map_or}
-use Rattle.model_registers.specs.Apertures.{Aperture}
-use Rattle.model_registers.specs.Declarations.{Endpoint}
-use Rattle.model_registers.specs.CopiedFiles.{after_reset}
-use Rattle.model_board.specs.Paths.{Path}
-use Rattle.model_board.specs.Board.{Board}
-use Rattle.model_board.specs.AtReset.{board_at}
-use Rattle.model_board.specs.State.{BoardFunction, State}
-use Rattle.model_guests.specs.World.{Guest, World, HasLawfulGuests, declared}
-use Rattle.model_guests.specs.Guests.{GuestsNow, guests_at_first}
-use Rattle.model_guests.specs.AgreedBoard.{state_over, with_change_at}
-use Rattle.model_guests.specs.Seated.{AreSeated}
-use Rattle.model_guests.proofs.SeatedFirst.{seated_at_first}
-use Rattle.model_handoff.specs.Handoffs.{IsHandoff}
-use Rattle.model_handoff.proofs.Alike.{IsAlike, alike_over}
-use Rattle.model_handoff.proofs.First.{first_is_reset, one_given}
-use Rattle.model_handoff.specs.Giving.{with_reset_at}
+use Rattle.std.{proofs.Common.{◌≡◌, List, [], ◌∷◌, Some, None, Option, sym, ap, ◌∙◌, subst, arith}, specs.{Prelude.codes, Option.option_map_or}}
+use Rattle.model_registers.specs.{Apertures.Aperture, Declarations.Endpoint, CopiedFiles.after_reset}
+use Rattle.model_board.specs.{Paths.Path, Board.Board, AtReset.board_at, State.{BoardFunction, State}}
+use Rattle.model_guests.{specs.{World.{Guest, World, HasLawfulGuests, declared}, Guests.{GuestsNow, guests_at_first}, AgreedBoard.{state_over, with_change_at}, Seated.AreSeated}, proofs.SeatedFirst.seated_at_first}
+use Rattle.model_handoff.{specs.{Handoffs.IsHandoff, Giving.with_reset_at}, proofs.{Alike.{IsAlike, alike_over}, First.{first_is_reset, one_given}}}
 
 module _ (s : State) (handoff : IsHandoff s) (p : Path) (d : Endpoint) (declares : declared (board_at s.functions) p ≡ Some d) where
   abbrev b : Board

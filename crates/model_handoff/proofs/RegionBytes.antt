@@ -1,15 +1,8 @@
 -- Where an address of a guest lands, a byte of an open region stands.
-use Rattle.std.proofs.Common.{◌≡◌, ℕ, ◌-◌, ◌<◌, true, Some, Ok, arith}
-use Rattle.std.proofs.lemmas.Bool.Decides.{nat_tests}
+use Rattle.std.proofs.{Common.{◌≡◌, ℕ, ◌-◌, ◌<◌, true, Some, Ok, arith}, lemmas.Bool.Decides.nat_tests}
 use Rattle.model_registers.specs.Decoding.{Space, io, memory}
-use Rattle.model_guests.specs.Accesses.{Op, in_region, Target, port, address}
-use Rattle.model_guests.specs.Slots.{Landing, landing, landing_from}
-use Rattle.model_guests.specs.Lone.{LoneGuest, at_target, reply_at, after_access_at}
-use Rattle.model_guests.specs.DeviceEvents.{DeviceByte}
-use Rattle.model_handoff.specs.GuestRegions.{RegionNow, region_answer}
-use Rattle.model_handoff.specs.QueryLaws.{HasLawfulFunctions}
-use Rattle.model_handoff.specs.RegionBytes.{byte_opening, byte_landing, byte_reply, after_byte, IsByteThere, BytesByAddress}
-use Rattle.model_handoff.proofs.Inside.{hit_is_inside}
+use Rattle.model_guests.specs.{Accesses.{Op, in_region, Target, port, address}, Slots.{Landing, landing, landing_from}, Lone.{LoneGuest, at_target, reply_at, after_access_at}, DeviceEvents.DeviceByte}
+use Rattle.model_handoff.{specs.{GuestRegions.{RegionNow, region_answer}, QueryLaws.HasLawfulFunctions, RegionBytes.{byte_opening, byte_landing, byte_reply, after_byte, IsByteThere, BytesByAddress}}, proofs.Inside.hit_is_inside}
 
 -- a region that is told, and that is open, opens to each of its bytes
 opens_there : (g : LoneGuest) (slot n off : ℕ) (r : RegionNow) → region_answer g slot n ≡ Ok r → r.is_open ≡ true → off < r.size

@@ -1,31 +1,12 @@
 -- A byte of an open region is claimed where the handoff has it, whatever guests did.
-use Rattle.std.proofs.Common.{◌≡◌, ℕ, ◌+◌, ◌%◌, true, List, arith}
-use Rattle.std.specs.Prelude.{map, IsTrue}
-use Rattle.lists.specs.Elements.{IsIn}
-use Rattle.lists.proofs.Members.{each_in, in_map, in_filter, in_flat_map}
-use Rattle.model_registers.specs.Registers.{File}
-use Rattle.model_registers.specs.Declarations.{Kind, Region, Endpoint}
-use Rattle.model_registers.specs.Decoding.{space_of, base, base_address, opens_space, command_word, Function}
-use Rattle.model_registers.proofs.HitRegions.{hit_is_of_region}
-use Rattle.model_board.specs.Paths.{Path}
-use Rattle.model_board.specs.Board.{Board}
-use Rattle.model_board.specs.AtReset.{board_at}
-use Rattle.model_board.specs.Routing.{row_of, routing}
-use Rattle.model_board.specs.State.{BoardFunction, State}
+use Rattle.std.{proofs.Common.{◌≡◌, ℕ, ◌+◌, ◌%◌, true, List, arith}, specs.Prelude.{map, IsTrue}}
+use Rattle.lists.{specs.Elements.IsIn, proofs.Members.{each_in, in_map, in_filter, in_flat_map}}
+use Rattle.model_registers.{specs.{Registers.File, Declarations.{Kind, Region, Endpoint}, Decoding.{space_of, base, base_address, opens_space, command_word, Function}}, proofs.HitRegions.hit_is_of_region}
+use Rattle.model_board.specs.{Paths.Path, Board.Board, AtReset.board_at, Routing.{row_of, routing}, State.{BoardFunction, State}}
 use Rattle.model_set_up.specs.PlacedRegions.{PlacedRegion}
-use Rattle.model_findings.specs.OpenRegions.{region_now, open_of, open_regions}
-use Rattle.model_findings.specs.Orderly.{IsStateOfBoard}
-use Rattle.model_findings.proofs.Claims.{orderly_claims}
-use Rattle.model_guests.specs.Guests.{GuestsNow}
-use Rattle.model_guests.specs.Seated.{AreSeated, IsSeatedAt}
-use Rattle.model_guests.specs.Text.{Text}
-use Rattle.model_guests.proofs.DeclaredRows.{declared_row}
-use Rattle.model_guests.proofs.SeatedMoves.{seat_in}
-use Rattle.model_guests.specs.AgreedBoard.{state_over}
-use Rattle.model_handoff.specs.Regions.{opens_region}
-use Rattle.model_handoff.specs.RegionLaws.{RegionIsClaimed, HasSlot, HitReachesOver}
-use Rattle.model_handoff.proofs.Keeping.{keeps_board, keeps_routing}
-use Rattle.model_handoff.proofs.Standing.{endpoint_at, stands}
+use Rattle.model_findings.{specs.{OpenRegions.{region_now, open_of, open_regions}, Orderly.IsStateOfBoard}, proofs.Claims.orderly_claims}
+use Rattle.model_guests.{specs.{Guests.GuestsNow, Seated.{AreSeated, IsSeatedAt}, Text.Text, AgreedBoard.state_over}, proofs.{DeclaredRows.declared_row, SeatedMoves.seat_in}}
+use Rattle.model_handoff.{specs.{Regions.opens_region, RegionLaws.{RegionIsClaimed, HasSlot, HitReachesOver}}, proofs.{Keeping.{keeps_board, keeps_routing}, Standing.{endpoint_at, stands}}}
 
 -- the board with guests is a board
 pub state_stays : (s : State) → IsStateOfBoard s.functions → (gs : GuestsNow) → IsStateOfBoard (state_over s gs).functions

@@ -2,12 +2,8 @@
 use Rattle.std.proofs.Common.{◌≡◌, arith}
 use Rattle.lists.proofs.EachLemmas.{each_of_map, each_map}
 use Rattle.model_registers.specs.CopiedFiles.{shape_of}
-use Rattle.model_board.specs.Paths.{Path}
-use Rattle.model_board.specs.Board.{Decl, Board}
-use Rattle.model_board.specs.AtReset.{reset_file}
-use Rattle.model_handoff.specs.Handoffs.{declared_cells}
-use Rattle.model_handoff.specs.ResetCase.{ResetIsHandoff}
-use Rattle.model_handoff.proofs.Shapes.{endpoint_shape, bridge_shape}
+use Rattle.model_board.specs.{Paths.Path, Board.{Decl, Board}, AtReset.reset_file}
+use Rattle.model_handoff.{specs.{Handoffs.declared_cells, ResetCase.ResetIsHandoff}, proofs.Shapes.{endpoint_shape, bridge_shape}}
 
 reset_shape : (b : Board) (p : Path) (d : Decl) → shape_of (reset_file b p d) ≡ shape_of (declared_cells d)
 reset_shape b p d = grind (arith, endpoint_shape, bridge_shape)

@@ -1,30 +1,12 @@
 -- Given functions are served, whatever guests do.
-use Rattle.std.proofs.Common.{◌≡◌, ℕ, zero, suc, Bool, true, false, not, cond, List, [], ◌∷◌, ◌++◌, Some, None, Option, refl, sym, ap, ◌∙◌, arith}
-use Rattle.std.specs.Prelude.{map, flat_map, replicate, is_some, IsTrue}
-use Rattle.lists.specs.Elements.{IsIn}
-use Rattle.lists.proofs.Members.{each_from, any_in, in_front, in_back, in_map, in_filter, in_flat_map}
-use Rattle.model_registers.specs.Declarations.{Region}
-use Rattle.model_registers.specs.Decoding.{Function, base_address, opens_space, command_word}
-use Rattle.model_board.specs.Paths.{Path, path_eq}
-use Rattle.model_board.specs.AtReset.{board_at}
-use Rattle.model_board.specs.Ports.{file_at}
-use Rattle.model_board.specs.State.{State}
-use Rattle.model_board.specs.Routing.{row_of, routing}
-use Rattle.model_board.proofs.PathEnds.{path_self}
+use Rattle.std.{proofs.Common.{◌≡◌, ℕ, zero, suc, Bool, true, false, not, cond, List, [], ◌∷◌, ◌++◌, Some, None, Option, refl, sym, ap, ◌∙◌, arith}, specs.Prelude.{map, flat_map, replicate, is_some, IsTrue}}
+use Rattle.lists.{specs.Elements.IsIn, proofs.Members.{each_from, any_in, in_front, in_back, in_map, in_filter, in_flat_map}}
+use Rattle.model_registers.specs.{Declarations.Region, Decoding.{Function, base_address, opens_space, command_word}}
+use Rattle.model_board.{specs.{Paths.{Path, path_eq}, AtReset.board_at, Ports.file_at, State.State, Routing.{row_of, routing}}, proofs.PathEnds.path_self}
 use Rattle.model_set_up.specs.PlacedRegions.{PlacedRegion}
-use Rattle.model_findings.specs.OpenRegions.{region_now, closed_of, closed_regions}
-use Rattle.model_findings.proofs.Witnesses.{problems_decide}
-use Rattle.model_guests.specs.Text.{Text}
-use Rattle.model_guests.specs.World.{Guest, World, given_paths}
-use Rattle.model_guests.specs.Guests.{GuestNow, GuestsNow, guest_at_first, guest_after, handed_over, move_fault, path_in, function_in, with_guest, with_slot_emptied, with_slot_filled}
-use Rattle.model_guests.proofs.GuestsByName.{Keeps, path_at}
-use Rattle.model_guests.proofs.DeclaredRows.{declared_row}
-use Rattle.model_guests.proofs.SeatedMoves.{Placed, placed, put_there, was_there}
-use Rattle.model_guests.proofs.Seats.{paths_stay}
-use Rattle.model_handoff.specs.Handoffs.{is_given}
-use Rattle.model_handoff.specs.Regions.{opens_region, closed_given, AreServed, HasOpenRegions}
-use Rattle.model_handoff.specs.RegionLaws.{ServedAtFirst, ServedAfterEvents, ServedAfterMoves, FaultDecides}
-use Rattle.model_handoff.proofs.Standing.{endpoint_at, StandsAt, stands}
+use Rattle.model_findings.{specs.OpenRegions.{region_now, closed_of, closed_regions}, proofs.Witnesses.problems_decide}
+use Rattle.model_guests.{specs.{Text.Text, World.{Guest, World, given_paths}, Guests.{GuestNow, GuestsNow, guest_at_first, guest_after, handed_over, move_fault, path_in, function_in, with_guest, with_slot_emptied, with_slot_filled}}, proofs.{GuestsByName.{Keeps, path_at}, DeclaredRows.declared_row, SeatedMoves.{Placed, placed, put_there, was_there}, Seats.paths_stay}}
+use Rattle.model_handoff.{specs.{Handoffs.is_given, Regions.{opens_region, closed_given, AreServed, HasOpenRegions}, RegionLaws.{ServedAtFirst, ServedAfterEvents, ServedAfterMoves, FaultDecides}}, proofs.Standing.{endpoint_at, StandsAt, stands}}
 
 -- ---- a path in a slot at first is a given one
 

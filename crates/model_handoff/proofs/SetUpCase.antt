@@ -1,44 +1,12 @@
 -- What set-up leaves is one handoff.
-use Rattle.std.proofs.Common.{◌≡◌, true, false, not, List, [], ◌∷◌, Option, ap, arith}
-use Rattle.std.specs.Prelude.{map}
-use Rattle.std.specs.Option.{option_map_or}
-use Rattle.lists.specs.Elements.{IsIn}
-use Rattle.lists.proofs.EachLemmas.{each_of_map, each_map}
-use Rattle.lists.proofs.Members.{any_in, in_map, from_map, from_filter, from_flat_map}
-use Rattle.model_registers.specs.Registers.{File}
-use Rattle.model_registers.specs.EndpointTable.{BaseAddress, endpoint_reset}
-use Rattle.model_registers.specs.Declarations.{Region, Endpoint}
-use Rattle.model_registers.specs.CopiedFiles.{shape_of}
-use Rattle.model_registers.specs.Decoding.{space_of, base_address, opens_space, command_word, is_open}
-use Rattle.model_registers.specs.Apertures.{Apertures}
-use Rattle.model_board.specs.Paths.{Path}
-use Rattle.model_board.specs.Board.{Decl, endpoint, bridge, Board, IsBoard, is_multifunction}
-use Rattle.model_board.specs.Lawful.{IsLawfulDecl, HasLawfulDecls}
-use Rattle.model_board.specs.Ports.{file_at}
-use Rattle.model_board.specs.Routing.{row_of, routing}
-use Rattle.model_board.specs.State.{BoardFunction}
-use Rattle.model_board.proofs.StateRows.{state_rows}
-use Rattle.model_set_up.specs.PlacedRegions.{PlacedRegion, placed}
-use Rattle.model_set_up.specs.SetUp.{command_of, first_of, bridge_values, set_up_file, set_up_state}
-use Rattle.model_set_up.proofs.DeclaredRows.{rows_are_declared}
-use Rattle.model_set_up.proofs.Holders.{self_space}
-use Rattle.model_set_up.proofs.LawfulPlacement.{layout_is_lawful}
-use Rattle.model_set_up.proofs.SetUpNumbers.{set_up_has_numbers}
-use Rattle.model_set_up.proofs.SetUpRegisters.{endpoint_opens}
-use Rattle.model_set_up.proofs.UniqueClaimant.{left}
-use Rattle.model_findings.specs.OpenRegions.{region_now, closed_of, closed_regions}
-use Rattle.model_findings.specs.Orderly.{IsStateOfBoard}
-use Rattle.model_findings.proofs.Found.{numbers_of_board}
-use Rattle.model_findings.proofs.Witnesses.{problems_decide}
-use Rattle.model_findings.proofs.Placing.{regions_placed}
-use Rattle.model_findings.proofs.SetUpPasses.{set_up_passes}
+use Rattle.std.{proofs.Common.{◌≡◌, true, false, not, List, [], ◌∷◌, Option, ap, arith}, specs.{Prelude.map, Option.option_map_or}}
+use Rattle.lists.{specs.Elements.IsIn, proofs.{EachLemmas.{each_of_map, each_map}, Members.{any_in, in_map, from_map, from_filter, from_flat_map, no_elements}}}
+use Rattle.model_registers.specs.{Registers.File, EndpointTable.{BaseAddress, endpoint_reset}, Declarations.{Region, Endpoint}, CopiedFiles.shape_of, Decoding.{space_of, base_address, opens_space, command_word, is_open}, Apertures.Apertures}
+use Rattle.model_board.{specs.{Paths.Path, Board.{Decl, endpoint, bridge, Board, IsBoard, is_multifunction}, Lawful.{IsLawfulDecl, HasLawfulDecls}, Ports.file_at, Routing.{row_of, routing}, State.BoardFunction}, proofs.StateRows.state_rows}
+use Rattle.model_set_up.{specs.{PlacedRegions.{PlacedRegion, placed}, SetUp.{command_of, first_of, bridge_values, set_up_file, set_up_state}}, proofs.{DeclaredRows.rows_are_declared, Holders.self_space, LawfulPlacement.layout_is_lawful, SetUpNumbers.set_up_has_numbers, SetUpRegisters.endpoint_opens, UniqueClaimant.left}}
+use Rattle.model_findings.{specs.{OpenRegions.{region_now, closed_of, closed_regions}, Orderly.IsStateOfBoard}, proofs.{Found.numbers_of_board, Witnesses.problems_decide, Placing.regions_placed, SetUpPasses.set_up_passes}}
 use Rattle.model_guests.proofs.TablePlaces.{Alike, alike_tables}
-use Rattle.lists.proofs.Members.{no_elements}
-use Rattle.model_handoff.specs.Handoffs.{declared_cells, is_given}
-use Rattle.model_handoff.specs.Regions.{closed_given}
-use Rattle.model_handoff.specs.SetUpCase.{SetUpIsHandoff, SetUpIsInOrder, SetUpCanBeGiven, SetUpPlaces, SetUpAddresses}
-use Rattle.model_handoff.proofs.Shapes.{endpoint_shape, bridge_shape}
-use Rattle.model_handoff.proofs.Standing.{found}
+use Rattle.model_handoff.{specs.{Handoffs.{declared_cells, is_given}, Regions.closed_given, SetUpCase.{SetUpIsHandoff, SetUpIsInOrder, SetUpCanBeGiven, SetUpPlaces, SetUpAddresses}}, proofs.{Shapes.{endpoint_shape, bridge_shape}, Standing.found}}
 
 state_is : (b : Board) (a : Apertures) → IsBoard b → HasLawfulDecls b → IsStateOfBoard (set_up_state b a).functions
 state_is b a board decls = grind (arith, state_rows)

@@ -1,38 +1,11 @@
 -- What holds over any handoff holds over what set-up leaves.
-use Rattle.std.proofs.Common.{◌≡◌, ℕ, ◌+◌, ◌≤◌, true, false, List, sym, ap, ◌∙◌, arith}
-use Rattle.std.proofs.lemmas.Bool.Decides.{nat_tests}
-use Rattle.lists.specs.Elements.{IsIn}
-use Rattle.lists.proofs.EachLemmas.{each_of_map, each_map}
-use Rattle.lists.proofs.Tests.{and_false}
-use Rattle.model_registers.specs.Registers.{File, cell_at}
-use Rattle.model_registers.specs.Apertures.{Apertures}
-use Rattle.model_registers.specs.EndpointTable.{endpoint_reset}
-use Rattle.model_registers.proofs.HitRegions.{hit_is_of_region}
-use Rattle.model_board.specs.Paths.{Path}
-use Rattle.model_board.specs.Board.{Decl, endpoint, bridge, Board}
-use Rattle.model_board.specs.Lawful.{IsLawfulDecl}
-use Rattle.model_board.specs.Ports.{ordinary, port_target}
-use Rattle.model_board.specs.Routing.{routing}
-use Rattle.model_board.specs.State.{BoardFunction, State}
-use Rattle.model_set_up.specs.SetUp.{set_up_file, set_up_state}
-use Rattle.model_set_up.proofs.PlacedRegions.{placed_within}
-use Rattle.model_set_up.proofs.SetUpNumbers.{set_up_has_numbers}
-use Rattle.model_set_up.proofs.UniqueClaimant.{claim_of_region, left}
-use Rattle.model_guests.specs.Guests.{GuestsNow}
-use Rattle.model_guests.specs.AgreedBoard.{state_over}
-use Rattle.model_guests.specs.AgreedLaws.{Agrees}
-use Rattle.model_guests.proofs.AgreedFiles.{agreed_common}
-use Rattle.model_guests.proofs.DeclaredRows.{declared_row}
-use Rattle.model_guests.proofs.DistinctPlaces.{distinct_places}
-use Rattle.model_guests.proofs.TablePlaces.{alike_places, agreed_at_reset}
-use Rattle.model_handoff.specs.Handoffs.{is_given, HoldsReset}
-use Rattle.model_handoff.specs.AgreementLaws.{OverHandoffs}
-use Rattle.model_handoff.specs.SetUpLaws.{OverSetUp, SetUpAgrees, SetUpIsOnly, SetUpAtFirst, SetUpKeepsRouting, SetUpKeepsNumbers, HitReachesRegion}
-use Rattle.model_handoff.proofs.Agreement.{state_agrees, state_is_only}
-use Rattle.model_handoff.proofs.First.{first_is_handoff}
-use Rattle.model_handoff.proofs.Keeping.{keeps_numbers, keeps_routing}
-use Rattle.model_handoff.proofs.Regions.{lanes_of}
-use Rattle.model_handoff.proofs.SetUpCase.{alike, set_up_is_handoff}
+use Rattle.std.proofs.{Common.{◌≡◌, ℕ, ◌+◌, ◌≤◌, true, false, List, sym, ap, ◌∙◌, arith}, lemmas.Bool.Decides.nat_tests}
+use Rattle.lists.{specs.Elements.IsIn, proofs.{EachLemmas.{each_of_map, each_map}, Tests.and_false}}
+use Rattle.model_registers.{specs.{Registers.{File, cell_at}, Apertures.Apertures, EndpointTable.endpoint_reset}, proofs.HitRegions.hit_is_of_region}
+use Rattle.model_board.specs.{Paths.Path, Board.{Decl, endpoint, bridge, Board}, Lawful.IsLawfulDecl, Ports.{ordinary, port_target}, Routing.routing, State.{BoardFunction, State}}
+use Rattle.model_set_up.{specs.SetUp.{set_up_file, set_up_state}, proofs.{PlacedRegions.placed_within, SetUpNumbers.set_up_has_numbers, UniqueClaimant.{claim_of_region, left}}}
+use Rattle.model_guests.{specs.{Guests.GuestsNow, AgreedBoard.state_over, AgreedLaws.Agrees}, proofs.{AgreedFiles.agreed_common, DeclaredRows.declared_row, DistinctPlaces.distinct_places, TablePlaces.{alike_places, agreed_at_reset}}}
+use Rattle.model_handoff.{specs.{Handoffs.{is_given, HoldsReset}, AgreementLaws.OverHandoffs, SetUpLaws.{OverSetUp, SetUpAgrees, SetUpIsOnly, SetUpAtFirst, SetUpKeepsRouting, SetUpKeepsNumbers, HitReachesRegion}}, proofs.{Agreement.{state_agrees, state_is_only}, First.first_is_handoff, Keeping.{keeps_numbers, keeps_routing}, Regions.lanes_of, SetUpCase.{alike, set_up_is_handoff}}}
 
 of_handoffs : (P : State → GuestsNow → Type 0) → OverHandoffs P → OverSetUp P
 of_handoffs P holds b a board decls gs seated = grind (arith, set_up_is_handoff)

@@ -1,26 +1,10 @@
 -- Functions of which nothing but what their cells hold is other than it is declared.
-use Rattle.std.proofs.Common.{◌≡◌, ℕ, zero, suc, ◌/◌, Bool, List, [], ◌∷◌, ◌++◌, false, Some, Option, refl, sym, ap, ◌∙◌, subst, arith}
-use Rattle.std.proofs.lemmas.List.{map-append}
-use Rattle.std.specs.Prelude.{map, flat_map}
+use Rattle.std.{proofs.{Common.{◌≡◌, ℕ, zero, suc, ◌/◌, Bool, List, [], ◌∷◌, ◌++◌, false, Some, Option, refl, sym, ap, ◌∙◌, subst, arith}, lemmas.List.map-append}, specs.Prelude.{map, flat_map}}
 use Rattle.lists.specs.Elements.{Each, EachPair}
-use Rattle.model_registers.specs.Cell.{Cell}
-use Rattle.model_registers.specs.Registers.{Place, after, PlacedCell, File, cell_at, field}
-use Rattle.model_registers.specs.Declarations.{IoDecode, PrefDecode, Region, Endpoint, Bridge}
-use Rattle.model_registers.specs.EndpointTable.{region_cells, config_cells, endpoint_file, endpoint_reset}
-use Rattle.model_registers.specs.BridgeTable.{Window, BridgeValues, no_window, io_cells, pref_cells, bridge_file, bridge_reset}
-use Rattle.model_registers.specs.CopiedFiles.{shape_of, agreed_file}
-use Rattle.model_board.specs.Paths.{Path}
-use Rattle.model_board.specs.Board.{Decl, endpoint, bridge, Board}
-use Rattle.model_board.specs.State.{BoardFunction}
-use Rattle.model_guests.specs.AgreedBoard.{agreed_function}
-use Rattle.model_guests.proofs.AgreedChanges.{agreed_by}
-use Rattle.model_guests.proofs.DistinctPlaces.{Apart, HasDistinctPlaces}
-use Rattle.model_guests.proofs.FoundFiles.{shape_places}
-use Rattle.model_guests.proofs.SlotPlaces.{IsFileOf}
-use Rattle.model_guests.proofs.TablePlaces.{found_entries}
-use Rattle.model_handoff.specs.Handoffs.{HasDeclaredShape}
-use Rattle.model_handoff.proofs.Agreement.{distinct_left}
-use Rattle.model_handoff.proofs.Functions.{Facts}
+use Rattle.model_registers.specs.{Cell.Cell, Registers.{Place, after, PlacedCell, File, cell_at, field}, Declarations.{IoDecode, PrefDecode, Region, Endpoint, Bridge}, EndpointTable.{region_cells, config_cells, endpoint_file, endpoint_reset}, BridgeTable.{Window, BridgeValues, no_window, io_cells, pref_cells, bridge_file, bridge_reset}, CopiedFiles.{shape_of, agreed_file}}
+use Rattle.model_board.specs.{Paths.Path, Board.{Decl, endpoint, bridge, Board}, State.BoardFunction}
+use Rattle.model_guests.{specs.AgreedBoard.agreed_function, proofs.{AgreedChanges.agreed_by, DistinctPlaces.{Apart, HasDistinctPlaces}, FoundFiles.shape_places, SlotPlaces.IsFileOf, TablePlaces.found_entries}}
+use Rattle.model_handoff.{specs.Handoffs.HasDeclaredShape, proofs.{Agreement.distinct_left, Functions.Facts}}
 
 -- ---- tables with other values
 

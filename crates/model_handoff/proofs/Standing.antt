@@ -1,18 +1,8 @@
 -- Where a function stands among those of a board, and what guests change of it.
-use Rattle.std.proofs.Common.{◌≡◌, Bool, List, [], ◌∷◌, Some, arith}
-use Rattle.std.specs.Prelude.{find, IsTrue}
-use Rattle.lists.specs.Elements.{EachPair, IsIn}
-use Rattle.lists.proofs.Members.{each_in, from_map}
-use Rattle.lists.proofs.EachLemmas.{pairs_from_map}
-use Rattle.model_registers.specs.Registers.{File}
-use Rattle.model_registers.specs.Declarations.{Endpoint}
-use Rattle.model_board.specs.Paths.{Path, path_eq, path_before}
-use Rattle.model_board.specs.Board.{endpoint, Row}
-use Rattle.model_board.specs.AtReset.{board_at}
-use Rattle.model_board.specs.Ports.{file_at}
-use Rattle.model_board.specs.State.{BoardFunction, row_at}
-use Rattle.model_board.proofs.PathEnds.{path_self}
-use Rattle.model_board.proofs.PlacesLaw.{before_apart}
+use Rattle.std.{proofs.Common.{◌≡◌, Bool, List, [], ◌∷◌, Some, arith}, specs.Prelude.{find, IsTrue}}
+use Rattle.lists.{specs.Elements.{EachPair, IsIn}, proofs.{Members.{each_in, from_map}, EachLemmas.pairs_from_map}}
+use Rattle.model_registers.specs.{Registers.File, Declarations.Endpoint}
+use Rattle.model_board.{specs.{Paths.{Path, path_eq, path_before}, Board.{endpoint, Row}, AtReset.board_at, Ports.file_at, State.{BoardFunction, row_at}}, proofs.{PathEnds.path_self, PlacesLaw.before_apart}}
 use Rattle.model_findings.specs.Orderly.{IsStateOfBoard}
 
 abbrev pub at_path : Path → BoardFunction → Bool

@@ -1,15 +1,9 @@
 -- Worked examples that no row of tests/rows can ask: all registers of a bridge set, its two states raised, and which events
 -- ran where a run ends early.
-use Rattle.std.proofs.Common.{◌≡◌, ℕ, suc, List, [], ◌∷◌, ◌++◌, Some, true, false, refl, map}
-use Rattle.std.specs.Prelude.{codes}
-use Rattle.model_registers.specs.Registers.{config, File, number, raise}
-use Rattle.model_registers.specs.Declarations.{io32, pref64}
-use Rattle.model_registers.specs.BridgeTable.{BridgeValues, bridge_file, bridge_reset}
+use Rattle.std.{proofs.Common.{◌≡◌, ℕ, suc, List, [], ◌∷◌, ◌++◌, Some, true, false, refl, map}, specs.Prelude.codes}
+use Rattle.model_registers.specs.{Registers.{config, File, number, raise}, Declarations.{io32, pref64}, BridgeTable.{BridgeValues, bridge_file, bridge_reset}}
 use Rattle.model_board.specs.Examples.{main_bridge}
-use Rattle.model_guests.specs.Text.{Text, text_of_lines}
-use Rattle.model_guests.specs.Examples.{main_world}
-use Rattle.model_guests.specs.WorldNow.{WorldNow, world_protocol, after_lines}
-use Rattle.model_guests.specs.LineRuns.{IsCut, IsStopped}
+use Rattle.model_guests.specs.{Text.{Text, text_of_lines}, Examples.main_world, WorldNow.{WorldNow, world_protocol, after_lines}, LineRuns.{IsCut, IsStopped}}
 use Rattle.model_handoff.specs.AfterSetUp.{world_at_first}
 
 -- ---- registers of a bridge

@@ -1,30 +1,10 @@
 -- The handoff as the board shows it later.
-use Rattle.std.proofs.Common.{◌≡◌, ℕ, zero, suc, ◌-◌, Bool, true, false, ◌||◌, cond, List, [], ◌∷◌, ◌++◌, length, Some, None, Option, refl, sym, ap, ◌∙◌, arith}
-use Rattle.std.specs.Prelude.{map, flat_map, replicate, is_some, option_map, IsSome}
-use Rattle.std.specs.List.{list_any}
-use Rattle.std.proofs.lemmas.List.Folds.{list_any-append}
+use Rattle.std.{proofs.{Common.{◌≡◌, ℕ, zero, suc, ◌-◌, Bool, true, false, ◌||◌, cond, List, [], ◌∷◌, ◌++◌, length, Some, None, Option, refl, sym, ap, ◌∙◌, arith}, lemmas.List.Folds.list_any-append}, specs.{Prelude.{map, flat_map, replicate, is_some, option_map, IsSome}, List.list_any}}
 use Rattle.lists.specs.Elements.{Each}
-use Rattle.model_registers.specs.Registers.{File}
-use Rattle.model_registers.specs.Decoding.{Function}
-use Rattle.model_board.specs.Paths.{Path, path_eq}
-use Rattle.model_board.specs.Board.{Board}
-use Rattle.model_board.specs.AtReset.{board_at}
-use Rattle.model_board.specs.State.{BoardFunction, State}
-use Rattle.model_guests.specs.Slots.{Slots}
-use Rattle.model_guests.specs.World.{Guest, World, declared}
-use Rattle.model_guests.specs.Guests.{GuestNow, GuestsNow, Move, file_in, file_of, function_in, guest_after, guest_at_first, guest_named, guests_at_first, handed_over, move_fault, path_in, with_guest, after_move}
-use Rattle.model_guests.specs.AgreedBoard.{agreed_function, with_files}
-use Rattle.model_guests.specs.Seated.{AreSeated, AreSeats, IsSeatedGuest}
-use Rattle.model_guests.proofs.AgreedChanges.{agreed_by}
-use Rattle.model_guests.proofs.Changes.{files_same, agreed_twice}
-use Rattle.model_guests.proofs.MovedFunctions.{NoFault, no_fault, moved, moved_seated, moved_before, moved_after, moved_others}
-use Rattle.model_board.proofs.PathOrder.{path_same}
-use Rattle.model_handoff.specs.Handoffs.{file_at_reset, reset_files}
-use Rattle.model_handoff.specs.ViewLaws.{is_at, sits, seated_files, with_seated_reset, OverReset, ResetShown, ResetAtFirst, ResetAfterEvents, ResetAfterMoves}
-use Rattle.model_handoff.proofs.Functions.{path_stays}
-use Rattle.model_handoff.proofs.Keeping.{keeps_board}
-use Rattle.model_guests.proofs.SeatedMoves.{seat_in}
-use Rattle.model_guests.proofs.FoundFiles.{seated_file}
+use Rattle.model_registers.specs.{Registers.File, Decoding.Function}
+use Rattle.model_board.{specs.{Paths.{Path, path_eq}, Board.Board, AtReset.board_at, State.{BoardFunction, State}}, proofs.PathOrder.path_same}
+use Rattle.model_guests.{specs.{Slots.Slots, World.{Guest, World, declared}, Guests.{GuestNow, GuestsNow, Move, file_in, file_of, function_in, guest_after, guest_at_first, guest_named, guests_at_first, handed_over, move_fault, path_in, with_guest, after_move}, AgreedBoard.{agreed_function, with_files}, Seated.{AreSeated, AreSeats, IsSeatedGuest}}, proofs.{AgreedChanges.agreed_by, Changes.{files_same, agreed_twice}, MovedFunctions.{NoFault, no_fault, moved, moved_seated, moved_before, moved_after, moved_others}, SeatedMoves.seat_in, FoundFiles.seated_file}}
+use Rattle.model_handoff.{specs.{Handoffs.{file_at_reset, reset_files}, ViewLaws.{is_at, sits, seated_files, with_seated_reset, OverReset, ResetShown, ResetAtFirst, ResetAfterEvents, ResetAfterMoves}}, proofs.{Functions.path_stays, Keeping.keeps_board}}
 
 -- ---- a file put in twice
 

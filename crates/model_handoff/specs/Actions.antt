@@ -5,17 +5,10 @@
 --     told_by, all_told_by      what a guest is told
 --     inputs_of_action, action_inputs      what is a guest's own of it, in the words of calls
 --     IsolatedByActions      they decide
-use Rattle.std.specs.Prelude.{ℕ, ◌≡◌, List, [], ◌∷◌, ◌++◌, if◌then◌else◌, is_some, Option, Some, None, IsSome}
-use Rattle.std.specs.Str.{bytes_eq}
+use Rattle.std.specs.{Prelude.{ℕ, ◌≡◌, List, [], ◌∷◌, ◌++◌, if◌then◌else◌, is_some, Option, Some, None, IsSome}, Str.bytes_eq}
 use Rattle.model_registers.specs.Declarations.{Endpoint}
 use Rattle.model_board.specs.AtReset.{board_at}
-use Rattle.model_guests.specs.Accesses.{Reply}
-use Rattle.model_guests.specs.Text.{Text}
-use Rattle.model_guests.specs.World.{declared}
-use Rattle.model_guests.specs.Guests.{guest_named, lone_of}
-use Rattle.model_guests.specs.WorldNow.{WorldNow}
-use Rattle.model_guests.specs.Inputs.{loses, gets}
-use Rattle.model_guests.specs.Calls.{Call, after_call, told, CallInput, moved, inputs_of_call, all_alone_told, after_own_calls}
+use Rattle.model_guests.specs.{Accesses.Reply, Text.Text, World.declared, Guests.{guest_named, lone_of}, WorldNow.WorldNow, Inputs.{loses, gets}, Calls.{Call, after_call, told, CallInput, moved, inputs_of_call, all_alone_told, after_own_calls}}
 use Rattle.model_handoff.specs.Giving.{Gift, give_fault, take_fault, after_give, after_take}
 
 pub data Action : Type 0 where

@@ -4,14 +4,7 @@
 --     SetUpTwoWorlds      worlds and scripts that agree on a guest's functions and inputs give it equal reply lines
 use Rattle.std.specs.Prelude.{◌≡◌, IsTrue}
 use Rattle.model_set_up.specs.SetUp.{set_up_state}
-use Rattle.model_guests.specs.Text.{Text, lines}
-use Rattle.model_guests.specs.Grammar.{has_name}
-use Rattle.model_guests.specs.World.{World, names, HasLawfulNames}
-use Rattle.model_guests.specs.Replies.{reply_lines}
-use Rattle.model_guests.specs.Guests.{guests_at_first}
-use Rattle.model_guests.specs.WorldNow.{WorldNow, world_over, output}
-use Rattle.model_guests.specs.Inputs.{inputs}
-use Rattle.model_guests.specs.Isolation.{IsDecidedBy, AgreeOn}
+use Rattle.model_guests.specs.{Text.{Text, lines}, Grammar.has_name, World.{World, names, HasLawfulNames}, Replies.reply_lines, Guests.guests_at_first, WorldNow.{WorldNow, world_over, output}, Inputs.inputs, Isolation.{IsDecidedBy, AgreeOn}}
 
 abbrev pub world_at_first : World → WorldNow
 world_at_first w = world_over w (set_up_state w.board w.apertures)

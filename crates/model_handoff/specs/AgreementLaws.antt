@@ -9,22 +9,10 @@
 --     KeepsProblems, StaysInOrder      an audit tells what it told of the handoff; so an orderly board stays so
 use Rattle.std.specs.Prelude.{◌≡◌, option_map, IsTrue}
 use Rattle.lists.specs.Elements.{Each}
-use Rattle.model_board.specs.Board.{is_bridge}
-use Rattle.model_board.specs.Paths.{Path}
-use Rattle.model_board.specs.AtReset.{board_at}
-use Rattle.model_board.specs.State.{State}
-use Rattle.model_board.specs.Cycles.{BusAddress, reached}
-use Rattle.model_board.specs.Routing.{routing}
+use Rattle.model_board.specs.{Board.is_bridge, Paths.Path, AtReset.board_at, State.State, Cycles.{BusAddress, reached}, Routing.routing}
 use Rattle.model_set_up.specs.Reach.{HasNumbers}
-use Rattle.model_findings.specs.Found.{address_now}
-use Rattle.model_findings.specs.Orderly.{IsStateOfBoard}
-use Rattle.model_findings.specs.Problems.{problems}
-use Rattle.model_findings.specs.Witnesses.{IsInOrder}
-use Rattle.model_guests.specs.World.{World}
-use Rattle.model_guests.specs.Guests.{GuestsNow, guests_at_first, file_of}
-use Rattle.model_guests.specs.AgreedBoard.{agreed_function, state_over}
-use Rattle.model_guests.specs.AgreedLaws.{Agrees}
-use Rattle.model_guests.specs.Seated.{AreSeated}
+use Rattle.model_findings.specs.{Found.address_now, Orderly.IsStateOfBoard, Problems.problems, Witnesses.IsInOrder}
+use Rattle.model_guests.specs.{World.World, Guests.{GuestsNow, guests_at_first, file_of}, AgreedBoard.{agreed_function, state_over}, AgreedLaws.Agrees, Seated.AreSeated}
 use Rattle.model_handoff.specs.Handoffs.{IsHandoff, with_given_reset, HasGivenAtReset}
 
 abbrev pub OverBoards : (State → GuestsNow → Type 0) → Type 0

@@ -11,24 +11,9 @@
 --     after_line_on_machine, after_all_on_machine      and after a line of a script, and after actions
 --     machine_protocol      what a line of a script writes, and the machine after it, as a protocol
 --     BeginsIn P m      P of the world of a machine, whose counts are 0
-use Rattle.std.specs.Prelude.{◌≡◌, ◌+◌, ◌^◌, ◌%◌, ◌&&◌, ◌||◌, ℕ, Bool, false, not, List, [], ◌∷◌, if◌then◌else◌, is_some}
-use Rattle.std.specs.Prelude.{map}
-use Rattle.std.specs.Option.{option_map_or}
-use Rattle.std.specs.Str.{bytes_eq}
-use Rattle.model_guests.specs.Accesses.{Target, Event, access, raises}
-use Rattle.model_guests.specs.Slots.{Landing, fault_of}
-use Rattle.model_guests.specs.Text.{Text}
-use Rattle.model_guests.specs.Lone.{LoneGuest}
-use Rattle.model_guests.specs.Guests.{GuestNow, GuestsNow, lone_of, move_fault}
-use Rattle.model_guests.specs.Lines.{nothing, guest_event, host_read, host_move, bad, meaning}
-use Rattle.model_guests.specs.DeviceEvents.{resets, device_reads, device_writes, slot_fault}
-use Rattle.model_guests.specs.Calls.{Call, asks, at_device}
-use Rattle.model_handoff.specs.Located.{located}
-use Rattle.model_handoff.specs.StayLaws.{any_tells, is_write}
-use Rattle.model_guests.specs.WorldNow.{WorldNow, names_now, line_output}
-use Rattle.model_guests.specs.LineRuns.{Protocol}
-use Rattle.model_handoff.specs.Giving.{give_fault, take_fault}
-use Rattle.model_handoff.specs.Actions.{Action, calls, gives, takes, after_action}
+use Rattle.std.specs.{Prelude.{◌≡◌, ◌+◌, ◌^◌, ◌%◌, ◌&&◌, ◌||◌, ℕ, Bool, false, not, List, [], ◌∷◌, if◌then◌else◌, is_some, map}, Option.option_map_or, Str.bytes_eq}
+use Rattle.model_guests.specs.{Accesses.{Target, Event, access, raises}, Slots.{Landing, fault_of}, Text.Text, Lone.LoneGuest, Guests.{GuestNow, GuestsNow, lone_of, move_fault}, Lines.{nothing, guest_event, host_read, host_move, bad, meaning}, DeviceEvents.{resets, device_reads, device_writes, slot_fault}, Calls.{Call, asks, at_device}, WorldNow.{WorldNow, names_now, line_output}, LineRuns.Protocol}
+use Rattle.model_handoff.specs.{Located.located, StayLaws.{any_tells, is_write}, Giving.{give_fault, take_fault}, Actions.{Action, calls, gives, takes, after_action}}
 
 abbrev pub lands_own : LoneGuest → Target → ℕ → Bool
 lands_own g t w = option_map_or (λ (l : Landing). any_tells w l.place) (located g t) false

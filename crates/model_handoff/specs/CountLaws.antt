@@ -4,15 +4,8 @@
 --     CountsGrow      along actions its count grows by one with each that changes it
 --     AnswersStay      so while its count stays, its answers stay, along fewer than 2^64 changes
 use Rattle.std.specs.Prelude.{◌≡◌, ◌<◌, ◌+◌, ◌^◌, ◌%◌, ℕ, true, List, Some, IsSome, slice_get}
-use Rattle.model_guests.specs.Text.{Text}
-use Rattle.model_guests.specs.Guests.{guest_named, lone_of}
-use Rattle.model_guests.specs.Calls.{Call}
-use Rattle.model_handoff.specs.GuestRegions.{region_answer}
-use Rattle.model_handoff.specs.StayLaws.{moves_regions}
-use Rattle.model_handoff.specs.Kept.{IsLawfulOver}
-use Rattle.model_guests.specs.WorldNow.{WorldNow, names_now}
-use Rattle.model_handoff.specs.Actions.{Action, calls, after_actions}
-use Rattle.model_handoff.specs.Changes.{changes, changes_along, MachineNow, after_all_on_machine}
+use Rattle.model_guests.specs.{Text.Text, Guests.{guest_named, lone_of}, Calls.Call, WorldNow.{WorldNow, names_now}}
+use Rattle.model_handoff.specs.{GuestRegions.region_answer, StayLaws.moves_regions, Kept.IsLawfulOver, Actions.{Action, calls, after_actions}, Changes.{changes, changes_along, MachineNow, after_all_on_machine}}
 
 -- each slot, each register
 abbrev pub HaveSameAnswers : WorldNow → WorldNow → Text → Type 0

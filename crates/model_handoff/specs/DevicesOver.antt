@@ -3,12 +3,8 @@
 --     ResetAfterDevices      and its handoff is shown as before
 use Rattle.std.specs.Prelude.{◌≡◌}
 use Rattle.model_board.specs.State.{State}
-use Rattle.model_guests.specs.Text.{Text}
-use Rattle.model_guests.specs.Guests.{GuestsNow}
-use Rattle.model_guests.specs.WorldNow.{WorldNow}
-use Rattle.model_guests.specs.DeviceEvents.{DeviceEvent, after_guest_device, after_device}
-use Rattle.model_handoff.specs.Kept.{IsLawfulOver}
-use Rattle.model_handoff.specs.ViewLaws.{with_seated_reset}
+use Rattle.model_guests.specs.{Text.Text, Guests.GuestsNow, WorldNow.WorldNow, DeviceEvents.{DeviceEvent, after_guest_device, after_device}}
+use Rattle.model_handoff.specs.{Kept.IsLawfulOver, ViewLaws.with_seated_reset}
 
 abbrev pub LawfulAfterDevices : Type 0
 LawfulAfterDevices = (w : WorldNow) (name : Text) (e : DeviceEvent) → IsLawfulOver w

@@ -5,8 +5,7 @@
 --     driven_function_nth s i      the function at an index, in path order
 use Rattle.std.specs.Prelude.{ℕ, Bool, List, [], Option, option_map, slice_get}
 use Rattle.model_registers.specs.Decoding.{io, memory, is_open}
-use Rattle.model_board.specs.Paths.{Path}
-use Rattle.model_board.specs.State.{BoardFunction, State}
+use Rattle.model_board.specs.{Paths.Path, State.{BoardFunction, State}}
 use Rattle.model_findings.specs.Found.{path_reached}
 use Rattle.model_handoff.specs.Functions.{FunctionNow, function_now, is_there}
 

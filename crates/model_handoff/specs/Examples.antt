@@ -4,23 +4,11 @@
 --     closed_handoff      the same, with the Command of a given function closed
 --     lost_handoff      the same, with a Secondary Bus Number above the Subordinate
 use Rattle.std.specs.Prelude.{[], ◌∷◌, ◌≡◌, ℕ, Some, None, codes}
-use Rattle.model_registers.specs.Registers.{config, write, all_bytes}
-use Rattle.model_registers.specs.Decoding.{memory}
-use Rattle.model_board.specs.Paths.{Path}
-use Rattle.model_board.specs.Claims.{first_claim}
-use Rattle.model_board.specs.Cycles.{BusAddress}
-use Rattle.model_board.specs.Ports.{config_reply}
-use Rattle.model_board.specs.State.{State}
-use Rattle.model_board.specs.Examples.{part, main_board, main_apertures}
-use Rattle.model_set_up.specs.PlacedRegions.{PlacedRegion}
-use Rattle.model_set_up.specs.SetUp.{set_up_state}
-use Rattle.model_findings.specs.Found.{address_now}
-use Rattle.model_findings.specs.Problems.{not_found, problems}
-use Rattle.model_guests.specs.Text.{text_of_lines}
-use Rattle.model_guests.specs.Examples.{main_world, on_bus_0, behind}
-use Rattle.model_guests.specs.Guests.{guests_at_first}
-use Rattle.model_guests.specs.AgreedBoard.{state_over, with_change_at}
-use Rattle.model_guests.specs.WorldNow.{world_over, output}
+use Rattle.model_registers.specs.{Registers.{config, write, all_bytes}, Decoding.memory}
+use Rattle.model_board.specs.{Paths.Path, Claims.first_claim, Cycles.BusAddress, Ports.config_reply, State.State, Examples.{part, main_board, main_apertures}}
+use Rattle.model_set_up.specs.{PlacedRegions.PlacedRegion, SetUp.set_up_state}
+use Rattle.model_findings.specs.{Found.address_now, Problems.{not_found, problems}}
+use Rattle.model_guests.specs.{Text.text_of_lines, Examples.{main_world, on_bus_0, behind}, Guests.guests_at_first, AgreedBoard.{state_over, with_change_at}, WorldNow.{world_over, output}}
 use Rattle.model_handoff.specs.Regions.{in_disorder, closed_region, closed_given, first_fault}
 
 abbrev pub written_to : Path → ℕ → ℕ → ℕ → State → State

@@ -5,15 +5,9 @@
 --     ToldFunctions      these, by their index and by the slot that holds them, and what is refused
 use Rattle.std.specs.Prelude.{[], ◌∷◌, ◌≡◌, ℕ, true, false, Option, Some, None, Ok, Err, codes}
 use Rattle.model_registers.specs.Declarations.{io_kind, mem32, mem64}
-use Rattle.model_board.specs.Windows.{Window}
-use Rattle.model_board.specs.Cycles.{BusAddress}
-use Rattle.model_board.specs.Routing.{regions, windows}
-use Rattle.model_board.specs.State.{State}
-use Rattle.model_board.specs.Examples.{part, main_board, main_apertures}
+use Rattle.model_board.specs.{Windows.Window, Cycles.BusAddress, Routing.{regions, windows}, State.State, Examples.{part, main_board, main_apertures}}
 use Rattle.model_set_up.specs.SetUp.{set_up_state}
-use Rattle.model_guests.specs.AgreedBoard.{state_over}
-use Rattle.model_guests.specs.Examples.{main_world, on_bus_0, behind}
-use Rattle.model_guests.specs.Guests.{GuestsNow, guests_at_first, Move, after_move}
+use Rattle.model_guests.specs.{AgreedBoard.state_over, Examples.{main_world, on_bus_0, behind}, Guests.{GuestsNow, guests_at_first, Move, after_move}}
 use Rattle.model_handoff.specs.Functions.{Identity, FunctionNow, function_nth, slot_answer}
 
 abbrev pub moved : Move

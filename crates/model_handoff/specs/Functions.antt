@@ -5,19 +5,12 @@
 --     FunctionNow, function_now s gs      a function with its number, its identity, its regions or windows, and its seat
 --     function_nth s gs i      the function at an index, in path order
 --     slot_answer s gs name n      the function in a slot of a guest, or the number of a refusal
-use Rattle.std.specs.Prelude.{[], ◌∷◌, ℕ, ◌+◌, Bool, false, if◌then◌else◌, nat_le, Option, None, Result, Err}
-use Rattle.std.specs.Prelude.{find, position, option_map, option_and_then, slice_get}
-use Rattle.std.specs.Option.{option_map_or, ok_or}
+use Rattle.std.specs.{Prelude.{[], ◌∷◌, ℕ, ◌+◌, Bool, false, if◌then◌else◌, nat_le, Option, None, Result, Err, find, position, option_map, option_and_then, slice_get}, Option.{option_map_or, ok_or}}
 use Rattle.lists.specs.Elements.{first_of_two}
 use Rattle.model_registers.specs.Registers.{config, File, number}
-use Rattle.model_board.specs.Paths.{Path, path_eq}
-use Rattle.model_board.specs.Board.{Decl, endpoint, bridge}
-use Rattle.model_board.specs.State.{BoardFunction, State}
-use Rattle.model_board.specs.Cycles.{BusAddress}
-use Rattle.model_board.specs.Routing.{Ranges, ranges_of}
+use Rattle.model_board.specs.{Paths.{Path, path_eq}, Board.{Decl, endpoint, bridge}, State.{BoardFunction, State}, Cycles.BusAddress, Routing.{Ranges, ranges_of}}
 use Rattle.model_findings.specs.Found.{address_now}
-use Rattle.model_guests.specs.Text.{Text}
-use Rattle.model_guests.specs.Guests.{GuestNow, GuestsNow, path_in}
+use Rattle.model_guests.specs.{Text.Text, Guests.{GuestNow, GuestsNow, path_in}}
 
 pub record Identity : Type 0 where
   pub vendor : ℕ

@@ -6,23 +6,11 @@
 --     give_fault, take_fault      the checks, in their order
 --     give_reply, take_reply      what the one who asks is told
 --     after_give, after_take      the world after it
-use Rattle.std.specs.Prelude.{ℕ, Bool, not, nat_le, if◌then◌else◌, is_some, Option, Some, None}
-use Rattle.std.specs.List.{list_any}
-use Rattle.std.specs.Option.{option_map_or}
-use Rattle.model_registers.specs.Declarations.{Region, Endpoint}
-use Rattle.model_registers.specs.CopiedFiles.{after_reset}
-use Rattle.model_board.specs.Paths.{Path}
-use Rattle.model_board.specs.AtReset.{board_at}
-use Rattle.model_board.specs.State.{State}
-use Rattle.model_guests.specs.Accesses.{Reply, done, refused}
-use Rattle.model_guests.specs.Text.{Text}
-use Rattle.model_guests.specs.World.{declared}
-use Rattle.model_guests.specs.Guests.{lone_of, path_in, function_in, with_guest, with_slot_filled, with_slot_emptied}
-use Rattle.model_guests.specs.AgreedBoard.{with_change_at}
-use Rattle.model_guests.specs.WorldNow.{WorldNow}
-use Rattle.model_guests.specs.DeviceEvents.{slot_fault}
-use Rattle.model_handoff.specs.Regions.{opens_region}
-use Rattle.model_handoff.specs.ViewLaws.{sits}
+use Rattle.std.specs.{Prelude.{ℕ, Bool, not, nat_le, if◌then◌else◌, is_some, Option, Some, None}, List.list_any, Option.option_map_or}
+use Rattle.model_registers.specs.{Declarations.{Region, Endpoint}, CopiedFiles.after_reset}
+use Rattle.model_board.specs.{Paths.Path, AtReset.board_at, State.State}
+use Rattle.model_guests.specs.{Accesses.{Reply, done, refused}, Text.Text, World.declared, Guests.{lone_of, path_in, function_in, with_guest, with_slot_filled, with_slot_emptied}, AgreedBoard.with_change_at, WorldNow.WorldNow, DeviceEvents.slot_fault}
+use Rattle.model_handoff.specs.{Regions.opens_region, ViewLaws.sits}
 
 pub record Gift : Type 0 where
   pub path : Path

@@ -6,18 +6,10 @@
 --     GivenFunction      the slot has the function of the path, at reset
 --     GivenBack      taken again at once, it leaves all guests as they were
 --     OthersAfterGift, OthersAfterTaking      no other guest holds anything else than before
-use Rattle.std.specs.Prelude.{◌≡◌, ℕ, Some, None, IsFalse, IsSome}
-use Rattle.std.specs.Str.{bytes_eq}
-use Rattle.model_board.specs.Paths.{Path}
-use Rattle.model_board.specs.AtReset.{board_at}
-use Rattle.model_guests.specs.Slots.{reset_function}
-use Rattle.model_guests.specs.Text.{Text}
-use Rattle.model_guests.specs.World.{declared}
-use Rattle.model_guests.specs.Guests.{guest_named, lone_of, path_in, function_in}
-use Rattle.model_guests.specs.WorldNow.{WorldNow, board_state}
-use Rattle.model_handoff.specs.Kept.{IsLawfulOver}
-use Rattle.model_handoff.specs.ViewLaws.{with_seated_reset}
-use Rattle.model_handoff.specs.Giving.{Gift, with_reset_at, give_fault, take_fault, after_give, after_take}
+use Rattle.std.specs.{Prelude.{◌≡◌, ℕ, Some, None, IsFalse, IsSome}, Str.bytes_eq}
+use Rattle.model_board.specs.{Paths.Path, AtReset.board_at}
+use Rattle.model_guests.specs.{Slots.reset_function, Text.Text, World.declared, Guests.{guest_named, lone_of, path_in, function_in}, WorldNow.{WorldNow, board_state}}
+use Rattle.model_handoff.specs.{Kept.IsLawfulOver, ViewLaws.with_seated_reset, Giving.{Gift, with_reset_at, give_fault, take_fault, after_give, after_take}}
 
 abbrev pub OnGift : (WorldNow → Gift → Type 0) → Type 0
 OnGift P = (w : WorldNow) → IsLawfulOver w → (g : Gift) → IsSome (guest_named w.guests g.to) → give_fault w g ≡ None

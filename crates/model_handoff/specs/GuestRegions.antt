@@ -3,13 +3,9 @@
 --     RegionNow, region_now      a region by its registers and Command as they stand
 --     region_at f n      the region of a function that begins at base address register n
 --     region_answer g slot n      where that region of the function in a slot stands, or the number of a refusal
-use Rattle.std.specs.Prelude.{ℕ, Bool, false, ◌==◌, if◌then◌else◌, nat_le, Option, Result, Err, find, option_map}
-use Rattle.std.specs.Option.{option_map_or, ok_or}
-use Rattle.model_registers.specs.Registers.{File}
-use Rattle.model_registers.specs.Declarations.{Kind, io_kind, mem32, mem64, Region}
-use Rattle.model_registers.specs.Decoding.{Space, space_of, Function, base, is_open}
-use Rattle.model_guests.specs.Slots.{slot_at}
-use Rattle.model_guests.specs.Lone.{LoneGuest}
+use Rattle.std.specs.{Prelude.{ℕ, Bool, false, ◌==◌, if◌then◌else◌, nat_le, Option, Result, Err, find, option_map}, Option.{option_map_or, ok_or}}
+use Rattle.model_registers.specs.{Registers.File, Declarations.{Kind, io_kind, mem32, mem64, Region}, Decoding.{Space, space_of, Function, base, is_open}}
+use Rattle.model_guests.specs.{Slots.slot_at, Lone.LoneGuest}
 
 abbrev pub is_prefetchable : Kind → Bool
 is_prefetchable io_kind = false

@@ -8,21 +8,12 @@
 --     with_given_reset w s      the handoff with each given function at reset, but for what guests have copies of
 --     taken_over w s      the same, with the address latch clear: what guests get
 --     HasGivenAtReset w s      each given function is so already
-use Rattle.std.specs.Prelude.{List, ◌≡◌, Bool, false, if◌then◌else◌, Option, None, option_map, ⊤, IsTrue, IsFalse}
-use Rattle.std.specs.List.{list_any}
+use Rattle.std.specs.{Prelude.{List, ◌≡◌, Bool, false, if◌then◌else◌, Option, None, option_map, ⊤, IsTrue, IsFalse}, List.list_any}
 use Rattle.lists.specs.Elements.{Each}
-use Rattle.model_registers.specs.Registers.{Place, File, cell_at}
-use Rattle.model_registers.specs.Declarations.{Endpoint}
-use Rattle.model_registers.specs.EndpointTable.{endpoint_reset}
-use Rattle.model_registers.specs.BridgeTable.{bridge_reset}
-use Rattle.model_registers.specs.OwnCopies.{is_own}
-use Rattle.model_registers.specs.CopiedFiles.{shape_of}
-use Rattle.model_board.specs.Paths.{Path, path_eq}
-use Rattle.model_board.specs.Board.{Decl, endpoint, bridge, Board}
-use Rattle.model_board.specs.State.{BoardFunction, State}
+use Rattle.model_registers.specs.{Registers.{Place, File, cell_at}, Declarations.Endpoint, EndpointTable.endpoint_reset, BridgeTable.bridge_reset, OwnCopies.is_own, CopiedFiles.shape_of}
+use Rattle.model_board.specs.{Paths.{Path, path_eq}, Board.{Decl, endpoint, bridge, Board}, State.{BoardFunction, State}}
 use Rattle.model_findings.specs.Orderly.{IsStateOfBoard}
-use Rattle.model_guests.specs.World.{World, declared, given_paths}
-use Rattle.model_guests.specs.AgreedBoard.{with_files}
+use Rattle.model_guests.specs.{World.{World, declared, given_paths}, AgreedBoard.with_files}
 
 abbrev pub declared_cells : Decl → File
 declared_cells (endpoint d) = endpoint_reset d false

@@ -4,15 +4,10 @@
 --     LawfulAtFirst      so it is where functions may be given
 --     LawfulAfter, LawfulAlong      and after a line, and along lines
 use Rattle.std.specs.Prelude.{List, ◌≡◌}
-use Rattle.model_board.specs.AtReset.{board_at}
-use Rattle.model_board.specs.State.{State}
+use Rattle.model_board.specs.{AtReset.board_at, State.State}
 use Rattle.model_findings.specs.Witnesses.{IsInOrder}
-use Rattle.model_guests.specs.Text.{Text}
-use Rattle.model_guests.specs.World.{World, HasLawfulGuests}
-use Rattle.model_guests.specs.WorldNow.{WorldNow, world_over, after_line, after_lines}
-use Rattle.model_guests.specs.Seated.{AreSeated}
-use Rattle.model_handoff.specs.Handoffs.{IsHandoff}
-use Rattle.model_handoff.specs.Regions.{CanBeGiven, AreServed}
+use Rattle.model_guests.specs.{Text.Text, World.{World, HasLawfulGuests}, WorldNow.{WorldNow, world_over, after_line, after_lines}, Seated.AreSeated}
+use Rattle.model_handoff.specs.{Handoffs.IsHandoff, Regions.{CanBeGiven, AreServed}}
 
 pub record IsLawfulOver (w : WorldNow) : Type 0 where
   pub handoff : IsHandoff w.handoff

@@ -3,12 +3,9 @@
 --     located g t      where an access of a byte at a place lands
 --     location g t      the same, or the number of a refusal
 --     is_latch_access      the one access that isn't told by its place: 4 bytes at CF8h are the guest's own latch
-use Rattle.std.specs.Prelude.{ℕ, Bool, false, Option, None, Result, Ok, Err}
-use Rattle.std.specs.Option.{option_map_or}
+use Rattle.std.specs.{Prelude.{ℕ, Bool, false, Option, None, Result, Ok, Err}, Option.option_map_or}
 use Rattle.model_registers.specs.ConfigAddress.{is_address_port}
-use Rattle.model_guests.specs.Accesses.{Target, configuration, port, address, reads}
-use Rattle.model_guests.specs.Slots.{Landing, landing, fault_of}
-use Rattle.model_guests.specs.Lone.{LoneGuest, Destination, own_latch, no_function, at_target, destination}
+use Rattle.model_guests.specs.{Accesses.{Target, configuration, port, address, reads}, Slots.{Landing, landing, fault_of}, Lone.{LoneGuest, Destination, own_latch, no_function, at_target, destination}}
 
 abbrev pub landing_at : LoneGuest → Destination → Option Landing
 landing_at g own_latch = None

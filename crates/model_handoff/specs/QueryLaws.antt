@@ -4,14 +4,9 @@
 --     IsInside, HitIsInside      a hit by a port or an address lies in a region that is told there, and that is open
 --     InsideIsHit      each address of a region that is told, and that is open, hits something
 use Rattle.std.specs.Prelude.{◌≡◌, ◌≤◌, ◌<◌, ℕ, ◌+◌, ◌-◌, true, false, is_some, Some, None, Ok}
-use Rattle.model_registers.specs.Registers.{block, all_ones}
-use Rattle.model_registers.specs.Declarations.{HasLawfulRegions}
-use Rattle.model_registers.specs.Decoding.{Space, Function}
-use Rattle.model_guests.specs.Accesses.{Target, Op, reads, writes, access, answered}
-use Rattle.model_guests.specs.Slots.{Slots, slot_at, Landing, landing_from, fault_of, perform, effect}
-use Rattle.model_guests.specs.Lone.{LoneGuest, answer, after_event}
-use Rattle.model_handoff.specs.GuestRegions.{RegionNow, region_answer}
-use Rattle.model_handoff.specs.Located.{located, is_latch_access}
+use Rattle.model_registers.specs.{Registers.{block, all_ones}, Declarations.HasLawfulRegions, Decoding.{Space, Function}}
+use Rattle.model_guests.specs.{Accesses.{Target, Op, reads, writes, access, answered}, Slots.{Slots, slot_at, Landing, landing_from, fault_of, perform, effect}, Lone.{LoneGuest, answer, after_event}}
+use Rattle.model_handoff.specs.{GuestRegions.{RegionNow, region_answer}, Located.{located, is_latch_access}}
 
 -- all but the one access that is the guest's own latch
 abbrev pub AccessLands : Type 0

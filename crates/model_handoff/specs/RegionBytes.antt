@@ -6,17 +6,10 @@
 --     byte_reply, after_byte      the reply, and the guest after it
 --     IsByteThere, BytesByAddress      where an address of the guest lands there is such a byte, and an access of it is one
 --                                      of a byte at the address
-use Rattle.std.specs.Prelude.{◌≡◌, ℕ, Bool, true, if◌then◌else◌, nat_lt, nat_le, Option, Some, None, Result, Ok, Err}
-use Rattle.std.specs.Option.{option_map_or, ok_or}
-use Rattle.model_registers.specs.Registers.{block}
-use Rattle.model_registers.specs.Declarations.{Region}
-use Rattle.model_registers.specs.Decoding.{space_of, Function, is_open}
-use Rattle.model_guests.specs.Accesses.{RaisePlace, in_config, in_region, Op, Reply, refused, Target, port, address}
-use Rattle.model_guests.specs.Slots.{Landing, slot_at, landing, perform, effect}
-use Rattle.model_guests.specs.Lone.{LoneGuest, at_target, reply_at, after_access_at}
-use Rattle.model_guests.specs.DeviceEvents.{DeviceByte}
-use Rattle.model_handoff.specs.GuestRegions.{region_at}
-use Rattle.model_handoff.specs.QueryLaws.{HasLawfulFunctions}
+use Rattle.std.specs.{Prelude.{◌≡◌, ℕ, Bool, true, if◌then◌else◌, nat_lt, nat_le, Option, Some, None, Result, Ok, Err}, Option.{option_map_or, ok_or}}
+use Rattle.model_registers.specs.{Registers.block, Declarations.Region, Decoding.{space_of, Function, is_open}}
+use Rattle.model_guests.specs.{Accesses.{RaisePlace, in_config, in_region, Op, Reply, refused, Target, port, address}, Slots.{Landing, slot_at, landing, perform, effect}, Lone.{LoneGuest, at_target, reply_at, after_access_at}, DeviceEvents.DeviceByte}
+use Rattle.model_handoff.specs.{GuestRegions.region_at, QueryLaws.HasLawfulFunctions}
 
 -- configuration space is no region
 abbrev pub opening : Function → RaisePlace → ℕ → Option Bool

@@ -12,31 +12,11 @@
 --     FaultDecides      functions may be given where and only where there is no fault
 use Rattle.std.specs.Prelude.{List, [], ◌∷◌, ◌≡◌, ℕ, ◌<◌, ◌+◌, ◌%◌, Bool, Some, None, IsTrue, ◌↔◌}
 use Rattle.lists.specs.Elements.{IsIn}
-use Rattle.model_registers.specs.Registers.{config, block, read, write, all_bytes, number}
-use Rattle.model_registers.specs.OwnCopies.{handed_on}
-use Rattle.model_registers.specs.Declarations.{Region, Endpoint}
-use Rattle.model_registers.specs.Decoding.{Space, io, memory, space_of, Function, Hit, lone_claim}
-use Rattle.model_registers.specs.DecodingLaws.{IsHitIn}
-use Rattle.model_board.specs.Paths.{Path}
-use Rattle.model_board.specs.Board.{endpoint}
-use Rattle.model_board.specs.AtReset.{board_at}
-use Rattle.model_board.specs.State.{BoardFunction, State}
-use Rattle.model_board.specs.Claims.{Claim, claims, first_claim}
-use Rattle.model_board.specs.Ports.{claim_reply, after_claim_write, config_reply, after_config_write, port_target}
-use Rattle.model_board.specs.Ports.{ordinary, port_reply, after_port_write, memory_reply, after_memory_write}
-use Rattle.model_board.specs.Routing.{routing}
-use Rattle.model_findings.specs.Found.{address_now, IsNumbered}
-use Rattle.model_findings.specs.Orderly.{IsOrderly, IsStateOfBoard}
-use Rattle.model_guests.specs.Accesses.{Event}
-use Rattle.model_guests.specs.Text.{Text}
-use Rattle.model_guests.specs.World.{World}
-use Rattle.model_guests.specs.Guests.{GuestsNow, guests_at_first, path_in, function_in, with_guest, after_guest_event}
-use Rattle.model_guests.specs.Guests.{Move, after_move}
-use Rattle.model_guests.specs.Seated.{AreSeated}
-use Rattle.model_guests.specs.AgreedBoard.{state_over}
-use Rattle.model_guests.specs.ChangeLaws.{with_slot_changed}
-use Rattle.model_handoff.specs.Handoffs.{IsHandoff}
-use Rattle.model_handoff.specs.Regions.{base_in, opens_region, closed_given, first_fault, CanBeGiven, AreServed}
+use Rattle.model_registers.specs.{Registers.{config, block, read, write, all_bytes, number}, OwnCopies.handed_on, Declarations.{Region, Endpoint}, Decoding.{Space, io, memory, space_of, Function, Hit, lone_claim}, DecodingLaws.IsHitIn}
+use Rattle.model_board.specs.{Paths.Path, Board.endpoint, AtReset.board_at, State.{BoardFunction, State}, Claims.{Claim, claims, first_claim}, Ports.{claim_reply, after_claim_write, config_reply, after_config_write, port_target, ordinary, port_reply, after_port_write, memory_reply, after_memory_write}, Routing.routing}
+use Rattle.model_findings.specs.{Found.{address_now, IsNumbered}, Orderly.{IsOrderly, IsStateOfBoard}}
+use Rattle.model_guests.specs.{Accesses.Event, Text.Text, World.World, Guests.{GuestsNow, guests_at_first, path_in, function_in, with_guest, after_guest_event, Move, after_move}, Seated.AreSeated, AgreedBoard.state_over, ChangeLaws.with_slot_changed}
+use Rattle.model_handoff.specs.{Handoffs.IsHandoff, Regions.{base_in, opens_region, closed_given, first_fault, CanBeGiven, AreServed}}
 
 abbrev pub space_reply : State → Space → ℕ → ℕ → ℕ
 space_reply s space a w = claim_reply s.functions w (first_claim s.functions space a)

@@ -8,20 +8,11 @@
 --     HasOpenRegions s p, AreServed s gs      all regions of the function are open; of each function in a slot they are
 use Rattle.std.specs.Prelude.{List, [], ◌∷◌, ◌≡◌, ℕ, Bool, Option, Some, None, filter, IsTrue}
 use Rattle.lists.specs.Elements.{Each, first_of_two}
-use Rattle.model_registers.specs.Declarations.{Region, Endpoint}
-use Rattle.model_registers.specs.Decoding.{space_of, base, is_open}
-use Rattle.model_board.specs.Paths.{Path}
-use Rattle.model_board.specs.AtReset.{board_at}
-use Rattle.model_board.specs.Ports.{file_at}
-use Rattle.model_board.specs.Routing.{routing}
-use Rattle.model_board.specs.State.{State}
+use Rattle.model_registers.specs.{Declarations.{Region, Endpoint}, Decoding.{space_of, base, is_open}}
+use Rattle.model_board.specs.{Paths.Path, AtReset.board_at, Ports.file_at, Routing.routing, State.State}
 use Rattle.model_set_up.specs.PlacedRegions.{PlacedRegion}
-use Rattle.model_findings.specs.OpenRegions.{closed_regions}
-use Rattle.model_findings.specs.Problems.{Problem, problems}
-use Rattle.model_findings.specs.Witnesses.{IsInOrder}
-use Rattle.model_guests.specs.Text.{Text}
-use Rattle.model_guests.specs.World.{World, declared}
-use Rattle.model_guests.specs.Guests.{GuestsNow, path_in}
+use Rattle.model_findings.specs.{OpenRegions.closed_regions, Problems.{Problem, problems}, Witnesses.IsInOrder}
+use Rattle.model_guests.specs.{Text.Text, World.{World, declared}, Guests.{GuestsNow, path_in}}
 use Rattle.model_handoff.specs.Handoffs.{is_given}
 
 abbrev pub base_in : State → Path → Region → ℕ

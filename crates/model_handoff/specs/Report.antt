@@ -7,18 +7,10 @@
 --     slot_lines      the slots of a guest
 --     report_of, report      the whole text, of what is reported; of a world
 use Rattle.std.specs.Prelude.{List, [], ◌∷◌, ℕ, ◌+◌, ◌++◌, true, false, if◌then◌else◌, nat_lt, ◌==◌, ◌||◌, Option, Some, None, flat_map, map, not, count_by, codes, decimal}
-use Rattle.model_registers.specs.Declarations.{Kind, io_kind, mem32, mem64}
-use Rattle.model_registers.specs.EndpointTable.{BaseAddress}
-use Rattle.model_registers.specs.BridgeTable.{Window}
-use Rattle.model_board.specs.Paths.{Path, last_part}
-use Rattle.model_board.specs.Board.{Decl, endpoint, bridge, is_bridge}
-use Rattle.model_board.specs.Interrupts.{root_device, root_pin}
-use Rattle.model_set_up.specs.FunctionTable.{BusRange, TableRow, sized_table}
-use Rattle.model_set_up.specs.SetUpWrites.{Writes, to_endpoint, to_bridge, Setting, Plan, planned}
-use Rattle.model_guests.specs.Text.{Text, text_of_lines, ended}
-use Rattle.model_guests.specs.World.{Guest, World}
-use Rattle.model_guests.specs.PathTexts.{hexadecimal, path_text}
-use Rattle.model_guests.specs.Replies.{hex_digits}
+use Rattle.model_registers.specs.{Declarations.{Kind, io_kind, mem32, mem64}, EndpointTable.BaseAddress, BridgeTable.Window}
+use Rattle.model_board.specs.{Paths.{Path, last_part}, Board.{Decl, endpoint, bridge, is_bridge}, Interrupts.{root_device, root_pin}}
+use Rattle.model_set_up.specs.{FunctionTable.{BusRange, TableRow, sized_table}, SetUpWrites.{Writes, to_endpoint, to_bridge, Setting, Plan, planned}}
+use Rattle.model_guests.specs.{Text.{Text, text_of_lines, ended}, World.{Guest, World}, PathTexts.{hexadecimal, path_text}, Replies.hex_digits}
 
 pub record SetUpBoard : Type 0 where
   pub functions : List TableRow

@@ -4,17 +4,9 @@
 --     CountsOfBoard, IdentitiesOfBoard      the functions that are counted, and their identities, are those of the board
 --     PinLines      each pin but 0 has a line
 use Rattle.std.specs.Prelude.{◌≡◌, Bool, true, false, nat_lt, ◌==◌, if◌then◌else◌, not, count_by, List, [], ◌∷◌}
-use Rattle.model_registers.specs.Declarations.{Endpoint}
-use Rattle.model_registers.specs.DeclarationRules.{IsLawfulEndpoint}
-use Rattle.model_registers.specs.Apertures.{Apertures}
-use Rattle.model_registers.specs.BridgeTable.{Window}
-use Rattle.model_board.specs.Paths.{Path}
-use Rattle.model_board.specs.Board.{Decl, Board, is_bridge}
-use Rattle.model_board.specs.Lawful.{HasLawfulDecls}
-use Rattle.model_set_up.specs.Pools.{io_pool, mem_pool, pref_pool}
-use Rattle.model_set_up.specs.Placement.{Item, items_on}
-use Rattle.model_set_up.specs.SetUp.{windows_of}
-use Rattle.model_set_up.specs.FunctionTable.{found_decl, sized_table}
+use Rattle.model_registers.specs.{Declarations.Endpoint, DeclarationRules.IsLawfulEndpoint, Apertures.Apertures, BridgeTable.Window}
+use Rattle.model_board.specs.{Paths.Path, Board.{Decl, Board, is_bridge}, Lawful.HasLawfulDecls}
+use Rattle.model_set_up.specs.{Pools.{io_pool, mem_pool, pref_pool}, Placement.{Item, items_on}, SetUp.windows_of, FunctionTable.{found_decl, sized_table}}
 use Rattle.model_handoff.specs.Report.{counts_text, count_line, identity_of, pin_line, known_pin_lines}
 
 abbrev pub is_closed : Window → Bool

@@ -4,21 +4,12 @@
 --     SetUpPlaces, SetUpAddresses      its regions are where set-up placed them, and its bus numbers are the board's
 use Rattle.std.specs.Prelude.{◌≡◌, IsTrue}
 use Rattle.lists.specs.Elements.{Each, IsIn}
-use Rattle.model_registers.specs.Declarations.{Region, Endpoint}
-use Rattle.model_registers.specs.Apertures.{Apertures}
-use Rattle.model_board.specs.Paths.{Path}
-use Rattle.model_board.specs.Board.{endpoint, Board, IsBoard}
-use Rattle.model_board.specs.BusNumbers.{Enumerates}
-use Rattle.model_board.specs.Lawful.{HasLawfulDecls}
-use Rattle.model_board.specs.AtReset.{board_at}
-use Rattle.model_set_up.specs.Reach.{address_of}
-use Rattle.model_set_up.specs.SetUp.{first_of, set_up_state}
-use Rattle.model_set_up.specs.UniqueClaimant.{CanBePlaced}
-use Rattle.model_findings.specs.Found.{address_now}
-use Rattle.model_findings.specs.Witnesses.{IsInOrder}
+use Rattle.model_registers.specs.{Declarations.{Region, Endpoint}, Apertures.Apertures}
+use Rattle.model_board.specs.{Paths.Path, Board.{endpoint, Board, IsBoard}, BusNumbers.Enumerates, Lawful.HasLawfulDecls, AtReset.board_at}
+use Rattle.model_set_up.specs.{Reach.address_of, SetUp.{first_of, set_up_state}, UniqueClaimant.CanBePlaced}
+use Rattle.model_findings.specs.{Found.address_now, Witnesses.IsInOrder}
 use Rattle.model_guests.specs.World.{World}
-use Rattle.model_handoff.specs.Handoffs.{IsHandoff}
-use Rattle.model_handoff.specs.Regions.{base_in, opens_region, CanBeGiven}
+use Rattle.model_handoff.specs.{Handoffs.IsHandoff, Regions.{base_in, opens_region, CanBeGiven}}
 
 abbrev pub SetUpIsHandoff : Type 0
 SetUpIsHandoff = (b : Board) (a : Apertures) → IsBoard b → HasLawfulDecls b

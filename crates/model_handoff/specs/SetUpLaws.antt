@@ -7,27 +7,10 @@
 --     HitReachesRegion      each hit in a seated function does
 use Rattle.std.specs.Prelude.{List, ◌≡◌, ℕ, ◌+◌, ◌%◌, Some}
 use Rattle.lists.specs.Elements.{IsIn}
-use Rattle.model_registers.specs.Apertures.{Apertures}
-use Rattle.model_registers.specs.Declarations.{Region}
-use Rattle.model_registers.specs.Decoding.{Space, io, Function, Hit, lone_claim}
-use Rattle.model_registers.specs.DecodingLaws.{IsHitIn}
-use Rattle.model_board.specs.Paths.{Path}
-use Rattle.model_board.specs.Board.{Board, IsBoard}
-use Rattle.model_board.specs.BusNumbers.{Enumerates}
-use Rattle.model_board.specs.Claims.{first_claim}
-use Rattle.model_board.specs.Lawful.{HasLawfulDecls}
-use Rattle.model_board.specs.Ports.{port_target, ordinary}
-use Rattle.model_board.specs.Routing.{routing}
-use Rattle.model_board.specs.State.{BoardFunction, State}
-use Rattle.model_set_up.specs.PlacedRegions.{placed}
-use Rattle.model_set_up.specs.Reach.{HasNumbers}
-use Rattle.model_set_up.specs.SetUp.{first_of, set_up_state}
-use Rattle.model_set_up.specs.UniqueClaimant.{CanBePlaced, IsPlacedWithin}
-use Rattle.model_guests.specs.World.{World, IsLawfulWorld}
-use Rattle.model_guests.specs.Guests.{GuestsNow, guests_at_first}
-use Rattle.model_guests.specs.AgreedBoard.{state_over}
-use Rattle.model_guests.specs.AgreedLaws.{Agrees}
-use Rattle.model_guests.specs.Seated.{IsSeatedAt, AreSeated}
+use Rattle.model_registers.specs.{Apertures.Apertures, Declarations.Region, Decoding.{Space, io, Function, Hit, lone_claim}, DecodingLaws.IsHitIn}
+use Rattle.model_board.specs.{Paths.Path, Board.{Board, IsBoard}, BusNumbers.Enumerates, Claims.first_claim, Lawful.HasLawfulDecls, Ports.{port_target, ordinary}, Routing.routing, State.{BoardFunction, State}}
+use Rattle.model_set_up.specs.{PlacedRegions.placed, Reach.HasNumbers, SetUp.{first_of, set_up_state}, UniqueClaimant.{CanBePlaced, IsPlacedWithin}}
+use Rattle.model_guests.specs.{World.{World, IsLawfulWorld}, Guests.{GuestsNow, guests_at_first}, AgreedBoard.state_over, AgreedLaws.Agrees, Seated.{IsSeatedAt, AreSeated}}
 
 abbrev pub OverSetUp : (State → GuestsNow → Type 0) → Type 0
 OverSetUp P = (b : Board) (a : Apertures) → IsBoard b → HasLawfulDecls b → (gs : GuestsNow) → AreSeated b gs

@@ -4,25 +4,11 @@
 --     touches name slot gs m      a move that is done, out of this slot of the guest or into it
 --     moves_regions name slot gs c      one of the guest's own writes of such bytes, such a move, or a reset there
 --     RegionsStay      by no other call is an answer another one
-use Rattle.std.specs.Prelude.{◌≡◌, ◌&&◌, ◌||◌, ◌==◌, ℕ, zero, suc, Bool, true, false, not, nat_le, nat_lt, is_some}
-use Rattle.std.specs.Prelude.{IsSome}
-use Rattle.std.specs.Option.{option_map_or}
-use Rattle.std.specs.Str.{bytes_eq}
+use Rattle.std.specs.{Prelude.{◌≡◌, ◌&&◌, ◌||◌, ◌==◌, ℕ, zero, suc, Bool, true, false, not, nat_le, nat_lt, is_some, IsSome}, Option.option_map_or, Str.bytes_eq}
 use Rattle.model_registers.specs.Registers.{Place, config, block, after}
-use Rattle.model_board.specs.Board.{Board}
-use Rattle.model_board.specs.Lawful.{HasLawfulDecls}
-use Rattle.model_guests.specs.Accesses.{Event, access, raises, Op, reads, writes}
-use Rattle.model_guests.specs.Slots.{Landing}
-use Rattle.model_guests.specs.Text.{Text}
-use Rattle.model_guests.specs.Lone.{LoneGuest}
-use Rattle.model_guests.specs.Guests.{GuestsNow, guest_named, lone_of, Move, move_fault}
-use Rattle.model_guests.specs.Lines.{nothing, guest_event, host_read, host_move, bad}
-use Rattle.model_guests.specs.WorldNow.{WorldNow}
-use Rattle.model_guests.specs.Seated.{AreSeated}
-use Rattle.model_guests.specs.DeviceEvents.{resets, device_reads, device_writes}
-use Rattle.model_guests.specs.Calls.{Call, asks, at_device, after_call}
-use Rattle.model_handoff.specs.GuestRegions.{region_answer}
-use Rattle.model_handoff.specs.Located.{located}
+use Rattle.model_board.specs.{Board.Board, Lawful.HasLawfulDecls}
+use Rattle.model_guests.specs.{Accesses.{Event, access, raises, Op, reads, writes}, Slots.Landing, Text.Text, Lone.LoneGuest, Guests.{GuestsNow, guest_named, lone_of, Move, move_fault}, Lines.{nothing, guest_event, host_read, host_move, bad}, WorldNow.WorldNow, Seated.AreSeated, DeviceEvents.{resets, device_reads, device_writes}, Calls.{Call, asks, at_device, after_call}}
+use Rattle.model_handoff.specs.{GuestRegions.region_answer, Located.located}
 
 abbrev pub tells_regions : Place → Bool
 tells_regions (config off) = off == 4 || off == 5 || (nat_le 0x10 off && nat_lt off 0x28)

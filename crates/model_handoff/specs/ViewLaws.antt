@@ -5,20 +5,10 @@
 --     OverReset      guests can't tell it from the state itself
 --     ResetShown      it is the same of the handoff and of the board over it
 --     ResetAtFirst, ResetAfterEvents, ResetAfterMoves      it is that of the given functions, and stays so
-use Rattle.std.specs.Prelude.{◌≡◌, Bool, false, if◌then◌else◌, Option, None, option_map, IsSome}
-use Rattle.std.specs.List.{list_any}
-use Rattle.std.specs.Option.{option_map_or}
+use Rattle.std.specs.{Prelude.{◌≡◌, Bool, false, if◌then◌else◌, Option, None, option_map, IsSome}, List.list_any, Option.option_map_or}
 use Rattle.model_registers.specs.Registers.{File}
-use Rattle.model_board.specs.Paths.{Path, path_eq}
-use Rattle.model_board.specs.AtReset.{board_at}
-use Rattle.model_board.specs.State.{State}
-use Rattle.model_guests.specs.Accesses.{Event}
-use Rattle.model_guests.specs.Text.{Text}
-use Rattle.model_guests.specs.World.{World, declared}
-use Rattle.model_guests.specs.Guests.{GuestNow, GuestsNow, guests_at_first, guest_named, after_guest_event}
-use Rattle.model_guests.specs.Guests.{Move, after_move}
-use Rattle.model_guests.specs.AgreedBoard.{with_files, state_over}
-use Rattle.model_guests.specs.ChangeLaws.{OverSeated}
+use Rattle.model_board.specs.{Paths.{Path, path_eq}, AtReset.board_at, State.State}
+use Rattle.model_guests.specs.{Accesses.Event, Text.Text, World.{World, declared}, Guests.{GuestNow, GuestsNow, guests_at_first, guest_named, after_guest_event, Move, after_move}, AgreedBoard.{with_files, state_over}, ChangeLaws.OverSeated}
 use Rattle.model_handoff.specs.Handoffs.{file_at_reset, with_given_reset}
 
 abbrev pub is_at : Path → Option Path → Bool

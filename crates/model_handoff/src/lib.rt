@@ -5,31 +5,7 @@
 //! functions that are given to guests and taken from them.
 #![tactic(auto)]
 
-ghost use Rattle.model_handoff.specs.AgreementLaws.{FirstIsHandoff, FirstIsReset, KeepsAddresses, KeepsBoard};
-ghost use Rattle.model_handoff.specs.AgreementLaws.{KeepsBridges, KeepsNumbers, KeepsProblems, KeepsReach, KeepsRouting};
-ghost use Rattle.model_handoff.specs.AgreementLaws.{StateAgrees, StateIsOnly, StaysInOrder};
-ghost use Rattle.model_handoff.specs.RegionLaws.{CycleReads, CycleWrites, FaultDecides, HitActs, HitReachesOver};
-ghost use Rattle.model_handoff.specs.RegionLaws.{MemoryBySpace, PortsBySpace, RegionIsClaimed, RegionReads};
-ghost use Rattle.model_handoff.specs.RegionLaws.{RegionWrites, ServedAfterEvents, ServedAfterMoves, ServedAtFirst};
-ghost use Rattle.model_handoff.specs.AfterSetUp.{SetUpIsolates, SetUpTwoWorlds};
-ghost use Rattle.model_handoff.specs.ReportLaws.{ClosedWithoutItems, CountsOfBoard, IdentitiesOfBoard, PinLines};
-ghost use Rattle.model_handoff.specs.SetUpCase.{SetUpAddresses, SetUpCanBeGiven, SetUpIsHandoff, SetUpIsInOrder, SetUpPlaces};
-ghost use Rattle.model_handoff.specs.SetUpLaws.{HitReachesRegion, SetUpAgrees, SetUpAtFirst, SetUpIsOnly, SetUpKeepsNumbers, SetUpKeepsRouting};
-ghost use Rattle.model_handoff.specs.ViewLaws.{OverReset, ResetAfterEvents, ResetAfterMoves, ResetAtFirst, ResetShown};
-ghost use Rattle.model_handoff.specs.ResetCase.{ResetIsHandoff};
-ghost use Rattle.model_handoff.specs.DevicesOver.{LawfulAfterDevices, ResetAfterDevices};
-ghost use Rattle.model_handoff.specs.Kept.{LawfulAfter, LawfulAlong, LawfulAtFirst};
-ghost use Rattle.model_handoff.specs.Examples.{WorkedExamples};
-ghost use Rattle.model_handoff.specs.FunctionExamples.{ToldFunctions};
-ghost use Rattle.model_handoff.specs.FunctionLaws.{NoSeatHolds, SeatsHold};
-ghost use Rattle.model_handoff.specs.QueryLaws.{AccessLands, HitIsInside, InsideIsHit, NothingHit};
-ghost use Rattle.model_handoff.specs.RegionBytes.{BytesByAddress};
-ghost use Rattle.model_handoff.specs.StayLaws.{RegionsStay};
-ghost use Rattle.model_handoff.specs.Actions.{IsolatedByActions};
-ghost use Rattle.model_handoff.specs.CountLaws.{AnswersStay, ChangesTouchSlots, CountsGrow, RegionsStayAlong};
-ghost use Rattle.model_handoff.specs.GivingLaws.{BoardAfterGift, BoardAfterTaking, GivenBack, GivenFunction};
-ghost use Rattle.model_handoff.specs.GivingLaws.{LawfulAfterGift, LawfulAfterTaking, OthersAfterGift, OthersAfterTaking};
-ghost use Rattle.model_handoff.specs.GivingLaws.{ShownAfterGift, ShownAfterTaking};
+ghost use Rattle.model_handoff.specs.{AgreementLaws.{FirstIsHandoff, FirstIsReset, KeepsAddresses, KeepsBoard, KeepsBridges, KeepsNumbers, KeepsProblems, KeepsReach, KeepsRouting, StateAgrees, StateIsOnly, StaysInOrder}, RegionLaws.{CycleReads, CycleWrites, FaultDecides, HitActs, HitReachesOver, MemoryBySpace, PortsBySpace, RegionIsClaimed, RegionReads, RegionWrites, ServedAfterEvents, ServedAfterMoves, ServedAtFirst}, AfterSetUp.{SetUpIsolates, SetUpTwoWorlds}, ReportLaws.{ClosedWithoutItems, CountsOfBoard, IdentitiesOfBoard, PinLines}, SetUpCase.{SetUpAddresses, SetUpCanBeGiven, SetUpIsHandoff, SetUpIsInOrder, SetUpPlaces}, SetUpLaws.{HitReachesRegion, SetUpAgrees, SetUpAtFirst, SetUpIsOnly, SetUpKeepsNumbers, SetUpKeepsRouting}, ViewLaws.{OverReset, ResetAfterEvents, ResetAfterMoves, ResetAtFirst, ResetShown}, ResetCase.ResetIsHandoff, DevicesOver.{LawfulAfterDevices, ResetAfterDevices}, Kept.{LawfulAfter, LawfulAlong, LawfulAtFirst}, Examples.WorkedExamples, FunctionExamples.ToldFunctions, FunctionLaws.{NoSeatHolds, SeatsHold}, QueryLaws.{AccessLands, HitIsInside, InsideIsHit, NothingHit}, RegionBytes.BytesByAddress, StayLaws.RegionsStay, Actions.IsolatedByActions, CountLaws.{AnswersStay, ChangesTouchSlots, CountsGrow, RegionsStayAlong}, GivingLaws.{BoardAfterGift, BoardAfterTaking, GivenBack, GivenFunction, LawfulAfterGift, LawfulAfterTaking, OthersAfterGift, OthersAfterTaking, ShownAfterGift, ShownAfterTaking}};
 
 /// Just one state of the board agrees with the guests over a handoff; before any event it is the handoff with each
 /// given function at reset.

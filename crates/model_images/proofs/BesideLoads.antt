@@ -1,23 +1,10 @@
 -- The board beside the functions of a guest that is loaded.
-use Rattle.std.proofs.Common.{◌≡◌, ℕ, zero, suc, List, [], ◌∷◌, Some, Option, sym, ap, ◌∙◌, arith}
-use Rattle.std.specs.Prelude.{map, option_map, slice_get, IsSome}
-use Rattle.std.specs.Option.{option_map_or}
-use Rattle.model_registers.specs.Registers.{File}
-use Rattle.model_board.specs.Paths.{Path}
-use Rattle.model_board.specs.Ports.{file_at}
-use Rattle.model_board.specs.State.{BoardFunction}
-use Rattle.model_board.proofs.PathOrder.{path_same}
-use Rattle.model_registers.specs.CopiedFiles.{agreed_file}
-use Rattle.model_guests.specs.Slots.{slot_at}
-use Rattle.model_guests.specs.Guests.{GuestNow, file_of, guest_named, with_guest}
-use Rattle.model_guests.specs.AgreedBoard.{agreed_function}
-use Rattle.model_guests.proofs.Changes.{agreed_twice}
-use Rattle.model_guests.proofs.GuestsByName.{function_named, path_at, path_of}
-use Rattle.model_guests.proofs.FoundFiles.{file_found, file_none, file_stays}
+use Rattle.std.{proofs.Common.{◌≡◌, ℕ, zero, suc, List, [], ◌∷◌, Some, Option, sym, ap, ◌∙◌, arith}, specs.{Prelude.{map, option_map, slice_get, IsSome}, Option.option_map_or}}
+use Rattle.model_registers.specs.{Registers.File, CopiedFiles.agreed_file}
+use Rattle.model_board.{specs.{Paths.Path, Ports.file_at, State.BoardFunction}, proofs.PathOrder.path_same}
+use Rattle.model_guests.{specs.{Slots.slot_at, Guests.{GuestNow, file_of, guest_named, with_guest}, AgreedBoard.agreed_function}, proofs.{Changes.agreed_twice, GuestsByName.{function_named, path_at, path_of}, FoundFiles.{file_found, file_none, file_stays}}}
 use Rattle.model_handoff.proofs.Functions.{path_stays}
-use Rattle.model_images.specs.Images.{SavedFunction, loaded, restored}
-use Rattle.model_images.specs.LoadLaws.{BoardAfterLoad, BoardBesideLoad, LoadsAlike}
-use Rattle.model_images.proofs.Loading.{loaded_holds, paths_after_load, seated_after_load}
+use Rattle.model_images.{specs.{Images.{SavedFunction, loaded, restored}, LoadLaws.{BoardAfterLoad, BoardBesideLoad, LoadsAlike}}, proofs.Loading.{loaded_holds, paths_after_load, seated_after_load}}
 
 pub loads_alike : LoadsAlike
 loads_alike file left own = agreed_twice left own file

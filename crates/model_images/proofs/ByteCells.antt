@@ -1,19 +1,8 @@
 -- Cells that hold bytes, and of whose bits no write of a byte and no device makes more.
-use Rattle.std.proofs.Common.{◌≡◌, ℕ, zero, suc, ◌/◌, ◌%◌, ◌<◌, Bool, true, false, List, [], ◌∷◌, Some, None, Option, arith}
-use Rattle.std.specs.Prelude.{bit_and, flat_map, ⊤}
-use Rattle.std.proofs.lemmas.Nat.{and_le_l, and_le_r, or_lt}
-use Rattle.lists.specs.Elements.{Each}
-use Rattle.lists.proofs.EachLemmas.{each_append, each_map}
-use Rattle.model_registers.specs.Cell.{Cell, IsCell, except, written, raised}
-use Rattle.model_registers.specs.Registers.{Place, config, after, PlacedCell, File, changed, write, field, cells_from}
-use Rattle.model_registers.specs.AccessLaws.{HoldsBytes}
-use Rattle.model_registers.specs.CopiedFiles.{shape_of}
-use Rattle.model_registers.specs.Declarations.{Region, ConfigBlock, Endpoint}
-use Rattle.model_registers.specs.DeviceBytes.{with_value}
-use Rattle.model_registers.specs.EndpointTable.{region_cells, block_cells, header_cells, endpoint_reset}
-use Rattle.model_registers.specs.Decoding.{Function}
-use Rattle.model_images.proofs.KeptFunctions.{AreKept}
-use Rattle.model_images.specs.ByteLaws.{HasCells}
+use Rattle.std.{proofs.{Common.{◌≡◌, ℕ, zero, suc, ◌/◌, ◌%◌, ◌<◌, Bool, true, false, List, [], ◌∷◌, Some, None, Option, arith}, lemmas.Nat.{and_le_l, and_le_r, or_lt}}, specs.Prelude.{bit_and, flat_map, ⊤}}
+use Rattle.lists.{specs.Elements.Each, proofs.EachLemmas.{each_append, each_map}}
+use Rattle.model_registers.specs.{Cell.{Cell, IsCell, except, written, raised}, Registers.{Place, config, after, PlacedCell, File, changed, write, field, cells_from}, AccessLaws.HoldsBytes, CopiedFiles.shape_of, Declarations.{Region, ConfigBlock, Endpoint}, DeviceBytes.with_value, EndpointTable.{region_cells, block_cells, header_cells, endpoint_reset}, Decoding.Function}
+use Rattle.model_images.{proofs.KeptFunctions.AreKept, specs.ByteLaws.HasCells}
 
 pub record IsByteCell (c : Cell) : Type 0 where
   pub value : c.value < 256

@@ -1,7 +1,6 @@
 -- The worked examples, by computation.
 use Rattle.std.specs.Fmt.{digits}
-use Rattle.model_images.specs.ByteExamples.{ByteExamples}
-use Rattle.model_images.specs.MachineByteExamples.{MachineByteExamples}
+use Rattle.model_images.specs.{ByteExamples.ByteExamples, MachineByteExamples.MachineByteExamples}
 
 pub byte_examples : ByteExamples
 unfolding digits

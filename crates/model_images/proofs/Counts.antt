@@ -1,22 +1,8 @@
 -- Along requests the world stays lawful, and a guest's count tells whether its answers may be others.
-use Rattle.std.proofs.Common.{◌≡◌, ◌+◌, ◌^◌, ◌%◌, ℕ, Bool, false, cond, List, [], ◌∷◌, Some, None, refl, sym, ap, subst, arith}
-use Rattle.std.specs.Prelude.{map, option_map, IsSome}
-use Rattle.model_guests.specs.Text.{Text}
-use Rattle.model_guests.specs.Slots.{Slots}
-use Rattle.model_guests.specs.Lone.{LoneGuest}
-use Rattle.model_guests.specs.Guests.{guest_named, lone_of}
-use Rattle.model_guests.specs.WorldNow.{WorldNow, names_now}
-use Rattle.model_handoff.specs.Kept.{IsLawfulOver}
-use Rattle.model_handoff.specs.Changes.{after_change, MachineNow}
-use Rattle.model_handoff.specs.CountLaws.{HaveSameAnswers, IsCounted}
-use Rattle.model_handoff.proofs.Counting.{counted_by, grown, lawful_after_action, names_after, none_counted, none_first, regions_stay_along, same_guest, there_by_index}
-use Rattle.model_images.specs.Images.{image_of_lone, saved, function_at_reset, at_reset, Fits, FitSlots}
-use Rattle.model_images.specs.Requests.{Request, acts, loads, restarts, after_request, after_requests}
-use Rattle.model_images.specs.FitLaws.{IsFittingRequest}
-use Rattle.model_images.specs.RequestLaws.{LawfulAlongRequests, changes_by, changes_along, after_request_on_machine, after_all_requests, AnswersStayAlong, RequestCountsGrow, AnswersStayByCount}
-use Rattle.model_images.proofs.Loading.{lawful_after_load, names_after_load, others_after_load}
-use Rattle.model_images.proofs.Requests.{there_now}
-use Rattle.model_images.proofs.Fitting.{reset_fits}
+use Rattle.std.{proofs.Common.{◌≡◌, ◌+◌, ◌^◌, ◌%◌, ℕ, Bool, false, cond, List, [], ◌∷◌, Some, None, refl, sym, ap, subst, arith}, specs.Prelude.{map, option_map, IsSome}}
+use Rattle.model_guests.specs.{Text.Text, Slots.Slots, Lone.LoneGuest, Guests.{guest_named, lone_of}, WorldNow.{WorldNow, names_now}}
+use Rattle.model_handoff.{specs.{Kept.IsLawfulOver, Changes.{after_change, MachineNow}, CountLaws.{HaveSameAnswers, IsCounted}}, proofs.Counting.{counted_by, grown, lawful_after_action, names_after, none_counted, none_first, regions_stay_along, same_guest, there_by_index}}
+use Rattle.model_images.{specs.{Images.{image_of_lone, saved, function_at_reset, at_reset, Fits, FitSlots}, Requests.{Request, acts, loads, restarts, after_request, after_requests}, FitLaws.IsFittingRequest, RequestLaws.{LawfulAlongRequests, changes_by, changes_along, after_request_on_machine, after_all_requests, AnswersStayAlong, RequestCountsGrow, AnswersStayByCount}}, proofs.{Loading.{lawful_after_load, names_after_load, others_after_load}, Requests.there_now, Fitting.reset_fits}}
 
 -- ---- lawful worlds
 

@@ -1,49 +1,12 @@
 -- The bytes of an image of a machine: whatever machine reads them refuses them as another's (907), as an image that seats
 -- what can't be given there (906), or reads just that.
-use Rattle.std.proofs.Common.{◌≡◌, ◌+◌, ◌^◌, ◌⊎◌, inl, inr, ◌&&◌, ℕ, zero, suc, true, List, [], ◌∷◌, ◌++◌, length, Some, None, Option, Result, Ok, Err, refl, sym, ap, ◌∙◌, subst, append_assoc, length-append, arith}
-use Rattle.std.specs.Prelude.{map, flat_map, option_and_then}
-use Rattle.std.specs.Result.{result_err}
-use Rattle.std.proofs.lemmas.Bool.{and_from, lt-ltb}
-use Rattle.std.proofs.lemmas.List.{length-map}
-use Rattle.std.proofs.lemmas.Option.{same_Some}
-use Rattle.lists.specs.Elements.{Each}
-use Rattle.lists.proofs.EachLemmas.{each_map}
-use Rattle.lists.proofs.Tests.{left_true, right_true}
+use Rattle.std.{proofs.{Common.{◌≡◌, ◌+◌, ◌^◌, ◌⊎◌, inl, inr, ◌&&◌, ℕ, zero, suc, true, List, [], ◌∷◌, ◌++◌, length, Some, None, Option, Result, Ok, Err, refl, sym, ap, ◌∙◌, subst, append_assoc, length-append, arith}, lemmas.{Bool.{and_from, lt-ltb}, List.length-map, Option.same_Some}}, specs.{Prelude.{map, flat_map, option_and_then}, Result.result_err}}
+use Rattle.lists.{specs.Elements.Each, proofs.{EachLemmas.each_map, Tests.{left_true, right_true}}}
 use Rattle.model_registers.specs.Declarations.{Endpoint}
-use Rattle.model_board.specs.Board.{Board}
-use Rattle.model_board.specs.Paths.{Path}
-use Rattle.model_board.specs.AtReset.{board_at}
-use Rattle.model_board.specs.State.{BoardFunction, State}
-use Rattle.model_guests.specs.Slots.{reset_function}
-use Rattle.model_guests.specs.Text.{Text}
-use Rattle.model_guests.specs.Lone.{LoneGuest}
-use Rattle.model_guests.specs.World.{declared}
-use Rattle.model_guests.specs.WorldNow.{WorldNow, names_now}
-use Rattle.model_handoff.specs.Handoffs.{declared_cells, HasDeclaredShape}
-use Rattle.model_handoff.specs.ViewLaws.{seated_files}
-use Rattle.model_images.specs.Images.{Fits, values_of}
-use Rattle.model_images.specs.MachineImages.{SavedGuest, MachineImage, FitsMachine, restored_guest, saved_handoff, shown_handoff, values_in}
-use Rattle.model_images.specs.MachineLaws.{IsSavableWorld}
-use Rattle.model_images.specs.Layouts.{Layout, Parsed, parsed, before, bytes_each, both, counted, fit_each, fit_times, le_bytes, number, optional}
-use Rattle.model_images.specs.ImageBytes.{image_bytes, image_layout}
-use Rattle.model_images.specs.ByteLaws.{AreBytes, IsDeclared}
-use Rattle.model_images.specs.LoadedBytes.{after_bytes, after_image_front}
-use Rattle.model_images.specs.TakenBytes.{taken_image}
-use Rattle.model_images.specs.MachineBytes.{machine_magic, machine_version, board_layout, cells_layout, guest_layout, machine_bytes, machine_of, name_layout, on_board, path_layout, paths_layout}
-use Rattle.model_images.specs.MachineByteLaws.{HasKnownBytes, HasMachineBytes, IsWritableName}
-use Rattle.model_images.specs.LoadedMachines.{and_then, guest_at, held_bytes, if_free, known_bytes, load_all_fault, or_refused, preceded, read_guest, read_guests, read_held, read_image, read_machine, read_slot, read_slots, under_guests, with_path, with_paths}
-use Rattle.model_images.specs.LoadedMachineLaws.{IsOfOtherMachine, MachinesDecided, NoMachineIsRefused}
-use Rattle.model_images.proofs.Layouts.{both_is, fit_count}
-use Rattle.model_images.proofs.LoadedBytes.{fitting_front, front_decided, own_beginning, own_bytes, prefix_decided}
-use Rattle.model_images.proofs.MachineBytes.{board_is, held_in, machine_bytes_are_bytes, machine_read_are_bytes, name_is, parts_bytes, slot_path_is}
-use Rattle.model_images.proofs.Machines.{handoff_stays, opens_alike}
-use Rattle.model_images.proofs.Numbers.{number_is, one_each}
-use Rattle.model_images.proofs.ReadMachines.{slots_declared}
-use Rattle.model_images.proofs.Savable.{as_long}
-use Rattle.model_images.proofs.SavableMachines.{board_fits, declared_written, name_fits}
-use Rattle.model_images.proofs.TakenBytes.{taken_again}
-use Rattle.model_images.proofs.TakenMachines.{accepted_is_machine}
-use Rattle.model_images.proofs.FittingMachines.{fitting_is_accepted}
+use Rattle.model_board.specs.{Board.Board, Paths.Path, AtReset.board_at, State.{BoardFunction, State}}
+use Rattle.model_guests.specs.{Slots.reset_function, Text.Text, Lone.LoneGuest, World.declared, WorldNow.{WorldNow, names_now}}
+use Rattle.model_handoff.specs.{Handoffs.{declared_cells, HasDeclaredShape}, ViewLaws.seated_files}
+use Rattle.model_images.{specs.{Images.{Fits, values_of}, MachineImages.{SavedGuest, MachineImage, FitsMachine, restored_guest, saved_handoff, shown_handoff, values_in}, MachineLaws.IsSavableWorld, Layouts.{Layout, Parsed, parsed, before, bytes_each, both, counted, fit_each, fit_times, le_bytes, number, optional}, ImageBytes.{image_bytes, image_layout}, ByteLaws.{AreBytes, IsDeclared}, LoadedBytes.{after_bytes, after_image_front}, TakenBytes.taken_image, MachineBytes.{machine_magic, machine_version, board_layout, cells_layout, guest_layout, machine_bytes, machine_of, name_layout, on_board, path_layout, paths_layout}, MachineByteLaws.{HasKnownBytes, HasMachineBytes, IsWritableName}, LoadedMachines.{and_then, guest_at, held_bytes, if_free, known_bytes, load_all_fault, or_refused, preceded, read_guest, read_guests, read_held, read_image, read_machine, read_slot, read_slots, under_guests, with_path, with_paths}, LoadedMachineLaws.{IsOfOtherMachine, MachinesDecided, NoMachineIsRefused}}, proofs.{Layouts.{both_is, fit_count}, LoadedBytes.{fitting_front, front_decided, own_beginning, own_bytes, prefix_decided}, MachineBytes.{board_is, held_in, machine_bytes_are_bytes, machine_read_are_bytes, name_is, parts_bytes, slot_path_is}, Machines.{handoff_stays, opens_alike}, Numbers.{number_is, one_each}, ReadMachines.slots_declared, Savable.as_long, SavableMachines.{board_fits, declared_written, name_fits}, TakenBytes.taken_again, TakenMachines.accepted_is_machine, FittingMachines.fitting_is_accepted}}
 
 -- just this is read, or it is another's
 abbrev Judged : {A : Type 0} → A → Result A ℕ → Type 0

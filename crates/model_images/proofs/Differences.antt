@@ -1,21 +1,9 @@
 -- A difference is told where bytes are refused as an image of other functions, and nowhere else.
-use Rattle.std.proofs.Common.{◌≡◌, ◌+◌, ℕ, Bool, true, false, List, [], ◌∷◌, ◌++◌, length, Some, None, Option, Ok, Err, refl, sym, ap, ap₂, ◌∙◌}
-use Rattle.std.specs.Prelude.{◌==◌, if◌then◌else◌, flat_map, is_some, option_map}
-use Rattle.std.proofs.lemmas.Grind.{flat_map-append}
+use Rattle.std.{proofs.{Common.{◌≡◌, ◌+◌, ℕ, Bool, true, false, List, [], ◌∷◌, ◌++◌, length, Some, None, Option, Ok, Err, refl, sym, ap, ap₂, ◌∙◌}, lemmas.Grind.flat_map-append}, specs.Prelude.{◌==◌, if◌then◌else◌, flat_map, is_some, option_map}}
 use Rattle.lists.proofs.Members.{flat_map_flat, flat_map_same}
-use Rattle.model_registers.specs.Cell.{Cell}
-use Rattle.model_registers.specs.Registers.{File}
-use Rattle.model_registers.specs.ConfigAddress.{latched}
-use Rattle.model_registers.specs.Declarations.{Region, ConfigBlock, Endpoint}
-use Rattle.model_registers.specs.EndpointTable.{endpoint_reset}
-use Rattle.model_registers.specs.Decoding.{Function}
+use Rattle.model_registers.specs.{Cell.Cell, Registers.File, ConfigAddress.latched, Declarations.{Region, ConfigBlock, Endpoint}, EndpointTable.endpoint_reset, Decoding.Function}
 use Rattle.model_guests.specs.Slots.{Slots}
-use Rattle.model_images.specs.Images.{can_hold}
-use Rattle.model_images.specs.Layouts.{Parsed, le_bytes, parse_number}
-use Rattle.model_images.specs.ImageBytes.{magic, version, cell_layout, region_layout, block_layout, kind_number, declaration_bytes}
-use Rattle.model_images.specs.LoadedBytes.{Left, then_read, after_version, after_beginning, after_bytes, after_values, after_slot, after_slots, after_number, after_latch, fault_of}
-use Rattle.model_images.specs.Differences.{Holder, of_region, of_block, Field, field_bytes, cell_fields, region_fields, block_fields, head_fields, endpoint_fields, filled, slot_fields, Difference, difference, after_comparison, after_fields, first_difference, in_slot, unless_left, slots_difference, is_of_others, DifferencesAreTold}
-use Rattle.model_images.proofs.LoadedBytes.{after_both}
+use Rattle.model_images.{specs.{Images.can_hold, Layouts.{Parsed, le_bytes, parse_number}, ImageBytes.{magic, version, cell_layout, region_layout, block_layout, kind_number, declaration_bytes}, LoadedBytes.{Left, then_read, after_version, after_beginning, after_bytes, after_values, after_slot, after_slots, after_number, after_latch, fault_of}, Differences.{Holder, of_region, of_block, Field, field_bytes, cell_fields, region_fields, block_fields, head_fields, endpoint_fields, filled, slot_fields, Difference, difference, after_comparison, after_fields, first_difference, in_slot, unless_left, slots_difference, is_of_others, DifferencesAreTold}}, proofs.LoadedBytes.after_both}
 
 -- refused as those of other functions
 abbrev is_other : Left → Bool

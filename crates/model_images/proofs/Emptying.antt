@@ -1,29 +1,10 @@
 -- A machine whose slots are emptied: the same handoff is shown, and nobody has a function.
-use Rattle.std.proofs.Common.{◌≡◌, ℕ, zero, suc, ◌<◌, ◌≤◌, cond, List, [], ◌∷◌, ◌++◌, length, Some, None, Option, refl, sym, ap, ◌∙◌, subst, arith}
-use Rattle.std.specs.Prelude.{flat_map, is_some}
-use Rattle.std.proofs.lemmas.Bool.Decides.{nat_tests}
+use Rattle.std.{proofs.{Common.{◌≡◌, ℕ, zero, suc, ◌<◌, ◌≤◌, cond, List, [], ◌∷◌, ◌++◌, length, Some, None, Option, refl, sym, ap, ◌∙◌, subst, arith}, lemmas.Bool.Decides.nat_tests}, specs.Prelude.{flat_map, is_some}}
 use Rattle.lists.specs.Elements.{Each}
-use Rattle.model_board.specs.Paths.{Path}
-use Rattle.model_board.specs.Board.{Board}
-use Rattle.model_board.specs.AtReset.{board_at}
-use Rattle.model_guests.specs.Text.{Text}
-use Rattle.model_guests.specs.Guests.{GuestsNow, function_in, path_in, with_guest, with_slot_emptied}
-use Rattle.model_guests.specs.Seated.{IsSeat, IsSeatedGuest}
-use Rattle.model_guests.specs.WorldNow.{WorldNow, names_of, names_now}
-use Rattle.model_guests.proofs.GuestsByName.{found, path_at}
-use Rattle.model_guests.proofs.Names.{equal_texts}
-use Rattle.model_guests.proofs.SeatedMoves.{Placed, placed, seat_in}
-use Rattle.model_guests.proofs.Seats.{some_path}
-use Rattle.model_handoff.specs.Actions.{takes}
-use Rattle.model_handoff.specs.Giving.{take_fault, taken, after_take}
-use Rattle.model_handoff.specs.Kept.{IsLawfulOver}
-use Rattle.model_handoff.proofs.Counting.{names_after}
-use Rattle.model_handoff.proofs.GivenSeats.{left_was}
-use Rattle.model_handoff.proofs.Giving.{can_take, lawful_after_taking, shown_after_taking, taken_is}
-use Rattle.model_images.specs.Requests.{Request, after_request, after_requests}
-use Rattle.model_images.specs.FitLaws.{AreFittingRequests}
-use Rattle.model_images.specs.MachineImages.{shown_handoff}
-use Rattle.model_images.specs.MachineLaws.{takings}
+use Rattle.model_board.specs.{Paths.Path, Board.Board, AtReset.board_at}
+use Rattle.model_guests.{specs.{Text.Text, Guests.{GuestsNow, function_in, path_in, with_guest, with_slot_emptied}, Seated.{IsSeat, IsSeatedGuest}, WorldNow.{WorldNow, names_of, names_now}}, proofs.{GuestsByName.{found, path_at}, Names.equal_texts, SeatedMoves.{Placed, placed, seat_in}, Seats.some_path}}
+use Rattle.model_handoff.{specs.{Actions.takes, Giving.{take_fault, taken, after_take}, Kept.IsLawfulOver}, proofs.{Counting.names_after, GivenSeats.left_was, Giving.{can_take, lawful_after_taking, shown_after_taking, taken_is}}}
+use Rattle.model_images.specs.{Requests.{Request, after_request, after_requests}, FitLaws.AreFittingRequests, MachineImages.shown_handoff, MachineLaws.takings}
 
 -- ---- requests, one list after another
 

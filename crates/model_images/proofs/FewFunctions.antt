@@ -1,23 +1,9 @@
 -- A board whose functions are all found has no more of them than there are addresses.
-use Rattle.std.proofs.Common.{◌≡◌, inl, inr, ◌+◌, ◌*◌, ◌≤◌, ◌<◌, ℕ, true, List, [], ◌∷◌, ◌++◌, length, refl, sym, ap, ◌∙◌, subst, length-append, arith}
-use Rattle.std.specs.Prelude.{flat_map, map}
-use Rattle.std.specs.List.{range_with_len}
-use Rattle.std.specs.Option.{option_to_list}
-use Rattle.std.proofs.lemmas.List.{length-map}
-use Rattle.std.proofs.lemmas.List.FromFn.{length-range_with_len}
-use Rattle.lists.specs.Elements.{Each, EachPair, IsIn}
-use Rattle.lists.proofs.EachLemmas.{each_both, each_map, pairs_from_map, pairs_map}
-use Rattle.lists.proofs.Members.{front_or_back, in_back, in_front}
-use Rattle.model_registers.specs.AccessLaws.{HoldsBytes}
-use Rattle.model_registers.specs.Registers.{config}
-use Rattle.model_registers.proofs.ByteAccesses.{number_fits}
-use Rattle.model_board.specs.Board.{Row}
-use Rattle.model_board.specs.Cycles.{BusAddress, reached, secondary_register}
-use Rattle.model_board.specs.Paths.{path_before}
-use Rattle.model_board.specs.State.{BoardFunction, row_at}
-use Rattle.model_board.proofs.PathEnds.{not_before_itself}
-use Rattle.model_findings.specs.Found.{address_at, scan_order, scanned}
-use Rattle.model_findings.proofs.Scan.{scan_finds_all}
+use Rattle.std.{proofs.{Common.{◌≡◌, inl, inr, ◌+◌, ◌*◌, ◌≤◌, ◌<◌, ℕ, true, List, [], ◌∷◌, ◌++◌, length, refl, sym, ap, ◌∙◌, subst, length-append, arith}, lemmas.List.{length-map, FromFn.length-range_with_len}}, specs.{Prelude.{flat_map, map}, List.range_with_len, Option.option_to_list}}
+use Rattle.lists.{specs.Elements.{Each, EachPair, IsIn}, proofs.{EachLemmas.{each_both, each_map, pairs_from_map, pairs_map}, Members.{front_or_back, in_back, in_front}}}
+use Rattle.model_registers.{specs.{AccessLaws.HoldsBytes, Registers.config}, proofs.ByteAccesses.number_fits}
+use Rattle.model_board.{specs.{Board.Row, Cycles.{BusAddress, reached, secondary_register}, Paths.path_before, State.{BoardFunction, row_at}}, proofs.PathEnds.not_before_itself}
+use Rattle.model_findings.{specs.Found.{address_at, scan_order, scanned}, proofs.Scan.scan_finds_all}
 use Rattle.model_images.specs.MachineByteLaws.{FewFunctions}
 
 -- ---- elements of which no two are equal, and all are among others

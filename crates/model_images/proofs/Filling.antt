@@ -1,46 +1,11 @@
 -- A machine whose slots are filled again, each with the function that an image has there.
-use Rattle.std.proofs.Common.{◌≡◌, ℕ, zero, suc, ◌+◌, ◌<◌, inr, Bool, true, false, not, ◌||◌, cond, List, [], ◌∷◌, Some, None, Option, refl, sym, ap, ap₂, ◌∙◌, subst, arith}
-use Rattle.std.specs.Prelude.{flat_map, slice_set, is_some, option_map, nat_le, IsTrue, IsSome}
-use Rattle.std.specs.List.{list_any}
-use Rattle.std.proofs.lemmas.Bool.Decides.{nat_tests}
-use Rattle.lists.specs.Elements.{Each}
-use Rattle.lists.proofs.EachLemmas.{each_map}
-use Rattle.model_registers.specs.Declarations.{Region, Endpoint}
-use Rattle.model_registers.specs.Decoding.{Function}
-use Rattle.model_registers.specs.EndpointTable.{endpoint_reset}
-use Rattle.model_board.specs.Paths.{Path}
-use Rattle.model_board.specs.Board.{Board}
-use Rattle.model_board.specs.AtReset.{board_at}
-use Rattle.model_board.specs.State.{State}
-use Rattle.model_guests.specs.Text.{Text}
-use Rattle.model_guests.specs.World.{declared}
-use Rattle.model_guests.specs.Guests.{GuestNow, GuestsNow, function_in, guest_named, path_in, with_guest, with_slot_filled}
-use Rattle.model_guests.specs.Seated.{AreSeated}
-use Rattle.model_guests.specs.WorldNow.{WorldNow, names_of, names_now}
-use Rattle.model_guests.proofs.FoundFiles.{file_found}
-use Rattle.model_guests.proofs.GuestsByName.{function_named, named_with, one, path_at}
-use Rattle.model_guests.proofs.Names.{equal_texts}
-use Rattle.model_guests.proofs.OneGuest.{name_found}
-use Rattle.model_guests.proofs.SeatedMoves.{Placed, placed, seat_in}
-use Rattle.model_guests.proofs.Seats.{no_path}
-use Rattle.model_handoff.specs.Actions.{gives}
-use Rattle.model_handoff.specs.Handoffs.{IsHandoff, file_at_reset}
-use Rattle.model_handoff.specs.Giving.{Gift, with_reset_at, has_closed_region, give_fault, given, after_give}
-use Rattle.model_handoff.specs.Kept.{IsLawfulOver}
-use Rattle.model_handoff.specs.Regions.{AreServed, opens_region}
-use Rattle.model_handoff.specs.ViewLaws.{sits, seated_files, with_seated_reset}
-use Rattle.model_handoff.proofs.Actions.{there_after}
-use Rattle.model_handoff.proofs.Counting.{names_after}
-use Rattle.model_handoff.proofs.GivenSeats.{declared_there, some_function, none_sits}
-use Rattle.model_handoff.proofs.Giving.{can_give, files_over, given_function, given_is, lawful_after_gift, shown_after_gift, shown_reset}
-use Rattle.model_handoff.proofs.OneReset.{alike}
-use Rattle.model_handoff.proofs.Views.{sits_is}
-use Rattle.model_images.specs.Requests.{Request, after_requests}
-use Rattle.model_images.specs.FitLaws.{AreFittingRequests}
-use Rattle.model_images.specs.MachineImages.{SavedGuest, IsShown}
-use Rattle.model_images.specs.MachineLaws.{gifts}
-use Rattle.model_images.proofs.Machines.{OpensAlike, alike_beneath}
-use Rattle.model_images.proofs.Emptying.{after_both, both_fit, path_low}
+use Rattle.std.{proofs.{Common.{◌≡◌, ℕ, zero, suc, ◌+◌, ◌<◌, inr, Bool, true, false, not, ◌||◌, cond, List, [], ◌∷◌, Some, None, Option, refl, sym, ap, ap₂, ◌∙◌, subst, arith}, lemmas.Bool.Decides.nat_tests}, specs.{Prelude.{flat_map, slice_set, is_some, option_map, nat_le, IsTrue, IsSome}, List.list_any}}
+use Rattle.lists.{specs.Elements.Each, proofs.EachLemmas.each_map}
+use Rattle.model_registers.specs.{Declarations.{Region, Endpoint}, Decoding.Function, EndpointTable.endpoint_reset}
+use Rattle.model_board.specs.{Paths.Path, Board.Board, AtReset.board_at, State.State}
+use Rattle.model_guests.{specs.{Text.Text, World.declared, Guests.{GuestNow, GuestsNow, function_in, guest_named, path_in, with_guest, with_slot_filled}, Seated.AreSeated, WorldNow.{WorldNow, names_of, names_now}}, proofs.{FoundFiles.file_found, GuestsByName.{function_named, named_with, one, path_at}, Names.equal_texts, OneGuest.name_found, SeatedMoves.{Placed, placed, seat_in}, Seats.no_path}}
+use Rattle.model_handoff.{specs.{Actions.gives, Handoffs.{IsHandoff, file_at_reset}, Giving.{Gift, with_reset_at, has_closed_region, give_fault, given, after_give}, Kept.IsLawfulOver, Regions.{AreServed, opens_region}, ViewLaws.{sits, seated_files, with_seated_reset}}, proofs.{Actions.there_after, Counting.names_after, GivenSeats.{declared_there, some_function, none_sits}, Giving.{can_give, files_over, given_function, given_is, lawful_after_gift, shown_after_gift, shown_reset}, OneReset.alike, Views.sits_is}}
+use Rattle.model_images.{specs.{Requests.{Request, after_requests}, FitLaws.AreFittingRequests, MachineImages.{SavedGuest, IsShown}, MachineLaws.gifts}, proofs.{Machines.{OpensAlike, alike_beneath}, Emptying.{after_both, both_fit, path_low}}}
 
 -- ---- a path that is put into an empty slot
 

@@ -1,31 +1,10 @@
 -- Whatever happens, functions hold what functions of their declarations can hold.
-use Rattle.std.proofs.Common.{◌≡◌, ℕ, ◌/◌, ◌%◌, Bool, true, false, ◌||◌, cond, eqb, List, [], ◌∷◌, Some, None, Option, refl, ap, arith}
-use Rattle.std.specs.Prelude.{map, option_map}
-use Rattle.std.proofs.lemmas.Bool.{eqb-true, and_from}
-use Rattle.lists.specs.Elements.{Each}
-use Rattle.lists.proofs.EachLemmas.{each_map}
-use Rattle.lists.proofs.Tests.{left_true, right_true, some_there}
-use Rattle.model_registers.specs.Cell.{Cell, written, raised}
-use Rattle.model_registers.specs.Registers.{Place, place_eq, after, PlacedCell, File, changed, write, raise}
-use Rattle.model_registers.specs.Declarations.{Endpoint}
-use Rattle.model_registers.specs.EndpointTable.{endpoint_reset}
-use Rattle.model_registers.specs.DeviceBytes.{is_device_byte, with_value, set_value}
-use Rattle.model_registers.specs.CopiedFiles.{shape_of}
-use Rattle.model_registers.specs.Decoding.{Function}
-use Rattle.model_registers.proofs.RegisterFiles.{place_same, self}
-use Rattle.model_guests.specs.Slots.{Slots, reset_function}
-use Rattle.model_guests.specs.Lone.{LoneGuest}
-use Rattle.model_guests.specs.Guests.{GuestNow, GuestsNow, guests_at_first, guest_named, lone_of}
-use Rattle.model_guests.proofs.Seats.{changed_shape}
-use Rattle.model_guests.proofs.GuestsByName.{found}
-use Rattle.model_guests.proofs.OneGuest.{lone_found}
+use Rattle.std.{proofs.{Common.{◌≡◌, ℕ, ◌/◌, ◌%◌, Bool, true, false, ◌||◌, cond, eqb, List, [], ◌∷◌, Some, None, Option, refl, ap, arith}, lemmas.Bool.{eqb-true, and_from}}, specs.Prelude.{map, option_map}}
+use Rattle.lists.{specs.Elements.Each, proofs.{EachLemmas.each_map, Tests.{left_true, right_true, some_there}}}
+use Rattle.model_registers.{specs.{Cell.{Cell, written, raised}, Registers.{Place, place_eq, after, PlacedCell, File, changed, write, raise}, Declarations.Endpoint, EndpointTable.endpoint_reset, DeviceBytes.{is_device_byte, with_value, set_value}, CopiedFiles.shape_of, Decoding.Function}, proofs.RegisterFiles.{place_same, self}}
+use Rattle.model_guests.{specs.{Slots.{Slots, reset_function}, Lone.LoneGuest, Guests.{GuestNow, GuestsNow, guests_at_first, guest_named, lone_of}}, proofs.{Seats.changed_shape, GuestsByName.found, OneGuest.lone_found}}
 use Rattle.model_handoff.specs.Actions.{after_action}
-use Rattle.model_images.specs.Images.{SavedFunction, Image, values_of, saved, with_values, restored, lone_of_image, after_load, after_restart, fixed_bits, can_hold, fit_cells, Fits, FitSlots}
-use Rattle.model_images.specs.Requests.{acts, loads, restarts, after_request}
-use Rattle.model_images.specs.FitLaws.{IsFittingFunction, HoldsFitting, IsFitting, AreFitting, FittingAtFirst, FittingAfter, FittingAlong, SavedFits}
-use Rattle.model_images.proofs.Loading.{shape_with}
-use Rattle.model_images.proofs.FixedBits.{written_fixed, raised_fixed}
-use Rattle.model_images.proofs.KeptFunctions.{Keeps, AreKept, Has, action_holds, load_holds, restart_holds, holds_at_first}
+use Rattle.model_images.{specs.{Images.{SavedFunction, Image, values_of, saved, with_values, restored, lone_of_image, after_load, after_restart, fixed_bits, can_hold, fit_cells, Fits, FitSlots}, Requests.{acts, loads, restarts, after_request}, FitLaws.{IsFittingFunction, HoldsFitting, IsFitting, AreFitting, FittingAtFirst, FittingAfter, FittingAlong, SavedFits}}, proofs.{Loading.shape_with, FixedBits.{written_fixed, raised_fixed}, KeptFunctions.{Keeps, AreKept, Has, action_holds, load_holds, restart_holds, holds_at_first}}}
 
 -- ---- one cell
 

@@ -1,46 +1,10 @@
 -- The bytes of an image that fits a machine are read as it.
-use Rattle.std.proofs.Common.{◌≡◌, ℕ, zero, suc, Bool, true, false, not, ◌&&◌, ◌||◌, List, [], ◌∷◌, ◌++◌, length, Some, None, Option, Ok, refl, sym, ap, ap₂, ◌∙◌, subst, append_assoc, append-nil, arith}
-use Rattle.std.specs.Prelude.{map, flat_map, option_map}
-use Rattle.std.specs.Result.{result_err}
-use Rattle.std.specs.Str.{bytes_eq}
-use Rattle.std.proofs.lemmas.Bool.{and_from}
-use Rattle.lists.specs.Elements.{Each}
-use Rattle.lists.proofs.Tests.{left_true, right_true}
-use Rattle.model_board.specs.Paths.{Path, path_eq}
-use Rattle.model_board.specs.Board.{Board}
-use Rattle.model_board.specs.AtReset.{board_at}
-use Rattle.model_board.specs.State.{State}
-use Rattle.model_board.proofs.PathOrder.{path_same}
-use Rattle.model_guests.specs.Text.{Text}
-use Rattle.model_guests.specs.World.{declared}
-use Rattle.model_guests.specs.Guests.{GuestNow, GuestsNow, function_in, path_in}
-use Rattle.model_guests.specs.Seated.{AreSeated, AreSeats, IsSeatedGuest}
-use Rattle.model_guests.specs.WorldNow.{WorldNow, names_now}
-use Rattle.model_guests.proofs.GuestsByName.{path_at, path_of}
-use Rattle.model_guests.proofs.Names.{same_text}
-use Rattle.model_guests.proofs.SeatedMoves.{seat_in}
-use Rattle.model_handoff.specs.Regions.{AreServed}
-use Rattle.model_handoff.specs.ViewLaws.{seated_files}
-use Rattle.model_handoff.proofs.GivenSeats.{declared_there, some_function}
-use Rattle.model_images.specs.Images.{SavedFunction, restored, Fits, FitSlots}
-use Rattle.model_images.specs.MachineImages.{SavedGuest, MachineImage, shown_handoff, restored_guest, restored_guests, handoff_under, HoldsFittingValues, HoldsWhatFits, FitsMachine}
-use Rattle.model_images.proofs.Filling.{none_closed}
-use Rattle.model_images.proofs.Machines.{opens_alike}
-use Rattle.model_images.proofs.MachineLoads.{ApartSaved, of_others, IsFound, each_found, saved_apart}
-use Rattle.model_images.specs.Layouts.{Parsed, parsed, le_bytes, fit_times, optional}
-use Rattle.model_images.specs.ImageBytes.{image_layout, image_bytes}
-use Rattle.model_images.specs.ByteLaws.{HasBytes}
-use Rattle.model_images.specs.LoadedBytes.{after_bytes, at_end}
-use Rattle.model_images.specs.TakenBytes.{taken_image}
-use Rattle.model_images.specs.MachineBytes.{machine_magic, machine_version, path_layout, board_layout, name_layout, paths_layout, guest_layout, machine_bytes}
-use Rattle.model_images.specs.MachineByteLaws.{HasMachineBytes}
-use Rattle.model_images.specs.LoadedMachines.{and_then, preceded, is_open_there, can_have, read_slot, with_path, with_paths, read_slots, guest_at, read_image, read_guest, read_guests, machine_header, known_bytes, held_bytes, read_held, read_machine, after_read}
-use Rattle.model_images.specs.LoadedMachineLaws.{FittingIsAccepted, FittingIsLoaded}
-use Rattle.model_images.proofs.MachineBytes.{slot_path_is, told, told_bytes}
-use Rattle.model_images.proofs.LoadedBytes.{own_beginning, own_bytes, fitting_front}
-use Rattle.model_images.proofs.TakenBytes.{taken_again}
-use Rattle.model_images.proofs.ReadMachines.{AllFree}
-use Rattle.model_images.proofs.SeatedPaths.{is_in}
+use Rattle.std.{proofs.{Common.{◌≡◌, ℕ, zero, suc, Bool, true, false, not, ◌&&◌, ◌||◌, List, [], ◌∷◌, ◌++◌, length, Some, None, Option, Ok, refl, sym, ap, ap₂, ◌∙◌, subst, append_assoc, append-nil, arith}, lemmas.Bool.and_from}, specs.{Prelude.{map, flat_map, option_map}, Result.result_err, Str.bytes_eq}}
+use Rattle.lists.{specs.Elements.Each, proofs.Tests.{left_true, right_true}}
+use Rattle.model_board.{specs.{Paths.{Path, path_eq}, Board.Board, AtReset.board_at, State.State}, proofs.PathOrder.path_same}
+use Rattle.model_guests.{specs.{Text.Text, World.declared, Guests.{GuestNow, GuestsNow, function_in, path_in}, Seated.{AreSeated, AreSeats, IsSeatedGuest}, WorldNow.{WorldNow, names_now}}, proofs.{GuestsByName.{path_at, path_of}, Names.same_text, SeatedMoves.seat_in}}
+use Rattle.model_handoff.{specs.{Regions.AreServed, ViewLaws.seated_files}, proofs.GivenSeats.{declared_there, some_function}}
+use Rattle.model_images.{specs.{Images.{SavedFunction, restored, Fits, FitSlots}, MachineImages.{SavedGuest, MachineImage, shown_handoff, restored_guest, restored_guests, handoff_under, HoldsFittingValues, HoldsWhatFits, FitsMachine}, Layouts.{Parsed, parsed, le_bytes, fit_times, optional}, ImageBytes.{image_layout, image_bytes}, ByteLaws.HasBytes, LoadedBytes.{after_bytes, at_end}, TakenBytes.taken_image, MachineBytes.{machine_magic, machine_version, path_layout, board_layout, name_layout, paths_layout, guest_layout, machine_bytes}, MachineByteLaws.HasMachineBytes, LoadedMachines.{and_then, preceded, is_open_there, can_have, read_slot, with_path, with_paths, read_slots, guest_at, read_image, read_guest, read_guests, machine_header, known_bytes, held_bytes, read_held, read_machine, after_read}, LoadedMachineLaws.{FittingIsAccepted, FittingIsLoaded}}, proofs.{Filling.none_closed, Machines.opens_alike, MachineLoads.{ApartSaved, of_others, IsFound, each_found, saved_apart}, MachineBytes.{slot_path_is, told, told_bytes}, LoadedBytes.{own_beginning, own_bytes, fitting_front}, TakenBytes.taken_again, ReadMachines.AllFree, SeatedPaths.is_in}}
 
 abbrev Free : State → List Path → List SavedGuest → Type 0
 Free s taken [] = Unit {0}

@@ -1,9 +1,5 @@
 -- Bits that no access changes in a cell, after a write and after a raise.
-use Rattle.std.proofs.Common.{◌≡◌, inl, inr, ℕ, ◌+◌, ◌-◌, sym, ap, ◌∙◌, arith}
-use Rattle.std.specs.Prelude.{bit_and, bit_or}
-use Rattle.std.specs.Int.Bits.{and_self, and_zero_r}
-use Rattle.std.proofs.lemmas.Bool.{cases_lt}
-use Rattle.std.proofs.lemmas.Nat.{and_assoc, and_comm, and_or_apart, and-not}
+use Rattle.std.{proofs.{Common.{◌≡◌, inl, inr, ℕ, ◌+◌, ◌-◌, sym, ap, ◌∙◌, arith}, lemmas.{Bool.cases_lt, Nat.{and_assoc, and_comm, and_or_apart, and-not}}}, specs.{Prelude.{bit_and, bit_or}, Int.Bits.{and_self, and_zero_r}}}
 use Rattle.model_registers.specs.Cell.{Cell, except, written, raised}
 use Rattle.model_images.specs.Images.{fixed_bits}
 

@@ -1,21 +1,9 @@
 -- Bytes that begin with an image.
-use Rattle.std.proofs.Common.{◌≡◌, ℕ, suc, ◌+◌, List, [], ◌∷◌, ◌++◌, length, Some, None, Option, Ok, refl, sym, ap, ap₂, ◌∙◌, arith, length-append}
-use Rattle.std.specs.Prelude.{flat_map, option_map, map}
-use Rattle.std.proofs.Math.Seq.{drop-append_seam, take-append_seam}
-use Rattle.std.proofs.lemmas.List.{length-map}
+use Rattle.std.{proofs.{Common.{◌≡◌, ℕ, suc, ◌+◌, List, [], ◌∷◌, ◌++◌, length, Some, None, Option, Ok, refl, sym, ap, ap₂, ◌∙◌, arith, length-append}, Math.Seq.{drop-append_seam, take-append_seam}, lemmas.List.length-map}, specs.Prelude.{flat_map, option_map, map}}
 use Rattle.lists.specs.Elements.{Each}
-use Rattle.model_registers.specs.Registers.{PlacedCell}
-use Rattle.model_registers.specs.Decoding.{Function}
-use Rattle.model_guests.specs.Slots.{Slots}
-use Rattle.model_guests.specs.Lone.{LoneGuest}
-use Rattle.model_images.specs.Images.{SavedFunction, saved, values_of}
-use Rattle.model_images.specs.Layouts.{le_bytes, number}
-use Rattle.model_images.specs.ImageBytes.{declaration_bytes}
-use Rattle.model_images.specs.LoadedBytes.{then_read, after_image_front, after_slots, header, fault_of, load_fault}
-use Rattle.model_images.specs.TakenBytes.{slot_size, taken_image}
-use Rattle.model_images.specs.FrontBytes.{slots_size, image_size, FrontIsTaken, HasEachCell, SizeIsTold}
-use Rattle.model_images.proofs.LoadedBytes.{latch_taken, slot_bytes, slots_bytes}
-use Rattle.model_images.proofs.TakenBytes.{opened}
+use Rattle.model_registers.specs.{Registers.PlacedCell, Decoding.Function}
+use Rattle.model_guests.specs.{Slots.Slots, Lone.LoneGuest}
+use Rattle.model_images.{specs.{Images.{SavedFunction, saved, values_of}, Layouts.{le_bytes, number}, ImageBytes.declaration_bytes, LoadedBytes.{then_read, after_image_front, after_slots, header, fault_of, load_fault}, TakenBytes.{slot_size, taken_image}, FrontBytes.{slots_size, image_size, FrontIsTaken, HasEachCell, SizeIsTold}}, proofs.{LoadedBytes.{latch_taken, slot_bytes, slots_bytes}, TakenBytes.opened}}
 
 -- the bytes that the guest takes
 pub record IsRun (g : LoneGuest) (bytes rest : List ℕ) : Type 0 where

@@ -1,18 +1,8 @@
 -- The bytes of images.
-use Rattle.std.proofs.Common.{◌≡◌, ℕ, zero, suc, true, false, ◌&&◌, List, [], ◌∷◌, Some, None, Option, refl, sym, ap, ◌∙◌, arith}
-use Rattle.std.specs.Prelude.{map, option_map, length, IsTrue}
-use Rattle.std.proofs.lemmas.Bool.{and_from, eqb-true}
-use Rattle.std.proofs.lemmas.Option.{same_Some}
+use Rattle.std.{proofs.{Common.{◌≡◌, ℕ, zero, suc, true, false, ◌&&◌, List, [], ◌∷◌, Some, None, Option, refl, sym, ap, ◌∙◌, arith}, lemmas.{Bool.{and_from, eqb-true}, Option.same_Some}}, specs.Prelude.{map, option_map, length, IsTrue}}
 use Rattle.lists.proofs.Tests.{left_true, right_true}
-use Rattle.model_registers.specs.ConfigAddress.{latched}
-use Rattle.model_registers.specs.EndpointTable.{endpoint_reset}
-use Rattle.model_images.specs.Images.{image_of_lone, SavedFunction, Image, saved, restored, lone_of_image, fit_cells, FitSlots}
-use Rattle.model_images.proofs.Fitting.{values_with}
-use Rattle.model_images.specs.Layouts.{number, fit_times, optional}
-use Rattle.model_images.specs.ImageBytes.{endpoint_layout, function_layout, image_layout, image_of}
-use Rattle.model_images.specs.ByteLaws.{HasBytes, BytesAreBytes, BytesAreRead, ReadAreBytes, OneImage, ReadIsOfAGuest}
-use Rattle.model_images.proofs.Layouts.{whole_again, whole_spells}
-use Rattle.model_images.proofs.ImageLayouts.{image_is}
+use Rattle.model_registers.specs.{ConfigAddress.latched, EndpointTable.endpoint_reset}
+use Rattle.model_images.{specs.{Images.{image_of_lone, SavedFunction, Image, saved, restored, lone_of_image, fit_cells, FitSlots}, Layouts.{number, fit_times, optional}, ImageBytes.{endpoint_layout, function_layout, image_layout, image_of}, ByteLaws.{HasBytes, BytesAreBytes, BytesAreRead, ReadAreBytes, OneImage, ReadIsOfAGuest}}, proofs.{Fitting.values_with, Layouts.{whole_again, whole_spells}, ImageLayouts.image_is}}
 
 pub bytes_are_bytes : BytesAreBytes
 bytes_are_bytes i = image_is.are_bytes i

@@ -1,6 +1,5 @@
 -- The worked examples, by computation.
-use Rattle.model_images.specs.ImageExamples.{ImageExamples}
-use Rattle.model_images.specs.MachineExamples.{MachineExamples}
+use Rattle.model_images.specs.{ImageExamples.ImageExamples, MachineExamples.MachineExamples}
 
 pub image_examples : ImageExamples
 image_examples = assumption

@@ -1,17 +1,8 @@
 -- The layout of an image, put together from those of its parts.
-use Rattle.std.proofs.Common.{◌≡◌, ℕ, true, false, eqb, refl, arith}
-use Rattle.std.specs.Prelude.{length, nat_lt}
+use Rattle.std.{proofs.Common.{◌≡◌, ℕ, true, false, eqb, refl, arith}, specs.Prelude.{length, nat_lt}}
 use Rattle.lists.proofs.Tests.{right_true}
-use Rattle.model_registers.specs.ConfigAddress.{latched}
-use Rattle.model_registers.specs.Declarations.{Kind, Region, ConfigBlock, Endpoint}
-use Rattle.model_registers.specs.Cell.{Cell}
-use Rattle.model_registers.specs.EndpointTable.{endpoint_reset}
-use Rattle.model_images.specs.Images.{SavedFunction, Image, fit_cells}
-use Rattle.model_images.specs.Layouts.{number}
-use Rattle.model_images.specs.ImageBytes.{magic, version, CellParts, cell_layout, kind_number, kind_of, kind_layout, RegionParts, region_layout, block_layout, identity_layout, fixed_layout, endpoint_of_parts, parts_of_endpoint, endpoint_layout, values_layout, function_layout, latch_layout, ImageParts, image_layout}
-use Rattle.model_images.specs.ByteLaws.{IsLayout}
-use Rattle.model_images.proofs.Numbers.{number_is}
-use Rattle.model_images.proofs.Layouts.{checked_is, through_is, followed_is, both_is, exactly_is, repeated_is, counted_is, optional_is}
+use Rattle.model_registers.specs.{ConfigAddress.latched, Declarations.{Kind, Region, ConfigBlock, Endpoint}, Cell.Cell, EndpointTable.endpoint_reset}
+use Rattle.model_images.{specs.{Images.{SavedFunction, Image, fit_cells}, Layouts.number, ImageBytes.{magic, version, CellParts, cell_layout, kind_number, kind_of, kind_layout, RegionParts, region_layout, block_layout, identity_layout, fixed_layout, endpoint_of_parts, parts_of_endpoint, endpoint_layout, values_layout, function_layout, latch_layout, ImageParts, image_layout}, ByteLaws.IsLayout}, proofs.{Numbers.number_is, Layouts.{checked_is, through_is, followed_is, both_is, exactly_is, repeated_is, counted_is, optional_is}}}
 
 -- ---- declarations
 

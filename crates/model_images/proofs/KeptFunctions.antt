@@ -1,31 +1,11 @@
 -- Whatever happens, what holds of each function at reset, and is kept by each change of a function, holds of all of them.
-use Rattle.std.proofs.Common.{◌≡◌, ℕ, zero, suc, Bool, true, cond, List, [], ◌∷◌, Some, None, Option, refl, sym, ap, ◌∙◌, subst, arith}
-use Rattle.std.specs.Prelude.{map, option_map, slice_set, bit_and, is_some}
-use Rattle.std.specs.Option.{option_map_or}
-use Rattle.std.specs.Int.Bits.{and_self}
-use Rattle.std.proofs.lemmas.Nat.{and_assoc}
+use Rattle.std.{proofs.{Common.{◌≡◌, ℕ, zero, suc, Bool, true, cond, List, [], ◌∷◌, Some, None, Option, refl, sym, ap, ◌∙◌, subst, arith}, lemmas.Nat.and_assoc}, specs.{Prelude.{map, option_map, slice_set, bit_and, is_some}, Option.option_map_or, Int.Bits.and_self}}
 use Rattle.lists.specs.Elements.{Each}
-use Rattle.model_registers.specs.Registers.{Place, File, write, raise, all_bytes}
-use Rattle.model_registers.specs.Declarations.{Endpoint}
-use Rattle.model_registers.specs.DeviceBytes.{is_device_byte, set_value}
-use Rattle.model_registers.specs.Decoding.{Function}
-use Rattle.model_registers.specs.ConfigAddress.{latched}
+use Rattle.model_registers.specs.{Registers.{Place, File, write, raise, all_bytes}, Declarations.Endpoint, DeviceBytes.{is_device_byte, set_value}, Decoding.Function, ConfigAddress.latched}
 use Rattle.model_board.specs.Paths.{Path}
-use Rattle.model_guests.specs.Accesses.{Event, access, raises, Op, writes, Raise}
-use Rattle.model_guests.specs.Slots.{Slots, slot_at, with_file, reset_function, Landing, effect, raise_landing, event_fault}
-use Rattle.model_guests.specs.Text.{Text}
-use Rattle.model_guests.specs.Lone.{LoneGuest, Destination, destination, after_access_at, after_event, changed_by, filled, emptied}
-use Rattle.model_guests.specs.World.{Guest, World}
-use Rattle.model_guests.specs.Guests.{GuestNow, GuestsNow, guest_at_first, guests_at_first, guest_after, lone_of, path_in, function_in, Move, move_fault, handed_over}
-use Rattle.model_guests.specs.Lines.{nothing, guest_event, host_read, host_move, bad}
-use Rattle.model_guests.specs.DeviceEvents.{DeviceEvent, resets, device_reads, device_writes, byte_landing, DeviceByte, device_fault, after_device_event, device_changed, device_after}
-use Rattle.model_guests.specs.Calls.{asks, at_device, Call, after_call}
-use Rattle.model_guests.specs.WorldNow.{WorldNow}
-use Rattle.model_guests.proofs.Seats.{guests_stay}
-use Rattle.model_handoff.specs.Actions.{Action, after_action}
-use Rattle.model_handoff.specs.Giving.{Gift, given, taken}
-use Rattle.model_images.specs.Images.{Image, image_of_lone, lone_of_image, loaded, function_at_reset, at_reset, after_load, after_restart}
-use Rattle.model_images.proofs.Loading.{lone_reset_back}
+use Rattle.model_guests.{specs.{Accesses.{Event, access, raises, Op, writes, Raise}, Slots.{Slots, slot_at, with_file, reset_function, Landing, effect, raise_landing, event_fault}, Text.Text, Lone.{LoneGuest, Destination, destination, after_access_at, after_event, changed_by, filled, emptied}, World.{Guest, World}, Guests.{GuestNow, GuestsNow, guest_at_first, guests_at_first, guest_after, lone_of, path_in, function_in, Move, move_fault, handed_over}, Lines.{nothing, guest_event, host_read, host_move, bad}, DeviceEvents.{DeviceEvent, resets, device_reads, device_writes, byte_landing, DeviceByte, device_fault, after_device_event, device_changed, device_after}, Calls.{asks, at_device, Call, after_call}, WorldNow.WorldNow}, proofs.Seats.guests_stay}
+use Rattle.model_handoff.specs.{Actions.{Action, after_action}, Giving.{Gift, given, taken}}
+use Rattle.model_images.{specs.Images.{Image, image_of_lone, lone_of_image, loaded, function_at_reset, at_reset, after_load, after_restart}, proofs.Loading.lone_reset_back}
 
 abbrev pub Keeps : (Option Function → Type 0) → (File → File) → Type 0
 Keeps H change = (f : Function) → H (Some f) → H (Some (record f { file = change f.file }))

@@ -1,14 +1,7 @@
 -- Each layout reads what it writes, and nothing else.
-use Rattle.std.proofs.Common.{◌≡◌, ◌<◌, ℕ, zero, suc, Bool, true, List, [], ◌∷◌, ◌++◌, length, Some, Option, refl, sym, ap, ◌∙◌, subst, append_assoc, append-nil, arith}
-use Rattle.std.specs.Prelude.{flat_map, nat_le, option_map, option_and_then, IsTrue}
-use Rattle.std.proofs.lemmas.Bool.{and_from, eqb-true}
-use Rattle.std.proofs.lemmas.Option.{same_Some}
-use Rattle.lists.proofs.EachLemmas.{each_append}
-use Rattle.lists.proofs.Tests.{left_true, right_true}
-use Rattle.model_images.specs.Layouts.{Layout, Parsed, parsed, number, checked, through, paired, parse_next, followed, both, exactly, fit_times, before, parse_times, repeated, counted, fit_each, bytes_each, parse_each, for_each, first_of, at_most_one, optional, fits_either, bytes_either, parse_either, OneOf, either, if_no_rest, whole}
-use Rattle.model_images.specs.ByteLaws.{AreBytes, Spells, IsLayout}
-use Rattle.model_images.proofs.Options.{from_next, from_map}
-use Rattle.model_images.proofs.Numbers.{number_is}
+use Rattle.std.{proofs.{Common.{◌≡◌, ◌<◌, ℕ, zero, suc, Bool, true, List, [], ◌∷◌, ◌++◌, length, Some, Option, refl, sym, ap, ◌∙◌, subst, append_assoc, append-nil, arith}, lemmas.{Bool.{and_from, eqb-true}, Option.same_Some}}, specs.Prelude.{flat_map, nat_le, option_map, option_and_then, IsTrue}}
+use Rattle.lists.proofs.{EachLemmas.each_append, Tests.{left_true, right_true}}
+use Rattle.model_images.{specs.{Layouts.{Layout, Parsed, parsed, number, checked, through, paired, parse_next, followed, both, exactly, fit_times, before, parse_times, repeated, counted, fit_each, bytes_each, parse_each, for_each, first_of, at_most_one, optional, fits_either, bytes_either, parse_either, OneOf, either, if_no_rest, whole}, ByteLaws.{AreBytes, Spells, IsLayout}}, proofs.{Options.{from_next, from_map}, Numbers.number_is}}
 
 -- ---- values that pass, and values seen as others
 

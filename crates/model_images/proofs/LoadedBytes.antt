@@ -1,29 +1,9 @@
 -- Bytes that are loaded into a guest.
-use Rattle.std.proofs.Common.{◌≡◌, ◌⊎◌, inl, inr, ℕ, zero, suc, ◌^◌, true, false, List, [], ◌∷◌, ◌++◌, length, Some, None, Option, Ok, Err, refl, sym, ap, ◌∙◌, append_assoc, append-nil, arith}
-use Rattle.std.specs.Prelude.{flat_map, IsTrue}
-use Rattle.std.proofs.lemmas.Bool.{eqb-true, ltb-true}
-use Rattle.std.proofs.lemmas.Option.{same_Some}
-use Rattle.lists.specs.Elements.{Each}
-use Rattle.lists.proofs.Tests.{left_true, right_true}
-use Rattle.model_registers.specs.Registers.{File}
-use Rattle.model_registers.specs.ConfigAddress.{latched}
-use Rattle.model_registers.specs.EndpointTable.{endpoint_reset}
-use Rattle.model_registers.specs.Decoding.{Function}
-use Rattle.model_guests.specs.Slots.{Slots}
-use Rattle.model_guests.specs.Lone.{LoneGuest}
-use Rattle.model_images.specs.Images.{SavedFunction, Image, image_of_lone, fit_cells, Fits, FitsSlot, FitSlots}
-use Rattle.model_images.specs.FitLaws.{HoldsFitting}
-use Rattle.model_images.proofs.Fitting.{saved_slots}
-use Rattle.model_images.specs.Layouts.{Layout, le_bytes, number, fit_times, optional}
-use Rattle.model_images.specs.ImageBytes.{endpoint_layout, function_layout, declaration_bytes, image_bytes}
-use Rattle.model_images.specs.ByteLaws.{IsLayout, HasBytes, HoldsSavable, IsSavableGuest}
-use Rattle.model_images.specs.LoadedBytes.{Left, then_read, after_version, after_beginning, after_bytes, after_values, after_slot, after_slots_front, at_end, after_slots, after_number, after_latch, after_image_front, after_image, fault_of, load_fault}
-use Rattle.model_images.specs.LoadedLaws.{AlikeAccepted, ImagesDecided, IsOfOthers}
-use Rattle.model_images.specs.TakenBytes.{HoldsDeclared, IsDeclaredGuest}
-use Rattle.model_images.proofs.Numbers.{number_again}
-use Rattle.model_images.proofs.ImageLayouts.{endpoint_is}
-use Rattle.model_images.proofs.ImageBytes.{read_are_bytes, parts_of, FunctionParts, function_parts, slot_fits}
-use Rattle.model_images.proofs.Savable.{endpoint_fits, guests_have_bytes}
+use Rattle.std.{proofs.{Common.{◌≡◌, ◌⊎◌, inl, inr, ℕ, zero, suc, ◌^◌, true, false, List, [], ◌∷◌, ◌++◌, length, Some, None, Option, Ok, Err, refl, sym, ap, ◌∙◌, append_assoc, append-nil, arith}, lemmas.{Bool.{eqb-true, ltb-true}, Option.same_Some}}, specs.Prelude.{flat_map, IsTrue}}
+use Rattle.lists.{specs.Elements.Each, proofs.Tests.{left_true, right_true}}
+use Rattle.model_registers.specs.{Registers.File, ConfigAddress.latched, EndpointTable.endpoint_reset, Decoding.Function}
+use Rattle.model_guests.specs.{Slots.Slots, Lone.LoneGuest}
+use Rattle.model_images.{specs.{Images.{SavedFunction, Image, image_of_lone, fit_cells, Fits, FitsSlot, FitSlots}, FitLaws.HoldsFitting, Layouts.{Layout, le_bytes, number, fit_times, optional}, ImageBytes.{endpoint_layout, function_layout, declaration_bytes, image_bytes}, ByteLaws.{IsLayout, HasBytes, HoldsSavable, IsSavableGuest}, LoadedBytes.{Left, then_read, after_version, after_beginning, after_bytes, after_values, after_slot, after_slots_front, at_end, after_slots, after_number, after_latch, after_image_front, after_image, fault_of, load_fault}, LoadedLaws.{AlikeAccepted, ImagesDecided, IsOfOthers}, TakenBytes.{HoldsDeclared, IsDeclaredGuest}}, proofs.{Fitting.saved_slots, Numbers.number_again, ImageLayouts.endpoint_is, ImageBytes.{read_are_bytes, parts_of, FunctionParts, function_parts, slot_fits}, Savable.{endpoint_fits, guests_have_bytes}}}
 
 -- ---- bytes that are compared
 

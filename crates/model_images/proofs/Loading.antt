@@ -1,32 +1,11 @@
 -- Guests that are saved and loaded.
-use Rattle.std.proofs.Common.{◌≡◌, ℕ, Bool, true, false, cond, List, [], ◌∷◌, Some, None, Option, refl, sym, ap, ap₂, ◌∙◌, subst, arith}
-use Rattle.std.specs.Prelude.{map, option_map, IsFalse}
-use Rattle.std.specs.Str.{bytes_eq}
-use Rattle.lists.specs.Elements.{Each}
-use Rattle.lists.proofs.Tests.{some_there}
-use Rattle.model_registers.specs.Registers.{File}
-use Rattle.model_registers.specs.Decoding.{Function}
-use Rattle.model_registers.specs.EndpointTable.{endpoint_reset}
-use Rattle.model_registers.specs.CopiedFiles.{shape_of}
-use Rattle.model_board.specs.Paths.{Path}
-use Rattle.model_board.specs.Board.{Board}
-use Rattle.model_board.specs.AtReset.{board_at}
-use Rattle.model_guests.specs.Slots.{Slots}
-use Rattle.model_guests.specs.Text.{Text}
-use Rattle.model_guests.specs.Lone.{LoneGuest}
-use Rattle.model_guests.specs.Guests.{GuestNow, GuestsNow, guest_named, lone_of, with_guest}
-use Rattle.model_guests.specs.Seated.{AreSeats, IsSeat, IsSeatedGuest}
-use Rattle.model_guests.proofs.Along.{names_with}
-use Rattle.model_guests.proofs.Names.{equal_texts, same_text}
-use Rattle.model_guests.proofs.GuestFiles.{other_name}
-use Rattle.model_guests.proofs.GuestsByName.{found}
-use Rattle.model_guests.proofs.Seats.{names_stay, paths_stay}
-use Rattle.model_guests.proofs.FoundFiles.{NamesApart, others_stay}
-use Rattle.model_guests.proofs.OneGuest.{lone_own, lone_other, lone_found, with_none}
-use Rattle.model_handoff.proofs.Served.{served_with}
-use Rattle.model_handoff.proofs.Views.{reset_with}
-use Rattle.model_images.specs.Images.{SavedFunction, values_of, saved, image_of_lone, with_values, restored, lone_of_image, loaded, function_at_reset, at_reset, FitSlots, FitsSlot}
-use Rattle.model_images.specs.LoadLaws.{KeepsWhatWasSaved, LoadedHolds, RestartedHolds, HoldsAsSaved, OthersAfterLoad, NamesAfterLoad, PathsAfterLoad, HandoffAfterLoad, SeatedAfterLoad, LawfulAfterLoad, ShownAfterLoad}
+use Rattle.std.{proofs.Common.{◌≡◌, ℕ, Bool, true, false, cond, List, [], ◌∷◌, Some, None, Option, refl, sym, ap, ap₂, ◌∙◌, subst, arith}, specs.{Prelude.{map, option_map, IsFalse}, Str.bytes_eq}}
+use Rattle.lists.{specs.Elements.Each, proofs.Tests.some_there}
+use Rattle.model_registers.specs.{Registers.File, Decoding.Function, EndpointTable.endpoint_reset, CopiedFiles.shape_of}
+use Rattle.model_board.specs.{Paths.Path, Board.Board, AtReset.board_at}
+use Rattle.model_guests.{specs.{Slots.Slots, Text.Text, Lone.LoneGuest, Guests.{GuestNow, GuestsNow, guest_named, lone_of, with_guest}, Seated.{AreSeats, IsSeat, IsSeatedGuest}}, proofs.{Along.names_with, Names.{equal_texts, same_text}, GuestFiles.other_name, GuestsByName.found, Seats.{names_stay, paths_stay}, FoundFiles.{NamesApart, others_stay}, OneGuest.{lone_own, lone_other, lone_found, with_none}}}
+use Rattle.model_handoff.proofs.{Served.served_with, Views.reset_with}
+use Rattle.model_images.specs.{Images.{SavedFunction, values_of, saved, image_of_lone, with_values, restored, lone_of_image, loaded, function_at_reset, at_reset, FitSlots, FitsSlot}, LoadLaws.{KeepsWhatWasSaved, LoadedHolds, RestartedHolds, HoldsAsSaved, OthersAfterLoad, NamesAfterLoad, PathsAfterLoad, HandoffAfterLoad, SeatedAfterLoad, LawfulAfterLoad, ShownAfterLoad}}
 
 -- ---- files
 

@@ -1,24 +1,10 @@
 -- The bytes of images of machines.
-use Rattle.std.proofs.Common.{◌≡◌, ℕ, true, List, ◌++◌, refl, sym, ap, ◌∙◌, append_assoc, arith}
-use Rattle.std.specs.Prelude.{flat_map, length, nat_lt}
-use Rattle.std.proofs.lemmas.Option.{same_Some}
+use Rattle.std.{proofs.{Common.{◌≡◌, ℕ, true, List, ◌++◌, refl, sym, ap, ◌∙◌, append_assoc, arith}, lemmas.Option.same_Some}, specs.Prelude.{flat_map, length, nat_lt}}
 use Rattle.lists.proofs.Tests.{right_true}
 use Rattle.model_registers.specs.Declarations.{IoDecode, PrefDecode, Endpoint, Bridge}
-use Rattle.model_board.specs.Paths.{Part, Path}
-use Rattle.model_board.specs.Board.{Decl, Row, Board}
-use Rattle.model_board.specs.AtReset.{board_at}
-use Rattle.model_board.specs.State.{State}
+use Rattle.model_board.specs.{Paths.{Part, Path}, Board.{Decl, Row, Board}, AtReset.board_at, State.State}
 use Rattle.model_handoff.specs.Handoffs.{declared_cells}
-use Rattle.model_images.specs.MachineImages.{SavedGuest, MachineImage, saved_handoff}
-use Rattle.model_images.specs.Layouts.{number, le_bytes, bytes_each, through, optional, OneOf}
-use Rattle.model_images.specs.ImageBytes.{endpoint_layout}
-use Rattle.model_images.specs.ByteLaws.{IsLayout}
-use Rattle.model_images.specs.MachineBytes.{machine_magic, machine_version, path_layout, io_number, io_of, pref_number, pref_of, third, BridgeParts, bridge_layout, decl_of, kind_of_decl, decl_layout, board_layout, name_layout, paths_layout, GuestParts, guest_layout, cells_layout, on_board, machine_of_parts, parts_of_machine, machine_layout, machine_bytes, machine_of}
-use Rattle.model_images.specs.LoadedMachines.{machine_header, held_bytes}
-use Rattle.model_images.specs.MachineByteLaws.{MachineBytesAreBytes, MachineBytesAreRead, MachineReadAreBytes, OneMachineImage}
-use Rattle.model_images.proofs.Numbers.{number_is}
-use Rattle.model_images.proofs.Layouts.{checked_is, through_is, followed_is, both_is, exactly_is, repeated_is, counted_is, for_each_is, optional_is, either_is, whole_again, whole_spells}
-use Rattle.model_images.proofs.ImageLayouts.{endpoint_is, image_is}
+use Rattle.model_images.{specs.{MachineImages.{SavedGuest, MachineImage, saved_handoff}, Layouts.{number, le_bytes, bytes_each, through, optional, OneOf}, ImageBytes.endpoint_layout, ByteLaws.IsLayout, MachineBytes.{machine_magic, machine_version, path_layout, io_number, io_of, pref_number, pref_of, third, BridgeParts, bridge_layout, decl_of, kind_of_decl, decl_layout, board_layout, name_layout, paths_layout, GuestParts, guest_layout, cells_layout, on_board, machine_of_parts, parts_of_machine, machine_layout, machine_bytes, machine_of}, LoadedMachines.{machine_header, held_bytes}, MachineByteLaws.{MachineBytesAreBytes, MachineBytesAreRead, MachineReadAreBytes, OneMachineImage}}, proofs.{Numbers.number_is, Layouts.{checked_is, through_is, followed_is, both_is, exactly_is, repeated_is, counted_is, for_each_is, optional_is, either_is, whole_again, whole_spells}, ImageLayouts.{endpoint_is, image_is}}}
 
 -- ---- the board
 

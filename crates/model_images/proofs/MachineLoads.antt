@@ -1,43 +1,10 @@
 -- A machine that is loaded: its slots are emptied and filled, and each guest is loaded.
-use Rattle.std.proofs.Common.{◌≡◌, ℕ, suc, Bool, true, false, ◌||◌, cond, List, [], ◌∷◌, ◌++◌, length, Some, None, Option, refl, sym, ap, ap₂, ◌∙◌, subst, arith}
-use Rattle.std.specs.Prelude.{map, option_map, is_some, IsFalse}
-use Rattle.std.specs.List.{list_any}
-use Rattle.std.specs.Str.{bytes_eq}
-use Rattle.lists.specs.Elements.{Each, EachPair}
-use Rattle.lists.proofs.EachLemmas.{each_both, each_map, pairs_from_map}
-use Rattle.model_board.specs.Paths.{Path}
-use Rattle.model_board.specs.Board.{Board}
-use Rattle.model_board.specs.AtReset.{board_at}
-use Rattle.model_board.specs.State.{BoardFunction, State}
-use Rattle.model_guests.specs.Slots.{Slots}
-use Rattle.model_guests.specs.Text.{Text}
-use Rattle.model_guests.specs.World.{declared}
-use Rattle.model_guests.specs.Guests.{GuestNow, GuestsNow, guest_named, lone_of, path_in, with_guest}
-use Rattle.model_guests.specs.AgreedBoard.{agreed_function}
-use Rattle.model_guests.specs.Seated.{AreSeated, AreSeats, IsSeatedGuest}
-use Rattle.model_guests.specs.WorldNow.{WorldNow, names_of, names_now}
-use Rattle.model_guests.proofs.Changes.{files_same}
-use Rattle.model_guests.proofs.FoundFiles.{others_stay}
-use Rattle.model_guests.proofs.GuestFiles.{other_name}
-use Rattle.model_guests.proofs.GuestsByName.{path_at, path_of}
-use Rattle.model_guests.proofs.Names.{same_text}
-use Rattle.model_guests.proofs.OneGuest.{AreApart, lone_found}
-use Rattle.model_handoff.specs.Handoffs.{file_at_reset}
-use Rattle.model_handoff.specs.Kept.{IsLawfulOver}
-use Rattle.model_handoff.specs.Regions.{AreServed}
-use Rattle.model_handoff.specs.ViewLaws.{is_at, sits, seated_files, with_seated_reset}
-use Rattle.model_images.specs.Images.{SavedFunction, restored, lone_of_image, loaded, Fits, FitSlots}
-use Rattle.model_images.specs.Requests.{Request, after_request, after_requests}
-use Rattle.model_images.specs.FitLaws.{AreFitting, AreFittingRequests}
-use Rattle.model_images.specs.MachineImages.{SavedGuest, MachineImage, shown_handoff, IsShown, restored_guest, restored_guests, handoff_under, after_load_all, HoldsFittingValues, HoldsWhatFits, FitsMachine}
-use Rattle.model_images.specs.MachineLaws.{load_of, requests_for, IsReached, LoadsAllByRequests, LoadsAllOnMachine, LawfulAfterLoadAll, FittingAfterLoadAll, SavableAfterLoadAll}
-use Rattle.model_images.proofs.Counts.{lawful_along_requests, world_along}
-use Rattle.model_images.proofs.Loading.{others_after_load}
-use Rattle.model_images.proofs.Fitting.{fitting_along}
-use Rattle.model_images.proofs.Machines.{OpensAlike, opens_alike, served_alike, shown_after_load_all}
-use Rattle.model_handoff.proofs.GivenSeats.{none_sits}
-use Rattle.model_images.proofs.Emptying.{after_both, both_fit, HaveTaken, all_takings, all_emptied, all_takings_fit, nobody_has}
-use Rattle.model_images.proofs.Filling.{IsFilled, FillGuests, HasAll, IsWanted, all_gifts, all_gifts_fit, guests_filled}
+use Rattle.std.{proofs.Common.{◌≡◌, ℕ, suc, Bool, true, false, ◌||◌, cond, List, [], ◌∷◌, ◌++◌, length, Some, None, Option, refl, sym, ap, ap₂, ◌∙◌, subst, arith}, specs.{Prelude.{map, option_map, is_some, IsFalse}, List.list_any, Str.bytes_eq}}
+use Rattle.lists.{specs.Elements.{Each, EachPair}, proofs.EachLemmas.{each_both, each_map, pairs_from_map}}
+use Rattle.model_board.specs.{Paths.Path, Board.Board, AtReset.board_at, State.{BoardFunction, State}}
+use Rattle.model_guests.{specs.{Slots.Slots, Text.Text, World.declared, Guests.{GuestNow, GuestsNow, guest_named, lone_of, path_in, with_guest}, AgreedBoard.agreed_function, Seated.{AreSeated, AreSeats, IsSeatedGuest}, WorldNow.{WorldNow, names_of, names_now}}, proofs.{Changes.files_same, FoundFiles.others_stay, GuestFiles.other_name, GuestsByName.{path_at, path_of}, Names.same_text, OneGuest.{AreApart, lone_found}}}
+use Rattle.model_handoff.{specs.{Handoffs.file_at_reset, Kept.IsLawfulOver, Regions.AreServed, ViewLaws.{is_at, sits, seated_files, with_seated_reset}}, proofs.GivenSeats.none_sits}
+use Rattle.model_images.{specs.{Images.{SavedFunction, restored, lone_of_image, loaded, Fits, FitSlots}, Requests.{Request, after_request, after_requests}, FitLaws.{AreFitting, AreFittingRequests}, MachineImages.{SavedGuest, MachineImage, shown_handoff, IsShown, restored_guest, restored_guests, handoff_under, after_load_all, HoldsFittingValues, HoldsWhatFits, FitsMachine}, MachineLaws.{load_of, requests_for, IsReached, LoadsAllByRequests, LoadsAllOnMachine, LawfulAfterLoadAll, FittingAfterLoadAll, SavableAfterLoadAll}}, proofs.{Counts.{lawful_along_requests, world_along}, Loading.others_after_load, Fitting.fitting_along, Machines.{OpensAlike, opens_alike, served_alike, shown_after_load_all}, Emptying.{after_both, both_fit, HaveTaken, all_takings, all_emptied, all_takings_fit, nobody_has}, Filling.{IsFilled, FillGuests, HasAll, IsWanted, all_gifts, all_gifts_fit, guests_filled}}}
 
 -- ---- files put in where nobody sits, and where the same paths sit
 

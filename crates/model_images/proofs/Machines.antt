@@ -1,40 +1,11 @@
 -- Machines that are saved and loaded: what the definitions come to.
-use Rattle.std.proofs.Common.{◌≡◌, ℕ, false, List, [], ◌∷◌, Some, None, Option, refl, sym, ap, ap₂, ◌∙◌, arith}
-use Rattle.std.specs.Prelude.{map, option_map, IsTrue}
-use Rattle.lists.specs.Elements.{Each}
-use Rattle.lists.proofs.EachLemmas.{each_map}
-use Rattle.model_registers.specs.Registers.{File}
-use Rattle.model_registers.specs.Declarations.{Region}
-use Rattle.model_registers.specs.CopiedFiles.{shape_of}
-use Rattle.model_registers.specs.EndpointTable.{endpoint_reset}
-use Rattle.model_board.specs.Paths.{Path}
-use Rattle.model_board.specs.Board.{Row, Board}
-use Rattle.model_board.specs.AtReset.{board_at}
-use Rattle.model_board.specs.State.{BoardFunction, State, row_at}
-use Rattle.model_guests.specs.Slots.{Slots}
-use Rattle.model_guests.specs.Text.{Text}
-use Rattle.model_guests.specs.Guests.{GuestsNow}
-use Rattle.model_guests.specs.AgreedBoard.{agreed_function, with_files}
-use Rattle.model_guests.specs.Lone.{LoneGuest}
-use Rattle.model_guests.specs.Seated.{IsSeatedGuest}
-use Rattle.model_guests.specs.WorldNow.{WorldNow, names_of}
-use Rattle.model_guests.proofs.AgreedChanges.{agreed_by}
-use Rattle.model_guests.proofs.Changes.{agreed_twice}
-use Rattle.model_guests.proofs.SlotPlaces.{IsFileOf}
-use Rattle.model_handoff.specs.Handoffs.{declared_cells, HasDeclaredShape, IsHandoff}
-use Rattle.model_handoff.specs.Kept.{IsLawfulOver}
-use Rattle.model_handoff.specs.Regions.{AreServed, opens_region}
-use Rattle.model_handoff.specs.ViewLaws.{seated_files, with_seated_reset}
-use Rattle.model_handoff.proofs.Alike.{command_at, taken_lawful, taken_shown}
-use Rattle.model_handoff.proofs.Functions.{facts, path_stays}
-use Rattle.model_handoff.proofs.Keeping.{rows_stay}
-use Rattle.model_handoff.proofs.Shapes.{shapes_with}
-use Rattle.model_images.specs.Images.{SavedFunction, values_of, saved, with_values, restored}
-use Rattle.model_images.specs.FitLaws.{HoldsFitting, AreFitting}
-use Rattle.model_images.specs.MachineImages.{SavedGuest, MachineImage, saved_handoff, shown_handoff, IsShown, saved_guest, restored_guest, restored_guests, image_of_machine, handoff_under, after_load_all, HoldsFittingValues, HoldsWhatFits}
-use Rattle.model_images.specs.MachineLaws.{IsSavableWorld, SavableAtFirst, AreAlike, ShownAlike, LoadAfterSave, SavesWhatWasLoaded, SavedMachineFits, ShownAfterLoadAll}
-use Rattle.model_images.proofs.Fitting.{values_with}
-use Rattle.model_images.proofs.Loading.{values_back, lone_back}
+use Rattle.std.{proofs.Common.{◌≡◌, ℕ, false, List, [], ◌∷◌, Some, None, Option, refl, sym, ap, ap₂, ◌∙◌, arith}, specs.Prelude.{map, option_map, IsTrue}}
+use Rattle.lists.{specs.Elements.Each, proofs.EachLemmas.each_map}
+use Rattle.model_registers.specs.{Registers.File, Declarations.Region, CopiedFiles.shape_of, EndpointTable.endpoint_reset}
+use Rattle.model_board.specs.{Paths.Path, Board.{Row, Board}, AtReset.board_at, State.{BoardFunction, State, row_at}}
+use Rattle.model_guests.{specs.{Slots.Slots, Text.Text, Guests.GuestsNow, AgreedBoard.{agreed_function, with_files}, Lone.LoneGuest, Seated.IsSeatedGuest, WorldNow.{WorldNow, names_of}}, proofs.{AgreedChanges.agreed_by, Changes.agreed_twice, SlotPlaces.IsFileOf}}
+use Rattle.model_handoff.{specs.{Handoffs.{declared_cells, HasDeclaredShape, IsHandoff}, Kept.IsLawfulOver, Regions.{AreServed, opens_region}, ViewLaws.{seated_files, with_seated_reset}}, proofs.{Alike.{command_at, taken_lawful, taken_shown}, Functions.{facts, path_stays}, Keeping.rows_stay, Shapes.shapes_with}}
+use Rattle.model_images.{specs.{Images.{SavedFunction, values_of, saved, with_values, restored}, FitLaws.{HoldsFitting, AreFitting}, MachineImages.{SavedGuest, MachineImage, saved_handoff, shown_handoff, IsShown, saved_guest, restored_guest, restored_guests, image_of_machine, handoff_under, after_load_all, HoldsFittingValues, HoldsWhatFits}, MachineLaws.{IsSavableWorld, SavableAtFirst, AreAlike, ShownAlike, LoadAfterSave, SavesWhatWasLoaded, SavedMachineFits, ShownAfterLoadAll}}, proofs.{Fitting.values_with, Loading.{values_back, lone_back}}}
 
 -- ---- files that are put in, beneath guests' copies
 

@@ -1,12 +1,6 @@
 -- Numbers of so many bytes are read as they are written, and no other bytes are.
-use Rattle.std.proofs.Common.{◌≡◌, ℕ, zero, suc, ◌/◌, ◌^◌, ◌<◌, true, List, [], ◌∷◌, ◌++◌, Some, refl, sym, ap, subst, arith}
-use Rattle.std.specs.Prelude.{flat_map, length}
-use Rattle.std.proofs.Math.Nat.{pow-suc}
-use Rattle.std.proofs.lemmas.Bool.{lt-ltb, ltb-true}
-use Rattle.std.proofs.lemmas.Option.{same_Some}
-use Rattle.model_images.specs.Layouts.{Parsed, parsed, le_bytes, raised_number, parse_number, number}
-use Rattle.model_images.specs.ByteLaws.{AreBytes, Spells, IsLayout}
-use Rattle.model_images.proofs.Options.{from_map}
+use Rattle.std.{proofs.{Common.{◌≡◌, ℕ, zero, suc, ◌/◌, ◌^◌, ◌<◌, true, List, [], ◌∷◌, ◌++◌, Some, refl, sym, ap, subst, arith}, Math.Nat.pow-suc, lemmas.{Bool.{lt-ltb, ltb-true}, Option.same_Some}}, specs.Prelude.{flat_map, length}}
+use Rattle.model_images.{specs.{Layouts.{Parsed, parsed, le_bytes, raised_number, parse_number, number}, ByteLaws.{AreBytes, Spells, IsLayout}}, proofs.Options.from_map}
 
 pub number_bytes : (k n : ℕ) → AreBytes (le_bytes k n)
 number_bytes zero n = tt

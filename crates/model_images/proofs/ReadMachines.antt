@@ -1,30 +1,10 @@
 -- What a machine reads of bytes stands there: each part is spelled by them.
-use Rattle.std.proofs.Common.{◌≡◌, ◌<◌, ℕ, zero, suc, true, List, [], ◌∷◌, length, Some, None, Option, Result, Ok, refl, ap₂, ◌∙◌, subst, arith}
-use Rattle.std.specs.Prelude.{map, option_and_then}
-use Rattle.std.proofs.lemmas.List.{length-map}
-use Rattle.lists.specs.Elements.{Each}
-use Rattle.lists.proofs.EachLemmas.{each_parts}
+use Rattle.std.{proofs.{Common.{◌≡◌, ◌<◌, ℕ, zero, suc, true, List, [], ◌∷◌, length, Some, None, Option, Result, Ok, refl, ap₂, ◌∙◌, subst, arith}, lemmas.List.length-map}, specs.Prelude.{map, option_and_then}}
+use Rattle.lists.{specs.Elements.Each, proofs.EachLemmas.each_parts}
 use Rattle.model_registers.specs.Declarations.{Endpoint}
-use Rattle.model_board.specs.Paths.{Path}
-use Rattle.model_board.specs.AtReset.{board_at}
-use Rattle.model_board.specs.State.{State}
-use Rattle.model_guests.specs.Slots.{reset_function}
-use Rattle.model_guests.specs.Text.{Text}
-use Rattle.model_guests.specs.World.{declared}
-use Rattle.model_images.specs.Images.{Fits}
-use Rattle.model_images.specs.MachineImages.{SavedGuest}
-use Rattle.model_images.specs.Layouts.{Parsed, parsed, before, both, repeated, optional}
-use Rattle.model_images.specs.ImageBytes.{image_layout}
-use Rattle.model_images.specs.ByteLaws.{AreBytes, Spells, IsDeclared}
-use Rattle.model_images.specs.LoadedBytes.{after_bytes, after_image_front}
-use Rattle.model_images.specs.TakenBytes.{taken_image, HoldsDeclared}
-use Rattle.model_images.specs.MachineBytes.{path_layout, name_layout, paths_layout, guest_layout}
-use Rattle.model_images.specs.LoadedMachines.{Read, and_then, or_refused, preceded, can_have, read_slot, with_path, with_paths, read_slots, guest_at, read_image, read_guest, read_guests}
-use Rattle.model_images.proofs.Layouts.{followed_spells, times_more, fit_count, both_is}
-use Rattle.model_images.proofs.ImageLayouts.{image_is}
-use Rattle.model_images.proofs.MachineBytes.{name_is, slot_path_is, paths_are, guest_is}
-use Rattle.model_images.proofs.LoadedBytes.{follows}
-use Rattle.model_images.proofs.TakenBytes.{front_fits, front_spelled}
+use Rattle.model_board.specs.{Paths.Path, AtReset.board_at, State.State}
+use Rattle.model_guests.specs.{Slots.reset_function, Text.Text, World.declared}
+use Rattle.model_images.{specs.{Images.Fits, MachineImages.SavedGuest, Layouts.{Parsed, parsed, before, both, repeated, optional}, ImageBytes.image_layout, ByteLaws.{AreBytes, Spells, IsDeclared}, LoadedBytes.{after_bytes, after_image_front}, TakenBytes.{taken_image, HoldsDeclared}, MachineBytes.{path_layout, name_layout, paths_layout, guest_layout}, LoadedMachines.{Read, and_then, or_refused, preceded, can_have, read_slot, with_path, with_paths, read_slots, guest_at, read_image, read_guest, read_guests}}, proofs.{Layouts.{followed_spells, times_more, fit_count, both_is}, ImageLayouts.image_is, MachineBytes.{name_is, slot_path_is, paths_are, guest_is}, LoadedBytes.follows, TakenBytes.{front_fits, front_spelled}}}
 
 -- ---- what a reading is made from
 

@@ -1,21 +1,8 @@
 -- What a guest is told by requests, and holds after them, is that of its own.
-use Rattle.std.proofs.Common.{◌≡◌, Bool, cond, List, [], ◌∷◌, ◌++◌, refl, sym, ap, ◌∙◌, append-nil, arith}
-use Rattle.std.specs.Prelude.{map, IsSome}
-use Rattle.std.specs.Str.{bytes_eq}
-use Rattle.model_guests.specs.Accesses.{Reply}
-use Rattle.model_guests.specs.Text.{Text}
-use Rattle.model_guests.specs.Lone.{LoneGuest}
-use Rattle.model_guests.specs.Guests.{guest_named, lone_of}
-use Rattle.model_guests.specs.WorldNow.{WorldNow}
-use Rattle.model_guests.specs.Calls.{CallInput, all_alone_told, after_own_call, after_own_calls}
-use Rattle.model_guests.proofs.Names.{equal_texts}
-use Rattle.model_guests.proofs.OneGuest.{lone_by, still}
-use Rattle.model_handoff.specs.Actions.{Action, told_by}
-use Rattle.model_handoff.proofs.Actions.{isolated_by_actions, there_after}
-use Rattle.model_images.specs.Images.{Image, image_of_lone, lone_of_image, loaded, at_reset}
-use Rattle.model_images.specs.Requests.{Request, acts, loads, restarts, after_request, after_requests, told_of, all_told_of, OwnInput, acted, inputs_of_request, request_inputs, all_told_alone, after_all_own, IsolatedByRequests}
-use Rattle.model_images.specs.LoadLaws.{AnswersAsSaved, copied}
-use Rattle.model_images.proofs.Loading.{holds_as_saved, lone_reset_back}
+use Rattle.std.{proofs.Common.{◌≡◌, Bool, cond, List, [], ◌∷◌, ◌++◌, refl, sym, ap, ◌∙◌, append-nil, arith}, specs.{Prelude.{map, IsSome}, Str.bytes_eq}}
+use Rattle.model_guests.{specs.{Accesses.Reply, Text.Text, Lone.LoneGuest, Guests.{guest_named, lone_of}, WorldNow.WorldNow, Calls.{CallInput, all_alone_told, after_own_call, after_own_calls}}, proofs.{Names.equal_texts, OneGuest.{lone_by, still}}}
+use Rattle.model_handoff.{specs.Actions.{Action, told_by}, proofs.Actions.{isolated_by_actions, there_after}}
+use Rattle.model_images.{specs.{Images.{Image, image_of_lone, lone_of_image, loaded, at_reset}, Requests.{Request, acts, loads, restarts, after_request, after_requests, told_of, all_told_of, OwnInput, acted, inputs_of_request, request_inputs, all_told_alone, after_all_own, IsolatedByRequests}, LoadLaws.{AnswersAsSaved, copied}}, proofs.Loading.{holds_as_saved, lone_reset_back}}
 
 -- ---- a guest that is there stays there
 

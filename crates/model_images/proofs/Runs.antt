@@ -1,18 +1,9 @@
 -- Runs of bytes over a file: each run changes its own segment, and leaves what stands elsewhere.
-use Rattle.std.proofs.Common.{◌≡◌, ℕ, zero, suc, ◌<◌, ◌≤◌, true, List, [], ◌∷◌, ◌++◌, length, refl, sym, ap, ◌∙◌, subst, arith}
-use Rattle.std.specs.Prelude.{take, drop, flat_map}
-use Rattle.lists.specs.Elements.{Each, EachPair}
-use Rattle.lists.proofs.EachLemmas.{each_parts}
-use Rattle.lists.proofs.Tests.{left_true, right_true}
-use Rattle.model_registers.specs.Cell.{Cell}
-use Rattle.model_registers.specs.Registers.{Place, after, PlacedCell, File, changed}
-use Rattle.model_registers.specs.DeviceBytes.{with_value}
-use Rattle.model_registers.specs.CopiedFiles.{places_of}
-use Rattle.model_registers.proofs.RegisterFiles.{place_turned, self}
+use Rattle.std.{proofs.Common.{◌≡◌, ℕ, zero, suc, ◌<◌, ◌≤◌, true, List, [], ◌∷◌, ◌++◌, length, refl, sym, ap, ◌∙◌, subst, arith}, specs.Prelude.{take, drop, flat_map}}
+use Rattle.lists.{specs.Elements.{Each, EachPair}, proofs.{EachLemmas.each_parts, Tests.{left_true, right_true}}}
+use Rattle.model_registers.{specs.{Cell.Cell, Registers.{Place, after, PlacedCell, File, changed}, DeviceBytes.with_value, CopiedFiles.places_of}, proofs.RegisterFiles.{place_turned, self}}
 use Rattle.model_guests.proofs.DistinctPlaces.{Apart, places_append}
-use Rattle.model_images.specs.Images.{with_values, can_hold, fit_cells}
-use Rattle.model_images.specs.StepLaws.{run, written_run, put_run}
-use Rattle.model_images.proofs.Settling.{Way, keeps, writes, puts, becomes, Settles, from}
+use Rattle.model_images.{specs.{Images.{with_values, can_hold, fit_cells}, StepLaws.{run, written_run, put_run}}, proofs.Settling.{Way, keeps, writes, puts, becomes, Settles, from}}
 
 abbrev ApartFrom : List Place → Place → Type 0
 ApartFrom qs p = Each (Apart p) qs

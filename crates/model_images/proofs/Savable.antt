@@ -1,28 +1,9 @@
 -- The image of a guest of lawful functions, which hold what they can, has bytes.
-use Rattle.std.proofs.Common.{◌≡◌, ℕ, ◌+◌, ◌-◌, ◌^◌, ◌<◌, ◌≤◌, Bool, true, false, ◌&&◌, eqb, List, [], ◌∷◌, length, map, Some, None, refl, ap, ◌∙◌, subst, arith}
-use Rattle.std.specs.Prelude.{option_map, bit_and, IsTrue}
-use Rattle.std.specs.List.{list_any, AllByRecursion, IsDistinct}
-use Rattle.std.proofs.lemmas.Bool.{and_from, lt-ltb, eq-eqb, ne_eqb, eqb-true}
-use Rattle.std.proofs.lemmas.List.{length-map}
-use Rattle.std.proofs.lemmas.Nat.{and_le_r}
-use Rattle.std.proofs.lemmas.Map.Steps.{length-le_from_distinct_below}
-use Rattle.lists.specs.Elements.{Each, EachPair}
-use Rattle.lists.proofs.EachLemmas.{each_map}
-use Rattle.model_registers.specs.Cell.{Cell, IsCell}
-use Rattle.model_registers.specs.Registers.{File}
-use Rattle.model_registers.specs.AccessLaws.{HoldsBytes}
-use Rattle.model_registers.specs.ConfigAddress.{latched}
-use Rattle.model_registers.specs.CopiedFiles.{shape_of}
-use Rattle.model_registers.specs.Declarations.{Kind, registers_of, greatest_size, Region, IsLawfulRegion, ConfigBlock, Endpoint}
-use Rattle.model_registers.specs.DeclarationRules.{IsConfigBlock, blocks_apart, IsLawfulEndpoint}
-use Rattle.model_registers.specs.EndpointTable.{endpoint_reset}
-use Rattle.model_registers.specs.Decoding.{Function}
-use Rattle.model_registers.proofs.Bases.{registers_positive}
+use Rattle.std.{proofs.{Common.{◌≡◌, ℕ, ◌+◌, ◌-◌, ◌^◌, ◌<◌, ◌≤◌, Bool, true, false, ◌&&◌, eqb, List, [], ◌∷◌, length, map, Some, None, refl, ap, ◌∙◌, subst, arith}, lemmas.{Bool.{and_from, lt-ltb, eq-eqb, ne_eqb, eqb-true}, List.length-map, Nat.and_le_r, Map.Steps.length-le_from_distinct_below}}, specs.{Prelude.{option_map, bit_and, IsTrue}, List.{list_any, AllByRecursion, IsDistinct}}}
+use Rattle.lists.{specs.Elements.{Each, EachPair}, proofs.EachLemmas.each_map}
+use Rattle.model_registers.{specs.{Cell.{Cell, IsCell}, Registers.File, AccessLaws.HoldsBytes, ConfigAddress.latched, CopiedFiles.shape_of, Declarations.{Kind, registers_of, greatest_size, Region, IsLawfulRegion, ConfigBlock, Endpoint}, DeclarationRules.{IsConfigBlock, blocks_apart, IsLawfulEndpoint}, EndpointTable.endpoint_reset, Decoding.Function}, proofs.Bases.registers_positive}
 use Rattle.model_guests.specs.Slots.{Slots}
-use Rattle.model_images.specs.Images.{values_of, saved, fit_cells}
-use Rattle.model_images.specs.Layouts.{Layout, number, fit_times, counted, optional}
-use Rattle.model_images.specs.ImageBytes.{cell_layout, kind_layout, region_layout, block_layout, endpoint_layout, function_layout, latch_layout}
-use Rattle.model_images.specs.ByteLaws.{IsDeclared, IsSavable, HoldsSavable, GuestsHaveBytes}
+use Rattle.model_images.specs.{Images.{values_of, saved, fit_cells}, Layouts.{Layout, number, fit_times, counted, optional}, ImageBytes.{cell_layout, kind_layout, region_layout, block_layout, endpoint_layout, function_layout, latch_layout}, ByteLaws.{IsDeclared, IsSavable, HoldsSavable, GuestsHaveBytes}}
 
 -- ---- lists
 

@@ -1,45 +1,11 @@
 -- The image of a machine whose functions hold bytes has bytes.
-use Rattle.std.proofs.Common.{◌≡◌, ℕ, ◌<◌, ◌^◌, Bool, true, false, ◌&&◌, cond, List, [], ◌∷◌, length, Some, None, Option, refl, sym, ap, subst, arith}
-use Rattle.std.specs.Prelude.{map, option_map}
-use Rattle.std.specs.Option.{option_map_or}
-use Rattle.std.proofs.lemmas.Bool.{and_from, lt-ltb}
-use Rattle.std.proofs.lemmas.List.{length-map}
-use Rattle.lists.specs.Elements.{Each}
-use Rattle.lists.proofs.EachLemmas.{each_map, each_of_map}
-use Rattle.lists.proofs.Members.{each_in}
-use Rattle.model_registers.specs.Registers.{File}
-use Rattle.model_registers.specs.AccessLaws.{HoldsBytes}
-use Rattle.model_registers.specs.CopiedFiles.{agreed_file}
-use Rattle.model_registers.specs.Declarations.{IoDecode, PrefDecode, Endpoint, Bridge}
-use Rattle.model_registers.specs.DeclarationRules.{IsLawfulBridge}
-use Rattle.model_registers.specs.EndpointTable.{endpoint_reset}
-use Rattle.model_registers.proofs.ByteAccesses.{number_fits}
-use Rattle.model_board.specs.Paths.{Part, Path, IsPart, IsPath}
-use Rattle.model_board.specs.Board.{Decl, endpoint, Row, Board}
-use Rattle.model_board.specs.Lawful.{IsLawfulDecl}
-use Rattle.model_board.specs.AtReset.{board_at}
-use Rattle.model_board.specs.State.{BoardFunction, State, row_at}
-use Rattle.model_guests.specs.Slots.{Slots}
-use Rattle.model_guests.specs.Text.{Text}
-use Rattle.model_guests.specs.World.{declared}
-use Rattle.model_guests.specs.Guests.{GuestNow, GuestsNow}
-use Rattle.model_guests.specs.AgreedBoard.{agreed_function}
-use Rattle.model_guests.specs.Seated.{AreSeats, IsSeatedGuest}
-use Rattle.model_guests.specs.WorldNow.{WorldNow, names_of}
-use Rattle.model_handoff.specs.Handoffs.{declared_cells, file_at_reset, HasDeclaredShape, IsHandoff}
-use Rattle.model_handoff.specs.ViewLaws.{seated_files, sits, with_seated_reset}
-use Rattle.model_images.specs.Images.{values_of, image_of_lone}
-use Rattle.model_images.specs.MachineImages.{SavedGuest, saved_handoff, saved_guest}
-use Rattle.model_images.specs.MachineLaws.{IsSavableWorld}
-use Rattle.model_guests.proofs.DeclaredRows.{declared_row}
-use Rattle.model_images.proofs.Machines.{handoff_stays}
-use Rattle.model_images.specs.Layouts.{number, both, through, fit_times, counted, fit_each, optional}
-use Rattle.model_images.specs.ImageBytes.{image_layout}
-use Rattle.model_images.specs.ByteLaws.{IsDeclared, IsSavableGuest}
-use Rattle.model_images.specs.MachineBytes.{path_layout, io_number, pref_number, third, bridge_layout, decl_layout, row_layout, board_layout, name_layout, paths_layout, guest_layout, cells_layout}
-use Rattle.model_images.specs.MachineByteLaws.{AreWritable, HasMachineBytes, CanBeDeclared, IsWritableName, IsWritableMachine, MachinesHaveBytes}
-use Rattle.model_images.proofs.ByteCells.{hold_bytes, reset_bytes}
-use Rattle.model_images.proofs.Savable.{times_fit, counted_fit, endpoint_fits, values_fit, as_long, guests_have_bytes}
+use Rattle.std.{proofs.{Common.{◌≡◌, ℕ, ◌<◌, ◌^◌, Bool, true, false, ◌&&◌, cond, List, [], ◌∷◌, length, Some, None, Option, refl, sym, ap, subst, arith}, lemmas.{Bool.{and_from, lt-ltb}, List.length-map}}, specs.{Prelude.{map, option_map}, Option.option_map_or}}
+use Rattle.lists.{specs.Elements.Each, proofs.{EachLemmas.{each_map, each_of_map}, Members.each_in}}
+use Rattle.model_registers.{specs.{Registers.File, AccessLaws.HoldsBytes, CopiedFiles.agreed_file, Declarations.{IoDecode, PrefDecode, Endpoint, Bridge}, DeclarationRules.IsLawfulBridge, EndpointTable.endpoint_reset}, proofs.ByteAccesses.number_fits}
+use Rattle.model_board.specs.{Paths.{Part, Path, IsPart, IsPath}, Board.{Decl, endpoint, Row, Board}, Lawful.IsLawfulDecl, AtReset.board_at, State.{BoardFunction, State, row_at}}
+use Rattle.model_guests.{specs.{Slots.Slots, Text.Text, World.declared, Guests.{GuestNow, GuestsNow}, AgreedBoard.agreed_function, Seated.{AreSeats, IsSeatedGuest}, WorldNow.{WorldNow, names_of}}, proofs.DeclaredRows.declared_row}
+use Rattle.model_handoff.specs.{Handoffs.{declared_cells, file_at_reset, HasDeclaredShape, IsHandoff}, ViewLaws.{seated_files, sits, with_seated_reset}}
+use Rattle.model_images.{specs.{Images.{values_of, image_of_lone}, MachineImages.{SavedGuest, saved_handoff, saved_guest}, MachineLaws.IsSavableWorld, Layouts.{number, both, through, fit_times, counted, fit_each, optional}, ImageBytes.image_layout, ByteLaws.{IsDeclared, IsSavableGuest}, MachineBytes.{path_layout, io_number, pref_number, third, bridge_layout, decl_layout, row_layout, board_layout, name_layout, paths_layout, guest_layout, cells_layout}, MachineByteLaws.{AreWritable, HasMachineBytes, CanBeDeclared, IsWritableName, IsWritableMachine, MachinesHaveBytes}}, proofs.{Machines.handoff_stays, ByteCells.{hold_bytes, reset_bytes}, Savable.{times_fit, counted_fit, endpoint_fits, values_fit, as_long, guests_have_bytes}}}
 
 -- ---- the board
 

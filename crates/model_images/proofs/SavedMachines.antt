@@ -1,27 +1,9 @@
 -- A machine that was saved is loaded.
-use Rattle.std.proofs.Common.{arith}
-use Rattle.std.proofs.Common.{◌≡◌, List, [], ◌∷◌, ◌∙◌, refl, sym, ap, map}
-use Rattle.std.specs.Result.{result_err}
+use Rattle.std.{proofs.Common.{arith, ◌≡◌, List, [], ◌∷◌, ◌∙◌, refl, sym, ap, map}, specs.Result.result_err}
 use Rattle.lists.specs.Elements.{Each}
-use Rattle.model_board.specs.AtReset.{board_at}
-use Rattle.model_board.specs.Board.{Row, Board}
-use Rattle.model_board.specs.Paths.{IsPath}
-use Rattle.model_guests.specs.Guests.{GuestNow, GuestsNow}
-use Rattle.model_guests.specs.Seated.{IsSeatedGuest}
-use Rattle.model_guests.specs.WorldNow.{WorldNow, names_now}
-use Rattle.model_images.specs.FitLaws.{AreFitting}
-use Rattle.model_images.specs.Requests.{Request, after_request, after_requests}
-use Rattle.model_images.proofs.Counts.{names_stay}
-use Rattle.model_images.specs.MachineImages.{image_of_machine, saved_guest}
-use Rattle.model_images.proofs.Machines.{load_after_save, saved_machine_fits, shown_alike}
-use Rattle.model_images.specs.ByteLaws.{IsSavableGuest}
-use Rattle.model_images.specs.LoadedMachines.{after_read}
-use Rattle.model_images.specs.LoadedMachineLaws.{TakesSavedMachine}
-use Rattle.model_images.specs.SavedLaws.{KeepsHandoff, TakesItsOwn}
-use Rattle.model_images.proofs.LoadedBytes.{savable_fits}
-use Rattle.model_images.proofs.FittingMachines.{IsWritten, read_written}
-use Rattle.model_images.proofs.Savable.{guests_have_bytes}
-use Rattle.model_images.proofs.SavableMachines.{paths_fit}
+use Rattle.model_board.specs.{AtReset.board_at, Board.{Row, Board}, Paths.IsPath}
+use Rattle.model_guests.specs.{Guests.{GuestNow, GuestsNow}, Seated.IsSeatedGuest, WorldNow.{WorldNow, names_now}}
+use Rattle.model_images.{specs.{FitLaws.AreFitting, Requests.{Request, after_request, after_requests}, MachineImages.{image_of_machine, saved_guest}, ByteLaws.IsSavableGuest, LoadedMachines.after_read, LoadedMachineLaws.TakesSavedMachine, SavedLaws.{KeepsHandoff, TakesItsOwn}}, proofs.{Counts.names_stay, Machines.{load_after_save, saved_machine_fits, shown_alike}, LoadedBytes.savable_fits, FittingMachines.{IsWritten, read_written}, Savable.guests_have_bytes, SavableMachines.paths_fit}}
 
 pub guests_fit : (gs : GuestsNow) → Each (λ (g : GuestNow). IsSavableGuest g.lone) gs → AreFitting gs
 guests_fit [] h = tt

@@ -1,53 +1,11 @@
 -- Along any requests guests can be saved, and what was saved of one is taken.
-use Rattle.std.proofs.Common.{◌≡◌, ℕ, zero, suc, ◌<◌, Bool, true, false, cond, List, [], ◌∷◌, length, Some, None, Option, refl, sym, ap, ◌∙◌, subst, arith}
-use Rattle.std.specs.Prelude.{map, option_map, IsFalse, IsSome}
-use Rattle.std.specs.Option.{option_map_or}
-use Rattle.std.specs.Str.{bytes_eq}
-use Rattle.std.proofs.lemmas.Bool.{ltb-true}
-use Rattle.lists.specs.Elements.{Each}
-use Rattle.lists.proofs.EachLemmas.{each_map, each_of_map}
-use Rattle.lists.proofs.Tests.{left_true, right_true, some_there}
-use Rattle.model_registers.specs.Declarations.{Endpoint}
-use Rattle.model_registers.specs.EndpointTable.{endpoint_reset}
-use Rattle.model_registers.specs.Registers.{File}
-use Rattle.model_board.specs.Paths.{Path}
-use Rattle.model_board.specs.AtReset.{board_at}
-use Rattle.model_board.specs.State.{BoardFunction, State}
-use Rattle.model_guests.specs.Text.{Text}
-use Rattle.model_guests.specs.Slots.{Slots}
-use Rattle.model_guests.specs.World.{World, declared}
-use Rattle.model_guests.specs.AgreedBoard.{agreed_function}
-use Rattle.model_guests.specs.Guests.{GuestNow, GuestsNow, guest_named, lone_of, guests_at_first}
-use Rattle.model_guests.specs.Lone.{LoneGuest}
-use Rattle.model_guests.specs.Seated.{AreSeats, IsSeatedGuest}
-use Rattle.model_guests.specs.WorldNow.{WorldNow, world_over}
-use Rattle.model_guests.proofs.GuestsByName.{found}
-use Rattle.model_guests.proofs.OneGuest.{lone_found, still}
-use Rattle.model_guests.proofs.Seats.{as_many}
-use Rattle.model_handoff.specs.Giving.{Gift, given, with_reset_at}
-use Rattle.model_handoff.specs.Handoffs.{reset_files, taken_over}
-use Rattle.model_handoff.specs.Kept.{IsLawfulOver}
-use Rattle.model_images.specs.Images.{SavedFunction, Image, image_of_guest, image_of_lone, lone_of_image, with_values, restored, after_load, loaded}
-use Rattle.model_images.specs.FitLaws.{HoldsFitting, AreFitting, IsFittingRequest}
-use Rattle.model_images.specs.LoadLaws.{AnswersAlike, IsCopy}
-use Rattle.model_images.specs.Requests.{Request, acts, loads, restarts, after_request, request_inputs}
-use Rattle.model_images.proofs.Counts.{lawful_along_requests}
-use Rattle.model_images.proofs.Fitting.{fitting_at_first, fitting_after, saved_fits}
-use Rattle.model_images.proofs.KeptFunctions.{Has, action_holds, load_holds, restart_holds, holds_at_first}
-use Rattle.model_images.proofs.Loading.{loaded_holds, others_after_load}
-use Rattle.model_images.proofs.Requests.{answers_as_saved, isolated_by_requests}
-use Rattle.model_images.specs.Layouts.{number, fit_times, optional}
-use Rattle.model_images.specs.ImageBytes.{function_layout, image_bytes, image_of}
-use Rattle.model_images.specs.ByteLaws.{HasBytes, HoldsSavable, IsSavableGuest}
-use Rattle.model_images.specs.MachineByteLaws.{CanBeDeclared, AreDeclared, CanBeSaved}
-use Rattle.model_images.specs.SavedLaws.{CanBeSavedAtFirst, IsWritableRequest, CanBeSavedAlong, TakesSavedGuest, SavesWhatWasTaken, NoImageIsRefused}
-use Rattle.model_images.proofs.ByteCells.{AreByteCells, HoldsByteCells, byte_cells_kept, hold_bytes, of_shape, reset_bytes}
-use Rattle.model_images.proofs.ImageBytes.{bytes_are_read, read_are_bytes, parts_of, function_parts, slot_fits, image_back}
-use Rattle.model_images.proofs.LoadedBytes.{fitting_accepted, images_decided}
-use Rattle.model_images.proofs.Savable.{guests_have_bytes}
-use Rattle.model_images.proofs.SavableMachines.{declared_written}
-use Rattle.model_images.proofs.SavedMachines.{guests_fit}
-use Rattle.model_images.proofs.TakenBytes.{taken_now}
+use Rattle.std.{proofs.{Common.{◌≡◌, ℕ, zero, suc, ◌<◌, Bool, true, false, cond, List, [], ◌∷◌, length, Some, None, Option, refl, sym, ap, ◌∙◌, subst, arith}, lemmas.Bool.ltb-true}, specs.{Prelude.{map, option_map, IsFalse, IsSome}, Option.option_map_or, Str.bytes_eq}}
+use Rattle.lists.{specs.Elements.Each, proofs.{EachLemmas.{each_map, each_of_map}, Tests.{left_true, right_true, some_there}}}
+use Rattle.model_registers.specs.{Declarations.Endpoint, EndpointTable.endpoint_reset, Registers.File}
+use Rattle.model_board.specs.{Paths.Path, AtReset.board_at, State.{BoardFunction, State}}
+use Rattle.model_guests.{specs.{Text.Text, Slots.Slots, World.{World, declared}, AgreedBoard.agreed_function, Guests.{GuestNow, GuestsNow, guest_named, lone_of, guests_at_first}, Lone.LoneGuest, Seated.{AreSeats, IsSeatedGuest}, WorldNow.{WorldNow, world_over}}, proofs.{GuestsByName.found, OneGuest.{lone_found, still}, Seats.as_many}}
+use Rattle.model_handoff.specs.{Giving.{Gift, given, with_reset_at}, Handoffs.{reset_files, taken_over}, Kept.IsLawfulOver}
+use Rattle.model_images.{specs.{Images.{SavedFunction, Image, image_of_guest, image_of_lone, lone_of_image, with_values, restored, after_load, loaded}, FitLaws.{HoldsFitting, AreFitting, IsFittingRequest}, LoadLaws.{AnswersAlike, IsCopy}, Requests.{Request, acts, loads, restarts, after_request, request_inputs}, Layouts.{number, fit_times, optional}, ImageBytes.{function_layout, image_bytes, image_of}, ByteLaws.{HasBytes, HoldsSavable, IsSavableGuest}, MachineByteLaws.{CanBeDeclared, AreDeclared, CanBeSaved}, SavedLaws.{CanBeSavedAtFirst, IsWritableRequest, CanBeSavedAlong, TakesSavedGuest, SavesWhatWasTaken, NoImageIsRefused}}, proofs.{Counts.lawful_along_requests, Fitting.{fitting_at_first, fitting_after, saved_fits}, KeptFunctions.{Has, action_holds, load_holds, restart_holds, holds_at_first}, Loading.{loaded_holds, others_after_load}, Requests.{answers_as_saved, isolated_by_requests}, ByteCells.{AreByteCells, HoldsByteCells, byte_cells_kept, hold_bytes, of_shape, reset_bytes}, ImageBytes.{bytes_are_read, read_are_bytes, parts_of, function_parts, slot_fits, image_back}, LoadedBytes.{fitting_accepted, images_decided}, Savable.guests_have_bytes, SavableMachines.declared_written, SavedMachines.guests_fit, TakenBytes.taken_now}}
 
 -- ---- declarations stay
 

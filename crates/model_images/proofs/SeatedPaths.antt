@@ -1,34 +1,11 @@
 -- Guests that a machine has read: no path stands in two slots, and what stands there can be given.
-use Rattle.std.proofs.Common.{◌≡◌, ℕ, zero, suc, Bool, true, false, not, ◌||◌, cond, List, [], ◌∷◌, Some, None, Option, refl, sym, ap, ◌∙◌, subst, arith}
-use Rattle.std.specs.Prelude.{map, option_map, option_and_then, IsFalse, IsTrue}
-use Rattle.std.specs.List.{list_any}
-use Rattle.std.specs.Str.{bytes_eq}
-use Rattle.lists.specs.Elements.{Each, EachPair}
-use Rattle.lists.proofs.EachLemmas.{pairs_from_map}
-use Rattle.lists.proofs.Members.{pairs_of_map}
-use Rattle.model_registers.specs.Declarations.{Region, Endpoint}
-use Rattle.model_registers.specs.EndpointTable.{endpoint_reset}
-use Rattle.model_board.specs.Paths.{Path, path_eq}
-use Rattle.model_board.specs.AtReset.{board_at}
-use Rattle.model_board.specs.State.{State}
-use Rattle.model_board.proofs.PathEnds.{path_self}
-use Rattle.model_guests.specs.Slots.{Slots, reset_function}
-use Rattle.model_guests.specs.Text.{Text}
-use Rattle.model_guests.specs.World.{declared}
-use Rattle.model_guests.specs.Guests.{GuestNow, GuestsNow, guest_named, path_in}
-use Rattle.model_guests.specs.Seated.{AreSeated, AreSeats, IsSeat, IsSeatedGuest}
-use Rattle.model_guests.specs.WorldNow.{names_of}
-use Rattle.model_guests.proofs.GuestsByName.{path_at, path_of}
-use Rattle.model_guests.proofs.Names.{equal_texts}
-use Rattle.model_guests.proofs.OneGuest.{AreApart}
-use Rattle.model_handoff.specs.Giving.{has_closed_region}
-use Rattle.model_handoff.specs.Regions.{AreServed, HasOpenRegions, opens_region}
-use Rattle.model_images.specs.Images.{SavedFunction, restored, FitsSlot, FitSlots}
-use Rattle.model_images.specs.MachineImages.{SavedGuest, restored_guest, HoldsFittingValues, HoldsWhatFits}
-use Rattle.model_images.proofs.Loading.{shape_with}
-use Rattle.model_images.proofs.MachineLoads.{names_restored}
-use Rattle.model_images.specs.LoadedMachines.{can_have, with_path, with_paths, guest_at}
-use Rattle.model_images.proofs.ReadMachines.{AllFree, AreGoodGuests}
+use Rattle.std.{proofs.Common.{◌≡◌, ℕ, zero, suc, Bool, true, false, not, ◌||◌, cond, List, [], ◌∷◌, Some, None, Option, refl, sym, ap, ◌∙◌, subst, arith}, specs.{Prelude.{map, option_map, option_and_then, IsFalse, IsTrue}, List.list_any, Str.bytes_eq}}
+use Rattle.lists.{specs.Elements.{Each, EachPair}, proofs.{EachLemmas.pairs_from_map, Members.pairs_of_map}}
+use Rattle.model_registers.specs.{Declarations.{Region, Endpoint}, EndpointTable.endpoint_reset}
+use Rattle.model_board.{specs.{Paths.{Path, path_eq}, AtReset.board_at, State.State}, proofs.PathEnds.path_self}
+use Rattle.model_guests.{specs.{Slots.{Slots, reset_function}, Text.Text, World.declared, Guests.{GuestNow, GuestsNow, guest_named, path_in}, Seated.{AreSeated, AreSeats, IsSeat, IsSeatedGuest}, WorldNow.names_of}, proofs.{GuestsByName.{path_at, path_of}, Names.equal_texts, OneGuest.AreApart}}
+use Rattle.model_handoff.specs.{Giving.has_closed_region, Regions.{AreServed, HasOpenRegions, opens_region}}
+use Rattle.model_images.{specs.{Images.{SavedFunction, restored, FitsSlot, FitSlots}, MachineImages.{SavedGuest, restored_guest, HoldsFittingValues, HoldsWhatFits}, LoadedMachines.{can_have, with_path, with_paths, guest_at}}, proofs.{Loading.shape_with, MachineLoads.names_restored, ReadMachines.{AllFree, AreGoodGuests}}}
 
 abbrev pub is_in : List Path → Path → Bool
 is_in taken p = list_any (λ q. path_eq q p) taken

@@ -1,17 +1,8 @@
 -- Cells that come to a value that they can hold: as they stand, as it is written, or as it is put.
-use Rattle.std.proofs.Common.{◌≡◌, ℕ, zero, suc, ◌+◌, ◌-◌, ◌/◌, ◌%◌, ◌<◌, ◌≤◌, true, false, List, [], ◌∷◌, sym, ap, ap₂, ◌∙◌, arith}
-use Rattle.std.specs.Prelude.{bit_and, bit_or}
-use Rattle.std.specs.Int.Bits.{or_zero_r, and_zero_r, and_zero_l, and_le_l}
-use Rattle.std.proofs.Math.Nat.{mod-eq_of_lt}
-use Rattle.std.proofs.lemmas.Bool.{eqb-true}
-use Rattle.std.proofs.lemmas.Bool.Decides.{nat_tests}
-use Rattle.std.proofs.lemmas.Nat.{and-not, and_comm, and_mask, or_disjoint}
+use Rattle.std.{proofs.{Common.{◌≡◌, ℕ, zero, suc, ◌+◌, ◌-◌, ◌/◌, ◌%◌, ◌<◌, ◌≤◌, true, false, List, [], ◌∷◌, sym, ap, ap₂, ◌∙◌, arith}, Math.Nat.mod-eq_of_lt, lemmas.{Bool.{eqb-true, Decides.nat_tests}, Nat.{and-not, and_comm, and_mask, or_disjoint}}}, specs.{Prelude.{bit_and, bit_or}, Int.Bits.{or_zero_r, and_zero_r, and_zero_l, and_le_l}}}
 use Rattle.lists.specs.Elements.{Each}
-use Rattle.model_registers.specs.Cell.{Cell, written}
-use Rattle.model_registers.specs.Registers.{Place, config, after, PlacedCell, File, field}
-use Rattle.model_registers.specs.DeviceBytes.{is_device_byte, with_value}
-use Rattle.model_images.specs.Images.{fixed_bits, can_hold}
-use Rattle.model_images.proofs.FixedBits.{none_outside, none_in}
+use Rattle.model_registers.specs.{Cell.{Cell, written}, Registers.{Place, config, after, PlacedCell, File, field}, DeviceBytes.{is_device_byte, with_value}}
+use Rattle.model_images.{specs.Images.{fixed_bits, can_hold}, proofs.FixedBits.{none_outside, none_in}}
 
 -- how a cell comes to a value
 pub data Way : Type 0 where

@@ -1,19 +1,9 @@
 -- The steps by which a function is loaded, as segments of its file.
-use Rattle.std.proofs.Common.{◌≡◌, ℕ, zero, suc, ◌≤◌, List, [], ◌∷◌, ◌++◌, length, refl, sym, ap, ◌∙◌, subst, arith}
-use Rattle.std.specs.Prelude.{take, drop, flat_map, true, false}
-use Rattle.std.proofs.lemmas.List.{append_assoc, drop-drop}
-use Rattle.lists.specs.Elements.{Each, EachPair}
-use Rattle.lists.proofs.Tests.{right_true}
-use Rattle.model_registers.specs.Cell.{Cell}
-use Rattle.model_registers.specs.Registers.{Place, config, block, after, File, field, cells_from}
-use Rattle.model_registers.specs.Declarations.{Region, ConfigBlock, Endpoint, IsLawfulRegion}
-use Rattle.model_registers.specs.EndpointTable.{base_register, base_cells, region_cells, block_cells, header_type, header_cells, endpoint_reset}
-use Rattle.model_registers.specs.CopiedFiles.{places_of}
+use Rattle.std.{proofs.{Common.{◌≡◌, ℕ, zero, suc, ◌≤◌, List, [], ◌∷◌, ◌++◌, length, refl, sym, ap, ◌∙◌, subst, arith}, lemmas.List.{append_assoc, drop-drop}}, specs.Prelude.{take, drop, flat_map, true, false}}
+use Rattle.lists.{specs.Elements.{Each, EachPair}, proofs.Tests.right_true}
+use Rattle.model_registers.specs.{Cell.Cell, Registers.{Place, config, block, after, File, field, cells_from}, Declarations.{Region, ConfigBlock, Endpoint, IsLawfulRegion}, EndpointTable.{base_register, base_cells, region_cells, block_cells, header_type, header_cells, endpoint_reset}, CopiedFiles.places_of}
 use Rattle.model_guests.proofs.DistinctPlaces.{Apart, distinct_places}
-use Rattle.model_images.specs.Images.{with_values, can_hold, fit_cells}
-use Rattle.model_images.specs.StepLaws.{put_run, header_steps, blocks_steps, blocks_size, base_size, region_steps, regions_steps, steps, LoadsBySteps}
-use Rattle.model_images.proofs.Settling.{keeps, writes, puts, from, AreNoDeviceBytes, kept_field, written_field, put_cells, no_device_bytes}
-use Rattle.model_images.proofs.Runs.{Segment, IsSegment, cells_of, segment_steps, steps_settle}
+use Rattle.model_images.{specs.{Images.{with_values, can_hold, fit_cells}, StepLaws.{put_run, header_steps, blocks_steps, blocks_size, base_size, region_steps, regions_steps, steps, LoadsBySteps}}, proofs.{Settling.{keeps, writes, puts, from, AreNoDeviceBytes, kept_field, written_field, put_cells, no_device_bytes}, Runs.{Segment, IsSegment, cells_of, segment_steps, steps_settle}}}
 
 -- ---- the segments
 

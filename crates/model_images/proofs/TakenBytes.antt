@@ -1,36 +1,9 @@
 -- What bytes are that a guest takes, slot by slot; and the world after it.
-use Rattle.std.proofs.Common.{◌≡◌, ℕ, zero, suc, ◌+◌, ◌/◌, ◌^◌, ◌<◌, ◌≤◌, Bool, true, false, cond, eqb, List, [], ◌∷◌, ◌++◌, length, Some, None, Option, Ok, Err, refl, sym, ap, ap₂, ◌∙◌, subst, append_assoc, append-nil, arith, length-append}
-use Rattle.std.specs.Prelude.{take, drop, is_some}
-use Rattle.std.specs.Option.{option_map_or}
-use Rattle.std.proofs.Math.Nat.{pow-suc}
-use Rattle.std.proofs.Math.Seq.{drop-append_seam, take-append_seam}
-use Rattle.std.proofs.lemmas.Bool.{and_from, eq-eqb, eqb-true, lt-ltb, ltb-true}
-use Rattle.lists.specs.Elements.{Each}
-use Rattle.lists.proofs.EachLemmas.{each_map, each_parts}
-use Rattle.lists.proofs.Tests.{left_true, right_true}
-use Rattle.model_registers.specs.Registers.{File}
-use Rattle.model_registers.specs.ConfigAddress.{latched}
-use Rattle.model_registers.specs.EndpointTable.{endpoint_reset}
-use Rattle.model_registers.specs.Decoding.{Function}
-use Rattle.model_guests.specs.Slots.{Slots}
-use Rattle.model_guests.specs.Lone.{LoneGuest}
-use Rattle.model_guests.specs.Guests.{lone_of}
-use Rattle.model_guests.specs.Text.{Text}
-use Rattle.model_guests.specs.WorldNow.{WorldNow}
-use Rattle.model_images.specs.Images.{SavedFunction, Image, image_of_guest, after_load, can_hold, fit_cells, Fits, FitsSlot, FitSlots}
-use Rattle.model_images.proofs.Loading.{keeps_what_was_saved}
-use Rattle.model_images.specs.Layouts.{Parsed, parsed, le_bytes, number, fit_times, optional}
-use Rattle.model_images.specs.ImageBytes.{magic, version, function_layout, image_layout, declaration_bytes, image_bytes, image_of}
-use Rattle.model_images.specs.ByteLaws.{AreBytes, Spells, HasBytes, IsDeclared}
-use Rattle.model_images.specs.LoadedBytes.{Left, then_read, after_beginning, after_bytes, after_values, after_slot, after_slots_front, at_end, after_slots, after_number, after_latch, header, after_image_front, fault_of, load_fault, after_load_bytes}
-use Rattle.model_images.specs.LoadedLaws.{AcceptedIsImage, LoadsImage, RefusedStays, KeepsSavedBytes}
-use Rattle.model_images.specs.TakenBytes.{le_number, values_begin, slot_size, taken_slot, taken_slots, taken_image, SlotsAreTaken, ImageIsTaken, HoldsDeclared, IsDeclaredGuest, AcceptedIsTaken}
-use Rattle.model_images.specs.FrontBytes.{slots_size}
-use Rattle.model_images.proofs.Numbers.{number_again, number_is, number_spells}
-use Rattle.model_images.proofs.Layouts.{fit_count}
-use Rattle.model_images.proofs.ImageBytes.{bytes_are_read, parts_of, FunctionParts, function_parts, parts_fit, slot_fits}
-use Rattle.model_images.proofs.Savable.{times_fit, endpoint_fits, guests_have_bytes}
-use Rattle.model_images.proofs.LoadedBytes.{begun, own_beginning, own_bytes, read_before, same_left, follows, function_bytes, slot_bytes, slots_bytes, values_taken, fitting_slot, slots_end, image_ends, savable_is_declared, taken_by_all}
+use Rattle.std.{proofs.{Common.{◌≡◌, ℕ, zero, suc, ◌+◌, ◌/◌, ◌^◌, ◌<◌, ◌≤◌, Bool, true, false, cond, eqb, List, [], ◌∷◌, ◌++◌, length, Some, None, Option, Ok, Err, refl, sym, ap, ap₂, ◌∙◌, subst, append_assoc, append-nil, arith, length-append}, Math.{Nat.pow-suc, Seq.{drop-append_seam, take-append_seam}}, lemmas.Bool.{and_from, eq-eqb, eqb-true, lt-ltb, ltb-true}}, specs.{Prelude.{take, drop, is_some}, Option.option_map_or}}
+use Rattle.lists.{specs.Elements.Each, proofs.{EachLemmas.{each_map, each_parts}, Tests.{left_true, right_true}}}
+use Rattle.model_registers.specs.{Registers.File, ConfigAddress.latched, EndpointTable.endpoint_reset, Decoding.Function}
+use Rattle.model_guests.specs.{Slots.Slots, Lone.LoneGuest, Guests.lone_of, Text.Text, WorldNow.WorldNow}
+use Rattle.model_images.{specs.{Images.{SavedFunction, Image, image_of_guest, after_load, can_hold, fit_cells, Fits, FitsSlot, FitSlots}, Layouts.{Parsed, parsed, le_bytes, number, fit_times, optional}, ImageBytes.{magic, version, function_layout, image_layout, declaration_bytes, image_bytes, image_of}, ByteLaws.{AreBytes, Spells, HasBytes, IsDeclared}, LoadedBytes.{Left, then_read, after_beginning, after_bytes, after_values, after_slot, after_slots_front, at_end, after_slots, after_number, after_latch, header, after_image_front, fault_of, load_fault, after_load_bytes}, LoadedLaws.{AcceptedIsImage, LoadsImage, RefusedStays, KeepsSavedBytes}, TakenBytes.{le_number, values_begin, slot_size, taken_slot, taken_slots, taken_image, SlotsAreTaken, ImageIsTaken, HoldsDeclared, IsDeclaredGuest, AcceptedIsTaken}, FrontBytes.slots_size}, proofs.{Loading.keeps_what_was_saved, Numbers.{number_again, number_is, number_spells}, Layouts.fit_count, ImageBytes.{bytes_are_read, parts_of, FunctionParts, function_parts, parts_fit, slot_fits}, Savable.{times_fit, endpoint_fits, guests_have_bytes}, LoadedBytes.{begun, own_beginning, own_bytes, read_before, same_left, follows, function_bytes, slot_bytes, slots_bytes, values_taken, fitting_slot, slots_end, image_ends, savable_is_declared, taken_by_all}}}
 
 -- ---- values
 

@@ -1,32 +1,10 @@
 -- Bytes that a machine doesn't refuse: they are an image that fits it, and each guest stands there as it takes it.
-use Rattle.std.proofs.Common.{◌≡◌, ◌<◌, ◌^◌, ◌&&◌, ℕ, zero, suc, true, List, [], ◌∷◌, ◌++◌, length, None, Result, Ok, sym, ap, ◌∙◌, subst, append-nil, arith}
-use Rattle.std.specs.Prelude.{map, flat_map}
-use Rattle.std.specs.Result.{result_err}
-use Rattle.std.proofs.lemmas.Bool.{and_from, lt-ltb}
-use Rattle.lists.specs.Elements.{Each}
-use Rattle.lists.proofs.EachLemmas.{each_map, each_parts}
-use Rattle.lists.proofs.Tests.{left_true, right_true}
-use Rattle.model_board.specs.Paths.{Path}
-use Rattle.model_board.specs.AtReset.{board_at}
+use Rattle.std.{proofs.{Common.{◌≡◌, ◌<◌, ◌^◌, ◌&&◌, ℕ, zero, suc, true, List, [], ◌∷◌, ◌++◌, length, None, Result, Ok, sym, ap, ◌∙◌, subst, append-nil, arith}, lemmas.Bool.{and_from, lt-ltb}}, specs.{Prelude.{map, flat_map}, Result.result_err}}
+use Rattle.lists.{specs.Elements.Each, proofs.{EachLemmas.{each_map, each_parts}, Tests.{left_true, right_true}}}
+use Rattle.model_board.specs.{Paths.Path, AtReset.board_at}
 use Rattle.model_guests.specs.WorldNow.{WorldNow, names_now}
 use Rattle.model_handoff.specs.ViewLaws.{seated_files}
-use Rattle.model_images.specs.MachineImages.{SavedGuest, MachineImage, saved_handoff, saved_names, shown_handoff, restored_guest}
-use Rattle.model_images.specs.MachineLaws.{IsSavableWorld}
-use Rattle.model_images.proofs.Machines.{opens_alike}
-use Rattle.model_images.specs.Layouts.{parsed, number, fit_times, repeated}
-use Rattle.model_images.specs.ImageBytes.{image_layout}
-use Rattle.model_images.specs.ByteLaws.{AreBytes, Spells}
-use Rattle.model_images.specs.LoadedBytes.{after_beginning, after_bytes, at_end}
-use Rattle.model_images.specs.MachineBytes.{machine_magic, machine_version, board_layout, name_layout, paths_layout, guest_layout, machine_bytes, machine_of}
-use Rattle.model_images.specs.MachineByteLaws.{HasMachineBytes, IsWritableName, CanBeCompared, IsWritableMachine}
-use Rattle.model_images.specs.LoadedMachines.{and_then, with_paths, guest_at, read_guests, machine_header, known_bytes, held_bytes, under_guests, read_held, read_machine, after_read}
-use Rattle.model_images.specs.LoadedMachineLaws.{ReadFits, AcceptedIsMachine, IsGuestThere, ReadStandsThere, RefusedKeeps}
-use Rattle.model_images.proofs.Layouts.{fit_count}
-use Rattle.model_images.proofs.MachineBytes.{guest_is, told_bytes, machine_bytes_are_read}
-use Rattle.model_images.proofs.LoadedBytes.{begun, follows, fitting_front, fitting_accepted}
-use Rattle.model_images.proofs.ReadMachines.{from_then, same_ok, AreGoodGuests, guests_good, guests_spelled}
-use Rattle.model_images.proofs.SeatedPaths.{guests_served, guests_hold, guests_sit}
-use Rattle.model_images.proofs.SavableMachines.{state_fits, name_fits, writable_now, writable_under, declared_written}
+use Rattle.model_images.{specs.{MachineImages.{SavedGuest, MachineImage, saved_handoff, saved_names, shown_handoff, restored_guest}, MachineLaws.IsSavableWorld, Layouts.{parsed, number, fit_times, repeated}, ImageBytes.image_layout, ByteLaws.{AreBytes, Spells}, LoadedBytes.{after_beginning, after_bytes, at_end}, MachineBytes.{machine_magic, machine_version, board_layout, name_layout, paths_layout, guest_layout, machine_bytes, machine_of}, MachineByteLaws.{HasMachineBytes, IsWritableName, CanBeCompared, IsWritableMachine}, LoadedMachines.{and_then, with_paths, guest_at, read_guests, machine_header, known_bytes, held_bytes, under_guests, read_held, read_machine, after_read}, LoadedMachineLaws.{ReadFits, AcceptedIsMachine, IsGuestThere, ReadStandsThere, RefusedKeeps}}, proofs.{Machines.opens_alike, Layouts.fit_count, MachineBytes.{guest_is, told_bytes, machine_bytes_are_read}, LoadedBytes.{begun, follows, fitting_front, fitting_accepted}, ReadMachines.{from_then, same_ok, AreGoodGuests, guests_good, guests_spelled}, SeatedPaths.{guests_served, guests_hold, guests_sit}, SavableMachines.{state_fits, name_fits, writable_now, writable_under, declared_written}}}
 
 -- these bytes, and no more
 all_there : (xs bytes left rest : List ℕ) → after_bytes 907 xs bytes ≡ Ok left → at_end left ≡ Ok rest → bytes ≡ xs

@@ -1,48 +1,13 @@
 -- A machine that can be written whole, at first and after each request.
 --     HoldsWritable, AllHold      a function holds what it can hold, in bytes; all functions of guests
 --     rewritten      so a world can be written after any change that keeps its names, and after which all hold so
-use Rattle.std.proofs.Common.{◌≡◌, ◌<◌, ◌^◌, ℕ, suc, List, [], ◌∷◌, Bool, true, false, cond, length, Option, Some, None, refl, sym, subst, arith}
-use Rattle.std.specs.Prelude.{map, IsTrue, nat_le}
-use Rattle.std.specs.List.{list_all}
-use Rattle.std.specs.Option.{option_map_or}
-use Rattle.std.proofs.lemmas.Bool.Decides.{nat_tests}
-use Rattle.std.proofs.lemmas.List.{length-map}
-use Rattle.lists.specs.Elements.{Each}
-use Rattle.lists.proofs.EachLemmas.{each_both, each_map, each_of_map}
-use Rattle.lists.proofs.Tests.{left_true, right_true}
-use Rattle.model_registers.specs.AccessLaws.{HoldsBytes}
-use Rattle.model_registers.specs.CopiedFiles.{after_reset}
-use Rattle.model_registers.specs.Declarations.{Endpoint}
-use Rattle.model_registers.specs.Decoding.{Function}
-use Rattle.model_registers.specs.EndpointTable.{endpoint_reset}
-use Rattle.model_board.specs.AtReset.{board_at}
-use Rattle.model_board.specs.Board.{Board}
-use Rattle.model_board.specs.Paths.{Path, path_eq}
-use Rattle.model_board.specs.State.{BoardFunction, State}
-use Rattle.model_guests.specs.AgreedBoard.{agreed_function, with_change_at}
-use Rattle.model_guests.specs.Guests.{GuestNow, GuestsNow, lone_of}
-use Rattle.model_guests.specs.Text.{Text}
-use Rattle.model_guests.specs.World.{declared, given_paths, is_letter, is_name, is_name_byte}
-use Rattle.model_guests.specs.WorldNow.{WorldNow, names_now, world_over}
-use Rattle.model_guests.proofs.Along.{names_at_first}
-use Rattle.model_handoff.specs.Actions.{Action, after_action}
-use Rattle.model_handoff.specs.Giving.{with_reset_at}
-use Rattle.model_handoff.specs.Handoffs.{files_given, is_given, taken_over}
-use Rattle.model_handoff.specs.Kept.{IsLawfulOver}
-use Rattle.model_images.specs.Images.{Image, Fits, after_load, after_restart, lone_of_image}
-use Rattle.model_images.specs.FitLaws.{HoldsFitting, IsFitting}
-use Rattle.model_images.specs.Requests.{Request, acts, loads, restarts, after_request}
-use Rattle.model_images.specs.ByteLaws.{HasBytes, IsSavableGuest}
-use Rattle.model_images.specs.MachineByteLaws.{AreWritable, IsWritableName, IsWritableWorld}
-use Rattle.model_images.specs.SavedLaws.{IsWritableRequest, WritableAlong, WritableAtFirst}
-use Rattle.model_images.proofs.ByteCells.{HoldsByteCells, byte_cells_kept}
-use Rattle.model_images.proofs.Counts.{lawful_along_requests, names_stay}
-use Rattle.model_images.proofs.FewFunctions.{few_functions}
-use Rattle.model_images.proofs.Fitting.{fitting_kept, image_fits}
-use Rattle.model_images.proofs.KeptFunctions.{AreKept, Has, action_holds, load_holds, restart_holds}
-use Rattle.model_images.proofs.LoadedBytes.{savable_fits}
-use Rattle.model_images.proofs.SavableMachines.{agreed_bytes, declared_written, writable_picked, written_at_reset}
-use Rattle.model_images.proofs.SavedWorlds.{all_savable, can_be_saved_at_first, fits_after, handoff_after, image_has, reset_declared, slots_have}
+use Rattle.std.{proofs.{Common.{◌≡◌, ◌<◌, ◌^◌, ℕ, suc, List, [], ◌∷◌, Bool, true, false, cond, length, Option, Some, None, refl, sym, subst, arith}, lemmas.{Bool.Decides.nat_tests, List.length-map}}, specs.{Prelude.{map, IsTrue, nat_le}, List.list_all, Option.option_map_or}}
+use Rattle.lists.{specs.Elements.Each, proofs.{EachLemmas.{each_both, each_map, each_of_map}, Tests.{left_true, right_true}}}
+use Rattle.model_registers.specs.{AccessLaws.HoldsBytes, CopiedFiles.after_reset, Declarations.Endpoint, Decoding.Function, EndpointTable.endpoint_reset}
+use Rattle.model_board.specs.{AtReset.board_at, Board.Board, Paths.{Path, path_eq}, State.{BoardFunction, State}}
+use Rattle.model_guests.{specs.{AgreedBoard.{agreed_function, with_change_at}, Guests.{GuestNow, GuestsNow, lone_of}, Text.Text, World.{declared, given_paths, is_letter, is_name, is_name_byte}, WorldNow.{WorldNow, names_now, world_over}}, proofs.Along.names_at_first}
+use Rattle.model_handoff.specs.{Actions.{Action, after_action}, Giving.with_reset_at, Handoffs.{files_given, is_given, taken_over}, Kept.IsLawfulOver}
+use Rattle.model_images.{specs.{Images.{Image, Fits, after_load, after_restart, lone_of_image}, FitLaws.{HoldsFitting, IsFitting}, Requests.{Request, acts, loads, restarts, after_request}, ByteLaws.{HasBytes, IsSavableGuest}, MachineByteLaws.{AreWritable, IsWritableName, IsWritableWorld}, SavedLaws.{IsWritableRequest, WritableAlong, WritableAtFirst}}, proofs.{ByteCells.{HoldsByteCells, byte_cells_kept}, Counts.{lawful_along_requests, names_stay}, FewFunctions.few_functions, Fitting.{fitting_kept, image_fits}, KeptFunctions.{AreKept, Has, action_holds, load_holds, restart_holds}, LoadedBytes.savable_fits, SavableMachines.{agreed_bytes, declared_written, writable_picked, written_at_reset}, SavedWorlds.{all_savable, can_be_saved_at_first, fits_after, handoff_after, image_has, reset_declared, slots_have}}}
 
 abbrev pub HoldsWritable : Option Function → Type 0
 HoldsWritable o = HoldsFitting o × HoldsByteCells o

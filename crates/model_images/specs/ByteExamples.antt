@@ -1,13 +1,8 @@
 -- Worked example: the bytes of a guest of the main board, and what of them is refused.
 --     ByteExamples      what they begin with, how they are read, and by which guests they are taken
 use Rattle.std.specs.Prelude.{[], ◌∷◌, ◌≡◌, ◌++◌, Some, None, codes, take, drop, length}
-use Rattle.model_guests.specs.World.{declarations}
-use Rattle.model_guests.specs.Lone.{reset_guest}
-use Rattle.model_guests.specs.Examples.{main_world}
-use Rattle.model_images.specs.ImageExamples.{at_work, its_image}
-use Rattle.model_images.specs.ImageBytes.{image_bytes, image_of}
-use Rattle.model_images.specs.LoadedBytes.{load_fault}
-use Rattle.model_images.specs.Differences.{fault_text}
+use Rattle.model_guests.specs.{World.declarations, Lone.reset_guest, Examples.main_world}
+use Rattle.model_images.specs.{ImageExamples.{at_work, its_image}, ImageBytes.{image_bytes, image_of}, LoadedBytes.load_fault, Differences.fault_text}
 
 pub record ByteExamples : Type 0 where
   pub many : length (image_bytes its_image) ≡ 500

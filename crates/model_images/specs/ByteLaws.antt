@@ -10,17 +10,9 @@
 --     GuestsHaveBytes      the image of such a guest has bytes
 use Rattle.std.specs.Prelude.{◌≡◌, ◌<◌, ℕ, List, ◌++◌, Option, Some, None, IsTrue, ⊤, length}
 use Rattle.lists.specs.Elements.{Each}
-use Rattle.model_registers.specs.Cell.{IsCell}
-use Rattle.model_registers.specs.AccessLaws.{HoldsBytes}
-use Rattle.model_registers.specs.Declarations.{Region, ConfigBlock, Endpoint}
-use Rattle.model_registers.specs.DeclarationRules.{IsLawfulEndpoint}
-use Rattle.model_registers.specs.Decoding.{Function}
-use Rattle.model_registers.specs.ConfigAddress.{latched}
+use Rattle.model_registers.specs.{Cell.IsCell, AccessLaws.HoldsBytes, Declarations.{Region, ConfigBlock, Endpoint}, DeclarationRules.IsLawfulEndpoint, Decoding.Function, ConfigAddress.latched}
 use Rattle.model_guests.specs.Lone.{LoneGuest}
-use Rattle.model_images.specs.Images.{Image, image_of_lone, Fits}
-use Rattle.model_images.specs.FitLaws.{IsFittingFunction}
-use Rattle.model_images.specs.Layouts.{Layout, Parsed, parsed}
-use Rattle.model_images.specs.ImageBytes.{image_layout, image_bytes, image_of}
+use Rattle.model_images.specs.{Images.{Image, image_of_lone, Fits}, FitLaws.IsFittingFunction, Layouts.{Layout, Parsed, parsed}, ImageBytes.{image_layout, image_bytes, image_of}}
 
 abbrev pub AreBytes : List ℕ → Type 0
 AreBytes bs = Each (λ b. b < 256) bs

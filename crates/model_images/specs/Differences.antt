@@ -9,19 +9,10 @@
 --     SlotDifference, slots_difference, image_difference g bytes      the same with the slot, of the first slot that is refused
 --     holder_text, field_text, difference_text, fault_text g bytes      its text; nothing where no field is another one
 --     DifferencesAreTold      one is told where the bytes are refused as an image of other functions, and nowhere else
-use Rattle.std.specs.Prelude.{List, [], ◌∷◌, ◌≡◌, ◌++◌, ℕ, ◌+◌, ◌==◌, if◌then◌else◌, Bool, false, length, take, flat_map, Option, Some, None, option_map, is_some, codes, decimal, Ok, Err}
-use Rattle.std.specs.Option.{option_map_or}
-use Rattle.model_registers.specs.Cell.{Cell}
-use Rattle.model_registers.specs.Declarations.{Region, ConfigBlock, Endpoint}
-use Rattle.model_registers.specs.Decoding.{Function}
-use Rattle.model_guests.specs.Slots.{Slots}
-use Rattle.model_guests.specs.Text.{Text}
-use Rattle.model_guests.specs.PathTexts.{hexadecimal}
-use Rattle.model_guests.specs.Lone.{LoneGuest}
-use Rattle.model_images.specs.Layouts.{le_bytes}
-use Rattle.model_images.specs.ImageBytes.{magic, version, kind_number}
-use Rattle.model_images.specs.LoadedBytes.{Left, then_read, after_bytes, after_slot, after_latch, after_beginning, load_fault}
-use Rattle.model_images.specs.TakenBytes.{le_number}
+use Rattle.std.specs.{Prelude.{List, [], ◌∷◌, ◌≡◌, ◌++◌, ℕ, ◌+◌, ◌==◌, if◌then◌else◌, Bool, false, length, take, flat_map, Option, Some, None, option_map, is_some, codes, decimal, Ok, Err}, Option.option_map_or}
+use Rattle.model_registers.specs.{Cell.Cell, Declarations.{Region, ConfigBlock, Endpoint}, Decoding.Function}
+use Rattle.model_guests.specs.{Slots.Slots, Text.Text, PathTexts.hexadecimal, Lone.LoneGuest}
+use Rattle.model_images.specs.{Layouts.le_bytes, ImageBytes.{magic, version, kind_number}, LoadedBytes.{Left, then_read, after_bytes, after_slot, after_latch, after_beginning, load_fault}, TakenBytes.le_number}
 
 -- ---- fields
 

@@ -6,18 +6,9 @@
 --     declarations_of, SavedFits      the image of such a guest fits each guest of equal declarations
 use Rattle.std.specs.Prelude.{◌≡◌, List, [], ◌∷◌, map, Option, Some, None, option_map, ⊤, IsTrue, IsSome, false}
 use Rattle.lists.specs.Elements.{Each}
-use Rattle.model_registers.specs.Declarations.{Endpoint}
-use Rattle.model_registers.specs.EndpointTable.{endpoint_reset}
-use Rattle.model_registers.specs.CopiedFiles.{shape_of}
-use Rattle.model_registers.specs.Decoding.{Function}
-use Rattle.model_registers.specs.ConfigAddress.{latched}
-use Rattle.model_guests.specs.Text.{Text}
-use Rattle.model_guests.specs.World.{World}
-use Rattle.model_guests.specs.Lone.{LoneGuest}
-use Rattle.model_guests.specs.Guests.{GuestNow, GuestsNow, guests_at_first, guest_named, lone_of}
-use Rattle.model_guests.specs.WorldNow.{WorldNow}
-use Rattle.model_images.specs.Images.{saved, image_of_guest, fits_declaration, Fits}
-use Rattle.model_images.specs.Requests.{Request, acts, loads, restarts, after_request, after_requests}
+use Rattle.model_registers.specs.{Declarations.Endpoint, EndpointTable.endpoint_reset, CopiedFiles.shape_of, Decoding.Function, ConfigAddress.latched}
+use Rattle.model_guests.specs.{Text.Text, World.World, Lone.LoneGuest, Guests.{GuestNow, GuestsNow, guests_at_first, guest_named, lone_of}, WorldNow.WorldNow}
+use Rattle.model_images.specs.{Images.{saved, image_of_guest, fits_declaration, Fits}, Requests.{Request, acts, loads, restarts, after_request, after_requests}}
 
 pub record IsFittingFunction (f : Function) : Type 0 where
   pub shape : shape_of f.file ≡ shape_of (endpoint_reset f.decl false)

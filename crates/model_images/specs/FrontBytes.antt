@@ -5,14 +5,9 @@
 --     HasEachCell, SizeIsTold      a function that has all its cells; the image of a guest of such has so many bytes
 use Rattle.std.specs.Prelude.{List, [], ◌∷◌, ◌≡◌, ◌≤◌, ℕ, ◌+◌, false, length, take, drop, Option, Some, None, Ok, ⊤}
 use Rattle.lists.specs.Elements.{Each}
-use Rattle.model_registers.specs.EndpointTable.{endpoint_reset}
-use Rattle.model_registers.specs.Decoding.{Function}
-use Rattle.model_guests.specs.Slots.{Slots}
-use Rattle.model_guests.specs.Lone.{LoneGuest}
-use Rattle.model_images.specs.Images.{image_of_lone}
-use Rattle.model_images.specs.ImageBytes.{image_bytes}
-use Rattle.model_images.specs.LoadedBytes.{after_image_front, load_fault}
-use Rattle.model_images.specs.TakenBytes.{slot_size, taken_image}
+use Rattle.model_registers.specs.{EndpointTable.endpoint_reset, Decoding.Function}
+use Rattle.model_guests.specs.{Slots.Slots, Lone.LoneGuest}
+use Rattle.model_images.specs.{Images.image_of_lone, ImageBytes.image_bytes, LoadedBytes.{after_image_front, load_fault}, TakenBytes.{slot_size, taken_image}}
 
 abbrev pub slots_size : Slots → ℕ
 slots_size [] = 0

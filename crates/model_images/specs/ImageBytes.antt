@@ -5,13 +5,8 @@
 --     declaration_bytes, image_bytes      the bytes of a declaration, and of an image
 --     image_of bytes      the image whose bytes they are
 use Rattle.std.specs.Prelude.{List, ℕ, ◌==◌, true, false, if◌then◌else◌, nat_lt, length, Option}
-use Rattle.model_registers.specs.Cell.{Cell}
-use Rattle.model_registers.specs.ConfigAddress.{latched}
-use Rattle.model_registers.specs.Declarations.{Kind, io_kind, mem32, mem64, Region, ConfigBlock, Endpoint}
-use Rattle.model_registers.specs.EndpointTable.{endpoint_reset}
-use Rattle.model_images.specs.Images.{SavedFunction, Image, fit_cells}
-use Rattle.model_images.specs.Layouts.{Layout, number, checked, through, followed, both, exactly, repeated, counted}
-use Rattle.model_images.specs.Layouts.{optional, whole}
+use Rattle.model_registers.specs.{Cell.Cell, ConfigAddress.latched, Declarations.{Kind, io_kind, mem32, mem64, Region, ConfigBlock, Endpoint}, EndpointTable.endpoint_reset}
+use Rattle.model_images.specs.{Images.{SavedFunction, Image, fit_cells}, Layouts.{Layout, number, checked, through, followed, both, exactly, repeated, counted, optional, whole}}
 
 -- `PCIG`, and the first form of images
 abbrev pub magic : ℕ

@@ -4,12 +4,7 @@
 --     elsewhere      another board, on which its functions stand behind a bridge; the image is loaded into its guest
 use Rattle.std.specs.Prelude.{[], ◌∷◌, ◌≡◌, codes, length}
 use Rattle.model_board.specs.State.{State}
-use Rattle.model_guests.specs.World.{declarations}
-use Rattle.model_guests.specs.Lone.{LoneGuest, reset_guest}
-use Rattle.model_guests.specs.Guests.{lone_of}
-use Rattle.model_guests.specs.Inputs.{own_line, after_inputs}
-use Rattle.model_guests.specs.WorldNow.{WorldNow, world_over}
-use Rattle.model_guests.specs.Examples.{main_world, second_world}
+use Rattle.model_guests.specs.{World.declarations, Lone.{LoneGuest, reset_guest}, Guests.lone_of, Inputs.{own_line, after_inputs}, WorldNow.{WorldNow, world_over}, Examples.{main_world, second_world}}
 use Rattle.model_images.specs.Images.{Image, image_of_lone, lone_of_image, after_load, at_reset}
 
 -- Command, a base, a byte in memory, and the latch

@@ -6,20 +6,9 @@
 --     at_reset, after_restart name w      a guest with all functions and its latch at reset; the world with this one so
 --     fixed_bits, can_hold, fit_cells      what a cell, and what the cells of a function, can come to hold
 --     Fits i g      what fits a guest: equal declarations slot by slot, and what their cells can come to hold
-use Rattle.std.specs.Prelude.{List, [], ◌∷◌, ◌≡◌, ℕ, Bool, true, false, ◌&&◌, ◌||◌, ◌==◌, bit_and, map, Option, Some, None}
-use Rattle.std.specs.Prelude.{option_map, IsTrue, ⊤}
-use Rattle.model_registers.specs.Cell.{Cell, except}
-use Rattle.model_registers.specs.Registers.{PlacedCell, File}
-use Rattle.model_registers.specs.Declarations.{Endpoint}
-use Rattle.model_registers.specs.EndpointTable.{endpoint_reset}
-use Rattle.model_registers.specs.DeviceBytes.{is_device_byte, with_value}
-use Rattle.model_registers.specs.Decoding.{Function}
-use Rattle.model_registers.specs.ConfigAddress.{latched}
-use Rattle.model_guests.specs.Slots.{Slots, reset_function}
-use Rattle.model_guests.specs.Text.{Text}
-use Rattle.model_guests.specs.Lone.{LoneGuest}
-use Rattle.model_guests.specs.Guests.{GuestNow, lone_of, with_guest}
-use Rattle.model_guests.specs.WorldNow.{WorldNow}
+use Rattle.std.specs.Prelude.{List, [], ◌∷◌, ◌≡◌, ℕ, Bool, true, false, ◌&&◌, ◌||◌, ◌==◌, bit_and, map, Option, Some, None, option_map, IsTrue, ⊤}
+use Rattle.model_registers.specs.{Cell.{Cell, except}, Registers.{PlacedCell, File}, Declarations.Endpoint, EndpointTable.endpoint_reset, DeviceBytes.{is_device_byte, with_value}, Decoding.Function, ConfigAddress.latched}
+use Rattle.model_guests.specs.{Slots.{Slots, reset_function}, Text.Text, Lone.LoneGuest, Guests.{GuestNow, lone_of, with_guest}, WorldNow.WorldNow}
 
 -- the values in the order of the cells at reset
 pub record SavedFunction : Type 0 where

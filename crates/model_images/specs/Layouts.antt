@@ -10,9 +10,7 @@
 --     optional L      a byte 0, or a byte 1 and a value
 --     OneOf, either L M      a byte 0 and a value of the one, or a byte 1 and a value of the other
 --     whole L bytes      the value that all these bytes are
-use Rattle.std.specs.Prelude.{List, [], ◌∷◌, ℕ, zero, suc, ◌+◌, ◌*◌, ◌/◌, ◌%◌, ◌^◌, ◌++◌, Bool, true, false, ◌&&◌, ◌==◌}
-use Rattle.std.specs.Prelude.{nat_lt, nat_le, if◌then◌else◌, length, flat_map, Option, Some, None, option_map}
-use Rattle.std.specs.Prelude.{option_and_then}
+use Rattle.std.specs.Prelude.{List, [], ◌∷◌, ℕ, zero, suc, ◌+◌, ◌*◌, ◌/◌, ◌%◌, ◌^◌, ◌++◌, Bool, true, false, ◌&&◌, ◌==◌, nat_lt, nat_le, if◌then◌else◌, length, flat_map, Option, Some, None, option_map, option_and_then}
 
 -- a value, and the bytes after it
 pub record Parsed (A : Type 0) : Type 0 where

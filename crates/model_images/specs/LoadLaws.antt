@@ -9,23 +9,12 @@
 --     BoardAfterLoad, LoadsAlike      of those that it has the board takes what the guest has no copies of
 --     SeatedAfterLoad, LawfulAfterLoad      after a load of what fits guests stay seated, and the world lawful
 --     ShownAfterLoad      and the same handoff is shown
-use Rattle.std.specs.Prelude.{◌≡◌, ℕ, List, Some, IsFalse, IsSome, slice_get}
-use Rattle.std.specs.Str.{bytes_eq}
-use Rattle.model_registers.specs.Registers.{File}
-use Rattle.model_registers.specs.CopiedFiles.{agreed_file}
-use Rattle.model_board.specs.Paths.{Path}
-use Rattle.model_board.specs.Board.{Board}
-use Rattle.model_board.specs.Ports.{file_at}
-use Rattle.model_guests.specs.Text.{Text}
-use Rattle.model_guests.specs.Guests.{guest_named, lone_of, path_in}
-use Rattle.model_guests.specs.WorldNow.{WorldNow, names_now, board_state}
-use Rattle.model_guests.specs.Seated.{AreSeated}
-use Rattle.model_guests.specs.ChangeLaws.{ChangesAlike}
-use Rattle.model_handoff.specs.Kept.{IsLawfulOver}
-use Rattle.model_handoff.specs.ViewLaws.{with_seated_reset}
-use Rattle.model_images.specs.Images.{SavedFunction, Image, image_of_guest, restored, lone_of_image, after_load, at_reset}
-use Rattle.model_images.specs.Images.{after_restart, Fits}
-use Rattle.model_images.specs.Requests.{Request, after_requests, all_told_of, request_inputs}
+use Rattle.std.specs.{Prelude.{◌≡◌, ℕ, List, Some, IsFalse, IsSome, slice_get}, Str.bytes_eq}
+use Rattle.model_registers.specs.{Registers.File, CopiedFiles.agreed_file}
+use Rattle.model_board.specs.{Paths.Path, Board.Board, Ports.file_at}
+use Rattle.model_guests.specs.{Text.Text, Guests.{guest_named, lone_of, path_in}, WorldNow.{WorldNow, names_now, board_state}, Seated.AreSeated, ChangeLaws.ChangesAlike}
+use Rattle.model_handoff.specs.{Kept.IsLawfulOver, ViewLaws.with_seated_reset}
+use Rattle.model_images.specs.{Images.{SavedFunction, Image, image_of_guest, restored, lone_of_image, after_load, at_reset, after_restart, Fits}, Requests.{Request, after_requests, all_told_of, request_inputs}}
 
 abbrev pub KeepsWhatWasSaved : Type 0
 KeepsWhatWasSaved = (b : Board) (w : WorldNow) → AreSeated b w.guests → (name : Text)

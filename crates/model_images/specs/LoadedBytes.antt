@@ -10,20 +10,10 @@
 --     load_fault g bytes      905 where the bytes are no image, 908 where they are one of another version, 906 where they
 --                             declare other functions
 --     after_load_bytes      the world after it
-use Rattle.std.specs.Prelude.{List, [], ◌∷◌, ◌++◌, ℕ, ◌==◌, false, if◌then◌else◌, is_some, Option, Some, None, Result, Ok, Err}
-use Rattle.std.specs.Option.{option_map_or}
-use Rattle.model_registers.specs.Registers.{File}
-use Rattle.model_registers.specs.ConfigAddress.{latched}
-use Rattle.model_registers.specs.EndpointTable.{endpoint_reset}
-use Rattle.model_registers.specs.Decoding.{Function}
-use Rattle.model_guests.specs.Slots.{Slots}
-use Rattle.model_guests.specs.Text.{Text}
-use Rattle.model_guests.specs.Lone.{LoneGuest}
-use Rattle.model_guests.specs.Guests.{lone_of}
-use Rattle.model_guests.specs.WorldNow.{WorldNow}
-use Rattle.model_images.specs.Images.{Image, can_hold, after_load}
-use Rattle.model_images.specs.Layouts.{Parsed, le_bytes, parse_number}
-use Rattle.model_images.specs.ImageBytes.{magic, version, declaration_bytes, image_of}
+use Rattle.std.specs.{Prelude.{List, [], ◌∷◌, ◌++◌, ℕ, ◌==◌, false, if◌then◌else◌, is_some, Option, Some, None, Result, Ok, Err}, Option.option_map_or}
+use Rattle.model_registers.specs.{Registers.File, ConfigAddress.latched, EndpointTable.endpoint_reset, Decoding.Function}
+use Rattle.model_guests.specs.{Slots.Slots, Text.Text, Lone.LoneGuest, Guests.lone_of, WorldNow.WorldNow}
+use Rattle.model_images.specs.{Images.{Image, can_hold, after_load}, Layouts.{Parsed, le_bytes, parse_number}, ImageBytes.{magic, version, declaration_bytes, image_of}}
 
 -- the bytes that are left, or a refusal
 abbrev pub Left : Type 0

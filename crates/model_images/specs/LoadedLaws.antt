@@ -6,16 +6,8 @@
 --     KeepsSavedBytes      bytes that were saved change nothing
 use Rattle.std.specs.Prelude.{◌≡◌, ◌⊎◌, ℕ, List, Some, None}
 use Rattle.model_board.specs.Board.{Board}
-use Rattle.model_guests.specs.Text.{Text}
-use Rattle.model_guests.specs.Lone.{LoneGuest}
-use Rattle.model_guests.specs.Guests.{lone_of}
-use Rattle.model_guests.specs.Seated.{AreSeated}
-use Rattle.model_guests.specs.WorldNow.{WorldNow}
-use Rattle.model_images.specs.Images.{Image, image_of_lone, image_of_guest, after_load, Fits}
-use Rattle.model_images.specs.FitLaws.{declarations_of}
-use Rattle.model_images.specs.ImageBytes.{image_bytes, image_of}
-use Rattle.model_images.specs.ByteLaws.{AreBytes, IsSavableGuest}
-use Rattle.model_images.specs.LoadedBytes.{load_fault, after_load_bytes}
+use Rattle.model_guests.specs.{Text.Text, Lone.LoneGuest, Guests.lone_of, Seated.AreSeated, WorldNow.WorldNow}
+use Rattle.model_images.specs.{Images.{Image, image_of_lone, image_of_guest, after_load, Fits}, FitLaws.declarations_of, ImageBytes.{image_bytes, image_of}, ByteLaws.{AreBytes, IsSavableGuest}, LoadedBytes.{load_fault, after_load_bytes}}
 
 pub record IsFittingImage (g : LoneGuest) (bytes : List ℕ) (i : Image) : Type 0 where
   pub image : image_of bytes ≡ Some i

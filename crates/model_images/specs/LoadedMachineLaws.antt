@@ -13,20 +13,10 @@
 --     RefusedKeeps      refused bytes change nothing
 use Rattle.std.specs.Prelude.{◌≡◌, ◌⊎◌, ℕ, List, ◌++◌, flat_map, Some, None, Ok, IsTrue}
 use Rattle.lists.specs.Elements.{Each}
-use Rattle.model_board.specs.Board.{Board}
-use Rattle.model_board.specs.AtReset.{board_at}
+use Rattle.model_board.specs.{Board.Board, AtReset.board_at}
 use Rattle.model_guests.specs.WorldNow.{WorldNow}
 use Rattle.model_handoff.specs.Kept.{IsLawfulOver}
-use Rattle.model_images.specs.MachineImages.{SavedGuest, MachineImage, image_of_machine, handoff_under, after_load_all}
-use Rattle.model_images.specs.MachineImages.{FitsMachine}
-use Rattle.model_images.specs.MachineLaws.{IsSavableWorld, AreAlike}
-use Rattle.model_images.specs.ImageBytes.{image_bytes}
-use Rattle.model_images.specs.ByteLaws.{AreBytes}
-use Rattle.model_images.specs.LoadedBytes.{after_image_front, load_fault}
-use Rattle.model_images.specs.MachineBytes.{guest_layout, machine_bytes, machine_of}
-use Rattle.model_images.specs.MachineByteLaws.{HasMachineBytes, CanBeCompared, HasKnownBytes, IsWritableMachine, CanBeSaved}
-use Rattle.model_images.specs.LoadedMachines.{guest_at, machine_header, known_bytes, held_bytes, read_machine}
-use Rattle.model_images.specs.LoadedMachines.{load_all_fault, after_load_all_bytes}
+use Rattle.model_images.specs.{MachineImages.{SavedGuest, MachineImage, image_of_machine, handoff_under, after_load_all, FitsMachine}, MachineLaws.{IsSavableWorld, AreAlike}, ImageBytes.image_bytes, ByteLaws.AreBytes, LoadedBytes.{after_image_front, load_fault}, MachineBytes.{guest_layout, machine_bytes, machine_of}, MachineByteLaws.{HasMachineBytes, CanBeCompared, HasKnownBytes, IsWritableMachine, CanBeSaved}, LoadedMachines.{guest_at, machine_header, known_bytes, held_bytes, read_machine, load_all_fault, after_load_all_bytes}}
 
 abbrev pub ReadFits : Type 0
 ReadFits = (w : WorldNow) → IsLawfulOver w → (bytes : List ℕ) (i : MachineImage) → read_machine w bytes ≡ Ok i

@@ -15,29 +15,12 @@
 --                               of another version, 907 where they are that of another board or of other guests, 906
 --                               where they seat what can't be given there
 --     load_all_fault w bytes, after_load_all_bytes bytes w      the refusal, and the world after it
-use Rattle.std.specs.Prelude.{List, [], ◌∷◌, ◌++◌, ℕ, zero, suc, Bool, true, false, not, ◌&&◌, length, map}
-use Rattle.std.specs.Prelude.{if◌then◌else◌, Option, Some, None, option_and_then, Result, Ok, Err}
-use Rattle.std.specs.List.{list_any}
-use Rattle.std.specs.Result.{result_err}
+use Rattle.std.specs.{Prelude.{List, [], ◌∷◌, ◌++◌, ℕ, zero, suc, Bool, true, false, not, ◌&&◌, length, map, if◌then◌else◌, Option, Some, None, option_and_then, Result, Ok, Err}, List.list_any, Result.result_err}
 use Rattle.model_registers.specs.Declarations.{Endpoint}
-use Rattle.model_board.specs.Paths.{Path, path_eq}
-use Rattle.model_board.specs.Board.{Board}
-use Rattle.model_board.specs.AtReset.{board_at}
-use Rattle.model_board.specs.State.{State}
-use Rattle.model_guests.specs.Slots.{reset_function}
-use Rattle.model_guests.specs.Text.{Text}
-use Rattle.model_guests.specs.World.{declared}
-use Rattle.model_guests.specs.Lone.{LoneGuest}
-use Rattle.model_guests.specs.WorldNow.{WorldNow, names_now}
-use Rattle.model_handoff.specs.Giving.{has_closed_region}
-use Rattle.model_handoff.specs.ViewLaws.{with_seated_reset}
-use Rattle.model_images.specs.MachineImages.{SavedGuest, MachineImage, values_in, saved_handoff, shown_handoff}
-use Rattle.model_images.specs.MachineImages.{restored_guest, after_load_all}
-use Rattle.model_images.specs.Layouts.{Parsed, parsed, le_bytes, before, for_each, optional}
-use Rattle.model_images.specs.LoadedBytes.{after_bytes, after_beginning, at_end, after_image_front}
-use Rattle.model_images.specs.TakenBytes.{taken_image}
-use Rattle.model_images.specs.MachineBytes.{machine_magic, machine_version, path_layout, board_layout, name_layout}
-use Rattle.model_images.specs.MachineBytes.{cells_layout}
+use Rattle.model_board.specs.{Paths.{Path, path_eq}, Board.Board, AtReset.board_at, State.State}
+use Rattle.model_guests.specs.{Slots.reset_function, Text.Text, World.declared, Lone.LoneGuest, WorldNow.{WorldNow, names_now}}
+use Rattle.model_handoff.specs.{Giving.has_closed_region, ViewLaws.with_seated_reset}
+use Rattle.model_images.specs.{MachineImages.{SavedGuest, MachineImage, values_in, saved_handoff, shown_handoff, restored_guest, after_load_all}, Layouts.{Parsed, parsed, le_bytes, before, for_each, optional}, LoadedBytes.{after_bytes, after_beginning, at_end, after_image_front}, TakenBytes.taken_image, MachineBytes.{machine_magic, machine_version, path_layout, board_layout, name_layout, cells_layout}}
 
 abbrev pub Read : Type 0 → Type 0
 Read A = Result (Parsed A) ℕ

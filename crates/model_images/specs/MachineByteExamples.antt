@@ -3,18 +3,11 @@
 --     seated_twice, seated_nowhere      an image that gives a function to two guests, and one with a function in a slot
 --                                       that has no path
 --     MachineByteExamples      what they begin with, how they are read, and by which machines they are taken
-use Rattle.std.specs.Prelude.{List, [], ◌∷◌, ◌≡◌, ◌++◌, Some, None, codes, take, drop, length, map, flat_map}
-use Rattle.std.specs.Prelude.{replicate}
+use Rattle.std.specs.Prelude.{List, [], ◌∷◌, ◌≡◌, ◌++◌, Some, None, codes, take, drop, length, map, flat_map, replicate}
 use Rattle.model_registers.specs.Registers.{config, write, all_bytes}
 use Rattle.model_board.specs.AtReset.{reset_state}
-use Rattle.model_guests.specs.World.{World}
-use Rattle.model_guests.specs.Examples.{demo_world, on_bus_0}
-use Rattle.model_guests.specs.AgreedBoard.{with_change_at}
-use Rattle.model_guests.specs.WorldNow.{WorldNow, world_over}
-use Rattle.model_images.specs.MachineExamples.{two_guests, handed, over_firmware, its_machine}
-use Rattle.model_images.specs.MachineImages.{SavedGuest, MachineImage}
-use Rattle.model_images.specs.MachineBytes.{machine_bytes, machine_of}
-use Rattle.model_images.specs.LoadedMachines.{load_all_fault}
+use Rattle.model_guests.specs.{World.World, Examples.{demo_world, on_bus_0}, AgreedBoard.with_change_at, WorldNow.{WorldNow, world_over}}
+use Rattle.model_images.specs.{MachineExamples.{two_guests, handed, over_firmware, its_machine}, MachineImages.{SavedGuest, MachineImage}, MachineBytes.{machine_bytes, machine_of}, LoadedMachines.load_all_fault}
 
 -- guests of other names
 abbrev pub renamed : World

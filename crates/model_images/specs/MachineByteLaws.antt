@@ -17,17 +17,10 @@
 use Rattle.std.specs.Prelude.{◌≡◌, ◌≤◌, ◌<◌, ◌*◌, ◌^◌, ℕ, List, Some, IsTrue, ⊤, length}
 use Rattle.lists.specs.Elements.{Each}
 use Rattle.model_registers.specs.AccessLaws.{HoldsBytes}
-use Rattle.model_board.specs.Board.{Decl, endpoint, bridge}
-use Rattle.model_board.specs.State.{BoardFunction}
-use Rattle.model_findings.specs.Found.{IsNumbered}
-use Rattle.model_findings.specs.Orderly.{IsStateOfBoard}
-use Rattle.model_guests.specs.Guests.{GuestNow}
-use Rattle.model_guests.specs.Text.{Text}
-use Rattle.model_guests.specs.WorldNow.{WorldNow, names_now}
-use Rattle.model_images.specs.MachineImages.{MachineImage, image_of_machine}
-use Rattle.model_images.specs.MachineLaws.{IsSavableWorld}
-use Rattle.model_images.specs.ByteLaws.{AreBytes, IsDeclared, IsSavableGuest}
-use Rattle.model_images.specs.MachineBytes.{machine_layout, machine_bytes, machine_of}
+use Rattle.model_board.specs.{Board.{Decl, endpoint, bridge}, State.BoardFunction}
+use Rattle.model_findings.specs.{Found.IsNumbered, Orderly.IsStateOfBoard}
+use Rattle.model_guests.specs.{Guests.GuestNow, Text.Text, WorldNow.{WorldNow, names_now}}
+use Rattle.model_images.specs.{MachineImages.{MachineImage, image_of_machine}, MachineLaws.IsSavableWorld, ByteLaws.{AreBytes, IsDeclared, IsSavableGuest}, MachineBytes.{machine_layout, machine_bytes, machine_of}}
 
 abbrev pub HasMachineBytes : MachineImage → Type 0
 HasMachineBytes i = IsTrue (machine_layout.fits i)

@@ -9,17 +9,11 @@
 --     machine_bytes i      its bytes
 --     machine_of bytes      the image whose bytes they are
 use Rattle.std.specs.Prelude.{List, ℕ, ◌==◌, if◌then◌else◌, nat_lt, length, Option}
-use Rattle.model_registers.specs.Declarations.{IoDecode, no_io, io16, io32, PrefDecode, no_pref, pref32, pref64}
-use Rattle.model_registers.specs.Declarations.{Endpoint, Bridge}
-use Rattle.model_board.specs.Paths.{Part, Path}
-use Rattle.model_board.specs.Board.{Decl, endpoint, bridge, Row, Board}
+use Rattle.model_registers.specs.Declarations.{IoDecode, no_io, io16, io32, PrefDecode, no_pref, pref32, pref64, Endpoint, Bridge}
+use Rattle.model_board.specs.{Paths.{Part, Path}, Board.{Decl, endpoint, bridge, Row, Board}}
 use Rattle.model_guests.specs.Text.{Text}
 use Rattle.model_handoff.specs.Handoffs.{declared_cells}
-use Rattle.model_images.specs.Images.{Image}
-use Rattle.model_images.specs.MachineImages.{SavedGuest, MachineImage}
-use Rattle.model_images.specs.Layouts.{Layout, number, checked, through, followed, both, exactly, repeated, counted}
-use Rattle.model_images.specs.Layouts.{for_each, optional, OneOf, one, other, either, whole}
-use Rattle.model_images.specs.ImageBytes.{endpoint_layout, image_layout}
+use Rattle.model_images.specs.{Images.Image, MachineImages.{SavedGuest, MachineImage}, Layouts.{Layout, number, checked, through, followed, both, exactly, repeated, counted, for_each, optional, OneOf, one, other, either, whole}, ImageBytes.{endpoint_layout, image_layout}}
 
 -- `PCIM`, and the first form of images of machines
 abbrev pub machine_magic : ℕ

@@ -5,16 +5,9 @@
 --     its_machine      the image of it
 use Rattle.std.specs.Prelude.{List, [], ◌∷◌, ◌≡◌, Some, None, Option, codes, length, map, take}
 use Rattle.model_registers.specs.Registers.{config, write, all_bytes}
-use Rattle.model_board.specs.Paths.{Path}
-use Rattle.model_board.specs.Board.{Row}
-use Rattle.model_board.specs.AtReset.{reset_state}
-use Rattle.model_guests.specs.World.{World}
-use Rattle.model_guests.specs.Examples.{demo_world, on_bus_0}
-use Rattle.model_guests.specs.AgreedBoard.{with_change_at}
-use Rattle.model_guests.specs.WorldNow.{WorldNow, world_over, after_lines}
-use Rattle.model_images.specs.MachineImages.{SavedGuest, MachineImage, image_of_machine, saved_names}
-use Rattle.model_images.specs.MachineImages.{saved_handoff, handoff_under, after_load_all}
-use Rattle.model_images.specs.MachineLaws.{requests_for}
+use Rattle.model_board.specs.{Paths.Path, Board.Row, AtReset.reset_state}
+use Rattle.model_guests.specs.{World.World, Examples.{demo_world, on_bus_0}, AgreedBoard.with_change_at, WorldNow.{WorldNow, world_over, after_lines}}
+use Rattle.model_images.specs.{MachineImages.{SavedGuest, MachineImage, image_of_machine, saved_names, saved_handoff, handoff_under, after_load_all}, MachineLaws.requests_for}
 
 abbrev pub two_guests : World
 two_guests = record demo_world {

@@ -16,16 +16,9 @@
 use Rattle.std.specs.Prelude.{◌≡◌, ℕ, List, Option, None, Some, ⊤, IsTrue, map}
 use Rattle.lists.specs.Elements.{Each}
 use Rattle.model_registers.specs.ConfigAddress.{latched}
-use Rattle.model_board.specs.Paths.{Path}
-use Rattle.model_board.specs.Board.{Board}
-use Rattle.model_board.specs.AtReset.{board_at}
-use Rattle.model_board.specs.State.{BoardFunction, State}
-use Rattle.model_guests.specs.Text.{Text}
-use Rattle.model_guests.specs.Guests.{GuestNow, GuestsNow}
-use Rattle.model_guests.specs.WorldNow.{WorldNow, names_now}
-use Rattle.model_guests.specs.Seated.{AreSeated}
-use Rattle.model_handoff.specs.Regions.{AreServed}
-use Rattle.model_handoff.specs.ViewLaws.{with_seated_reset}
+use Rattle.model_board.specs.{Paths.Path, Board.Board, AtReset.board_at, State.{BoardFunction, State}}
+use Rattle.model_guests.specs.{Text.Text, Guests.{GuestNow, GuestsNow}, WorldNow.{WorldNow, names_now}, Seated.AreSeated}
+use Rattle.model_handoff.specs.{Regions.AreServed, ViewLaws.with_seated_reset}
 use Rattle.model_images.specs.Images.{SavedFunction, Image, values_of, image_of_lone, lone_of_image, fits_declaration}
 
 -- the values of each function of the board, in the order of its cells

@@ -15,22 +15,10 @@
 --     after_load_all_on_machine, LoadsAllOnMachine      a machine after them
 --     LoadsAllByRequests      after these requests, whose images fit, the world is that after the load
 use Rattle.std.specs.Prelude.{◌≡◌, ℕ, zero, suc, List, [], ◌∷◌, ◌++◌, map, flat_map, Option, Some, None}
-use Rattle.model_board.specs.Paths.{Path}
-use Rattle.model_board.specs.AtReset.{board_at}
-use Rattle.model_board.specs.State.{State}
-use Rattle.model_guests.specs.Text.{Text}
-use Rattle.model_guests.specs.World.{World, HasLawfulGuests}
-use Rattle.model_guests.specs.WorldNow.{WorldNow, world_over, names_now}
-use Rattle.model_handoff.specs.Handoffs.{IsHandoff, taken_over}
-use Rattle.model_handoff.specs.Kept.{IsLawfulOver}
-use Rattle.model_handoff.specs.Regions.{CanBeGiven}
-use Rattle.model_handoff.specs.Changes.{MachineNow}
-use Rattle.model_handoff.specs.Actions.{gives, takes}
-use Rattle.model_images.specs.Requests.{Request, acts, loads, after_requests}
-use Rattle.model_images.specs.RequestLaws.{after_all_requests}
-use Rattle.model_images.specs.FitLaws.{AreFitting, AreFittingRequests}
-use Rattle.model_images.specs.MachineImages.{SavedGuest, MachineImage, saved_handoff, shown_handoff, IsShown}
-use Rattle.model_images.specs.MachineImages.{image_of_machine, handoff_under, after_load_all, FitsMachine}
+use Rattle.model_board.specs.{Paths.Path, AtReset.board_at, State.State}
+use Rattle.model_guests.specs.{Text.Text, World.{World, HasLawfulGuests}, WorldNow.{WorldNow, world_over, names_now}}
+use Rattle.model_handoff.specs.{Handoffs.{IsHandoff, taken_over}, Kept.IsLawfulOver, Regions.CanBeGiven, Changes.MachineNow, Actions.{gives, takes}}
+use Rattle.model_images.specs.{Requests.{Request, acts, loads, after_requests}, RequestLaws.after_all_requests, FitLaws.{AreFitting, AreFittingRequests}, MachineImages.{SavedGuest, MachineImage, saved_handoff, shown_handoff, IsShown, image_of_machine, handoff_under, after_load_all, FitsMachine}}
 
 pub record IsSavableWorld (w : WorldNow) : Type 0 where
   pub lawful : IsLawfulOver w

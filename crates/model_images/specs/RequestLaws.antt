@@ -5,16 +5,10 @@
 --     AnswersStayAlong      along requests none of which changes the guest, each of its answers stays
 --     RequestCountsGrow      along requests its count grows by one with each that changes it
 --     AnswersStayByCount      so while its count stays, its answers stay, along fewer than 2^64 changes
-use Rattle.std.specs.Prelude.{◌≡◌, ◌<◌, ◌+◌, ◌^◌, ◌%◌, ℕ, Bool, List, [], ◌∷◌, if◌then◌else◌, IsSome}
-use Rattle.std.specs.Str.{bytes_eq}
-use Rattle.model_guests.specs.Text.{Text}
-use Rattle.model_guests.specs.Guests.{guest_named}
-use Rattle.model_guests.specs.WorldNow.{WorldNow, names_now}
-use Rattle.model_handoff.specs.Kept.{IsLawfulOver}
-use Rattle.model_handoff.specs.Changes.{changes, counts_where, MachineNow}
-use Rattle.model_handoff.specs.CountLaws.{HaveSameAnswers, IsCounted}
-use Rattle.model_images.specs.Requests.{Request, acts, loads, restarts, after_request, after_requests}
-use Rattle.model_images.specs.FitLaws.{AreFittingRequests}
+use Rattle.std.specs.{Prelude.{◌≡◌, ◌<◌, ◌+◌, ◌^◌, ◌%◌, ℕ, Bool, List, [], ◌∷◌, if◌then◌else◌, IsSome}, Str.bytes_eq}
+use Rattle.model_guests.specs.{Text.Text, Guests.guest_named, WorldNow.{WorldNow, names_now}}
+use Rattle.model_handoff.specs.{Kept.IsLawfulOver, Changes.{changes, counts_where, MachineNow}, CountLaws.{HaveSameAnswers, IsCounted}}
+use Rattle.model_images.specs.{Requests.{Request, acts, loads, restarts, after_request, after_requests}, FitLaws.AreFittingRequests}
 
 abbrev pub LawfulAlongRequests : Type 0
 LawfulAlongRequests = (w : WorldNow) → IsLawfulOver w → (requests : List Request) → AreFittingRequests w requests

@@ -6,14 +6,8 @@
 --     OwnInput, inputs_of_request, request_inputs      what is a guest's own of it
 --     told_alone, after_own, all_told_alone, after_all_own      what that comes to over the guest alone
 --     IsolatedByRequests      it decides
-use Rattle.std.specs.Prelude.{◌≡◌, List, [], ◌∷◌, ◌++◌, if◌then◌else◌, map, IsSome}
-use Rattle.std.specs.Str.{bytes_eq}
-use Rattle.model_guests.specs.Accesses.{Reply}
-use Rattle.model_guests.specs.Text.{Text}
-use Rattle.model_guests.specs.Lone.{LoneGuest}
-use Rattle.model_guests.specs.Guests.{guest_named, lone_of}
-use Rattle.model_guests.specs.WorldNow.{WorldNow}
-use Rattle.model_guests.specs.Calls.{CallInput, alone_told, after_own_call}
+use Rattle.std.specs.{Prelude.{◌≡◌, List, [], ◌∷◌, ◌++◌, if◌then◌else◌, map, IsSome}, Str.bytes_eq}
+use Rattle.model_guests.specs.{Accesses.Reply, Text.Text, Lone.LoneGuest, Guests.{guest_named, lone_of}, WorldNow.WorldNow, Calls.{CallInput, alone_told, after_own_call}}
 use Rattle.model_handoff.specs.Actions.{Action, after_action, told_by, inputs_of_action}
 use Rattle.model_images.specs.Images.{Image, lone_of_image, after_load, at_reset, after_restart}
 

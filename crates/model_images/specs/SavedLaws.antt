@@ -13,30 +13,12 @@
 --     NoImageIsRefused      what is refused by 905 is no image
 --     KeepsHandoff r      a request that neither gives a function nor takes one
 --     TakesItsOwn      along such requests a machine takes what was saved of it, and is again what it was
-use Rattle.std.specs.Prelude.{◌≡◌, ℕ, List, [], ◌∷◌, Some, None, IsFalse, IsSome, ⊤}
-use Rattle.std.specs.Str.{bytes_eq}
+use Rattle.std.specs.{Prelude.{◌≡◌, ℕ, List, [], ◌∷◌, Some, None, IsFalse, IsSome, ⊤}, Str.bytes_eq}
 use Rattle.lists.specs.Elements.{Each}
-use Rattle.model_board.specs.AtReset.{board_at}
-use Rattle.model_board.specs.State.{State}
-use Rattle.model_guests.specs.Text.{Text}
-use Rattle.model_guests.specs.World.{World, HasLawfulGuests}
-use Rattle.model_guests.specs.Lone.{LoneGuest}
-use Rattle.model_guests.specs.Guests.{guest_named, lone_of}
-use Rattle.model_guests.specs.WorldNow.{WorldNow, world_over}
-use Rattle.model_handoff.specs.Actions.{calls, gives, takes}
-use Rattle.model_handoff.specs.Handoffs.{taken_over}
-use Rattle.model_handoff.specs.Kept.{IsLawfulOver}
-use Rattle.model_images.specs.Images.{Image, image_of_guest, after_load, Fits}
-use Rattle.model_images.specs.Requests.{Request, acts, loads, restarts, after_request, after_requests, request_inputs}
-use Rattle.model_images.specs.LoadLaws.{copied, AnswersAlike}
-use Rattle.model_images.specs.FitLaws.{declarations_of}
-use Rattle.model_images.specs.MachineLaws.{IsSavableWorld}
-use Rattle.model_images.specs.ImageBytes.{image_bytes, image_of}
-use Rattle.model_images.specs.ByteLaws.{HasBytes, IsSavableGuest}
-use Rattle.model_images.specs.LoadedBytes.{load_fault, after_load_bytes}
-use Rattle.model_images.specs.LoadedLaws.{IsFittingImage}
-use Rattle.model_images.specs.LoadedMachineLaws.{IsTaken}
-use Rattle.model_images.specs.MachineByteLaws.{AreDeclared, AreWritable, CanBeSaved, IsWritableWorld}
+use Rattle.model_board.specs.{AtReset.board_at, State.State}
+use Rattle.model_guests.specs.{Text.Text, World.{World, HasLawfulGuests}, Lone.LoneGuest, Guests.{guest_named, lone_of}, WorldNow.{WorldNow, world_over}}
+use Rattle.model_handoff.specs.{Actions.{calls, gives, takes}, Handoffs.taken_over, Kept.IsLawfulOver}
+use Rattle.model_images.specs.{Images.{Image, image_of_guest, after_load, Fits}, Requests.{Request, acts, loads, restarts, after_request, after_requests, request_inputs}, LoadLaws.{copied, AnswersAlike}, FitLaws.declarations_of, MachineLaws.IsSavableWorld, ImageBytes.{image_bytes, image_of}, ByteLaws.{HasBytes, IsSavableGuest}, LoadedBytes.{load_fault, after_load_bytes}, LoadedLaws.IsFittingImage, LoadedMachineLaws.IsTaken, MachineByteLaws.{AreDeclared, AreWritable, CanBeSaved, IsWritableWorld}}
 
 -- over a handoff, and over what guests get of one
 pub record IsSavedAtFirst (w : World) (s : State) : Type 0 where

@@ -8,11 +8,7 @@
 --     LoadsBySteps      from reset they come to what is restored
 use Rattle.std.specs.Prelude.{List, [], ◌∷◌, ◌≡◌, ℕ, ◌+◌, ◌*◌, ◌<◌, take, drop, length, IsTrue, false}
 use Rattle.lists.specs.Elements.{Each}
-use Rattle.model_registers.specs.Registers.{Place, config, block, after, File, write, all_bytes}
-use Rattle.model_registers.specs.Declarations.{registers_of, Region, ConfigBlock, Endpoint}
-use Rattle.model_registers.specs.DeclarationRules.{IsLawfulEndpoint}
-use Rattle.model_registers.specs.EndpointTable.{base_register, endpoint_reset}
-use Rattle.model_registers.specs.DeviceBytes.{set_value}
+use Rattle.model_registers.specs.{Registers.{Place, config, block, after, File, write, all_bytes}, Declarations.{registers_of, Region, ConfigBlock, Endpoint}, DeclarationRules.IsLawfulEndpoint, EndpointTable.{base_register, endpoint_reset}, DeviceBytes.set_value}
 use Rattle.model_images.specs.Images.{SavedFunction, restored, fits_declaration}
 
 abbrev pub run : (ℕ → Place → File → File) → List ℕ → Place → File → File

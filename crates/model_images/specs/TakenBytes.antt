@@ -11,18 +11,9 @@
 --     AcceptedIsTaken      bytes that are not refused are this image, which fits the guest
 use Rattle.std.specs.Prelude.{List, [], ◌∷◌, ◌≡◌, ◌≤◌, ℕ, ◌+◌, ◌*◌, false, length, take, drop, Option, Some, None, Ok, ⊤}
 use Rattle.lists.specs.Elements.{Each}
-use Rattle.model_registers.specs.ConfigAddress.{latched}
-use Rattle.model_registers.specs.Declarations.{Endpoint}
-use Rattle.model_registers.specs.EndpointTable.{endpoint_reset}
-use Rattle.model_registers.specs.Decoding.{Function}
-use Rattle.model_guests.specs.Slots.{Slots}
-use Rattle.model_guests.specs.Lone.{LoneGuest}
-use Rattle.model_images.specs.Images.{SavedFunction, Image, FitsSlot}
-use Rattle.model_images.specs.Layouts.{parsed, parse_number}
-use Rattle.model_images.specs.ImageBytes.{magic, version, declaration_bytes}
-use Rattle.model_images.specs.ByteLaws.{AreBytes, IsDeclared}
-use Rattle.model_images.specs.LoadedBytes.{after_beginning, after_slot, after_slots, load_fault}
-use Rattle.model_images.specs.LoadedLaws.{IsFittingImage}
+use Rattle.model_registers.specs.{ConfigAddress.latched, Declarations.Endpoint, EndpointTable.endpoint_reset, Decoding.Function}
+use Rattle.model_guests.specs.{Slots.Slots, Lone.LoneGuest}
+use Rattle.model_images.specs.{Images.{SavedFunction, Image, FitsSlot}, Layouts.{parsed, parse_number}, ImageBytes.{magic, version, declaration_bytes}, ByteLaws.{AreBytes, IsDeclared}, LoadedBytes.{after_beginning, after_slot, after_slots, load_fault}, LoadedLaws.IsFittingImage}
 
 abbrev pub le_number : List ℕ → ℕ
 le_number [] = 0

@@ -4,29 +4,7 @@
 //! about both: how they are written, read and loaded.
 #![tactic(auto)]
 
-ghost use Rattle.model_images.specs.FitLaws.{FittingAfter, FittingAlong, FittingAtFirst, SavedFits};
-ghost use Rattle.model_images.specs.ImageExamples.{ImageExamples};
-ghost use Rattle.model_images.specs.LoadLaws.{AnswersAsSaved, BoardAfterLoad, BoardBesideLoad, HandoffAfterLoad, HoldsAsSaved, KeepsWhatWasSaved};
-ghost use Rattle.model_images.specs.LoadLaws.{LawfulAfterLoad, LoadedHolds, LoadsAlike, NamesAfterLoad, OthersAfterLoad};
-ghost use Rattle.model_images.specs.LoadLaws.{PathsAfterLoad, RestartedHolds, SeatedAfterLoad, ShownAfterLoad};
-ghost use Rattle.model_images.specs.MachineExamples.{MachineExamples};
-ghost use Rattle.model_images.specs.MachineLaws.{FittingAfterLoadAll, LawfulAfterLoadAll, LoadAfterSave, LoadsAllByRequests, LoadsAllOnMachine};
-ghost use Rattle.model_images.specs.MachineLaws.{SavableAfterLoadAll, SavableAtFirst, SavedMachineFits, SavesWhatWasLoaded};
-ghost use Rattle.model_images.specs.MachineLaws.{ShownAfterLoadAll, ShownAlike};
-ghost use Rattle.model_images.specs.RequestLaws.{AnswersStayAlong, AnswersStayByCount, LawfulAlongRequests, RequestCountsGrow};
-ghost use Rattle.model_images.specs.Requests.{IsolatedByRequests};
-ghost use Rattle.model_images.specs.StepLaws.{LoadsBySteps};
-ghost use Rattle.model_images.specs.ByteExamples.{ByteExamples};
-ghost use Rattle.model_images.specs.ByteLaws.{BytesAreBytes, BytesAreRead, GuestsHaveBytes, OneImage, ReadAreBytes, ReadIsOfAGuest};
-ghost use Rattle.model_images.specs.Differences.{DifferencesAreTold};
-ghost use Rattle.model_images.specs.FrontBytes.{FrontIsTaken, SizeIsTold};
-ghost use Rattle.model_images.specs.LoadedLaws.{AcceptedIsImage, AlikeAccepted, ImagesDecided, KeepsSavedBytes, LoadsImage, RefusedStays};
-ghost use Rattle.model_images.specs.LoadedMachineLaws.{AcceptedIsMachine, FittingIsAccepted, FittingIsLoaded, MachinesDecided, NoMachineIsRefused};
-ghost use Rattle.model_images.specs.LoadedMachineLaws.{ReadFits, ReadStandsThere, RefusedKeeps, TakesSavedMachine};
-ghost use Rattle.model_images.specs.MachineByteExamples.{MachineByteExamples};
-ghost use Rattle.model_images.specs.MachineByteLaws.{FewFunctions, MachineBytesAreBytes, MachineBytesAreRead, MachineReadAreBytes, MachinesHaveBytes, OneMachineImage};
-ghost use Rattle.model_images.specs.SavedLaws.{CanBeSavedAlong, CanBeSavedAtFirst, NoImageIsRefused, SavesWhatWasTaken, TakesItsOwn, TakesSavedGuest, WritableAlong, WritableAtFirst};
-ghost use Rattle.model_images.specs.TakenBytes.{AcceptedIsTaken, ImageIsTaken, SlotsAreTaken};
+ghost use Rattle.model_images.specs.{FitLaws.{FittingAfter, FittingAlong, FittingAtFirst, SavedFits}, ImageExamples.ImageExamples, LoadLaws.{AnswersAsSaved, BoardAfterLoad, BoardBesideLoad, HandoffAfterLoad, HoldsAsSaved, KeepsWhatWasSaved, LawfulAfterLoad, LoadedHolds, LoadsAlike, NamesAfterLoad, OthersAfterLoad, PathsAfterLoad, RestartedHolds, SeatedAfterLoad, ShownAfterLoad}, MachineExamples.MachineExamples, MachineLaws.{FittingAfterLoadAll, LawfulAfterLoadAll, LoadAfterSave, LoadsAllByRequests, LoadsAllOnMachine, SavableAfterLoadAll, SavableAtFirst, SavedMachineFits, SavesWhatWasLoaded, ShownAfterLoadAll, ShownAlike}, RequestLaws.{AnswersStayAlong, AnswersStayByCount, LawfulAlongRequests, RequestCountsGrow}, Requests.IsolatedByRequests, StepLaws.LoadsBySteps, ByteExamples.ByteExamples, ByteLaws.{BytesAreBytes, BytesAreRead, GuestsHaveBytes, OneImage, ReadAreBytes, ReadIsOfAGuest}, Differences.DifferencesAreTold, FrontBytes.{FrontIsTaken, SizeIsTold}, LoadedLaws.{AcceptedIsImage, AlikeAccepted, ImagesDecided, KeepsSavedBytes, LoadsImage, RefusedStays}, LoadedMachineLaws.{AcceptedIsMachine, FittingIsAccepted, FittingIsLoaded, MachinesDecided, NoMachineIsRefused, ReadFits, ReadStandsThere, RefusedKeeps, TakesSavedMachine}, MachineByteExamples.MachineByteExamples, MachineByteLaws.{FewFunctions, MachineBytesAreBytes, MachineBytesAreRead, MachineReadAreBytes, MachinesHaveBytes, OneMachineImage}, SavedLaws.{CanBeSavedAlong, CanBeSavedAtFirst, NoImageIsRefused, SavesWhatWasTaken, TakesItsOwn, TakesSavedGuest, WritableAlong, WritableAtFirst}, TakenBytes.{AcceptedIsTaken, ImageIsTaken, SlotsAreTaken}};
 
 /// A guest that is loaded with an image holds what the guest held that was saved, in whatever
 /// world, and is told by the same inputs the same. Loading what was saved changes nothing.

@@ -1,28 +1,11 @@
 -- In an orderly state no other region would answer too; in a ready one each region that holds an address answers.
-use Rattle.std.proofs.Common.{◌≡◌, ℕ, true, false, ◌==◌, [], Option, Some, refl, sym, ◌∙◌, arith}
-use Rattle.std.specs.Prelude.{IsTrue}
-use Rattle.std.proofs.lemmas.Bool.{and_from}
-use Rattle.std.proofs.lemmas.Bool.Decides.{nat_tests}
-use Rattle.lists.specs.Elements.{Each, IsIn}
-use Rattle.lists.proofs.Members.{each_in, each_from, in_map, in_filter, in_flat_map}
+use Rattle.std.{proofs.{Common.{◌≡◌, ℕ, true, false, ◌==◌, [], Option, Some, refl, sym, ◌∙◌, arith}, lemmas.Bool.{and_from, Decides.nat_tests}}, specs.Prelude.IsTrue}
+use Rattle.lists.{specs.Elements.{Each, IsIn}, proofs.Members.{each_in, each_from, in_map, in_filter, in_flat_map, from_option, no_elements}}
 use Rattle.model_registers.specs.Decoding.{opens_space}
-use Rattle.model_board.specs.Claims.{Claim, first_claim}
-use Rattle.model_board.specs.Paths.{path_eq}
-use Rattle.model_board.specs.Routing.{RoutingRow, row_of, routing}
-use Rattle.model_board.proofs.PathEnds.{path_self}
-use Rattle.model_set_up.specs.PlacedRegions.{PlacedRegion, claim_in}
-use Rattle.model_set_up.proofs.Holders.{holds_is, holder_first}
-use Rattle.model_findings.specs.OpenRegions.{regions_of, open_of, open_regions}
-use Rattle.model_findings.specs.Orderly.{HasClaimsOfRegions}
-use Rattle.model_findings.proofs.Claims.{orderly_claims}
-use Rattle.lists.proofs.Members.{from_option}
-use Rattle.lists.proofs.Members.{no_elements}
-use Rattle.model_findings.proofs.Witnesses.{problems_decide}
-use Rattle.model_lines.specs.Why.{Told, is_answer, told}
-use Rattle.model_findings.specs.ReadyLaws.{LacksNothing}
-use Rattle.model_lines.specs.WhyLaws.{claim_there, IsTrueTold, OrderlyAnswersAlone, ReadyTellsNothing}
-use Rattle.model_findings.proofs.Lacks.{lacking_nothing}
-use Rattle.model_lines.proofs.Why.{told_true}
+use Rattle.model_board.{specs.{Claims.{Claim, first_claim}, Paths.path_eq, Routing.{RoutingRow, row_of, routing}}, proofs.PathEnds.path_self}
+use Rattle.model_set_up.{specs.PlacedRegions.{PlacedRegion, claim_in}, proofs.Holders.{holds_is, holder_first}}
+use Rattle.model_findings.{specs.{OpenRegions.{regions_of, open_of, open_regions}, Orderly.HasClaimsOfRegions, ReadyLaws.LacksNothing}, proofs.{Claims.orderly_claims, Witnesses.problems_decide, Lacks.lacking_nothing}}
+use Rattle.model_lines.{specs.{Why.{Told, is_answer, told}, WhyLaws.{claim_there, IsTrueTold, OrderlyAnswersAlone, ReadyTellsNothing}}, proofs.Why.told_true}
 
 -- the region of the first claim is the answering one
 answering : (n : ℕ) (q : PlacedRegion) (o : Option Claim) → o ≡ Some (claim_there n q) → is_answer o q ≡ true

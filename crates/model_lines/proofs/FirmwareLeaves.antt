@@ -1,23 +1,11 @@
 -- Whatever firmware does to a handoff, it leaves one.
-use Rattle.std.proofs.Common.{◌≡◌, ℕ, Bool, cond, List, [], ◌∷◌, Some, None, Option, refl, arith}
-use Rattle.std.specs.Prelude.{map}
-use Rattle.std.specs.Option.{option_map_or}
+use Rattle.std.{proofs.Common.{◌≡◌, ℕ, Bool, cond, List, [], ◌∷◌, Some, None, Option, refl, arith}, specs.{Prelude.map, Option.option_map_or}}
 use Rattle.lists.specs.Elements.{Each}
-use Rattle.model_registers.specs.Registers.{config, block, File, write, all_bytes}
-use Rattle.model_registers.specs.CopiedFiles.{shape_of}
-use Rattle.model_board.specs.Paths.{Path, path_eq}
-use Rattle.model_board.specs.Claims.{Claim, first_claim}
-use Rattle.model_board.specs.Cycles.{reached}
-use Rattle.model_board.specs.Ports.{PortTarget, config_address, config_data, ordinary, after_claim_write, after_target_write}
-use Rattle.model_board.specs.State.{BoardFunction, State, with_file, row_at}
-use Rattle.model_registers.specs.Decoding.{io}
-use Rattle.model_guests.specs.Accesses.{Op, reads, writes}
-use Rattle.model_guests.specs.Grammar.{HostTarget, host_configuration, host_port, host_address}
-use Rattle.model_guests.proofs.Seats.{written_shape}
-use Rattle.model_lines.specs.FirmwareLines.{Meaning, meaning, after_meaning, after_line}
-use Rattle.model_lines.specs.HostAccesses.{HostAccess, effect, after_access}
+use Rattle.model_registers.specs.{Registers.{config, block, File, write, all_bytes}, CopiedFiles.shape_of, Decoding.io}
+use Rattle.model_board.specs.{Paths.{Path, path_eq}, Claims.{Claim, first_claim}, Cycles.reached, Ports.{PortTarget, config_address, config_data, ordinary, after_claim_write, after_target_write}, State.{BoardFunction, State, with_file, row_at}}
+use Rattle.model_guests.{specs.{Accesses.{Op, reads, writes}, Grammar.{HostTarget, host_configuration, host_port, host_address}}, proofs.Seats.written_shape}
+use Rattle.model_lines.specs.{FirmwareLines.{Meaning, meaning, after_meaning, after_line}, HostAccesses.{HostAccess, effect, after_access}, FirmwareLeaves.{IsHandoffAlike, AccessLeaves, LinesLeave}}
 use Rattle.model_handoff.specs.Handoffs.{HasDeclaredShape, IsHandoff}
-use Rattle.model_lines.specs.FirmwareLeaves.{IsHandoffAlike, AccessLeaves, LinesLeave}
 
 -- the same functions, of which what cells hold alone may differ
 record Alike (fs gs : List BoardFunction) : Type 0 where

@@ -1,19 +1,8 @@
 -- The guests of a world over a board that was given: lawful, alone with what they have, and as after set-up.
 use Rattle.std.proofs.Common.{arith, rules}
-use Rattle.model_guests.specs.Text.{Text, lines}
-use Rattle.model_guests.specs.Guests.{guests_at_first}
-use Rattle.model_guests.specs.World.{World}
-use Rattle.model_guests.specs.WorldNow.{WorldNow}
-use Rattle.model_handoff.specs.AfterSetUp.{world_at_first}
-use Rattle.model_guests.specs.Inputs.{inputs}
-use Rattle.model_guests.specs.Isolation.{IsDecidedBy, AgreeOn}
-use Rattle.model_handoff.proofs.AfterSetUp.{set_up_isolates}
-use Rattle.model_guests.proofs.Isolation.{isolated_over}
+use Rattle.model_guests.{specs.{Text.{Text, lines}, Guests.guests_at_first, World.World, WorldNow.WorldNow, Inputs.inputs, Isolation.{IsDecidedBy, AgreeOn}}, proofs.Isolation.isolated_over}
+use Rattle.model_handoff.{specs.{AfterSetUp.world_at_first, Handoffs.taken_over}, proofs.{AfterSetUp.set_up_isolates, Alike.taken_lawful, Keeping.keeps_problems, Kept.lawful_along}}
 use Rattle.model_findings.proofs.Witnesses.{problems_decide}
-use Rattle.model_handoff.specs.Handoffs.{taken_over}
-use Rattle.model_handoff.proofs.Alike.{taken_lawful}
-use Rattle.model_handoff.proofs.Keeping.{keeps_problems}
-use Rattle.model_handoff.proofs.Kept.{lawful_along}
 use Rattle.model_lines.specs.GivenLaws.{AreAlike, GivenIsolated, GivenAlike, GivenAsSetUp, GivenStays, OrderlyStays}
 
 pub given_isolated : GivenIsolated

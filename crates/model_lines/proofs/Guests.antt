@@ -1,15 +1,9 @@
 -- What is found is what the guest's accesses land on, and each closed region that holds an address is told.
-use Rattle.std.proofs.Common.{◌≡◌, ℕ, suc, ◌+◌, inl, inr, ◌⊎◌, Bool, true, false, cond, [], ◌∷◌, Option, Some, refl, sym, ap, ◌∙◌, arith}
-use Rattle.std.specs.Prelude.{map, filter}
-use Rattle.std.specs.Fmt.{digits}
-use Rattle.std.specs.Option.{option_map_or}
-use Rattle.lists.specs.Elements.{IsIn}
-use Rattle.lists.proofs.Members.{each_from, in_front, in_back, front_or_back, in_map, from_map, in_filter, from_filter}
-use Rattle.model_registers.specs.Declarations.{Region}
-use Rattle.model_registers.specs.Decoding.{Space, Function, is_open}
+use Rattle.std.{proofs.Common.{◌≡◌, ℕ, suc, ◌+◌, inl, inr, ◌⊎◌, Bool, true, false, cond, [], ◌∷◌, Option, Some, refl, sym, ap, ◌∙◌, arith}, specs.{Prelude.{map, filter}, Fmt.digits, Option.option_map_or}}
+use Rattle.lists.{specs.Elements.IsIn, proofs.Members.{each_from, in_front, in_back, front_or_back, in_map, from_map, in_filter, from_filter}}
+use Rattle.model_registers.specs.{Declarations.Region, Decoding.{Space, Function, is_open}}
 use Rattle.model_guests.specs.Slots.{Slots, slot_at}
-use Rattle.model_lines.specs.WhyGuests.{ClosedRegion, closed_region, region_holds, closed_of, closed_from, FoundAsLocated, ClosedAreTrue, ClosedAreAll, IsClosedThere}
-use Rattle.model_lines.specs.GuestExamples.{GuestExamples}
+use Rattle.model_lines.specs.{WhyGuests.{ClosedRegion, closed_region, region_holds, closed_of, closed_from, FoundAsLocated, ClosedAreTrue, ClosedAreAll, IsClosedThere}, GuestExamples.GuestExamples}
 
 -- ---- what is found
 

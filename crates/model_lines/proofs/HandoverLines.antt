@@ -1,16 +1,8 @@
 -- Where a session hands its board over, and what guests are told then.
 use Rattle.std.proofs.Common.{◌≡◌, List, [], ◌∷◌, Option, None, Some, refl, sym, ap, ◌∙◌, arith}
-use Rattle.model_guests.specs.Text.{Text, lines}
-use Rattle.model_guests.specs.LineRuns.{after_lines}
-use Rattle.model_guests.proofs.Isolation.{isolated_over}
-use Rattle.model_handoff.specs.Handoffs.{taken_over}
-use Rattle.model_handoff.specs.Regions.{HandoffFault, first_fault}
-use Rattle.model_handoff.specs.Changes.{MachineNow, machine_protocol}
-use Rattle.model_lines.specs.Requests.{Request, for_guests, request}
-use Rattle.model_lines.specs.Sessions.{DrivenNow, SessionNow, driven, given, after_handover, handed_over}
-use Rattle.model_lines.specs.Sessions.{after_board_line, after_session_line, session_protocol}
-use Rattle.model_lines.specs.SessionLaws.{IsHandedOver, IsGivenBy, GivenBy, IsolatedSessions}
-use Rattle.model_lines.proofs.SessionLines.{questions_change_nothing, handover_leaves, unasked_after, given_is_script}
+use Rattle.model_guests.{specs.{Text.{Text, lines}, LineRuns.after_lines}, proofs.Isolation.isolated_over}
+use Rattle.model_handoff.specs.{Handoffs.taken_over, Regions.{HandoffFault, first_fault}, Changes.{MachineNow, machine_protocol}}
+use Rattle.model_lines.{specs.{Requests.{Request, for_guests, request}, Sessions.{DrivenNow, SessionNow, driven, given, after_handover, handed_over, after_board_line, after_session_line, session_protocol}, SessionLaws.{IsHandedOver, IsGivenBy, GivenBy, IsolatedSessions}}, proofs.SessionLines.{questions_change_nothing, handover_leaves, unasked_after, given_is_script}}
 
 same_given : (m n : MachineNow) → given m ≡ given n → m ≡ n
 same_given m n is = cc

@@ -1,9 +1,6 @@
 -- What firmware's accesses keep, and what two ways to a register have in common.
-use Rattle.std.proofs.Common.{Bool, cond, refl, ap, arith}
-use Rattle.std.proofs.lemmas.Bool.Decides.{nat_tests}
-use Rattle.model_lines.specs.HostAccesses.{effect}
-use Rattle.model_lines.specs.FirmwareLines.{after_meaning}
-use Rattle.model_lines.specs.FirmwareLaws.{BadLinesChangeNothing, DataIsByNumber, LatchIsPort, LongLinesAlike, ReadsChangeNoRegister, RefusedChangesNothing}
+use Rattle.std.proofs.{Common.{Bool, cond, refl, ap, arith}, lemmas.Bool.Decides.nat_tests}
+use Rattle.model_lines.specs.{HostAccesses.effect, FirmwareLines.after_meaning, FirmwareLaws.{BadLinesChangeNothing, DataIsByNumber, LatchIsPort, LongLinesAlike, ReadsChangeNoRegister, RefusedChangesNothing}}
 
 pub latch_is_port : LatchIsPort
 latch_is_port s v = (refl, refl)

@@ -1,7 +1,5 @@
 -- An access at a port goes where the latch makes it go; the worked examples, by computation.
-use Rattle.std.proofs.Common.{arith}
-use Rattle.std.specs.Fmt.{digits}
-use Rattle.std.proofs.lemmas.Bool.Decides.{nat_tests}
+use Rattle.std.{proofs.{Common.arith, lemmas.Bool.Decides.nat_tests}, specs.Fmt.digits}
 use Rattle.model_lines.specs.WhyPorts.{PortsByLatch, PortExamples}
 
 pub ports_by_latch : PortsByLatch

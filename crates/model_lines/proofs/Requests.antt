@@ -1,14 +1,9 @@
 -- Lines that ask something have no other form.
-use Rattle.std.proofs.Common.{◌≡◌, Bool, true, false, List, [], ◌∷◌, Option, None, Some, codes, refl, arith, rules}
-use Rattle.std.specs.Prelude.{if◌then◌else◌}
-use Rattle.std.specs.Str.{bytes_eq}
-use Rattle.std.proofs.lemmas.Slice.Eq.{bytes_eq-Decides}
-use Rattle.model_guests.specs.Text.{Text, words}
-use Rattle.model_guests.specs.Grammar.{host, is_long}
+use Rattle.std.{proofs.{Common.{◌≡◌, Bool, true, false, List, [], ◌∷◌, Option, None, Some, codes, refl, arith, rules}, lemmas.Slice.Eq.bytes_eq-Decides}, specs.{Prelude.if◌then◌else◌, Str.bytes_eq}}
+use Rattle.model_guests.specs.{Text.{Text, words}, Grammar.{host, is_long}}
+use Rattle.model_lines.specs.{Requests.{Request, request_in, request_of, RequestExamples}, SessionLaws.{HostWordsAreNoForm, IsNoForm, RequestsAreNoForm}}
 use Rattle.model_guests.specs.Lines as script
 use Rattle.model_lines.specs.FirmwareLines as firmware
-use Rattle.model_lines.specs.Requests.{Request, request_in, request_of, RequestExamples}
-use Rattle.model_lines.specs.SessionLaws.{HostWordsAreNoForm, IsNoForm, RequestsAreNoForm}
 
 pub request_examples : RequestExamples
 request_examples = assumption

@@ -1,20 +1,9 @@
 -- What sessions write and leave.
-use Rattle.std.proofs.Common.{◌≡◌, ℕ, ◌++◌, false, List, [], ◌∷◌, None, Some, refl, ap, ◌∙◌, arith}
-use Rattle.std.specs.Option.{option_map_or}
-use Rattle.model_guests.specs.Text.{Text}
-use Rattle.model_guests.specs.LineRuns.{output, after_lines}
-use Rattle.model_guests.specs.WorldNow.{names_now}
+use Rattle.std.{proofs.Common.{◌≡◌, ℕ, ◌++◌, false, List, [], ◌∷◌, None, Some, refl, ap, ◌∙◌, arith}, specs.Option.option_map_or}
+use Rattle.model_guests.specs.{Text.Text, LineRuns.{output, after_lines}, WorldNow.names_now}
+use Rattle.model_lines.{specs.{FirmwareLines.{Meaning, meaning, after_meaning}, Requests.{Request, for_guests, request}, Sessions.{DrivenNow, driven, given, after_handover, after_request, after_meant, after_board_line, after_session_line, session_protocol}, SessionLaws.{IsNoForm, QuestionsChangeNothing, RefusedStays, PlainSessions, DrivenIsFirmware, GivenIsScript}}, proofs.Requests.requests_are_no_form}
+use Rattle.model_handoff.{specs.{Regions.first_fault, Changes.{MachineNow, after_line_on_machine, counts_where, machine_protocol}}, proofs.Aside.{output_aside, after_aside}}
 use Rattle.model_lines.specs.FirmwareLines as firmware
-use Rattle.model_lines.specs.FirmwareLines.{Meaning, meaning, after_meaning}
-use Rattle.model_handoff.specs.Regions.{first_fault}
-use Rattle.model_handoff.specs.Changes.{MachineNow, after_line_on_machine, counts_where, machine_protocol}
-use Rattle.model_handoff.proofs.Aside.{output_aside, after_aside}
-use Rattle.model_lines.specs.Requests.{Request, for_guests, request}
-use Rattle.model_lines.specs.Sessions.{DrivenNow, driven, given, after_handover, after_request}
-use Rattle.model_lines.specs.Sessions.{after_meant, after_board_line, after_session_line, session_protocol}
-use Rattle.model_lines.specs.SessionLaws.{IsNoForm, QuestionsChangeNothing, RefusedStays}
-use Rattle.model_lines.specs.SessionLaws.{PlainSessions, DrivenIsFirmware, GivenIsScript}
-use Rattle.model_lines.proofs.Requests.{requests_are_no_form}
 
 -- ---- what changes nothing
 

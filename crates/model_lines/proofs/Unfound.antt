@@ -1,19 +1,10 @@
 -- A function that has a number and isn't found by it is what an audit says isn't found.
-use Rattle.std.proofs.Common.{◌≡◌, true, false, ◌&&◌, ◌==◌, not, cond, List, [], ◌∷◌, Option, Some, None, refl, ap, ◌∙◌, subst, arith, eqb-true}
-use Rattle.std.specs.Option.{option_map, option_map_or}
-use Rattle.std.proofs.lemmas.Bool.{and_from, not-true, not_from_false}
-use Rattle.std.proofs.lemmas.Bool.Decides.{nat_tests}
-use Rattle.lists.specs.Elements.{IsIn}
-use Rattle.lists.proofs.Members.{in_map, in_filter, from_filter, in_flat_map, from_flat_map}
-use Rattle.lists.proofs.Tests.{left_true, right_true}
-use Rattle.model_board.specs.Paths.{Path, part_eq, path_eq}
-use Rattle.model_board.specs.State.{BoardFunction}
-use Rattle.model_board.specs.Cycles.{BusAddress, reached}
-use Rattle.model_board.proofs.PathOrder.{part_same, part_self, path_same}
-use Rattle.model_findings.specs.Found.{address_now}
-use Rattle.model_findings.specs.Problems as audit
-use Rattle.model_findings.proofs.Found.{lost_function}
+use Rattle.std.{proofs.{Common.{◌≡◌, true, false, ◌&&◌, ◌==◌, not, cond, List, [], ◌∷◌, Option, Some, None, refl, ap, ◌∙◌, subst, arith, eqb-true}, lemmas.Bool.{and_from, not-true, not_from_false, Decides.nat_tests}}, specs.Option.{option_map, option_map_or}}
+use Rattle.lists.{specs.Elements.IsIn, proofs.{Members.{in_map, in_filter, from_filter, in_flat_map, from_flat_map}, Tests.{left_true, right_true}}}
+use Rattle.model_board.{specs.{Paths.{Path, part_eq, path_eq}, State.BoardFunction, Cycles.{BusAddress, reached}}, proofs.PathOrder.{part_same, part_self, path_same}}
+use Rattle.model_findings.{specs.Found.address_now, proofs.Found.lost_function}
 use Rattle.model_lines.specs.Ways.{address_eq, has_number, is_found, not_found, why_number}
+use Rattle.model_findings.specs.Problems as audit
 
 address_same : (a b : BusAddress) → address_eq a b ≡ true → a ≡ b
 address_same a b h = grind (arith, eqb-true, nat_tests, part_same, left_true, right_true)

@@ -1,23 +1,10 @@
 -- A cycle reaches the function at the end of its way, and where it reaches nothing, what is told as missing isn't there.
-use Rattle.std.proofs.Common.{◌≡◌, ℕ, zero, suc, ◌+◌, ◌≤◌, inl, inr, ◌⊎◌, Bool, true, false, ◌&&◌, ◌==◌, cond, List, [], ◌∷◌, ◌++◌, length, Option, Some, None, refl, sym, ap, ap₂, ◌∙◌, subst, arith, append_assoc}
-use Rattle.std.specs.Prelude.{map, find}
-use Rattle.std.proofs.lemmas.Bool.{and_from}
-use Rattle.lists.specs.Elements.{Each, IsIn}
-use Rattle.lists.proofs.EachLemmas.{each_map, each_of_map}
-use Rattle.lists.proofs.Members.{each_in, each_from, in_front, in_back, front_or_back, in_map, in_filter, from_filter}
-use Rattle.lists.proofs.Tests.{left_true, right_true, same_test, second_false}
-use Rattle.model_board.specs.Board.{Row}
-use Rattle.model_board.specs.Cycles.{secondary_register, covers, taker, takes, is_route, ends_in, reached_type1, BusAddress, reached}
-use Rattle.model_board.specs.Paths.{Part, Path, path_eq, parent, last_part, IsPath}
-use Rattle.model_board.specs.State.{BoardFunction, row_at}
-use Rattle.model_board.proofs.PathEnds.{path_self, snoc, length_snoc}
-use Rattle.model_board.proofs.PathOrder.{path_same}
+use Rattle.std.{proofs.{Common.{◌≡◌, ℕ, zero, suc, ◌+◌, ◌≤◌, inl, inr, ◌⊎◌, Bool, true, false, ◌&&◌, ◌==◌, cond, List, [], ◌∷◌, ◌++◌, length, Option, Some, None, refl, sym, ap, ap₂, ◌∙◌, subst, arith, append_assoc}, lemmas.Bool.and_from}, specs.Prelude.{map, find}}
+use Rattle.lists.{specs.Elements.{Each, IsIn}, proofs.{EachLemmas.{each_map, each_of_map}, Members.{each_in, each_from, in_front, in_back, front_or_back, in_map, in_filter, from_filter}, Tests.{left_true, right_true, same_test, second_false}, FirstFound.found_in}}
+use Rattle.model_board.{specs.{Board.Row, Cycles.{secondary_register, covers, taker, takes, is_route, ends_in, reached_type1, BusAddress, reached}, Paths.{Part, Path, path_eq, parent, last_part, IsPath}, State.{BoardFunction, row_at}}, proofs.{PathEnds.{path_self, snoc, length_snoc}, PathOrder.path_same}}
 use Rattle.model_set_up.proofs.Routes.{ends_is_last, ends_last}
 use Rattle.model_findings.specs.Orderly.{IsStateOfBoard}
-use Rattle.lists.proofs.FirstFound.{found_in}
-use Rattle.model_lines.specs.Ways.{way_by, way, takers, takers_by, takers_down, WayEnd, on_bus, no_taker, end_by, way_end, bridges_on_way, takers_on_way, end_of, reached_at, Missing, missing_at, missing, not_found, why_number}
-use Rattle.model_lines.specs.WhyLaws.{IsWay, bus_after, IsPassed, IsTaking, IsUnfound, IsMissing, NumbersExplained}
-use Rattle.model_lines.proofs.Unfound.{unfound, all_unfound}
+use Rattle.model_lines.{specs.{Ways.{way_by, way, takers, takers_by, takers_down, WayEnd, on_bus, no_taker, end_by, way_end, bridges_on_way, takers_on_way, end_of, reached_at, Missing, missing_at, missing, not_found, why_number}, WhyLaws.{IsWay, bus_after, IsPassed, IsTaking, IsUnfound, IsMissing, NumbersExplained}}, proofs.Unfound.{unfound, all_unfound}}
 
 -- ---- what find finds
 

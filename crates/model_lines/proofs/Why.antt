@@ -1,31 +1,11 @@
 -- What is told of an address is so, and each region that holds it is told.
-use Rattle.std.proofs.Common.{◌≡◌, ℕ, ◌+◌, ◌-◌, ◌==◌, ◌⊎◌, inl, inr, Bool, true, false, ◌&&◌, not, cond, List, [], ◌∷◌, ◌++◌, Option, Some, None, refl, sym, ap, ◌∙◌, subst, arith}
-use Rattle.std.specs.Prelude.{map, filter, flat_map, reverse, slice_get, IsFalse}
-use Rattle.std.specs.Option.{option_to_list}
-use Rattle.std.proofs.lemmas.List.{reverse-append, reverse-reverse}
-use Rattle.std.proofs.lemmas.Bool.Decides.{nat_tests}
-use Rattle.std.proofs.lemmas.Bool.{and_from, not-true, not_from_false, or_parts}
-use Rattle.lists.specs.Elements.{Each, IsIn}
-use Rattle.lists.proofs.Members.{each_from, in_front, in_back, front_or_back, in_map, from_map, in_filter, from_filter, in_flat_map, from_flat_map, all_from}
-use Rattle.lists.proofs.Indices.{index_in}
-use Rattle.model_registers.specs.Declarations.{Bridge}
-use Rattle.model_registers.specs.Decoding.{Space, io, memory, opens_space, is_open, command_word, Hit, hit_at}
-use Rattle.model_registers.specs.EndpointTable.{BaseAddress}
-use Rattle.model_registers.specs.Registers.{File}
-use Rattle.model_board.specs.Board.{Decl, endpoint, bridge}
-use Rattle.model_board.specs.Paths.{Path, leads_to}
-use Rattle.model_board.specs.State.{BoardFunction}
-use Rattle.model_board.specs.Windows.{is_in, mem_window, pref_window, is_in_window, forwards}
-use Rattle.model_board.specs.Claims.{Claim, claim_at, is_forwarded, claims, first_claim}
-use Rattle.model_board.specs.Routing.{Ranges, regions, windows, RoutingRow, ranges_of, row_of, routing, row_forwards, is_routed, row_claims}
-use Rattle.model_board.proofs.Routing.{forwarded_by_routing, claims_by_routing, first_of_claims}
+use Rattle.std.{proofs.{Common.{◌≡◌, ℕ, ◌+◌, ◌-◌, ◌==◌, ◌⊎◌, inl, inr, Bool, true, false, ◌&&◌, not, cond, List, [], ◌∷◌, ◌++◌, Option, Some, None, refl, sym, ap, ◌∙◌, subst, arith}, lemmas.{List.{reverse-append, reverse-reverse}, Bool.{Decides.nat_tests, and_from, not-true, not_from_false, or_parts}}}, specs.{Prelude.{map, filter, flat_map, reverse, slice_get, IsFalse}, Option.option_to_list}}
+use Rattle.lists.{specs.Elements.{Each, IsIn}, proofs.{Members.{each_from, in_front, in_back, front_or_back, in_map, from_map, in_filter, from_filter, in_flat_map, from_flat_map, all_from, from_option}, Indices.index_in}}
+use Rattle.model_registers.specs.{Declarations.Bridge, Decoding.{Space, io, memory, opens_space, is_open, command_word, Hit, hit_at}, EndpointTable.BaseAddress, Registers.File}
+use Rattle.model_board.{specs.{Board.{Decl, endpoint, bridge}, Paths.{Path, leads_to}, State.BoardFunction, Windows.{is_in, mem_window, pref_window, is_in_window, forwards}, Claims.{Claim, claim_at, is_forwarded, claims, first_claim}, Routing.{Ranges, regions, windows, RoutingRow, ranges_of, row_of, routing, row_forwards, is_routed, row_claims}}, proofs.Routing.{forwarded_by_routing, claims_by_routing, first_of_claims}}
 use Rattle.model_set_up.specs.PlacedRegions.{PlacedRegion, holds}
-use Rattle.model_findings.specs.OpenRegions.{region_now, regions_of}
-use Rattle.model_findings.specs.Agents.{bridge_agent, answers}
-use Rattle.model_findings.proofs.Answering.{bridge_answers}
-use Rattle.model_lines.specs.Why.{windows_now, hindrance, Cause, closed_by, stopped_at, closing, stop, stops, causes_of, Told, is_answer, holders, told_of, told, is_closed, forwarder, forwarders}
-use Rattle.model_lines.specs.WhyLaws.{IsAnswering, IsForwarding, LiesOutside, IsTrueHindrance, claim_there, IsTrueCause, IsTrueTold, AddressesExplained}
-use Rattle.lists.proofs.Members.{from_option}
+use Rattle.model_findings.{specs.{OpenRegions.{region_now, regions_of}, Agents.{bridge_agent, answers}}, proofs.Answering.bridge_answers}
+use Rattle.model_lines.specs.{Why.{windows_now, hindrance, Cause, closed_by, stopped_at, closing, stop, stops, causes_of, Told, is_answer, holders, told_of, told, is_closed, forwarder, forwarders}, WhyLaws.{IsAnswering, IsForwarding, LiesOutside, IsTrueHindrance, claim_there, IsTrueCause, IsTrueTold, AddressesExplained}}
 
 -- ---- an open region that is forwarded to has a claim
 

@@ -1,15 +1,8 @@
 -- What leaves a board at reset as it is: reads, and all that is refused.
-use Rattle.std.proofs.Common.{◌≡◌, ℕ, true, false, Option, None, Some, refl, arith}
-use Rattle.std.specs.Prelude.{if◌then◌else◌, is_some}
-use Rattle.std.specs.Option.{option_map_or}
-use Rattle.std.proofs.lemmas.Bool.{or_parts}
+use Rattle.std.{proofs.{Common.{◌≡◌, ℕ, true, false, Option, None, Some, refl, arith}, lemmas.Bool.or_parts}, specs.{Prelude.{if◌then◌else◌, is_some}, Option.option_map_or}}
 use Rattle.model_board.specs.State.{State}
-use Rattle.model_guests.specs.Accesses.{Op, reads, writes, refused}
-use Rattle.model_guests.specs.Grammar.{HostTarget}
-use Rattle.model_lines.specs.HostAccesses.{perform, effect}
-use Rattle.model_lines.specs.FirmwareLines.{Meaning, meaning}
-use Rattle.model_lines.specs.Sessions.{DrivenNow, is_done, after_meant}
-use Rattle.model_lines.specs.SessionLaws.{AccessesTellWritten, LinesTellWritten}
+use Rattle.model_guests.specs.{Accesses.{Op, reads, writes, refused}, Grammar.HostTarget}
+use Rattle.model_lines.specs.{HostAccesses.{perform, effect}, FirmwareLines.{Meaning, meaning}, Sessions.{DrivenNow, is_done, after_meant}, SessionLaws.{AccessesTellWritten, LinesTellWritten}}
 
 -- the reply to an access tells no write that was done
 untold : (s : State) (w : ℕ) (at : HostTarget) (op : Op) (f : Option ℕ) → s.latch ≡ 0

@@ -5,14 +5,9 @@
 --     ReadsChangeNoRegister      a read changes no register of a function
 --     LongLinesAlike      a line of more than 200 bytes writes the same whatever stands in it, and changes nothing
 use Rattle.std.specs.Prelude.{◌≡◌, ◌<◌, ◌+◌, ℕ, IsTrue, IsSome}
-use Rattle.model_board.specs.State.{State}
-use Rattle.model_board.specs.Ports.{latched, is_enabled, selected, selected_register}
-use Rattle.model_guests.specs.Accesses.{reads, writes}
-use Rattle.model_guests.specs.Text.{Text}
-use Rattle.model_guests.specs.Grammar.{HostTarget, host_configuration, host_port, is_long, Who}
-use Rattle.model_guests.specs.HostReads.{shown}
-use Rattle.model_lines.specs.HostAccesses.{HostAccess, fault_of, effect, after_access}
-use Rattle.model_lines.specs.FirmwareLines.{bad, meaning, line_output, after_line}
+use Rattle.model_board.specs.{State.State, Ports.{latched, is_enabled, selected, selected_register}}
+use Rattle.model_guests.specs.{Accesses.{reads, writes}, Text.Text, Grammar.{HostTarget, host_configuration, host_port, is_long, Who}, HostReads.shown}
+use Rattle.model_lines.specs.{HostAccesses.{HostAccess, fault_of, effect, after_access}, FirmwareLines.{bad, meaning, line_output, after_line}}
 
 abbrev pub LatchIsPort : Type 0
 LatchIsPort = (s : State) (v : ℕ)

@@ -2,12 +2,9 @@
 --     IsHandoffAlike s now      now is a handoff of the same board as s
 --     AccessLeaves, LinesLeave      an access of firmware leaves such a one, and so do lines
 use Rattle.std.specs.Prelude.{List, ◌≡◌}
-use Rattle.model_board.specs.AtReset.{board_at}
-use Rattle.model_board.specs.State.{State}
-use Rattle.model_guests.specs.LineRuns.{after_lines}
-use Rattle.model_guests.specs.Text.{Text}
-use Rattle.model_lines.specs.FirmwareLines.{board_protocol}
-use Rattle.model_lines.specs.HostAccesses.{HostAccess, after_access}
+use Rattle.model_board.specs.{AtReset.board_at, State.State}
+use Rattle.model_guests.specs.{LineRuns.after_lines, Text.Text}
+use Rattle.model_lines.specs.{FirmwareLines.board_protocol, HostAccesses.{HostAccess, after_access}}
 use Rattle.model_handoff.specs.Handoffs.{IsHandoff}
 
 pub record IsHandoffAlike (s now : State) : Type 0 where

@@ -4,19 +4,10 @@
 --     text_by s m      what a line of this meaning writes
 --     line_output, after_line      what a line writes, and the board after it
 --     board_protocol      the two as a protocol, so that they go along lines
-use Rattle.std.specs.Prelude.{List, [], ◌∷◌, ℕ, ◌^◌, if◌then◌else◌, Option, None, Some, codes, option_map}
-use Rattle.std.specs.Prelude.{option_and_then}
-use Rattle.std.specs.Str.{bytes_eq}
+use Rattle.std.specs.{Prelude.{List, [], ◌∷◌, ℕ, ◌^◌, if◌then◌else◌, Option, None, Some, codes, option_map, option_and_then}, Str.bytes_eq}
 use Rattle.lists.specs.Elements.{first_of_two}
-use Rattle.model_board.specs.Cycles.{BusAddress}
-use Rattle.model_board.specs.State.{State}
-use Rattle.model_guests.specs.Accesses.{Op, reads, writes, refused}
-use Rattle.model_guests.specs.Text.{Text, words, text_of_lines}
-use Rattle.model_guests.specs.Numbers.{below, number_of}
-use Rattle.model_guests.specs.Grammar.{given, on_word, HostRead, host_configuration, host_port, host_address, host_at}
-use Rattle.model_guests.specs.Grammar.{bus_address, host_read_of, Who, host, nobody, is_comment, is_long}
-use Rattle.model_guests.specs.Replies.{line_text}
-use Rattle.model_guests.specs.LineRuns.{Protocol}
+use Rattle.model_board.specs.{Cycles.BusAddress, State.State}
+use Rattle.model_guests.specs.{Accesses.{Op, reads, writes, refused}, Text.{Text, words, text_of_lines}, Numbers.{below, number_of}, Grammar.{given, on_word, HostRead, host_configuration, host_port, host_address, host_at, bus_address, host_read_of, Who, host, nobody, is_comment, is_long}, Replies.line_text, LineRuns.Protocol}
 use Rattle.model_lines.specs.HostAccesses.{HostAccess, answer, after_access}
 
 -- what is done where a read would go

@@ -8,21 +8,10 @@
 --     GivenStays      along any lines the board is in order, with each region of a given function open
 --     OrderlyStays      of such a board an audit tells no problem
 use Rattle.std.specs.Prelude.{◌≡◌, List, [], IsTrue}
-use Rattle.model_board.specs.AtReset.{board_at}
-use Rattle.model_board.specs.State.{State}
-use Rattle.model_guests.specs.Text.{Text, lines}
-use Rattle.model_guests.specs.Grammar.{has_name}
-use Rattle.model_guests.specs.World.{World, names, IsLawfulWorld}
-use Rattle.model_guests.specs.Replies.{reply_lines}
-use Rattle.model_guests.specs.Guests.{guests_at_first, lone_of}
-use Rattle.model_guests.specs.WorldNow.{WorldNow, world_over, board_state, output, after_lines}
-use Rattle.model_handoff.specs.AfterSetUp.{world_at_first}
-use Rattle.model_guests.specs.Inputs.{inputs}
-use Rattle.model_guests.specs.Isolation.{IsDecidedBy, AgreeOn}
+use Rattle.model_board.specs.{AtReset.board_at, State.State}
+use Rattle.model_guests.specs.{Text.{Text, lines}, Grammar.has_name, World.{World, names, IsLawfulWorld}, Replies.reply_lines, Guests.{guests_at_first, lone_of}, WorldNow.{WorldNow, world_over, board_state, output, after_lines}, Inputs.inputs, Isolation.{IsDecidedBy, AgreeOn}}
+use Rattle.model_handoff.specs.{AfterSetUp.world_at_first, Handoffs.{IsHandoff, taken_over}, Kept.IsLawfulOver, Regions.CanBeGiven}
 use Rattle.model_findings.specs.Problems.{problems}
-use Rattle.model_handoff.specs.Handoffs.{IsHandoff, taken_over}
-use Rattle.model_handoff.specs.Kept.{IsLawfulOver}
-use Rattle.model_handoff.specs.Regions.{CanBeGiven}
 
 -- each given function is at reset, but for what guests have copies of, and the address latch is clear
 pub record IsGiven (w : World) (s : State) (m : WorldNow) : Type 0 where

@@ -3,9 +3,7 @@
 --     GuestExamples      what is told of some places
 use Rattle.std.specs.Prelude.{[], ◌∷◌, ◌≡◌, ℕ, Some, None, codes}
 use Rattle.model_board.specs.Examples.{first_endpoint}
-use Rattle.model_guests.specs.Accesses.{configuration, port, address, writes, access}
-use Rattle.model_guests.specs.Lone.{LoneGuest, reset_guest, after_event}
-use Rattle.model_guests.specs.Text.{text_of_lines}
+use Rattle.model_guests.specs.{Accesses.{configuration, port, address, writes, access}, Lone.{LoneGuest, reset_guest, after_event}, Text.text_of_lines}
 use Rattle.model_lines.specs.WhyGuests.{guest_why_text}
 
 abbrev pub first_guest : LoneGuest

@@ -4,15 +4,10 @@
 --     fault_of      the checks of an access
 --     perform, effect      what an access that no check refuses replies, and the board after it
 --     answer, after_access      the reply to any access, and the board after it
-use Rattle.std.specs.Prelude.{ℕ, if◌then◌else◌, Option, is_some}
-use Rattle.std.specs.Option.{option_map_or}
+use Rattle.std.specs.{Prelude.{ℕ, if◌then◌else◌, Option, is_some}, Option.option_map_or}
 use Rattle.model_registers.specs.Registers.{all_bytes}
-use Rattle.model_board.specs.State.{State}
-use Rattle.model_board.specs.Ports.{after_config_write, after_port_write, after_memory_write}
-use Rattle.model_guests.specs.Accesses.{Op, reads, writes, Reply, answered, done, refused}
-use Rattle.model_guests.specs.Grammar.{HostTarget, host_configuration, host_port, host_address}
-use Rattle.model_guests.specs.Slots.{access_fault}
-use Rattle.model_guests.specs.HostReads.{host_number, is_out_of_host_range, shown}
+use Rattle.model_board.specs.{State.State, Ports.{after_config_write, after_port_write, after_memory_write}}
+use Rattle.model_guests.specs.{Accesses.{Op, reads, writes, Reply, answered, done, refused}, Grammar.{HostTarget, host_configuration, host_port, host_address}, Slots.access_fault, HostReads.{host_number, is_out_of_host_range, shown}}
 
 pub record HostAccess : Type 0 where
   pub target : HostTarget

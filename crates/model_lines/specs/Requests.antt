@@ -4,16 +4,11 @@
 --     Request, request line      what a line asks, if it is of such a form
 --     why_written s a      what is told of why
 --     RequestExamples      what some lines ask
-use Rattle.std.specs.Prelude.{◌≡◌, List, [], ◌∷◌, ℕ, ◌^◌, if◌then◌else◌, Option, Some, None, option_map, codes}
-use Rattle.std.specs.Str.{bytes_eq}
+use Rattle.std.specs.{Prelude.{◌≡◌, List, [], ◌∷◌, ℕ, ◌^◌, if◌then◌else◌, Option, Some, None, option_map, codes}, Str.bytes_eq}
 use Rattle.model_registers.specs.Decoding.{memory}
-use Rattle.model_board.specs.Cycles.{BusAddress}
-use Rattle.model_board.specs.State.{State}
-use Rattle.model_guests.specs.Text.{Text, words}
-use Rattle.model_guests.specs.Numbers.{below, number_of}
-use Rattle.model_guests.specs.Grammar.{on_word, bus_address, is_long}
-use Rattle.model_lines.specs.WhyText.{why_text, why_number_text}
-use Rattle.model_lines.specs.WhyPorts.{why_port_text}
+use Rattle.model_board.specs.{Cycles.BusAddress, State.State}
+use Rattle.model_guests.specs.{Text.{Text, words}, Numbers.{below, number_of}, Grammar.{on_word, bus_address, is_long}}
+use Rattle.model_lines.specs.{WhyText.{why_text, why_number_text}, WhyPorts.why_port_text}
 
 pub data WhyAsked : Type 0 where
   of_address : ℕ → WhyAsked

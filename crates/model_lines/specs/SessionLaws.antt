@@ -11,25 +11,12 @@
 --     IsolatedSessions      from there on a guest is told what its own functions tell it, and holds what they leave
 use Rattle.std.specs.Prelude.{◌≡◌, ◌≢◌, List, [], ◌∷◌, ◌++◌, Some, None, false, codes, IsTrue, IsFalse}
 use Rattle.lists.specs.Elements.{Each}
-use Rattle.model_guests.specs.Text.{Text, lines, words}
-use Rattle.model_guests.specs.Grammar.{has_name, host, is_long}
-use Rattle.model_guests.specs.Guests.{guests_at_first, lone_of}
-use Rattle.model_guests.specs.Inputs.{inputs, lone_output, after_inputs}
+use Rattle.model_guests.specs.{Text.{Text, lines, words}, Grammar.{has_name, host, is_long}, Guests.{guests_at_first, lone_of}, Inputs.{inputs, lone_output, after_inputs}, LineRuns.{output, after_lines}, Lone.reset_guest, Replies.reply_lines, World.{World, names, declarations, HasLawfulNames}}
+use Rattle.model_lines.specs.{FirmwareLines.board_protocol, HostAccesses.HostAccess, Requests.{Request, for_guests, request}, Sessions.{DrivenNow, SessionNow, driven, given, after_board_access, after_board_line, driven_protocol, handed_over, after_session_line, session_protocol}}
+use Rattle.model_handoff.specs.{Regions.{HandoffFault, first_fault}, Changes.{MachineNow, machine_protocol}}
 use Rattle.model_guests.specs.Lines as script
-use Rattle.model_guests.specs.LineRuns.{output, after_lines}
-use Rattle.model_guests.specs.Lone.{reset_guest}
-use Rattle.model_guests.specs.Replies.{reply_lines}
-use Rattle.model_guests.specs.World.{World, names, declarations, HasLawfulNames}
 use Rattle.model_guests.specs.WorldNow as now
 use Rattle.model_lines.specs.FirmwareLines as firmware
-use Rattle.model_lines.specs.FirmwareLines.{board_protocol}
-use Rattle.model_lines.specs.HostAccesses.{HostAccess}
-use Rattle.model_lines.specs.Requests.{Request, for_guests, request}
-use Rattle.model_handoff.specs.Regions.{HandoffFault, first_fault}
-use Rattle.model_handoff.specs.Changes.{MachineNow, machine_protocol}
-use Rattle.model_lines.specs.Sessions.{DrivenNow, SessionNow, driven, given}
-use Rattle.model_lines.specs.Sessions.{after_board_access, after_board_line, driven_protocol, handed_over}
-use Rattle.model_lines.specs.Sessions.{after_session_line, session_protocol}
 
 pub record IsNoForm (line : Text) : Type 0 where
   pub firmware : firmware.meaning line ≡ firmware.bad host 401

@@ -12,30 +12,14 @@
 --     handover_lines f      what is written, by the first fault
 --     session_output, after_session_line      what a line writes, and the session after it
 --     session_protocol      the two as a protocol, so that they go along lines
-use Rattle.std.specs.Prelude.{List, [], ◌∷◌, ℕ, ◌++◌, ◌||◌, Bool, true, false, Option, None, Some, map}
-use Rattle.std.specs.Prelude.{codes, decimal}
-use Rattle.std.specs.Option.{option_map_or}
-use Rattle.model_board.specs.AtReset.{reset_state}
-use Rattle.model_board.specs.State.{BoardFunction, State}
+use Rattle.std.specs.{Prelude.{List, [], ◌∷◌, ℕ, ◌++◌, ◌||◌, Bool, true, false, Option, None, Some, map, codes, decimal}, Option.option_map_or}
+use Rattle.model_board.specs.{AtReset.reset_state, State.{BoardFunction, State}}
 use Rattle.model_set_up.specs.PlacedRegions.{PlacedRegion}
-use Rattle.model_guests.specs.Text.{Text, text_of_lines}
-use Rattle.model_guests.specs.Grammar.{host}
-use Rattle.model_guests.specs.Guests.{GuestNow}
-use Rattle.model_guests.specs.Accesses.{Reply, answered, done, refused}
-use Rattle.model_guests.specs.Replies.{line_text}
-use Rattle.model_guests.specs.PathTexts.{path_text}
-use Rattle.model_guests.specs.World.{World}
-use Rattle.model_guests.specs.WorldNow.{WorldNow, world_over, board_state}
+use Rattle.model_guests.specs.{Text.{Text, text_of_lines}, Grammar.host, Guests.GuestNow, Accesses.{Reply, answered, done, refused}, Replies.line_text, PathTexts.path_text, World.World, WorldNow.{WorldNow, world_over, board_state}, LineRuns.Protocol}
+use Rattle.model_lines.specs.{HostAccesses.{HostAccess, answer, after_access}, FirmwareLines.{Meaning, nothing, asked, bad, meaning, line_output}, Requests.{Request, for_audit, for_ready, for_guests, for_why, request, why_written}}
+use Rattle.model_findings.specs.{AuditText.{audit, audit_line, problem_text, register_text}, ReadyText.ready_report}
+use Rattle.model_handoff.specs.{Handoffs.taken_over, Regions.{HandoffFault, in_disorder, closed_region, first_fault}, Changes.{MachineNow, after_line_on_machine}}
 use Rattle.model_guests.specs.WorldNow as script
-use Rattle.model_guests.specs.LineRuns.{Protocol}
-use Rattle.model_lines.specs.HostAccesses.{HostAccess, answer, after_access}
-use Rattle.model_lines.specs.FirmwareLines.{Meaning, nothing, asked, bad, meaning, line_output}
-use Rattle.model_lines.specs.Requests.{Request, for_audit, for_ready, for_guests, for_why, request, why_written}
-use Rattle.model_findings.specs.AuditText.{audit, audit_line, problem_text, register_text}
-use Rattle.model_findings.specs.ReadyText.{ready_report}
-use Rattle.model_handoff.specs.Handoffs.{taken_over}
-use Rattle.model_handoff.specs.Regions.{HandoffFault, in_disorder, closed_region, first_fault}
-use Rattle.model_handoff.specs.Changes.{MachineNow, after_line_on_machine}
 
 -- ---- a board that firmware drives
 

@@ -8,19 +8,9 @@
 --     is_as_at_reset      one that was never placed, so far as registers tell
 --     Forwarder, forwarders fs space n      each bridge that forwards an address to the bus behind it, down to where its way ends
 --     Why, why fs space n      who answers, what forwards it, and what is told
-use Rattle.std.specs.Prelude.{List, [], ◌∷◌, ◌++◌, ℕ, Bool, true, false, ◌&&◌, ◌==◌, not, if◌then◌else◌, Option, Some, None}
-use Rattle.std.specs.Prelude.{map, filter, flat_map, reverse}
-use Rattle.std.specs.Option.{option_to_list}
-use Rattle.model_registers.specs.Registers.{File}
-use Rattle.model_registers.specs.Declarations.{Bridge, IoDecode, no_io, io16, io32, PrefDecode, no_pref, pref32, pref64}
-use Rattle.model_registers.specs.Decoding.{Space, io, memory, command_word, is_open}
-use Rattle.model_board.specs.Paths.{Path, path_eq, leads_to}
-use Rattle.model_board.specs.Board.{endpoint, bridge}
-use Rattle.model_board.specs.State.{BoardFunction}
-use Rattle.model_board.specs.Windows.{Window, io_window, mem_window, pref_window, forwards}
-use Rattle.model_board.specs.Claims.{Claim, is_forwarded, first_claim}
-use Rattle.model_board.specs.Cycles.{secondary_register}
-use Rattle.model_board.specs.Routing.{row_of}
+use Rattle.std.specs.{Prelude.{List, [], ◌∷◌, ◌++◌, ℕ, Bool, true, false, ◌&&◌, ◌==◌, not, if◌then◌else◌, Option, Some, None, map, filter, flat_map, reverse}, Option.option_to_list}
+use Rattle.model_registers.specs.{Registers.File, Declarations.{Bridge, IoDecode, no_io, io16, io32, PrefDecode, no_pref, pref32, pref64}, Decoding.{Space, io, memory, command_word, is_open}}
+use Rattle.model_board.specs.{Paths.{Path, path_eq, leads_to}, Board.{endpoint, bridge}, State.BoardFunction, Windows.{Window, io_window, mem_window, pref_window, forwards}, Claims.{Claim, is_forwarded, first_claim}, Cycles.secondary_register, Routing.row_of}
 use Rattle.model_set_up.specs.PlacedRegions.{PlacedRegion, holds}
 use Rattle.model_findings.specs.OpenRegions.{regions_of}
 

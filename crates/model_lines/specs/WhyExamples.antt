@@ -2,17 +2,11 @@
 --     changed word v p      the main board after set-up, with a register word of a function written
 --     WhyExamples      what is told
 use Rattle.std.specs.Prelude.{List, [], ◌∷◌, ◌++◌, ◌≡◌, ℕ, codes}
-use Rattle.model_registers.specs.Registers.{config, write}
-use Rattle.model_registers.specs.ByteEnables.{lanes}
-use Rattle.model_registers.specs.Decoding.{memory}
-use Rattle.model_board.specs.Paths.{Path}
-use Rattle.model_board.specs.State.{BoardFunction, with_file}
-use Rattle.model_board.specs.AtReset.{reset_state}
-use Rattle.model_board.specs.Examples.{main_board}
+use Rattle.model_registers.specs.{Registers.{config, write}, ByteEnables.lanes, Decoding.memory}
+use Rattle.model_board.specs.{Paths.Path, State.{BoardFunction, with_file}, AtReset.reset_state, Examples.main_board}
 use Rattle.model_guests.specs.Text.{text_of_lines}
-use Rattle.model_findings.specs.AuditExamples.{on_root, behind, at_bus}
+use Rattle.model_findings.specs.{AuditExamples.{on_root, behind, at_bus}, ReadyExamples.left}
 use Rattle.model_lines.specs.WhyText.{why_text, why_number_text}
-use Rattle.model_findings.specs.ReadyExamples.{left}
 
 abbrev pub changed : ℕ → ℕ → Path → List BoardFunction
 changed word v p = with_file (write (lanes 15) v (config word)) p left

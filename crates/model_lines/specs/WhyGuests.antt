@@ -6,23 +6,14 @@
 --     FoundAsLocated      it is what the guest's accesses land on
 --     ClosedAreTrue, ClosedAreAll      each such region, and no other, is told where nobody answers
 --     GuestExamples      what is told of some places
-use Rattle.std.specs.Prelude.{List, [], ◌∷◌, ◌++◌, ◌≡◌, ℕ, ◌+◌, Bool, ◌&&◌, if◌then◌else◌, nat_le, nat_lt, Option, Some, None, map, filter, codes, decimal, false, true}
-use Rattle.std.specs.Option.{option_map_or}
+use Rattle.std.specs.{Prelude.{List, [], ◌∷◌, ◌++◌, ◌≡◌, ℕ, ◌+◌, Bool, ◌&&◌, if◌then◌else◌, nat_le, nat_lt, Option, Some, None, map, filter, codes, decimal, false, true}, Option.option_map_or}
 use Rattle.lists.specs.Elements.{IsIn, Each}
-use Rattle.model_registers.specs.Registers.{File, Place, config, block}
-use Rattle.model_registers.specs.Declarations.{Region}
-use Rattle.model_registers.specs.Decoding.{Space, io, memory, same_space, space_of, base, Function, command_word, is_open}
-use Rattle.model_board.specs.Cycles.{BusAddress}
-use Rattle.model_board.specs.Ports.{selected}
-use Rattle.model_guests.specs.Accesses.{Target, configuration, port, address}
-use Rattle.model_guests.specs.Slots.{Slots, slot_at, Landing, landing}
-use Rattle.model_guests.specs.Lone.{LoneGuest, Destination, own_latch, no_function, at_target, destination}
-use Rattle.model_guests.specs.Text.{Text, text_of_lines}
-use Rattle.model_guests.specs.PathTexts.{hexadecimal}
+use Rattle.model_registers.specs.{Registers.{File, Place, config, block}, Declarations.Region, Decoding.{Space, io, memory, same_space, space_of, base, Function, command_word, is_open}}
+use Rattle.model_board.specs.{Cycles.BusAddress, Ports.selected}
+use Rattle.model_guests.specs.{Accesses.{Target, configuration, port, address}, Slots.{Slots, slot_at, Landing, landing}, Lone.{LoneGuest, Destination, own_latch, no_function, at_target, destination}, Text.{Text, text_of_lines}, PathTexts.hexadecimal}
 use Rattle.model_findings.specs.AuditText.{register_text, number_text}
 use Rattle.model_handoff.specs.Located.{located}
-use Rattle.model_lines.specs.WhyText.{command_text, why_line}
-use Rattle.model_lines.specs.WhyPorts.{port_use, use_lines}
+use Rattle.model_lines.specs.{WhyText.{command_text, why_line}, WhyPorts.{port_use, use_lines}}
 
 -- ---- what is found
 

@@ -10,26 +10,13 @@
 --     IsWay, IsPassed      each bridge takes the cycle on the bus behind the one before; a bus on which it is taken
 --     IsMissing, IsNumberExplained, NumbersExplained      where a cycle ends, who takes it, and what is missing there
 use Rattle.std.specs.Prelude.{List, [], ◌∷◌, ◌++◌, ◌≡◌, ℕ, ◌-◌, Option, Some, None, IsTrue, IsFalse, ◌⊎◌, ◌==◌, ⊤}
-use Rattle.model_registers.specs.Apertures.{Apertures}
+use Rattle.model_registers.specs.{Apertures.Apertures, Decoding.{Space, command_word, is_open}}
 use Rattle.lists.specs.Elements.{IsIn, Each}
-use Rattle.model_registers.specs.Decoding.{Space, command_word, is_open}
-use Rattle.model_board.specs.Board.{endpoint, bridge}
-use Rattle.model_board.specs.Paths.{Path, leads_to, parent}
-use Rattle.model_board.specs.State.{BoardFunction}
-use Rattle.model_board.specs.Windows.{is_in, forwards}
-use Rattle.model_board.specs.Claims.{Claim, is_forwarded, claims, first_claim}
-use Rattle.model_board.specs.Cycles.{secondary_register, covers, taker, BusAddress, reached}
-use Rattle.model_board.specs.Routing.{row_of, routing}
+use Rattle.model_board.specs.{Board.{endpoint, bridge}, Paths.{Path, leads_to, parent}, State.BoardFunction, Windows.{is_in, forwards}, Claims.{Claim, is_forwarded, claims, first_claim}, Cycles.{secondary_register, covers, taker, BusAddress, reached}, Routing.{row_of, routing}}
 use Rattle.model_set_up.specs.PlacedRegions.{PlacedRegion, holds}
-use Rattle.model_findings.specs.OpenRegions.{regions_of}
-use Rattle.model_findings.specs.Agents.{bridge_agent, answers}
+use Rattle.model_findings.specs.{OpenRegions.regions_of, Agents.{bridge_agent, answers}, Orderly.{IsOrderly, IsStateOfBoard}, Lacks.IsReady}
+use Rattle.model_lines.specs.{Why.{NamedWindow, windows_now, Hindrance, closes, misses, hindrance, Cause, closed_by, stopped_at, Told, is_answer, told, is_as_at_reset, Forwarder, forwarder, why}, Ways.{bridges_on_way, takers_on_way, end_of, reached_at, Missing, no_bridge, no_function, missing, WhyNumber, why_number}}
 use Rattle.model_findings.specs.Problems as audit
-use Rattle.model_findings.specs.Orderly.{IsOrderly, IsStateOfBoard}
-use Rattle.model_findings.specs.Lacks.{IsReady}
-use Rattle.model_lines.specs.Why.{NamedWindow, windows_now, Hindrance, closes, misses, hindrance, Cause}
-use Rattle.model_lines.specs.Why.{closed_by, stopped_at, Told, is_answer, told, is_as_at_reset, Forwarder, forwarder, why}
-use Rattle.model_lines.specs.Ways.{bridges_on_way, takers_on_way, end_of, reached_at, Missing, no_bridge}
-use Rattle.model_lines.specs.Ways.{no_function, missing, WhyNumber, why_number}
 
 -- ---- an address
 

@@ -6,18 +6,11 @@
 --     PortsByLatch      each access at a port goes there
 --     PortExamples      what is told of some ports
 use Rattle.std.specs.Prelude.{List, [], ◌∷◌, ◌++◌, ◌≡◌, ℕ, ◌==◌, if◌then◌else◌, codes}
-use Rattle.model_registers.specs.Decoding.{io}
-use Rattle.model_board.specs.State.{State}
-use Rattle.model_board.specs.Cycles.{BusAddress}
-use Rattle.model_board.specs.Ports.{is_enabled, selected, PortTarget, config_address, config_data, ordinary, port_target}
-use Rattle.model_registers.specs.ConfigAddress.{is_data_port, selected_offset}
-use Rattle.model_guests.specs.Text.{Text, text_of_lines}
-use Rattle.model_guests.specs.PathTexts.{hexadecimal}
-use Rattle.model_findings.specs.AuditText.{space_text, number_text}
-use Rattle.model_lines.specs.Why.{why}
-use Rattle.model_lines.specs.Ways.{why_number}
-use Rattle.model_lines.specs.WhyText.{why_lines, number_lines, whole_text}
-use Rattle.model_findings.specs.ReadyExamples.{left}
+use Rattle.model_registers.specs.{Decoding.io, ConfigAddress.{is_data_port, selected_offset}}
+use Rattle.model_board.specs.{State.State, Cycles.BusAddress, Ports.{is_enabled, selected, PortTarget, config_address, config_data, ordinary, port_target}}
+use Rattle.model_guests.specs.{Text.{Text, text_of_lines}, PathTexts.hexadecimal}
+use Rattle.model_findings.specs.{AuditText.{space_text, number_text}, ReadyExamples.left}
+use Rattle.model_lines.specs.{Why.why, Ways.why_number, WhyText.{why_lines, number_lines, whole_text}}
 
 pub data PortUse : Type 0 where
   -- 4 bytes are the latch; fewer are those of a port like others

@@ -4,22 +4,12 @@
 --     counted, whole_text ls      some lines, with a last one that counts them
 --     why_text      the lines of an address
 --     why_number_text      the lines of a configuration number
-use Rattle.std.specs.Prelude.{List, [], ◌∷◌, ◌++◌, ℕ, ◌==◌, not, if◌then◌else◌, length, map, filter, flat_map, codes, decimal}
-use Rattle.std.specs.Option.{option_map_or}
-use Rattle.std.specs.Prelude.{Option, Some, None}
+use Rattle.std.specs.{Prelude.{List, [], ◌∷◌, ◌++◌, ℕ, ◌==◌, not, if◌then◌else◌, length, map, filter, flat_map, codes, decimal, Option, Some, None}, Option.option_map_or}
 use Rattle.model_registers.specs.Decoding.{Space}
-use Rattle.model_board.specs.Paths.{Path, parent}
-use Rattle.model_board.specs.State.{BoardFunction}
-use Rattle.model_board.specs.Windows.{Window}
-use Rattle.model_board.specs.Claims.{Claim}
-use Rattle.model_board.specs.Cycles.{BusAddress}
-use Rattle.model_guests.specs.Text.{Text, text_of_lines}
-use Rattle.model_guests.specs.Replies.{hex_digits}
-use Rattle.model_guests.specs.PathTexts.{hexadecimal, part_text, path_text}
+use Rattle.model_board.specs.{Paths.{Path, parent}, State.BoardFunction, Windows.Window, Claims.Claim, Cycles.BusAddress}
+use Rattle.model_guests.specs.{Text.{Text, text_of_lines}, Replies.hex_digits, PathTexts.{hexadecimal, part_text, path_text}}
 use Rattle.model_findings.specs.AuditText.{register_text, region_text, space_text, number_text}
-use Rattle.model_lines.specs.Why.{WindowName, for_io, for_memory, for_prefetchable, NamedWindow, Hindrance, closes, misses, Cause, closed_by}
-use Rattle.model_lines.specs.Why.{stopped_at, Told, is_as_at_reset, Forwarder, Why, why}
-use Rattle.model_lines.specs.Ways.{Missing, no_bridge, no_function, WhyNumber, why_number}
+use Rattle.model_lines.specs.{Why.{WindowName, for_io, for_memory, for_prefetchable, NamedWindow, Hindrance, closes, misses, Cause, closed_by, stopped_at, Told, is_as_at_reset, Forwarder, Why, why}, Ways.{Missing, no_bridge, no_function, WhyNumber, why_number}}
 
 abbrev pub command_text : ℕ → Text
 command_text command = codes "Command 0x" ++ hex_digits 4 command

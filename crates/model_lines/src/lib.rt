@@ -7,22 +7,8 @@
 //! given, whoever set it up.
 #![tactic(auto)]
 
-ghost use Rattle.model_lines.specs.WhyExamples.{WhyExamples};
-ghost use Rattle.model_lines.specs.GuestExamples.{GuestExamples};
-ghost use Rattle.model_lines.specs.WhyGuests.{FoundAsLocated, ClosedAreAll, ClosedAreTrue};
-ghost use Rattle.model_lines.specs.WhyPorts.{PortsByLatch, PortExamples};
-ghost use Rattle.model_lines.specs.WhyLaws.{AddressesExplained, NumbersExplained};
-ghost use Rattle.model_lines.specs.WhyLaws.{OrderlyAnswersAlone, ReadyTellsNothing};
+ghost use Rattle.model_lines.specs.{WhyExamples.WhyExamples, GuestExamples.GuestExamples, WhyGuests.{FoundAsLocated, ClosedAreAll, ClosedAreTrue}, WhyPorts.{PortsByLatch, PortExamples}, WhyLaws.{AddressesExplained, NumbersExplained, OrderlyAnswersAlone, ReadyTellsNothing}, FirmwareLaws.{BadLinesChangeNothing, DataIsByNumber, LatchIsPort, LongLinesAlike, ReadsChangeNoRegister, RefusedChangesNothing}, FirmwareLines.board_protocol, Sessions.session_protocol, Requests.RequestExamples, SessionLaws.{HostWordsAreNoForm, QuestionsChangeNothing, RefusedStays, RequestsAreNoForm, DrivenIsFirmware, GivenIsScript, PlainSessions, AccessesTellWritten, GivenBy, IsolatedSessions, LinesTellWritten}, FirmwareLeaves.{AccessLeaves, LinesLeave}, GivenLaws.{GivenAlike, GivenAsSetUp, GivenIsolated, GivenStays, OrderlyStays}};
 ghost use Rattle.model_guests.specs.LineRuns.{AfterAlong, CutIsBeginning, OutputAlong, StoppedIsBeginning};
-ghost use Rattle.model_lines.specs.FirmwareLaws.{BadLinesChangeNothing, DataIsByNumber, LatchIsPort, LongLinesAlike, ReadsChangeNoRegister, RefusedChangesNothing};
-ghost use Rattle.model_lines.specs.FirmwareLines.{board_protocol};
-ghost use Rattle.model_lines.specs.Sessions.{session_protocol};
-ghost use Rattle.model_lines.specs.Requests.{RequestExamples};
-ghost use Rattle.model_lines.specs.SessionLaws.{HostWordsAreNoForm, QuestionsChangeNothing, RefusedStays, RequestsAreNoForm};
-ghost use Rattle.model_lines.specs.SessionLaws.{DrivenIsFirmware, GivenIsScript, PlainSessions};
-ghost use Rattle.model_lines.specs.SessionLaws.{AccessesTellWritten, GivenBy, IsolatedSessions, LinesTellWritten};
-ghost use Rattle.model_lines.specs.FirmwareLeaves.{AccessLeaves, LinesLeave};
-ghost use Rattle.model_lines.specs.GivenLaws.{GivenAlike, GivenAsSetUp, GivenIsolated, GivenStays, OrderlyStays};
 
 /// What is told of an address is so, and each region that holds it answers or is told. In an orderly state no other
 /// region would answer too, and in a ready one nothing is told.

@@ -1,8 +1,7 @@
 -- Lawful regions without their blocks.
 use Rattle.std.proofs.Common.{◌+◌, ◌≤◌, List, [], ◌∷◌, map, arith}
 use Rattle.lists.specs.Elements.{Each, EachPair}
-use Rattle.model_registers.specs.Declarations.{Region, registers_of, IsLawfulRegion, HasLawfulRegions}
-use Rattle.model_registers.specs.OwnCopies.{bare}
+use Rattle.model_registers.specs.{Declarations.{Region, registers_of, IsLawfulRegion, HasLawfulRegions}, OwnCopies.bare}
 
 pub bare_each : (rs : List Region) → Each IsLawfulRegion rs → Each IsLawfulRegion (map bare rs)
 bare_each [] h = tt

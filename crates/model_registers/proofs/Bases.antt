@@ -1,19 +1,7 @@
 -- Base address registers: what a write leaves, and what a read shows.
-use Rattle.std.proofs.Common.{◌≡◌, ℕ, ◌+◌, ◌-◌, ◌*◌, ◌/◌, ◌%◌, ◌^◌, ◌<◌, ◌≤◌, ◌⊎◌, inl, inr, Bool, false, List, [], ◌∷◌, ◌++◌, length, map, sym, ap, ap₂, ◌∙◌, subst, arith, eqb}
-use Rattle.std.specs.Prelude.{bit_and, bit_or}
-use Rattle.std.specs.Int.Bits.{or_zero_r, and_zero_r}
-use Rattle.std.proofs.lemmas.Nat.{and_mask, and_block, or_block, or_lt, and_le_l, and_le_r, and_comm, mod_low, pow-add, pow_pos, shr_split, mod_below, pow_below, shr_below, shl_below}
-use Rattle.std.proofs.lemmas.Bool.{cases_lt, cases_eq, cond-true, cond-false, eq-eqb, ne_eqb, and_from, and_left, and_right}
-use Rattle.std.proofs.Math.Nat.{mod-eq_of_lt, add-zero, mul-le-mul_right, mul_assoc}
-use Rattle.std.proofs.lemmas.Nat.Bits.{and_high}
-use Rattle.model_registers.specs.Registers.{File, read, write}
+use Rattle.std.{proofs.{Common.{◌≡◌, ℕ, ◌+◌, ◌-◌, ◌*◌, ◌/◌, ◌%◌, ◌^◌, ◌<◌, ◌≤◌, ◌⊎◌, inl, inr, Bool, false, List, [], ◌∷◌, ◌++◌, length, map, sym, ap, ap₂, ◌∙◌, subst, arith, eqb}, lemmas.{Nat.{and_mask, and_block, or_block, or_lt, and_le_l, and_le_r, and_comm, mod_low, pow-add, pow_pos, shr_split, mod_below, pow_below, shr_below, shl_below, Bits.and_high}, Bool.{cases_lt, cases_eq, cond-true, cond-false, eq-eqb, ne_eqb, and_from, and_left, and_right}}, Math.Nat.{mod-eq_of_lt, add-zero, mul-le-mul_right, mul_assoc}}, specs.{Prelude.{bit_and, bit_or}, Int.Bits.{or_zero_r, and_zero_r}}}
+use Rattle.model_registers.{specs.{Registers.{File, read, write}, ByteEnables.{is_enabled, enabled_bits}, Declarations.{Kind, registers_of, IsLawfulSize}, EndpointTable.{base_register, type_bits, base_width, BaseAddress, register_cells, base_file, IsLawfulBase}, BaseLaws.{shown, word_at, overwritten, rebased, rewritten, ReadsOfBases, WritesOfBases}}, proofs.{EnabledBytes.{read_field, write_field}, Parts.{IsApart, read_apart, write_apart, write_append, write_none, read_none}}}
 use Rattle.lists.specs.Elements.{Each}
-use Rattle.model_registers.specs.ByteEnables.{is_enabled, enabled_bits}
-use Rattle.model_registers.specs.Declarations.{Kind, registers_of, IsLawfulSize}
-use Rattle.model_registers.specs.EndpointTable.{base_register, type_bits, base_width, BaseAddress, register_cells, base_file, IsLawfulBase}
-use Rattle.model_registers.specs.BaseLaws.{shown, word_at, overwritten, rebased, rewritten, ReadsOfBases, WritesOfBases}
-use Rattle.model_registers.proofs.EnabledBytes.{read_field, write_field}
-use Rattle.model_registers.proofs.Parts.{IsApart, read_apart, write_apart, write_append, write_none, read_none}
 
 -- what such a mask leaves: all k low bits, and the high ones that q lacks
 rest_of_blocks : (q d n : ℕ) → 0 < n → (q + 1 + d) * n - 1 - q * n ≡ d * n + (n - 1)

@@ -1,12 +1,6 @@
 -- A number of 1, 2 or 4 bytes is the enabled bytes of the word in which it lies.
-use Rattle.std.proofs.Common.{◌≡◌, ℕ, zero, suc, ◌+◌, ◌-◌, ◌*◌, ◌/◌, ◌%◌, ◌^◌, ◌<◌, ◌≤◌, Bool, true, false, cond, List, [], ◌∷◌, ◌++◌, replicate, refl, sym, ap, ◌∙◌, arith}
-use Rattle.std.proofs.Math.Nat.{pow-suc, one-le-pow, div-div-eq-div-mul, mul-div_cancel, mod-one, mul_comm}
-use Rattle.model_registers.proofs.RegisterFiles.{low_byte}
-use Rattle.std.specs.Prelude.{⊤}
-use Rattle.model_registers.specs.Cell.{written}
-use Rattle.model_registers.specs.Registers.{Place, config, block, after, offset_of, File, cell_at, changed, read, write, number, all_bytes, all_ones}
-use Rattle.model_registers.specs.ByteEnables.{lanes, enabled_bytes, into_lanes, word_of}
-use Rattle.model_registers.specs.AccessLaws.{AlignedLiesInWord, NumberByLanes, LanesFit, NumberFromWord, AllOnesByLanes, WriteByLanes, DisabledRead, DisabledStay, HoldsBytes, NumberFits, ReadsEnabled}
+use Rattle.std.{proofs.{Common.{◌≡◌, ℕ, zero, suc, ◌+◌, ◌-◌, ◌*◌, ◌/◌, ◌%◌, ◌^◌, ◌<◌, ◌≤◌, Bool, true, false, cond, List, [], ◌∷◌, ◌++◌, replicate, refl, sym, ap, ◌∙◌, arith}, Math.Nat.{pow-suc, one-le-pow, div-div-eq-div-mul, mul-div_cancel, mod-one, mul_comm}}, specs.Prelude.⊤}
+use Rattle.model_registers.{proofs.RegisterFiles.low_byte, specs.{Cell.written, Registers.{Place, config, block, after, offset_of, File, cell_at, changed, read, write, number, all_bytes, all_ones}, ByteEnables.{lanes, enabled_bytes, into_lanes, word_of}, AccessLaws.{AlignedLiesInWord, NumberByLanes, LanesFit, NumberFromWord, AllOnesByLanes, WriteByLanes, DisabledRead, DisabledStay, HoldsBytes, NumberFits, ReadsEnabled}}}
 
 pub aligned_lies_in_word : AlignedLiesInWord
 aligned_lies_in_word = grind arith

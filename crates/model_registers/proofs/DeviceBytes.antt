@@ -1,12 +1,6 @@
 -- A device's own bytes: none of them is a guest's copy, and a change of one cell leaves all others.
-use Rattle.std.proofs.Common.{◌≡◌, ℕ, ◌<◌, ◌≤◌, ◌⊎◌, true, false, [], ◌∷◌, refl, arith}
-use Rattle.std.proofs.lemmas.Bool.Decides.{nat_tests}
-use Rattle.model_registers.specs.Cell.{Cell}
-use Rattle.model_registers.specs.Registers.{Place, config, place_eq, File, cell_at, changed}
-use Rattle.model_registers.specs.FileLaws.{has_place}
-use Rattle.model_registers.specs.OwnCopies.{is_own}
-use Rattle.model_registers.specs.DeviceBytes.{is_device_byte}
-use Rattle.model_registers.proofs.RegisterFiles.{place_same}
+use Rattle.std.proofs.{Common.{◌≡◌, ℕ, ◌<◌, ◌≤◌, ◌⊎◌, true, false, [], ◌∷◌, refl, arith}, lemmas.Bool.Decides.nat_tests}
+use Rattle.model_registers.{specs.{Cell.Cell, Registers.{Place, config, place_eq, File, cell_at, changed}, FileLaws.has_place, OwnCopies.is_own, DeviceBytes.is_device_byte}, proofs.RegisterFiles.place_same}
 
 pub device_not_own : (p : Place) → is_device_byte p ≡ true → is_own p ≡ false
 device_not_own p h = grind (arith, nat_tests)

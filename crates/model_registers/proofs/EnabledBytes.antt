@@ -1,15 +1,6 @@
 -- A register of several bytes, read and written where the byte enables say so.
-use Rattle.std.proofs.Common.{◌≡◌, ℕ, suc, ◌+◌, ◌-◌, ◌*◌, ◌/◌, ◌%◌, ◌^◌, ◌<◌, Bool, true, false, cond, List, [], ◌∷◌, ◌++◌, length, refl, sym, ap, ap₂, ◌∙◌, arith}
-use Rattle.std.specs.Prelude.{bit_and, bit_or}
-use Rattle.std.specs.Int.Bits.{or_zero_r, and_zero_r}
-use Rattle.std.proofs.lemmas.Nat.{and_mod, and_mask, and_shr, and_block, and_le_l}
-use Rattle.std.proofs.Math.Nat.{pow-suc}
-use Rattle.model_registers.specs.Cell.{Cell}
-use Rattle.model_registers.specs.Registers.{config, File, read, write, field}
-use Rattle.model_registers.specs.ByteEnables.{enabled_bits}
-use Rattle.model_registers.specs.RegisterLaws.{merged}
-use Rattle.model_registers.proofs.RegisterFiles.{self, below, read_here, merged_low, merged_high, kept}
-use Rattle.model_registers.proofs.Parts.{change_outside}
+use Rattle.std.{proofs.{Common.{◌≡◌, ℕ, suc, ◌+◌, ◌-◌, ◌*◌, ◌/◌, ◌%◌, ◌^◌, ◌<◌, Bool, true, false, cond, List, [], ◌∷◌, ◌++◌, length, refl, sym, ap, ap₂, ◌∙◌, arith}, lemmas.Nat.{and_mod, and_mask, and_shr, and_block, and_le_l}, Math.Nat.pow-suc}, specs.{Prelude.{bit_and, bit_or}, Int.Bits.{or_zero_r, and_zero_r}}}
+use Rattle.model_registers.{specs.{Cell.Cell, Registers.{config, File, read, write, field}, ByteEnables.enabled_bits, RegisterLaws.merged}, proofs.{RegisterFiles.{self, below, read_here, merged_low, merged_high, kept}, Parts.change_outside}}
 
 -- an access above an entry passes it by
 pub read_past : (ons : List Bool) (a b : ℕ) (c : Cell) (file : File) → b < a → read (record { place = config b; cell = c } ∷ file) (config a) ons ≡ read file (config a) ons

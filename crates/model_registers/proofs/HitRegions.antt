@@ -1,11 +1,7 @@
 -- A hit lies in a region of the space, and in the byte lanes of the address.
 use Rattle.std.proofs.Common.{◌≡◌, ℕ, true, Some, arith}
-use Rattle.model_registers.specs.Registers.{File}
-use Rattle.model_registers.specs.Declarations.{Region}
-use Rattle.model_registers.specs.Decoding.{Space, same_space, Hit, hit_of}
-use Rattle.model_registers.specs.DecodingLaws.{IsHitIn, HitIsOfRegion}
-use Rattle.lists.proofs.Tests.{left_true, right_true}
-use Rattle.lists.proofs.FirstFound.{first_some_of}
+use Rattle.model_registers.specs.{Registers.File, Declarations.Region, Decoding.{Space, same_space, Hit, hit_of}, DecodingLaws.{IsHitIn, HitIsOfRegion}}
+use Rattle.lists.proofs.{Tests.{left_true, right_true}, FirstFound.first_some_of}
 
 pub space_same : (x y : Space) → same_space x y ≡ true → x ≡ y
 space_same x y h = grind arith

@@ -1,16 +1,7 @@
 -- Which addresses a function decodes: by its Command and its bases alone.
-use Rattle.std.proofs.Common.{◌≡◌, ℕ, ◌+◌, ◌-◌, ◌*◌, ◌/◌, ◌%◌, ◌^◌, ◌<◌, ◌≤◌, true, false, List, [], ◌∷◌, ◌++◌, map, refl, sym, ap, ap₂, ◌∙◌, arith, append_assoc, lit<, lit≤}
-use Rattle.std.proofs.lemmas.Nat.{shr_split, shr_high}
-use Rattle.std.proofs.Math.Nat.{mod-eq_of_lt}
+use Rattle.std.proofs.{Common.{◌≡◌, ℕ, ◌+◌, ◌-◌, ◌*◌, ◌/◌, ◌%◌, ◌^◌, ◌<◌, ◌≤◌, true, false, List, [], ◌∷◌, ◌++◌, map, refl, sym, ap, ap₂, ◌∙◌, arith, append_assoc, lit<, lit≤}, lemmas.Nat.{shr_split, shr_high}, Math.Nat.mod-eq_of_lt}
 use Rattle.lists.specs.Elements.{Each, EachPair, first_of_two, first_some}
-use Rattle.model_registers.specs.Registers.{config, File, number, all_bytes}
-use Rattle.model_registers.specs.Declarations.{Kind, io_kind, mem32, mem64, Region, least_size, registers_of}
-use Rattle.model_registers.specs.EndpointTable.{base_register, type_bits, base_width, BaseAddress, register_cells, base_file, command_cells, opened, IsLawfulBase, HasLawfulBases}
-use Rattle.model_registers.specs.Decoding.{Space, base, base_address, hit_at, hit_of, first_hit}
-use Rattle.model_registers.proofs.RegisterFiles.{field_reads}
-use Rattle.model_registers.proofs.Parts.{IsBelow, read_above, field_below, below_append}
-use Rattle.model_registers.specs.BaseLaws.{shown}
-use Rattle.model_registers.proofs.Bases.{base_room, base_multiple, size_limits, whole_bound}
+use Rattle.model_registers.{specs.{Registers.{config, File, number, all_bytes}, Declarations.{Kind, io_kind, mem32, mem64, Region, least_size, registers_of}, EndpointTable.{base_register, type_bits, base_width, BaseAddress, register_cells, base_file, command_cells, opened, IsLawfulBase, HasLawfulBases}, Decoding.{Space, base, base_address, hit_at, hit_of, first_hit}, BaseLaws.shown}, proofs.{RegisterFiles.field_reads, Parts.{IsBelow, read_above, field_below, below_append}, Bases.{base_room, base_multiple, size_limits, whole_bound}}}
 
 pub hits_by_bases : (file : File) (rs : List Region) (space : Space) (a : ℕ) → first_hit file rs space a ≡ first_some (hit_at (number file (config 4) 2) space a) (map (base_address file) rs)
 hits_by_bases file [] space a = refl

@@ -1,15 +1,7 @@
 -- A declaration that breaks no rule is lawful, and a lawful one breaks none.
-use Rattle.std.proofs.Common.{◌≡◌, ◌+◌, ◌<◌, ◌≤◌, ◌^◌, Bool, true, ◌&&◌, List, [], ◌∷◌, length, eqb, leb, ltb, None, arith}
-use Rattle.std.specs.Prelude.{IsTrue, bit_and}
-use Rattle.std.specs.List.{list_all}
-use Rattle.std.specs.List.Sorted.{IsPermutation, IsNonDecreasingBy}
-use Rattle.std.proofs.lemmas.Bool.{leb-true, ltb-true, eqb-true, le-leb, lt-ltb, eq-eqb, and_from}
-use Rattle.lists.specs.Elements.{Each, all_pairs}
-use Rattle.model_registers.specs.Declarations.{Region, registers_of, IsLawfulSize, IsLawfulRegion, ConfigBlock, Endpoint}
-use Rattle.model_registers.specs.DeclarationRules.{first_broken, is_config_block, has_own_registers, has_lawful_numbers, blocks_apart, endpoint_rules, IsConfigBlock, FitsRegisters, IsLawfulEndpoint}
-use Rattle.lists.proofs.Tests.{left_true, right_true}
-use Rattle.lists.proofs.EachLemmas.{each_map, each_both, each_test, each_permutation, pairs_test, test_each, test_pairs}
-use Rattle.model_registers.proofs.RegisterOrder.{in_header, sorted_are_lawful, lawful_have_own_registers}
+use Rattle.std.{proofs.{Common.{◌≡◌, ◌+◌, ◌<◌, ◌≤◌, ◌^◌, Bool, true, ◌&&◌, List, [], ◌∷◌, length, eqb, leb, ltb, None, arith}, lemmas.Bool.{leb-true, ltb-true, eqb-true, le-leb, lt-ltb, eq-eqb, and_from}}, specs.{Prelude.{IsTrue, bit_and}, List.{list_all, Sorted.{IsPermutation, IsNonDecreasingBy}}}}
+use Rattle.lists.{specs.Elements.{Each, all_pairs}, proofs.{Tests.{left_true, right_true}, EachLemmas.{each_map, each_both, each_test, each_permutation, pairs_test, test_each, test_pairs}}}
+use Rattle.model_registers.{specs.{Declarations.{Region, registers_of, IsLawfulSize, IsLawfulRegion, ConfigBlock, Endpoint}, DeclarationRules.{first_broken, is_config_block, has_own_registers, has_lawful_numbers, blocks_apart, endpoint_rules, IsConfigBlock, FitsRegisters, IsLawfulEndpoint}}, proofs.RegisterOrder.{in_header, sorted_are_lawful, lawful_have_own_registers}}
 
 -- the four tests of an endpoint
 record Passes (d : Endpoint) : Type 0 where

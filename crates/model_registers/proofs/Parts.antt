@@ -1,8 +1,6 @@
 -- Files that are put together of parts: what a change of one part leaves of the others.
 use Rattle.std.proofs.Common.{◌≡◌, ℕ, zero, suc, ◌+◌, ◌*◌, ◌/◌, ◌%◌, ◌<◌, ◌≤◌, ◌⊎◌, inr, Bool, true, false, cond, List, [], ◌∷◌, ◌++◌, length, refl, ap, ap₂, ◌∙◌, arith, append_assoc}
-use Rattle.model_registers.specs.Cell.{Cell, written}
-use Rattle.model_registers.specs.Registers.{Place, config, place_eq, after, File, cell_at, changed, read, write, field}
-use Rattle.model_registers.proofs.RegisterFiles.{above, below}
+use Rattle.model_registers.{specs.{Cell.{Cell, written}, Registers.{Place, config, place_eq, after, File, cell_at, changed, read, write, field}}, proofs.RegisterFiles.{above, below}}
 
 -- a change is made in each part
 pub changed_append : (f : Cell → Cell) (p : Place) (xs ys : File) → changed f p (xs ++ ys) ≡ changed f p xs ++ changed f p ys

@@ -1,15 +1,6 @@
 -- Laws of register files.
-use Rattle.std.proofs.Common.{◌≡◌, ℕ, zero, suc, ◌+◌, ◌-◌, ◌*◌, ◌/◌, ◌%◌, ◌^◌, ◌<◌, true, false, [], ◌∷◌, refl, sym, ap, ap₂, ◌∙◌, arith, eqb}
-use Rattle.std.specs.Prelude.{bit_and, bit_or}
-use Rattle.std.specs.Int.Bits.{or_zero_r, and_zero_r, and_le_l}
-use Rattle.std.proofs.lemmas.Bool.Decides.{nat_tests}
-use Rattle.std.proofs.lemmas.Bool.{eqb-true}
-use Rattle.std.proofs.lemmas.Nat.{or_mod, and_mod, and_mask, or_shr, and_shr}
-use Rattle.std.proofs.Math.Arith.{mod-mul}
-use Rattle.std.proofs.Math.Nat.{pow-suc, one-le-pow, mod-one, mod-eq_of_lt}
-use Rattle.model_registers.specs.Cell.{Cell}
-use Rattle.model_registers.specs.Registers.{Place, config, place_eq, File, cell_at, changed, field, number, write, all_bytes}
-use Rattle.model_registers.specs.RegisterLaws.{ChangeAtPlace, FieldReads, FieldWrites, merged}
+use Rattle.std.{proofs.{Common.{◌≡◌, ℕ, zero, suc, ◌+◌, ◌-◌, ◌*◌, ◌/◌, ◌%◌, ◌^◌, ◌<◌, true, false, [], ◌∷◌, refl, sym, ap, ap₂, ◌∙◌, arith, eqb}, lemmas.{Bool.{Decides.nat_tests, eqb-true}, Nat.{or_mod, and_mod, and_mask, or_shr, and_shr}}, Math.{Arith.mod-mul, Nat.{pow-suc, one-le-pow, mod-one, mod-eq_of_lt}}}, specs.{Prelude.{bit_and, bit_or}, Int.Bits.{or_zero_r, and_zero_r, and_le_l}}}
+use Rattle.model_registers.specs.{Cell.Cell, Registers.{Place, config, place_eq, File, cell_at, changed, field, number, write, all_bytes}, RegisterLaws.{ChangeAtPlace, FieldReads, FieldWrites, merged}}
 use Rattle.lists.proofs.Tests.{left_true, right_true}
 
 pub place_same : (p q : Place) → place_eq p q ≡ true → p ≡ q

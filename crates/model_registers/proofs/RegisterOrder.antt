@@ -1,17 +1,7 @@
 -- A sort of regions by register gives the regions in register order, and lawful ones.
-use Rattle.std.proofs.Common.{◌≡◌, ℕ, zero, suc, ◌+◌, ◌-◌, ◌<◌, ◌≤◌, Bool, true, false, ◌&&◌, cond, List, [], ◌∷◌, ◌++◌, length, get_or, eqb, leb, ltb, refl, sym, ap, ap₂, ◌∙◌, arith}
-use Rattle.std.specs.Prelude.{IsTrue, count_by}
-use Rattle.std.specs.List.{filter, list_all}
-use Rattle.std.specs.List.Sorted.{IsPermutation, IsNonDecreasingBy}
-use Rattle.std.proofs.lemmas.Bool.{false≢true, leb-true, le-leb, and_from}
-use Rattle.std.proofs.lemmas.Bool.Decides.{nat_tests}
-use Rattle.std.proofs.lemmas.List.Sorted.{sum_by-IsPermutation}
-use Rattle.std.proofs.lemmas.List.Sums.{sum_by-cons, sum_by-le-sum_by, length-filter}
-use Rattle.lists.specs.Elements.{Each, EachPair}
-use Rattle.model_registers.specs.Declarations.{io_kind, mem32, mem64, Region, registers_of, IsLawfulRegion, HasLawfulRegions}
-use Rattle.model_registers.specs.DeclarationRules.{uses, has_own_registers, in_register_order}
-use Rattle.lists.proofs.EachLemmas.{each_map, each_both, each_test, each_permutation, test_each, pairs_map}
-use Rattle.lists.proofs.Tests.{left_true, right_true}
+use Rattle.std.{proofs.{Common.{◌≡◌, ℕ, zero, suc, ◌+◌, ◌-◌, ◌<◌, ◌≤◌, Bool, true, false, ◌&&◌, cond, List, [], ◌∷◌, ◌++◌, length, get_or, eqb, leb, ltb, refl, sym, ap, ap₂, ◌∙◌, arith}, lemmas.{Bool.{false≢true, leb-true, le-leb, and_from, Decides.nat_tests}, List.{Sorted.sum_by-IsPermutation, Sums.{sum_by-cons, sum_by-le-sum_by, length-filter}}}}, specs.{Prelude.{IsTrue, count_by}, List.{filter, list_all, Sorted.{IsPermutation, IsNonDecreasingBy}}}}
+use Rattle.lists.{specs.Elements.{Each, EachPair}, proofs.{EachLemmas.{each_map, each_both, each_test, each_permutation, test_each, pairs_map}, Tests.{left_true, right_true}}}
+use Rattle.model_registers.specs.{Declarations.{io_kind, mem32, mem64, Region, registers_of, IsLawfulRegion, HasLawfulRegions}, DeclarationRules.{uses, has_own_registers, in_register_order}}
 
 abbrev stands_at : ℕ → Region → Bool
 stands_at n r = eqb r.index n

@@ -1,15 +1,6 @@
 -- What a region's registers show after all ones are written to them.
-use Rattle.std.proofs.Common.{◌≡◌, ℕ, ◌+◌, ◌-◌, ◌*◌, ◌/◌, ◌%◌, ◌^◌, ◌<◌, ◌≤◌, true, [], length, append-nil, sym, ap, ap₂, ◌∙◌, arith}
-use Rattle.std.specs.Prelude.{bit_and, bit_or}
-use Rattle.std.proofs.lemmas.Nat.{and_mask, and_comm, pow_pos}
-use Rattle.std.proofs.Math.Nat.{mod-eq_of_lt}
-use Rattle.model_registers.specs.Registers.{File, all_bytes, all_ones, number}
-use Rattle.model_registers.specs.ByteEnables.{enabled_bits}
-use Rattle.model_registers.specs.Declarations.{Kind, Bar, registers_of, IsLawfulSize}
-use Rattle.model_registers.specs.EndpointTable.{base_register, type_bits, base_width, BaseAddress, register_cells, IsLawfulBase}
-use Rattle.model_registers.specs.BaseLaws.{shown, rebased}
-use Rattle.model_registers.specs.Sizing.{sized, mask_of, SizesRead}
-use Rattle.model_registers.proofs.Bases.{size_limits, write_whole, read_low, read_high}
+use Rattle.std.{proofs.{Common.{◌≡◌, ℕ, ◌+◌, ◌-◌, ◌*◌, ◌/◌, ◌%◌, ◌^◌, ◌<◌, ◌≤◌, true, [], length, append-nil, sym, ap, ap₂, ◌∙◌, arith}, lemmas.Nat.{and_mask, and_comm, pow_pos}, Math.Nat.mod-eq_of_lt}, specs.Prelude.{bit_and, bit_or}}
+use Rattle.model_registers.{specs.{Registers.{File, all_bytes, all_ones, number}, ByteEnables.enabled_bits, Declarations.{Kind, Bar, registers_of, IsLawfulSize}, EndpointTable.{base_register, type_bits, base_width, BaseAddress, register_cells, IsLawfulBase}, BaseLaws.{shown, rebased}, Sizing.{sized, mask_of, SizesRead}}, proofs.Bases.{size_limits, write_whole, read_low, read_high}}
 
 -- the registers at index n with a base
 at_index : ℕ → Bar → ℕ → BaseAddress

@@ -7,9 +7,7 @@
 --     HoldsBytes, NumberFits, ReadsEnabled      where each cell holds a byte, what is read has its bytes alone
 use Rattle.std.specs.Prelude.{◌≡◌, ◌<◌, ℕ, ◌-◌, ◌/◌, ◌%◌, ◌^◌, Bool, false, List, replicate}
 use Rattle.lists.specs.Elements.{Each}
-use Rattle.model_registers.specs.Registers.{Place, offset_of, PlacedCell, File, read, write, number, all_bytes, all_ones}
-use Rattle.model_registers.specs.ByteEnables.{lanes, enabled_bytes, IsWidth, LiesInWord, enables_of, into_lanes}
-use Rattle.model_registers.specs.ByteEnables.{from_lanes, word_of}
+use Rattle.model_registers.specs.{Registers.{Place, offset_of, PlacedCell, File, read, write, number, all_bytes, all_ones}, ByteEnables.{lanes, enabled_bytes, IsWidth, LiesInWord, enables_of, into_lanes, from_lanes, word_of}}
 
 -- an access at a multiple of its width lies in one word
 abbrev pub AlignedLiesInWord : Type 0

@@ -1,8 +1,7 @@
 -- The addresses that set-up may give out.
 --     Aperture, Apertures      of I/O, of memory, and of prefetchable memory where the board has it
 --     are_lawful, IsLawfulApertures      whole units that the pools can reach, memory and prefetchable memory apart
-use Rattle.std.specs.Prelude.{ℕ, ◌+◌, ◌%◌, ◌^◌, ◌≡◌, ◌<◌, ◌≤◌, ◌==◌, Bool, true, ◌&&◌, ◌||◌, nat_lt, nat_le, ◌⊎◌}
-use Rattle.std.specs.Prelude.{Option, Some, None}
+use Rattle.std.specs.Prelude.{ℕ, ◌+◌, ◌%◌, ◌^◌, ◌≡◌, ◌<◌, ◌≤◌, ◌==◌, Bool, true, ◌&&◌, ◌||◌, nat_lt, nat_le, ◌⊎◌, Option, Some, None}
 
 -- first and last address
 pub record Aperture : Type 0 where

@@ -3,13 +3,8 @@
 --     word_at      the register of four bytes that stands at an index
 --     rebased      a base after a write at the bits of a mask
 --     rewritten      a region after a write of the register of four bytes that stands at an index
-use Rattle.std.specs.Prelude.{List, [], ◌∷◌, ◌≡◌, ℕ, ◌-◌, ◌+◌, ◌*◌, ◌/◌, Bool, ◌&&◌, ◌==◌, if◌then◌else◌, ◌^◌, bit_and}
-use Rattle.std.specs.Prelude.{bit_or, map}
-use Rattle.model_registers.specs.Registers.{read, write}
-use Rattle.model_registers.specs.ByteEnables.{lanes, enabled_bits}
-use Rattle.model_registers.specs.Declarations.{registers_of}
-use Rattle.model_registers.specs.EndpointTable.{base_register, type_bits, base_width, BaseAddress, base_file}
-use Rattle.model_registers.specs.EndpointTable.{HasLawfulBases}
+use Rattle.std.specs.Prelude.{List, [], ◌∷◌, ◌≡◌, ℕ, ◌-◌, ◌+◌, ◌*◌, ◌/◌, Bool, ◌&&◌, ◌==◌, if◌then◌else◌, ◌^◌, bit_and, bit_or, map}
+use Rattle.model_registers.specs.{Registers.{read, write}, ByteEnables.{lanes, enabled_bits}, Declarations.registers_of, EndpointTable.{base_register, type_bits, base_width, BaseAddress, base_file, HasLawfulBases}}
 
 -- the index is that of the region's only register, or of its lower half; or that of its upper half
 abbrev pub is_lower : ℕ → BaseAddress → Bool

@@ -4,9 +4,7 @@
 --     bridge_header      the registers of the header, without windows
 --     bridge_file, bridge_reset      the cells of a bridge with these values, and at reset
 use Rattle.std.specs.Prelude.{[], ℕ, ◌+◌, ◌*◌, ◌/◌, ◌%◌, Bool, ◌^◌, ◌++◌}
-use Rattle.model_registers.specs.Registers.{config, File, field}
-use Rattle.model_registers.specs.Declarations.{IoDecode, no_io, io16, io32, PrefDecode, no_pref, pref32, pref64, Bridge}
-use Rattle.model_registers.specs.EndpointTable.{header_type}
+use Rattle.model_registers.specs.{Registers.{config, File, field}, Declarations.{IoDecode, no_io, io16, io32, PrefDecode, no_pref, pref32, pref64, Bridge}, EndpointTable.header_type}
 
 -- a first and a last address, both included; as the registers of a window name them, the first may be the greater
 pub record Window : Type 0 where

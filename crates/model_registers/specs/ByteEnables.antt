@@ -5,8 +5,7 @@
 --     into_lanes off v, from_lanes off w word      a number moved to those lanes, and taken from them
 --     word_of p      the place of the word in which a place lies
 --     enabled_bits enables      the bits of the enabled bytes
-use Rattle.std.specs.Prelude.{◌≡◌, ◌≤◌, ℕ, ◌+◌, ◌-◌, ◌*◌, ◌/◌, ◌%◌, ◌^◌, ◌==◌, ◌⊎◌, if◌then◌else◌, Bool, List, [], ◌∷◌}
-use Rattle.std.specs.Int.{bit_at}
+use Rattle.std.specs.{Prelude.{◌≡◌, ◌≤◌, ℕ, ◌+◌, ◌-◌, ◌*◌, ◌/◌, ◌%◌, ◌^◌, ◌==◌, ◌⊎◌, if◌then◌else◌, Bool, List, [], ◌∷◌}, Int.bit_at}
 use Rattle.model_registers.specs.Registers.{Place, config, block}
 
 abbrev pub is_enabled : ℕ → ℕ → Bool

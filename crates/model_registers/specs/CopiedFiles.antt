@@ -4,10 +4,7 @@
 --     with_copies copies file      a file with the cells of the copies at their places
 --     after_reset d file      the board's file of a function that is at reset but for what its guests have copies of
 use Rattle.std.specs.Prelude.{List, if◌then◌else◌, map, false}
-use Rattle.model_registers.specs.Registers.{Place, PlacedCell, File, cell_at}
-use Rattle.model_registers.specs.Declarations.{Endpoint}
-use Rattle.model_registers.specs.EndpointTable.{endpoint_reset}
-use Rattle.model_registers.specs.OwnCopies.{is_own}
+use Rattle.model_registers.specs.{Registers.{Place, PlacedCell, File, cell_at}, Declarations.Endpoint, EndpointTable.endpoint_reset, OwnCopies.is_own}
 
 abbrev pub places_of : File → List Place
 places_of file = map (λ e. e.place) file

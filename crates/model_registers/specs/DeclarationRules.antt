@@ -4,9 +4,7 @@
 --     endpoint_rules, bridge_rules      the rules of a declaration, in the order in which they are judged
 --     in_register_order      regions in the order of their registers
 --     IsLawfulEndpoint, IsLawfulBridge      what holds of a declaration that keeps the rules
-use Rattle.std.specs.Prelude.{List, [], ◌∷◌, ◌≡◌, ℕ, ◌+◌, ◌^◌, ◌<◌, ◌≤◌, ◌==◌, Bool, ◌&&◌, ◌||◌, nat_lt, nat_le, IsTrue}
-use Rattle.std.specs.Prelude.{if◌then◌else◌, Option, Some, None, length, filter, flat_map, count_by, bit_and}
-use Rattle.std.specs.List.{list_all}
+use Rattle.std.specs.{Prelude.{List, [], ◌∷◌, ◌≡◌, ℕ, ◌+◌, ◌^◌, ◌<◌, ◌≤◌, ◌==◌, Bool, ◌&&◌, ◌||◌, nat_lt, nat_le, IsTrue, if◌then◌else◌, Option, Some, None, length, filter, flat_map, count_by, bit_and}, List.list_all}
 use Rattle.lists.specs.Elements.{Each, EachPair, all_pairs}
 use Rattle.model_registers.specs.Declarations.{registers_of, Region, HasLawfulRegions, ConfigBlock, Endpoint, Bridge}
 

@@ -4,12 +4,9 @@
 --     opens_space, is_open      the Command register opens a space
 --     decodes, hit_at      a register as it stands decodes an address; the hit in its region
 --     first_hit, lone_claim      the hit in the first region, by register, that decodes an address
-use Rattle.std.specs.Prelude.{ℕ, ◌-◌, bit_and, ◌+◌, ◌*◌, ◌/◌, Bool, true, false, ◌&&◌, ◌==◌, if◌then◌else◌, List, not}
-use Rattle.std.specs.Prelude.{nat_lt, nat_le, Option, Some, None}
+use Rattle.std.specs.Prelude.{ℕ, ◌-◌, bit_and, ◌+◌, ◌*◌, ◌/◌, Bool, true, false, ◌&&◌, ◌==◌, if◌then◌else◌, List, not, nat_lt, nat_le, Option, Some, None}
 use Rattle.lists.specs.Elements.{first_some}
-use Rattle.model_registers.specs.Registers.{config, File, number}
-use Rattle.model_registers.specs.Declarations.{Kind, io_kind, mem32, mem64, Region, Endpoint}
-use Rattle.model_registers.specs.EndpointTable.{base_register, BaseAddress}
+use Rattle.model_registers.specs.{Registers.{config, File, number}, Declarations.{Kind, io_kind, mem32, mem64, Region, Endpoint}, EndpointTable.{base_register, BaseAddress}}
 
 pub data Space : Type 0 where
   io : Space

@@ -4,10 +4,7 @@
 --     HitIsOfRegion      a hit lies in a region of the space, in the byte lanes of the address
 use Rattle.std.specs.Prelude.{List, ◌≡◌, ℕ, ◌<◌, ◌%◌, ◌^◌, ◌++◌, Some, map}
 use Rattle.lists.specs.Elements.{IsIn, first_some}
-use Rattle.model_registers.specs.Registers.{File}
-use Rattle.model_registers.specs.Declarations.{Region}
-use Rattle.model_registers.specs.EndpointTable.{BaseAddress, base_file, command_cells, opened, HasLawfulBases}
-use Rattle.model_registers.specs.Decoding.{Space, space_of, Hit, command_word, base_address, hit_at, first_hit}
+use Rattle.model_registers.specs.{Registers.File, Declarations.Region, EndpointTable.{BaseAddress, base_file, command_cells, opened, HasLawfulBases}, Decoding.{Space, space_of, Hit, command_word, base_address, hit_at, first_hit}}
 
 -- what a function decodes is told by its Command register and its bases alone
 abbrev pub HitsByBases : Type 0

@@ -4,8 +4,7 @@
 --     with_value v c      the cell with another value; its masks stay
 --     set_value v p file      the file with the low byte of v at a place; where no cell stands nothing changes
 use Rattle.std.specs.Prelude.{ℕ, ◌%◌, Bool, true, ◌||◌, ◌==◌, nat_le}
-use Rattle.model_registers.specs.Cell.{Cell}
-use Rattle.model_registers.specs.Registers.{Place, config, block, File, changed}
+use Rattle.model_registers.specs.{Cell.Cell, Registers.{Place, config, block, File, changed}}
 
 abbrev pub is_device_byte : Place → Bool
 is_device_byte (config off) = off == 6 || off == 7 || nat_le 0x40 off

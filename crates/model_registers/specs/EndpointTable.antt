@@ -6,9 +6,7 @@
 --     endpoint_reset      all cells at reset
 use Rattle.std.specs.Prelude.{List, [], ◌≡◌, ℕ, ◌-◌, ◌+◌, ◌*◌, ◌%◌, ◌<◌, Bool, if◌then◌else◌, ◌^◌, ◌++◌, map, flat_map}
 use Rattle.lists.specs.Elements.{Each}
-use Rattle.model_registers.specs.Registers.{Place, config, block, File, field, cells_from}
-use Rattle.model_registers.specs.Declarations.{Kind, io_kind, mem32, mem64, registers_of, IsLawfulSize}
-use Rattle.model_registers.specs.Declarations.{HasLawfulRegions, Region, ConfigBlock, Endpoint}
+use Rattle.model_registers.specs.{Registers.{Place, config, block, File, field, cells_from}, Declarations.{Kind, io_kind, mem32, mem64, registers_of, IsLawfulSize, HasLawfulRegions, Region, ConfigBlock, Endpoint}}
 
 abbrev pub base_register : ℕ → Place
 base_register n = config (0x10 + 4 * n)

@@ -4,9 +4,7 @@
 --     IsConfigFile file      each cell stands at a configuration offset
 use Rattle.std.specs.Prelude.{◌≡◌, ◌≢◌, ◌++◌, ⊤, ℕ, Bool, false, true, ◌||◌, if◌then◌else◌, List, [], ◌∷◌}
 use Rattle.lists.specs.Elements.{Each}
-use Rattle.model_registers.specs.Cell.{Cell}
-use Rattle.model_registers.specs.Registers.{Place, config, block, place_eq, after, PlacedCell, File, cell_at, changed, read}
-use Rattle.model_registers.specs.Registers.{write, cells_from, in_region}
+use Rattle.model_registers.specs.{Cell.Cell, Registers.{Place, config, block, place_eq, after, PlacedCell, File, cell_at, changed, read, write, cells_from, in_region}}
 
 abbrev pub has_place : File → Place → Bool
 has_place [] p = false

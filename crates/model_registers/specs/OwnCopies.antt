@@ -4,13 +4,9 @@
 --     OwnCopies, own_file      what they hold, and their cells
 --     HoldsOwn file own      the file holds just these copies
 --     handed_on p enables      the enables of the bytes from p on that are none of these
-use Rattle.std.specs.Prelude.{◌≡◌, ◌≤◌, ℕ, Bool, true, false, ◌&&◌, ◌||◌, not, ◌==◌, nat_le, nat_lt, if◌then◌else◌}
-use Rattle.std.specs.Prelude.{List, [], ◌∷◌, ◌++◌, ◌+◌, map}
+use Rattle.std.specs.Prelude.{◌≡◌, ◌≤◌, ℕ, Bool, true, false, ◌&&◌, ◌||◌, not, ◌==◌, nat_le, nat_lt, if◌then◌else◌, List, [], ◌∷◌, ◌++◌, ◌+◌, map}
 use Rattle.lists.specs.Elements.{Each}
-use Rattle.model_registers.specs.Registers.{Place, config, block, after, File, cell_at, read, write, raise}
-use Rattle.model_registers.specs.Declarations.{Region, HasLawfulRegions, Endpoint}
-use Rattle.model_registers.specs.EndpointTable.{BaseAddress, base_file, command_cells, opened, closed, endpoint_reset}
-use Rattle.model_registers.specs.Decoding.{Space, first_hit}
+use Rattle.model_registers.specs.{Registers.{Place, config, block, after, File, cell_at, read, write, raise}, Declarations.{Region, HasLawfulRegions, Endpoint}, EndpointTable.{BaseAddress, base_file, command_cells, opened, closed, endpoint_reset}, Decoding.{Space, first_hit}}
 
 abbrev pub is_own : Place → Bool
 is_own (config off) = off == 4 || off == 5 || off == 0x0e || (nat_le 0x10 off && nat_lt off 0x28)

@@ -4,10 +4,7 @@
 --     merged      such a register's value after a write
 --     EnabledFieldReads, EnabledFieldWrites      the same by byte enables
 use Rattle.std.specs.Prelude.{List, Bool, length, ◌≡◌, ℕ, ◌-◌, ◌<◌, bit_and, bit_or, ◌%◌, if◌then◌else◌, ◌^◌, ◌++◌}
-use Rattle.model_registers.specs.Cell.{Cell, no_cell}
-use Rattle.model_registers.specs.Registers.{Place, config, place_eq, File, cell_at, changed, read, write, all_bytes}
-use Rattle.model_registers.specs.Registers.{number, field}
-use Rattle.model_registers.specs.ByteEnables.{enabled_bits}
+use Rattle.model_registers.specs.{Cell.{Cell, no_cell}, Registers.{Place, config, place_eq, File, cell_at, changed, read, write, all_bytes, number, field}, ByteEnables.enabled_bits}
 
 -- a change of one cell is seen at its place and nowhere else
 abbrev pub ChangeAtPlace : Type 0

@@ -4,8 +4,7 @@
 --     File      places with their cells
 --     cell_at file p, changed f p file      the cell at a place; the file with that cell changed by f
 --     read file p enables, write enables v p file      numbers, byte by byte, where the enables say so
-use Rattle.std.specs.Prelude.{List, [], ◌∷◌, ℕ, zero, suc, ◌+◌, ◌*◌, ◌/◌, ◌%◌, Bool, true, false, ◌&&◌, ◌==◌}
-use Rattle.std.specs.Prelude.{if◌then◌else◌, replicate}
+use Rattle.std.specs.Prelude.{List, [], ◌∷◌, ℕ, zero, suc, ◌+◌, ◌*◌, ◌/◌, ◌%◌, Bool, true, false, ◌&&◌, ◌==◌, if◌then◌else◌, replicate}
 use Rattle.model_registers.specs.Cell.{Cell, written, raised, no_cell}
 
 pub data Place : Type 0 where

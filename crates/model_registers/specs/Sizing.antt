@@ -4,9 +4,7 @@
 --     mask_of b      what they then read, all bytes as one number
 --     ShowsSize b low high      what they then read: high is of no account where the base takes one register
 use Rattle.std.specs.Prelude.{◌≡◌, ℕ, ◌-◌, ◌+◌, ◌*◌, ◌/◌, ◌%◌, ◌^◌}
-use Rattle.model_registers.specs.Registers.{File, write, all_bytes, all_ones, number}
-use Rattle.model_registers.specs.Declarations.{Bar, registers_of, IsLawfulSize}
-use Rattle.model_registers.specs.EndpointTable.{base_register, type_bits, base_width, base_cells}
+use Rattle.model_registers.specs.{Registers.{File, write, all_bytes, all_ones, number}, Declarations.{Bar, registers_of, IsLawfulSize}, EndpointTable.{base_register, type_bits, base_width, base_cells}}
 
 abbrev pub sized : ℕ → Bar → File
 sized n b =

@@ -1,8 +1,7 @@
 -- What a bridge's window registers name: PCI-to-PCI Bridge Architecture 1.2, chapter 3.2.5.
 --     io_window, mem_window, pref_window      the addresses that the registers name now; Command does not count
 use Rattle.std.specs.Prelude.{ℕ, ◌+◌, ◌*◌, ◌/◌, if◌then◌else◌, ◌^◌, nat_le, Option, Some, None}
-use Rattle.model_registers.specs.Registers.{config, File, number}
-use Rattle.model_registers.specs.Declarations.{IoDecode, no_io, io16, io32, PrefDecode, no_pref, pref32, pref64}
+use Rattle.model_registers.specs.{Registers.{config, File, number}, Declarations.{IoDecode, no_io, io16, io32, PrefDecode, no_pref, pref32, pref64}}
 pub use Rattle.model_registers.specs.BridgeTable.{Window}
 
 -- a base above its limit names no window

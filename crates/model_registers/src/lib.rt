@@ -4,14 +4,7 @@
 #![tactic(auto)]
 
 ghost use Rattle.std.specs.Prelude.{◌≡◌, ℕ};
-ghost use Rattle.model_registers.specs.Cell.{no_cell, written};
-ghost use Rattle.model_registers.specs.AccessLaws.{AlignedLiesInWord, NumberByLanes, LanesFit, NumberFromWord, AllOnesByLanes, WriteByLanes, DisabledRead, DisabledStay, NumberFits, ReadsEnabled};
-ghost use Rattle.model_registers.specs.FileLaws.{JoinedCell, JoinedChange, JoinedWrite, ReadNone, WriteNone, ReadSecond, ReadFirst, PlacesStay, RegionCells, RegionCell, RegionRead, RegionChange, RegionWrite, RegionHasNoConfig, RegionHasNoOther, ConfigHasNoBlock, ConfigStays};
-ghost use Rattle.model_registers.specs.RegisterLaws.{ChangeAtPlace, FieldReads, FieldWrites, EnabledFieldReads, EnabledFieldWrites};
-ghost use Rattle.model_registers.specs.BaseLaws.{ReadsOfBases, WritesOfBases};
-ghost use Rattle.model_registers.specs.Sizing.{SizesRead};
-ghost use Rattle.model_registers.specs.DecodingLaws.{HitIsOfRegion, HitsByBases, HitsOfRegisters};
-ghost use Rattle.model_registers.specs.OwnCopies.{OwnReads, OwnWrites, OwnStay, OwnHits, ResetHoldsOwn};
+ghost use Rattle.model_registers.specs.{Cell.{no_cell, written}, AccessLaws.{AlignedLiesInWord, NumberByLanes, LanesFit, NumberFromWord, AllOnesByLanes, WriteByLanes, DisabledRead, DisabledStay, NumberFits, ReadsEnabled}, FileLaws.{JoinedCell, JoinedChange, JoinedWrite, ReadNone, WriteNone, ReadSecond, ReadFirst, PlacesStay, RegionCells, RegionCell, RegionRead, RegionChange, RegionWrite, RegionHasNoConfig, RegionHasNoOther, ConfigHasNoBlock, ConfigStays}, RegisterLaws.{ChangeAtPlace, FieldReads, FieldWrites, EnabledFieldReads, EnabledFieldWrites}, BaseLaws.{ReadsOfBases, WritesOfBases}, Sizing.SizesRead, DecodingLaws.{HitIsOfRegion, HitsByBases, HitsOfRegisters}, OwnCopies.{OwnReads, OwnWrites, OwnStay, OwnHits, ResetHoldsOwn}};
 
 /// A place without a cell drops writes.
 pub fn no_cell_drops_writes()

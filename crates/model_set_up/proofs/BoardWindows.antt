@@ -1,32 +1,9 @@
 -- After set-up the windows of a board's bridges are those that placement gave them: a pool's items stand behind bridges that can name its addresses alone.
-use Rattle.std.proofs.Common.{◌≡◌, ℕ, zero, suc, ◌+◌, ◌-◌, ◌%◌, ◌^◌, ◌≤◌, ◌<◌, inl, Bool, true, ◌||◌, not, List, [], ◌∷◌, ◌++◌, length, Option, Some, MatchOption, refl, sym, ap, ◌∙◌, subst, arith, rules, inr}
-use Rattle.std.specs.Prelude.{filter, IsTrue, ⊤}
-use Rattle.std.specs.List.{list_all}
-use Rattle.std.proofs.lemmas.Bool.{ltb-true, and_parts, or_right, or_left, le-leb}
-use Rattle.lists.specs.Elements.{Each, IsIn}
-use Rattle.model_registers.specs.Declarations.{Kind, Region, Endpoint, IoDecode, Bridge}
-use Rattle.model_registers.specs.BridgeTable.{Window, BridgeValues, bridge_file}
-use Rattle.model_registers.specs.Apertures.{IsLawfulApertures, Aperture, Apertures}
-use Rattle.model_board.specs.Board.{Board, Row, Decl, endpoint, bridge, rows_on, IsBoard}
-use Rattle.model_board.specs.Paths.{Path, leads_to, last_part, IsPath}
-use Rattle.model_set_up.specs.Pools.{Pool, io_pool, mem_pool, pref_pool, same_pool, unit_of, bridge_of, bridges_above, pref_reaches, pool_of, is_io, opens_io, has_io, has_io_paths, aperture_of}
-use Rattle.model_set_up.specs.Placement.{Item, need, window_items, items_of, items_within, items_on, fits, bus_first, a_region, a_window}
-use Rattle.model_set_up.specs.Layout.{IsAligned, IsLawful, pool_rows, LayoutRow, layout}
-use Rattle.model_set_up.specs.Extents.{IsInside}
-use Rattle.model_set_up.specs.PlacementLaws.{window_row, window_rows, IsRowFor, HasRows}
-use Rattle.model_board.specs.Lawful.{HasLawfulDecls}
-use Rattle.model_set_up.specs.SetUp.{window_of, set_up_file}
-use Rattle.model_board.specs.Windows.{io_window, mem_window, pref_window, is_in_window}
-use Rattle.model_set_up.specs.WindowLaws.{io_reach, pref_reach, IsWhole, window_over, HasPlacedWindows, SetUpWindows, ForwardsPlaced}
-use Rattle.lists.proofs.Members.{each_in, each_from, from_flat_map, in_filter, in_flat_map, any_in, all_in}
-use Rattle.model_board.proofs.PathEnds.{leads_self, leads_trans}
-use Rattle.model_set_up.proofs.Packing.{unit_positive}
-use Rattle.model_set_up.proofs.Items.{some_end, end_below_need, items_placeable, region_of_item, on_bus}
-use Rattle.model_set_up.proofs.Nesting.{HasItems}
-use Rattle.model_set_up.proofs.LawfulPlacement.{pool_lawful}
-use Rattle.model_set_up.proofs.DeclaredRows.{has_window_row}
-use Rattle.model_set_up.proofs.WindowReads.{closed_windows, windows_named}
-use Rattle.model_set_up.specs.PlacedRegions.{pool_space}
+use Rattle.std.{proofs.{Common.{◌≡◌, ℕ, zero, suc, ◌+◌, ◌-◌, ◌%◌, ◌^◌, ◌≤◌, ◌<◌, inl, Bool, true, ◌||◌, not, List, [], ◌∷◌, ◌++◌, length, Option, Some, MatchOption, refl, sym, ap, ◌∙◌, subst, arith, rules, inr}, lemmas.Bool.{ltb-true, and_parts, or_right, or_left, le-leb}}, specs.{Prelude.{filter, IsTrue, ⊤}, List.list_all}}
+use Rattle.lists.{specs.Elements.{Each, IsIn}, proofs.Members.{each_in, each_from, from_flat_map, in_filter, in_flat_map, any_in, all_in}}
+use Rattle.model_registers.specs.{Declarations.{Kind, Region, Endpoint, IoDecode, Bridge}, BridgeTable.{Window, BridgeValues, bridge_file}, Apertures.{IsLawfulApertures, Aperture, Apertures}}
+use Rattle.model_board.{specs.{Board.{Board, Row, Decl, endpoint, bridge, rows_on, IsBoard}, Paths.{Path, leads_to, last_part, IsPath}, Lawful.HasLawfulDecls, Windows.{io_window, mem_window, pref_window, is_in_window}}, proofs.PathEnds.{leads_self, leads_trans}}
+use Rattle.model_set_up.{specs.{Pools.{Pool, io_pool, mem_pool, pref_pool, same_pool, unit_of, bridge_of, bridges_above, pref_reaches, pool_of, is_io, opens_io, has_io, has_io_paths, aperture_of}, Placement.{Item, need, window_items, items_of, items_within, items_on, fits, bus_first, a_region, a_window}, Layout.{IsAligned, IsLawful, pool_rows, LayoutRow, layout}, Extents.IsInside, PlacementLaws.{window_row, window_rows, IsRowFor, HasRows}, SetUp.{window_of, set_up_file}, WindowLaws.{io_reach, pref_reach, IsWhole, window_over, HasPlacedWindows, SetUpWindows, ForwardsPlaced}, PlacedRegions.pool_space}, proofs.{Packing.unit_positive, Items.{some_end, end_below_need, items_placeable, region_of_item, on_bus}, Nesting.HasItems, LawfulPlacement.pool_lawful, DeclaredRows.has_window_row, WindowReads.{closed_windows, windows_named}}}
 
 -- ---- items stand for regions behind
 

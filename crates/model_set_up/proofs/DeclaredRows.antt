@@ -1,26 +1,9 @@
 -- The rows of compact placement are those of the regions and windows that the board declares, one each.
-use Rattle.std.proofs.lemmas.Grind.{common_steps}
-use Rattle.std.proofs.Common.{◌≡◌, ℕ, ◌+◌, ◌<◌, inl, Bool, true, false, ◌&&◌, List, [], ◌∷◌, ◌++◌, length, refl, sym, ap, ◌∙◌, subst, arith, rules}
-use Rattle.std.specs.Prelude.{filter}
-use Rattle.std.proofs.lemmas.Bool.{and_parts}
-use Rattle.std.proofs.lemmas.Bool.Decides.{nat_tests}
-use Rattle.lists.specs.Elements.{Each, EachPair, IsIn}
-use Rattle.model_registers.specs.Declarations.{Endpoint, Region}
-use Rattle.model_board.specs.Board.{Board, Row, Decl, endpoint, bridge, IsBoard}
-use Rattle.model_board.specs.Paths.{Part, Path, path_eq, parent, last_part, IsPath}
-use Rattle.model_registers.specs.Apertures.{Apertures}
-use Rattle.model_set_up.specs.Pools.{Pool, same_pool, bridges_above, pool_of}
-use Rattle.model_set_up.specs.Placement.{Placed, a_region, a_window, same_placed, Item, Spot, spots, region_item, items_on, bus_first, region_first}
-use Rattle.model_set_up.specs.Layout.{LayoutRow, row_of, bus_rows, buses, pool_rows}
-use Rattle.model_board.specs.Lawful.{HasLawfulDecls}
-use Rattle.model_set_up.specs.PlacementLaws.{pool_at, region_row, window_row, window_rows, rows_at, HasOwnRows, IsRowFor, RowsAreDeclared}
-use Rattle.lists.proofs.Members.{each_in, each_from, from_map, in_map, in_filter, pairs_weaker, pairs_flat_map, none_pass, one_passes, pairs_of_map}
-use Rattle.model_set_up.proofs.PlacedApart.{pool_is}
-use Rattle.model_board.proofs.PathOrder.{path_same}
-use Rattle.model_board.proofs.PathEnds.{snoc, path_self, parent_snoc, path_eq-snoc, path_eq-sym}
-use Rattle.model_set_up.proofs.Items.{spot_of, item_of, spots_differ, same_placed-sym, items_for, region_of_item, origin, on_own_bus, items_differ}
-use Rattle.model_set_up.proofs.Nesting.{HasItems, WindowOn, offset_of, window_of, window_above}
-use Rattle.model_set_up.proofs.LawfulPlacement.{buses_differ, pool_self, OnBus, on_bus_row, row_in}
+use Rattle.std.{proofs.{lemmas.{Grind.common_steps, Bool.{and_parts, Decides.nat_tests}}, Common.{◌≡◌, ℕ, ◌+◌, ◌<◌, inl, Bool, true, false, ◌&&◌, List, [], ◌∷◌, ◌++◌, length, refl, sym, ap, ◌∙◌, subst, arith, rules}}, specs.Prelude.filter}
+use Rattle.lists.{specs.Elements.{Each, EachPair, IsIn}, proofs.Members.{each_in, each_from, from_map, in_map, in_filter, pairs_weaker, pairs_flat_map, none_pass, one_passes, pairs_of_map}}
+use Rattle.model_registers.specs.{Declarations.{Endpoint, Region}, Apertures.Apertures}
+use Rattle.model_board.{specs.{Board.{Board, Row, Decl, endpoint, bridge, IsBoard}, Paths.{Part, Path, path_eq, parent, last_part, IsPath}, Lawful.HasLawfulDecls}, proofs.{PathOrder.path_same, PathEnds.{snoc, path_self, parent_snoc, path_eq-snoc, path_eq-sym}}}
+use Rattle.model_set_up.{specs.{Pools.{Pool, same_pool, bridges_above, pool_of}, Placement.{Placed, a_region, a_window, same_placed, Item, Spot, spots, region_item, items_on, bus_first, region_first}, Layout.{LayoutRow, row_of, bus_rows, buses, pool_rows}, PlacementLaws.{pool_at, region_row, window_row, window_rows, rows_at, HasOwnRows, IsRowFor, RowsAreDeclared}}, proofs.{PlacedApart.pool_is, Items.{spot_of, item_of, spots_differ, same_placed-sym, items_for, region_of_item, origin, on_own_bus, items_differ}, Nesting.{HasItems, WindowOn, offset_of, window_of, window_above}, LawfulPlacement.{buses_differ, pool_self, OnBus, on_bus_row, row_in}}}
 
 abbrev pub row_with : Pool → Path → Placed → ℕ → ℕ → LayoutRow
 row_with pool p w n k = record { path = p; what = w; pool = pool; first = n; size = k }

@@ -1,31 +1,9 @@
 -- A board as it was found: each row keeps its path, whether it is a bridge, its regions but for their cells, and its decodes.
-use Rattle.std.proofs.Common.{◌≡◌, ℕ, ◌+◌, ◌≤◌, Bool, ◌&&◌, ◌||◌, cond, List, [], ◌∷◌, length, refl, sym, ap, ap₂, ◌∙◌, subst, arith, rules, zero, suc}
-use Rattle.std.specs.Prelude.{map, filter, flat_map, count_by}
-use Rattle.std.specs.List.{list_all, list_any}
-use Rattle.std.proofs.lemmas.List.{map-append}
-use Rattle.std.proofs.lemmas.List.Folds.{list_all-map, flat_map-map}
-use Rattle.lists.proofs.EachLemmas.{each_of_map}
-use Rattle.lists.proofs.Members.{pairs_of_map}
-use Rattle.std.proofs.lemmas.List.Sums.{sum_by-cons}
-use Rattle.lists.specs.Elements.{Each}
-use Rattle.model_registers.specs.Declarations.{Kind, Region, Endpoint, Bridge}
-use Rattle.model_registers.specs.OwnCopies.{bare}
-use Rattle.model_board.specs.Paths.{Path, path_eq, path_before, leads_to, parent, last_part}
-use Rattle.model_board.specs.Board.{Decl, endpoint, bridge, is_bridge, Row, Board, stands_at, is_bridge_at, IsBoard, rows_on}
-use Rattle.model_board.specs.BusNumbers.{secondary, subordinate, bus_behind, bus_of, Enumerates}
-use Rattle.model_board.specs.Lawful.{HasLawfulDecls}
-use Rattle.model_registers.specs.Apertures.{Apertures}
-use Rattle.model_set_up.specs.Pools.{bridge_of, bridges_above, pool_of, Pool, io_pool, mem_pool, pref_pool, unit_of, same_pool, has_io, is_io, opens_io, has_io_paths}
-use Rattle.model_set_up.specs.FunctionTable.{met_endpoint, met_bridge, found_decl, range_behind, table_row, sized_table, board_in, PlacedAsFound}
-use Rattle.model_board.proofs.BusNumbers.{bridges, bridges-cons}
-use Rattle.model_board.proofs.PathOrder.{one}
-use Rattle.model_registers.specs.Decoding.{io, memory, space_of, same_space}
-use Rattle.model_registers.specs.EndpointTable.{BaseAddress}
-use Rattle.model_registers.proofs.BareRegions.{bare_each, bare_order}
-use Rattle.model_set_up.specs.Placement.{Item, a_region, region_item, window_items, items_of, items_within, items_on, root_first, spots, offset_in, first_below, bus_first, region_first}
-use Rattle.model_set_up.specs.Layout.{buses, pool_rows}
-use Rattle.model_set_up.specs.SetUp.{first_of, command_of}
-use Rattle.model_set_up.specs.SetUpWrites.{placed_base, windows_of, writes_of, planned, placement_rules}
+use Rattle.std.{proofs.{Common.{◌≡◌, ℕ, ◌+◌, ◌≤◌, Bool, ◌&&◌, ◌||◌, cond, List, [], ◌∷◌, length, refl, sym, ap, ap₂, ◌∙◌, subst, arith, rules, zero, suc}, lemmas.List.{map-append, Folds.{list_all-map, flat_map-map}, Sums.sum_by-cons}}, specs.{Prelude.{map, filter, flat_map, count_by}, List.{list_all, list_any}}}
+use Rattle.lists.{proofs.{EachLemmas.each_of_map, Members.pairs_of_map}, specs.Elements.Each}
+use Rattle.model_registers.{specs.{Declarations.{Kind, Region, Endpoint, Bridge}, OwnCopies.bare, Apertures.Apertures, Decoding.{io, memory, space_of, same_space}, EndpointTable.BaseAddress}, proofs.BareRegions.{bare_each, bare_order}}
+use Rattle.model_board.{specs.{Paths.{Path, path_eq, path_before, leads_to, parent, last_part}, Board.{Decl, endpoint, bridge, is_bridge, Row, Board, stands_at, is_bridge_at, IsBoard, rows_on}, BusNumbers.{secondary, subordinate, bus_behind, bus_of, Enumerates}, Lawful.HasLawfulDecls}, proofs.{BusNumbers.{bridges, bridges-cons}, PathOrder.one}}
+use Rattle.model_set_up.specs.{Pools.{bridge_of, bridges_above, pool_of, Pool, io_pool, mem_pool, pref_pool, unit_of, same_pool, has_io, is_io, opens_io, has_io_paths}, FunctionTable.{met_endpoint, met_bridge, found_decl, range_behind, table_row, sized_table, board_in, PlacedAsFound}, Placement.{Item, a_region, region_item, window_items, items_of, items_within, items_on, root_first, spots, offset_in, first_below, bus_first, region_first}, Layout.{buses, pool_rows}, SetUp.{first_of, command_of}, SetUpWrites.{placed_base, windows_of, writes_of, planned, placement_rules}}
 
 abbrev pub found_endpoint : Endpoint → Endpoint
 found_endpoint d = record (met_endpoint d) { regions = map bare d.regions }

@@ -1,17 +1,9 @@
 -- Regions that share no address: one at most holds an address, so their order doesn't count.
-use Rattle.std.proofs.Common.{◌≡◌, ℕ, ◌+◌, ◌≤◌, ◌<◌, inl, inr, true, false, List, [], ◌∷◌, None, refl, rules, arith}
-use Rattle.std.specs.Prelude.{flat_map}
-use Rattle.std.specs.Option.{option_to_list}
-use Rattle.std.proofs.lemmas.Bool.Decides.{nat_tests}
-use Rattle.std.proofs.lemmas.Bool.{leb-true, ltb-true}
-use Rattle.lists.specs.Elements.{Each, EachPair, first_some, IsIn}
+use Rattle.std.{proofs.{Common.{◌≡◌, ℕ, ◌+◌, ◌≤◌, ◌<◌, inl, inr, true, false, List, [], ◌∷◌, None, refl, rules, arith}, lemmas.Bool.{Decides.nat_tests, leb-true, ltb-true}}, specs.{Prelude.flat_map, Option.option_to_list}}
+use Rattle.lists.{specs.Elements.{Each, EachPair, first_some, IsIn}, proofs.{Tests.{left_true, right_true}, Members.{each_in, any_in, from_any, pair_in}}}
 use Rattle.model_registers.specs.Decoding.{Space, same_space}
-use Rattle.lists.proofs.Tests.{left_true, right_true}
 use Rattle.model_board.specs.Claims.{Claim}
-use Rattle.model_set_up.specs.PlacedRegions.{PlacedRegion, holds, claim_in}
-use Rattle.model_set_up.specs.UniqueClaimant.{ShareNone}
-use Rattle.lists.proofs.Members.{each_in, any_in, from_any}
-use Rattle.lists.proofs.Members.{pair_in}
+use Rattle.model_set_up.specs.{PlacedRegions.{PlacedRegion, holds, claim_in}, UniqueClaimant.ShareNone}
 
 pub record Holds (space : Space) (n : ℕ) (q : PlacedRegion) : Type 0 where
   pub space_is : same_space q.space space ≡ true

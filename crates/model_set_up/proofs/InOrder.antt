@@ -1,8 +1,6 @@
 -- Items in order: which they are, and that none stands before one ahead of it.
-use Rattle.std.proofs.Common.{◌≡◌, ◌⊎◌, inl, inr, Bool, true, false, cond, List, [], ◌∷◌, refl, sym, subst, arith}
-use Rattle.std.proofs.lemmas.Bool.Decides.{nat_tests}
-use Rattle.lists.specs.Elements.{Each, EachPair, IsIn}
-use Rattle.lists.proofs.Members.{each_in, each_from}
+use Rattle.std.proofs.{Common.{◌≡◌, ◌⊎◌, inl, inr, Bool, true, false, cond, List, [], ◌∷◌, refl, sym, subst, arith}, lemmas.Bool.Decides.nat_tests}
+use Rattle.lists.{specs.Elements.{Each, EachPair, IsIn}, proofs.Members.{each_in, each_from}}
 use Rattle.model_set_up.specs.Placement.{Item, stands_before, inserted, in_order}
 
 in_inserted : (x i : Item) (js : List Item) → (x ≡ i) ⊎ IsIn x js → IsIn x (inserted i js)

@@ -1,22 +1,9 @@
 -- Items in order are a sorted permutation, and on a bus the only one.
-use Rattle.std.proofs.Common.{◌≡◌, ℕ, zero, suc, ◌<◌, ◌⊎◌, inl, inr, Bool, true, false, ◌&&◌, cond, List, [], ◌∷◌, length, refl, sym, ap₂, ◌∙◌, subst, arith, eqb, IsPermutation, get_or, add-one, rules}
-use Rattle.std.specs.List.{IsDistinct}
-use Rattle.std.proofs.lemmas.Bool.Decides.{nat_tests}
-use Rattle.std.proofs.lemmas.List.Sorted.{IsPermutation-refl, IsPermutation-cons, IsPermutation-swap, IsPermutation-trans, IsPermutation-sym}
-use Rattle.std.proofs.lemmas.Map.Keys.{IsDistinct-IsPermutation}
-use Rattle.lists.specs.Elements.{EachPair, IsIn}
-use Rattle.model_board.specs.Paths.{Path, part_eq}
-use Rattle.model_board.specs.Board.{Board, IsBoard}
-use Rattle.model_set_up.specs.Pools.{Pool}
+use Rattle.std.{proofs.{Common.{◌≡◌, ℕ, zero, suc, ◌<◌, ◌⊎◌, inl, inr, Bool, true, false, ◌&&◌, cond, List, [], ◌∷◌, length, refl, sym, ap₂, ◌∙◌, subst, arith, eqb, IsPermutation, get_or, add-one, rules}, lemmas.{Bool.Decides.nat_tests, List.Sorted.{IsPermutation-refl, IsPermutation-cons, IsPermutation-swap, IsPermutation-trans, IsPermutation-sym}, Map.Keys.IsDistinct-IsPermutation}}, specs.List.IsDistinct}
+use Rattle.lists.{specs.Elements.{EachPair, IsIn}, proofs.{Members.{each_in, each_from}, EachLemmas.each_permutation}}
+use Rattle.model_board.{specs.{Paths.{Path, part_eq}, Board.{Board, IsBoard}, Lawful.HasLawfulDecls}, proofs.PathOrder.part_self}
+use Rattle.model_set_up.{specs.{Pools.Pool, Placement.{Item, register_of, stands_before, inserted, in_order, items_on}, OrderLaws.{IsInOrder, OrderIsSorted, OneOrder}}, proofs.{InOrder.{NotBefore, not_before_trans, one_way, order_pairs}, Items.{pairs_in_order, items_pairs}}}
 use Rattle.model_registers.specs.Apertures.{Apertures}
-use Rattle.model_board.specs.Lawful.{HasLawfulDecls}
-use Rattle.model_set_up.specs.Placement.{Item, register_of, stands_before, inserted, in_order, items_on}
-use Rattle.model_set_up.specs.OrderLaws.{IsInOrder, OrderIsSorted, OneOrder}
-use Rattle.lists.proofs.Members.{each_in, each_from}
-use Rattle.model_board.proofs.PathOrder.{part_self}
-use Rattle.lists.proofs.EachLemmas.{each_permutation}
-use Rattle.model_set_up.proofs.InOrder.{NotBefore, not_before_trans, one_way, order_pairs}
-use Rattle.model_set_up.proofs.Items.{pairs_in_order, items_pairs}
 
 -- of one function and register
 abbrev is_same : Item → Item → Bool

@@ -1,24 +1,9 @@
 -- What stands on a bus: each item has a power of two for its alignment and some size, and no two are of the same region or window.
-use Rattle.std.proofs.Common.{◌≡◌, ℕ, zero, suc, ◌+◌, ◌%◌, ◌≤◌, ◌<◌, max, ◌⊎◌, inl, inr, Bool, true, false, cond, List, [], ◌∷◌, ◌++◌, refl, sym, ap, ap₂, ◌∙◌, subst, arith, rules}
-use Rattle.std.specs.Prelude.{filter}
-use Rattle.std.proofs.lemmas.Bool.{cases_lt}
-use Rattle.std.proofs.lemmas.Bool.Decides.{nat_tests}
-use Rattle.lists.specs.Elements.{Each, EachPair, IsIn}
-use Rattle.model_registers.specs.Declarations.{Endpoint, Region, IsLawfulRegion}
-use Rattle.model_board.specs.Board.{Board, Row, Decl, endpoint, bridge, rows_on, IsBoard}
-use Rattle.model_board.specs.Paths.{Part, Path, part_eq, path_eq, parent, last_part, IsPath}
-use Rattle.model_registers.specs.Apertures.{Apertures}
-use Rattle.model_set_up.specs.Pools.{Pool, io_pool, unit_of, same_pool, pool_of, bridges_above}
-use Rattle.model_set_up.specs.Placement.{Placed, a_region, a_window, same_placed, Item, is_item, inserted, stands_before, in_order, end_from, round_up, need, alignment, Spot, spots_from, spots, offset_in, region_item, region_items, window_items, items_of, items_within, items_on}
-use Rattle.model_set_up.specs.Packing.{IsPowerOfTwo, IsRun}
-use Rattle.model_board.specs.Lawful.{IsLawfulDecl, HasLawfulDecls}
-use Rattle.lists.proofs.Members.{each_in, each_from, from_flat_map, from_map, from_filter, in_filter, in_flat_map, pairs_weaker, pairs_flat_map, pairs_of_map}
-use Rattle.lists.proofs.EachLemmas.{pairs_filter}
-use Rattle.model_board.proofs.PathOrder.{part_same, path_same, part_eq-sym, part_self}
-use Rattle.model_board.proofs.PathEnds.{snoc, path_self, not_before_itself}
-use Rattle.model_set_up.proofs.Packing.{power_positive, round_up_not_before, round_up_is_multiple, run_in_order}
-use Rattle.model_set_up.proofs.InOrder.{from_inserted, in_in_order, from_in_order}
-use Rattle.model_set_up.proofs.Levels.{items_by_bus}
+use Rattle.std.{proofs.{Common.{◌≡◌, ℕ, zero, suc, ◌+◌, ◌%◌, ◌≤◌, ◌<◌, max, ◌⊎◌, inl, inr, Bool, true, false, cond, List, [], ◌∷◌, ◌++◌, refl, sym, ap, ap₂, ◌∙◌, subst, arith, rules}, lemmas.Bool.{cases_lt, Decides.nat_tests}}, specs.Prelude.filter}
+use Rattle.lists.{specs.Elements.{Each, EachPair, IsIn}, proofs.{Members.{each_in, each_from, from_flat_map, from_map, from_filter, in_filter, in_flat_map, pairs_weaker, pairs_flat_map, pairs_of_map}, EachLemmas.pairs_filter}}
+use Rattle.model_registers.specs.{Declarations.{Endpoint, Region, IsLawfulRegion}, Apertures.Apertures}
+use Rattle.model_board.{specs.{Board.{Board, Row, Decl, endpoint, bridge, rows_on, IsBoard}, Paths.{Part, Path, part_eq, path_eq, parent, last_part, IsPath}, Lawful.{IsLawfulDecl, HasLawfulDecls}}, proofs.{PathOrder.{part_same, path_same, part_eq-sym, part_self}, PathEnds.{snoc, path_self, not_before_itself}}}
+use Rattle.model_set_up.{specs.{Pools.{Pool, io_pool, unit_of, same_pool, pool_of, bridges_above}, Placement.{Placed, a_region, a_window, same_placed, Item, is_item, inserted, stands_before, in_order, end_from, round_up, need, alignment, Spot, spots_from, spots, offset_in, region_item, region_items, window_items, items_of, items_within, items_on}, Packing.{IsPowerOfTwo, IsRun}}, proofs.{Packing.{power_positive, round_up_not_before, round_up_is_multiple, run_in_order}, InOrder.{from_inserted, in_in_order, from_in_order}, Levels.items_by_bus}}
 
 -- ---- items in order, and their spots
 

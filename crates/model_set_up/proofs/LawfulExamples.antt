@@ -1,15 +1,8 @@
 -- Layouts that are not lawful, one rule at a time; and the main board keeps what the laws of placement ask for.
-use Rattle.std.proofs.Common.{◌≡◌, ℕ, ◌≤◌, ◌<◌, ◌⊎◌, List, [], ◌∷◌, true, false, refl, arith, lit<, lit≤}
-use Rattle.std.specs.Prelude.{IsTrue}
+use Rattle.std.{proofs.Common.{◌≡◌, ℕ, ◌≤◌, ◌<◌, ◌⊎◌, List, [], ◌∷◌, true, false, refl, arith, lit<, lit≤}, specs.Prelude.IsTrue}
 use Rattle.model_registers.specs.Apertures.{IsLawfulApertures}
-use Rattle.model_board.specs.Paths.{Path}
-use Rattle.model_board.specs.Board.{Board, bridge}
-use Rattle.model_set_up.specs.Pools.{Pool, io_pool, mem_pool}
-use Rattle.model_set_up.specs.Placement.{a_region, a_window, fits}
-use Rattle.model_set_up.specs.Layout.{LayoutRow, IsLawful, layout}
-use Rattle.model_board.specs.Examples.{part, function_at, main_board, main_apertures, memory_bridge}
-use Rattle.model_board.proofs.LawfulBoards.{main_is_board, main_decls_lawful}
-use Rattle.model_set_up.proofs.LawfulPlacement.{layout_is_lawful}
+use Rattle.model_board.{specs.{Paths.Path, Board.{Board, bridge}, Examples.{part, function_at, main_board, main_apertures, memory_bridge}}, proofs.LawfulBoards.{main_is_board, main_decls_lawful}}
+use Rattle.model_set_up.{specs.{Pools.{Pool, io_pool, mem_pool}, Placement.{a_region, a_window, fits}, Layout.{LayoutRow, IsLawful, layout}}, proofs.LawfulPlacement.layout_is_lawful}
 
 abbrev window : Pool → Path → ℕ → ℕ → LayoutRow
 window pool p first size = record { path = p; what = a_window; pool = pool; first = first; size = size }

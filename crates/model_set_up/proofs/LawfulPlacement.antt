@@ -1,29 +1,9 @@
 -- Where a pool fits, the rows of its compact placement are lawful.
-use Rattle.std.proofs.Common.{◌≡◌, ℕ, ◌+◌, ◌%◌, ◌≤◌, ◌<◌, ◌⊎◌, inl, inr, Bool, true, false, ◌&&◌, List, [], ◌∷◌, ◌++◌, length, Option, MatchOption, refl, sym, ap, ap₂, ◌∙◌, subst, arith, rules}
-use Rattle.std.specs.Prelude.{IsTrue, map, filter, nat_le}
-use Rattle.std.specs.List.{list_any}
-use Rattle.std.specs.Option.{option_map_or}
-use Rattle.std.proofs.lemmas.Bool.{leb-true, and_parts}
-use Rattle.std.proofs.Math.Nat.{mul-mod_left}
-use Rattle.lists.specs.Elements.{Each, EachPair, IsIn}
-use Rattle.model_board.specs.Board.{Board, Row, is_bridge, IsBoard}
-use Rattle.model_board.specs.Paths.{Path, path_eq, path_before, leads_to, parent, last_part, IsPath}
+use Rattle.std.{proofs.{Common.{◌≡◌, ℕ, ◌+◌, ◌%◌, ◌≤◌, ◌<◌, ◌⊎◌, inl, inr, Bool, true, false, ◌&&◌, List, [], ◌∷◌, ◌++◌, length, Option, MatchOption, refl, sym, ap, ap₂, ◌∙◌, subst, arith, rules}, lemmas.Bool.{leb-true, and_parts}, Math.Nat.mul-mod_left}, specs.{Prelude.{IsTrue, map, filter, nat_le}, List.list_any, Option.option_map_or}}
+use Rattle.lists.{specs.Elements.{Each, EachPair, IsIn}, proofs.{Members.{each_in, each_from, in_flat_map, from_flat_map, in_map, from_map, in_filter, from_filter, any_in, from_any, pairs_weaker, pairs_flat_map, pairs_of_map}, EachLemmas.pairs_filter}}
+use Rattle.model_board.{specs.{Board.{Board, Row, is_bridge, IsBoard}, Paths.{Path, path_eq, path_before, leads_to, parent, last_part, IsPath}, Lawful.HasLawfulDecls}, proofs.{PlacesLaw.before_apart, PathEnds.{snoc, path_self, parent_snoc, leads_up}}}
 use Rattle.model_registers.specs.Apertures.{Apertures, Aperture}
-use Rattle.model_set_up.specs.Pools.{Pool, io_pool, mem_pool, pref_pool, same_pool, unit_of, aperture_of}
-use Rattle.model_set_up.specs.Placement.{Placed, a_region, a_window, Item, Spot, spot_end, spots, in_order, round_up, items_on, fits, bus_first}
-use Rattle.model_set_up.specs.Layout.{LayoutRow, IsAligned, is_window_over, IsUnderWindows, IsLawful, row_of, bus_rows, buses, pool_rows, layout}
-use Rattle.model_set_up.specs.Extents.{IsInside, AreApart}
-use Rattle.model_set_up.specs.Packing.{IsPowerOfTwo}
-use Rattle.model_board.specs.Lawful.{HasLawfulDecls}
-use Rattle.model_set_up.specs.PlacementLaws.{PoolsAreLawful, LayoutIsLawful}
-use Rattle.lists.proofs.Members.{each_in, each_from, in_flat_map, from_flat_map, in_map, from_map, in_filter, from_filter, any_in, from_any, pairs_weaker, pairs_flat_map, pairs_of_map}
-use Rattle.lists.proofs.EachLemmas.{pairs_filter}
-use Rattle.model_set_up.proofs.PlacedApart.{pool_is}
-use Rattle.model_board.proofs.PlacesLaw.{before_apart}
-use Rattle.model_board.proofs.PathEnds.{snoc, path_self, parent_snoc, leads_up}
-use Rattle.model_set_up.proofs.Packing.{Divides, divides_chain, powers_divide, unit_positive, round_up_not_before}
-use Rattle.model_set_up.proofs.Items.{item_of, unit_power, unit_below, AlignsAs, IsPlaceable, some_end, end_below_need, items_placeable}
-use Rattle.model_set_up.proofs.Nesting.{HasItems, bus_end, WindowOn, window_of, window_above, root_has, spot_placeable, bus_run, spot_aligned, bus_aligned, IsWithin, nested, items_above, bridge_of_bus}
+use Rattle.model_set_up.{specs.{Pools.{Pool, io_pool, mem_pool, pref_pool, same_pool, unit_of, aperture_of}, Placement.{Placed, a_region, a_window, Item, Spot, spot_end, spots, in_order, round_up, items_on, fits, bus_first}, Layout.{LayoutRow, IsAligned, is_window_over, IsUnderWindows, IsLawful, row_of, bus_rows, buses, pool_rows, layout}, Extents.{IsInside, AreApart}, Packing.IsPowerOfTwo, PlacementLaws.{PoolsAreLawful, LayoutIsLawful}}, proofs.{PlacedApart.pool_is, Packing.{Divides, divides_chain, powers_divide, unit_positive, round_up_not_before}, Items.{item_of, unit_power, unit_below, AlignsAs, IsPlaceable, some_end, end_below_need, items_placeable}, Nesting.{HasItems, bus_end, WindowOn, window_of, window_above, root_has, spot_placeable, bus_run, spot_aligned, bus_aligned, IsWithin, nested, items_above, bridge_of_bus}}}
 
 -- ---- buses
 

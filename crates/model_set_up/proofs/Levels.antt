@@ -1,15 +1,9 @@
 -- Sixteen levels are enough for every lawful board.
-use Rattle.std.proofs.Common.{◌≡◌, ℕ, zero, suc, ◌+◌, ◌≤◌, ◌<◌, true, List, [], ◌∷◌, length, refl, sym, ap, arith, rules}
-use Rattle.std.specs.Prelude.{flat_map}
-use Rattle.lists.specs.Elements.{Each}
-use Rattle.model_board.specs.Board.{Board, Row, Decl, rows_on}
-use Rattle.model_board.specs.Paths.{Path, path_eq, part_eq, parent, IsPath}
+use Rattle.std.{proofs.Common.{◌≡◌, ℕ, zero, suc, ◌+◌, ◌≤◌, ◌<◌, true, List, [], ◌∷◌, length, refl, sym, ap, arith, rules}, specs.Prelude.flat_map}
+use Rattle.lists.{specs.Elements.Each, proofs.{Members.{each_in, from_filter, flat_map_same}, Tests.right_true}}
+use Rattle.model_board.specs.{Board.{Board, Row, Decl, rows_on}, Paths.{Path, path_eq, part_eq, parent, IsPath}}
 use Rattle.model_registers.specs.Apertures.{Apertures}
-use Rattle.model_set_up.specs.Pools.{Pool}
-use Rattle.model_set_up.specs.Placement.{Item, items_of, items_within}
-use Rattle.model_set_up.specs.Levels.{ItemsByBus}
-use Rattle.lists.proofs.Members.{each_in, from_filter, flat_map_same}
-use Rattle.lists.proofs.Tests.{right_true}
+use Rattle.model_set_up.specs.{Pools.Pool, Placement.{Item, items_of, items_within}, Levels.ItemsByBus}
 
 -- equal paths are as long
 path_eq-length : (p q : Path) → path_eq p q ≡ true → length p ≡ length q

@@ -1,21 +1,9 @@
 -- The buses of a board nest: each that has items begins and ends inside its window on the bus above.
-use Rattle.std.proofs.Common.{◌≡◌, ℕ, zero, suc, ◌+◌, ◌-◌, ◌/◌, ◌%◌, ◌≤◌, ◌<◌, ◌⊎◌, inl, inr, true, List, [], ◌∷◌, ◌++◌, length, Option, Some, None, refl, sym, ap, ◌∙◌, subst, arith, append_assoc, append-nil, div-add-mod'}
-use Rattle.std.specs.Prelude.{IsTrue}
-use Rattle.std.specs.Option.{option_map_or}
-use Rattle.lists.specs.Elements.{IsIn}
-use Rattle.lists.proofs.Tests.{left_true, right_true}
-use Rattle.model_board.specs.Board.{Board, Row, Decl, endpoint, bridge, is_bridge, is_bridge_at, IsBoard}
-use Rattle.model_board.specs.Paths.{Part, Path, leads_to, parent, last_part}
+use Rattle.std.{proofs.Common.{◌≡◌, ℕ, zero, suc, ◌+◌, ◌-◌, ◌/◌, ◌%◌, ◌≤◌, ◌<◌, ◌⊎◌, inl, inr, true, List, [], ◌∷◌, ◌++◌, length, Option, Some, None, refl, sym, ap, ◌∙◌, subst, arith, append_assoc, append-nil, div-add-mod'}, specs.{Prelude.IsTrue, Option.option_map_or}}
+use Rattle.lists.{specs.Elements.IsIn, proofs.{Tests.{left_true, right_true}, Members.{each_in, from_any}}}
+use Rattle.model_board.{specs.{Board.{Board, Row, Decl, endpoint, bridge, is_bridge, is_bridge_at, IsBoard}, Paths.{Part, Path, leads_to, parent, last_part}, Lawful.HasLawfulDecls}, proofs.{PathOrder.path_same, PathEnds.{snoc, parent_snoc, length_snoc, leads_up}}}
 use Rattle.model_registers.specs.Apertures.{Apertures, Aperture}
-use Rattle.model_set_up.specs.Pools.{Pool, unit_of, aperture_of}
-use Rattle.model_set_up.specs.Placement.{Placed, a_window, Item, Spot, spots, in_order, end_from, round_up, need, alignment, window_items, items_on, root_first, offset_on, first_below, bus_first}
-use Rattle.model_set_up.specs.Packing.{IsPowerOfTwo, IsRun}
-use Rattle.model_board.specs.Lawful.{HasLawfulDecls}
-use Rattle.lists.proofs.Members.{each_in, from_any}
-use Rattle.model_board.proofs.PathOrder.{path_same}
-use Rattle.model_board.proofs.PathEnds.{snoc, parent_snoc, length_snoc, leads_up}
-use Rattle.model_set_up.proofs.Packing.{Divides, divides_add, divides_chain, powers_divide, unit_positive}
-use Rattle.model_set_up.proofs.Items.{spot_of, item_of, spots_differ, offset_of_spot, alignment_power, align_below, unit_power, IsPlaceable, powers, run_of, end_below_need, items_placeable, items_for, region_of_item, Origin, origin, on_own_bus, items_differ}
+use Rattle.model_set_up.{specs.{Pools.{Pool, unit_of, aperture_of}, Placement.{Placed, a_window, Item, Spot, spots, in_order, end_from, round_up, need, alignment, window_items, items_on, root_first, offset_on, first_below, bus_first}, Packing.{IsPowerOfTwo, IsRun}}, proofs.{Packing.{Divides, divides_add, divides_chain, powers_divide, unit_positive}, Items.{spot_of, item_of, spots_differ, offset_of_spot, alignment_power, align_below, unit_power, IsPlaceable, powers, run_of, end_below_need, items_placeable, items_for, region_of_item, Origin, origin, on_own_bus, items_differ}}}
 
 -- ---- the first address of a bus, by that of the bus above
 

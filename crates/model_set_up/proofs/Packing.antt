@@ -1,24 +1,9 @@
 -- Compact placement of regions has no gaps, and spots that are apart take at least the sum of their sizes.
-use Rattle.std.proofs.Common.{◌≡◌, ℕ, zero, suc, ◌+◌, ◌-◌, ◌*◌, ◌/◌, ◌%◌, ◌^◌, ◌≤◌, ◌<◌, Bool, true, false, not, cond, List, [], ◌∷◌, length, refl, sym, ap, ◌∙◌, subst, arith}
-use Rattle.std.specs.Prelude.{map, sum, sum_by, filter, flat_map, nat_le}
-use Rattle.std.proofs.lemmas.Bool.Decides.{nat_tests}
-use Rattle.std.proofs.lemmas.Nat.{pow-add}
-use Rattle.std.proofs.Math.Nat.{mul_assoc, lt-div-mul-add, mul-mod_left, suc-mul, zero-add, div-eq_of_lt, div-lt_iff_lt-mul, add-mul-div_right, mul-le-mul_right}
-use Rattle.std.proofs.lemmas.List.Filters.{sum_by-filter_both}
-use Rattle.std.proofs.lemmas.List.Sums.{sum_by-cons, sum-map}
-use Rattle.std.proofs.lemmas.Bool.{leb-true, leb-false}
-use Rattle.std.proofs.Math.Pow.{pow-lt, pow_pos}
-use Rattle.lists.specs.Elements.{Each, EachPair}
-use Rattle.lists.proofs.EachLemmas.{each_append, each_of_map, pairs_filter, each_filter, each_map, each_both, filter_passes, pairs_map}
-use Rattle.lists.proofs.Members.{each_from}
-use Rattle.model_board.specs.Board.{Board, Row, Decl, is_bridge, rows_on}
-use Rattle.model_board.specs.Paths.{Path, path_eq, parent}
+use Rattle.std.{proofs.{Common.{◌≡◌, ℕ, zero, suc, ◌+◌, ◌-◌, ◌*◌, ◌/◌, ◌%◌, ◌^◌, ◌≤◌, ◌<◌, Bool, true, false, not, cond, List, [], ◌∷◌, length, refl, sym, ap, ◌∙◌, subst, arith}, lemmas.{Bool.{Decides.nat_tests, leb-true, leb-false}, Nat.pow-add, List.{Filters.sum_by-filter_both, Sums.{sum_by-cons, sum-map}}}, Math.{Nat.{mul_assoc, lt-div-mul-add, mul-mod_left, suc-mul, zero-add, div-eq_of_lt, div-lt_iff_lt-mul, add-mul-div_right, mul-le-mul_right}, Pow.{pow-lt, pow_pos}}}, specs.Prelude.{map, sum, sum_by, filter, flat_map, nat_le}}
+use Rattle.lists.{specs.Elements.{Each, EachPair}, proofs.{EachLemmas.{each_append, each_of_map, pairs_filter, each_filter, each_map, each_both, filter_passes, pairs_map}, Members.each_from}}
+use Rattle.model_board.specs.{Board.{Board, Row, Decl, is_bridge, rows_on}, Paths.{Path, path_eq, parent}}
 use Rattle.model_registers.specs.Apertures.{Apertures}
-use Rattle.model_set_up.specs.Pools.{Pool, unit_of}
-use Rattle.model_set_up.specs.Placement.{items_of, items_within, items_on, Item, stands_before, inserted, in_order, round_up, end_from, spots_from, spots}
-use Rattle.model_set_up.specs.Extents.{IsInside, AreApart}
-use Rattle.model_set_up.proofs.InOrder.{each_in_order, order_pairs}
-use Rattle.model_set_up.specs.Packing.{IsPowerOfTwo, Interval, FlatNeed, HasPowerSizes, FlatNeedOnBus, IsRun, CompactIsRun}
+use Rattle.model_set_up.{specs.{Pools.{Pool, unit_of}, Placement.{items_of, items_within, items_on, Item, stands_before, inserted, in_order, round_up, end_from, spots_from, spots}, Extents.{IsInside, AreApart}, Packing.{IsPowerOfTwo, Interval, FlatNeed, HasPowerSizes, FlatNeedOnBus, IsRun, CompactIsRun}}, proofs.InOrder.{each_in_order, order_pairs}}
 
 -- ---- lists
 

@@ -1,13 +1,7 @@
 -- Where the paths of two functions of a board part.
-use Rattle.std.proofs.Common.{◌≡◌, ℕ, zero, suc, ◌+◌, ◌≤◌, ◌<◌, Bool, true, false, [], ◌∷◌, ◌++◌, length, refl, sym, ap, ap₂, ◌∙◌, arith, rules}
-use Rattle.std.proofs.lemmas.Bool.{and_from}
-use Rattle.lists.specs.Elements.{IsIn}
-use Rattle.lists.proofs.Tests.{left_true, right_true}
-use Rattle.model_board.specs.Board.{Board, Row, is_bridge, is_bridge_at, IsBoard}
-use Rattle.model_board.specs.Paths.{Part, Path, part_eq, leads_to, parent, last_part}
-use Rattle.lists.proofs.Members.{each_in, from_any, pair_in}
-use Rattle.model_board.proofs.PathOrder.{part_same, path_same, part_self}
-use Rattle.model_board.proofs.PathEnds.{snoc, length_snoc, leads_up, not_before_itself, leads_longer}
+use Rattle.std.proofs.{Common.{◌≡◌, ℕ, zero, suc, ◌+◌, ◌≤◌, ◌<◌, Bool, true, false, [], ◌∷◌, ◌++◌, length, refl, sym, ap, ap₂, ◌∙◌, arith, rules}, lemmas.Bool.and_from}
+use Rattle.lists.{specs.Elements.IsIn, proofs.{Tests.{left_true, right_true}, Members.{each_in, from_any, pair_in}}}
+use Rattle.model_board.{specs.{Board.{Board, Row, is_bridge, is_bridge_at, IsBoard}, Paths.{Part, Path, part_eq, leads_to, parent, last_part}}, proofs.{PathOrder.{part_same, path_same, part_self}, PathEnds.{snoc, length_snoc, leads_up, not_before_itself, leads_longer}}}
 
 -- ---- two paths
 

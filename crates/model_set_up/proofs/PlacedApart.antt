@@ -1,24 +1,9 @@
 -- Two regions of a board share no address: where their paths part, two rows of one bus would both hold it.
-use Rattle.std.proofs.Common.{◌≡◌, ℕ, ◌+◌, ◌⊎◌, inr, Bool, true, false, ◌&&◌, Option, List, [], ◌∷◌, ◌++◌, refl, sym, ap, ◌∙◌, subst, arith, rules}
-use Rattle.std.specs.Prelude.{IsTrue, MatchOption}
-use Rattle.std.specs.List.{list_any}
-use Rattle.model_registers.specs.Declarations.{Kind, Bridge}
-use Rattle.model_registers.specs.Decoding.{memory, space_of, same_space}
-use Rattle.lists.proofs.Tests.{left_true, right_true}
-use Rattle.model_registers.specs.Apertures.{IsLawfulApertures, IsPrefOption, Aperture, Apertures}
-use Rattle.lists.specs.Elements.{IsIn}
-use Rattle.model_board.specs.Board.{Board, Row, is_bridge, IsBoard}
-use Rattle.model_board.specs.Paths.{Part, Path, path_eq, leads_to, parent}
-use Rattle.model_set_up.specs.Pools.{Pool, io_pool, mem_pool, pref_pool, same_pool, pref_or_mem, pool_of, aperture_of}
-use Rattle.model_set_up.specs.Layout.{LayoutRow, is_window_over, IsUnderWindows, IsLawful}
-use Rattle.model_set_up.specs.Extents.{IsInside, AreApart}
-use Rattle.model_set_up.specs.Placement.{Placed, a_window}
-use Rattle.model_set_up.specs.PlacedRegions.{pool_space}
-use Rattle.lists.proofs.Members.{each_in, from_any}
-use Rattle.model_board.proofs.PathOrder.{path_same, part_self}
-use Rattle.model_board.proofs.PathEnds.{path_self, parent_snoc, last_snoc, length_snoc}
-use Rattle.model_set_up.proofs.Partings.{Meeting, Same, Above, Below, Parting, meet, leads_down, one_row, bridge_above}
-use Rattle.lists.proofs.Members.{pair_in}
+use Rattle.std.{proofs.Common.{◌≡◌, ℕ, ◌+◌, ◌⊎◌, inr, Bool, true, false, ◌&&◌, Option, List, [], ◌∷◌, ◌++◌, refl, sym, ap, ◌∙◌, subst, arith, rules}, specs.{Prelude.{IsTrue, MatchOption}, List.list_any}}
+use Rattle.model_registers.specs.{Declarations.{Kind, Bridge}, Decoding.{memory, space_of, same_space}, Apertures.{IsLawfulApertures, IsPrefOption, Aperture, Apertures}}
+use Rattle.lists.{proofs.{Tests.{left_true, right_true}, Members.{each_in, from_any, pair_in}}, specs.Elements.IsIn}
+use Rattle.model_board.{specs.{Board.{Board, Row, is_bridge, IsBoard}, Paths.{Part, Path, path_eq, leads_to, parent}}, proofs.{PathOrder.{path_same, part_self}, PathEnds.{path_self, parent_snoc, last_snoc, length_snoc}}}
+use Rattle.model_set_up.{specs.{Pools.{Pool, io_pool, mem_pool, pref_pool, same_pool, pref_or_mem, pool_of, aperture_of}, Layout.{LayoutRow, is_window_over, IsUnderWindows, IsLawful}, Extents.{IsInside, AreApart}, Placement.{Placed, a_window}, PlacedRegions.pool_space}, proofs.Partings.{Meeting, Same, Above, Below, Parting, meet, leads_down, one_row, bridge_above}}
 
 -- ---- pools
 

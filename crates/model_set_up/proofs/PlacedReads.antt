@@ -1,17 +1,7 @@
 -- After set-up an endpoint decodes the addresses of its placed regions, and every bridge above forwards them.
-use Rattle.std.proofs.Common.{◌≡◌, ℕ, ◌+◌, ◌*◌, ◌%◌, ◌^◌, ◌<◌, List, Option, refl, ap, ◌∙◌, subst, arith}
-use Rattle.std.specs.Prelude.{MatchOption}
-use Rattle.std.proofs.lemmas.Bool.{ltb-true}
-use Rattle.std.proofs.Math.Nat.{mul-mod_left}
-use Rattle.model_registers.specs.Declarations.{Kind, io_kind, Region, registers_of, least_size, IsLawfulRegion, Bridge}
-use Rattle.model_registers.specs.Apertures.{IsLawfulApertures, Aperture, Apertures}
-use Rattle.model_set_up.specs.Pools.{Pool, pool_of, aperture_of}
-use Rattle.model_set_up.specs.Layout.{LayoutRow}
-use Rattle.model_set_up.specs.Extents.{IsInside}
-use Rattle.model_set_up.specs.Packing.{IsPowerOfTwo}
-use Rattle.model_set_up.proofs.Packing.{Divides, divides_chain, powers_divide, power_positive}
-use Rattle.model_set_up.proofs.Nesting.{divides_from}
-use Rattle.model_set_up.proofs.SetUpRegisters.{FitsRegister}
+use Rattle.std.{proofs.{Common.{◌≡◌, ℕ, ◌+◌, ◌*◌, ◌%◌, ◌^◌, ◌<◌, List, Option, refl, ap, ◌∙◌, subst, arith}, lemmas.Bool.ltb-true, Math.Nat.mul-mod_left}, specs.Prelude.MatchOption}
+use Rattle.model_registers.specs.{Declarations.{Kind, io_kind, Region, registers_of, least_size, IsLawfulRegion, Bridge}, Apertures.{IsLawfulApertures, Aperture, Apertures}}
+use Rattle.model_set_up.{specs.{Pools.{Pool, pool_of, aperture_of}, Layout.LayoutRow, Extents.IsInside, Packing.IsPowerOfTwo}, proofs.{Packing.{Divides, divides_chain, powers_divide, power_positive}, Nesting.divides_from, SetUpRegisters.FitsRegister}}
 
 -- ---- a placed address fits its register
 

@@ -1,28 +1,9 @@
 -- The placed regions of a board: each has its row in the layout, and no two of one space share an address.
-use Rattle.std.proofs.Common.{◌≡◌, ℕ, ◌+◌, ◌≤◌, ◌⊎◌, true, [], ◌∷◌, refl, sym, ap, subst, arith, ◌%◌, ◌^◌, Option}
-use Rattle.std.specs.Prelude.{IsTrue}
-use Rattle.lists.specs.Elements.{EachPair, IsIn}
-use Rattle.model_registers.specs.Declarations.{Kind, Region, registers_of, HasLawfulRegions, Endpoint, least_size, IsLawfulRegion}
-use Rattle.model_registers.specs.Decoding.{Space, space_of, same_space, io, memory}
-use Rattle.model_registers.specs.Apertures.{IsLawfulApertures, Apertures, Aperture}
-use Rattle.model_board.specs.Board.{Board, Row, Decl, endpoint, bridge, is_bridge, IsBoard}
-use Rattle.model_registers.specs.DeclarationRules.{IsLawfulEndpoint}
-use Rattle.model_board.specs.Paths.{Path, path_before}
-use Rattle.model_set_up.specs.Pools.{Pool, io_pool, mem_pool, pref_pool, bridges_above}
-use Rattle.model_set_up.specs.Placement.{Placed, a_region, a_window}
-use Rattle.model_set_up.specs.SetUp.{first_of}
-use Rattle.model_set_up.specs.Layout.{LayoutRow, IsLawful, pool_rows, layout, IsAligned}
-use Rattle.model_set_up.specs.Extents.{AreApart}
-use Rattle.model_board.specs.Lawful.{IsLawfulDecl, HasLawfulDecls}
-use Rattle.model_set_up.specs.PlacementLaws.{pool_at, region_row, IsRowFor, HasRows}
-use Rattle.model_set_up.specs.PlacedRegions.{PlacedRegion, placed, placed_at, placed_regions, pool_space, placed_row, placed_rows}
-use Rattle.lists.proofs.Members.{each_in, in_map, in_flat_map, from_flat_map, from_map, from_filter, pairs_weaker, pairs_flat_map, pairs_of_map}
-use Rattle.model_set_up.specs.UniqueClaimant.{ShareNone, CanBePlaced, IsPlacedWithin, PlacedWithin}
-use Rattle.model_board.proofs.PathEnds.{not_before_itself}
-use Rattle.model_set_up.proofs.PlacedApart.{pool_of_space, OfEndpoint, spaces_apart}
-use Rattle.model_set_up.proofs.LawfulPlacement.{layout_is_lawful}
-use Rattle.model_set_up.proofs.DeclaredRows.{rows_are_declared}
-use Rattle.model_set_up.proofs.PlacedReads.{InAperture, fits_register}
+use Rattle.std.{proofs.Common.{◌≡◌, ℕ, ◌+◌, ◌≤◌, ◌⊎◌, true, [], ◌∷◌, refl, sym, ap, subst, arith, ◌%◌, ◌^◌, Option}, specs.Prelude.IsTrue}
+use Rattle.lists.{specs.Elements.{EachPair, IsIn}, proofs.Members.{each_in, in_map, in_flat_map, from_flat_map, from_map, from_filter, pairs_weaker, pairs_flat_map, pairs_of_map}}
+use Rattle.model_registers.specs.{Declarations.{Kind, Region, registers_of, HasLawfulRegions, Endpoint, least_size, IsLawfulRegion}, Decoding.{Space, space_of, same_space, io, memory}, Apertures.{IsLawfulApertures, Apertures, Aperture}, DeclarationRules.IsLawfulEndpoint}
+use Rattle.model_board.{specs.{Board.{Board, Row, Decl, endpoint, bridge, is_bridge, IsBoard}, Paths.{Path, path_before}, Lawful.{IsLawfulDecl, HasLawfulDecls}}, proofs.PathEnds.not_before_itself}
+use Rattle.model_set_up.{specs.{Pools.{Pool, io_pool, mem_pool, pref_pool, bridges_above}, Placement.{Placed, a_region, a_window}, SetUp.first_of, Layout.{LayoutRow, IsLawful, pool_rows, layout, IsAligned}, Extents.AreApart, PlacementLaws.{pool_at, region_row, IsRowFor, HasRows}, PlacedRegions.{PlacedRegion, placed, placed_at, placed_regions, pool_space, placed_row, placed_rows}, UniqueClaimant.{ShareNone, CanBePlaced, IsPlacedWithin, PlacedWithin}}, proofs.{PlacedApart.{pool_of_space, OfEndpoint, spaces_apart}, LawfulPlacement.layout_is_lawful, DeclaredRows.rows_are_declared, PlacedReads.{InAperture, fits_register}}}
 
 -- where a placed region comes from
 pub record Source (b : Board) (a : Apertures) (q : PlacedRegion) : Type 0 where

@@ -1,29 +1,11 @@
 -- Configuration cycles reach the function that the bus numbers name.
 --     Names      a bridge's registers cover a bus number exactly where the board's numbers do
 --     reached_by_names      where all bridges do so for the number of a bus, a cycle reaches the function that stands there, or none
-use Rattle.std.proofs.Common.{◌≡◌, ℕ, ◌≤◌, ◌<◌, ◌⊎◌, inl, inr, Bool, true, false, not, ◌&&◌, cond, List, [], ◌∷◌, ◌++◌, length, Option, Some, None, refl, sym, ap, ap₂, ◌∙◌, subst, arith, eqb, leb, append_assoc, rules, find}
-use Rattle.std.specs.Prelude.{find, map, IsTrue}
-use Rattle.std.specs.List.{list_any}
-use Rattle.std.proofs.lemmas.Bool.Decides.{nat_tests}
-use Rattle.std.specs.Option.{option_map_or}
-use Rattle.std.proofs.lemmas.Bool.{leb-true, and_from, le-leb, eqb-true}
-use Rattle.lists.specs.Elements.{Each, IsIn}
-use Rattle.lists.proofs.Tests.{left_true, right_true, same_test}
-use Rattle.lists.proofs.EachLemmas.{each_map}
-use Rattle.lists.proofs.FirstFound.{found_passes, each_found, found}
-use Rattle.model_board.specs.Board.{Board, Row, is_bridge, is_bridge_at, IsBoard}
-use Rattle.model_board.specs.Paths.{Part, Path, part_eq, path_eq, leads_to, parent, last_part, IsPath}
-use Rattle.model_board.specs.BusNumbers.{secondary, subordinate, bus_behind, bus_of}
-use Rattle.model_board.specs.State.{BoardFunction, row_at}
-use Rattle.model_board.specs.Cycles.{is_route, takes, taker, covers, ends_in, secondary_register, subordinate_register, reached, reached_type0}
-use Rattle.model_set_up.specs.Reach.{HasNumbers, ReachedByNumbers, address_of, OnlyNamed}
-use Rattle.lists.proofs.Members.{each_in, in_map, from_map, any_in, from_any}
+use Rattle.std.{proofs.{Common.{◌≡◌, ℕ, ◌≤◌, ◌<◌, ◌⊎◌, inl, inr, Bool, true, false, not, ◌&&◌, cond, List, [], ◌∷◌, ◌++◌, length, Option, Some, None, refl, sym, ap, ap₂, ◌∙◌, subst, arith, eqb, leb, append_assoc, rules, find}, lemmas.Bool.{Decides.nat_tests, leb-true, and_from, le-leb, eqb-true}}, specs.{Prelude.{find, map, IsTrue}, List.list_any, Option.option_map_or}}
+use Rattle.lists.{specs.Elements.{Each, IsIn}, proofs.{Tests.{left_true, right_true, same_test}, EachLemmas.each_map, FirstFound.{found_passes, each_found, found}, Members.{each_in, in_map, from_map, any_in, from_any}}}
+use Rattle.model_board.{specs.{Board.{Board, Row, is_bridge, is_bridge_at, IsBoard}, Paths.{Part, Path, part_eq, path_eq, leads_to, parent, last_part, IsPath}, BusNumbers.{secondary, subordinate, bus_behind, bus_of}, State.{BoardFunction, row_at}, Cycles.{is_route, takes, taker, covers, ends_in, secondary_register, subordinate_register, reached, reached_type0}}, proofs.{PathOrder.{part_same, path_same, part_self}, PathEnds.{path_self, snoc, parent_snoc, snoc_some}, PlacesLaw.path_total, BusNumbers.numbering}}
+use Rattle.model_set_up.{specs.Reach.{HasNumbers, ReachedByNumbers, address_of, OnlyNamed}, proofs.Partings.{BridgeAt, bridge_at, bridge_above, leads_down}}
 use Rattle.model_registers.proofs.RegisterFiles.{self, below}
-use Rattle.model_board.proofs.PathOrder.{part_same, path_same, part_self}
-use Rattle.model_board.proofs.PathEnds.{path_self, snoc, parent_snoc, snoc_some}
-use Rattle.model_set_up.proofs.Partings.{BridgeAt, bridge_at, bridge_above, leads_down}
-use Rattle.model_board.proofs.PlacesLaw.{path_total}
-use Rattle.model_board.proofs.BusNumbers.{numbering}
 
 -- ---- find
 

@@ -1,23 +1,8 @@
 -- A scan meets the functions in path order, and gives bus numbers in it.
-use Rattle.std.proofs.lemmas.Grind.{common_steps}
-use Rattle.std.proofs.Common.{◌≡◌, ℕ, ◌+◌, ◌<◌, inl, inr, Bool, true, false, ◌&&◌, ◌||◌, cond, List, [], ◌∷◌, ◌++◌, append_assoc, length, zero-add, refl, sym, ap, ap₂, ◌∙◌, subst, arith, rules}
-use Rattle.std.specs.Prelude.{filter, count_by, IsTrue}
-use Rattle.std.proofs.lemmas.Bool.Decides.{nat_tests}
-use Rattle.std.proofs.lemmas.List.Sums.{sum_by-cons}
-use Rattle.std.proofs.lemmas.Bool.{false_from_ne_true, or_right}
-use Rattle.lists.specs.Elements.{Each, EachPair, IsIn}
-use Rattle.model_board.specs.Paths.{Path, path_eq, path_before, leads_to, IsPath}
-use Rattle.model_board.specs.Board.{Board, Row, is_bridge, is_bridge_at, stands_at, IsBoard}
-use Rattle.model_set_up.specs.Scanning.{no_numbers, board_numbers, open_numbers}
-use Rattle.model_set_up.specs.ScanOrder.{nth_part, on, next_part, met, MeetsInPathOrder, GivesNumbersInPathOrder, ScanMeetsInPathOrder, ScanGivesNumbersInPathOrder}
-use Rattle.lists.proofs.Members.{each_in, any_in, none_pass, filter_same}
-use Rattle.lists.proofs.Tests.{same_test, and_true}
-use Rattle.model_board.proofs.PathOrder.{one, exclusive, part_same, path_same, part_self}
-use Rattle.model_board.proofs.PathEnds.{path_self, length_snoc, not_before_itself, leads_longer, snoc_some}
-use Rattle.model_set_up.proofs.Partings.{one_row, bridge_at, bridge_above}
-use Rattle.model_board.proofs.BusNumbers.{bridges, bridges-cons, at, counted, counted_once}
-use Rattle.model_set_up.proofs.Scanning.{goes_before}
-use Rattle.model_set_up.proofs.ScanParts.{before_first, before_last, before_later, leads_place, is_between, none_passed, row_path}
+use Rattle.std.{proofs.{lemmas.{Grind.common_steps, Bool.{Decides.nat_tests, false_from_ne_true, or_right}, List.Sums.sum_by-cons}, Common.{◌≡◌, ℕ, ◌+◌, ◌<◌, inl, inr, Bool, true, false, ◌&&◌, ◌||◌, cond, List, [], ◌∷◌, ◌++◌, append_assoc, length, zero-add, refl, sym, ap, ap₂, ◌∙◌, subst, arith, rules}}, specs.Prelude.{filter, count_by, IsTrue}}
+use Rattle.lists.{specs.Elements.{Each, EachPair, IsIn}, proofs.{Members.{each_in, any_in, none_pass, filter_same}, Tests.{same_test, and_true}}}
+use Rattle.model_board.{specs.{Paths.{Path, path_eq, path_before, leads_to, IsPath}, Board.{Board, Row, is_bridge, is_bridge_at, stands_at, IsBoard}}, proofs.{PathOrder.{one, exclusive, part_same, path_same, part_self}, PathEnds.{path_self, length_snoc, not_before_itself, leads_longer, snoc_some}, BusNumbers.{bridges, bridges-cons, at, counted, counted_once}}}
+use Rattle.model_set_up.{specs.{Scanning.{no_numbers, board_numbers, open_numbers}, ScanOrder.{nth_part, on, next_part, met, MeetsInPathOrder, GivesNumbersInPathOrder, ScanMeetsInPathOrder, ScanGivesNumbersInPathOrder}}, proofs.{Partings.{one_row, bridge_at, bridge_above}, Scanning.goes_before, ScanParts.{before_first, before_last, before_later, leads_place, is_between, none_passed, row_path}}}
 
 -- ---- filters
 

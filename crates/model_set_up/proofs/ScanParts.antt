@@ -1,17 +1,8 @@
 -- Parts of a bus in path order: which paths come before the first, the last and the next part.
-use Rattle.std.proofs.Common.{◌≡◌, ℕ, ◌+◌, ◌*◌, ◌/◌, ◌%◌, ◌≤◌, ◌<◌, ◌⊎◌, inl, inr, Bool, true, false, not, ◌&&◌, ◌||◌, cond, [], ◌∷◌, ◌++◌, refl, sym, ap, ◌∙◌, subst, arith, eqb, rules}
-use Rattle.std.specs.Prelude.{nat_lt, nat_le}
-use Rattle.std.proofs.lemmas.Bool.Decides.{nat_tests}
-use Rattle.std.proofs.lemmas.Bool.{ltb-true}
-use Rattle.lists.specs.Elements.{Each, IsIn}
-use Rattle.lists.proofs.Tests.{left_true, right_true}
-use Rattle.model_board.specs.Paths.{Part, Path, part_eq, part_before, path_eq, path_before, leads_to, last_part, function_zero, IsPart, IsPath}
-use Rattle.model_board.specs.Board.{Board, Row, stands_at, is_multifunction, IsBoard}
-use Rattle.model_set_up.specs.ScanOrder.{nth_part, on, next_part}
-use Rattle.lists.proofs.Members.{each_in, any_in}
-use Rattle.model_board.proofs.PathOrder.{part_same, part_eq-sym}
-use Rattle.model_board.proofs.PathEnds.{path_self, parent_snoc, last_snoc, path_eq-snoc, snoc_some}
-use Rattle.model_set_up.proofs.Partings.{bridge_above, leads_down}
+use Rattle.std.{proofs.{Common.{◌≡◌, ℕ, ◌+◌, ◌*◌, ◌/◌, ◌%◌, ◌≤◌, ◌<◌, ◌⊎◌, inl, inr, Bool, true, false, not, ◌&&◌, ◌||◌, cond, [], ◌∷◌, ◌++◌, refl, sym, ap, ◌∙◌, subst, arith, eqb, rules}, lemmas.Bool.{Decides.nat_tests, ltb-true}}, specs.Prelude.{nat_lt, nat_le}}
+use Rattle.lists.{specs.Elements.{Each, IsIn}, proofs.{Tests.{left_true, right_true}, Members.{each_in, any_in}}}
+use Rattle.model_board.{specs.{Paths.{Part, Path, part_eq, part_before, path_eq, path_before, leads_to, last_part, function_zero, IsPart, IsPath}, Board.{Board, Row, stands_at, is_multifunction, IsBoard}}, proofs.{PathOrder.{part_same, part_eq-sym}, PathEnds.{path_self, parent_snoc, last_snoc, path_eq-snoc, snoc_some}}}
+use Rattle.model_set_up.{specs.ScanOrder.{nth_part, on, next_part}, proofs.Partings.{bridge_above, leads_down}}
 
 -- ---- the first part behind a function
 

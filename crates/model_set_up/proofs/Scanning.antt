@@ -1,22 +1,9 @@
 -- While a scan runs, configuration cycles reach the functions of the buses that it has met.
-use Rattle.std.proofs.Common.{◌≡◌, ◌+◌, ◌≤◌, ◌<◌, inl, inr, Bool, true, false, cond, List, [], ◌∷◌, ◌++◌, refl, sym, ap, ◌∙◌, subst, arith, lit<, rules}
-use Rattle.std.specs.Prelude.{map, IsTrue}
-use Rattle.lists.specs.Elements.{Each, IsIn}
-use Rattle.model_registers.specs.Declarations.{Bridge}
-use Rattle.model_registers.specs.BridgeTable.{bridge_file}
-use Rattle.model_board.specs.Paths.{Path, path_eq, path_before, leads_to, parent, last_part}
-use Rattle.model_board.specs.Board.{Board, Row, is_bridge, is_bridge_at, IsBoard}
-use Rattle.model_board.specs.BusNumbers.{secondary, subordinate, bus_behind, bus_of}
-use Rattle.model_board.specs.State.{BoardFunction}
-use Rattle.model_board.specs.Numbering.{NumbersLead}
-use Rattle.model_set_up.specs.Scanning.{BusNumbers, board_numbers, open_numbers, no_numbers, numbers_in, scan_numbers, with_numbers, numbered_file, ReachedWhileScanning, NumbersOfScanState}
-use Rattle.lists.proofs.Members.{each_in, each_from, any_in}
-use Rattle.model_board.proofs.PathOrder.{one, before_trans, behind_trans, leads_before, path_same}
-use Rattle.model_board.proofs.PathEnds.{path_self, snoc, leads_self, not_before_itself}
-use Rattle.model_board.proofs.BusNumbers.{numbering, bridges, at, count_two, count_three, counted}
-use Rattle.model_board.proofs.PlacesLaw.{path_total}
-use Rattle.model_board.proofs.StateRows.{rows_of}
-use Rattle.model_set_up.proofs.Routes.{Names, names_of, covers_between, between_covers, bridge_of, reached_by_names}
+use Rattle.std.{proofs.Common.{◌≡◌, ◌+◌, ◌≤◌, ◌<◌, inl, inr, Bool, true, false, cond, List, [], ◌∷◌, ◌++◌, refl, sym, ap, ◌∙◌, subst, arith, lit<, rules}, specs.Prelude.{map, IsTrue}}
+use Rattle.lists.{specs.Elements.{Each, IsIn}, proofs.Members.{each_in, each_from, any_in}}
+use Rattle.model_registers.specs.{Declarations.Bridge, BridgeTable.bridge_file}
+use Rattle.model_board.{specs.{Paths.{Path, path_eq, path_before, leads_to, parent, last_part}, Board.{Board, Row, is_bridge, is_bridge_at, IsBoard}, BusNumbers.{secondary, subordinate, bus_behind, bus_of}, State.BoardFunction, Numbering.NumbersLead}, proofs.{PathOrder.{one, before_trans, behind_trans, leads_before, path_same}, PathEnds.{path_self, snoc, leads_self, not_before_itself}, BusNumbers.{numbering, bridges, at, count_two, count_three, counted}, PlacesLaw.path_total, StateRows.rows_of}}
+use Rattle.model_set_up.{specs.Scanning.{BusNumbers, board_numbers, open_numbers, no_numbers, numbers_in, scan_numbers, with_numbers, numbered_file, ReachedWhileScanning, NumbersOfScanState}, proofs.Routes.{Names, names_of, covers_between, between_covers, bridge_of, reached_by_names}}
 
 -- ---- path order
 

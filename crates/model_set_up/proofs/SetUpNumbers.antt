@@ -1,21 +1,9 @@
 -- Set-up leaves the board's numbers in its bridges.
-use Rattle.std.proofs.Common.{◌≡◌, ℕ, ◌+◌, ◌*◌, ◌%◌, ◌≤◌, ◌<◌, inl, true, [], ◌∷◌, refl, ap, arith}
-use Rattle.std.specs.Prelude.{map, count_by, IsTrue}
-use Rattle.lists.specs.Elements.{Each, IsIn}
-use Rattle.model_registers.specs.Registers.{File}
-use Rattle.model_board.specs.Paths.{Path, path_before, leads_to}
-use Rattle.model_board.specs.Board.{Decl, Row, Board, is_bridge, is_bridge_at}
-use Rattle.model_board.specs.BusNumbers.{secondary, subordinate, Enumerates}
-use Rattle.model_board.specs.Cycles.{secondary_register, subordinate_register}
-use Rattle.model_registers.specs.Apertures.{Apertures}
-use Rattle.model_board.specs.State.{row_at, BoardFunction}
-use Rattle.model_set_up.specs.Reach.{SetUpHasNumbers}
-use Rattle.model_set_up.specs.SetUp.{set_up_file}
-use Rattle.model_board.proofs.BusNumbers.{bridges, at, count_three, counted}
-use Rattle.lists.proofs.Members.{any_in}
-use Rattle.lists.proofs.Tests.{and_true}
-use Rattle.model_board.proofs.PathEnds.{path_self}
-use Rattle.model_board.proofs.PathOrder.{exclusive}
+use Rattle.std.{proofs.Common.{◌≡◌, ℕ, ◌+◌, ◌*◌, ◌%◌, ◌≤◌, ◌<◌, inl, true, [], ◌∷◌, refl, ap, arith}, specs.Prelude.{map, count_by, IsTrue}}
+use Rattle.lists.{specs.Elements.{Each, IsIn}, proofs.{Members.any_in, Tests.and_true}}
+use Rattle.model_registers.specs.{Registers.File, Apertures.Apertures}
+use Rattle.model_board.{specs.{Paths.{Path, path_before, leads_to}, Board.{Decl, Row, Board, is_bridge, is_bridge_at}, BusNumbers.{secondary, subordinate, Enumerates}, Cycles.{secondary_register, subordinate_register}, State.{row_at, BoardFunction}}, proofs.{BusNumbers.{bridges, at, count_three, counted}, PathEnds.path_self, PathOrder.exclusive}}
+use Rattle.model_set_up.specs.{Reach.SetUpHasNumbers, SetUp.set_up_file}
 
 -- the numbers of a bridge are bytes
 pub record IsSmall (b : Board) (p : Path) : Type 0 where

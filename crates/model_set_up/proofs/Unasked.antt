@@ -1,25 +1,9 @@
 -- Worked examples that no row of tests/rows can ask: states inside a scan, items in any order, windows of every decode and what
 -- they forward, and cycles that no line makes.
-use Rattle.std.proofs.Common.{◌≡◌, ℕ, Bool, List, [], ◌∷◌, ◌++◌, true, false, Option, Some, None, refl}
-use Rattle.std.specs.Prelude.{map}
-use Rattle.std.specs.Option.{option_map}
-use Rattle.model_registers.specs.ByteEnables.{lanes}
-use Rattle.model_registers.specs.Declarations.{io32, pref32, Bridge}
-use Rattle.model_registers.specs.EndpointTable.{endpoint_file}
-use Rattle.model_registers.specs.BridgeTable.{Window, bridge_file}
-use Rattle.model_registers.specs.Decoding.{Space, io, memory}
-use Rattle.model_board.specs.Paths.{Path}
-use Rattle.model_board.specs.Board.{endpoint, bridge}
-use Rattle.model_board.specs.State.{State, BoardFunction}
-use Rattle.model_board.specs.Cycles.{reached}
-use Rattle.model_board.specs.AtReset.{reset_state}
-use Rattle.model_board.specs.Windows.{Window, io_window, mem_window, pref_window, forwards, window as window_between}
-use Rattle.model_board.specs.Ports.{config_reply, after_memory_write}
-use Rattle.model_board.specs.Examples.{part, first_endpoint, main_board, main_bridge, main_apertures, memory_bridge, many_bridges}
-use Rattle.model_set_up.specs.Placement.{a_region, Item, in_order}
-use Rattle.model_set_up.specs.Scanning.{no_numbers, scan_numbers, scan_state}
-use Rattle.model_set_up.specs.ScanOrder.{on, met, next_part}
-use Rattle.model_set_up.specs.SetUp.{set_up_state}
+use Rattle.std.{proofs.Common.{◌≡◌, ℕ, Bool, List, [], ◌∷◌, ◌++◌, true, false, Option, Some, None, refl}, specs.{Prelude.map, Option.option_map}}
+use Rattle.model_registers.specs.{ByteEnables.lanes, Declarations.{io32, pref32, Bridge}, EndpointTable.endpoint_file, BridgeTable.{Window, bridge_file}, Decoding.{Space, io, memory}}
+use Rattle.model_board.specs.{Paths.Path, Board.{endpoint, bridge}, State.{State, BoardFunction}, Cycles.reached, AtReset.reset_state, Windows.{Window, io_window, mem_window, pref_window, forwards, window as window_between}, Ports.{config_reply, after_memory_write}, Examples.{part, first_endpoint, main_board, main_bridge, main_apertures, memory_bridge, many_bridges}}
+use Rattle.model_set_up.specs.{Placement.{a_region, Item, in_order}, Scanning.{no_numbers, scan_numbers, scan_state}, ScanOrder.{on, met, next_part}, SetUp.set_up_state}
 
 abbrev bridge_path : Path
 bridge_path = part 2 0 ∷ []

@@ -1,42 +1,9 @@
 -- After set-up the claims of an address are those of the placed regions that hold it: one at most.
-use Rattle.std.proofs.Common.{◌≡◌, ℕ, ◌+◌, ◌-◌, ◌≤◌, ◌<◌, Bool, true, false, ◌&&◌, ◌||◌, cond, List, [], ◌∷◌, Option, Some, None, refl, sym, ap, ap₂, ◌∙◌, subst, arith}
-use Rattle.std.specs.Prelude.{not, map, flat_map, slice_get}
-use Rattle.std.specs.Option.{option_to_list}
-use Rattle.std.proofs.lemmas.List.{map-append}
-use Rattle.std.proofs.lemmas.Bool.{and_from}
-use Rattle.std.proofs.lemmas.List.Folds.{list_all-map}
-use Rattle.lists.specs.Elements.{Each, EachPair, IsIn}
-use Rattle.model_registers.specs.Declarations.{Region, registers_of, IsLawfulRegion, HasLawfulRegions, Endpoint, Bridge}
-use Rattle.model_registers.specs.DeclarationRules.{IsConfigBlock}
-use Rattle.model_registers.specs.Decoding.{Space, space_of, same_space, base, is_open, Hit, hit_of}
-use Rattle.model_registers.proofs.HitRegions.{space_same}
-use Rattle.model_board.specs.Board.{Board, Row, Decl, endpoint, bridge, is_bridge, is_multifunction}
-use Rattle.model_board.specs.Paths.{Path, leads_to}
-use Rattle.model_board.specs.State.{BoardFunction}
-use Rattle.model_board.specs.Windows.{forwards, is_in_window}
-use Rattle.model_board.specs.Claims.{Claim, claim_at, claims_of, is_forwarded, claims, first_claim}
-use Rattle.model_set_up.specs.Pools.{Pool, unit_of, bridges_above}
-use Rattle.model_registers.specs.Apertures.{Apertures}
-use Rattle.model_set_up.specs.Placement.{Item, need, items_on, bus_first}
-use Rattle.model_set_up.specs.Layout.{LayoutRow, IsAligned, IsLawful, layout}
-use Rattle.model_set_up.specs.Extents.{IsInside}
-use Rattle.model_set_up.specs.SetUp.{first_of, command_of, bridge_values, set_up_file, set_up_state}
-use Rattle.model_board.specs.Routing.{RoutingRow, routing, is_routed, routed_claims}
-use Rattle.model_set_up.specs.PlacementLaws.{region_row, window_row, HasRows}
-use Rattle.model_set_up.specs.PlacedRegions.{pool_space, PlacedRegion, placed, placed_at, placed_regions, holds, claim_in, placed_claim}
-use Rattle.model_set_up.specs.UniqueClaimant.{CanBePlaced, IsClaimed, ShareNone, HasUniqueClaims, UniqueClaimant, ClaimOfRegion, ClaimInAnyOrder, RowsArePlaced}
-use Rattle.model_set_up.specs.WindowLaws.{HasPlacedWindows}
-use Rattle.lists.proofs.Members.{each_in, each_from, any_in, in_map, in_flat_map, all_from, flat_map_same, flat_map_map, flat_map_flat}
-use Rattle.model_set_up.proofs.Holders.{Holds, holds_is, is_held, self_space, claims_in, one_at_most, holder_first, same_members}
-use Rattle.model_board.proofs.Routing.{first_listed, first_of_claims, forwarded_by_routing, claims_by_routing}
-use Rattle.model_set_up.proofs.SetUpRegisters.{FitsRegister, bases_read, endpoint_opens, bridge_opens}
-use Rattle.model_set_up.proofs.LawfulPlacement.{layout_is_lawful}
-use Rattle.model_set_up.proofs.DeclaredRows.{rows_are_declared}
-use Rattle.model_set_up.proofs.BoardWindows.{set_up_windows, IsBridgeWindow, bridge_window, window_holds}
-use Rattle.model_set_up.proofs.Partings.{one_row, bridge_above}
-use Rattle.model_set_up.proofs.PlacedApart.{pool_of_space, WindowOver, window_over}
-use Rattle.model_set_up.proofs.PlacedRegions.{source, lawful_decl, lawful_regions, region_there, placed_apart, rows_to_placed, placed_to_rows}
-use Rattle.model_set_up.proofs.PlacedReads.{InAperture, fits_register}
+use Rattle.std.{proofs.{Common.{◌≡◌, ℕ, ◌+◌, ◌-◌, ◌≤◌, ◌<◌, Bool, true, false, ◌&&◌, ◌||◌, cond, List, [], ◌∷◌, Option, Some, None, refl, sym, ap, ap₂, ◌∙◌, subst, arith}, lemmas.{List.{map-append, Folds.list_all-map}, Bool.and_from}}, specs.{Prelude.{not, map, flat_map, slice_get}, Option.option_to_list}}
+use Rattle.lists.{specs.Elements.{Each, EachPair, IsIn}, proofs.Members.{each_in, each_from, any_in, in_map, in_flat_map, all_from, flat_map_same, flat_map_map, flat_map_flat}}
+use Rattle.model_registers.{specs.{Declarations.{Region, registers_of, IsLawfulRegion, HasLawfulRegions, Endpoint, Bridge}, DeclarationRules.IsConfigBlock, Decoding.{Space, space_of, same_space, base, is_open, Hit, hit_of}, Apertures.Apertures}, proofs.HitRegions.space_same}
+use Rattle.model_board.{specs.{Board.{Board, Row, Decl, endpoint, bridge, is_bridge, is_multifunction}, Paths.{Path, leads_to}, State.BoardFunction, Windows.{forwards, is_in_window}, Claims.{Claim, claim_at, claims_of, is_forwarded, claims, first_claim}, Routing.{RoutingRow, routing, is_routed, routed_claims}}, proofs.Routing.{first_listed, first_of_claims, forwarded_by_routing, claims_by_routing}}
+use Rattle.model_set_up.{specs.{Pools.{Pool, unit_of, bridges_above}, Placement.{Item, need, items_on, bus_first}, Layout.{LayoutRow, IsAligned, IsLawful, layout}, Extents.IsInside, SetUp.{first_of, command_of, bridge_values, set_up_file, set_up_state}, PlacementLaws.{region_row, window_row, HasRows}, PlacedRegions.{pool_space, PlacedRegion, placed, placed_at, placed_regions, holds, claim_in, placed_claim}, UniqueClaimant.{CanBePlaced, IsClaimed, ShareNone, HasUniqueClaims, UniqueClaimant, ClaimOfRegion, ClaimInAnyOrder, RowsArePlaced}, WindowLaws.HasPlacedWindows}, proofs.{Holders.{Holds, holds_is, is_held, self_space, claims_in, one_at_most, holder_first, same_members}, SetUpRegisters.{FitsRegister, bases_read, endpoint_opens, bridge_opens}, LawfulPlacement.layout_is_lawful, DeclaredRows.rows_are_declared, BoardWindows.{set_up_windows, IsBridgeWindow, bridge_window, window_holds}, Partings.{one_row, bridge_above}, PlacedApart.{pool_of_space, WindowOver, window_over}, PlacedRegions.{source, lawful_decl, lawful_regions, region_there, placed_apart, rows_to_placed, placed_to_rows}, PlacedReads.{InAperture, fits_register}}}
 
 -- ---- claims function by function
 

@@ -1,13 +1,8 @@
 -- After set-up the window registers of each bridge name what placement put behind it.
-use Rattle.std.proofs.Common.{◌≡◌, ℕ, ◌+◌, ◌-◌, ◌*◌, ◌/◌, ◌%◌, ◌^◌, ◌≤◌, ◌<◌, Bool, true, Option, Some, None, refl, sym, subst, arith, div-add-mod', lit<}
-use Rattle.std.specs.Prelude.{nat_le}
-use Rattle.std.proofs.lemmas.Bool.{le-leb}
-use Rattle.model_registers.specs.Declarations.{IoDecode, io32, PrefDecode, no_pref, pref32, pref64, Bridge}
-use Rattle.model_registers.specs.BridgeTable.{BridgeValues, bridge_file}
+use Rattle.std.{proofs.{Common.{◌≡◌, ℕ, ◌+◌, ◌-◌, ◌*◌, ◌/◌, ◌%◌, ◌^◌, ◌≤◌, ◌<◌, Bool, true, Option, Some, None, refl, sym, subst, arith, div-add-mod', lit<}, lemmas.Bool.le-leb}, specs.Prelude.nat_le}
+use Rattle.model_registers.specs.{Declarations.{IoDecode, io32, PrefDecode, no_pref, pref32, pref64, Bridge}, BridgeTable.{BridgeValues, bridge_file}}
 use Rattle.model_board.specs.Windows.{Window, window, io_window, pref_window}
-use Rattle.model_set_up.specs.WindowLaws.{closed_io, closed_memory, Closes, ClosedWindows, io_reach, pref_reach, IsWhole, NamedWindows}
-use Rattle.model_set_up.specs.Pools.{has_io, has_pref}
-use Rattle.model_set_up.proofs.SetUpRegisters.{io_reads, mem_reads, pref_reads_low, pref_reads}
+use Rattle.model_set_up.{specs.{WindowLaws.{closed_io, closed_memory, Closes, ClosedWindows, io_reach, pref_reach, IsWhole, NamedWindows}, Pools.{has_io, has_pref}}, proofs.SetUpRegisters.{io_reads, mem_reads, pref_reads_low, pref_reads}}
 
 -- ---- windows
 

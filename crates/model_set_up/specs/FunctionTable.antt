@@ -6,13 +6,8 @@
 --     board_in      a table as a board of what was found
 --     PlacedAsFound      placement looks at nothing else of a board
 use Rattle.std.specs.Prelude.{List, [], ◌≡◌, ℕ, Option, Some, None, map}
-use Rattle.model_registers.specs.Declarations.{Endpoint, no_io, no_pref, Bridge}
-use Rattle.model_registers.specs.OwnCopies.{bare}
-use Rattle.model_board.specs.Paths.{Path}
-use Rattle.model_board.specs.Board.{Decl, endpoint, bridge, Row, Board, IsBoard}
-use Rattle.model_board.specs.BusNumbers.{secondary, subordinate, bus_of, Enumerates}
-use Rattle.model_registers.specs.Apertures.{Apertures}
-use Rattle.model_board.specs.Lawful.{HasLawfulDecls}
+use Rattle.model_registers.specs.{Declarations.{Endpoint, no_io, no_pref, Bridge}, OwnCopies.bare, Apertures.Apertures}
+use Rattle.model_board.specs.{Paths.Path, Board.{Decl, endpoint, bridge, Row, Board, IsBoard}, BusNumbers.{secondary, subordinate, bus_of, Enumerates}, Lawful.HasLawfulDecls}
 use Rattle.model_set_up.specs.SetUpWrites.{planned, placement_rules}
 
 -- identity and pin

@@ -3,16 +3,11 @@
 --     LayoutRow      a region or a window at a path, with its pool, first address and size
 --     IsLawful      aligned, inside the aperture, inside the windows above, and apart
 --     bus_rows, pool_rows, layout      the rows of compact placement, bus by bus, as they stand on each bus
-use Rattle.std.specs.Prelude.{List, [], ◌∷◌, ◌≡◌, ℕ, ◌+◌, ◌%◌, Bool, false, ◌&&◌, ◌++◌, flat_map, map, filter, IsTrue}
-use Rattle.std.specs.Prelude.{MatchOption}
-use Rattle.std.specs.List.{list_any}
+use Rattle.std.specs.{Prelude.{List, [], ◌∷◌, ◌≡◌, ℕ, ◌+◌, ◌%◌, Bool, false, ◌&&◌, ◌++◌, flat_map, map, filter, IsTrue, MatchOption}, List.list_any}
 use Rattle.lists.specs.Elements.{Each, EachPair}
-use Rattle.model_board.specs.Paths.{Path, path_eq, leads_to, parent}
-use Rattle.model_board.specs.Board.{is_bridge, Board}
-use Rattle.model_set_up.specs.Pools.{Pool, io_pool, mem_pool, pref_pool, same_pool, unit_of, aperture_of}
+use Rattle.model_board.specs.{Paths.{Path, path_eq, leads_to, parent}, Board.{is_bridge, Board}}
+use Rattle.model_set_up.specs.{Pools.{Pool, io_pool, mem_pool, pref_pool, same_pool, unit_of, aperture_of}, Extents.{IsInside, AreApart}, Placement.{Placed, a_region, a_window, Spot, spots, items_on, bus_first}}
 use Rattle.model_registers.specs.Apertures.{Apertures}
-use Rattle.model_set_up.specs.Extents.{IsInside, AreApart}
-use Rattle.model_set_up.specs.Placement.{Placed, a_region, a_window, Spot, spots, items_on, bus_first}
 
 pub record LayoutRow : Type 0 where
   pub path : Path

@@ -1,11 +1,9 @@
 -- What compact placement says of one bus: the bound on levels in `items_on` doesn't show.
 --     ItemsByBus      the items of a bus, by those behind its bridges
 use Rattle.std.specs.Prelude.{◌≡◌, flat_map}
-use Rattle.model_board.specs.Paths.{Path}
-use Rattle.model_board.specs.Board.{Board, rows_on, IsBoard}
-use Rattle.model_set_up.specs.Pools.{Pool}
+use Rattle.model_board.specs.{Paths.Path, Board.{Board, rows_on, IsBoard}}
+use Rattle.model_set_up.specs.{Pools.Pool, Placement.{items_of, items_on}}
 use Rattle.model_registers.specs.Apertures.{Apertures}
-use Rattle.model_set_up.specs.Placement.{items_of, items_on}
 
 -- the items of a bus are the regions on it, and the windows of its bridges by the items behind them
 abbrev pub ItemsByBus : Type 0

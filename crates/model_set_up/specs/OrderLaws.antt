@@ -1,14 +1,10 @@
 -- The order in which items stand on a bus: a sorted permutation, and the only one.
 --     OrderIsSorted      in_order gives a sorted permutation
 --     OneOrder      however a bus's items are sorted, they come in this order
-use Rattle.std.specs.Prelude.{List, ◌≡◌}
-use Rattle.std.specs.List.Sorted.{IsPermutation, IsSortedBy}
-use Rattle.model_board.specs.Paths.{Path}
-use Rattle.model_board.specs.Board.{Board, IsBoard}
-use Rattle.model_set_up.specs.Pools.{Pool}
+use Rattle.std.specs.{Prelude.{List, ◌≡◌}, List.Sorted.{IsPermutation, IsSortedBy}}
+use Rattle.model_board.specs.{Paths.Path, Board.{Board, IsBoard}, Lawful.HasLawfulDecls}
+use Rattle.model_set_up.specs.{Pools.Pool, Placement.{Item, stands_before, in_order, items_on}}
 use Rattle.model_registers.specs.Apertures.{Apertures}
-use Rattle.model_set_up.specs.Placement.{Item, stands_before, in_order, items_on}
-use Rattle.model_board.specs.Lawful.{HasLawfulDecls}
 
 -- no item stands before the one that it follows
 abbrev pub IsInOrder : List Item → Type 0

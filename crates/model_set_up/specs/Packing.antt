@@ -6,12 +6,9 @@
 --     IsRun, CompactIsRun      spots one after the other; compact placement is such a run
 use Rattle.std.specs.Prelude.{List, ◌≡◌, ℕ, ◌<◌, ◌+◌, ◌*◌, ◌%◌, ◌≤◌, ◌^◌, map, sum_by, IsFalse}
 use Rattle.lists.specs.Elements.{Each, EachPair}
-use Rattle.model_set_up.specs.Extents.{IsInside, AreApart}
-use Rattle.model_board.specs.Paths.{Path}
-use Rattle.model_board.specs.Board.{Decl, endpoint, bridge, is_bridge, Board, rows_on}
-use Rattle.model_set_up.specs.Pools.{Pool, unit_of}
+use Rattle.model_set_up.specs.{Extents.{IsInside, AreApart}, Pools.{Pool, unit_of}, Placement.{Item, round_up, Spot, spot_end, spots, need, items_on}}
+use Rattle.model_board.specs.{Paths.Path, Board.{Decl, endpoint, bridge, is_bridge, Board, rows_on}}
 use Rattle.model_registers.specs.Apertures.{Apertures}
-use Rattle.model_set_up.specs.Placement.{Item, round_up, Spot, spot_end, spots, need, items_on}
 
 abbrev pub IsPowerOfTwo : ℕ → Type 0
 IsPowerOfTwo n = (k : ℕ) × (n ≡ 2 ^ k)

@@ -4,19 +4,11 @@
 --     placed_rows      the regions among the rows of a layout
 --     holds      a placed region holds an address
 --     placed_claim      the claim of the first placed region that holds an address
-use Rattle.std.specs.Prelude.{List, [], ◌∷◌, ℕ, ◌-◌, ◌+◌, Bool, ◌&&◌, if◌then◌else◌, nat_lt, nat_le, Option, Some, None}
-use Rattle.std.specs.Prelude.{map, flat_map}
+use Rattle.std.specs.Prelude.{List, [], ◌∷◌, ℕ, ◌-◌, ◌+◌, Bool, ◌&&◌, if◌then◌else◌, nat_lt, nat_le, Option, Some, None, map, flat_map}
 use Rattle.lists.specs.Elements.{first_some}
-use Rattle.model_registers.specs.Declarations.{Region}
-use Rattle.model_registers.specs.Decoding.{Space, io, memory, space_of, same_space}
-use Rattle.model_board.specs.Paths.{Path}
-use Rattle.model_board.specs.Board.{endpoint, bridge, Row, Board}
-use Rattle.model_board.specs.Claims.{Claim}
-use Rattle.model_set_up.specs.Pools.{Pool, io_pool, mem_pool, pref_pool}
-use Rattle.model_registers.specs.Apertures.{Apertures}
-use Rattle.model_set_up.specs.Placement.{a_region, a_window}
-use Rattle.model_set_up.specs.Layout.{LayoutRow}
-use Rattle.model_set_up.specs.SetUp.{first_of}
+use Rattle.model_registers.specs.{Declarations.Region, Decoding.{Space, io, memory, space_of, same_space}, Apertures.Apertures}
+use Rattle.model_board.specs.{Paths.Path, Board.{endpoint, bridge, Row, Board}, Claims.Claim}
+use Rattle.model_set_up.specs.{Pools.{Pool, io_pool, mem_pool, pref_pool}, Placement.{a_region, a_window}, Layout.LayoutRow, SetUp.first_of}
 
 pub record PlacedRegion : Type 0 where
   pub path : Path

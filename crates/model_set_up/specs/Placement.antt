@@ -7,14 +7,10 @@
 --     items_on      what stands on a bus: its regions of the pool, and the windows of its bridges that have items
 --     fits      whether a pool fits its aperture
 --     bus_first, region_first      the address at which a bus begins, and a region
-use Rattle.std.specs.Prelude.{List, [], ◌∷◌, ℕ, ◌-◌, zero, suc, ◌+◌, ◌*◌, ◌/◌, Bool, true, false, ◌&&◌, ◌==◌}
-use Rattle.std.specs.Prelude.{if◌then◌else◌, ◌++◌, flat_map, ◌||◌, nat_lt, nat_le, map, filter, max}
-use Rattle.std.specs.Option.{option_map_or}
-use Rattle.model_registers.specs.Declarations.{Region, Endpoint}
-use Rattle.model_board.specs.Paths.{Part, Path, part_eq, parent, last_part}
-use Rattle.model_board.specs.Board.{endpoint, bridge, Row, Board, rows_on}
+use Rattle.std.specs.{Prelude.{List, [], ◌∷◌, ℕ, ◌-◌, zero, suc, ◌+◌, ◌*◌, ◌/◌, Bool, true, false, ◌&&◌, ◌==◌, if◌then◌else◌, ◌++◌, flat_map, ◌||◌, nat_lt, nat_le, map, filter, max}, Option.option_map_or}
+use Rattle.model_registers.specs.{Declarations.{Region, Endpoint}, Apertures.{Aperture, Apertures}}
+use Rattle.model_board.specs.{Paths.{Part, Path, part_eq, parent, last_part}, Board.{endpoint, bridge, Row, Board, rows_on}}
 use Rattle.model_set_up.specs.Pools.{Pool, same_pool, unit_of, bridges_above, pool_of, aperture_of}
-use Rattle.model_registers.specs.Apertures.{Aperture, Apertures}
 
 -- what is placed: the region of a base address register, or the window of a bridge
 pub data Placed : Type 0 where

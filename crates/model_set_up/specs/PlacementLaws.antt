@@ -3,15 +3,9 @@
 --     HasRows      each region and each window has its one row, and each row is one of these
 use Rattle.std.specs.Prelude.{List, [], ◌∷◌, ◌≡◌, ◌&&◌, filter, IsTrue}
 use Rattle.lists.specs.Elements.{Each, IsIn}
-use Rattle.model_registers.specs.Declarations.{Region}
-use Rattle.model_board.specs.Paths.{Path, path_eq}
-use Rattle.model_board.specs.Board.{Decl, endpoint, bridge, Row, Board, IsBoard}
-use Rattle.model_set_up.specs.Pools.{Pool, unit_of, bridges_above, pool_of}
-use Rattle.model_registers.specs.Apertures.{Apertures}
-use Rattle.model_set_up.specs.Placement.{Placed, a_region, a_window, same_placed, Item, need, items_on, fits, bus_first}
-use Rattle.model_set_up.specs.Layout.{LayoutRow, IsLawful, pool_rows, layout}
-use Rattle.model_board.specs.Lawful.{HasLawfulDecls}
-use Rattle.model_set_up.specs.SetUp.{first_of}
+use Rattle.model_registers.specs.{Declarations.Region, Apertures.Apertures}
+use Rattle.model_board.specs.{Paths.{Path, path_eq}, Board.{Decl, endpoint, bridge, Row, Board, IsBoard}, Lawful.HasLawfulDecls}
+use Rattle.model_set_up.specs.{Pools.{Pool, unit_of, bridges_above, pool_of}, Placement.{Placed, a_region, a_window, same_placed, Item, need, items_on, fits, bus_first}, Layout.{LayoutRow, IsLawful, pool_rows, layout}, SetUp.first_of}
 
 abbrev pub PoolsAreLawful : Type 0
 PoolsAreLawful = (b : Board) (a : Apertures) → IsBoard b → HasLawfulDecls b → (pool : Pool) → IsTrue (fits b a pool)

@@ -4,13 +4,9 @@
 --     Aperture, Apertures      the addresses that set-up may give out
 --     pool_of      the pool of a region, by its kind, the apertures and the bridges above it
 --     has_io_paths      each I/O region stands behind bridges with I/O windows alone
-use Rattle.std.specs.Prelude.{List, [], ◌∷◌, ℕ, Bool, true, false, ◌&&◌, if◌then◌else◌, ◌^◌, flat_map, not, ◌||◌}
-use Rattle.std.specs.Prelude.{nat_lt, Option, Some, None, filter}
-use Rattle.std.specs.List.{list_any, list_all}
-use Rattle.model_registers.specs.Declarations.{Kind, io_kind, mem32, mem64, IoDecode, no_io, io16, io32, PrefDecode}
-use Rattle.model_registers.specs.Declarations.{no_pref, pref32, pref64, Bridge}
-use Rattle.model_board.specs.Paths.{Path, leads_to}
-use Rattle.model_board.specs.Board.{Decl, endpoint, bridge, Row, Board}
+use Rattle.std.specs.{Prelude.{List, [], ◌∷◌, ℕ, Bool, true, false, ◌&&◌, if◌then◌else◌, ◌^◌, flat_map, not, ◌||◌, nat_lt, Option, Some, None, filter}, List.{list_any, list_all}}
+use Rattle.model_registers.specs.Declarations.{Kind, io_kind, mem32, mem64, IoDecode, no_io, io16, io32, PrefDecode, no_pref, pref32, pref64, Bridge}
+use Rattle.model_board.specs.{Paths.{Path, leads_to}, Board.{Decl, endpoint, bridge, Row, Board}}
 pub use Rattle.model_registers.specs.Apertures.{Aperture, Apertures}
 
 pub data Pool : Type 0 where

@@ -7,13 +7,9 @@
 --     OneRoute      at most one way leads anywhere
 use Rattle.std.specs.Prelude.{ℕ, List, [], ◌≡◌, Some, map, IsTrue}
 use Rattle.lists.specs.Elements.{Each}
-use Rattle.model_board.specs.Paths.{Part, Path, last_part}
-use Rattle.model_board.specs.Board.{is_bridge, Board, stands_at, IsBoard}
-use Rattle.model_board.specs.BusNumbers.{secondary, subordinate, bus_of, Enumerates}
-use Rattle.model_board.specs.State.{BoardFunction, row_at}
+use Rattle.model_board.specs.{Paths.{Part, Path, last_part}, Board.{is_bridge, Board, stands_at, IsBoard}, BusNumbers.{secondary, subordinate, bus_of, Enumerates}, State.{BoardFunction, row_at}, Cycles.{secondary_register, subordinate_register, BusAddress, is_route, ends_in, reached}}
 use Rattle.model_registers.specs.Apertures.{Apertures}
 use Rattle.model_set_up.specs.SetUp.{set_up_state}
-use Rattle.model_board.specs.Cycles.{secondary_register, subordinate_register, BusAddress, is_route, ends_in, reached}
 
 -- the functions of the board, with its numbers in the bridges, whatever else their cells hold
 pub record HasNumbers (b : Board) (fs : List BoardFunction) : Type 0 where

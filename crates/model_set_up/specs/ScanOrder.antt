@@ -5,12 +5,9 @@
 --     next_part      the one of a bus that is looked at next
 --     met b here      the functions that a scan has met when it comes to a path
 --     MeetsInPathOrder, GivesNumbersInPathOrder      that order is path order, and bus numbers are given in it
-use Rattle.std.specs.Prelude.{[], ◌∷◌, ◌++◌, ◌≡◌, ℕ, ◌+◌, ◌/◌, ◌%◌, ◌&&◌, ◌==◌, if◌then◌else◌, not, filter, IsTrue}
-use Rattle.std.specs.Prelude.{IsFalse}
+use Rattle.std.specs.Prelude.{[], ◌∷◌, ◌++◌, ◌≡◌, ℕ, ◌+◌, ◌/◌, ◌%◌, ◌&&◌, ◌==◌, if◌then◌else◌, not, filter, IsTrue, IsFalse}
 use Rattle.lists.specs.Elements.{IsIn}
-use Rattle.model_board.specs.Paths.{Part, Path, path_eq, path_before}
-use Rattle.model_board.specs.Board.{is_bridge, Row, Board, stands_at, is_bridge_at, is_multifunction, IsBoard}
-use Rattle.model_board.specs.BusNumbers.{bridge_count, secondary, subordinate}
+use Rattle.model_board.specs.{Paths.{Part, Path, path_eq, path_before}, Board.{is_bridge, Row, Board, stands_at, is_bridge_at, is_multifunction, IsBoard}, BusNumbers.{bridge_count, secondary, subordinate}}
 use Rattle.model_set_up.specs.Scanning.{no_numbers, board_numbers, open_numbers, scan_numbers}
 
 abbrev pub nth_part : ℕ → Part

@@ -11,16 +11,8 @@
 --     ReachedWhileScanning, NumbersOfScanState      with them a cycle reaches what stands there; a scan state has them
 use Rattle.std.specs.Prelude.{List, [], ◌∷◌, ◌++◌, ◌≡◌, ℕ, ◌≤◌, if◌then◌else◌, map, find, IsTrue, ◌⊎◌}
 use Rattle.lists.specs.Elements.{Each}
-use Rattle.model_registers.specs.Registers.{config, File, number}
-use Rattle.model_registers.specs.EndpointTable.{endpoint_reset}
-use Rattle.model_registers.specs.BridgeTable.{BridgeValues, no_bridge_values, bridge_file}
-use Rattle.model_board.specs.Paths.{Part, Path, path_eq, path_before, leads_to}
-use Rattle.model_board.specs.Board.{Decl, endpoint, bridge, is_bridge, is_bridge_at, is_multifunction, Board, IsBoard}
-use Rattle.model_board.specs.BusNumbers.{secondary, subordinate, bus_behind, bus_of, Enumerates}
-use Rattle.model_board.specs.State.{BoardFunction, State, row_at, state_of}
-use Rattle.model_board.specs.Cycles.{secondary_register, subordinate_register, reached}
-use Rattle.model_board.specs.Lawful.{HasLawfulDecls}
-use Rattle.model_board.specs.AtReset.{board_at}
+use Rattle.model_registers.specs.{Registers.{config, File, number}, EndpointTable.endpoint_reset, BridgeTable.{BridgeValues, no_bridge_values, bridge_file}}
+use Rattle.model_board.specs.{Paths.{Part, Path, path_eq, path_before, leads_to}, Board.{Decl, endpoint, bridge, is_bridge, is_bridge_at, is_multifunction, Board, IsBoard}, BusNumbers.{secondary, subordinate, bus_behind, bus_of, Enumerates}, State.{BoardFunction, State, row_at, state_of}, Cycles.{secondary_register, subordinate_register, reached}, Lawful.HasLawfulDecls, AtReset.board_at}
 
 pub record BusNumbers : Type 0 where
   pub primary : ℕ

@@ -6,20 +6,10 @@
 --     bridge_values      what a bridge holds: Command, bus numbers and windows
 --     set_up_file      the cells of a function after set-up
 --     set_up_state      the state of a whole board after set-up
-use Rattle.std.specs.Prelude.{List, [], ◌∷◌, ℕ, ◌-◌, ◌+◌, ◌*◌, Bool, if◌then◌else◌}
-use Rattle.std.specs.List.{list_any}
-use Rattle.model_registers.specs.Registers.{File}
-use Rattle.model_registers.specs.Declarations.{Region, Endpoint}
-use Rattle.model_registers.specs.EndpointTable.{endpoint_file}
-use Rattle.model_registers.specs.BridgeTable.{Window, BridgeValues, bridge_file}
-use Rattle.model_registers.specs.Decoding.{Space, io, memory, space_of, same_space}
-use Rattle.model_board.specs.Paths.{Path}
-use Rattle.model_board.specs.Board.{Decl, endpoint, bridge, Board, is_multifunction}
-use Rattle.model_board.specs.BusNumbers.{secondary, subordinate, bus_of}
-use Rattle.model_board.specs.State.{State, state_of}
-use Rattle.model_set_up.specs.Pools.{Pool, io_pool, mem_pool, pref_pool, unit_of, bridges_above, pool_of}
-use Rattle.model_registers.specs.Apertures.{Apertures}
-use Rattle.model_set_up.specs.Placement.{Item, need, items_on, bus_first, region_first}
+use Rattle.std.specs.{Prelude.{List, [], ◌∷◌, ℕ, ◌-◌, ◌+◌, ◌*◌, Bool, if◌then◌else◌}, List.list_any}
+use Rattle.model_registers.specs.{Registers.File, Declarations.{Region, Endpoint}, EndpointTable.endpoint_file, BridgeTable.{Window, BridgeValues, bridge_file}, Decoding.{Space, io, memory, space_of, same_space}, Apertures.Apertures}
+use Rattle.model_board.specs.{Paths.Path, Board.{Decl, endpoint, bridge, Board, is_multifunction}, BusNumbers.{secondary, subordinate, bus_of}, State.{State, state_of}}
+use Rattle.model_set_up.specs.{Pools.{Pool, io_pool, mem_pool, pref_pool, unit_of, bridges_above, pool_of}, Placement.{Item, need, items_on, bus_first, region_first}}
 
 -- the region's first address, in its pool
 abbrev pub first_of : Board → Apertures → Path → Region → ℕ

@@ -5,18 +5,9 @@
 --     Plan, planned      the rows of compact placement, and those settings
 --     placement_rules, set_up_rules      what a board must keep, in order, each with the number of its refusal
 use Rattle.std.specs.Prelude.{List, [], ◌∷◌, ℕ, Bool, map}
-use Rattle.model_registers.specs.Declarations.{Region}
-use Rattle.model_registers.specs.EndpointTable.{BaseAddress}
-use Rattle.model_board.specs.Paths.{Path}
-use Rattle.model_board.specs.Board.{Decl, endpoint, bridge, Row, Board}
-use Rattle.model_board.specs.BusNumbers.{numbers_suffice}
-use Rattle.model_board.specs.Cycles.{BusAddress}
-use Rattle.model_set_up.specs.Reach.{address_of}
-use Rattle.model_set_up.specs.Pools.{io_pool, mem_pool, pref_pool, has_io_paths}
-use Rattle.model_registers.specs.Apertures.{Apertures}
-use Rattle.model_set_up.specs.Placement.{fits}
-use Rattle.model_set_up.specs.Layout.{LayoutRow, layout}
-use Rattle.model_set_up.specs.SetUp.{first_of, command_of}
+use Rattle.model_registers.specs.{Declarations.Region, EndpointTable.BaseAddress, Apertures.Apertures}
+use Rattle.model_board.specs.{Paths.Path, Board.{Decl, endpoint, bridge, Row, Board}, BusNumbers.numbers_suffice, Cycles.BusAddress}
+use Rattle.model_set_up.specs.{Reach.address_of, Pools.{io_pool, mem_pool, pref_pool, has_io_paths}, Placement.fits, Layout.{LayoutRow, layout}, SetUp.{first_of, command_of}}
 pub use Rattle.model_set_up.specs.SetUp.{Windows, windows_of}
 
 pub data Writes : Type 0 where

@@ -7,24 +7,11 @@
 --     PlacedWithin      where a declared region may be placed
 --     ClaimInAnyOrder      a list of the placed regions in any order has the same claim
 --     RowsArePlaced      the regions among the rows of the layout are the placed regions
-use Rattle.std.specs.Prelude.{List, ◌≡◌, ℕ, ◌<◌, ◌+◌, ◌%◌, ◌^◌, ◌≤◌, Some, IsTrue, ◌↔◌}
-use Rattle.std.specs.Option.{option_to_list}
+use Rattle.std.specs.{Prelude.{List, ◌≡◌, ℕ, ◌<◌, ◌+◌, ◌%◌, ◌^◌, ◌≤◌, Some, IsTrue, ◌↔◌}, Option.option_to_list}
 use Rattle.lists.specs.Elements.{Each, EachPair, first_some, IsIn}
-use Rattle.model_registers.specs.Decoding.{Space, io, memory, space_of, same_space}
-use Rattle.model_registers.specs.Declarations.{Region, Endpoint}
-use Rattle.model_board.specs.Paths.{Path}
-use Rattle.model_registers.specs.Apertures.{IsLawfulApertures, Apertures}
-use Rattle.model_board.specs.Board.{endpoint, Board, IsBoard}
-use Rattle.model_board.specs.State.{BoardFunction}
-use Rattle.model_board.specs.Claims.{is_forwarded, claims, first_claim}
-use Rattle.model_set_up.specs.Pools.{Pool, has_io_paths}
-use Rattle.model_set_up.specs.Placement.{fits}
-use Rattle.model_set_up.specs.Layout.{layout}
-use Rattle.model_set_up.specs.Extents.{AreApart}
-use Rattle.model_set_up.specs.SetUp.{first_of, set_up_state}
-use Rattle.model_board.specs.Routing.{routing}
-use Rattle.model_set_up.specs.PlacedRegions.{PlacedRegion, placed, placed_regions, placed_rows, claim_in, placed_claim}
-use Rattle.model_board.specs.Lawful.{HasLawfulDecls}
+use Rattle.model_registers.specs.{Decoding.{Space, io, memory, space_of, same_space}, Declarations.{Region, Endpoint}, Apertures.{IsLawfulApertures, Apertures}}
+use Rattle.model_board.specs.{Paths.Path, Board.{endpoint, Board, IsBoard}, State.BoardFunction, Claims.{is_forwarded, claims, first_claim}, Routing.routing, Lawful.HasLawfulDecls}
+use Rattle.model_set_up.specs.{Pools.{Pool, has_io_paths}, Placement.fits, Layout.layout, Extents.AreApart, SetUp.{first_of, set_up_state}, PlacedRegions.{PlacedRegion, placed, placed_regions, placed_rows, claim_in, placed_claim}}
 
 pub record CanBePlaced (b : Board) (a : Apertures) : Type 0 where
   pub places : IsBoard b

@@ -5,16 +5,9 @@
 --     SetUpWindows      each bridge of a board forwards what placement put behind it, and nothing else
 use Rattle.std.specs.Prelude.{List, [], ◌∷◌, ◌≡◌, ℕ, ◌-◌, ◌+◌, ◌%◌, Bool, ◌<◌, ◌≤◌, ◌^◌, Option, Some, None, IsTrue, ⊤}
 use Rattle.lists.specs.Elements.{Each}
-use Rattle.model_registers.specs.Declarations.{IoDecode, no_io, io16, io32, PrefDecode, no_pref, pref32, pref64, Bridge}
-use Rattle.model_registers.specs.BridgeTable.{BridgeValues, bridge_file}
-use Rattle.model_registers.specs.Apertures.{IsLawfulApertures, Apertures}
-use Rattle.model_board.specs.Paths.{Path}
-use Rattle.model_board.specs.Board.{Decl, endpoint, bridge, Board, IsBoard}
-use Rattle.model_board.specs.Windows.{Window, io_window, mem_window, pref_window}
-use Rattle.model_set_up.specs.Pools.{Pool, io_pool, mem_pool, pref_pool, unit_of, has_io_paths}
-use Rattle.model_set_up.specs.Placement.{Item, need, items_on, fits, bus_first}
-use Rattle.model_set_up.specs.SetUp.{window_of, set_up_file}
-use Rattle.model_board.specs.Lawful.{HasLawfulDecls}
+use Rattle.model_registers.specs.{Declarations.{IoDecode, no_io, io16, io32, PrefDecode, no_pref, pref32, pref64, Bridge}, BridgeTable.{BridgeValues, bridge_file}, Apertures.{IsLawfulApertures, Apertures}}
+use Rattle.model_board.specs.{Paths.Path, Board.{Decl, endpoint, bridge, Board, IsBoard}, Windows.{Window, io_window, mem_window, pref_window}, Lawful.HasLawfulDecls}
+use Rattle.model_set_up.specs.{Pools.{Pool, io_pool, mem_pool, pref_pool, unit_of, has_io_paths}, Placement.{Item, need, items_on, fits, bus_first}, SetUp.{window_of, set_up_file}}
 
 -- as set-up leaves a window without items: the base in the last unit that the register names, and the limit at 0
 abbrev pub closed_io : Window

@@ -4,16 +4,7 @@
 //! leaves, and who claims an address then.
 #![tactic(auto)]
 
-ghost use Rattle.model_set_up.specs.FunctionTable.{PlacedAsFound};
-ghost use Rattle.model_set_up.specs.Levels.{ItemsByBus};
-ghost use Rattle.model_set_up.specs.OrderLaws.{OneOrder, OrderIsSorted};
-ghost use Rattle.model_set_up.specs.Packing.{CompactIsRun, FlatNeedOnBus};
-ghost use Rattle.model_set_up.specs.PlacementLaws.{LayoutIsLawful, PoolsAreLawful, RowsAreDeclared};
-ghost use Rattle.model_set_up.specs.Reach.{OneRoute, OnlyNamed, ReachedByNumbers, SetUpHasNumbers};
-ghost use Rattle.model_set_up.specs.ScanOrder.{ScanGivesNumbersInPathOrder, ScanMeetsInPathOrder};
-ghost use Rattle.model_set_up.specs.Scanning.{NumbersOfScanState, ReachedWhileScanning};
-ghost use Rattle.model_set_up.specs.UniqueClaimant.{ClaimInAnyOrder, ClaimOfRegion, PlacedWithin, RowsArePlaced, UniqueClaimant};
-ghost use Rattle.model_set_up.specs.WindowLaws.{ClosedWindows, NamedWindows, SetUpWindows};
+ghost use Rattle.model_set_up.specs.{FunctionTable.PlacedAsFound, Levels.ItemsByBus, OrderLaws.{OneOrder, OrderIsSorted}, Packing.{CompactIsRun, FlatNeedOnBus}, PlacementLaws.{LayoutIsLawful, PoolsAreLawful, RowsAreDeclared}, Reach.{OneRoute, OnlyNamed, ReachedByNumbers, SetUpHasNumbers}, ScanOrder.{ScanGivesNumbersInPathOrder, ScanMeetsInPathOrder}, Scanning.{NumbersOfScanState, ReachedWhileScanning}, UniqueClaimant.{ClaimInAnyOrder, ClaimOfRegion, PlacedWithin, RowsArePlaced, UniqueClaimant}, WindowLaws.{ClosedWindows, NamedWindows, SetUpWindows}};
 
 /// On a bus without bridges the compact placement takes the sum of the sizes rounded up to the
 /// unit, and no lawful placement takes fewer units.

@@ -1,20 +1,12 @@
 -- A call of an engine: the world that is kept as it begins, and what the call leaves.
-use Rattle.std.proofs.Common.{List, drop, get_or, length, refl, subst, sym, take, ℕ, ◌++◌, ◌<◌, ◌≡◌, rules, arith}
-use Rattle.std.proofs.lemmas.List.{take_at}
-use Rattle.std.proofs.lemmas.Option.{slice_get_read}
+use Rattle.std.proofs.{Common.{List, drop, get_or, length, refl, subst, sym, take, ℕ, ◌++◌, ◌<◌, ◌≡◌, rules, arith}, lemmas.{List.take_at, Option.slice_get_read}}
 use Rattle.lists.proofs.Indices.{at_below}
 use Rattle.model_board.specs.Routing.{routing}
-use Rattle.model_guests.specs.Text.{Text}
-use Rattle.model_guests.specs.WorldNow.{WorldNow}
-use Rattle.model_handoff.specs.Changes.{MachineNow}
-use Rattle.model_handoff.proofs.Keeping.{keeps_routing}
+use Rattle.model_guests.specs.{Text.Text, WorldNow.WorldNow}
+use Rattle.model_handoff.{specs.Changes.MachineNow, proofs.Keeping.keeps_routing}
 use Rattle.model_images.specs.MachineByteLaws.{IsWritableWorld}
 use Rattle.host_bridge.specs.HostState.{HostState}
-use Rattle.monitor.specs.declared.guest.Guest.{Guest}
-use Rattle.monitor.specs.Keeping.{IsKept, IsSound}
-use Rattle.monitor.specs.Views.{machine_shown, world_shown}
-use Rattle.monitor.proofs.Steps.{GuestAt, guests_within, kept_nth}
-use Rattle.monitor.proofs.Shown.{is_shown}
+use Rattle.monitor.{specs.{declared.guest.Guest.Guest, Keeping.{IsKept, IsSound}, Views.{machine_shown, world_shown}}, proofs.{Steps.{GuestAt, guests_within, kept_nth}, Shown.is_shown}}
 
 -- ---- as it begins
 

@@ -1,26 +1,12 @@
 -- What is kept of guests over a handoff is kept over another with the same board and routing registers.
-use Rattle.std.proofs.Common.{◌≡◌, ℕ, List, [], ◌∷◌, Some, Option, sym, ap, ◌∙◌, subst, rules, arith}
-use Rattle.std.specs.Prelude.{find, map, slice_get}
-use Rattle.std.specs.Option.{option_map_or}
+use Rattle.std.{proofs.Common.{◌≡◌, ℕ, List, [], ◌∷◌, Some, Option, sym, ap, ◌∙◌, subst, rules, arith}, specs.{Prelude.{find, map, slice_get}, Option.option_map_or}}
 use Rattle.lists.proofs.Indices.{at_map, index_in, map_at}
-use Rattle.model_registers.specs.Registers.{File}
-use Rattle.model_registers.specs.Declarations.{Endpoint}
-use Rattle.model_registers.specs.EndpointTable.{BaseAddress}
-use Rattle.model_registers.specs.Decoding.{Function, base_address}
-use Rattle.model_board.specs.Paths.{Path}
-use Rattle.model_board.specs.Board.{Decl, endpoint, Row}
-use Rattle.model_board.specs.AtReset.{board_at}
-use Rattle.model_board.specs.Ports.{file_at}
-use Rattle.model_board.specs.Routing.{Ranges, regions, windows, RoutingRow, ranges_of, row_of, routing}
-use Rattle.model_board.specs.State.{BoardFunction, State, row_at}
+use Rattle.model_registers.specs.{Registers.File, Declarations.Endpoint, EndpointTable.BaseAddress, Decoding.{Function, base_address}}
+use Rattle.model_board.specs.{Paths.Path, Board.{Decl, endpoint, Row}, AtReset.board_at, Ports.file_at, Routing.{Ranges, regions, windows, RoutingRow, ranges_of, row_of, routing}, State.{BoardFunction, State, row_at}}
 use Rattle.model_findings.specs.Orderly.{IsStateOfBoard}
-use Rattle.model_guests.specs.Text.{Text}
-use Rattle.model_guests.specs.Slots.{Slots}
-use Rattle.model_guests.specs.Guests.{GuestsNow}
+use Rattle.model_guests.specs.{Text.Text, Slots.Slots, Guests.GuestsNow}
 use Rattle.model_handoff.proofs.Standing.{at_path, found}
-use Rattle.monitor.specs.declared.guest.Held.{Held}
-use Rattle.monitor.specs.declared.guest.Guest.{Guest}
-use Rattle.monitor.specs.Keeping.{IsHeld, IsSlot, AreSlots, AreGuests}
+use Rattle.monitor.specs.{declared.guest.{Held.Held, Guest.Guest}, Keeping.{IsHeld, IsSlot, AreSlots, AreGuests}}
 
 -- ---- the bases of an endpoint, by its routing row
 

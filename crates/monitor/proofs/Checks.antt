@@ -1,7 +1,5 @@
 -- The checks of a slot, which come before what is asked of its function.
-use Rattle.std.proofs.Common.{◌≡◌, ◌≤◌, ℕ, Bool, true, false, cond, not, Some, None, Option, ap, ◌∙◌, arith}
-use Rattle.std.specs.Prelude.{nat_le}
-use Rattle.std.proofs.lemmas.Bool.{lt-leb}
+use Rattle.std.{proofs.{Common.{◌≡◌, ◌≤◌, ℕ, Bool, true, false, cond, not, Some, None, Option, ap, ◌∙◌, arith}, lemmas.Bool.lt-leb}, specs.Prelude.nat_le}
 
 -- the slot is past the last, there is a function
 abbrev pub slot_checked : Bool → Bool → Option ℕ → Option ℕ

@@ -1,16 +1,8 @@
 -- The first closed region of given functions, row by row.
-use Rattle.std.proofs.Common.{◌≡◌, ℕ, suc, ◌+◌, ◌<◌, add-one, Bool, true, false, ◌||◌, cond, not, List, [], ◌∷◌, ◌++◌, length, drop, get_or, None, refl, sym, ap, ◌∙◌, arith}
-use Rattle.std.proofs.Math.Seq.{drop-cons}
-use Rattle.std.proofs.lemmas.List.Elements.{filter-append}
-use Rattle.std.specs.Prelude.{map, flat_map, filter, slice_get}
-use Rattle.std.specs.List.{list_any}
-use Rattle.std.proofs.lemmas.List.Folds.{list_any-append}
-use Rattle.lists.specs.Elements.{Each, first_of_two}
-use Rattle.lists.proofs.EachLemmas.{each_of_map, each_filter}
-use Rattle.model_registers.specs.EndpointTable.{BaseAddress}
-use Rattle.model_registers.specs.Decoding.{opens_space}
-use Rattle.model_board.specs.Paths.{Path, path_eq}
-use Rattle.model_board.specs.Routing.{Ranges, regions, windows, RoutingRow}
+use Rattle.std.{proofs.{Common.{◌≡◌, ℕ, suc, ◌+◌, ◌<◌, add-one, Bool, true, false, ◌||◌, cond, not, List, [], ◌∷◌, ◌++◌, length, drop, get_or, None, refl, sym, ap, ◌∙◌, arith}, Math.Seq.drop-cons, lemmas.List.{Elements.filter-append, Folds.list_any-append}}, specs.{Prelude.{map, flat_map, filter, slice_get}, List.list_any}}
+use Rattle.lists.{specs.Elements.{Each, first_of_two}, proofs.EachLemmas.{each_of_map, each_filter}}
+use Rattle.model_registers.specs.{EndpointTable.BaseAddress, Decoding.opens_space}
+use Rattle.model_board.specs.{Paths.{Path, path_eq}, Routing.{Ranges, regions, windows, RoutingRow}}
 use Rattle.model_set_up.specs.PlacedRegions.{PlacedRegion}
 use Rattle.model_findings.specs.OpenRegions.{region_now, closed_of, closed_regions}
 use Rattle.model_guests.specs.World.{Guest}

@@ -1,14 +1,8 @@
 -- A number in configuration space, read in two parts: the guest's own copies, and what the host shows.
 use Rattle.std.proofs.Common.{◌≡◌, ℕ, ◌+◌, ◌*◌, ◌/◌, ◌%◌, ◌<◌, ◌^◌, sym, ap, ◌∙◌, rules}
-use Rattle.model_registers.specs.Registers.{config, File, read, number}
-use Rattle.model_registers.specs.ByteEnables.{lanes, enables_of, IsWidth}
-use Rattle.model_registers.specs.OwnCopies.{own_file, HoldsOwn, handed_on}
-use Rattle.model_registers.proofs.ByteAccesses.{aligned_lies_in_word, number_by_lanes}
-use Rattle.host_bridge.specs.ByIndex.{file_nth}
-use Rattle.host_bridge.specs.HostState.{HostState}
-use Rattle.monitor.specs.declared.guest.Held.{Held}
-use Rattle.monitor.specs.Configs.{IsSeen}
-use Rattle.monitor.proofs.WordSums.{sum_fits}
+use Rattle.model_registers.{specs.{Registers.{config, File, read, number}, ByteEnables.{lanes, enables_of, IsWidth}, OwnCopies.{own_file, HoldsOwn, handed_on}}, proofs.ByteAccesses.{aligned_lies_in_word, number_by_lanes}}
+use Rattle.host_bridge.specs.{ByIndex.file_nth, HostState.HostState}
+use Rattle.monitor.{specs.{declared.guest.Held.Held, Configs.IsSeen}, proofs.WordSums.sum_fits}
 
 -- what a guest's copies give of a word: a number, and the enables of the other bytes
 pub record IsOwnPart (held : Held) (word enables n others : ℕ) : Type 0 where

@@ -1,36 +1,11 @@
 -- A read and a write of the configuration space of the function in a slot.
-use Rattle.std.proofs.Common.{◌≡◌, ℕ, ◌*◌, ◌/◌, ◌%◌, Bool, false, cond, List, [], Some, None, Option, slice_get, slice_set, sym, ap, ap₂, ◌∙◌, subst, get_or, length, refl, arith}
-use Rattle.std.specs.Prelude.{is_some}
-use Rattle.std.specs.Option.{option_map_or}
-use Rattle.std.proofs.lemmas.Option.{slice_get_read, slice_get_within}
-use Rattle.model_registers.specs.Registers.{config, File, read, write, all_bytes, number}
-use Rattle.model_registers.specs.ByteEnables.{lanes, enables_of, into_lanes, IsWidth}
-use Rattle.model_registers.specs.OwnCopies.{handed_on}
-use Rattle.model_registers.specs.Decoding.{Function}
-use Rattle.model_registers.proofs.ByteAccesses.{aligned_lies_in_word, write_by_lanes}
-use Rattle.model_guests.specs.Accesses.{answered, reads, writes, configuration}
-use Rattle.model_guests.specs.Slots.{Landing, landing, perform, effect, slot_at}
-use Rattle.model_guests.specs.Lone.{at_target, reply_at, after_access_at}
-use Rattle.model_guests.specs.WorldNow.{WorldNow}
+use Rattle.std.{proofs.{Common.{◌≡◌, ℕ, ◌*◌, ◌/◌, ◌%◌, Bool, false, cond, List, [], Some, None, Option, slice_get, slice_set, sym, ap, ap₂, ◌∙◌, subst, get_or, length, refl, arith}, lemmas.Option.{slice_get_read, slice_get_within}}, specs.{Prelude.is_some, Option.option_map_or}}
+use Rattle.model_registers.{specs.{Registers.{config, File, read, write, all_bytes, number}, ByteEnables.{lanes, enables_of, into_lanes, IsWidth}, OwnCopies.handed_on, Decoding.Function}, proofs.ByteAccesses.{aligned_lies_in_word, write_by_lanes}}
+use Rattle.model_guests.{specs.{Accesses.{answered, reads, writes, configuration}, Slots.{Landing, landing, perform, effect, slot_at}, Lone.{at_target, reply_at, after_access_at}, WorldNow.WorldNow, ChangeLaws.with_slot_changed, AgreedBoard.with_change_at, Text.Text}, proofs.{AgreedFiles.writes_alike, Seats.written_shape}}
 use Rattle.model_handoff.specs.StayLaws.{any_tells}
-use Rattle.model_guests.specs.ChangeLaws.{with_slot_changed}
-use Rattle.model_guests.proofs.AgreedFiles.{writes_alike}
-use Rattle.model_guests.specs.AgreedBoard.{with_change_at}
-use Rattle.model_guests.specs.Text.{Text}
 use Rattle.guest_functions.proofs.HeldCopies.{lawful_copies, written_held}
-use Rattle.host_bridge.specs.ByIndex.{with_file_nth}
-use Rattle.host_bridge.specs.HostState.{HostState, with_functions}
-use Rattle.monitor.specs.declared.guest.Held.{Held}
-use Rattle.monitor.specs.declared.guest.Guest.{Guest}
-use Rattle.monitor.specs.Keeping.{IsKept}
-use Rattle.monitor.specs.ByIndex.{lone_nth, with_lone_nth, guest_nth}
-use Rattle.monitor.specs.Counts.{changes_at}
-use Rattle.monitor.specs.Configs.{IsSeen, HoldsAt, IsHolding, WritesGuest, WritesOwn}
-use Rattle.monitor.proofs.Steps.{with_guest_at, kept_slot, GuestAt, SlotAt, with_same}
-use Rattle.monitor.proofs.Reached.{board_shows, changed_held, endpoint_held, reached_held, file_held, lawful}
-use Rattle.model_guests.proofs.Seats.{written_shape}
-use Rattle.monitor.proofs.Calls.{Leaves, leaves}
-use Rattle.monitor.proofs.Exchanges.{holds_nth}
+use Rattle.host_bridge.specs.{ByIndex.with_file_nth, HostState.{HostState, with_functions}}
+use Rattle.monitor.{specs.{declared.guest.{Held.Held, Guest.Guest}, Keeping.IsKept, ByIndex.{lone_nth, with_lone_nth, guest_nth}, Counts.changes_at, Configs.{IsSeen, HoldsAt, IsHolding, WritesGuest, WritesOwn}}, proofs.{Steps.{with_guest_at, kept_slot, GuestAt, SlotAt, with_same}, Reached.{board_shows, changed_held, endpoint_held, reached_held, file_held, lawful}, Calls.{Leaves, leaves}, Exchanges.holds_nth}}
 
 -- ---- one guest
 

@@ -2,20 +2,11 @@
 --     counts_none      where no name passes, no count grows
 --     counted_one, counted_two      the counts of a guest by its index, or of two
 --     set_counted      guests of whom one has another count
-use Rattle.std.proofs.Common.{◌≡◌, ◌≢◌, ◌<◌, ℕ, zero, suc, Bool, true, false, not, ◌&&◌, ◌||◌, ◌==◌, List, [], ◌∷◌, Some, Option, slice_get, slice_set, refl, sym, ap, ap₂, ◌∙◌, subst, arith}
-use Rattle.std.specs.Prelude.{IsFalse, nat_lt, unwrap_or}
-use Rattle.std.specs.Str.{bytes_eq}
-use Rattle.std.proofs.lemmas.Bool.Decides.{nat_tests}
-use Rattle.lists.specs.Elements.{Each, EachPair}
-use Rattle.lists.proofs.Indices.{each_at, map_at, map_set, pair_at, set_same}
-use Rattle.lists.proofs.Tests.{and_true, and_false}
-use Rattle.model_guests.specs.Text.{Text}
-use Rattle.model_guests.specs.Guests.{GuestNow, GuestsNow}
-use Rattle.model_guests.specs.WorldNow.{names_of}
-use Rattle.model_guests.proofs.Names.{equal_texts, same_text}
+use Rattle.std.{proofs.{Common.{◌≡◌, ◌≢◌, ◌<◌, ℕ, zero, suc, Bool, true, false, not, ◌&&◌, ◌||◌, ◌==◌, List, [], ◌∷◌, Some, Option, slice_get, slice_set, refl, sym, ap, ap₂, ◌∙◌, subst, arith}, lemmas.Bool.Decides.nat_tests}, specs.{Prelude.{IsFalse, nat_lt, unwrap_or}, Str.bytes_eq}}
+use Rattle.lists.{specs.Elements.{Each, EachPair}, proofs.{Indices.{each_at, map_at, map_set, pair_at, set_same}, Tests.{and_true, and_false}}}
+use Rattle.model_guests.{specs.{Text.Text, Guests.{GuestNow, GuestsNow}, WorldNow.names_of}, proofs.Names.{equal_texts, same_text}}
 use Rattle.model_handoff.specs.Changes.{after_change, counts_where}
-use Rattle.monitor.specs.declared.guest.Guest.{Guest}
-use Rattle.monitor.specs.Counts.{counts_of, counted_nth, counted_both}
+use Rattle.monitor.specs.{declared.guest.Guest.Guest, Counts.{counts_of, counted_nth, counted_both}}
 
 pub counts_none : (test : Text → Bool) → ((x : Text) → test x ≡ false) → (ts : List Text) (ns : List ℕ) → counts_where test ts ns ≡ ns
 counts_none test none [] ns = refl

@@ -1,55 +1,15 @@
 -- A byte that a device reads or writes of a function in a slot: the checks in their order, and the world afterwards.
-use Rattle.std.proofs.Common.{◌≡◌, ℕ, Bool, true, false, not, cond, List, [], ◌∷◌, ◌||◌, Some, None, Option, slice_set, refl, sym, ap, ◌∙◌, subst, rules, arith}
-use Rattle.std.specs.Prelude.{is_some, nat_le, IsSome}
-use Rattle.std.specs.Option.{option_map_or}
+use Rattle.std.{proofs.Common.{◌≡◌, ℕ, Bool, true, false, not, cond, List, [], ◌∷◌, ◌||◌, Some, None, Option, slice_set, refl, sym, ap, ◌∙◌, subst, rules, arith}, specs.{Prelude.{is_some, nat_le, IsSome}, Option.option_map_or}}
 use Rattle.lists.proofs.Indices.{set_same}
-use Rattle.model_registers.specs.Cell.{Cell}
-use Rattle.model_registers.specs.Registers.{Place, place_eq, cell_at, File}
-use Rattle.model_registers.specs.FileLaws.{has_place}
-use Rattle.model_registers.specs.OwnCopies.{is_own}
-use Rattle.model_registers.specs.DeviceBytes.{is_device_byte, set_value}
-use Rattle.model_registers.specs.Decoding.{Function}
-use Rattle.model_registers.specs.CopiedFiles.{agreed_file, places_of}
-use Rattle.model_registers.proofs.RegisterFiles.{place_same}
-use Rattle.model_registers.proofs.Files.{change_none}
-use Rattle.model_registers.proofs.DeviceBytes.{device_not_own, change_beside}
-use Rattle.model_board.specs.Paths.{Path}
-use Rattle.model_board.specs.State.{BoardFunction, State}
-use Rattle.model_board.specs.AtReset.{board_at}
-use Rattle.model_guests.specs.Accesses.{answered, done}
-use Rattle.model_guests.specs.Slots.{Slots, slot_at}
-use Rattle.model_guests.specs.Lone.{LoneGuest}
-use Rattle.model_guests.specs.Guests.{lone_of}
-use Rattle.model_guests.specs.AgreedBoard.{with_change_at}
-use Rattle.model_guests.proofs.AgreedFiles.{stands, agreed_places, agreed_common}
-use Rattle.model_guests.proofs.GuestFiles.{with_file_there}
-use Rattle.model_guests.specs.Text.{Text}
-use Rattle.model_guests.specs.DeviceEvents.{DeviceByte, device_reads, device_writes, device_place, byte_fault, device_fault, device_answer, device_after, after_device_event, byte_landing}
-use Rattle.model_guests.specs.DeviceByteLaws.{byte_change}
-use Rattle.model_guests.proofs.DeviceBytes.{passes, read_there, write_answered, written_there}
-use Rattle.model_guests.proofs.DeviceSeats.{seated_after}
-use Rattle.model_guests.specs.WorldNow.{WorldNow, board_state}
-use Rattle.model_guests.proofs.DeviceBytes.{write_reaches_board}
-use Rattle.model_guests.specs.DeviceEvents.{after_device}
-use Rattle.headers.specs.declared.place.Place as headers
+use Rattle.model_registers.{specs.{Cell.Cell, Registers.{Place, place_eq, cell_at, File}, FileLaws.has_place, OwnCopies.is_own, DeviceBytes.{is_device_byte, set_value}, Decoding.Function, CopiedFiles.{agreed_file, places_of}}, proofs.{RegisterFiles.place_same, Files.change_none, DeviceBytes.{device_not_own, change_beside}}}
+use Rattle.model_board.specs.{Paths.Path, State.{BoardFunction, State}, AtReset.board_at}
+use Rattle.model_guests.{specs.{Accesses.{answered, done}, Slots.{Slots, slot_at}, Lone.LoneGuest, Guests.lone_of, AgreedBoard.with_change_at, Text.Text, DeviceEvents.{DeviceByte, device_reads, device_writes, device_place, byte_fault, device_fault, device_answer, device_after, after_device_event, byte_landing, after_device}, DeviceByteLaws.byte_change, WorldNow.{WorldNow, board_state}}, proofs.{AgreedFiles.{stands, agreed_places, agreed_common}, GuestFiles.with_file_there, DeviceBytes.{passes, read_there, write_answered, written_there, write_reaches_board}, DeviceSeats.seated_after}}
 use Rattle.headers.specs.Places.{place_of}
 use Rattle.bridge_forward.specs.Lending.{as_endpoint, endpoint_at, endpoint_nth, with_endpoint}
-use Rattle.host_bridge.specs.ByIndex.{file_nth, with_file_nth}
-use Rattle.host_bridge.specs.HostState.{HostState, with_functions}
-use Rattle.host_bridge.proofs.Lent.{changed_endpoint}
+use Rattle.host_bridge.{specs.{ByIndex.{file_nth, with_file_nth}, HostState.{HostState, with_functions}}, proofs.Lent.changed_endpoint}
 use Rattle.accesses.specs.Accesses.{part_of}
-use Rattle.monitor.specs.declared.guest.Held.{Held}
-use Rattle.monitor.specs.declared.guest.Guest.{Guest}
-use Rattle.monitor.specs.Keeping.{IsHeld, IsKept}
-use Rattle.monitor.specs.ByIndex.{lone_nth, guest_nth, name_nth, with_lone_nth}
-use Rattle.monitor.specs.DeviceBytes.{device_byte, Refuses, Reaches}
-use Rattle.monitor.specs.InSlots.{IsInSlot, IsSlotFault}
-use Rattle.monitor.proofs.Steps.{slot_there, GuestAt, SlotAt, function_there, in_place, kept_put, lone_named, path_there, slot_lent, slots_lent}
-use Rattle.monitor.proofs.Reached.{changed_held, distinct, endpoint_held, file_held, left, found_on_board, places_same}
-use Rattle.monitor.proofs.RaiseSteps.{named_place}
-use Rattle.monitor.proofs.Calls.{Leaves, leaves}
-use Rattle.monitor.proofs.ResetSteps.{answer_named, device_named}
-use Rattle.monitor.proofs.Checks.{low_slot, passes_slot, refused_first}
+use Rattle.monitor.{specs.{declared.guest.{Held.Held, Guest.Guest}, Keeping.{IsHeld, IsKept}, ByIndex.{lone_nth, guest_nth, name_nth, with_lone_nth}, DeviceBytes.{device_byte, Refuses, Reaches}, InSlots.{IsInSlot, IsSlotFault}}, proofs.{Steps.{slot_there, GuestAt, SlotAt, function_there, in_place, kept_put, lone_named, path_there, slot_lent, slots_lent}, Reached.{changed_held, distinct, endpoint_held, file_held, left, found_on_board, places_same}, RaiseSteps.named_place, Calls.{Leaves, leaves}, ResetSteps.{answer_named, device_named}, Checks.{low_slot, passes_slot, refused_first}}}
+use Rattle.headers.specs.declared.place.Place as headers
 
 -- ---- the place
 

@@ -1,18 +1,9 @@
 -- Guests after a slot of one of them has another function, or none.
-use Rattle.std.proofs.Common.{◌≡◌, ℕ, zero, suc, ◌<◌, List, [], ◌∷◌, length, Some, Option, slice_get, slice_set, refl, sym, ap, ◌∙◌, subst, arith, ◌≤◌, rules}
-use Rattle.std.proofs.lemmas.List.{length-set, set-set}
-use Rattle.std.proofs.lemmas.Option.{slice_get_within}
+use Rattle.std.proofs.{Common.{◌≡◌, ℕ, zero, suc, ◌<◌, List, [], ◌∷◌, length, Some, Option, slice_get, slice_set, refl, sym, ap, ◌∙◌, subst, arith, ◌≤◌, rules}, lemmas.{List.{length-set, set-set}, Option.slice_get_within}}
 use Rattle.lists.proofs.Indices.{get_set}
-use Rattle.model_guests.specs.Text.{Text}
-use Rattle.model_guests.specs.WorldNow.{WorldNow}
+use Rattle.model_guests.specs.{Text.Text, WorldNow.WorldNow}
 use Rattle.host_bridge.specs.HostState.{HostState}
-use Rattle.monitor.specs.declared.guest.Held.{Held}
-use Rattle.monitor.specs.declared.guest.Guest.{Guest}
-use Rattle.monitor.specs.ByIndex.{guest_nth, lone_nth}
-use Rattle.monitor.specs.Configs.{HoldsAt}
-use Rattle.monitor.specs.Moves.{HasSlot, HandsOver, IsExchanged}
-use Rattle.monitor.proofs.Steps.{GuestAt, SlotAt, slots_count}
-use Rattle.monitor.proofs.Reached.{seated}
+use Rattle.monitor.{specs.{declared.guest.{Held.Held, Guest.Guest}, ByIndex.{guest_nth, lone_nth}, Configs.HoldsAt, Moves.{HasSlot, HandsOver, IsExchanged}}, proofs.{Steps.{GuestAt, SlotAt, slots_count}, Reached.seated}}
 
 -- one slot twice
 pub exchanged_twice : {gs left new : List Guest} {i n : ℕ} {was o empty p : Option Held} → IsExchanged gs i n was o left → IsExchanged left i n empty p new → IsExchanged gs i n was p new

@@ -1,35 +1,14 @@
 -- An endpoint as it stands in a guest's slot at first: at reset, where the host has it.
-use Rattle.std.proofs.Common.{◌≡◌, ◌≤◌, ◌+◌, ℕ, false, List, [], ◌∷◌, Option, Some, None, refl, sym, ap, ◌∙◌, subst, rules}
-use Rattle.std.specs.Prelude.{map, find, slice_get, ⊤, IsSome, MatchOption, option_and_then}
-use Rattle.std.specs.Option.{option_map_or}
-use Rattle.lists.specs.Elements.{Each}
-use Rattle.lists.proofs.EachLemmas.{each_map}
-use Rattle.lists.proofs.Indices.{map_at}
-use Rattle.model_registers.specs.Declarations.{Bar, Region, Endpoint, HasLawfulRegions}
-use Rattle.model_registers.specs.DeclarationRules.{IsLawfulEndpoint}
-use Rattle.model_registers.specs.EndpointTable.{BaseAddress, opened, closed, endpoint_reset}
-use Rattle.model_registers.specs.OwnCopies.{OwnCopies, HoldsOwn, bare}
-use Rattle.model_registers.specs.Registers.{File}
-use Rattle.model_registers.specs.Decoding.{Function, base_address}
-use Rattle.model_registers.proofs.BareRegions.{bare_lawful}
-use Rattle.model_board.specs.Paths.{Path}
-use Rattle.model_board.specs.Board.{endpoint}
-use Rattle.model_board.specs.AtReset.{board_at}
-use Rattle.model_board.specs.Ports.{file_at}
-use Rattle.model_board.specs.State.{BoardFunction, State}
+use Rattle.std.{proofs.Common.{◌≡◌, ◌≤◌, ◌+◌, ℕ, false, List, [], ◌∷◌, Option, Some, None, refl, sym, ap, ◌∙◌, subst, rules}, specs.{Prelude.{map, find, slice_get, ⊤, IsSome, MatchOption, option_and_then}, Option.option_map_or}}
+use Rattle.lists.{specs.Elements.Each, proofs.{EachLemmas.each_map, Indices.map_at}}
+use Rattle.model_registers.{specs.{Declarations.{Bar, Region, Endpoint, HasLawfulRegions}, DeclarationRules.IsLawfulEndpoint, EndpointTable.{BaseAddress, opened, closed, endpoint_reset}, OwnCopies.{OwnCopies, HoldsOwn, bare}, Registers.File, Decoding.{Function, base_address}}, proofs.BareRegions.bare_lawful}
+use Rattle.model_board.specs.{Paths.Path, Board.endpoint, AtReset.board_at, Ports.file_at, State.{BoardFunction, State}}
 use Rattle.model_findings.specs.Orderly.{IsStateOfBoard}
-use Rattle.model_guests.specs.Slots.{reset_function}
-use Rattle.model_guests.specs.World.{declared}
-use Rattle.model_guests.proofs.CopiesNeverRise.{declared_lawful}
-use Rattle.model_guests.proofs.DeclaredRows.{declared_row}
+use Rattle.model_guests.{specs.{Slots.reset_function, World.declared}, proofs.{CopiesNeverRise.declared_lawful, DeclaredRows.declared_row}}
 use Rattle.model_handoff.proofs.Standing.{at_path, stands}
-use Rattle.bars.specs.Resets.{reset_from, at_reset, with_no_base}
-use Rattle.bars.specs.Slots.{bases_from}
-use Rattle.bars.specs.declared.region.BasedRegion.{BasedRegion}
+use Rattle.bars.specs.{Resets.{reset_from, at_reset, with_no_base}, Slots.bases_from, declared.region.BasedRegion.BasedRegion}
 use Rattle.bridge_forward.specs.BasesNow.{bases_of, bases_nth}
-use Rattle.monitor.specs.declared.guest.Held.{Held}
-use Rattle.monitor.specs.Keeping.{IsHeld, IsSlot}
-use Rattle.monitor.specs.Beginnings.{declared_in, IsStanding}
+use Rattle.monitor.specs.{declared.guest.Held.Held, Keeping.{IsHeld, IsSlot}, Beginnings.{declared_in, IsStanding}}
 
 -- ---- registers at reset
 

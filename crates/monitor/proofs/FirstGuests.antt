@@ -1,26 +1,12 @@
 -- Slots and guests, one after the other, as they are before any of them did anything.
-use Rattle.std.proofs.Common.{◌≡◌, ◌≤◌, ◌+◌, ◌-◌, ℕ, zero, suc, List, [], ◌∷◌, ◌++◌, length, take, Option, Some, None, refl, sym, ap, ap₂, ◌∙◌, subst, rules, arith}
-use Rattle.std.specs.Prelude.{map, flat_map, replicate, slice_get, IsSome}
-use Rattle.std.proofs.lemmas.List.{append-nil, append_assoc, map-append, length-map, take_all}
-use Rattle.lists.specs.Elements.{Each}
-use Rattle.model_registers.specs.Decoding.{Function}
-use Rattle.model_registers.specs.Declarations.{Endpoint}
-use Rattle.model_board.specs.Paths.{Path}
-use Rattle.model_board.specs.Board.{Board}
-use Rattle.model_board.specs.State.{State}
-use Rattle.model_guests.specs.Text.{Text}
-use Rattle.model_guests.specs.Slots.{Slots, reset_function}
-use Rattle.model_guests.specs.World.{Guest as Declared, World, declared, HasLawfulGuests}
-use Rattle.model_guests.specs.Guests.{GuestNow, GuestsNow, guest_at_first}
-use Rattle.lists.proofs.EachLemmas.{each_parts}
+use Rattle.std.{proofs.{Common.{◌≡◌, ◌≤◌, ◌+◌, ◌-◌, ℕ, zero, suc, List, [], ◌∷◌, ◌++◌, length, take, Option, Some, None, refl, sym, ap, ap₂, ◌∙◌, subst, rules, arith}, lemmas.List.{append-nil, append_assoc, map-append, length-map, take_all}}, specs.Prelude.{map, flat_map, replicate, slice_get, IsSome}}
+use Rattle.lists.{specs.Elements.Each, proofs.EachLemmas.each_parts}
+use Rattle.model_registers.specs.{Decoding.Function, Declarations.Endpoint}
+use Rattle.model_board.specs.{Paths.Path, Board.Board, State.State}
+use Rattle.model_guests.specs.{Text.Text, Slots.{Slots, reset_function}, World.{Guest as Declared, World, declared, HasLawfulGuests}, Guests.{GuestNow, GuestsNow, guest_at_first}}
 use Rattle.host_bridge.specs.HostState.{HostState}
-use Rattle.window_packing.specs.Readies.{board_below}
-use Rattle.window_packing.proofs.BarLists.{take_at}
-use Rattle.monitor.specs.declared.guest.Held.{Held}
-use Rattle.monitor.specs.declared.guest.Guest.{Guest}
-use Rattle.monitor.specs.Keeping.{IsSlot, AreSlots, IsGuest, AreGuests}
-use Rattle.monitor.specs.Beginnings.{AreSlotsAtFirst}
-use Rattle.monitor.specs.Counts.{counts_of}
+use Rattle.window_packing.{specs.Readies.board_below, proofs.BarLists.take_at}
+use Rattle.monitor.specs.{declared.guest.{Held.Held, Guest.Guest}, Keeping.{IsSlot, AreSlots, IsGuest, AreGuests}, Beginnings.AreSlotsAtFirst, Counts.counts_of}
 
 -- ---- one more
 

@@ -1,33 +1,15 @@
 -- The world over a handoff that a monitor takes over, with its guests, is kept at first; what set-up leaves is a case.
-use Rattle.std.proofs.Common.{◌≡◌, List, refl, sym, ap, ◌∙◌, subst, rules}
-use Rattle.std.specs.Prelude.{map}
+use Rattle.std.{proofs.Common.{◌≡◌, List, refl, sym, ap, ◌∙◌, subst, rules}, specs.Prelude.map}
 use Rattle.lists.specs.Elements.{Each}
 use Rattle.model_registers.specs.AccessLaws.{HoldsBytes}
-use Rattle.model_board.specs.Routing.{routing}
-use Rattle.model_board.specs.State.{BoardFunction, State}
+use Rattle.model_board.specs.{Routing.routing, State.{BoardFunction, State}}
 use Rattle.model_set_up.specs.SetUp.{set_up_state}
-use Rattle.model_guests.specs.Text.{Text}
-use Rattle.model_guests.specs.World.{Guest as Declared, World, HasLawfulGuests}
-use Rattle.model_guests.specs.Guests.{GuestsNow, guests_at_first}
-use Rattle.model_handoff.specs.AfterSetUp.{world_at_first}
-use Rattle.model_guests.specs.WorldNow.{world_over}
-use Rattle.model_handoff.specs.Handoffs.{IsHandoff, taken_over, with_given_reset}
-use Rattle.model_handoff.specs.Regions.{CanBeGiven}
-use Rattle.model_handoff.proofs.Alike.{IsAlike, taken_alike, taken_lawful, taken_agrees, taken_shown}
-use Rattle.model_handoff.proofs.First.{first_is_reset}
-use Rattle.model_handoff.proofs.SetUpCase.{set_up_is_handoff, set_up_can_be_given}
-use Rattle.model_handoff.proofs.SetUpLaws.{set_up_at_first}
-use Rattle.model_images.specs.MachineByteLaws.{AreDeclared, IsWritableWorld}
-use Rattle.model_images.proofs.Machines.{savable_at_first}
-use Rattle.model_images.proofs.WritableWorlds.{writable_at_first}
+use Rattle.model_guests.specs.{Text.Text, World.{Guest as Declared, World, HasLawfulGuests}, Guests.{GuestsNow, guests_at_first}, WorldNow.world_over}
+use Rattle.model_handoff.{specs.{AfterSetUp.world_at_first, Handoffs.{IsHandoff, taken_over, with_given_reset}, Regions.CanBeGiven}, proofs.{Alike.{IsAlike, taken_alike, taken_lawful, taken_agrees, taken_shown}, First.first_is_reset, SetUpCase.{set_up_is_handoff, set_up_can_be_given}, SetUpLaws.set_up_at_first}}
+use Rattle.model_images.{specs.MachineByteLaws.{AreDeclared, IsWritableWorld}, proofs.{Machines.savable_at_first, WritableWorlds.writable_at_first}}
 use Rattle.host_bridge.specs.HostState.{HostState}
 use Rattle.window_packing.specs.Readies.{ReadyBoard, IsReady}
-use Rattle.monitor.specs.declared.guest.Guest.{Guest}
-use Rattle.monitor.specs.Keeping.{AreGuests, IsKept, IsSound}
-use Rattle.monitor.specs.Views.{world_shown}
-use Rattle.monitor.specs.Beginnings.{world_on, world_of}
-use Rattle.monitor.proofs.Carried.{guests_carried}
-use Rattle.monitor.proofs.Shown.{is_shown, is_sound}
+use Rattle.monitor.{specs.{declared.guest.Guest.Guest, Keeping.{AreGuests, IsKept, IsSound}, Views.world_shown, Beginnings.{world_on, world_of}}, proofs.{Carried.guests_carried, Shown.{is_shown, is_sound}}}
 
 -- ---- a handoff
 

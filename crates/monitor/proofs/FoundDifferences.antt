@@ -1,11 +1,8 @@
 -- What differs in an image, slot after slot.
-use Rattle.std.proofs.Common.{◌≡◌, ◌+◌, ℕ, List, ◌∷◌, Option, Ok, sym, ap, ◌∙◌}
-use Rattle.std.specs.Prelude.{map, option_map}
+use Rattle.std.{proofs.Common.{◌≡◌, ◌+◌, ℕ, List, ◌∷◌, Option, Ok, sym, ap, ◌∙◌}, specs.Prelude.{map, option_map}}
 use Rattle.model_board.specs.State.{BoardFunction}
-use Rattle.model_images.specs.LoadedBytes.{Left, after_slot}
-use Rattle.model_images.specs.Differences.{first_difference, in_slot, slot_fields, slots_difference, unless_left}
-use Rattle.monitor.specs.declared.guest.Held.{Held}
-use Rattle.monitor.specs.Views.{slot_shown}
+use Rattle.model_images.specs.{LoadedBytes.{Left, after_slot}, Differences.{first_difference, in_slot, slot_fields, slots_difference, unless_left}}
+use Rattle.monitor.specs.{declared.guest.Held.Held, Views.slot_shown}
 
 -- a slot that is as it is to be
 pub slots_go_on : (fs : List BoardFunction) (n : ℕ) (o : Option Held) (left others : List (Option Held)) (bytes rest : List ℕ) → left ≡ o ∷ others → after_slot (slot_shown fs o) bytes ≡ Ok rest

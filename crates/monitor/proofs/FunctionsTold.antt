@@ -1,34 +1,12 @@
 -- What is kept of guests and of the board says what is told of functions.
-use Rattle.std.proofs.Common.{◌≡◌, ◌≤◌, ℕ, zero, suc, ◌+◌, ◌-◌, Bool, true, false, cond, List, [], ◌∷◌, Some, None, Option, Err, get_or, take, drop, length, refl, sym, ap, ap₂, ◌∙◌, arith}
-use Rattle.std.specs.Prelude.{nat_le, option_map, option_and_then, position, unwrap_or, Result, is_some}
-use Rattle.std.specs.Option.{ok_or}
-use Rattle.std.specs.List.{slice_get}
-use Rattle.std.proofs.lemmas.List.{take_all}
-use Rattle.lists.specs.Elements.{first_of_two}
-use Rattle.lists.proofs.Indices.{map_at}
+use Rattle.std.{proofs.{Common.{◌≡◌, ◌≤◌, ℕ, zero, suc, ◌+◌, ◌-◌, Bool, true, false, cond, List, [], ◌∷◌, Some, None, Option, Err, get_or, take, drop, length, refl, sym, ap, ap₂, ◌∙◌, arith}, lemmas.List.take_all}, specs.{Prelude.{nat_le, option_map, option_and_then, position, unwrap_or, Result, is_some}, Option.ok_or, List.slice_get}}
+use Rattle.lists.{specs.Elements.first_of_two, proofs.Indices.map_at}
 use Rattle.model_registers.specs.Decoding.{Function}
-use Rattle.model_board.specs.Paths.{Path}
-use Rattle.model_board.specs.Board.{Row, Board, IsBoard}
-use Rattle.model_board.specs.AtReset.{board_at}
-use Rattle.model_board.specs.State.{BoardFunction, State, row_at}
-use Rattle.model_guests.specs.Text.{Text}
-use Rattle.model_guests.specs.Slots.{Slots, slot_at}
-use Rattle.model_guests.specs.Guests.{GuestsNow, path_in}
-use Rattle.model_guests.proofs.GuestsByName.{path_at}
-use Rattle.model_guests.specs.WorldNow.{WorldNow, board_state}
+use Rattle.model_board.specs.{Paths.Path, Board.{Row, Board, IsBoard}, AtReset.board_at, State.{BoardFunction, State, row_at}}
+use Rattle.model_guests.{specs.{Text.Text, Slots.{Slots, slot_at}, Guests.{GuestsNow, path_in}, WorldNow.{WorldNow, board_state}}, proofs.GuestsByName.path_at}
 use Rattle.model_handoff.specs.Functions.{Seat, seat_from, seat_of, FunctionNow, function_now, function_nth, function_at, slot_answer}
 use Rattle.host_bridge.specs.HostState.{HostState}
-use Rattle.monitor.specs.declared.guest.Held.{Held}
-use Rattle.monitor.specs.declared.guest.Guest.{Guest}
-use Rattle.monitor.specs.Keeping.{AreSlots, AreGuests, IsKept}
-use Rattle.monitor.specs.ByIndex.{name_nth, guest_nth, lone_nth}
-use Rattle.monitor.specs.FunctionsTold.{seat_kept}
-use Rattle.monitor.specs.InSlots.{is_at, IsInSlot, IsSlotFault}
-use Rattle.monitor.proofs.Steps.{path_named, GuestAt, fault_lent, path_there, slot_lent, slots_lent}
-use Rattle.monitor.proofs.Reached.{board_row, found_on_board}
-use Rattle.monitor.proofs.Indexed.{found_in_slots}
-use Rattle.monitor.proofs.GiftSteps.{board_is}
-use Rattle.monitor.proofs.Checks.{low_slot, slot_checked}
+use Rattle.monitor.{specs.{declared.guest.{Held.Held, Guest.Guest}, Keeping.{AreSlots, AreGuests, IsKept}, ByIndex.{name_nth, guest_nth, lone_nth}, FunctionsTold.seat_kept, InSlots.{is_at, IsInSlot, IsSlotFault}}, proofs.{Steps.{path_named, GuestAt, fault_lent, path_there, slot_lent, slots_lent}, Reached.{board_row, found_on_board}, Indexed.found_in_slots, GiftSteps.board_is, Checks.{low_slot, slot_checked}}}
 
 -- ---- seats
 

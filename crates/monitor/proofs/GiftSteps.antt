@@ -1,61 +1,15 @@
 -- A function of the board that no guest of a world that is kept has: the checks in their order, and how it is kept in a slot.
-use Rattle.std.proofs.Common.{◌≡◌, ◌≤◌, ◌+◌, ℕ, Bool, true, false, not, ◌||◌, cond, List, [], ◌∷◌, Some, None, Option, refl, sym, ap, ap₂, ◌∙◌, subst, arith, rules}
-use Rattle.std.specs.Prelude.{find, map, is_some, nat_le, option_map, slice_get, Ok, Err, MatchOption, ⊤}
-use Rattle.std.specs.List.{list_any}
-use Rattle.std.specs.Option.{option_map_or}
-use Rattle.std.proofs.lemmas.Bool.{lt-leb}
-use Rattle.lists.proofs.FirstFound.{found_passes}
-use Rattle.lists.proofs.Indices.{map_at}
-use Rattle.model_registers.specs.Registers.{File, config, number}
-use Rattle.model_registers.specs.Declarations.{Region as Declared, Endpoint, HasLawfulRegions}
-use Rattle.model_registers.specs.DeclarationRules.{IsLawfulEndpoint}
-use Rattle.model_registers.specs.EndpointTable.{BaseAddress, opened}
-use Rattle.model_registers.specs.Decoding.{Function, base_address, command_word, opens_space, space_of}
-use Rattle.model_board.specs.Paths.{Path}
-use Rattle.model_board.specs.Board.{Row, Board, IsBoard, Decl, endpoint, bridge}
-use Rattle.model_board.specs.AtReset.{board_at}
-use Rattle.model_board.specs.Ports.{file_at}
-use Rattle.model_board.specs.Routing.{regions, windows, ranges_of}
-use Rattle.model_board.specs.Windows.{Window}
-use Rattle.model_board.specs.State.{BoardFunction, State, row_at}
-use Rattle.model_board.proofs.PathOrder.{path_same}
+use Rattle.std.{proofs.{Common.{◌≡◌, ◌≤◌, ◌+◌, ℕ, Bool, true, false, not, ◌||◌, cond, List, [], ◌∷◌, Some, None, Option, refl, sym, ap, ap₂, ◌∙◌, subst, arith, rules}, lemmas.Bool.lt-leb}, specs.{Prelude.{find, map, is_some, nat_le, option_map, slice_get, Ok, Err, MatchOption, ⊤}, List.list_any, Option.option_map_or}}
+use Rattle.lists.proofs.{FirstFound.found_passes, Indices.map_at}
+use Rattle.model_registers.specs.{Registers.{File, config, number}, Declarations.{Region as Declared, Endpoint, HasLawfulRegions}, DeclarationRules.IsLawfulEndpoint, EndpointTable.{BaseAddress, opened}, Decoding.{Function, base_address, command_word, opens_space, space_of}}
+use Rattle.model_board.{specs.{Paths.Path, Board.{Row, Board, IsBoard, Decl, endpoint, bridge}, AtReset.board_at, Ports.file_at, Routing.{regions, windows, ranges_of}, Windows.Window, State.{BoardFunction, State, row_at}}, proofs.PathOrder.path_same}
 use Rattle.model_findings.specs.Orderly.{IsStateOfBoard}
-use Rattle.model_guests.specs.Slots.{reset_function}
-use Rattle.model_guests.specs.Text.{Text}
-use Rattle.model_guests.specs.World.{declared}
-use Rattle.model_guests.specs.Guests.{GuestsNow, file_of, function_in}
-use Rattle.model_guests.proofs.CopiesNeverRise.{declared_lawful}
-use Rattle.model_handoff.specs.ViewLaws.{sits}
-use Rattle.model_guests.specs.WorldNow.{WorldNow, board_state}
-use Rattle.model_handoff.proofs.Keeping.{keeps_board, keeps_routing}
-use Rattle.model_handoff.proofs.Regions.{state_stays}
-use Rattle.model_handoff.proofs.Standing.{at_path}
-use Rattle.model_handoff.specs.Giving.{has_closed_region, give_fault, endpoint_fault}
-use Rattle.model_handoff.proofs.Alike.{command_at}
-use Rattle.bars.specs.declared.region.BasedRegion.{BasedRegion}
-use Rattle.bars.specs.Resets.{with_no_base}
-use Rattle.bars.specs.Slots.{bases_from}
-use Rattle.bridge_forward.specs.BasesNow.{bases_of, bases_nth}
-use Rattle.bridge_forward.specs.ByIndex.{ranges_told}
-use Rattle.bridge_forward.specs.Lending.{as_endpoint}
-use Rattle.bridge_forward.specs.RoutingRows.{window_of}
-use Rattle.bridge_forward.specs.declared.by_index.RangesNow.{RangesNow}
-use Rattle.bridge_forward.specs.declared.by_index.RangesNow.TheVariants.{Regions, Windows}
+use Rattle.model_guests.{specs.{Slots.reset_function, Text.Text, World.declared, Guests.{GuestsNow, file_of, function_in}, WorldNow.{WorldNow, board_state}}, proofs.CopiesNeverRise.declared_lawful}
+use Rattle.model_handoff.{specs.{ViewLaws.sits, Giving.{has_closed_region, give_fault, endpoint_fault}}, proofs.{Keeping.{keeps_board, keeps_routing}, Regions.state_stays, Standing.at_path, Alike.command_at}}
+use Rattle.bars.specs.{declared.region.BasedRegion.BasedRegion, Resets.with_no_base, Slots.bases_from}
+use Rattle.bridge_forward.specs.{BasesNow.{bases_of, bases_nth}, ByIndex.ranges_told, Lending.as_endpoint, RoutingRows.window_of, declared.by_index.RangesNow.{RangesNow, TheVariants.{Regions, Windows}}}
 use Rattle.host_bridge.specs.HostState.{HostState}
-use Rattle.monitor.specs.declared.guest.Held.{Held}
-use Rattle.monitor.specs.declared.guest.Guest.{Guest}
-use Rattle.monitor.specs.Beginnings.{IsStanding}
-use Rattle.monitor.specs.ByIndex.{name_nth}
-use Rattle.monitor.specs.Keeping.{AreGuests, IsHeld, IsKept, IsSlot}
-use Rattle.monitor.specs.Moves.{is_taken}
-use Rattle.monitor.specs.Seatings.{IsEndpointAt, MakesGift, gift_nth, has_index, is_closed_base, is_closed_slot}
-use Rattle.monitor.specs.declared.withheld.Withheld.TheVariants.{PastSlots, NoEndpoint, HasGuest, SlotTaken, ClosedRegion}
-use Rattle.monitor.proofs.Carried.{held_carried}
-use Rattle.monitor.proofs.Indexed.{in_slots}
-use Rattle.monitor.proofs.FirstFunctions.{function_of, lawful_there}
-use Rattle.monitor.proofs.MoveSteps.{taken_lent}
-use Rattle.monitor.proofs.Steps.{GuestAt, kept_nth}
-use Rattle.monitor.proofs.TakenOver.{declared_there}
+use Rattle.monitor.{specs.{declared.{guest.{Held.Held, Guest.Guest}, withheld.Withheld.TheVariants.{PastSlots, NoEndpoint, HasGuest, SlotTaken, ClosedRegion}}, Beginnings.IsStanding, ByIndex.name_nth, Keeping.{AreGuests, IsHeld, IsKept, IsSlot}, Moves.is_taken, Seatings.{IsEndpointAt, MakesGift, gift_nth, has_index, is_closed_base, is_closed_slot}}, proofs.{Carried.held_carried, Indexed.in_slots, FirstFunctions.{function_of, lawful_there}, MoveSteps.taken_lent, Steps.{GuestAt, kept_nth}, TakenOver.declared_there}}
 
 -- ---- the endpoint at a path
 

@@ -1,41 +1,12 @@
 -- The world after a gift.
-use Rattle.std.proofs.Common.{◌≡◌, ◌<◌, ℕ, cond, List, Some, None, Option, slice_get, slice_set, refl, sym, ap, ◌∙◌, subst, arith}
-use Rattle.std.specs.Prelude.{is_some, IsSome, Result, Ok}
+use Rattle.std.{proofs.Common.{◌≡◌, ◌<◌, ℕ, cond, List, Some, None, Option, slice_get, slice_set, refl, sym, ap, ◌∙◌, subst, arith}, specs.Prelude.{is_some, IsSome, Result, Ok}}
 use Rattle.model_registers.specs.Declarations.{Endpoint}
-use Rattle.model_board.specs.Paths.{Path}
-use Rattle.model_board.specs.Board.{endpoint, Board}
-use Rattle.model_board.specs.AtReset.{board_at}
-use Rattle.model_board.specs.Routing.{routing}
-use Rattle.model_board.specs.State.{State}
+use Rattle.model_board.specs.{Paths.Path, Board.{endpoint, Board}, AtReset.board_at, Routing.routing, State.State}
 use Rattle.model_findings.specs.Orderly.{IsStateOfBoard}
-use Rattle.model_guests.specs.Slots.{reset_function}
-use Rattle.model_guests.specs.Text.{Text}
-use Rattle.model_guests.specs.World.{declared}
-use Rattle.model_guests.specs.Guests.{GuestNow, GuestsNow, guest_named, with_guest, with_slot_filled}
-use Rattle.model_handoff.specs.Kept.{IsLawfulOver}
-use Rattle.model_handoff.specs.ViewLaws.{with_seated_reset}
-use Rattle.model_guests.specs.WorldNow.{WorldNow, board_state}
-use Rattle.model_handoff.proofs.Keeping.{keeps_board}
-use Rattle.model_handoff.proofs.Regions.{state_stays}
-use Rattle.model_handoff.specs.Giving.{Gift, with_reset_at, give_fault, after_give, given}
-use Rattle.model_handoff.proofs.Alike.{IsAlike}
-use Rattle.model_handoff.proofs.Giving.{CanGive, can_give, given_is, is_alike, board_after_gift, lawful_after_gift, shown_after_gift}
-use Rattle.model_handoff.proofs.GivenSeats.{below}
-use Rattle.host_bridge.specs.ByIndex.{with_reset_nth}
-use Rattle.host_bridge.specs.HostState.{HostState, with_functions}
-use Rattle.monitor.specs.declared.guest.Held.{Held}
-use Rattle.monitor.specs.declared.guest.Guest.{Guest}
-use Rattle.monitor.specs.declared.withheld.Withheld.{Withheld}
-use Rattle.monitor.specs.ByIndex.{name_nth, guest_nth, lone_nth}
-use Rattle.monitor.specs.Keeping.{AreGuests, IsKept, IsSlot, AreSlots}
-use Rattle.monitor.specs.Moves.{HasSlot, IsExchanged}
-use Rattle.monitor.specs.Seatings.{MakesGift, gift_nth}
-use Rattle.monitor.proofs.Carried.{guests_carried}
-use Rattle.monitor.proofs.Steps.{guests_set, with_named, GuestAt, named, slots_put}
-use Rattle.monitor.proofs.TakenOver.{reset_row}
-use Rattle.monitor.proofs.TakingSteps.{reset_by}
-use Rattle.monitor.proofs.Calls.{Leaves, leaves}
-use Rattle.monitor.proofs.Exchanges.{has_nth, items_are, latch_stays}
+use Rattle.model_guests.specs.{Slots.reset_function, Text.Text, World.declared, Guests.{GuestNow, GuestsNow, guest_named, with_guest, with_slot_filled}, WorldNow.{WorldNow, board_state}}
+use Rattle.model_handoff.{specs.{Kept.IsLawfulOver, ViewLaws.with_seated_reset, Giving.{Gift, with_reset_at, give_fault, after_give, given}}, proofs.{Keeping.keeps_board, Regions.state_stays, Alike.IsAlike, Giving.{CanGive, can_give, given_is, is_alike, board_after_gift, lawful_after_gift, shown_after_gift}, GivenSeats.below}}
+use Rattle.host_bridge.specs.{ByIndex.with_reset_nth, HostState.{HostState, with_functions}}
+use Rattle.monitor.{specs.{declared.{guest.{Held.Held, Guest.Guest}, withheld.Withheld.Withheld}, ByIndex.{name_nth, guest_nth, lone_nth}, Keeping.{AreGuests, IsKept, IsSlot, AreSlots}, Moves.{HasSlot, IsExchanged}, Seatings.{MakesGift, gift_nth}}, proofs.{Carried.guests_carried, Steps.{guests_set, with_named, GuestAt, named, slots_put}, TakenOver.reset_row, TakingSteps.reset_by, Calls.{Leaves, leaves}, Exchanges.{has_nth, items_are, latch_stays}}}
 
 -- what is made in the world that is kept
 pub makes_gift : {w : WorldNow} {h : HostState} {names : List Text} {gs lent : List Guest} → IsKept w h names gs → {p : Path} {i n : ℕ} {r : Result Held Withheld} → lent ≡ gs

@@ -1,22 +1,11 @@
 -- A function by its index is the one at its path: each slot has the one just where it has the other.
-use Rattle.std.proofs.Common.{◌≡◌, ◌<◌, ◌⊎◌, ℕ, Bool, false, eqb, cond, ◌||◌, ◌+◌, List, [], ◌∷◌, Some, None, Option, slice_get, refl, sym, ap₂, ◌∙◌, arith}
-use Rattle.std.specs.Prelude.{position}
-use Rattle.std.specs.List.{list_any, position_from}
-use Rattle.std.proofs.lemmas.Bool.Decides.{nat_tests}
-use Rattle.std.proofs.lemmas.Iterator.Adapters.{position_from-zero}
+use Rattle.std.{proofs.{Common.{◌≡◌, ◌<◌, ◌⊎◌, ℕ, Bool, false, eqb, cond, ◌||◌, ◌+◌, List, [], ◌∷◌, Some, None, Option, slice_get, refl, sym, ap₂, ◌∙◌, arith}, lemmas.{Bool.Decides.nat_tests, Iterator.Adapters.position_from-zero}}, specs.{Prelude.position, List.{list_any, position_from}}}
 use Rattle.lists.proofs.Indices.{pair_at, same_at}
 use Rattle.model_registers.specs.Decoding.{Function}
-use Rattle.model_board.specs.Paths.{Path, path_eq}
-use Rattle.model_board.specs.Board.{Row, Board, IsBoard}
-use Rattle.model_board.specs.AtReset.{board_at}
-use Rattle.model_board.specs.State.{State}
-use Rattle.model_board.proofs.PathEnds.{path_self, path_eq-sym}
-use Rattle.model_board.proofs.PlacesLaw.{before_apart}
+use Rattle.model_board.{specs.{Paths.{Path, path_eq}, Board.{Row, Board, IsBoard}, AtReset.board_at, State.State}, proofs.{PathEnds.{path_self, path_eq-sym}, PlacesLaw.before_apart}}
 use Rattle.model_guests.specs.Slots.{Slots}
+use Rattle.monitor.specs.{declared.guest.Held.Held, InSlots.is_at, Keeping.{IsSlot, AreSlots}}
 use Rattle.model_handoff.specs.ViewLaws as path
-use Rattle.monitor.specs.declared.guest.Held.{Held}
-use Rattle.monitor.specs.InSlots.{is_at}
-use Rattle.monitor.specs.Keeping.{IsSlot, AreSlots}
 
 -- ---- two rows of a board
 

@@ -1,17 +1,10 @@
 -- Where an address of a guest lands: slot after slot, by the guest's own copies.
-use Rattle.std.proofs.Common.{◌≡◌, ℕ, zero, suc, ◌+◌, ◌<◌, ◌≤◌, List, [], ◌∷◌, length, Some, None, Option, drop, slice_get, refl, ap, arith, rules}
-use Rattle.std.specs.Prelude.{option_map, unwrap_or}
-use Rattle.std.proofs.lemmas.List.{drop_all}
+use Rattle.std.{proofs.{Common.{◌≡◌, ℕ, zero, suc, ◌+◌, ◌<◌, ◌≤◌, List, [], ◌∷◌, length, Some, None, Option, drop, slice_get, refl, ap, arith, rules}, lemmas.List.drop_all}, specs.Prelude.{option_map, unwrap_or}}
 use Rattle.lists.specs.Elements.{first_of_two}
-use Rattle.model_registers.specs.Registers.{block}
-use Rattle.model_registers.specs.Decoding.{Space, Hit}
-use Rattle.model_board.specs.Paths.{Path}
-use Rattle.model_board.specs.State.{State}
+use Rattle.model_registers.specs.{Registers.block, Decoding.{Space, Hit}}
+use Rattle.model_board.specs.{Paths.Path, State.State}
 use Rattle.model_guests.specs.Slots.{Slots, slot_at, Landing, landing_in, landing_from}
-use Rattle.monitor.specs.declared.guest.Held.{Held}
-use Rattle.monitor.specs.Keeping.{AreSlots}
-use Rattle.monitor.specs.Reaches.{Decodes}
-use Rattle.monitor.proofs.Steps.{slot_there, slot_empty}
+use Rattle.monitor.{specs.{declared.guest.Held.Held, Keeping.AreSlots, Reaches.Decodes}, proofs.Steps.{slot_there, slot_empty}}
 
 pub same_count : (s : State) (qs : List (Option Path)) (fs : Slots) (os : List (Option Held)) → AreSlots s qs fs os → length fs ≡ length os
 same_count s [] [] [] are = refl

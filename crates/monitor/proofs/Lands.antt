@@ -1,22 +1,10 @@
 -- Which accesses of a guest land on Command or on a base address register: those of configuration space alone.
-use Rattle.std.proofs.Common.{◌≡◌, ℕ, zero, suc, ◌+◌, Bool, true, false, ◌&&◌, ◌==◌, not, cond, [], ◌∷◌, Some, None, Option, refl, sym, ap, ap₂, ◌∙◌, arith}
-use Rattle.std.specs.Prelude.{is_some, option_map}
-use Rattle.std.specs.Option.{option_map_or}
-use Rattle.std.proofs.lemmas.Bool.Decides.{nat_tests}
-use Rattle.lists.specs.Elements.{first_of_two}
-use Rattle.lists.proofs.Tests.{and_false}
-use Rattle.model_registers.specs.Registers.{block}
-use Rattle.model_registers.specs.ConfigAddress.{is_address_port, is_data_port, is_enabled}
-use Rattle.model_registers.specs.Decoding.{Space, io, memory, Hit, lone_claim}
-use Rattle.model_guests.specs.Accesses.{Target, Access, access, configuration, port, address, Op, reads, writes}
-use Rattle.model_guests.specs.Slots.{Slots, Landing, landing_from, fault_of}
-use Rattle.model_guests.specs.Lone.{LoneGuest, Destination, own_latch, no_function, at_target, destination, ordinary, Select, select_at, by_select, changed_by}
-use Rattle.model_handoff.specs.Located.{landing_at}
-use Rattle.model_handoff.specs.StayLaws.{any_tells}
-use Rattle.model_handoff.specs.Changes.{MachineNow, lands_own, moves_own}
-use Rattle.monitor.specs.ByIndex.{lone_nth}
-use Rattle.monitor.specs.Counts.{changes_at, after_nth, after_access_nth, after_event_nth}
-use Rattle.monitor.specs.Reaches.{target_in}
+use Rattle.std.{proofs.{Common.{◌≡◌, ℕ, zero, suc, ◌+◌, Bool, true, false, ◌&&◌, ◌==◌, not, cond, [], ◌∷◌, Some, None, Option, refl, sym, ap, ap₂, ◌∙◌, arith}, lemmas.Bool.Decides.nat_tests}, specs.{Prelude.{is_some, option_map}, Option.option_map_or}}
+use Rattle.lists.{specs.Elements.first_of_two, proofs.Tests.and_false}
+use Rattle.model_registers.specs.{Registers.block, ConfigAddress.{is_address_port, is_data_port, is_enabled}, Decoding.{Space, io, memory, Hit, lone_claim}}
+use Rattle.model_guests.specs.{Accesses.{Target, Access, access, configuration, port, address, Op, reads, writes}, Slots.{Slots, Landing, landing_from, fault_of}, Lone.{LoneGuest, Destination, own_latch, no_function, at_target, destination, ordinary, Select, select_at, by_select, changed_by}}
+use Rattle.model_handoff.specs.{Located.landing_at, StayLaws.any_tells, Changes.{MachineNow, lands_own, moves_own}}
+use Rattle.monitor.specs.{ByIndex.lone_nth, Counts.{changes_at, after_nth, after_access_nth, after_event_nth}, Reaches.target_in}
 
 abbrev tells : ℕ → Option Landing → Bool
 tells w o = option_map_or (λ (l : Landing). any_tells w l.place) o false

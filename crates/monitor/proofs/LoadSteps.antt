@@ -9,47 +9,18 @@
 --     put_all      the device puts bytes from a place on
 --     IsPut h index f new      the host with the cells of the function at an index changed
 --     wrote_one      the guest writes a byte
-use Rattle.std.proofs.Common.{◌≡◌, ◌≤◌, ◌<◌, ◌+◌, ◌*◌, ◌/◌, ◌%◌, ℕ, inl, Bool, true, false, cond, List, [], ◌∷◌, length, Some, None, Option, slice_get, slice_set, refl, sym, ap, ◌∙◌, subst, arith}
-use Rattle.std.specs.Prelude.{IsSome, nat_le, unwrap_or}
-use Rattle.std.specs.Option.{option_map_or}
-use Rattle.std.proofs.lemmas.List.{set-set, set-get_or}
-use Rattle.std.proofs.lemmas.Option.{unwrap_or-slice_get, slice_get_within}
+use Rattle.std.{proofs.{Common.{◌≡◌, ◌≤◌, ◌<◌, ◌+◌, ◌*◌, ◌/◌, ◌%◌, ℕ, inl, Bool, true, false, cond, List, [], ◌∷◌, length, Some, None, Option, slice_get, slice_set, refl, sym, ap, ◌∙◌, subst, arith}, lemmas.{List.{set-set, set-get_or}, Option.{unwrap_or-slice_get, slice_get_within}}}, specs.{Prelude.{IsSome, nat_le, unwrap_or}, Option.option_map_or}}
 use Rattle.lists.proofs.Indices.{get_set, map_at}
-use Rattle.model_registers.specs.Registers.{Place, config, after, File, write, all_bytes}
-use Rattle.model_registers.specs.ByteEnables.{lanes, enables_of, into_lanes}
-use Rattle.model_registers.specs.DeclarationRules.{IsLawfulEndpoint}
-use Rattle.model_registers.specs.DeviceBytes.{is_device_byte, set_value}
-use Rattle.model_registers.specs.Decoding.{Function}
-use Rattle.model_board.specs.Paths.{Path, path_eq}
-use Rattle.model_board.specs.State.{BoardFunction, with_file}
-use Rattle.model_guests.specs.Accesses.{configuration, writes}
-use Rattle.model_guests.specs.DeviceEvents.{device_place}
-use Rattle.model_guests.specs.Lone.{LoneGuest, after_access_at, at_target}
-use Rattle.model_guests.specs.Slots.{Slots, Landing, effect, slot_at}
-use Rattle.model_guests.specs.WorldNow.{WorldNow}
-use Rattle.model_guests.proofs.GuestFiles.{slot_set, with_file_there}
+use Rattle.model_registers.specs.{Registers.{Place, config, after, File, write, all_bytes}, ByteEnables.{lanes, enables_of, into_lanes}, DeclarationRules.IsLawfulEndpoint, DeviceBytes.{is_device_byte, set_value}, Decoding.Function}
+use Rattle.model_board.specs.{Paths.{Path, path_eq}, State.{BoardFunction, with_file}}
+use Rattle.model_guests.{specs.{Accesses.{configuration, writes}, DeviceEvents.device_place, Lone.{LoneGuest, after_access_at, at_target}, Slots.{Slots, Landing, effect, slot_at}, WorldNow.WorldNow}, proofs.GuestFiles.{slot_set, with_file_there}}
 use Rattle.model_images.specs.StepLaws.{put_run}
-use Rattle.headers.specs.declared.place.Place as headers
-use Rattle.headers.specs.declared.place.Place.TheVariants.{Cfg, Bar}
-use Rattle.headers.specs.Places.{place_of}
-use Rattle.bridge_forward.specs.Lending.{as_endpoint, endpoint_nth}
-use Rattle.bridge_forward.proofs.Changes.{same_files}
-use Rattle.host_bridge.specs.ByIndex.{with_file_nth}
-use Rattle.host_bridge.specs.HostState.{HostState, with_functions}
+use Rattle.headers.specs.{declared.place.Place.TheVariants.{Cfg, Bar}, Places.place_of}
+use Rattle.bridge_forward.{specs.Lending.{as_endpoint, endpoint_nth}, proofs.Changes.same_files}
+use Rattle.host_bridge.specs.{ByIndex.with_file_nth, HostState.{HostState, with_functions}}
 use Rattle.accesses.specs.Accesses.{part_of}
-use Rattle.monitor.specs.declared.guest.Held.{Held}
-use Rattle.monitor.specs.declared.guest.Guest.{Guest}
-use Rattle.monitor.specs.ByIndex.{guest_nth, lone_nth, with_lone_nth}
-use Rattle.monitor.specs.Configs.{HoldsAt, WritesGuest}
-use Rattle.monitor.specs.Keeping.{IsKept}
-use Rattle.monitor.specs.Loadings.{KeepsFunction, Becomes, with_slot_nth}
-use Rattle.monitor.proofs.Steps.{GuestAt, SlotAt, kept_nth, slot_nth, slots_count, with_same}
-use Rattle.monitor.proofs.Checks.{low_slot}
-use Rattle.monitor.proofs.ConfigSteps.{config_written, lands}
-use Rattle.monitor.proofs.DeviceSteps.{byte_put, put_kept}
-use Rattle.monitor.proofs.Exchanges.{holds_nth}
-use Rattle.monitor.proofs.Reached.{endpoint_held, held_row, lawful, seated}
-use Rattle.monitor.proofs.RestartSteps.{lone_set, set_again}
+use Rattle.monitor.{specs.{declared.guest.{Held.Held, Guest.Guest}, ByIndex.{guest_nth, lone_nth, with_lone_nth}, Configs.{HoldsAt, WritesGuest}, Keeping.IsKept, Loadings.{KeepsFunction, Becomes, with_slot_nth}}, proofs.{Steps.{GuestAt, SlotAt, kept_nth, slot_nth, slots_count, with_same}, Checks.low_slot, ConfigSteps.{config_written, lands}, DeviceSteps.{byte_put, put_kept}, Exchanges.holds_nth, Reached.{endpoint_held, held_row, lawful, seated}, RestartSteps.{lone_set, set_again}}}
+use Rattle.headers.specs.declared.place.Place as headers
 
 -- ---- a function of the board by its index
 

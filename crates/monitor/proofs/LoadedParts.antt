@@ -14,33 +14,17 @@
 --     many_values      how many values fit a function
 --     enough_header, enough_blocks, enough_regions      so many are left for each part
 --     all_parts      the header, the blocks and the regions
-use Rattle.std.proofs.Common.{◌≡◌, ◌≤◌, ◌<◌, ◌+◌, ◌*◌, ◌^◌, ◌==◌, ◌&&◌, ℕ, zero, suc, Bool, true, false, List, [], ◌∷◌, length, Some, slice_get, drop, take, refl, sym, ap, ◌∙◌, subst, arith, length-append}
-use Rattle.std.specs.Prelude.{flat_map, nat_lt}
-use Rattle.std.specs.List.{list_any}
-use Rattle.std.proofs.lemmas.Bool.{lt-ltb}
-use Rattle.std.proofs.lemmas.Bool.Decides.{nat_tests}
-use Rattle.std.proofs.lemmas.List.{drop_all, drop-drop, length-drop}
-use Rattle.lists.proofs.Indices.{at_below, each_at}
-use Rattle.lists.proofs.Tests.{right_true}
-use Rattle.model_registers.specs.Registers.{config, block, File}
-use Rattle.model_registers.specs.Declarations.{ConfigBlock, Endpoint, IsLawfulRegion, Region, registers_of}
-use Rattle.model_registers.specs.DeclarationRules.{IsConfigBlock}
-use Rattle.model_registers.specs.DeviceBytes.{is_device_byte}
-use Rattle.model_registers.specs.EndpointTable.{block_cells, endpoint_reset, region_cells}
-use Rattle.model_registers.specs.Decoding.{Function}
-use Rattle.model_images.specs.Images.{can_hold, fit_cells}
-use Rattle.model_images.specs.StepLaws.{base_size, blocks_size, blocks_steps, header_steps, put_run, region_steps, regions_steps, steps, written_run}
-use Rattle.images.proofs.Lengths.{cells_count, few_registers, region_cell_count}
-use Rattle.images.proofs.TakenValues.{many_cells}
-use Rattle.headers.specs.declared.place.Place as headers
-use Rattle.headers.specs.declared.place.Place.TheVariants.{Cfg, Bar}
-use Rattle.headers.specs.Places.{place_of}
+use Rattle.std.{proofs.{Common.{◌≡◌, ◌≤◌, ◌<◌, ◌+◌, ◌*◌, ◌^◌, ◌==◌, ◌&&◌, ℕ, zero, suc, Bool, true, false, List, [], ◌∷◌, length, Some, slice_get, drop, take, refl, sym, ap, ◌∙◌, subst, arith, length-append}, lemmas.{Bool.{lt-ltb, Decides.nat_tests}, List.{drop_all, drop-drop, length-drop}}}, specs.{Prelude.{flat_map, nat_lt}, List.list_any}}
+use Rattle.lists.proofs.{Indices.{at_below, each_at}, Tests.right_true}
+use Rattle.model_registers.specs.{Registers.{config, block, File}, Declarations.{ConfigBlock, Endpoint, IsLawfulRegion, Region, registers_of}, DeclarationRules.IsConfigBlock, DeviceBytes.is_device_byte, EndpointTable.{block_cells, endpoint_reset, region_cells}, Decoding.Function}
+use Rattle.model_images.specs.{Images.{can_hold, fit_cells}, StepLaws.{base_size, blocks_size, blocks_steps, header_steps, put_run, region_steps, regions_steps, steps, written_run}}
+use Rattle.images.proofs.{Lengths.{cells_count, few_registers, region_cell_count}, TakenValues.many_cells}
+use Rattle.headers.specs.{declared.place.Place.TheVariants.{Cfg, Bar}, Places.place_of}
 use Rattle.bridge_forward.specs.Lending.{endpoint_nth}
 use Rattle.host_bridge.specs.HostState.{HostState}
 use Rattle.window_packing.proofs.Gathering.{drop_at}
-use Rattle.monitor.specs.declared.guest.Guest.{Guest}
-use Rattle.monitor.specs.Loadings.{KeepsFunction, Becomes, IsLoadable, regions_size}
-use Rattle.monitor.proofs.LoadSteps.{IsPut, ReachesByte, chained, go_on, its_decl, its_lawful, its_row, nothing_yet, put_all}
+use Rattle.monitor.{specs.{declared.guest.Guest.Guest, Loadings.{KeepsFunction, Becomes, IsLoadable, regions_size}}, proofs.LoadSteps.{IsPut, ReachesByte, chained, go_on, its_decl, its_lawful, its_row, nothing_yet, put_all}}
+use Rattle.headers.specs.declared.place.Place as headers
 
 -- ---- one thing after the other
 

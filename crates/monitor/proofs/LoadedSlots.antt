@@ -4,18 +4,10 @@
 --     can_load      each slot can take what stands there
 --     reset_twice, reset_takes, reset_taken      a guest at reset takes the same bytes, and the same of them
 --     latch_there      a latch that is read where one stands
-use Rattle.std.proofs.Common.{◌≡◌, ◌<◌, ℕ, Bool, cond, zero, suc, List, [], ◌∷◌, length, take, drop, Some, None, Option, Ok, Err, slice_set, refl, ap, ap₂, ◌∙◌, arith}
-use Rattle.std.specs.Prelude.{map, option_map}
-use Rattle.std.proofs.lemmas.Bool.{eq-eqb}
-use Rattle.model_registers.specs.Decoding.{Function}
-use Rattle.model_guests.specs.Slots.{Slots, slot_at}
-use Rattle.model_guests.specs.Lone.{LoneGuest}
-use Rattle.model_images.specs.Images.{SavedFunction, restored, function_at_reset, FitsSlot}
-use Rattle.model_images.specs.Layouts.{parsed, parse_number}
-use Rattle.model_registers.specs.ConfigAddress.{latched}
-use Rattle.model_images.specs.ByteLaws.{AreBytes}
-use Rattle.model_images.specs.LoadedBytes.{Left, after_latch, after_number, after_slot, after_slots, then_read}
-use Rattle.model_images.specs.TakenBytes.{SlotsAreTaken, slot_size, taken_slot, taken_slots}
+use Rattle.std.{proofs.{Common.{◌≡◌, ◌<◌, ℕ, Bool, cond, zero, suc, List, [], ◌∷◌, length, take, drop, Some, None, Option, Ok, Err, slice_set, refl, ap, ap₂, ◌∙◌, arith}, lemmas.Bool.eq-eqb}, specs.Prelude.{map, option_map}}
+use Rattle.model_registers.specs.{Decoding.Function, ConfigAddress.latched}
+use Rattle.model_guests.specs.{Slots.{Slots, slot_at}, Lone.LoneGuest}
+use Rattle.model_images.specs.{Images.{SavedFunction, restored, function_at_reset, FitsSlot}, Layouts.{parsed, parse_number}, ByteLaws.AreBytes, LoadedBytes.{Left, after_latch, after_number, after_slot, after_slots, then_read}, TakenBytes.{SlotsAreTaken, slot_size, taken_slot, taken_slots}}
 use Rattle.monitor.specs.Loads.{AreLoadable, CanLoad, slot_loaded}
 
 -- ---- slot after slot

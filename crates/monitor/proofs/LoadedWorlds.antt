@@ -12,44 +12,14 @@
 --     latch_kept, latch_read      the world after the latch is written, and what is written
 --     takes_named, image_fits      bytes that the guest of this name takes; they are an image of it
 --     loaded_is, keeps_lent, load_left, is_loaded      the guest by its name, and what the call leaves
-use Rattle.std.proofs.Common.{◌≡◌, ◌<◌, ◌+◌, ℕ, suc, true, false, List, length, take, drop, Some, None, Option, Ok, slice_get, slice_set, refl, sym, ap, ap₂, ◌∙◌, subst, arith}
-use Rattle.std.specs.Prelude.{map, option_map, unwrap_or}
-use Rattle.std.proofs.lemmas.Option.{same_Some}
-use Rattle.std.proofs.lemmas.List.{drop-drop}
+use Rattle.std.{proofs.{Common.{◌≡◌, ◌<◌, ◌+◌, ℕ, suc, true, false, List, length, take, drop, Some, None, Option, Ok, slice_get, slice_set, refl, sym, ap, ap₂, ◌∙◌, subst, arith}, lemmas.{Option.same_Some, List.drop-drop}}, specs.Prelude.{map, option_map, unwrap_or}}
 use Rattle.lists.specs.Elements.{Each}
-use Rattle.model_registers.specs.ConfigAddress.{latched}
-use Rattle.model_registers.specs.EndpointTable.{endpoint_reset}
-use Rattle.model_registers.specs.Decoding.{Function}
-use Rattle.model_guests.specs.Text.{Text}
-use Rattle.model_guests.specs.Slots.{Slots, slot_at}
-use Rattle.model_guests.specs.Lone.{LoneGuest}
-use Rattle.model_guests.specs.Guests.{GuestsNow, lone_of}
-use Rattle.model_guests.specs.WorldNow.{WorldNow}
+use Rattle.model_registers.specs.{ConfigAddress.latched, EndpointTable.endpoint_reset, Decoding.Function}
+use Rattle.model_guests.specs.{Text.Text, Slots.{Slots, slot_at}, Lone.LoneGuest, Guests.{GuestsNow, lone_of}, WorldNow.WorldNow}
 use Rattle.model_handoff.specs.Changes.{MachineNow}
-use Rattle.model_images.specs.Images.{Image, SavedFunction, restored, loaded, lone_of_image, after_load, at_reset, fits_declaration}
-use Rattle.model_images.specs.ByteLaws.{AreBytes, IsSavableGuest}
-use Rattle.model_images.specs.LoadedBytes.{after_latch, load_fault}
-use Rattle.model_images.specs.LoadedLaws.{IsFittingImage}
-use Rattle.model_images.specs.TakenBytes.{values_begin, slot_size, taken_function, taken_slot, taken_image, le_number}
-use Rattle.model_images.proofs.LoadedBytes.{savable_is_declared}
-use Rattle.model_images.proofs.TakenBytes.{accepted_is_taken, image_is_taken, slots_are_taken}
+use Rattle.model_images.{specs.{Images.{Image, SavedFunction, restored, loaded, lone_of_image, after_load, at_reset, fits_declaration}, ByteLaws.{AreBytes, IsSavableGuest}, LoadedBytes.{after_latch, load_fault}, LoadedLaws.IsFittingImage, TakenBytes.{values_begin, slot_size, taken_function, taken_slot, taken_image, le_number}}, proofs.{LoadedBytes.savable_is_declared, TakenBytes.{accepted_is_taken, image_is_taken, slots_are_taken}}}
 use Rattle.host_bridge.specs.HostState.{HostState}
-use Rattle.monitor.specs.declared.guest.Held.{Held}
-use Rattle.monitor.specs.declared.guest.Guest.{Guest}
-use Rattle.monitor.specs.ByIndex.{guest_nth, lone_nth, name_nth, with_lone_nth}
-use Rattle.monitor.specs.Configs.{HoldsAt}
-use Rattle.monitor.specs.Counts.{counted_nth, counts_of}
-use Rattle.monitor.specs.Keeping.{IsKept, IsSound}
-use Rattle.monitor.specs.Views.{machine_shown, slot_shown}
-use Rattle.monitor.specs.Loadings.{KeepsFunction, Becomes, IsLoadable, filled_with, with_slot_nth}
-use Rattle.monitor.specs.Loads.{AreLoadable, CanLoad, IsLoaded, KeepsWorld, Takes, slot_loaded, slots_loaded, value_span}
-use Rattle.monitor.proofs.Landed.{same_count}
-use Rattle.monitor.proofs.Steps.{GuestAt, kept_latch, lone_named, slot_empty, slot_nth, with_named, with_same}
-use Rattle.monitor.proofs.Exchanges.{holds_nth}
-use Rattle.monitor.proofs.Calls.{Leaves, leaves}
-use Rattle.monitor.proofs.RestartSteps.{lone_set, none_set, requested, set_again}
-use Rattle.monitor.proofs.SavedImages.{few_slots, lone_is}
-use Rattle.monitor.proofs.LoadedSlots.{all_loaded, bytes_after, bytes_before, can_load, latch_there, loaded_lone, next_rest, one_more, reset_taken, reset_takes, reset_twice, rest_at, still_there}
+use Rattle.monitor.{specs.{declared.guest.{Held.Held, Guest.Guest}, ByIndex.{guest_nth, lone_nth, name_nth, with_lone_nth}, Configs.HoldsAt, Counts.{counted_nth, counts_of}, Keeping.{IsKept, IsSound}, Views.{machine_shown, slot_shown}, Loadings.{KeepsFunction, Becomes, IsLoadable, filled_with, with_slot_nth}, Loads.{AreLoadable, CanLoad, IsLoaded, KeepsWorld, Takes, slot_loaded, slots_loaded, value_span}}, proofs.{Landed.same_count, Steps.{GuestAt, kept_latch, lone_named, slot_empty, slot_nth, with_named, with_same}, Exchanges.holds_nth, Calls.{Leaves, leaves}, RestartSteps.{lone_set, none_set, requested, set_again}, SavedImages.{few_slots, lone_is}, LoadedSlots.{all_loaded, bytes_after, bytes_before, can_load, latch_there, loaded_lone, next_rest, one_more, reset_taken, reset_takes, reset_twice, rest_at, still_there}}}
 
 -- ---- a slot
 

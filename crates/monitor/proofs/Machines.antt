@@ -4,36 +4,13 @@
 --     by_name      after an event of a guest by its index
 --     refused_all, read_after      after an action that is refused, or one that reads
 --     stood, grew, both_grew      after an action that counts nobody, one guest, or two
-use Rattle.std.proofs.Common.{◌≡◌, ◌<◌, ℕ, Bool, true, false, not, ◌&&◌, ◌||◌, ◌==◌, cond, List, [], ◌∷◌, drop, take, length, map, ◌++◌, Some, None, Option, refl, sym, ap, ap₂, ◌∙◌, arith}
-use Rattle.std.specs.Prelude.{is_some}
-use Rattle.std.specs.Str.{bytes_eq}
-use Rattle.std.proofs.lemmas.Bool.Decides.{nat_tests}
-use Rattle.std.proofs.lemmas.List.{take_at}
+use Rattle.std.{proofs.{Common.{◌≡◌, ◌<◌, ℕ, Bool, true, false, not, ◌&&◌, ◌||◌, ◌==◌, cond, List, [], ◌∷◌, drop, take, length, map, ◌++◌, Some, None, Option, refl, sym, ap, ap₂, ◌∙◌, arith}, lemmas.{Bool.Decides.nat_tests, List.take_at}}, specs.{Prelude.is_some, Str.bytes_eq}}
 use Rattle.lists.proofs.Tests.{and_false}
 use Rattle.model_board.specs.State.{State}
-use Rattle.model_guests.specs.Accesses.{Access, access, Event, Op, reads, writes}
-use Rattle.model_guests.specs.Slots.{fault_of}
-use Rattle.model_guests.specs.Text.{Text}
-use Rattle.model_guests.specs.Lines.{guest_event}
-use Rattle.model_guests.specs.Lone.{LoneGuest, Destination, after_event, changed_by}
-use Rattle.model_guests.specs.World.{Guest as Declared, World}
-use Rattle.model_guests.specs.Guests.{GuestNow, GuestsNow, guest_at_first}
-use Rattle.model_guests.specs.WorldNow.{WorldNow, names_now, world_over}
-use Rattle.model_guests.specs.DeviceEvents.{DeviceByte, DeviceEvent, device_reads}
-use Rattle.model_guests.proofs.DeviceBytes.{reads_leave_guests}
-use Rattle.model_guests.specs.Calls.{asks, at_device}
-use Rattle.model_handoff.specs.StayLaws.{is_write}
-use Rattle.model_handoff.specs.Actions.{Action, calls, after_action}
-use Rattle.model_handoff.specs.Changes.{MachineNow, BeginsIn, after_on_machine, changes, counts_where, lands_own, moves_own}
+use Rattle.model_guests.{specs.{Accesses.{Access, access, Event, Op, reads, writes}, Slots.fault_of, Text.Text, Lines.guest_event, Lone.{LoneGuest, Destination, after_event, changed_by}, World.{Guest as Declared, World}, Guests.{GuestNow, GuestsNow, guest_at_first}, WorldNow.{WorldNow, names_now, world_over}, DeviceEvents.{DeviceByte, DeviceEvent, device_reads}, Calls.{asks, at_device}}, proofs.DeviceBytes.reads_leave_guests}
+use Rattle.model_handoff.specs.{StayLaws.is_write, Actions.{Action, calls, after_action}, Changes.{MachineNow, BeginsIn, after_on_machine, changes, counts_where, lands_own, moves_own}}
 use Rattle.host_bridge.specs.HostState.{HostState}
-use Rattle.monitor.specs.declared.guest.Guest.{Guest}
-use Rattle.monitor.specs.ByIndex.{lone_nth, name_nth, with_lone_nth}
-use Rattle.monitor.specs.Counts.{counts_of, counted_nth, counted_both, after_nth, after_access_nth, after_event_nth}
-use Rattle.monitor.specs.Keeping.{IsKept, IsSound}
-use Rattle.monitor.specs.Views.{machine_shown, world_shown}
-use Rattle.monitor.proofs.Calls.{Leaves, kept_in}
-use Rattle.monitor.proofs.Counts.{counted_one, counted_two, counts_alike, counts_none}
-use Rattle.monitor.proofs.Named.{changed_by_name, lone_by_name, nth_stands, same_nth}
+use Rattle.monitor.{specs.{declared.guest.Guest.Guest, ByIndex.{lone_nth, name_nth, with_lone_nth}, Counts.{counts_of, counted_nth, counted_both, after_nth, after_access_nth, after_event_nth}, Keeping.{IsKept, IsSound}, Views.{machine_shown, world_shown}}, proofs.{Calls.{Leaves, kept_in}, Counts.{counted_one, counted_two, counts_alike, counts_none}, Named.{changed_by_name, lone_by_name, nth_stands, same_nth}}}
 
 abbrev machine : WorldNow → List ℕ → MachineNow
 machine w ns = record { world = w; counts = ns }

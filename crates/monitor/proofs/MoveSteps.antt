@@ -1,36 +1,10 @@
 -- A move of a function in a world that is kept: the slot that it leaves, and the slot that it comes to.
-use Rattle.std.proofs.Common.{◌≡◌, ℕ, zero, suc, ◌||◌, not, cond, List, [], ◌∷◌, Some, None, Option, slice_get, slice_set, refl, sym, ap, ap₂, ◌∙◌, subst, arith, true, ◌<◌, rules}
-use Rattle.std.specs.Prelude.{is_some, nat_le, unwrap_or, IsSome}
-use Rattle.std.specs.Option.{option_map_or}
-use Rattle.std.proofs.lemmas.Bool.Decides.{nat_tests}
-use Rattle.model_board.specs.Paths.{Path}
-use Rattle.model_board.specs.State.{State}
-use Rattle.model_guests.specs.Text.{Text}
-use Rattle.model_guests.specs.Slots.{Slots, slot_at}
-use Rattle.model_guests.specs.Lone.{reset_guest}
-use Rattle.model_guests.specs.Guests.{GuestNow, GuestsNow, Move, after_move, function_in, guest_named, move_fault, path_in, with_slot_emptied, with_slot_filled, handed_over}
-use Rattle.model_guests.specs.WorldNow.{WorldNow}
-use Rattle.model_guests.proofs.MoveIndices.{moves}
-use Rattle.model_board.specs.AtReset.{board_at}
-use Rattle.model_guests.proofs.MovedFunctions.{move_resets_one_function}
-use Rattle.model_handoff.proofs.Served.{served_after_moves}
-use Rattle.model_handoff.proofs.Views.{reset_after_moves}
-use Rattle.model_guests.proofs.SeatedMoves.{seated_after_moves}
-use Rattle.model_guests.specs.Accesses.{done, refused}
-use Rattle.model_guests.specs.WorldNow.{move_reply}
-use Rattle.host_bridge.specs.ByIndex.{with_reset_nth}
-use Rattle.host_bridge.specs.HostState.{HostState, with_functions}
-use Rattle.monitor.specs.declared.guest.Held.{Held}
-use Rattle.monitor.specs.declared.guest.Guest.{Guest}
-use Rattle.monitor.specs.Keeping.{IsHeld, AreSlots, AreGuests}
-use Rattle.monitor.specs.ByIndex.{name_nth, guest_nth, lone_nth}
-use Rattle.monitor.specs.Moves.{move_nth, is_taken, fault_between, reset_held, HandsOver, HasSlot, IsExchanged}
-use Rattle.monitor.specs.Configs.{HoldsAt, IsHolding}
-use Rattle.monitor.proofs.Steps.{GuestOf, guests_set, named, GuestAt, SlotAt, function_by_name, function_there, guest_there, path_there, slot_nth, slots_lent, slots_put}
-use Rattle.monitor.proofs.Reached.{lawful}
-use Rattle.monitor.proofs.Calls.{Leaves, leaves}
-use Rattle.monitor.proofs.ResetSteps.{at_reset, board_reset, held_reset}
-use Rattle.monitor.proofs.Exchanges.{has_nth, held_same, holds_nth, items_are, latch_stays}
+use Rattle.std.{proofs.{Common.{◌≡◌, ℕ, zero, suc, ◌||◌, not, cond, List, [], ◌∷◌, Some, None, Option, slice_get, slice_set, refl, sym, ap, ap₂, ◌∙◌, subst, arith, true, ◌<◌, rules}, lemmas.Bool.Decides.nat_tests}, specs.{Prelude.{is_some, nat_le, unwrap_or, IsSome}, Option.option_map_or}}
+use Rattle.model_board.specs.{Paths.Path, State.State, AtReset.board_at}
+use Rattle.model_guests.{specs.{Text.Text, Slots.{Slots, slot_at}, Lone.reset_guest, Guests.{GuestNow, GuestsNow, Move, after_move, function_in, guest_named, move_fault, path_in, with_slot_emptied, with_slot_filled, handed_over}, WorldNow.{WorldNow, move_reply}, Accesses.{done, refused}}, proofs.{MoveIndices.moves, MovedFunctions.move_resets_one_function, SeatedMoves.seated_after_moves}}
+use Rattle.model_handoff.proofs.{Served.served_after_moves, Views.reset_after_moves}
+use Rattle.host_bridge.specs.{ByIndex.with_reset_nth, HostState.{HostState, with_functions}}
+use Rattle.monitor.{specs.{declared.guest.{Held.Held, Guest.Guest}, Keeping.{IsHeld, AreSlots, AreGuests}, ByIndex.{name_nth, guest_nth, lone_nth}, Moves.{move_nth, is_taken, fault_between, reset_held, HandsOver, HasSlot, IsExchanged}, Configs.{HoldsAt, IsHolding}}, proofs.{Steps.{GuestOf, guests_set, named, GuestAt, SlotAt, function_by_name, function_there, guest_there, path_there, slot_nth, slots_lent, slots_put}, Reached.lawful, Calls.{Leaves, leaves}, ResetSteps.{at_reset, board_reset, held_reset}, Exchanges.{has_nth, held_same, holds_nth, items_are, latch_stays}}}
 
 -- ---- slots
 

@@ -1,17 +1,9 @@
 -- A guest by its index is the guest of its name.
-use Rattle.std.proofs.Common.{◌≡◌, ℕ, ◌<◌, List, [], length, Some, Option, slice_get, sym, ap, ◌∙◌}
-use Rattle.std.specs.Option.{option_map_or}
+use Rattle.std.{proofs.Common.{◌≡◌, ℕ, ◌<◌, List, [], length, Some, Option, slice_get, sym, ap, ◌∙◌}, specs.Option.option_map_or}
 use Rattle.lists.proofs.Indices.{at_below, set_same}
-use Rattle.model_guests.specs.Lone.{reset_guest, LoneGuest}
-use Rattle.model_guests.specs.Guests.{GuestNow, GuestsNow, lone_of, with_guest}
-use Rattle.model_guests.specs.WorldNow.{WorldNow}
-use Rattle.model_guests.proofs.Along.{by_index}
-use Rattle.model_guests.specs.Text.{Text}
+use Rattle.model_guests.{specs.{Lone.{reset_guest, LoneGuest}, Guests.{GuestNow, GuestsNow, lone_of, with_guest}, WorldNow.WorldNow, Text.Text}, proofs.Along.by_index}
 use Rattle.host_bridge.specs.HostState.{HostState}
-use Rattle.monitor.specs.ByIndex.{guest_nth, name_nth, lone_nth, with_lone_nth}
-use Rattle.monitor.specs.declared.guest.Guest.{Guest}
-use Rattle.monitor.specs.Keeping.{IsKept}
-use Rattle.monitor.proofs.Steps.{nth_there}
+use Rattle.monitor.{specs.{ByIndex.{guest_nth, name_nth, lone_nth, with_lone_nth}, declared.guest.Guest.Guest, Keeping.IsKept}, proofs.Steps.nth_there}
 
 pub nth_stands : (w : WorldNow) (i : ℕ) → i < length w.guests → slice_get w.guests i ≡ Some (guest_nth w i)
 nth_stands w i inside = let one = at_below w.guests i inside in one.1 ∙ ap Some (nth_there w i one.0 one.1)

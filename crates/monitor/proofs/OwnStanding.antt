@@ -2,27 +2,13 @@
 --     six_standing      six regions with the bases of a file
 --     same_bases      their registers are those of the declared regions
 --     own_empty, own_there      a slot of a guest by its index
-use Rattle.std.proofs.Common.{◌≡◌, ◌+◌, ℕ, List, [], ◌∷◌, length, Some, None, Option, slice_get, refl, sym, ap, ap₂, ◌∙◌, subst, arith}
-use Rattle.std.specs.Prelude.{map, option_map, unwrap_or}
-use Rattle.model_registers.specs.Registers.{File}
-use Rattle.model_registers.specs.Declarations.{Region}
-use Rattle.model_registers.specs.EndpointTable.{BaseAddress}
-use Rattle.model_registers.specs.OwnCopies.{IsLawfulOwn}
-use Rattle.model_registers.specs.Decoding.{Function, base, base_address}
-use Rattle.model_board.specs.Paths.{Path}
-use Rattle.model_board.specs.State.{State}
-use Rattle.model_guests.specs.Slots.{slot_at}
-use Rattle.model_guests.specs.WorldNow.{WorldNow}
+use Rattle.std.{proofs.Common.{◌≡◌, ◌+◌, ℕ, List, [], ◌∷◌, length, Some, None, Option, slice_get, refl, sym, ap, ap₂, ◌∙◌, subst, arith}, specs.Prelude.{map, option_map, unwrap_or}}
+use Rattle.model_registers.specs.{Registers.File, Declarations.Region, EndpointTable.BaseAddress, OwnCopies.IsLawfulOwn, Decoding.{Function, base, base_address}}
+use Rattle.model_board.specs.{Paths.Path, State.State}
+use Rattle.model_guests.specs.{Slots.slot_at, WorldNow.WorldNow}
 use Rattle.bars.specs.declared.region.BasedRegion.{BasedRegion}
+use Rattle.monitor.{specs.{declared.{guest.{Held.Held, Guest.Guest}, own_registers.OwnRegisters.OwnRegisters}, Keeping.{IsHeld, AreSlots}, ByIndex.{guest_nth, lone_nth}, Queries.IsGuestNth, OwnTold.{own_now, own_told, standing}}, proofs.Steps.{slot_there, slot_empty}}
 use Rattle.bars.specs.Slots as bars
-use Rattle.monitor.specs.declared.guest.Held.{Held}
-use Rattle.monitor.specs.declared.guest.Guest.{Guest}
-use Rattle.monitor.specs.declared.own_registers.OwnRegisters.{OwnRegisters}
-use Rattle.monitor.specs.Keeping.{IsHeld, AreSlots}
-use Rattle.monitor.specs.ByIndex.{guest_nth, lone_nth}
-use Rattle.monitor.specs.Queries.{IsGuestNth}
-use Rattle.monitor.specs.OwnTold.{own_now, own_told, standing}
-use Rattle.monitor.proofs.Steps.{slot_there, slot_empty}
 
 -- ---- six registers
 

@@ -1,21 +1,13 @@
 -- Where an access at a guest's port goes, from the program's word, and a write of its own latch.
 use Rattle.std.proofs.Common.{◌≡◌, ℕ, false, [], None, refl, sym, List, Some, slice_get, slice_set, subst, arith}
 use Rattle.model_registers.specs.ConfigAddress.{is_address_port, latched}
-use Rattle.model_guests.specs.Accesses.{port, Op, reads, writes}
-use Rattle.model_guests.specs.Slots.{perform}
-use Rattle.model_guests.specs.Lone.{own_latch, no_function, reply_at, after_access_at, destination, by_select, ordinary, nowhere, in_slot}
+use Rattle.model_guests.specs.{Accesses.{port, Op, reads, writes}, Slots.perform, Lone.{own_latch, no_function, reply_at, after_access_at, destination, by_select, ordinary, nowhere, in_slot}, Text.Text, WorldNow.WorldNow}
+use Rattle.paths.specs.declared.latch.Select.{Select}
+use Rattle.host_bridge.specs.HostState.{HostState}
+use Rattle.monitor.{specs.{declared.guest.Guest.Guest, Keeping.IsKept, ByIndex.{lone_nth, with_lone_nth}}, proofs.{Steps.{GuestAt, kept_latch}, Calls.{Leaves, leaves}}}
 use Rattle.paths.specs.Latches as program
 use Rattle.model_guests.specs.Lone as lone
-use Rattle.model_guests.specs.Text.{Text}
-use Rattle.model_guests.specs.WorldNow.{WorldNow}
-use Rattle.paths.specs.declared.latch.Select.{Select}
 use Rattle.paths.specs.declared.latch.Select.TheVariants as select
-use Rattle.host_bridge.specs.HostState.{HostState}
-use Rattle.monitor.specs.declared.guest.Guest.{Guest}
-use Rattle.monitor.specs.Keeping.{IsKept}
-use Rattle.monitor.specs.ByIndex.{lone_nth, with_lone_nth}
-use Rattle.monitor.proofs.Steps.{GuestAt, kept_latch}
-use Rattle.monitor.proofs.Calls.{Leaves, leaves}
 
 abbrev pub named_select : Select → lone.Select
 named_select select.Ordinary = ordinary

@@ -1,35 +1,14 @@
 -- What is kept of a guest shows what its regions are, and what its accesses hit.
-use Rattle.std.proofs.Common.{◌≡◌, ◌≤◌, ◌<◌, ℕ, zero, suc, ◌+◌, ◌*◌, ◌/◌, Bool, false, cond, eqb, List, [], ◌∷◌, Some, None, Option, Err, slice_get, refl, sym, ap, ap₂, ◌∙◌, subst, arith, rules}
-use Rattle.std.specs.Prelude.{find, map, option_map, Result}
-use Rattle.std.specs.Option.{option_map_or, ok_or}
-use Rattle.std.proofs.lemmas.Bool.Decides.{nat_tests}
-use Rattle.lists.proofs.Indices.{found_at, index_in}
-use Rattle.lists.proofs.Members.{each_in, in_map}
-use Rattle.model_registers.specs.Registers.{config, File, read, number, all_bytes}
-use Rattle.model_registers.specs.ByteEnables.{lanes}
-use Rattle.model_registers.specs.Declarations.{Kind, mem64, Region, registers_of, IsLawfulRegion, HasLawfulRegions}
-use Rattle.model_registers.specs.EndpointTable.{BaseAddress}
-use Rattle.model_registers.specs.OwnCopies.{OwnCopies, HoldsOwn, IsLawfulOwn, handed_on, bare}
-use Rattle.model_registers.specs.Decoding.{Function, space_of, base, is_open, base_address}
-use Rattle.model_board.specs.Paths.{Path}
-use Rattle.model_board.specs.State.{State}
-use Rattle.model_board.specs.Ports.{file_at}
-use Rattle.model_guests.specs.Slots.{slot_at}
-use Rattle.model_guests.specs.Text.{Text}
-use Rattle.model_guests.specs.WorldNow.{WorldNow}
+use Rattle.std.{proofs.{Common.{◌≡◌, ◌≤◌, ◌<◌, ℕ, zero, suc, ◌+◌, ◌*◌, ◌/◌, Bool, false, cond, eqb, List, [], ◌∷◌, Some, None, Option, Err, slice_get, refl, sym, ap, ap₂, ◌∙◌, subst, arith, rules}, lemmas.Bool.Decides.nat_tests}, specs.{Prelude.{find, map, option_map, Result}, Option.{option_map_or, ok_or}}}
+use Rattle.lists.proofs.{Indices.{found_at, index_in}, Members.{each_in, in_map}}
+use Rattle.model_registers.specs.{Registers.{config, File, read, number, all_bytes}, ByteEnables.lanes, Declarations.{Kind, mem64, Region, registers_of, IsLawfulRegion, HasLawfulRegions}, EndpointTable.BaseAddress, OwnCopies.{OwnCopies, HoldsOwn, IsLawfulOwn, handed_on, bare}, Decoding.{Function, space_of, base, is_open, base_address}}
+use Rattle.model_board.specs.{Paths.Path, State.State, Ports.file_at}
+use Rattle.model_guests.specs.{Slots.slot_at, Text.Text, WorldNow.WorldNow}
 use Rattle.model_handoff.specs.GuestRegions.{RegionNow, is_prefetchable, region_now, region_at, region_of, region_answer}
 use Rattle.bars.specs.declared.region.BasedRegion.{BasedRegion}
-use Rattle.bars.specs.Slots as bars
 use Rattle.host_bridge.specs.HostState.{HostState}
-use Rattle.monitor.specs.declared.guest.Held.{Held}
-use Rattle.monitor.specs.declared.guest.Guest.{Guest}
-use Rattle.monitor.specs.Keeping.{IsHeld, AreSlots}
-use Rattle.monitor.specs.ByIndex.{guest_nth, lone_nth}
-use Rattle.monitor.specs.Queries.{IsGuestNth}
-use Rattle.monitor.specs.InSlots.{IsInSlot, IsSlotFault}
-use Rattle.monitor.proofs.Steps.{slot_there, GuestAt, lone_named, slot_nth}
-use Rattle.monitor.proofs.ConfigSteps.{seen}
-use Rattle.monitor.proofs.Checks.{low_slot}
+use Rattle.monitor.{specs.{declared.guest.{Held.Held, Guest.Guest}, Keeping.{IsHeld, AreSlots}, ByIndex.{guest_nth, lone_nth}, Queries.IsGuestNth, InSlots.{IsInSlot, IsSlotFault}}, proofs.{Steps.{slot_there, GuestAt, lone_named, slot_nth}, ConfigSteps.seen, Checks.low_slot}}
+use Rattle.bars.specs.Slots as bars
 
 -- ---- a base of 64 bits
 

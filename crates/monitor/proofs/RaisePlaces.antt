@@ -1,26 +1,12 @@
 -- The place that a raise names, by the regions that are kept at the indices of their registers.
-use Rattle.std.proofs.Common.{◌≡◌, ℕ, zero, suc, ◌+◌, ◌<◌, ◌&&◌, ◌||◌, Bool, true, false, cond, eqb, List, [], ◌∷◌, Some, None, Option, refl, sym, ap, ◌∙◌, arith}
-use Rattle.std.specs.Prelude.{map, is_some, nat_lt, slice_get}
-use Rattle.std.specs.List.{list_any}
-use Rattle.std.specs.Option.{option_map_or}
-use Rattle.std.proofs.lemmas.Bool.Decides.{nat_tests}
-use Rattle.model_registers.specs.Registers.{Place, block, File, raise}
-use Rattle.model_registers.specs.Declarations.{Region}
-use Rattle.model_registers.specs.EndpointTable.{BaseAddress}
-use Rattle.model_registers.specs.OwnCopies.{is_own}
-use Rattle.model_registers.specs.Decoding.{Function, base_address}
-use Rattle.model_board.specs.Paths.{Path}
-use Rattle.model_board.specs.State.{BoardFunction, with_file, State}
-use Rattle.model_board.specs.Ports.{file_at}
-use Rattle.model_guests.specs.Accesses.{in_region}
-use Rattle.model_guests.specs.Slots.{raise_place}
-use Rattle.bars.specs.Slots.{bases_from, slot_at}
-use Rattle.bars.specs.declared.region.BasedRegion.{BasedRegion}
+use Rattle.std.{proofs.{Common.{◌≡◌, ℕ, zero, suc, ◌+◌, ◌<◌, ◌&&◌, ◌||◌, Bool, true, false, cond, eqb, List, [], ◌∷◌, Some, None, Option, refl, sym, ap, ◌∙◌, arith}, lemmas.Bool.Decides.nat_tests}, specs.{Prelude.{map, is_some, nat_lt, slice_get}, List.list_any, Option.option_map_or}}
+use Rattle.model_registers.specs.{Registers.{Place, block, File, raise}, Declarations.Region, EndpointTable.BaseAddress, OwnCopies.is_own, Decoding.{Function, base_address}}
+use Rattle.model_board.specs.{Paths.Path, State.{BoardFunction, with_file, State}, Ports.file_at}
+use Rattle.model_guests.specs.{Accesses.in_region, Slots.raise_place}
+use Rattle.bars.specs.{Slots.{bases_from, slot_at}, declared.region.BasedRegion.BasedRegion}
 use Rattle.bridge_forward.proofs.Changes.{same_files}
 use Rattle.host_bridge.specs.ByIndex.{with_file_nth}
-use Rattle.monitor.specs.declared.guest.Held.{Held}
-use Rattle.monitor.specs.Keeping.{IsHeld}
-use Rattle.monitor.specs.Raises.{raised_beside_copies}
+use Rattle.monitor.specs.{declared.guest.Held.Held, Keeping.IsHeld, Raises.raised_beside_copies}
 
 -- ---- a region in the six registers
 

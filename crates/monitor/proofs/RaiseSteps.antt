@@ -1,37 +1,15 @@
 -- A raise of bits of a function in a slot: the checks in their order, and the world after it.
-use Rattle.std.proofs.Common.{◌≡◌, ◌≤◌, ℕ, Bool, true, false, cond, List, Some, None, Option, refl, sym, ap, ◌∙◌, subst, rules, arith}
-use Rattle.std.specs.Prelude.{is_some, not, if◌then◌else◌}
-use Rattle.std.specs.Option.{option_map_or}
+use Rattle.std.{proofs.Common.{◌≡◌, ◌≤◌, ℕ, Bool, true, false, cond, List, Some, None, Option, refl, sym, ap, ◌∙◌, subst, rules, arith}, specs.{Prelude.{is_some, not, if◌then◌else◌}, Option.option_map_or}}
 use Rattle.lists.proofs.Indices.{set_same}
-use Rattle.model_registers.specs.Cell.{raised}
-use Rattle.model_registers.specs.Registers.{File, raise}
-use Rattle.model_registers.specs.Decoding.{Function}
-use Rattle.model_board.specs.Paths.{Path}
-use Rattle.model_board.specs.State.{State}
-use Rattle.model_guests.specs.Accesses.{Raise, raises, done, refused}
-use Rattle.model_guests.specs.Slots.{raise_place, raise_fault, affected}
-use Rattle.model_guests.specs.Lone.{answer, after_event}
-use Rattle.model_guests.specs.WorldNow.{WorldNow}
-use Rattle.model_guests.specs.ChangeLaws.{with_slot_changed}
-use Rattle.model_guests.proofs.AgreedFiles.{raises_alike}
-use Rattle.model_guests.specs.Text.{Text}
+use Rattle.model_registers.specs.{Cell.raised, Registers.{File, raise}, Decoding.Function}
+use Rattle.model_board.specs.{Paths.Path, State.State}
+use Rattle.model_guests.{specs.{Accesses.{Raise, raises, done, refused}, Slots.{raise_place, raise_fault, affected}, Lone.{answer, after_event}, WorldNow.WorldNow, ChangeLaws.with_slot_changed, Text.Text}, proofs.{AgreedFiles.raises_alike, Seats.changed_shape}}
 use Rattle.guest_functions.proofs.HeldCopies.{raised_held}
-use Rattle.headers.specs.declared.place.Place as headers
 use Rattle.headers.specs.Places.{place_of}
-use Rattle.host_bridge.specs.ByIndex.{with_file_nth}
-use Rattle.host_bridge.specs.HostState.{HostState, with_functions}
+use Rattle.host_bridge.specs.{ByIndex.with_file_nth, HostState.{HostState, with_functions}}
 use Rattle.accesses.specs.Accesses.{part_of}
-use Rattle.monitor.specs.declared.guest.Held.{Held}
-use Rattle.monitor.specs.declared.guest.Guest.{Guest}
-use Rattle.monitor.specs.Keeping.{IsKept, IsHeld}
-use Rattle.monitor.specs.ByIndex.{lone_nth, with_lone_nth, guest_nth}
-use Rattle.monitor.specs.Raises.{raised_beside_copies}
-use Rattle.monitor.specs.InSlots.{IsSlotFault}
-use Rattle.monitor.proofs.Steps.{with_guest_at, kept_slot, GuestAt, SlotAt, fault_lent, in_place, with_same}
-use Rattle.monitor.proofs.Reached.{changed_held}
-use Rattle.model_guests.proofs.Seats.{changed_shape}
-use Rattle.monitor.proofs.Calls.{Leaves, leaves}
-use Rattle.monitor.proofs.Checks.{low_slot, passes_slot, refused_first}
+use Rattle.monitor.{specs.{declared.guest.{Held.Held, Guest.Guest}, Keeping.{IsKept, IsHeld}, ByIndex.{lone_nth, with_lone_nth, guest_nth}, Raises.raised_beside_copies, InSlots.IsSlotFault}, proofs.{Steps.{with_guest_at, kept_slot, GuestAt, SlotAt, fault_lent, in_place, with_same}, Reached.changed_held, Calls.{Leaves, leaves}, Checks.{low_slot, passes_slot, refused_first}}}
+use Rattle.headers.specs.declared.place.Place as headers
 
 abbrev pub raise_of : ℕ → headers.Place → ℕ → ℕ → Raise
 raise_of slot place off mask = record { slot = slot; part = part_of place; offset = off; mask = mask }

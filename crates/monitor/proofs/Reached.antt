@@ -1,56 +1,15 @@
 -- A guest's address on the board: where it lands, the claim there, and what is read and written.
-use Rattle.std.proofs.Common.{◌≡◌, ℕ, ◌+◌, ◌%◌, ◌<◌, Bool, true, List, [], ◌∷◌, Some, Option, slice_get, refl, sym, ap, ap₂, ◌∙◌, subst, arith, None, rules}
-use Rattle.std.specs.Prelude.{find, map, IsTrue, option_map, IsSome}
-use Rattle.std.specs.Option.{option_map_or}
-use Rattle.std.proofs.lemmas.Option.{slice_get_within}
-use Rattle.lists.specs.Elements.{EachPair, IsIn}
-use Rattle.lists.proofs.Tests.{and_true}
-use Rattle.lists.proofs.Members.{each_in}
+use Rattle.std.{proofs.{Common.{◌≡◌, ℕ, ◌+◌, ◌%◌, ◌<◌, Bool, true, List, [], ◌∷◌, Some, Option, slice_get, refl, sym, ap, ap₂, ◌∙◌, subst, arith, None, rules}, lemmas.Option.slice_get_within}, specs.{Prelude.{find, map, IsTrue, option_map, IsSome}, Option.option_map_or}}
+use Rattle.lists.{specs.Elements.{EachPair, IsIn}, proofs.{Tests.and_true, Members.each_in, Indices.each_at, EachLemmas.pairs_from_map}}
 use Rattle.model_findings.specs.Found.{address_now}
-use Rattle.model_registers.specs.Registers.{Place, block, File, read, all_bytes, number}
-use Rattle.model_registers.specs.ByteEnables.{IsWidth}
-use Rattle.model_registers.specs.OwnCopies.{handed_on}
-use Rattle.model_registers.specs.Declarations.{Region}
-use Rattle.model_registers.specs.Decoding.{Space, space_of}
-use Rattle.model_board.specs.Paths.{Path, path_eq, path_before}
-use Rattle.model_board.specs.Board.{endpoint, Row, Board, IsBoard}
-use Rattle.model_board.specs.State.{BoardFunction, row_at, State}
-use Rattle.model_board.specs.Claims.{claim_at}
-use Rattle.model_board.specs.AtReset.{board_at}
-use Rattle.model_board.specs.Ports.{claim_reply, file_at}
-use Rattle.model_registers.specs.CopiedFiles.{after_reset, agreed_file, places_of}
-use Rattle.model_guests.specs.Slots.{slot_at}
-use Rattle.model_guests.specs.WorldNow.{WorldNow, board_state}
-use Rattle.model_guests.specs.AgreedBoard.{with_change_at}
-use Rattle.model_guests.specs.Seated.{IsSeat, IsSeatedAt, IsSeatedGuest}
-use Rattle.model_guests.proofs.GuestsByName.{path_at}
-use Rattle.lists.proofs.Indices.{each_at}
-use Rattle.lists.proofs.EachLemmas.{pairs_from_map}
-use Rattle.model_registers.specs.DeclarationRules.{IsLawfulEndpoint}
-use Rattle.model_guests.proofs.DeclaredRows.{declared_row}
-use Rattle.model_guests.proofs.Seats.{seats_at}
-use Rattle.model_guests.proofs.AgreedFiles.{shows_file}
-use Rattle.model_guests.specs.Text.{Text}
-use Rattle.model_handoff.specs.Regions.{base_in, opens_region}
-use Rattle.model_handoff.specs.RegionLaws.{HasSlot, ReachesOver}
-use Rattle.model_handoff.proofs.Accesses.{reached_is}
-use Rattle.model_handoff.proofs.Keeping.{keeps_board}
-use Rattle.model_handoff.proofs.Regions.{hit_reaches_over, region_is_claimed}
+use Rattle.model_registers.specs.{Registers.{Place, block, File, read, all_bytes, number}, ByteEnables.IsWidth, OwnCopies.handed_on, Declarations.Region, Decoding.{Space, space_of}, CopiedFiles.{after_reset, agreed_file, places_of}, DeclarationRules.IsLawfulEndpoint}
+use Rattle.model_board.specs.{Paths.{Path, path_eq, path_before}, Board.{endpoint, Row, Board, IsBoard}, State.{BoardFunction, row_at, State}, Claims.claim_at, AtReset.board_at, Ports.{claim_reply, file_at}}
+use Rattle.model_guests.{specs.{Slots.slot_at, WorldNow.{WorldNow, board_state}, AgreedBoard.with_change_at, Seated.{IsSeat, IsSeatedAt, IsSeatedGuest}, Text.Text}, proofs.{GuestsByName.path_at, DeclaredRows.declared_row, Seats.seats_at, AgreedFiles.shows_file}}
+use Rattle.model_handoff.{specs.{Regions.{base_in, opens_region}, RegionLaws.{HasSlot, ReachesOver}}, proofs.{Accesses.reached_is, Keeping.keeps_board, Regions.{hit_reaches_over, region_is_claimed}}}
 use Rattle.bars.specs.Hits.{hit_in}
-use Rattle.bridge_forward.specs.declared.bus.Located.{Located}
-use Rattle.bridge_forward.specs.Locating.{located_claim}
-use Rattle.bridge_forward.specs.Lending.{as_endpoint, endpoint_nth}
-use Rattle.host_bridge.specs.ByIndex.{file_nth, with_file_nth, with_reset_nth}
-use Rattle.host_bridge.specs.HostState.{HostState, with_functions}
-use Rattle.host_bridge.specs.Landings.{IsLanding, IsReached}
-use Rattle.host_bridge.proofs.Lent.{HasDistinctPaths, distinct_paths}
-use Rattle.host_bridge.proofs.ByIndex.{found_at}
-use Rattle.monitor.specs.declared.guest.Held.{Held}
-use Rattle.monitor.specs.declared.guest.Guest.{Guest}
-use Rattle.monitor.specs.Reaches.{LandsIn}
-use Rattle.monitor.specs.ByIndex.{guest_nth, lone_nth, name_nth}
-use Rattle.monitor.proofs.Shown.{board_there, file_named, same_as_left, lawful_at}
-use Rattle.monitor.proofs.Steps.{named, GuestAt, SlotAt, function_there, path_there, slot_nth}
+use Rattle.bridge_forward.specs.{declared.bus.Located.Located, Locating.located_claim, Lending.{as_endpoint, endpoint_nth}}
+use Rattle.host_bridge.{specs.{ByIndex.{file_nth, with_file_nth, with_reset_nth}, HostState.{HostState, with_functions}, Landings.{IsLanding, IsReached}}, proofs.{Lent.{HasDistinctPaths, distinct_paths}, ByIndex.found_at}}
+use Rattle.monitor.{specs.{declared.guest.{Held.Held, Guest.Guest}, Reaches.LandsIn, ByIndex.{guest_nth, lone_nth, name_nth}}, proofs.{Shown.{board_there, file_named, same_as_left, lawful_at}, Steps.{named, GuestAt, SlotAt, function_there, path_there, slot_nth}}}
 
 -- ---- paths of the board
 

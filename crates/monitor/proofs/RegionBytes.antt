@@ -1,41 +1,15 @@
 -- An access of one byte of a region by slot and register: the checks in their order, where it lands, and the machine after it.
-use Rattle.std.proofs.Common.{◌≡◌, ◌<◌, ℕ, Bool, true, false, cond, eqb, List, [], Some, None, Option, Ok, Err, refl, sym, ap, ◌∙◌, subst, arith}
-use Rattle.std.specs.Prelude.{nat_lt, option_map, Result}
-use Rattle.std.specs.Option.{option_map_or, ok_or}
-use Rattle.std.proofs.lemmas.Bool.Decides.{nat_tests}
-use Rattle.lists.specs.Elements.{IsIn}
-use Rattle.lists.proofs.Indices.{found_at, index_in}
-use Rattle.model_registers.specs.OwnCopies.{IsLawfulOwn}
-use Rattle.model_registers.specs.Declarations.{Region}
-use Rattle.model_registers.specs.Decoding.{Function, space_of, is_open}
-use Rattle.model_board.specs.Paths.{Path}
-use Rattle.model_board.specs.State.{State}
-use Rattle.model_guests.specs.Accesses.{RaisePlace, in_config, in_region, Op, reads, writes, refused}
-use Rattle.model_guests.specs.Slots.{slot_at, perform}
-use Rattle.model_guests.specs.Lone.{LoneGuest}
-use Rattle.model_guests.specs.Text.{Text}
-use Rattle.model_guests.specs.WorldNow.{WorldNow}
-use Rattle.model_guests.specs.DeviceEvents.{DeviceByte}
-use Rattle.model_handoff.specs.GuestRegions.{RegionNow, region_at, region_now}
-use Rattle.model_handoff.specs.RegionBytes.{opening, byte_opening, byte_reply, reply_there, after_there, register_of}
-use Rattle.model_handoff.specs.Changes.{MachineNow}
-use Rattle.headers.specs.declared.place.Place as headers
+use Rattle.std.{proofs.{Common.{◌≡◌, ◌<◌, ℕ, Bool, true, false, cond, eqb, List, [], Some, None, Option, Ok, Err, refl, sym, ap, ◌∙◌, subst, arith}, lemmas.Bool.Decides.nat_tests}, specs.{Prelude.{nat_lt, option_map, Result}, Option.{option_map_or, ok_or}}}
+use Rattle.lists.{specs.Elements.IsIn, proofs.Indices.{found_at, index_in}}
+use Rattle.model_registers.specs.{OwnCopies.IsLawfulOwn, Declarations.Region, Decoding.{Function, space_of, is_open}}
+use Rattle.model_board.specs.{Paths.Path, State.State}
+use Rattle.model_guests.specs.{Accesses.{RaisePlace, in_config, in_region, Op, reads, writes, refused}, Slots.{slot_at, perform}, Lone.LoneGuest, Text.Text, WorldNow.WorldNow, DeviceEvents.DeviceByte}
+use Rattle.model_handoff.specs.{GuestRegions.{RegionNow, region_at, region_now}, RegionBytes.{opening, byte_opening, byte_reply, reply_there, after_there, register_of}, Changes.MachineNow}
 use Rattle.bridge_forward.specs.declared.bus.Located.{Located}
-use Rattle.host_bridge.specs.HostState.{HostState}
-use Rattle.host_bridge.specs.Landings.{IsLanding}
+use Rattle.host_bridge.specs.{HostState.HostState, Landings.IsLanding}
 use Rattle.accesses.specs.Accesses.{part_of}
-use Rattle.monitor.specs.declared.guest.Held.{Held}
-use Rattle.monitor.specs.declared.guest.Guest.{Guest}
-use Rattle.monitor.specs.ByIndex.{lone_nth, with_lone_nth}
-use Rattle.monitor.specs.Counts.{after_byte_nth}
-use Rattle.monitor.specs.Keeping.{IsHeld}
-use Rattle.monitor.specs.DeviceBytes.{device_byte}
-use Rattle.monitor.specs.InSlots.{IsInSlot, IsSlotFault}
-use Rattle.monitor.proofs.Steps.{GuestAt, SlotAt, slot_lent, slots_lent, with_same}
-use Rattle.monitor.proofs.Reached.{byte_landing_there}
-use Rattle.monitor.proofs.ConfigSteps.{seen}
-use Rattle.monitor.proofs.Checks.{low_slot}
-use Rattle.monitor.proofs.Machines.{untouched}
+use Rattle.monitor.{specs.{declared.guest.{Held.Held, Guest.Guest}, ByIndex.{lone_nth, with_lone_nth}, Counts.after_byte_nth, Keeping.IsHeld, DeviceBytes.device_byte, InSlots.{IsInSlot, IsSlotFault}}, proofs.{Steps.{GuestAt, SlotAt, slot_lent, slots_lent, with_same}, Reached.byte_landing_there, ConfigSteps.seen, Checks.low_slot, Machines.untouched}}
+use Rattle.headers.specs.declared.place.Place as headers
 
 -- ---- what is told of a region, and what it opens
 

@@ -1,38 +1,13 @@
 -- A read and a write of the region where a guest's address lands.
-use Rattle.std.proofs.Common.{◌≡◌, ℕ, ◌%◌, List, [], Some, None, Option, refl, sym, ap, ◌∙◌, subst, arith}
-use Rattle.std.specs.Option.{option_map_or}
-use Rattle.std.specs.Prelude.{option_map}
+use Rattle.std.{proofs.Common.{◌≡◌, ℕ, ◌%◌, List, [], Some, None, Option, refl, sym, ap, ◌∙◌, subst, arith}, specs.{Option.option_map_or, Prelude.option_map}}
 use Rattle.lists.proofs.Indices.{set_same}
-use Rattle.model_registers.specs.ByteEnables.{IsWidth}
-use Rattle.model_registers.specs.Registers.{block, File, write, all_bytes, number}
-use Rattle.model_registers.specs.Decoding.{Space, io, memory, Function}
-use Rattle.model_board.specs.State.{State}
-use Rattle.model_board.specs.Claims.{Claim}
-use Rattle.model_board.specs.Ports.{claim_reply, after_claim_write}
-use Rattle.model_guests.specs.Accesses.{answered, Op, reads, writes}
-use Rattle.model_board.specs.Paths.{Path}
-use Rattle.model_guests.specs.Slots.{Slots, Landing, landing, landing_from, perform, effect}
-use Rattle.model_guests.specs.Lone.{at_target, reply_at, after_access_at, Destination}
-use Rattle.model_guests.specs.WorldNow.{WorldNow}
-use Rattle.model_guests.specs.ChangeLaws.{ChangesAlike}
-use Rattle.model_guests.proofs.AgreedFiles.{writes_alike}
-use Rattle.model_guests.proofs.Seats.{written_shape}
-use Rattle.model_guests.specs.Text.{Text}
+use Rattle.model_registers.specs.{ByteEnables.IsWidth, Registers.{block, File, write, all_bytes, number}, Decoding.{Space, io, memory, Function}}
+use Rattle.model_board.specs.{State.State, Claims.Claim, Ports.{claim_reply, after_claim_write}, Paths.Path}
+use Rattle.model_guests.{specs.{Accesses.{answered, Op, reads, writes}, Slots.{Slots, Landing, landing, landing_from, perform, effect}, Lone.{at_target, reply_at, after_access_at, Destination}, WorldNow.WorldNow, ChangeLaws.ChangesAlike, Text.Text}, proofs.{AgreedFiles.writes_alike, Seats.written_shape}}
 use Rattle.guest_functions.proofs.HeldCopies.{block_written_held}
-use Rattle.bridge_forward.specs.declared.bus.Located.{Located}
-use Rattle.bridge_forward.specs.Locating.{located_claim}
-use Rattle.host_bridge.specs.HostState.{HostState, with_functions}
-use Rattle.host_bridge.specs.Landings.{IsLanding}
-use Rattle.monitor.specs.declared.guest.Guest.{Guest}
-use Rattle.monitor.specs.Keeping.{AreSlots}
-use Rattle.monitor.specs.ByIndex.{lone_nth, with_lone_nth, guest_nth}
-use Rattle.monitor.specs.Landings.{landing_of}
-use Rattle.monitor.specs.Reaches.{LandsIn, target_in}
-use Rattle.monitor.specs.declared.guest.Held.{Held}
-use Rattle.monitor.specs.Configs.{IsHolding}
-use Rattle.monitor.proofs.Steps.{kept_slot, GuestAt, SlotAt, in_place, slots_lent, with_same}
-use Rattle.monitor.proofs.Reached.{all_handed, block_shown, landed, claim_by_index, is_landing, lands_at}
-use Rattle.monitor.proofs.Calls.{Leaves, leaves}
+use Rattle.bridge_forward.specs.{declared.bus.Located.Located, Locating.located_claim}
+use Rattle.host_bridge.specs.{HostState.{HostState, with_functions}, Landings.IsLanding}
+use Rattle.monitor.{specs.{declared.guest.{Guest.Guest, Held.Held}, Keeping.AreSlots, ByIndex.{lone_nth, with_lone_nth, guest_nth}, Landings.landing_of, Reaches.{LandsIn, target_in}, Configs.IsHolding}, proofs.{Steps.{kept_slot, GuestAt, SlotAt, in_place, slots_lent, with_same}, Reached.{all_handed, block_shown, landed, claim_by_index, is_landing, lands_at}, Calls.{Leaves, leaves}}}
 
 -- ---- where an access lands
 

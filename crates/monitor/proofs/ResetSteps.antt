@@ -1,43 +1,13 @@
 -- A reset of a function in a slot, and the board after it.
-use Rattle.std.proofs.Common.{◌≡◌, ◌≤◌, ℕ, false, cond, List, Some, None, Option, slice_set, refl, sym, ap, ◌∙◌, subst}
-use Rattle.std.specs.Prelude.{is_some}
-use Rattle.std.specs.Option.{option_map_or}
+use Rattle.std.{proofs.Common.{◌≡◌, ◌≤◌, ℕ, false, cond, List, Some, None, Option, slice_set, refl, sym, ap, ◌∙◌, subst}, specs.{Prelude.is_some, Option.option_map_or}}
 use Rattle.lists.proofs.EachLemmas.{each_map}
-use Rattle.model_registers.specs.Decoding.{Function}
-use Rattle.model_registers.specs.CopiedFiles.{after_reset}
-use Rattle.model_registers.specs.EndpointTable.{BaseAddress, endpoint_reset}
-use Rattle.model_registers.specs.Declarations.{ConfigBlock}
-use Rattle.model_registers.specs.OwnCopies.{HoldsOwn}
-use Rattle.model_registers.specs.DeclarationRules.{IsConfigBlock, IsLawfulEndpoint}
-use Rattle.model_registers.proofs.Owned.{reset_holds_own}
-use Rattle.model_guests.specs.Accesses.{done, refused}
-use Rattle.model_guests.specs.Lone.{LoneGuest}
-use Rattle.model_guests.specs.Guests.{GuestsNow, lone_of}
-use Rattle.model_guests.specs.WorldNow.{WorldNow, board_state}
-use Rattle.model_guests.specs.AgreedBoard.{with_change_at}
-use Rattle.model_board.specs.AtReset.{board_at}
-use Rattle.model_board.specs.State.{State}
-use Rattle.model_board.specs.Paths.{Path}
-use Rattle.model_guests.specs.Text.{Text}
-use Rattle.model_guests.specs.DeviceEvents.{resets, slot_fault, device_answer, after_device_event, device_after, DeviceEvent, device_changed, device_fault, device_performed}
-use Rattle.model_guests.proofs.Resets.{taken_passes, reset_there, answer_there}
-use Rattle.model_guests.proofs.DeviceSeats.{seated_after}
-use Rattle.model_guests.proofs.Resets.{reset_reaches_board}
-use Rattle.model_guests.specs.DeviceEvents.{after_device}
+use Rattle.model_registers.{specs.{Decoding.Function, CopiedFiles.after_reset, EndpointTable.{BaseAddress, endpoint_reset}, Declarations.ConfigBlock, OwnCopies.HoldsOwn, DeclarationRules.{IsConfigBlock, IsLawfulEndpoint}}, proofs.Owned.reset_holds_own}
+use Rattle.model_guests.{specs.{Accesses.{done, refused}, Lone.LoneGuest, Guests.{GuestsNow, lone_of}, WorldNow.{WorldNow, board_state}, AgreedBoard.with_change_at, Text.Text, DeviceEvents.{resets, slot_fault, device_answer, after_device_event, device_after, DeviceEvent, device_changed, device_fault, device_performed, after_device}}, proofs.{Resets.{taken_passes, reset_there, answer_there, reset_reaches_board}, DeviceSeats.seated_after}}
+use Rattle.model_board.specs.{AtReset.board_at, State.State, Paths.Path}
 use Rattle.bars.proofs.Regions.{no_base_opened}
 use Rattle.guest_functions.proofs.ResetCopies.{closed_as_opened}
-use Rattle.host_bridge.specs.ByIndex.{with_reset_nth}
-use Rattle.host_bridge.specs.HostState.{HostState, with_functions}
-use Rattle.monitor.specs.declared.guest.Held.{Held}
-use Rattle.monitor.specs.declared.guest.Guest.{Guest}
-use Rattle.monitor.specs.Keeping.{IsKept, IsHeld}
-use Rattle.monitor.specs.ByIndex.{lone_nth, with_lone_nth, name_nth}
-use Rattle.monitor.specs.Moves.{reset_held, HandsOver, IsExchanged}
-use Rattle.monitor.proofs.Steps.{GuestAt, SlotAt, function_there, kept_put, lone_named, path_there, with_named, with_same}
-use Rattle.monitor.proofs.Calls.{Leaves, leaves}
-use Rattle.monitor.proofs.Exchanges.{exchanged_twice, held_same, items_are, latch_stays}
-use Rattle.monitor.proofs.Reached.{lawful, reset_of_held}
-use Rattle.monitor.proofs.Checks.{low_slot}
+use Rattle.host_bridge.specs.{ByIndex.with_reset_nth, HostState.{HostState, with_functions}}
+use Rattle.monitor.{specs.{declared.guest.{Held.Held, Guest.Guest}, Keeping.{IsKept, IsHeld}, ByIndex.{lone_nth, with_lone_nth, name_nth}, Moves.{reset_held, HandsOver, IsExchanged}}, proofs.{Steps.{GuestAt, SlotAt, function_there, kept_put, lone_named, path_there, with_named, with_same}, Calls.{Leaves, leaves}, Exchanges.{exchanged_twice, held_same, items_are, latch_stays}, Reached.{lawful, reset_of_held}, Checks.low_slot}}
 
 abbrev pub at_reset : Function → Function
 at_reset f = record { decl = f.decl; file = endpoint_reset f.decl false }

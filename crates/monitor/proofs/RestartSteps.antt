@@ -8,45 +8,14 @@
 --     slots_restarted, latch_cleared      the world with such slots of it, or with its latch clear
 --     goes_on, ends, both, kept_clear      slot after slot, to the last; and the latch before them
 --     requested, restarted      the machine after a call that counts this guest alone, and after the restart
-use Rattle.std.proofs.Common.{◌≡◌, ◌≤◌, ◌<◌, ◌+◌, ◌&&◌, ℕ, zero, suc, Bool, true, List, [], ◌∷◌, length, Some, None, Option, slice_get, slice_set, refl, sym, ap, ap₂, ◌∙◌, subst, arith}
-use Rattle.std.specs.Prelude.{map, unwrap_or}
-use Rattle.std.specs.Option.{option_map_or}
-use Rattle.std.specs.Str.{bytes_eq}
-use Rattle.std.proofs.lemmas.List.{set-set, set-get_or}
-use Rattle.std.proofs.lemmas.Option.{unwrap_or-slice_get}
-use Rattle.lists.proofs.Indices.{get_set, set_same}
-use Rattle.lists.proofs.Tests.{and_true}
+use Rattle.std.{proofs.{Common.{◌≡◌, ◌≤◌, ◌<◌, ◌+◌, ◌&&◌, ℕ, zero, suc, Bool, true, List, [], ◌∷◌, length, Some, None, Option, slice_get, slice_set, refl, sym, ap, ap₂, ◌∙◌, subst, arith}, lemmas.{List.{set-set, set-get_or}, Option.unwrap_or-slice_get}}, specs.{Prelude.{map, unwrap_or}, Option.option_map_or, Str.bytes_eq}}
+use Rattle.lists.proofs.{Indices.{get_set, set_same}, Tests.and_true}
 use Rattle.model_registers.specs.Decoding.{Function}
-use Rattle.model_guests.specs.Text.{Text}
-use Rattle.model_guests.specs.Slots.{Slots, slot_at}
-use Rattle.model_guests.specs.Lone.{LoneGuest, filled}
-use Rattle.model_guests.specs.Guests.{GuestNow, GuestsNow, lone_of}
-use Rattle.model_guests.specs.WorldNow.{WorldNow, names_now}
-use Rattle.model_guests.specs.DeviceEvents.{after_device, reset_in, resets}
-use Rattle.model_guests.proofs.Resets.{reset_there}
-use Rattle.model_images.specs.Images.{Image, after_restart, at_reset, function_at_reset, image_of_lone, loaded}
-use Rattle.model_images.specs.Requests.{restarts}
-use Rattle.model_images.specs.RequestLaws.{after_request_on_machine}
-use Rattle.model_images.proofs.Loading.{lone_reset_back}
+use Rattle.model_guests.{specs.{Text.Text, Slots.{Slots, slot_at}, Lone.{LoneGuest, filled}, Guests.{GuestNow, GuestsNow, lone_of}, WorldNow.{WorldNow, names_now}, DeviceEvents.{after_device, reset_in, resets}}, proofs.Resets.reset_there}
+use Rattle.model_images.{specs.{Images.{Image, after_restart, at_reset, function_at_reset, image_of_lone, loaded}, Requests.restarts, RequestLaws.after_request_on_machine}, proofs.Loading.lone_reset_back}
 use Rattle.model_handoff.specs.Changes.{after_change, counts_where, MachineNow}
 use Rattle.host_bridge.specs.HostState.{HostState}
-use Rattle.monitor.specs.declared.guest.Held.{Held}
-use Rattle.monitor.specs.declared.guest.Guest.{Guest}
-use Rattle.monitor.specs.ByIndex.{guest_nth, lone_nth, name_nth, with_lone_nth}
-use Rattle.monitor.specs.Counts.{counted_nth, counts_of}
-use Rattle.monitor.specs.Keeping.{IsKept, IsSound}
-use Rattle.monitor.specs.Views.{machine_shown}
-use Rattle.monitor.specs.Moves.{HandsOver, IsExchanged}
-use Rattle.monitor.specs.Restarts.{slots_at_reset}
-use Rattle.monitor.proofs.Steps.{GuestAt, SlotAt, kept_latch, lone_named, nth_there, slot_empty, slots_count, with_named, with_same}
-use Rattle.monitor.proofs.Landed.{same_count}
-use Rattle.monitor.proofs.Calls.{Leaves, kept_in}
-use Rattle.monitor.proofs.Counts.{counted_one, counts_alike}
-use Rattle.monitor.proofs.Named.{nth_stands}
-use Rattle.monitor.proofs.Checks.{low_slot}
-use Rattle.monitor.proofs.Exchanges.{before_is, items_are, latch_stays}
-use Rattle.monitor.proofs.Reached.{seated}
-use Rattle.monitor.proofs.ResetSteps.{device_named, reset_left}
+use Rattle.monitor.{specs.{declared.guest.{Held.Held, Guest.Guest}, ByIndex.{guest_nth, lone_nth, name_nth, with_lone_nth}, Counts.{counted_nth, counts_of}, Keeping.{IsKept, IsSound}, Views.machine_shown, Moves.{HandsOver, IsExchanged}, Restarts.slots_at_reset}, proofs.{Steps.{GuestAt, SlotAt, kept_latch, lone_named, nth_there, slot_empty, slots_count, with_named, with_same}, Landed.same_count, Calls.{Leaves, kept_in}, Counts.{counted_one, counts_alike}, Named.nth_stands, Checks.low_slot, Exchanges.{before_is, items_are, latch_stays}, Reached.seated, ResetSteps.{device_named, reset_left}}}
 
 -- ---- slots
 

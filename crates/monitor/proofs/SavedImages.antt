@@ -10,48 +10,15 @@
 --     fault_told      what is told of that
 --     image_put      an image that is put into a buffer, part by part
 --     size_now, fault_now      what calls about a guest answer
-use Rattle.std.proofs.Common.{◌≡◌, ◌≤◌, ◌+◌, ℕ, zero, suc, Bool, true, false, cond, List, [], ◌∷◌, ◌++◌, length, Some, None, Option, Ok, Err, slice_get, refl, sym, ap, ap₂, ◌∙◌, subst, arith, length-append}
-use Rattle.std.specs.Prelude.{map, option_map, IfErr, IfOk, Result}
-use Rattle.std.specs.Result.{result_err}
-use Rattle.lists.specs.Elements.{Each}
-use Rattle.lists.proofs.EachLemmas.{each_from_map}
-use Rattle.lists.proofs.Members.{flat_map_map}
-use Rattle.model_registers.specs.Registers.{File, Place, PlacedCell, cell_at}
-use Rattle.model_registers.specs.EndpointTable.{endpoint_reset}
-use Rattle.model_registers.specs.OwnCopies.{is_own, OwnCopies, own_file}
-use Rattle.model_registers.specs.CopiedFiles.{copied, places_of, with_copies}
-use Rattle.model_registers.specs.Decoding.{Function}
-use Rattle.model_board.specs.Paths.{Path}
-use Rattle.model_board.specs.Board.{Board}
-use Rattle.model_board.specs.AtReset.{board_at}
-use Rattle.model_board.specs.State.{BoardFunction}
-use Rattle.model_guests.specs.Slots.{Slots}
-use Rattle.model_guests.specs.Text.{Text}
-use Rattle.model_guests.specs.Lone.{LoneGuest}
-use Rattle.model_guests.specs.Guests.{GuestNow, lone_of}
-use Rattle.model_guests.specs.WorldNow.{WorldNow}
-use Rattle.model_guests.specs.Seated.{AreSeats}
-use Rattle.model_guests.proofs.FoundFiles.{same_places}
-use Rattle.model_images.specs.Images.{Image, image_of_lone, image_of_guest}
-use Rattle.model_images.specs.Layouts.{le_bytes}
-use Rattle.model_images.specs.ImageBytes.{image_bytes, magic, version}
-use Rattle.model_images.specs.LoadedBytes.{Left, after_beginning, after_bytes, after_image, after_latch, after_slot, after_slots, at_end, fault_of, header, load_fault, then_read}
-use Rattle.images.specs.declared.fault.ImageFault.{ImageFault}
-use Rattle.images.specs.Faults.{number_of}
-use Rattle.images.specs.Puts.{put}
-use Rattle.images.proofs.Puts.{next}
+use Rattle.std.{proofs.Common.{◌≡◌, ◌≤◌, ◌+◌, ℕ, zero, suc, Bool, true, false, cond, List, [], ◌∷◌, ◌++◌, length, Some, None, Option, Ok, Err, slice_get, refl, sym, ap, ap₂, ◌∙◌, subst, arith, length-append}, specs.{Prelude.{map, option_map, IfErr, IfOk, Result}, Result.result_err}}
+use Rattle.lists.{specs.Elements.Each, proofs.{EachLemmas.each_from_map, Members.flat_map_map}}
+use Rattle.model_registers.specs.{Registers.{File, Place, PlacedCell, cell_at}, EndpointTable.endpoint_reset, OwnCopies.{is_own, OwnCopies, own_file}, CopiedFiles.{copied, places_of, with_copies}, Decoding.Function}
+use Rattle.model_board.specs.{Paths.Path, Board.Board, AtReset.board_at, State.BoardFunction}
+use Rattle.model_guests.{specs.{Slots.Slots, Text.Text, Lone.LoneGuest, Guests.{GuestNow, lone_of}, WorldNow.WorldNow, Seated.AreSeats}, proofs.FoundFiles.same_places}
+use Rattle.model_images.specs.{Images.{Image, image_of_lone, image_of_guest}, Layouts.le_bytes, ImageBytes.{image_bytes, magic, version}, LoadedBytes.{Left, after_beginning, after_bytes, after_image, after_latch, after_slot, after_slots, at_end, fault_of, header, load_fault, then_read}}
+use Rattle.images.{specs.{declared.fault.ImageFault.ImageFault, Faults.number_of, Puts.put, Shown.{HasDeclaredPlaces, after_filled, function_bytes, seen, slot_bytes}}, proofs.{Puts.next, ComparedFunctions.filled_is, ShownValues.guest_bytes}}
 use Rattle.host_bridge.specs.HostState.{HostState}
-use Rattle.images.specs.Shown.{HasDeclaredPlaces, after_filled, function_bytes, seen, slot_bytes}
-use Rattle.images.proofs.ComparedFunctions.{filled_is}
-use Rattle.images.proofs.ShownValues.{guest_bytes}
-use Rattle.monitor.specs.declared.guest.Held.{Held}
-use Rattle.monitor.specs.declared.guest.Guest.{Guest}
-use Rattle.monitor.specs.Views.{guest_shown, guests_shown, slot_shown}
-use Rattle.monitor.specs.ByIndex.{guest_nth, lone_nth, name_nth}
-use Rattle.monitor.specs.ShownImages.{HasPlaces, HavePlaces, lone_shown, slots_image}
-use Rattle.monitor.proofs.Shown.{is_shown}
-use Rattle.monitor.proofs.Steps.{GuestAt, lone_named, slots_count}
-use Rattle.monitor.proofs.Reached.{seated}
+use Rattle.monitor.{specs.{declared.guest.{Held.Held, Guest.Guest}, Views.{guest_shown, guests_shown, slot_shown}, ByIndex.{guest_nth, lone_nth, name_nth}, ShownImages.{HasPlaces, HavePlaces, lone_shown, slots_image}}, proofs.{Shown.is_shown, Steps.{GuestAt, lone_named, slots_count}, Reached.seated}}
 
 -- ---- places
 

@@ -1,48 +1,13 @@
 -- Of a world that is kept, what the host and the guests show is that world.
-use Rattle.std.proofs.Common.{◌≡◌, ℕ, zero, suc, false, List, [], ◌∷◌, Some, None, Option, slice_get, refl, sym, ap, ap₂, ◌∙◌, subst, rules, arith}
-use Rattle.std.specs.Prelude.{map, option_map, MatchOption, ⊤}
-use Rattle.std.specs.Option.{option_map_or}
-use Rattle.lists.proofs.Indices.{at_map, each_at, index_in, map_at}
-use Rattle.lists.proofs.Members.{each_in}
-use Rattle.model_registers.specs.Registers.{File}
-use Rattle.model_registers.specs.Declarations.{Endpoint}
-use Rattle.model_registers.specs.DeclarationRules.{IsLawfulEndpoint}
-use Rattle.model_registers.specs.EndpointTable.{endpoint_reset}
-use Rattle.model_registers.specs.Decoding.{Function}
-use Rattle.model_registers.specs.CopiedFiles.{agreed_file, places_of}
-use Rattle.model_board.specs.Paths.{Path}
-use Rattle.model_board.specs.Board.{endpoint, Board}
-use Rattle.model_board.specs.AtReset.{board_at}
-use Rattle.model_board.specs.Lawful.{HasLawfulDecls}
-use Rattle.model_board.specs.Ports.{file_at}
-use Rattle.model_board.specs.State.{BoardFunction, State}
-use Rattle.model_guests.specs.Accesses.{answered}
-use Rattle.model_guests.specs.Grammar.{HostRead}
-use Rattle.model_guests.specs.HostReads.{host_fault, shown}
-use Rattle.model_guests.specs.Text.{Text}
-use Rattle.model_guests.specs.Slots.{Slots, slot_at}
-use Rattle.model_guests.specs.Guests.{GuestNow, GuestsNow, guest_named, file_of}
-use Rattle.model_guests.specs.WorldNow.{names_of, WorldNow, board_state, host_reply}
-use Rattle.model_guests.specs.AgreedBoard.{agreed_function, state_over}
-use Rattle.model_guests.specs.Seated.{IsSeatedAt, AreSeats, AreSeated}
-use Rattle.model_guests.proofs.DistinctPlaces.{distinct_places}
-use Rattle.model_guests.proofs.FoundFiles.{same_places}
-use Rattle.model_guests.proofs.CopiesNeverRise.{declared_lawful}
-use Rattle.model_guests.proofs.ViewedFiles.{view_is_file}
-use Rattle.model_guests.proofs.GuestsByName.{path_at, path_of, function_of, function_named}
-use Rattle.model_guests.proofs.KeptCopies.{file_of_seat}
-use Rattle.model_guests.proofs.DeclaredRows.{declared_row}
-use Rattle.model_guests.proofs.Along.{by_index}
-use Rattle.model_handoff.specs.Handoffs.{IsHandoff, HasDeclaredShape}
-use Rattle.model_handoff.specs.ViewLaws.{with_seated_reset}
-use Rattle.model_handoff.proofs.Standing.{endpoint_at, found, StandsAt, stands}
-use Rattle.model_handoff.proofs.Views.{reset_shown}
+use Rattle.std.{proofs.Common.{◌≡◌, ℕ, zero, suc, false, List, [], ◌∷◌, Some, None, Option, slice_get, refl, sym, ap, ap₂, ◌∙◌, subst, rules, arith}, specs.{Prelude.{map, option_map, MatchOption, ⊤}, Option.option_map_or}}
+use Rattle.lists.proofs.{Indices.{at_map, each_at, index_in, map_at}, Members.each_in}
+use Rattle.model_registers.specs.{Registers.File, Declarations.Endpoint, DeclarationRules.IsLawfulEndpoint, EndpointTable.endpoint_reset, Decoding.Function, CopiedFiles.{agreed_file, places_of}}
+use Rattle.model_board.specs.{Paths.Path, Board.{endpoint, Board}, AtReset.board_at, Lawful.HasLawfulDecls, Ports.file_at, State.{BoardFunction, State}}
+use Rattle.model_guests.{specs.{Accesses.answered, Grammar.HostRead, HostReads.{host_fault, shown}, Text.Text, Slots.{Slots, slot_at}, Guests.{GuestNow, GuestsNow, guest_named, file_of}, WorldNow.{names_of, WorldNow, board_state, host_reply}, AgreedBoard.{agreed_function, state_over}, Seated.{IsSeatedAt, AreSeats, AreSeated}}, proofs.{DistinctPlaces.distinct_places, FoundFiles.same_places, CopiesNeverRise.declared_lawful, ViewedFiles.view_is_file, GuestsByName.{path_at, path_of, function_of, function_named}, KeptCopies.file_of_seat, DeclaredRows.declared_row, Along.by_index}}
+use Rattle.model_handoff.{specs.{Handoffs.{IsHandoff, HasDeclaredShape}, ViewLaws.with_seated_reset}, proofs.{Standing.{endpoint_at, found, StandsAt, stands}, Views.reset_shown}}
 use Rattle.model_images.specs.MachineByteLaws.{IsWritableWorld}
 use Rattle.host_bridge.specs.HostState.{HostState}
-use Rattle.monitor.specs.declared.guest.Held.{Held}
-use Rattle.monitor.specs.declared.guest.Guest.{Guest}
-use Rattle.monitor.specs.Views.{function_shown, slot_shown, path_shown, guest_shown, guests_shown, handoff_shown, world_shown}
-use Rattle.monitor.specs.Keeping.{IsHeld, AreSlots, AreGuests, IsKept, IsSound}
+use Rattle.monitor.specs.{declared.guest.{Held.Held, Guest.Guest}, Views.{function_shown, slot_shown, path_shown, guest_shown, guests_shown, handoff_shown, world_shown}, Keeping.{IsHeld, AreSlots, AreGuests, IsKept, IsSound}}
 
 -- ---- one function
 

@@ -1,36 +1,15 @@
 -- The functions of a world that is kept, by their index on the board.
-use Rattle.std.proofs.Common.{◌≡◌, ℕ, zero, suc, Bool, not, ◌&&◌, List, [], ◌∷◌, Some, None, Option, refl, sym, ap, ◌∙◌, subst, arith}
-use Rattle.std.specs.Prelude.{map, option_map, slice_get, unwrap_or}
-use Rattle.std.specs.List.{list_any}
-use Rattle.std.specs.Option.{option_map_or}
+use Rattle.std.{proofs.Common.{◌≡◌, ℕ, zero, suc, Bool, not, ◌&&◌, List, [], ◌∷◌, Some, None, Option, refl, sym, ap, ◌∙◌, subst, arith}, specs.{Prelude.{map, option_map, slice_get, unwrap_or}, List.list_any, Option.option_map_or}}
 use Rattle.lists.proofs.Indices.{each_at, index_in, map_at}
-use Rattle.model_registers.specs.Registers.{File}
-use Rattle.model_registers.specs.Decoding.{Function, base_address, command_word}
-use Rattle.model_board.specs.Paths.{Path}
-use Rattle.model_board.specs.Board.{Row, Decl, endpoint, bridge, is_bridge, Board}
-use Rattle.model_board.specs.AtReset.{board_at}
-use Rattle.model_board.specs.Ports.{file_at}
-use Rattle.model_board.specs.State.{BoardFunction, State, row_at}
+use Rattle.model_registers.specs.{Registers.File, Decoding.{Function, base_address, command_word}}
+use Rattle.model_board.specs.{Paths.Path, Board.{Row, Decl, endpoint, bridge, is_bridge, Board}, AtReset.board_at, Ports.file_at, State.{BoardFunction, State, row_at}}
 use Rattle.model_findings.specs.Orderly.{IsStateOfBoard}
-use Rattle.model_guests.specs.Slots.{Slots}
-use Rattle.model_guests.specs.Text.{Text}
-use Rattle.model_guests.specs.World.{declared, endpoint_of}
-use Rattle.model_guests.specs.WorldNow.{WorldNow, board_state}
-use Rattle.model_handoff.specs.ViewLaws.{sits}
-use Rattle.model_handoff.proofs.Functions.{Facts, facts}
-use Rattle.model_handoff.proofs.Regions.{state_stays}
-use Rattle.model_handoff.proofs.Standing.{found}
+use Rattle.model_guests.specs.{Slots.Slots, Text.Text, World.{declared, endpoint_of}, WorldNow.{WorldNow, board_state}}
+use Rattle.model_handoff.{specs.ViewLaws.sits, proofs.{Functions.{Facts, facts}, Regions.state_stays, Standing.found}}
 use Rattle.model_images.specs.LoadedMachines.{is_open_there}
 use Rattle.bridge_forward.specs.BasesNow.{bases_of}
 use Rattle.host_bridge.specs.HostState.{HostState}
-use Rattle.monitor.specs.declared.guest.Guest.{Guest}
-use Rattle.monitor.specs.declared.guest.Held.{Held}
-use Rattle.monitor.specs.ByIndex.{guest_nth}
-use Rattle.monitor.specs.Views.{path_shown}
-use Rattle.monitor.specs.Keeping.{IsKept, IsSlot, AreSlots}
-use Rattle.monitor.specs.Seatings.{IsEndpointAt, has_index, is_closed_base, is_open_now}
-use Rattle.monitor.proofs.GiftSteps.{board_is, closed_is, declared_is, in_guests}
-use Rattle.monitor.proofs.Steps.{GuestAt}
+use Rattle.monitor.{specs.{declared.guest.{Guest.Guest, Held.Held}, ByIndex.guest_nth, Views.path_shown, Keeping.{IsKept, IsSlot, AreSlots}, Seatings.{IsEndpointAt, has_index, is_closed_base, is_open_now}}, proofs.{GiftSteps.{board_is, closed_is, declared_is, in_guests}, Steps.GuestAt}}
 
 module _ (w : WorldNow) (h : HostState) (names : List Text) (gs : List Guest) (kept : IsKept w h names gs) (i : ℕ) (f : BoardFunction) (at : slice_get (board_state w).functions i ≡ Some f) where
   pub at_host : slice_get h.state.functions i ≡ Some f

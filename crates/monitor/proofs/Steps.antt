@@ -1,40 +1,12 @@
 -- One guest of a world that is kept, one of its slots, and the world after a change of that slot.
-use Rattle.std.proofs.Common.{◌≡◌, ℕ, zero, suc, List, [], ◌∷◌, length, Some, None, Option, slice_get, slice_set, refl, sym, ap, ◌∙◌, subst, rules, arith}
-use Rattle.std.specs.Prelude.{map, unwrap_or}
-use Rattle.std.specs.Option.{option_map_or}
+use Rattle.std.{proofs.Common.{◌≡◌, ℕ, zero, suc, List, [], ◌∷◌, length, Some, None, Option, slice_get, slice_set, refl, sym, ap, ◌∙◌, subst, rules, arith}, specs.{Prelude.{map, unwrap_or}, Option.option_map_or}}
 use Rattle.lists.proofs.Indices.{set_same}
-use Rattle.model_registers.specs.Registers.{File}
-use Rattle.model_registers.specs.EndpointTable.{opened}
-use Rattle.model_registers.specs.OwnCopies.{OwnCopies, HoldsOwn}
-use Rattle.model_registers.specs.Decoding.{Function}
-use Rattle.model_board.specs.Paths.{Path}
-use Rattle.model_board.specs.Board.{Board}
-use Rattle.model_board.specs.AtReset.{board_at}
-use Rattle.model_board.specs.State.{State}
-use Rattle.model_guests.specs.Text.{Text}
-use Rattle.model_registers.specs.CopiedFiles.{shape_of}
-use Rattle.model_guests.specs.Slots.{Slots, slot_at}
-use Rattle.model_guests.specs.Guests.{GuestNow, GuestsNow, guest_named, path_in, with_guest, function_in, lone_of}
-use Rattle.model_guests.specs.WorldNow.{WorldNow}
-use Rattle.model_guests.specs.AgreedBoard.{with_change_at}
-use Rattle.model_guests.specs.Seated.{IsSeatedGuest, AreSeated}
-use Rattle.model_guests.specs.ChangeLaws.{ChangesAlike, with_slot_changed, with_latch}
-use Rattle.model_guests.proofs.GuestFiles.{with_file_there}
-use Rattle.model_guests.proofs.GuestsByName.{Keeps, path_at, path_of}
-use Rattle.model_guests.proofs.Seats.{names_stay, guests_stay, paths_stay, with_file_seats}
-use Rattle.model_guests.proofs.Along.{by_index}
-use Rattle.model_guests.specs.Lone.{LoneGuest, reset_guest}
-use Rattle.model_guests.specs.DeviceEvents.{slot_fault}
-use Rattle.model_guests.specs.AgreedBoard.{state_over}
-use Rattle.model_guests.proofs.Changes.{changes_one_function, latch_keeps_board}
-use Rattle.model_handoff.proofs.Served.{served_with}
-use Rattle.model_handoff.proofs.Views.{reset_with}
+use Rattle.model_registers.specs.{Registers.File, EndpointTable.opened, OwnCopies.{OwnCopies, HoldsOwn}, Decoding.Function, CopiedFiles.shape_of}
+use Rattle.model_board.specs.{Paths.Path, Board.Board, AtReset.board_at, State.State}
+use Rattle.model_guests.{specs.{Text.Text, Slots.{Slots, slot_at}, Guests.{GuestNow, GuestsNow, guest_named, path_in, with_guest, function_in, lone_of}, WorldNow.WorldNow, AgreedBoard.{with_change_at, state_over}, Seated.{IsSeatedGuest, AreSeated}, ChangeLaws.{ChangesAlike, with_slot_changed, with_latch}, Lone.{LoneGuest, reset_guest}, DeviceEvents.slot_fault}, proofs.{GuestFiles.with_file_there, GuestsByName.{Keeps, path_at, path_of}, Seats.{names_stay, guests_stay, paths_stay, with_file_seats}, Along.by_index, Changes.{changes_one_function, latch_keeps_board}}}
+use Rattle.model_handoff.proofs.{Served.served_with, Views.reset_with}
 use Rattle.host_bridge.specs.HostState.{HostState}
-use Rattle.monitor.specs.declared.guest.Held.{Held}
-use Rattle.monitor.specs.declared.guest.Guest.{Guest}
-use Rattle.monitor.specs.Keeping.{IsHeld, AreSlots, IsGuest, AreGuests, IsKept, IsSlot}
-use Rattle.monitor.specs.ByIndex.{guest_nth, lone_nth, name_nth, with_lone_nth}
-use Rattle.monitor.specs.InSlots.{IsSlotFault}
+use Rattle.monitor.specs.{declared.guest.{Held.Held, Guest.Guest}, Keeping.{IsHeld, AreSlots, IsGuest, AreGuests, IsKept, IsSlot}, ByIndex.{guest_nth, lone_nth, name_nth, with_lone_nth}, InSlots.IsSlotFault}
 
 -- ---- one slot
 

@@ -1,33 +1,13 @@
 -- A board that a monitor takes over: given functions at reset, one after the other.
-use Rattle.std.proofs.Common.{◌≡◌, ℕ, ◌+◌, Bool, List, [], ◌∷◌, ◌++◌, take, Option, Some, None, refl, sym, ap, ◌∙◌, rules, arith}
-use Rattle.std.specs.Prelude.{map, flat_map, find, option_map, slice_get}
-use Rattle.std.specs.List.{list_any}
-use Rattle.std.specs.Option.{option_map_or}
-use Rattle.std.proofs.lemmas.List.{append-nil}
-use Rattle.std.proofs.lemmas.List.Concat.{flat_map-append}
-use Rattle.std.proofs.lemmas.List.Folds.{list_any-append}
-use Rattle.lists.proofs.FirstFound.{found_passes}
-use Rattle.lists.proofs.Indices.{at_map}
-use Rattle.model_registers.specs.Declarations.{Endpoint}
-use Rattle.model_registers.specs.Decoding.{Function}
-use Rattle.model_registers.specs.CopiedFiles.{after_reset}
-use Rattle.model_board.specs.Paths.{Path, path_eq}
-use Rattle.model_board.specs.Board.{endpoint, Board}
-use Rattle.model_board.specs.AtReset.{board_at}
-use Rattle.model_board.specs.State.{BoardFunction, with_file}
-use Rattle.model_board.proofs.PathOrder.{path_same}
-use Rattle.model_guests.specs.World.{Guest, declared}
-use Rattle.model_guests.specs.AgreedBoard.{agreed_function}
-use Rattle.model_guests.proofs.Changes.{agreed_twice}
-use Rattle.model_handoff.specs.Handoffs.{files_given}
-use Rattle.model_handoff.proofs.First.{one_given}
-use Rattle.model_handoff.proofs.Functions.{path_stays}
-use Rattle.model_handoff.proofs.Keeping.{rows_stay}
+use Rattle.std.{proofs.{Common.{◌≡◌, ℕ, ◌+◌, Bool, List, [], ◌∷◌, ◌++◌, take, Option, Some, None, refl, sym, ap, ◌∙◌, rules, arith}, lemmas.List.{append-nil, Concat.flat_map-append, Folds.list_any-append}}, specs.{Prelude.{map, flat_map, find, option_map, slice_get}, List.list_any, Option.option_map_or}}
+use Rattle.lists.proofs.{FirstFound.found_passes, Indices.at_map}
+use Rattle.model_registers.specs.{Declarations.Endpoint, Decoding.Function, CopiedFiles.after_reset}
+use Rattle.model_board.{specs.{Paths.{Path, path_eq}, Board.{endpoint, Board}, AtReset.board_at, State.{BoardFunction, with_file}}, proofs.PathOrder.path_same}
+use Rattle.model_guests.{specs.{World.{Guest, declared}, AgreedBoard.agreed_function}, proofs.Changes.agreed_twice}
+use Rattle.model_handoff.{specs.Handoffs.files_given, proofs.{First.one_given, Functions.path_stays, Keeping.rows_stay}}
 use Rattle.bridge_forward.specs.Lending.{as_endpoint, endpoint_at, with_endpoint_reset}
-use Rattle.host_bridge.specs.ByIndex.{with_reset_nth}
-use Rattle.host_bridge.specs.HostState.{HostState, with_functions}
-use Rattle.window_packing.specs.Readies.{board_below}
-use Rattle.window_packing.proofs.BarLists.{take_at}
+use Rattle.host_bridge.specs.{ByIndex.with_reset_nth, HostState.{HostState, with_functions}}
+use Rattle.window_packing.{specs.Readies.board_below, proofs.BarLists.take_at}
 
 -- ---- some paths, and then others
 

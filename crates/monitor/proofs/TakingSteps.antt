@@ -1,42 +1,11 @@
 -- A function that is taken from a guest of a world that is kept.
-use Rattle.std.proofs.Common.{◌≡◌, ◌≤◌, ℕ, cond, List, Some, None, Option, slice_set, sym, ap, ◌∙◌, subst}
-use Rattle.std.specs.Prelude.{is_some}
-use Rattle.std.specs.Option.{option_map_or}
-use Rattle.model_registers.specs.Declarations.{Endpoint}
-use Rattle.model_registers.specs.CopiedFiles.{after_reset}
-use Rattle.model_board.specs.Paths.{Path}
-use Rattle.model_board.specs.Board.{Board}
-use Rattle.model_board.specs.AtReset.{board_at}
-use Rattle.model_board.specs.State.{State}
-use Rattle.model_board.specs.Routing.{routing}
-use Rattle.model_guests.specs.Accesses.{done, refused}
-use Rattle.model_guests.specs.Text.{Text}
-use Rattle.model_guests.specs.World.{declared}
-use Rattle.model_guests.specs.Lone.{LoneGuest}
-use Rattle.model_guests.specs.Guests.{GuestsNow, function_in, path_in, with_guest, with_slot_emptied}
-use Rattle.model_guests.specs.AgreedBoard.{with_change_at}
-use Rattle.model_guests.proofs.SeatedMoves.{seat_in}
-use Rattle.model_guests.specs.DeviceEvents.{slot_fault}
-use Rattle.model_guests.proofs.Resets.{taken_passes}
-use Rattle.model_handoff.specs.Kept.{IsLawfulOver}
-use Rattle.model_handoff.specs.ViewLaws.{with_seated_reset}
-use Rattle.model_guests.specs.WorldNow.{WorldNow, board_state}
-use Rattle.model_handoff.proofs.Keeping.{keeps_board}
-use Rattle.model_handoff.specs.Giving.{with_reset_at, take_fault, take_reply, taken, after_take}
-use Rattle.model_handoff.proofs.Giving.{can_take, taken_is, seated_is, board_after_taking, lawful_after_taking, shown_after_taking}
-use Rattle.model_handoff.proofs.GivenSeats.{declared_there}
-use Rattle.host_bridge.specs.ByIndex.{with_reset_nth}
-use Rattle.host_bridge.specs.HostState.{HostState, with_functions}
-use Rattle.monitor.specs.declared.guest.Held.{Held}
-use Rattle.monitor.specs.declared.guest.Guest.{Guest}
-use Rattle.monitor.specs.Keeping.{AreGuests, IsKept}
-use Rattle.monitor.specs.ByIndex.{name_nth, lone_nth}
-use Rattle.monitor.specs.Moves.{IsExchanged}
-use Rattle.monitor.proofs.Steps.{with_named, GuestAt, SlotAt, function_there, lone_named, path_there}
-use Rattle.monitor.proofs.ResetSteps.{board_reset}
-use Rattle.monitor.proofs.MoveSteps.{left_guests}
-use Rattle.monitor.proofs.Calls.{Leaves, leaves}
-use Rattle.monitor.proofs.Checks.{low_slot}
+use Rattle.std.{proofs.Common.{◌≡◌, ◌≤◌, ℕ, cond, List, Some, None, Option, slice_set, sym, ap, ◌∙◌, subst}, specs.{Prelude.is_some, Option.option_map_or}}
+use Rattle.model_registers.specs.{Declarations.Endpoint, CopiedFiles.after_reset}
+use Rattle.model_board.specs.{Paths.Path, Board.Board, AtReset.board_at, State.State, Routing.routing}
+use Rattle.model_guests.{specs.{Accesses.{done, refused}, Text.Text, World.declared, Lone.LoneGuest, Guests.{GuestsNow, function_in, path_in, with_guest, with_slot_emptied}, AgreedBoard.with_change_at, DeviceEvents.slot_fault, WorldNow.{WorldNow, board_state}}, proofs.{SeatedMoves.seat_in, Resets.taken_passes}}
+use Rattle.model_handoff.{specs.{Kept.IsLawfulOver, ViewLaws.with_seated_reset, Giving.{with_reset_at, take_fault, take_reply, taken, after_take}}, proofs.{Keeping.keeps_board, Giving.{can_take, taken_is, seated_is, board_after_taking, lawful_after_taking, shown_after_taking}, GivenSeats.declared_there}}
+use Rattle.host_bridge.specs.{ByIndex.with_reset_nth, HostState.{HostState, with_functions}}
+use Rattle.monitor.{specs.{declared.guest.{Held.Held, Guest.Guest}, Keeping.{AreGuests, IsKept}, ByIndex.{name_nth, lone_nth}, Moves.IsExchanged}, proofs.{Steps.{with_named, GuestAt, SlotAt, function_there, lone_named, path_there}, ResetSteps.board_reset, MoveSteps.left_guests, Calls.{Leaves, leaves}, Checks.low_slot}}
 
 pub reset_by : (s : State) (p : Path) (d : Endpoint) → declared (board_at s.functions) p ≡ Some d → with_reset_at p s ≡ with_change_at (after_reset d) p s
 reset_by s p d declares = ap (λ (o : Option Endpoint). option_map_or (λ (e : Endpoint). with_change_at (after_reset e) p s) o s) declares

@@ -1,12 +1,8 @@
 -- The own copies of a word and its other bytes add up within 32 bits.
-use Rattle.std.proofs.Common.{◌≡◌, ℕ, ◌+◌, ◌*◌, ◌/◌, ◌%◌, ◌<◌, ◌≤◌, ◌^◌, ◌⊎◌, Bool, true, false, cond, inl, inr, List, [], ◌∷◌, refl, sym, ap₂, ◌∙◌, subst, arith, lit≤}
-use Rattle.std.proofs.lemmas.Bool.Decides.{nat_tests}
+use Rattle.std.proofs.{Common.{◌≡◌, ℕ, ◌+◌, ◌*◌, ◌/◌, ◌%◌, ◌<◌, ◌≤◌, ◌^◌, ◌⊎◌, Bool, true, false, cond, inl, inr, List, [], ◌∷◌, refl, sym, ap₂, ◌∙◌, subst, arith, lit≤}, lemmas.Bool.Decides.nat_tests}
 use Rattle.lists.proofs.Tests.{and_false}
-use Rattle.model_registers.specs.Registers.{config, File, cell_at, read}
-use Rattle.model_registers.specs.OwnCopies.{OwnCopies, own_file, IsLawfulOwn, handed_on}
-use Rattle.model_registers.specs.ByteEnables.{enabled_bytes}
-use Rattle.guest_functions.proofs.Copies.{IsAway, away_read}
-use Rattle.guest_functions.proofs.HeldCopies.{sum_of_bytes, enabled_bytes-fits}
+use Rattle.model_registers.specs.{Registers.{config, File, cell_at, read}, OwnCopies.{OwnCopies, own_file, IsLawfulOwn, handed_on}, ByteEnables.enabled_bytes}
+use Rattle.guest_functions.proofs.{Copies.{IsAway, away_read}, HeldCopies.{sum_of_bytes, enabled_bytes-fits}}
 
 abbrev four : Bool → Bool → Bool → Bool → List Bool
 four p q r s = p ∷ q ∷ r ∷ s ∷ []

@@ -1,29 +1,11 @@
 -- A machine that a call leaves, of which images can be written as of the one before.
 use Rattle.std.proofs.Common.{◌≡◌, ◌<◌, ℕ, zero, suc, List, [], ◌∷◌, Option, length, slice_set, sym, ◌∙◌, subst}
 use Rattle.lists.proofs.Indices.{each_at}
-use Rattle.model_guests.specs.Accesses.{Event, Op, writes}
-use Rattle.model_guests.specs.Guests.{GuestNow, GuestsNow, lone_of}
-use Rattle.model_guests.specs.Lone.{Destination, LoneGuest, after_access_at, after_event}
-use Rattle.model_guests.specs.Slots.{Landing, effect}
-use Rattle.model_guests.specs.Text.{Text}
-use Rattle.model_guests.specs.WorldNow.{WorldNow}
-use Rattle.model_handoff.specs.Actions.{Action, after_action}
-use Rattle.model_handoff.specs.Changes.{MachineNow}
-use Rattle.model_images.specs.ByteLaws.{IsSavableGuest}
-use Rattle.model_images.specs.Images.{Image, after_load, after_restart}
-use Rattle.model_images.specs.LoadedLaws.{IsFittingImage}
-use Rattle.model_images.specs.MachineByteLaws.{IsWritableWorld}
-use Rattle.model_images.proofs.ImageBytes.{read_are_bytes}
-use Rattle.model_images.proofs.KeptFunctions.{Has, access_holds, effect_holds, event_holds}
-use Rattle.model_images.proofs.WritableWorlds.{AllHold, HoldsWritable, action_written, all_hold, functions_writable, load_written, restart_written, rewritten, writable_kept}
+use Rattle.model_guests.specs.{Accesses.{Event, Op, writes}, Guests.{GuestNow, GuestsNow, lone_of}, Lone.{Destination, LoneGuest, after_access_at, after_event}, Slots.{Landing, effect}, Text.Text, WorldNow.WorldNow}
+use Rattle.model_handoff.specs.{Actions.{Action, after_action}, Changes.MachineNow}
+use Rattle.model_images.{specs.{ByteLaws.IsSavableGuest, Images.{Image, after_load, after_restart}, LoadedLaws.IsFittingImage, MachineByteLaws.IsWritableWorld}, proofs.{ImageBytes.read_are_bytes, KeptFunctions.{Has, access_holds, effect_holds, event_holds}, WritableWorlds.{AllHold, HoldsWritable, action_written, all_hold, functions_writable, load_written, restart_written, rewritten, writable_kept}}}
 use Rattle.host_bridge.specs.HostState.{HostState}
-use Rattle.monitor.specs.declared.guest.Guest.{Guest}
-use Rattle.monitor.specs.ByIndex.{guest_nth, lone_nth, name_nth, with_lone_nth}
-use Rattle.monitor.specs.Keeping.{IsSound}
-use Rattle.monitor.specs.Views.{machine_shown}
-use Rattle.monitor.proofs.Calls.{Leaves, kept_in, writable_in}
-use Rattle.monitor.proofs.Named.{lone_by_name, nth_stands}
-use Rattle.monitor.proofs.Shown.{is_sound, names_kept}
+use Rattle.monitor.{specs.{declared.guest.Guest.Guest, ByIndex.{guest_nth, lone_nth, name_nth, with_lone_nth}, Keeping.IsSound, Views.machine_shown}, proofs.{Calls.{Leaves, kept_in, writable_in}, Named.{lone_by_name, nth_stands}, Shown.{is_sound, names_kept}}}
 
 set_holds : (gs : GuestsNow) (i : ℕ) (x : GuestNow) → AllHold gs → Has HoldsWritable x.lone → AllHold (slice_set gs i x)
 set_holds [] i x all h = tt

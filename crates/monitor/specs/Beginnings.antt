@@ -5,20 +5,12 @@
 --     AreSlotsAtFirst      a guest's slots, the first of them with the endpoints at these paths
 use Rattle.std.specs.Prelude.{ℕ, ◌-◌, ◌≡◌, false, List, ◌++◌, Option, Some, None, map, option_map, length, replicate, slice_get}
 use Rattle.bars.specs.declared.region.BasedRegion.{BasedRegion}
-use Rattle.model_registers.specs.Declarations.{Bar}
-use Rattle.model_registers.specs.DeclarationRules.{IsLawfulEndpoint}
-use Rattle.model_registers.specs.EndpointTable.{endpoint_reset}
-use Rattle.model_registers.specs.Decoding.{Function}
-use Rattle.model_board.specs.Paths.{Path}
-use Rattle.model_board.specs.Board.{endpoint}
-use Rattle.model_board.specs.State.{State}
-use Rattle.model_board.specs.Ports.{file_at}
-use Rattle.model_guests.specs.World.{Guest, World, declared}
-use Rattle.model_guests.specs.Slots.{reset_slots}
+use Rattle.model_registers.specs.{Declarations.Bar, DeclarationRules.IsLawfulEndpoint, EndpointTable.endpoint_reset, Decoding.Function}
+use Rattle.model_board.specs.{Paths.Path, Board.endpoint, State.State, Ports.file_at}
+use Rattle.model_guests.specs.{World.{Guest, World, declared}, Slots.reset_slots}
 use Rattle.host_bridge.specs.HostState.{HostState}
 use Rattle.window_packing.specs.Readies.{ReadyBoard, board_below}
-use Rattle.monitor.specs.declared.guest.Held.{Held}
-use Rattle.monitor.specs.Keeping.{AreSlots}
+use Rattle.monitor.specs.{declared.guest.Held.Held, Keeping.AreSlots}
 
 abbrev pub world_on : HostState → List Guest → World
 world_on h guests = record { board = board_below h; apertures = h.apertures; guests = guests }

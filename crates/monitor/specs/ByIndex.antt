@@ -2,10 +2,7 @@
 --     guest_nth w i, name_nth w i, lone_nth w i      the guest, its name, and what it holds
 --     with_lone_nth i g w      the world in which it holds this
 use Rattle.std.specs.Prelude.{ℕ, [], unwrap_or, slice_get, slice_set}
-use Rattle.model_guests.specs.Text.{Text}
-use Rattle.model_guests.specs.Lone.{LoneGuest, reset_guest}
-use Rattle.model_guests.specs.Guests.{GuestNow}
-use Rattle.model_guests.specs.WorldNow.{WorldNow}
+use Rattle.model_guests.specs.{Text.Text, Lone.{LoneGuest, reset_guest}, Guests.GuestNow, WorldNow.WorldNow}
 
 -- past the last one there is no name, and no function
 abbrev pub guest_nth : WorldNow → ℕ → GuestNow

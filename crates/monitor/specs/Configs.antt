@@ -4,16 +4,10 @@
 --     WritesOwn      the slots after a write of that function's own copies
 --     HoldsAt, WritesGuest      the same of a guest by its index
 use Rattle.std.specs.Prelude.{ℕ, List, Bool, Option, Some, ◌≡◌, IsSome, map, slice_get, slice_set}
-use Rattle.model_registers.specs.Registers.{config, File, read, write}
-use Rattle.model_registers.specs.ByteEnables.{lanes}
-use Rattle.model_registers.specs.EndpointTable.{opened}
-use Rattle.model_registers.specs.OwnCopies.{OwnCopies, own_file, HoldsOwn, IsLawfulOwn, handed_on}
+use Rattle.model_registers.specs.{Registers.{config, File, read, write}, ByteEnables.lanes, EndpointTable.opened, OwnCopies.{OwnCopies, own_file, HoldsOwn, IsLawfulOwn, handed_on}}
 use Rattle.bridge_forward.specs.Lending.{endpoint_nth}
-use Rattle.host_bridge.specs.ByIndex.{file_nth}
-use Rattle.host_bridge.specs.HostState.{HostState}
-use Rattle.host_bridge.specs.Landings.{IsReached}
-use Rattle.monitor.specs.declared.guest.Held.{Held}
-use Rattle.monitor.specs.declared.guest.Guest.{Guest}
+use Rattle.host_bridge.specs.{ByIndex.file_nth, HostState.HostState, Landings.IsReached}
+use Rattle.monitor.specs.declared.guest.{Held.Held, Guest.Guest}
 
 pub record IsSeen (h : HostState) (held : Held) : Type 0 where
   pub file : File

@@ -6,19 +6,10 @@
 --     after_nth i g t m      guest i holds this, and is counted where it changes
 --     after_access_nth, after_event_nth      the machine after an access that isn't refused, or an event, of guest i
 --     after_byte_nth      the machine after guest i's access of a byte of a region, which moves none
-use Rattle.std.specs.Prelude.{ℕ, ◌==◌, Bool, true, false, not, List, map, slice_get, slice_set}
-use Rattle.std.specs.Prelude.{if◌then◌else◌, unwrap_or}
-use Rattle.std.specs.Option.{option_map_or}
-use Rattle.model_guests.specs.Accesses.{Event, Op, reads, writes}
-use Rattle.model_guests.specs.Slots.{Landing}
-use Rattle.model_guests.specs.Lone.{LoneGuest, Destination, after_access_at, after_event}
-use Rattle.model_guests.specs.DeviceEvents.{DeviceByte}
-use Rattle.model_handoff.specs.Located.{landing_at}
-use Rattle.model_handoff.specs.StayLaws.{any_tells}
-use Rattle.model_handoff.specs.Changes.{MachineNow, after_change, moves_own}
-use Rattle.model_handoff.specs.RegionBytes.{after_byte}
-use Rattle.monitor.specs.declared.guest.Guest.{Guest}
-use Rattle.monitor.specs.ByIndex.{lone_nth, with_lone_nth}
+use Rattle.std.specs.{Prelude.{ℕ, ◌==◌, Bool, true, false, not, List, map, slice_get, slice_set, if◌then◌else◌, unwrap_or}, Option.option_map_or}
+use Rattle.model_guests.specs.{Accesses.{Event, Op, reads, writes}, Slots.Landing, Lone.{LoneGuest, Destination, after_access_at, after_event}, DeviceEvents.DeviceByte}
+use Rattle.model_handoff.specs.{Located.landing_at, StayLaws.any_tells, Changes.{MachineNow, after_change, moves_own}, RegionBytes.after_byte}
+use Rattle.monitor.specs.{declared.guest.Guest.Guest, ByIndex.{lone_nth, with_lone_nth}}
 
 abbrev pub counts_of : List Guest → List ℕ
 counts_of gs = map (λ (g : Guest). g.changed) gs

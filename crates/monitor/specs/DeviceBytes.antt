@@ -3,17 +3,12 @@
 --     Reaches      the function in a slot whose device reaches the byte
 --     Refuses      the slots for which such an event is refused by a number
 use Rattle.std.specs.Prelude.{ℕ, List, Option, Some, ◌≡◌, ◌≤◌, true, slice_get, is_some}
-use Rattle.model_registers.specs.DeviceBytes.{is_device_byte}
-use Rattle.model_registers.specs.Decoding.{Function}
-use Rattle.model_board.specs.Paths.{Path}
-use Rattle.model_board.specs.State.{State}
-use Rattle.model_guests.specs.Slots.{Slots}
-use Rattle.model_guests.specs.DeviceEvents.{DeviceByte, device_place, byte_fault}
-use Rattle.headers.specs.declared.place.Place.{Place}
-use Rattle.headers.specs.Places.{place_of}
+use Rattle.model_registers.specs.{DeviceBytes.is_device_byte, Decoding.Function}
+use Rattle.model_board.specs.{Paths.Path, State.State}
+use Rattle.model_guests.specs.{Slots.Slots, DeviceEvents.{DeviceByte, device_place, byte_fault}}
+use Rattle.headers.specs.{declared.place.Place.Place, Places.place_of}
 use Rattle.accesses.specs.Accesses.{part_of}
-use Rattle.monitor.specs.declared.guest.Held.{Held}
-use Rattle.monitor.specs.Keeping.{IsHeld, AreSlots}
+use Rattle.monitor.specs.{declared.guest.Held.Held, Keeping.{IsHeld, AreSlots}}
 
 abbrev pub device_byte : ℕ → Place → ℕ → DeviceByte
 device_byte n place off = record { slot = n; part = part_of place; offset = off }

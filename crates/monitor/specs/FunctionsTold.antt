@@ -3,14 +3,11 @@
 --     seat_kept i k gs      the seat of the function at an index among kept guests; k is the index of the first of them
 use Rattle.std.specs.Prelude.{ℕ, ◌+◌, List, [], ◌∷◌, Option, None, option_map, position}
 use Rattle.lists.specs.Elements.{first_of_two}
-use Rattle.model_handoff.specs.Functions as model
 use Rattle.paths.specs.BusAddresses.{bus_address_of}
 use Rattle.bridge_forward.specs.ByIndex.{ranges_told}
 use Rattle.findings.specs.Identities.{identity_told}
-use Rattle.monitor.specs.declared.guest.Guest.{Guest}
-use Rattle.monitor.specs.declared.seat.Seat.{Seat}
-use Rattle.monitor.specs.declared.functions.FunctionNow.{FunctionNow}
-use Rattle.monitor.specs.InSlots.{is_at}
+use Rattle.monitor.specs.{declared.{guest.Guest.Guest, seat.Seat.Seat, functions.FunctionNow.FunctionNow}, InSlots.is_at}
+use Rattle.model_handoff.specs.Functions as model
 
 abbrev pub seat_named : Seat → model.Seat
 seat_named s = record { guest = s.guest; slot = s.slot }

@@ -4,19 +4,15 @@
 --     number_of f, handover_words n, words_of f      the number of a fault, and the words of a number and of a fault
 --     handoff_fault f      the fault of the handoff, unless memory is out
 --     IsFaultOf w h f      the first fault of a world over a board, unless memory is out
-use Rattle.std.specs.Prelude.{◌≡◌, ◌==◌, ℕ, List, [], Bool, if◌then◌else◌, Option, None, Some, codes, slice_get, filter, IfSome}
-use Rattle.std.specs.List.{list_any}
-use Rattle.model_board.specs.Paths.{Path, path_eq}
-use Rattle.model_board.specs.Routing.{RoutingRow}
+use Rattle.std.specs.{Prelude.{◌≡◌, ◌==◌, ℕ, List, [], Bool, if◌then◌else◌, Option, None, Some, codes, slice_get, filter, IfSome}, List.list_any}
+use Rattle.model_board.specs.{Paths.{Path, path_eq}, Routing.RoutingRow}
 use Rattle.model_set_up.specs.PlacedRegions.{PlacedRegion}
 use Rattle.model_findings.specs.OpenRegions.{closed_of, closed_regions}
-use Rattle.model_guests.specs.Text.{Text}
-use Rattle.model_guests.specs.World.{World}
+use Rattle.model_guests.specs.{Text.Text, World.World}
 use Rattle.model_handoff.specs.Regions.{HandoffFault, in_disorder, closed_region, first_fault}
 use Rattle.findings.specs.Findings.{problem_of}
 use Rattle.host_bridge.specs.HostState.{HostState}
-use Rattle.monitor.specs.declared.handover.HandoverFault.{HandoverFault}
-use Rattle.monitor.specs.declared.handover.HandoverFault.TheVariants.{NotInOrder, Closed, Memory}
+use Rattle.monitor.specs.declared.handover.HandoverFault.{HandoverFault, TheVariants.{NotInOrder, Closed, Memory}}
 
 -- of one function, if it is given
 abbrev pub closed_if_given : List Path → RoutingRow → Option PlacedRegion

@@ -2,14 +2,10 @@
 --     is_at i o      a slot has the function at an index
 --     IsInSlot slots n h      slot n has the function h
 --     IsSlotFault slots n number      slot n is refused by this number: there is none, or no function in it
-use Rattle.std.specs.Prelude.{ℕ, List, Bool, false, Option, Some, ◌≡◌, ◌≤◌, ◌==◌, slice_get}
-use Rattle.std.specs.Option.{option_map_or}
-use Rattle.model_board.specs.Paths.{Path}
-use Rattle.model_board.specs.State.{State}
-use Rattle.model_guests.specs.Slots.{Slots}
-use Rattle.model_guests.specs.DeviceEvents.{slot_fault}
-use Rattle.monitor.specs.declared.guest.Held.{Held}
-use Rattle.monitor.specs.Keeping.{AreSlots}
+use Rattle.std.specs.{Prelude.{ℕ, List, Bool, false, Option, Some, ◌≡◌, ◌≤◌, ◌==◌, slice_get}, Option.option_map_or}
+use Rattle.model_board.specs.{Paths.Path, State.State}
+use Rattle.model_guests.specs.{Slots.Slots, DeviceEvents.slot_fault}
+use Rattle.monitor.specs.{declared.guest.Held.Held, Keeping.AreSlots}
 
 abbrev pub is_at : ℕ → Option Held → Bool
 is_at i o = option_map_or (λ (h : Held). h.index == i) o false

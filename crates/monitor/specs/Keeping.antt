@@ -4,26 +4,14 @@
 --     IsKept      the board is in the one state that agrees with the guests over the handoff
 --     IsSound      a host and guests keep the world that they show, of which images can be written
 use Rattle.std.specs.Prelude.{List, [], ◌∷◌, ◌≡◌, Option, None, Some, ⊤, map, slice_get}
-use Rattle.model_registers.specs.EndpointTable.{opened}
-use Rattle.model_registers.specs.OwnCopies.{HoldsOwn, bare}
-use Rattle.model_registers.specs.Decoding.{Function, base_address}
-use Rattle.model_board.specs.Paths.{Path}
-use Rattle.model_board.specs.Board.{endpoint}
-use Rattle.model_board.specs.AtReset.{board_at}
-use Rattle.model_board.specs.Ports.{file_at}
-use Rattle.model_board.specs.State.{State}
-use Rattle.model_guests.specs.Text.{Text}
-use Rattle.model_guests.specs.Slots.{Slots}
-use Rattle.model_guests.specs.Guests.{GuestNow, GuestsNow}
-use Rattle.model_handoff.specs.Kept.{IsLawfulOver}
-use Rattle.model_handoff.specs.ViewLaws.{with_seated_reset}
-use Rattle.model_guests.specs.WorldNow.{WorldNow, board_state}
+use Rattle.model_registers.specs.{EndpointTable.opened, OwnCopies.{HoldsOwn, bare}, Decoding.{Function, base_address}}
+use Rattle.model_board.specs.{Paths.Path, Board.endpoint, AtReset.board_at, Ports.file_at, State.State}
+use Rattle.model_guests.specs.{Text.Text, Slots.Slots, Guests.{GuestNow, GuestsNow}, WorldNow.{WorldNow, board_state}}
+use Rattle.model_handoff.specs.{Kept.IsLawfulOver, ViewLaws.with_seated_reset}
 use Rattle.model_images.specs.MachineByteLaws.{IsWritableWorld}
 use Rattle.bars.specs.Slots.{bases_from}
 use Rattle.host_bridge.specs.HostState.{HostState}
-use Rattle.monitor.specs.declared.guest.Held.{Held}
-use Rattle.monitor.specs.declared.guest.Guest.{Guest}
-use Rattle.monitor.specs.Views.{world_shown}
+use Rattle.monitor.specs.{declared.guest.{Held.Held, Guest.Guest}, Views.world_shown}
 
 -- for the function f of the path p
 pub record IsHeld (s : State) (p : Path) (f : Function) (h : Held) : Type 0 where

@@ -7,20 +7,11 @@
 --     IsLoadable k vs      the function is at reset, and its cells can hold these bytes
 use Rattle.std.specs.Prelude.{ℕ, ◌+◌, ◌≡◌, ◌<◌, List, [], ◌∷◌, length, Option, Some, false, IsTrue, slice_set}
 use Rattle.lists.specs.Elements.{Each}
-use Rattle.model_registers.specs.Declarations.{Region}
-use Rattle.model_registers.specs.Registers.{File}
-use Rattle.model_registers.specs.EndpointTable.{endpoint_reset}
-use Rattle.model_registers.specs.Decoding.{Function}
-use Rattle.model_guests.specs.Text.{Text}
-use Rattle.model_guests.specs.Slots.{slot_at}
-use Rattle.model_guests.specs.WorldNow.{WorldNow}
-use Rattle.model_images.specs.Images.{SavedFunction, fits_declaration}
-use Rattle.model_images.specs.StepLaws.{base_size}
+use Rattle.model_registers.specs.{Declarations.Region, Registers.File, EndpointTable.endpoint_reset, Decoding.Function}
+use Rattle.model_guests.specs.{Text.Text, Slots.slot_at, WorldNow.WorldNow}
+use Rattle.model_images.specs.{Images.{SavedFunction, fits_declaration}, StepLaws.base_size}
 use Rattle.host_bridge.specs.HostState.{HostState}
-use Rattle.monitor.specs.declared.guest.Guest.{Guest}
-use Rattle.monitor.specs.ByIndex.{lone_nth, with_lone_nth}
-use Rattle.monitor.specs.Configs.{HoldsAt}
-use Rattle.monitor.specs.Keeping.{IsKept}
+use Rattle.monitor.specs.{declared.guest.Guest.Guest, ByIndex.{lone_nth, with_lone_nth}, Configs.HoldsAt, Keeping.IsKept}
 
 abbrev pub with_slot_nth : ℕ → ℕ → Option Function → WorldNow → WorldNow
 with_slot_nth i n o w = with_lone_nth i (record (lone_nth w i) { slots = slice_set (lone_nth w i).slots n o }) w

@@ -7,24 +7,12 @@
 --     Takes g bytes      a guest that takes bytes
 --     IsLoaded m name bytes new      the machine after the image that these bytes are was loaded into this guest
 use Rattle.std.specs.Prelude.{◌≡◌, ℕ, List, [], Option, None, Ok, false, length, map, option_map, slice_set}
-use Rattle.model_registers.specs.EndpointTable.{endpoint_reset}
-use Rattle.model_registers.specs.Decoding.{Function}
-use Rattle.model_guests.specs.Text.{Text}
-use Rattle.model_guests.specs.Slots.{Slots, slot_at}
-use Rattle.model_guests.specs.Lone.{LoneGuest}
-use Rattle.model_guests.specs.Guests.{lone_of}
-use Rattle.model_guests.specs.WorldNow.{WorldNow}
+use Rattle.model_registers.specs.{EndpointTable.endpoint_reset, Decoding.Function}
+use Rattle.model_guests.specs.{Text.Text, Slots.{Slots, slot_at}, Lone.LoneGuest, Guests.lone_of, WorldNow.WorldNow}
 use Rattle.model_handoff.specs.Changes.{MachineNow}
-use Rattle.model_images.specs.Images.{Image, restored, function_at_reset, FitsSlot}
-use Rattle.model_images.specs.Requests.{loads}
-use Rattle.model_images.specs.RequestLaws.{after_request_on_machine}
-use Rattle.model_images.specs.ByteLaws.{AreBytes}
-use Rattle.model_images.specs.LoadedBytes.{after_slots, load_fault}
-use Rattle.model_images.specs.LoadedLaws.{IsFittingImage}
-use Rattle.model_images.specs.TakenBytes.{values_begin, taken_slot, taken_slots}
+use Rattle.model_images.specs.{Images.{Image, restored, function_at_reset, FitsSlot}, Requests.loads, RequestLaws.after_request_on_machine, ByteLaws.AreBytes, LoadedBytes.{after_slots, load_fault}, LoadedLaws.IsFittingImage, TakenBytes.{values_begin, taken_slot, taken_slots}}
 use Rattle.host_bridge.specs.HostState.{HostState}
-use Rattle.monitor.specs.declared.guest.Guest.{Guest}
-use Rattle.monitor.specs.Keeping.{IsKept}
+use Rattle.monitor.specs.{declared.guest.Guest.Guest, Keeping.IsKept}
 
 abbrev pub value_span : Function → ℕ × ℕ
 value_span f = (values_begin f.decl, length (endpoint_reset f.decl false))

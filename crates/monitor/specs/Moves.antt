@@ -5,16 +5,11 @@
 --     HasSlot      a slot of a guest by its index
 --     IsExchanged      the guests after a slot has another function, or none
 --     HandsOver      the guests and the host after a function left a slot and came into another, at reset
-use Rattle.std.specs.Prelude.{ℕ, List, Bool, Option, Some, None, ◌≡◌, ◌<◌, ◌||◌, not, if◌then◌else◌, nat_le, is_some}
-use Rattle.std.specs.Prelude.{map, length, slice_get, slice_set, unwrap_or}
+use Rattle.std.specs.Prelude.{ℕ, List, Bool, Option, Some, None, ◌≡◌, ◌<◌, ◌||◌, not, if◌then◌else◌, nat_le, is_some, map, length, slice_get, slice_set, unwrap_or}
 use Rattle.bars.specs.Resets.{with_no_base}
-use Rattle.model_guests.specs.Guests.{Move}
-use Rattle.model_guests.specs.WorldNow.{WorldNow}
-use Rattle.monitor.specs.declared.guest.Held.{Held}
-use Rattle.monitor.specs.declared.guest.Guest.{Guest}
-use Rattle.host_bridge.specs.ByIndex.{with_reset_nth}
-use Rattle.host_bridge.specs.HostState.{HostState, with_functions}
-use Rattle.monitor.specs.ByIndex.{name_nth}
+use Rattle.model_guests.specs.{Guests.Move, WorldNow.WorldNow}
+use Rattle.monitor.specs.{declared.guest.{Held.Held, Guest.Guest}, ByIndex.name_nth}
+use Rattle.host_bridge.specs.{ByIndex.with_reset_nth, HostState.{HostState, with_functions}}
 
 abbrev pub move_nth : WorldNow → ℕ → ℕ → ℕ → ℕ → Move
 move_nth w i n j m = record { from = name_nth w i; slot = n; to = name_nth w j; target = m }

@@ -3,11 +3,8 @@
 --     own_told o      the same, from the program's words
 --     standing file n r      a region at a base address register, with the base that a file has there
 use Rattle.std.specs.Prelude.{ℕ, map}
-use Rattle.bars.specs.declared.region.BasedRegion.{BasedRegion}
-use Rattle.bars.specs.Slots.{bases_from}
-use Rattle.model_registers.specs.Registers.{File}
-use Rattle.model_registers.specs.OwnCopies.{OwnCopies}
-use Rattle.model_registers.specs.Decoding.{Function, base, base_address, command_word}
+use Rattle.bars.specs.{declared.region.BasedRegion.BasedRegion, Slots.bases_from}
+use Rattle.model_registers.specs.{Registers.File, OwnCopies.OwnCopies, Decoding.{Function, base, base_address, command_word}}
 use Rattle.monitor.specs.declared.own_registers.OwnRegisters.{OwnRegisters}
 
 abbrev pub own_now : Function → OwnCopies

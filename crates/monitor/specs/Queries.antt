@@ -5,16 +5,9 @@ use Rattle.std.specs.Prelude.{ℕ, Some, ◌≡◌, slice_get}
 use Rattle.bars.specs.Kinds.{named_space}
 use Rattle.headers.specs.Places.{place_of}
 use Rattle.model_registers.specs.OwnCopies.{IsLawfulOwn}
-use Rattle.model_guests.specs.Slots.{Landing}
-use Rattle.model_guests.specs.Guests.{lone_of}
-use Rattle.model_guests.specs.WorldNow.{WorldNow}
+use Rattle.model_guests.specs.{Slots.Landing, Guests.lone_of, WorldNow.WorldNow}
+use Rattle.monitor.specs.{declared.{guest.{Held.Held, Guest.Guest}, regions.GuestRegion.GuestRegion, locating.Hit.Hit}, Keeping.AreSlots, ByIndex.{guest_nth, name_nth, lone_nth}}
 use Rattle.model_handoff.specs.GuestRegions as model
-use Rattle.monitor.specs.declared.guest.Held.{Held}
-use Rattle.monitor.specs.declared.guest.Guest.{Guest}
-use Rattle.monitor.specs.declared.regions.GuestRegion.{GuestRegion}
-use Rattle.monitor.specs.declared.locating.Hit.{Hit}
-use Rattle.monitor.specs.Keeping.{AreSlots}
-use Rattle.monitor.specs.ByIndex.{guest_nth, name_nth, lone_nth}
 
 pub record IsGuestNth (w : WorldNow) (i : ℕ) (g : Guest) : Type 0 where
   pub named : lone_of w.guests (name_nth w i) ≡ lone_nth w i

@@ -3,9 +3,7 @@
 --     LandsIn      a slot with a function whose copies decode the address
 --     target_in      a port or an address in memory
 use Rattle.std.specs.Prelude.{ℕ, List, Option, Some, ◌≡◌, map, slice_get}
-use Rattle.model_registers.specs.EndpointTable.{opened}
-use Rattle.model_registers.specs.OwnCopies.{OwnCopies, HoldsOwn, bare}
-use Rattle.model_registers.specs.Decoding.{Space, io, memory, Function, Hit, lone_claim}
+use Rattle.model_registers.specs.{EndpointTable.opened, OwnCopies.{OwnCopies, HoldsOwn, bare}, Decoding.{Space, io, memory, Function, Hit, lone_claim}}
 use Rattle.model_guests.specs.Accesses.{Target, port, address}
 use Rattle.bars.specs.Hits.{hit_in}
 use Rattle.monitor.specs.declared.guest.Held.{Held}

@@ -8,30 +8,14 @@
 --     is_open_now f      an endpoint, and Command opens the spaces of all its regions
 --     ComesIn      the function at the path, at reset, as it is kept in a slot
 --     MakesGift      what a gift is told in a world that is kept, and what comes into the slot where it is not refused
-use Rattle.std.specs.Prelude.{ℕ, List, Bool, false, ◌≡◌, not, ◌&&◌, Option, None, Some, Result, Ok, Err, slice_get, ⊤}
-use Rattle.std.specs.List.{list_any}
-use Rattle.std.specs.Option.{option_map_or}
+use Rattle.std.specs.{Prelude.{ℕ, List, Bool, false, ◌≡◌, not, ◌&&◌, Option, None, Some, Result, Ok, Err, slice_get, ⊤}, List.list_any, Option.option_map_or}
 use Rattle.bars.specs.declared.region.BasedRegion.{BasedRegion}
-use Rattle.model_registers.specs.Declarations.{Endpoint}
-use Rattle.model_registers.specs.EndpointTable.{BaseAddress}
-use Rattle.model_registers.specs.Decoding.{command_word, opens_space, space_of}
-use Rattle.model_board.specs.Paths.{Path}
-use Rattle.model_board.specs.Board.{endpoint, is_bridge}
-use Rattle.model_board.specs.AtReset.{board_at}
-use Rattle.model_board.specs.Ports.{file_at}
-use Rattle.model_board.specs.State.{BoardFunction, State}
-use Rattle.model_guests.specs.Slots.{reset_function}
-use Rattle.model_guests.specs.World.{declared}
-use Rattle.model_guests.specs.WorldNow.{WorldNow}
+use Rattle.model_registers.specs.{Declarations.Endpoint, EndpointTable.BaseAddress, Decoding.{command_word, opens_space, space_of}}
+use Rattle.model_board.specs.{Paths.Path, Board.{endpoint, is_bridge}, AtReset.board_at, Ports.file_at, State.{BoardFunction, State}}
+use Rattle.model_guests.specs.{Slots.reset_function, World.declared, WorldNow.WorldNow}
 use Rattle.model_handoff.specs.Giving.{Gift, give_fault}
 use Rattle.bridge_forward.specs.BasesNow.{bases_of}
-use Rattle.monitor.specs.declared.guest.Held.{Held}
-use Rattle.monitor.specs.declared.guest.Guest.{Guest}
-use Rattle.monitor.specs.declared.withheld.Withheld.{Withheld}
-use Rattle.monitor.specs.declared.withheld.Withheld.TheVariants.{PastSlots, NoEndpoint, HasGuest, SlotTaken, ClosedRegion}
-use Rattle.monitor.specs.ByIndex.{name_nth}
-use Rattle.monitor.specs.InSlots.{is_at}
-use Rattle.monitor.specs.Keeping.{IsSlot}
+use Rattle.monitor.specs.{declared.{guest.{Held.Held, Guest.Guest}, withheld.Withheld.{Withheld, TheVariants.{PastSlots, NoEndpoint, HasGuest, SlotTaken, ClosedRegion}}}, ByIndex.name_nth, InSlots.is_at, Keeping.IsSlot}
 
 abbrev pub gift_nth : WorldNow → Path → ℕ → ℕ → Gift
 gift_nth w p i n = record { path = p; to = name_nth w i; slot = n }

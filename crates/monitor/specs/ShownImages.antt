@@ -9,9 +9,7 @@ use Rattle.model_registers.specs.Decoding.{Function}
 use Rattle.model_board.specs.State.{BoardFunction}
 use Rattle.model_guests.specs.Lone.{LoneGuest}
 use Rattle.images.specs.Shown.{HasDeclaredPlaces, slot_bytes}
-use Rattle.monitor.specs.declared.guest.Held.{Held}
-use Rattle.monitor.specs.declared.guest.Guest.{Guest}
-use Rattle.monitor.specs.Views.{slot_shown}
+use Rattle.monitor.specs.{declared.guest.{Held.Held, Guest.Guest}, Views.slot_shown}
 
 abbrev pub lone_shown : List BoardFunction → Guest → LoneGuest
 lone_shown fs g = record { slots = map (slot_shown fs) g.slots.items; latch = g.latch }

@@ -6,25 +6,15 @@
 --     handoff_shown      the handoff, as the board shows it: with all functions in slots at reset
 --     world_shown      the handoff with the guests as they are now
 --     machine_shown      the same with their counts
-use Rattle.std.specs.Prelude.{List, [], ◌∷◌, Option, None, map, option_map, slice_get}
-use Rattle.std.specs.Option.{option_map_or}
-use Rattle.arrayvec.specs.ArrayVec.{ArrayVec}
-use Rattle.arrayvec.specs.ArrayString.{ArrayString}
-use Rattle.model_registers.specs.OwnCopies.{own_file}
-use Rattle.model_registers.specs.Decoding.{Function}
-use Rattle.model_board.specs.Paths.{Path}
-use Rattle.model_board.specs.State.{BoardFunction, State}
-use Rattle.model_guests.specs.Text.{Text}
-use Rattle.model_registers.specs.CopiedFiles.{with_copies}
-use Rattle.model_guests.specs.Guests.{GuestNow, GuestsNow}
-use Rattle.model_handoff.specs.ViewLaws.{with_seated_reset}
-use Rattle.model_guests.specs.WorldNow.{WorldNow}
-use Rattle.model_handoff.specs.Changes.{MachineNow}
+use Rattle.std.specs.{Prelude.{List, [], ◌∷◌, Option, None, map, option_map, slice_get}, Option.option_map_or}
+use Rattle.arrayvec.specs.{ArrayVec.ArrayVec, ArrayString.ArrayString}
+use Rattle.model_registers.specs.{OwnCopies.own_file, Decoding.Function, CopiedFiles.with_copies}
+use Rattle.model_board.specs.{Paths.Path, State.{BoardFunction, State}}
+use Rattle.model_guests.specs.{Text.Text, Guests.{GuestNow, GuestsNow}, WorldNow.WorldNow}
+use Rattle.model_handoff.specs.{ViewLaws.with_seated_reset, Changes.MachineNow}
 use Rattle.bridge_forward.specs.Lending.{endpoint_nth}
 use Rattle.host_bridge.specs.HostState.{HostState}
-use Rattle.monitor.specs.declared.guest.Held.{Held}
-use Rattle.monitor.specs.declared.guest.Guest.{Guest}
-use Rattle.monitor.specs.Counts.{counts_of}
+use Rattle.monitor.specs.{declared.guest.{Held.Held, Guest.Guest}, Counts.counts_of}
 
 abbrev pub texts : ArrayVec ArrayString → List Text
 texts names = map (λ n. n.bytes) names.items

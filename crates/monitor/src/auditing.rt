@@ -1,7 +1,6 @@
 //! What is wrong, and what is lacking, in the registers of a board that guests have.
 ghost use Rattle.std.specs.Prelude.{◌≡◌, [], IfOk, map};
-ghost use Rattle.model_findings.specs.Problems.{problems};
-ghost use Rattle.model_findings.specs.Lacks.{lacks};
+ghost use Rattle.model_findings.specs.{Problems.problems, Lacks.lacks};
 ghost use Rattle.model_guests.specs.WorldNow.{board_state};
 ghost use Rattle.findings.specs.Findings.{problem_of, lack_of};
 

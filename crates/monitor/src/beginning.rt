@@ -1,21 +1,14 @@
 //! What the monitor keeps of a board and of its guests, before any guest did anything.
 ghost use Rattle.std.specs.Prelude.{◌≡◌, ◌≤◌, length, map, Some, IfOk, IsSome};
 ghost use Rattle.lists.specs.Elements.{Each};
-ghost use Rattle.model_registers.specs.Declarations.{HasLawfulRegions};
-ghost use Rattle.model_registers.specs.EndpointTable.{opened};
-ghost use Rattle.model_registers.specs.Decoding.{Function};
+ghost use Rattle.model_registers.specs.{Declarations.HasLawfulRegions, EndpointTable.opened, Decoding.Function};
 ghost use Rattle.model_board.specs.Paths.{Path as PathValue};
 ghost use Rattle.model_findings.specs.Orderly.{IsStateOfBoard};
-ghost use Rattle.model_guests.specs.World.{Guest as GuestValue, names, HasLawfulGuests, declared};
-ghost use Rattle.model_guests.specs.Slots.{reset_function};
-ghost use Rattle.model_guests.specs.Guests.{guests_at_first};
+ghost use Rattle.model_guests.specs.{World.{Guest as GuestValue, names, HasLawfulGuests, declared}, Slots.reset_function, Guests.guests_at_first};
 ghost use Rattle.bars.specs.Resets.{at_reset, with_no_base};
 ghost use Rattle.bridge_forward.specs.BasesNow.{bases_nth};
 ghost use Rattle.window_packing.specs.Readies.{board_below};
-ghost use Rattle.monitor.specs.Views.{texts};
-ghost use Rattle.monitor.specs.Counts.{counts_of};
-ghost use Rattle.monitor.specs.Keeping.{IsHeld, IsSlot, AreGuests};
-ghost use Rattle.monitor.specs.Beginnings.{world_on, declared_in, IsStanding, AreSlotsAtFirst};
+ghost use Rattle.monitor.specs.{Views.texts, Counts.counts_of, Keeping.{IsHeld, IsSlot, AreGuests}, Beginnings.{world_on, declared_in, IsStanding, AreSlotsAtFirst}};
 
 use crate::guest::{Guest, Held};
 use accesses::{GuestDecl, Names};

@@ -1,9 +1,7 @@
 //! Closed regions, which stand in the way of those to whom their functions would be given.
-ghost use Rattle.std.specs.Prelude.{◌≡◌, not, map, filter, find, flat_map, option_map, slice_get, IfOk};
-ghost use Rattle.std.specs.List.{list_any};
+ghost use Rattle.std.specs.{Prelude.{◌≡◌, not, map, filter, find, flat_map, option_map, slice_get, IfOk}, List.list_any};
 ghost use Rattle.model_registers.specs.Decoding.{opens_space};
-ghost use Rattle.model_board.specs.Paths.{path_eq};
-ghost use Rattle.model_board.specs.Routing.{routing};
+ghost use Rattle.model_board.specs.{Paths.path_eq, Routing.routing};
 ghost use Rattle.model_guests.specs.World.{Guest as GuestValue};
 ghost use Rattle.model_findings.specs.OpenRegions.{region_now, closed_of};
 ghost use Rattle.bridge_forward.specs.RoutingRows.{base_of};

@@ -1,11 +1,8 @@
 //! Configuration accesses of guests.
 ghost use Rattle.std.specs.Prelude.{◌≡◌, ◌%◌, IfErr, IfNone, IfOk, IfSome, Some, None, slice_get, unwrap_or};
-ghost use Rattle.model_registers.specs.Registers.{config, number};
-ghost use Rattle.model_registers.specs.ByteEnables.{IsWidth};
+ghost use Rattle.model_registers.specs.{Registers.{config, number}, ByteEnables.IsWidth};
 ghost use Rattle.accesses.specs.Refusals.{number_of};
-ghost use Rattle.monitor.specs.InSlots.{IsInSlot, IsSlotFault};
-ghost use Rattle.monitor.specs.Counts.{counts_of, counted_nth};
-ghost use Rattle.monitor.specs.Configs.{IsSeen, IsHolding, WritesOwn, HoldsAt, WritesGuest};
+ghost use Rattle.monitor.specs.{InSlots.{IsInSlot, IsSlotFault}, Counts.{counts_of, counted_nth}, Configs.{IsSeen, IsHolding, WritesOwn, HoldsAt, WritesGuest}};
 
 use crate::counting::counted;
 use crate::guest::{Guest, Held};

@@ -1,9 +1,7 @@
 //! How often the regions of a guest's functions may have come to stand elsewhere.
 ghost use Rattle.std.specs.Prelude.{◌≡◌, ◌<◌, Some, length, slice_get};
-ghost use Rattle.model_registers.specs.ByteEnables.{IsWidth};
-ghost use Rattle.model_registers.specs.Registers.{config};
-ghost use Rattle.model_handoff.specs.StayLaws.{any_tells};
-ghost use Rattle.model_handoff.specs.Changes.{after_change};
+ghost use Rattle.model_registers.specs.{ByteEnables.IsWidth, Registers.config};
+ghost use Rattle.model_handoff.specs.{StayLaws.any_tells, Changes.after_change};
 
 use crate::engine::Engine;
 use host_bridge::Route;

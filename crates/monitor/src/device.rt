@@ -1,21 +1,12 @@
 //! What a device itself reads and writes of its function's registers.
 ghost use Rattle.std.specs.Prelude.{◌≡◌, ◌<◌, IfErr, IfOk, IsTrue, is_some, length};
-ghost use Rattle.model_registers.specs.Decoding.{Function};
-ghost use Rattle.model_registers.specs.DeviceBytes.{is_device_byte};
-ghost use Rattle.model_board.specs.Paths.{Path};
-ghost use Rattle.model_board.specs.State.{State};
-ghost use Rattle.model_guests.specs.Guests.{lone_of};
-ghost use Rattle.model_guests.specs.DeviceEvents.{device_answer, device_place, device_reads, device_writes};
-ghost use Rattle.model_guests.specs.Calls.{at_device};
-ghost use Rattle.model_handoff.specs.Actions.{calls};
-ghost use Rattle.model_handoff.specs.Changes.{after_on_machine};
+ghost use Rattle.model_registers.specs.{Decoding.Function, DeviceBytes.is_device_byte};
+ghost use Rattle.model_board.specs.{Paths.Path, State.State};
+ghost use Rattle.model_guests.specs.{Guests.lone_of, DeviceEvents.{device_answer, device_place, device_reads, device_writes}, Calls.at_device};
+ghost use Rattle.model_handoff.specs.{Actions.calls, Changes.after_on_machine};
 ghost use Rattle.headers.specs.Places.{place_of};
-ghost use Rattle.accesses.specs.Accesses.{part_of, reply_of};
-ghost use Rattle.accesses.specs.Refusals.{number_of};
-ghost use Rattle.accesses.specs.Replies.{IsRefusal, IsShown};
-ghost use Rattle.monitor.specs.ByIndex.{name_nth};
-ghost use Rattle.monitor.specs.Keeping.{IsHeld};
-ghost use Rattle.monitor.specs.DeviceBytes.{Reaches, Refuses, device_byte};
+ghost use Rattle.accesses.specs.{Accesses.{part_of, reply_of}, Refusals.number_of, Replies.{IsRefusal, IsShown}};
+ghost use Rattle.monitor.specs.{ByIndex.name_nth, Keeping.IsHeld, DeviceBytes.{Reaches, Refuses, device_byte}};
 
 use crate::config::function_in;
 use crate::engine::Engine;
@@ -59,8 +50,7 @@ fn reached(slots: &[Option<Held>], slot: u64, place: Place, off: u64) -> Result<
 }
 
 impl<R: Route> Engine<R> {
-    ghost use Rattle.monitor.specs.Views.{texts, machine_shown};
-    ghost use Rattle.monitor.specs.Keeping.{IsSound};
+    ghost use Rattle.monitor.specs.{Views.{texts, machine_shown}, Keeping.IsSound};
 
     /// What a byte of a guest's function holds, as its device reads it. Or refuses it: 303 for a slot
     /// above 31, else 601 for an empty slot, else 303 for a configuration offset that is neither 6, 7 nor 40h

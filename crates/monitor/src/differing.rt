@@ -3,9 +3,7 @@ ghost use Rattle.std.specs.Prelude.{◌≡◌, ◌≤◌, ◌<◌, length, map, 
 ghost use Rattle.model_guests.specs.Guests.{lone_of};
 ghost use Rattle.model_images.specs.Differences.{first_difference, image_difference, in_slot, slot_fields, slots_difference};
 ghost use Rattle.images.specs.Differences.{difference_of, slot_difference_of};
-ghost use Rattle.monitor.specs.ByIndex.{name_nth};
-ghost use Rattle.monitor.specs.ShownImages.{lone_shown};
-ghost use Rattle.monitor.specs.Views.{slot_shown};
+ghost use Rattle.monitor.specs.{ByIndex.name_nth, ShownImages.lone_shown, Views.slot_shown};
 
 use crate::engine::Engine;
 use crate::guest::{Guest, Held};

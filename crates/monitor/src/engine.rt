@@ -1,27 +1,14 @@
 //! A host with its guests, over any way to find who claims an address.
 ghost use Rattle.std.specs.Prelude.{◌≡◌, ◌<◌, ◌%◌, length};
-ghost use Rattle.model_registers.specs.Registers.{all_bytes};
-ghost use Rattle.model_registers.specs.ByteEnables.{IsWidth};
+ghost use Rattle.model_registers.specs.{Registers.all_bytes, ByteEnables.IsWidth};
 ghost use Rattle.model_board.specs.Ports.{config_reply};
-ghost use Rattle.model_guests.specs.Accesses.{configuration, port, reads, writes};
-ghost use Rattle.model_guests.specs.Accesses as guests;
-ghost use Rattle.model_guests.specs.Lone.{answer, own_latch, at_target, destination, reply_at};
-ghost use Rattle.model_guests.specs.Guests.{lone_of};
-ghost use Rattle.model_guests.specs.Lines.{guest_event, host_move};
-ghost use Rattle.model_guests.specs.WorldNow.{move_reply, names_now, host_reply};
-ghost use Rattle.model_guests.specs.Calls.{asks};
-ghost use Rattle.model_handoff.specs.Actions.{calls};
-ghost use Rattle.model_handoff.specs.Changes.{after_on_machine};
+ghost use Rattle.model_guests.specs.{Accesses.{configuration, port, reads, writes}, Lone.{answer, own_latch, at_target, destination, reply_at}, Guests.lone_of, Lines.{guest_event, host_move}, WorldNow.{move_reply, names_now, host_reply}, Calls.asks};
+ghost use Rattle.model_handoff.specs.{Actions.calls, Changes.after_on_machine};
 ghost use Rattle.bars.specs.Kinds.{named_space};
 ghost use Rattle.paths.specs.BusAddresses.{bus_address_of};
-ghost use Rattle.accesses.specs.Accesses.{access_of, host_access_of, op_of, part_of, reply_of};
-ghost use Rattle.accesses.specs.Replies.{IsRefusal, IsShown};
-ghost use Rattle.monitor.specs.Views.{texts};
-ghost use Rattle.monitor.specs.ByIndex.{name_nth, lone_nth};
-ghost use Rattle.monitor.specs.Counts.{after_access_nth, after_event_nth};
-ghost use Rattle.monitor.specs.Reaches.{target_in};
-ghost use Rattle.monitor.specs.Moves.{move_nth};
-ghost use Rattle.monitor.specs.Queries.{IsGuestNth};
+ghost use Rattle.accesses.specs.{Accesses.{access_of, host_access_of, op_of, part_of, reply_of}, Replies.{IsRefusal, IsShown}};
+ghost use Rattle.monitor.specs.{Views.texts, ByIndex.{name_nth, lone_nth}, Counts.{after_access_nth, after_event_nth}, Reaches.target_in, Moves.move_nth, Queries.IsGuestNth};
+ghost use Rattle.model_guests.specs.Accesses as guests;
 
 use crate::config::{function_in, held_in, number_read, write_in};
 use crate::counting::tells_regions;
@@ -52,8 +39,7 @@ impl<R: Route> Model for Engine<R> {
 
     ghost Value = { MachineNow };
 
-    ghost use Rattle.monitor.specs.Views.{texts, machine_shown};
-    ghost use Rattle.monitor.specs.Keeping.{IsSound};
+    ghost use Rattle.monitor.specs.{Views.{texts, machine_shown}, Keeping.IsSound};
 
     ghost view = { λ e. machine_shown e.host (texts e.names) e.guests.items };
 
@@ -62,8 +48,7 @@ impl<R: Route> Model for Engine<R> {
 }
 
 impl<R: Route> Engine<R> {
-    ghost use Rattle.monitor.specs.Views.{texts, machine_shown};
-    ghost use Rattle.monitor.specs.Keeping.{IsSound};
+    ghost use Rattle.monitor.specs.{Views.{texts, machine_shown}, Keeping.IsSound};
 
     /// A host whose board agrees with these guests.
     pub(crate) fn of_parts(host: Host, route: R, names: Names, guests: Vec<Guest>) -> Engine<R>

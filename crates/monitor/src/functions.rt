@@ -1,14 +1,11 @@
 //! What is told of each function of the board, as it is now.
-ghost use Rattle.std.specs.Prelude.{◌≡◌, ◌<◌, ◌^◌, Some, length, option_map, slice_get};
-ghost use Rattle.std.specs.Result.{result_map_both};
-ghost use Rattle.model_board.specs.Paths as board;
+ghost use Rattle.std.specs.{Prelude.{◌≡◌, ◌<◌, ◌^◌, Some, length, option_map, slice_get}, Result.result_map_both};
 ghost use Rattle.model_board.specs.State.{BoardFunction};
 ghost use Rattle.model_findings.specs.Orderly.{IsStateOfBoard};
-ghost use Rattle.model_guests.specs.Guests.{GuestsNow};
-ghost use Rattle.model_guests.specs.WorldNow.{board_state};
+ghost use Rattle.model_guests.specs.{Guests.GuestsNow, WorldNow.board_state};
 ghost use Rattle.model_handoff.specs.Functions.{seat_of, function_nth, slot_answer};
-ghost use Rattle.monitor.specs.ByIndex.{name_nth};
-ghost use Rattle.monitor.specs.FunctionsTold.{function_named, seat_kept};
+ghost use Rattle.monitor.specs.{ByIndex.name_nth, FunctionsTold.{function_named, seat_kept}};
+ghost use Rattle.model_board.specs.Paths as board;
 
 use crate::config::function_in;
 use crate::engine::Engine;

@@ -1,18 +1,12 @@
 //! A function of the board that no guest has, as it would stand in a guest's slot.
-ghost use Rattle.std.specs.Prelude.{◌≡◌, ◌<◌, IfNone, IfSome, List, None, Some, length, slice_get};
-ghost use Rattle.std.specs.List.{list_any};
+ghost use Rattle.std.specs.{Prelude.{◌≡◌, ◌<◌, IfNone, IfSome, List, None, Some, length, slice_get}, List.list_any};
 ghost use Rattle.model_registers.specs.Decoding.{command_word, opens_space};
-ghost use Rattle.model_board.specs.AtReset.{board_at};
-ghost use Rattle.model_board.specs.State.{BoardFunction};
+ghost use Rattle.model_board.specs.{AtReset.board_at, State.BoardFunction};
 ghost use Rattle.model_findings.specs.Orderly.{IsStateOfBoard};
-ghost use Rattle.model_guests.specs.Text.{Text};
-ghost use Rattle.model_guests.specs.World.{declared};
-ghost use Rattle.model_guests.specs.WorldNow.{WorldNow};
+ghost use Rattle.model_guests.specs.{Text.Text, World.declared, WorldNow.WorldNow};
 ghost use Rattle.bars.specs.Kinds.{named_space};
 ghost use Rattle.bridge_forward.specs.BasesNow.{bases_of};
-ghost use Rattle.monitor.specs.Keeping.{IsKept};
-ghost use Rattle.monitor.specs.InSlots.{is_at};
-ghost use Rattle.monitor.specs.Seatings.{IsEndpointAt, MakesGift, has_index, is_closed_base, is_closed_slot, is_open_now};
+ghost use Rattle.monitor.specs.{Keeping.IsKept, InSlots.is_at, Seatings.{IsEndpointAt, MakesGift, has_index, is_closed_base, is_closed_slot, is_open_now}};
 
 use crate::beginning::held_of;
 use crate::guest::{Guest, Held};

@@ -1,11 +1,7 @@
 //! Functions of a board that are given to guests.
 ghost use Rattle.std.specs.Prelude.{◌≡◌, IfOk, IfErr};
-ghost use Rattle.model_guests.specs.World.{HasLawfulGuests};
-ghost use Rattle.model_handoff.specs.AfterSetUp.{world_at_first};
-ghost use Rattle.model_guests.specs.WorldNow.{world_over};
-ghost use Rattle.model_handoff.specs.Handoffs.{IsHandoff, taken_over};
-ghost use Rattle.model_handoff.specs.Regions.{CanBeGiven};
-ghost use Rattle.model_handoff.specs.Changes.{BeginsIn};
+ghost use Rattle.model_guests.specs.{World.HasLawfulGuests, WorldNow.world_over};
+ghost use Rattle.model_handoff.specs.{AfterSetUp.world_at_first, Handoffs.{IsHandoff, taken_over}, Regions.CanBeGiven, Changes.BeginsIn};
 ghost use Rattle.model_images.specs.MachineByteLaws.{CanBeSaved};
 ghost use Rattle.monitor.specs.Beginnings.{world_on, world_of};
 

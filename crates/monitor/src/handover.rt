@@ -3,8 +3,7 @@ ghost use Rattle.std.specs.Prelude.{◌≡◌, None, IfOk, IfNone, IfSome, map, 
 ghost use Rattle.model_findings.specs.Problems.{problems};
 ghost use Rattle.model_handoff.specs.Regions.{first_fault};
 ghost use Rattle.findings.specs.Findings.{problem_of};
-ghost use Rattle.monitor.specs.Beginnings.{world_on};
-ghost use Rattle.monitor.specs.Handovers.{number_of, handover_words, words_of, IsFaultOf};
+ghost use Rattle.monitor.specs.{Beginnings.world_on, Handovers.{number_of, handover_words, words_of, IsFaultOf}};
 
 use crate::closed::first_closed;
 use accesses::GuestDecl;

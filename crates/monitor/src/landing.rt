@@ -1,13 +1,9 @@
 //! Where an address of a guest lands.
 ghost use Rattle.std.specs.Prelude.{◌≡◌, List, Option, IfSome, option_map};
-ghost use Rattle.model_board.specs.Paths.{Path};
-ghost use Rattle.model_board.specs.State.{State};
+ghost use Rattle.model_board.specs.{Paths.Path, State.State};
 ghost use Rattle.model_guests.specs.Slots.{Slots, landing_from};
 ghost use Rattle.bars.specs.Kinds.{named_space};
-ghost use Rattle.monitor.specs.Configs.{IsHolding};
-ghost use Rattle.monitor.specs.Keeping.{AreSlots};
-ghost use Rattle.monitor.specs.Landings.{landing_of};
-ghost use Rattle.monitor.specs.Reaches.{LandsIn};
+ghost use Rattle.monitor.specs.{Configs.IsHolding, Keeping.AreSlots, Landings.landing_of, Reaches.LandsIn};
 
 use crate::config::held_in;
 use crate::guest::Held;

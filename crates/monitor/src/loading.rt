@@ -1,19 +1,12 @@
 //! A function of a guest that takes the values of an image, as the guest writes its registers and its device puts
 //! its own bytes. No call takes memory.
 ghost use Rattle.std.specs.Prelude.{◌≡◌, ◌≤◌, ◌<◌, ◌+◌, ◌*◌, ◌^◌, ℕ, IsSome, IsTrue, Some, drop, length, slice_get};
-ghost use Rattle.model_registers.specs.Declarations.{ConfigBlock, Region};
-ghost use Rattle.model_registers.specs.Decoding.{Function};
-ghost use Rattle.model_registers.specs.DeviceBytes.{is_device_byte};
-ghost use Rattle.model_registers.specs.Registers.{config, write, all_bytes};
-ghost use Rattle.model_images.specs.Images.{restored};
-ghost use Rattle.model_images.specs.StepLaws.{put_run, written_run, header_values, header_steps, blocks_steps, blocks_size, region_steps, regions_steps, base_size, steps};
+ghost use Rattle.model_registers.specs.{Declarations.{ConfigBlock, Region}, Decoding.Function, DeviceBytes.is_device_byte, Registers.{config, write, all_bytes}};
+ghost use Rattle.model_images.specs.{Images.restored, StepLaws.{put_run, written_run, header_values, header_steps, blocks_steps, blocks_size, region_steps, regions_steps, base_size, steps}};
 ghost use Rattle.headers.specs.Places.{place_of};
 ghost use Rattle.bridge_forward.specs.Lending.{endpoint_nth};
-ghost use Rattle.host_bridge.specs.ByIndex.{with_file_nth};
-ghost use Rattle.host_bridge.specs.HostState.{with_functions};
-ghost use Rattle.monitor.specs.Configs.{HoldsAt};
-ghost use Rattle.monitor.specs.Counts.{counts_of};
-ghost use Rattle.monitor.specs.Loadings.{KeepsFunction, Becomes, IsLoadable, filled_with, regions_size};
+ghost use Rattle.host_bridge.specs.{ByIndex.with_file_nth, HostState.with_functions};
+ghost use Rattle.monitor.specs.{Configs.HoldsAt, Counts.counts_of, Loadings.{KeepsFunction, Becomes, IsLoadable, filled_with, regions_size}};
 
 use crate::config::{held_in, write_in};
 use crate::guest::Guest;

@@ -1,18 +1,9 @@
 //! Images that are loaded into guests: slot after slot, and then the latch. No call takes memory.
 ghost use Rattle.std.specs.Prelude.{◌≡◌, ◌<◌, List, ℕ, None, Ok, IfSome, IsSome, true, length, map, option_map, take, drop};
-ghost use Rattle.model_guests.specs.Slots.{slot_at};
-ghost use Rattle.model_guests.specs.Guests.{lone_of};
-ghost use Rattle.model_images.specs.Images.{lone_of_image};
-ghost use Rattle.model_images.specs.ImageBytes.{image_of};
-ghost use Rattle.model_images.specs.LoadedBytes.{after_latch, load_fault};
-ghost use Rattle.model_images.specs.TakenBytes.{le_number, slot_size, taken_image};
+ghost use Rattle.model_guests.specs.{Slots.slot_at, Guests.lone_of};
+ghost use Rattle.model_images.specs.{Images.lone_of_image, ImageBytes.image_of, LoadedBytes.{after_latch, load_fault}, TakenBytes.{le_number, slot_size, taken_image}};
 ghost use Rattle.images.specs.Faults.{number_of};
-ghost use Rattle.monitor.specs.ByIndex.{lone_nth, name_nth, with_lone_nth};
-ghost use Rattle.monitor.specs.Counts.{counts_of, counted_nth};
-ghost use Rattle.monitor.specs.Keeping.{IsKept};
-ghost use Rattle.monitor.specs.Moves.{HasSlot};
-ghost use Rattle.monitor.specs.Views.{slot_shown};
-ghost use Rattle.monitor.specs.Loads.{AreLoadable, CanLoad, IsLoaded, KeepsWorld, Takes, slot_loaded, slots_loaded, value_span};
+ghost use Rattle.monitor.specs.{ByIndex.{lone_nth, name_nth, with_lone_nth}, Counts.{counts_of, counted_nth}, Keeping.IsKept, Moves.HasSlot, Views.slot_shown, Loads.{AreLoadable, CanLoad, IsLoaded, KeepsWorld, Takes, slot_loaded, slots_loaded, value_span}};
 
 use crate::engine::Engine;
 use crate::guest::{Guest, Held};

@@ -1,19 +1,11 @@
 //! What a guest's accesses hit.
-ghost use Rattle.std.specs.Prelude.{◌≡◌, ◌<◌, ℕ, List, Option, length, option_map};
-ghost use Rattle.std.specs.Result.{result_map_both};
-ghost use Rattle.model_board.specs.Paths.{Path};
-ghost use Rattle.model_board.specs.State.{State};
-ghost use Rattle.model_guests.specs.Accesses.{configuration};
-ghost use Rattle.model_guests.specs.Slots.{Slots, landing, landing_from};
-ghost use Rattle.model_guests.specs.Guests.{lone_of};
-ghost use Rattle.model_guests.specs.WorldNow.{WorldNow};
+ghost use Rattle.std.specs.{Prelude.{◌≡◌, ◌<◌, ℕ, List, Option, length, option_map}, Result.result_map_both};
+ghost use Rattle.model_board.specs.{Paths.Path, State.State};
+ghost use Rattle.model_guests.specs.{Accesses.configuration, Slots.{Slots, landing, landing_from}, Guests.lone_of, WorldNow.WorldNow};
 ghost use Rattle.model_handoff.specs.Located.{located, location};
 ghost use Rattle.bars.specs.Kinds.{named_space};
-ghost use Rattle.accesses.specs.Accesses.{target_of};
-ghost use Rattle.accesses.specs.Refusals.{number_of};
-ghost use Rattle.monitor.specs.Keeping.{AreSlots};
-ghost use Rattle.monitor.specs.ByIndex.{name_nth, lone_nth};
-ghost use Rattle.monitor.specs.Queries.{IsGuestNth, hit_named};
+ghost use Rattle.accesses.specs.{Accesses.target_of, Refusals.number_of};
+ghost use Rattle.monitor.specs.{Keeping.AreSlots, ByIndex.{name_nth, lone_nth}, Queries.{IsGuestNth, hit_named}};
 
 use crate::config::held_in;
 use crate::engine::Engine;

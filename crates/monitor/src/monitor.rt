@@ -1,15 +1,10 @@
 //! The monitor, which gives functions of a board to guests.
 ghost use Rattle.std.specs.Prelude.{◌≡◌, IfOk, IfErr, None};
-ghost use Rattle.model_guests.specs.World.{HasLawfulGuests};
-ghost use Rattle.model_handoff.specs.AfterSetUp.{world_at_first};
-ghost use Rattle.model_guests.specs.WorldNow.{world_over};
-ghost use Rattle.model_handoff.specs.Handoffs.{IsHandoff, taken_over};
-ghost use Rattle.model_handoff.specs.Regions.{CanBeGiven, first_fault};
-ghost use Rattle.model_handoff.specs.Changes.{BeginsIn};
+ghost use Rattle.model_guests.specs.{World.HasLawfulGuests, WorldNow.world_over};
+ghost use Rattle.model_handoff.specs.{AfterSetUp.world_at_first, Handoffs.{IsHandoff, taken_over}, Regions.{CanBeGiven, first_fault}, Changes.BeginsIn};
 ghost use Rattle.model_images.specs.MachineByteLaws.{CanBeSaved};
 ghost use Rattle.bus_scan.specs.declared.fault.Fault.TheVariants.{Memory};
-ghost use Rattle.monitor.specs.Beginnings.{world_on, world_of};
-ghost use Rattle.monitor.specs.Handovers.{IsFaultOf};
+ghost use Rattle.monitor.specs.{Beginnings.{world_on, world_of}, Handovers.IsFaultOf};
 
 use crate::engine::Engine;
 use crate::handover::{HandoverFault, Refused, first_fault};

@@ -1,9 +1,7 @@
 //! Functions that are moved to another slot.
 ghost use Rattle.std.specs.Prelude.{◌≡◌, ◌<◌, Some, length, option_map, slice_get, slice_set};
 ghost use Rattle.accesses.specs.Refusals.{number_of};
-ghost use Rattle.monitor.specs.Configs.{HoldsAt};
-ghost use Rattle.monitor.specs.Counts.{counts_of, counted_both, counted_nth};
-ghost use Rattle.monitor.specs.Moves.{is_taken, fault_between, HasSlot, IsExchanged, HandsOver};
+ghost use Rattle.monitor.specs.{Configs.HoldsAt, Counts.{counts_of, counted_both, counted_nth}, Moves.{is_taken, fault_between, HasSlot, IsExchanged, HandsOver}};
 
 use crate::config::held_in;
 use crate::counting::counted;

@@ -1,18 +1,10 @@
 //! What a guest's own registers hold: its address latch, and the own copies of the function in each slot.
 ghost use Rattle.std.specs.Prelude.{◌≡◌, ◌<◌, ℕ, length, option_map};
-ghost use Rattle.model_registers.specs.Registers.{File};
-ghost use Rattle.model_registers.specs.OwnCopies.{HoldsOwn, IsLawfulOwn};
-ghost use Rattle.model_registers.specs.Decoding.{Function, command_word};
-ghost use Rattle.model_board.specs.Paths.{Path};
-ghost use Rattle.model_board.specs.State.{State};
-ghost use Rattle.model_guests.specs.Slots.{slot_at};
-ghost use Rattle.model_guests.specs.Guests.{lone_of};
-ghost use Rattle.model_guests.specs.WorldNow.{WorldNow};
+ghost use Rattle.model_registers.specs.{Registers.File, OwnCopies.{HoldsOwn, IsLawfulOwn}, Decoding.{Function, command_word}};
+ghost use Rattle.model_board.specs.{Paths.Path, State.State};
+ghost use Rattle.model_guests.specs.{Slots.slot_at, Guests.lone_of, WorldNow.WorldNow};
+ghost use Rattle.monitor.specs.{Keeping.IsHeld, ByIndex.{name_nth, lone_nth}, Queries.IsGuestNth, OwnTold.{own_now, own_told, standing}};
 ghost use Rattle.bars.specs.Slots as bars;
-ghost use Rattle.monitor.specs.Keeping.{IsHeld};
-ghost use Rattle.monitor.specs.ByIndex.{name_nth, lone_nth};
-ghost use Rattle.monitor.specs.Queries.{IsGuestNth};
-ghost use Rattle.monitor.specs.OwnTold.{own_now, own_told, standing};
 
 use crate::config::held_in;
 use crate::engine::Engine;

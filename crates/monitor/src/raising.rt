@@ -1,17 +1,13 @@
 //! Bits that a device raises in a function of a guest.
 ghost use Rattle.std.specs.Prelude.{◌≡◌, IsSome, is_some};
-ghost use Rattle.model_registers.specs.Decoding.{Function};
-ghost use Rattle.model_registers.specs.OwnCopies.{is_own};
-ghost use Rattle.model_board.specs.Paths.{Path};
-ghost use Rattle.model_board.specs.State.{State};
+ghost use Rattle.model_registers.specs.{Decoding.Function, OwnCopies.is_own};
+ghost use Rattle.model_board.specs.{Paths.Path, State.State};
 ghost use Rattle.model_guests.specs.Slots.{raise_place};
 ghost use Rattle.headers.specs.Places.{place_of};
 ghost use Rattle.bridge_forward.specs.Lending.{endpoint_nth};
-ghost use Rattle.host_bridge.specs.ByIndex.{with_file_nth};
-ghost use Rattle.host_bridge.specs.HostState.{with_functions};
+ghost use Rattle.host_bridge.specs.{ByIndex.with_file_nth, HostState.with_functions};
 ghost use Rattle.accesses.specs.Accesses.{part_of};
-ghost use Rattle.monitor.specs.Keeping.{IsHeld};
-ghost use Rattle.monitor.specs.Raises.{raised_beside_copies};
+ghost use Rattle.monitor.specs.{Keeping.IsHeld, Raises.raised_beside_copies};
 
 use crate::guest::Held;
 use accesses::Place;

@@ -1,17 +1,11 @@
 //! A guest's access of one byte of a region, told by slot and base address register.
 ghost use Rattle.std.specs.Prelude.{◌≡◌, ◌<◌, length};
-ghost use Rattle.model_registers.specs.OwnCopies.{IsLawfulOwn};
-ghost use Rattle.model_registers.specs.Decoding.{Function};
-ghost use Rattle.model_board.specs.Paths.{Path};
-ghost use Rattle.model_board.specs.State.{State};
+ghost use Rattle.model_registers.specs.{OwnCopies.IsLawfulOwn, Decoding.Function};
+ghost use Rattle.model_board.specs.{Paths.Path, State.State};
 ghost use Rattle.model_guests.specs.Accesses.{reads};
 ghost use Rattle.model_handoff.specs.RegionBytes.{byte_reply, opening, register_of};
-ghost use Rattle.accesses.specs.Accesses.{op_of, part_of, reply_of};
-ghost use Rattle.accesses.specs.Replies.{IsRefusal, IsShown};
-ghost use Rattle.monitor.specs.Keeping.{IsHeld};
-ghost use Rattle.monitor.specs.ByIndex.{lone_nth};
-ghost use Rattle.monitor.specs.Counts.{after_byte_nth};
-ghost use Rattle.monitor.specs.DeviceBytes.{device_byte};
+ghost use Rattle.accesses.specs.{Accesses.{op_of, part_of, reply_of}, Replies.{IsRefusal, IsShown}};
+ghost use Rattle.monitor.specs.{Keeping.IsHeld, ByIndex.lone_nth, Counts.after_byte_nth, DeviceBytes.device_byte};
 
 use crate::config::function_in;
 use crate::engine::Engine;
@@ -55,8 +49,7 @@ fn byte_at(held: &Held, place: Place, off: u64) -> Located
 }
 
 impl<R: Route> Engine<R> {
-    ghost use Rattle.monitor.specs.Views.{texts, machine_shown};
-    ghost use Rattle.monitor.specs.Keeping.{IsSound};
+    ghost use Rattle.monitor.specs.{Views.{texts, machine_shown}, Keeping.IsSound};
 
     /// Reads or writes one byte of a region of a guest's function, as an access of the guest does that lands
     /// there by its address: while Command closes the region a read gives all ones and a write is dropped. Where

@@ -1,20 +1,12 @@
 //! Where the regions of guests' functions stand.
-ghost use Rattle.std.specs.Prelude.{◌≡◌, ◌≤◌, ◌<◌, ◌+◌, ℕ, length, option_map};
-ghost use Rattle.std.specs.Result.{result_map_both};
-ghost use Rattle.model_registers.specs.Registers.{File};
-ghost use Rattle.model_registers.specs.Declarations.{registers_of};
-ghost use Rattle.model_registers.specs.OwnCopies.{HoldsOwn, IsLawfulOwn};
-ghost use Rattle.model_registers.specs.Decoding.{Function, base, is_open};
-ghost use Rattle.model_board.specs.Paths.{Path};
-ghost use Rattle.model_board.specs.State.{State};
-ghost use Rattle.model_guests.specs.Guests.{lone_of};
-ghost use Rattle.model_guests.specs.WorldNow.{WorldNow};
+ghost use Rattle.std.specs.{Prelude.{◌≡◌, ◌≤◌, ◌<◌, ◌+◌, ℕ, length, option_map}, Result.result_map_both};
+ghost use Rattle.model_registers.specs.{Registers.File, Declarations.registers_of, OwnCopies.{HoldsOwn, IsLawfulOwn}, Decoding.{Function, base, is_open}};
+ghost use Rattle.model_board.specs.{Paths.Path, State.State};
+ghost use Rattle.model_guests.specs.{Guests.lone_of, WorldNow.WorldNow};
 ghost use Rattle.model_handoff.specs.GuestRegions.{is_prefetchable, region_now, region_at, region_answer};
 ghost use Rattle.accesses.specs.Refusals.{number_of};
 ghost use Rattle.bars.specs.Kinds.{kind_of, named_space};
-ghost use Rattle.monitor.specs.Keeping.{IsHeld};
-ghost use Rattle.monitor.specs.ByIndex.{name_nth, lone_nth};
-ghost use Rattle.monitor.specs.Queries.{IsGuestNth, region_named};
+ghost use Rattle.monitor.specs.{Keeping.IsHeld, ByIndex.{name_nth, lone_nth}, Queries.{IsGuestNth, region_named}};
 
 use crate::config::function_in;
 use crate::engine::Engine;

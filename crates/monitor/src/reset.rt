@@ -1,12 +1,8 @@
 //! Functions that are reset where they are.
 ghost use Rattle.std.specs.Prelude.{◌≡◌, ◌<◌, length};
-ghost use Rattle.model_guests.specs.Guests.{lone_of};
-ghost use Rattle.model_guests.specs.DeviceEvents.{resets, device_answer};
-ghost use Rattle.model_guests.specs.Calls.{at_device};
-ghost use Rattle.model_handoff.specs.Actions.{calls};
-ghost use Rattle.model_handoff.specs.Changes.{after_on_machine};
-ghost use Rattle.accesses.specs.Accesses.{reply_of};
-ghost use Rattle.accesses.specs.Replies.{IsRefusal, IsShown};
+ghost use Rattle.model_guests.specs.{Guests.lone_of, DeviceEvents.{resets, device_answer}, Calls.at_device};
+ghost use Rattle.model_handoff.specs.{Actions.calls, Changes.after_on_machine};
+ghost use Rattle.accesses.specs.{Accesses.reply_of, Replies.{IsRefusal, IsShown}};
 ghost use Rattle.monitor.specs.ByIndex.{name_nth};
 
 use crate::config::function_in;
@@ -16,8 +12,7 @@ use accesses::Reply;
 use host_bridge::Route;
 
 impl<R: Route> Engine<R> {
-    ghost use Rattle.monitor.specs.Views.{texts, machine_shown};
-    ghost use Rattle.monitor.specs.Keeping.{IsSound};
+    ghost use Rattle.monitor.specs.{Views.{texts, machine_shown}, Keeping.IsSound};
 
     /// Resets the function in a guest's slot, where it is: nothing is carried over, as in a move. Or refuses it
     /// and changes nothing: 303 for a slot above 31, else 601 for an empty slot. No memory is taken.

@@ -1,18 +1,9 @@
 //! Guests that are put to reset: all their functions where they are, and their latches.
 ghost use Rattle.std.specs.Prelude.{◌≡◌, ◌≤◌, ◌<◌, ℕ, List, Some, true, length, slice_get, slice_set};
-ghost use Rattle.model_guests.specs.Text.{Text};
-ghost use Rattle.model_guests.specs.WorldNow.{WorldNow};
-ghost use Rattle.model_guests.specs.DeviceEvents.{reset_in};
+ghost use Rattle.model_guests.specs.{Text.Text, WorldNow.WorldNow, DeviceEvents.reset_in};
 ghost use Rattle.model_handoff.specs.Changes.{after_change};
-ghost use Rattle.model_images.specs.Images.{at_reset};
-ghost use Rattle.model_images.specs.Requests.{restarts};
-ghost use Rattle.model_images.specs.RequestLaws.{after_request_on_machine};
-ghost use Rattle.monitor.specs.declared.guest.Guest.{Guest};
-ghost use Rattle.monitor.specs.ByIndex.{lone_nth, name_nth, with_lone_nth};
-ghost use Rattle.monitor.specs.Counts.{counts_of, counted_nth};
-ghost use Rattle.monitor.specs.Keeping.{IsKept};
-ghost use Rattle.monitor.specs.Moves.{HasSlot};
-ghost use Rattle.monitor.specs.Restarts.{slots_at_reset};
+ghost use Rattle.model_images.specs.{Images.at_reset, Requests.restarts, RequestLaws.after_request_on_machine};
+ghost use Rattle.monitor.specs.{declared.guest.Guest.Guest, ByIndex.{lone_nth, name_nth, with_lone_nth}, Counts.{counts_of, counted_nth}, Keeping.IsKept, Moves.HasSlot, Restarts.slots_at_reset};
 
 use crate::counting::counted;
 use crate::engine::Engine;
@@ -76,8 +67,7 @@ pub(crate) fn restart(host: &mut Host, guests: &mut [Guest], guest: usize)
 }
 
 impl<R: Route> Engine<R> {
-    ghost use Rattle.monitor.specs.Views.{texts, machine_shown};
-    ghost use Rattle.monitor.specs.Keeping.{IsSound};
+    ghost use Rattle.monitor.specs.{Views.{texts, machine_shown}, Keeping.IsSound};
 
     /// Resets each function of a guest where it is, and the guest's address latch: nothing is carried over. The
     /// guest is counted once. No memory is taken.

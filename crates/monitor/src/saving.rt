@@ -2,16 +2,9 @@
 //! into a guest. No call takes memory.
 ghost use Rattle.std.specs.Prelude.{◌≡◌, ◌≤◌, ◌<◌, ◌+◌, [], Ok, Err, IfErr, IfOk, length, map, option_map};
 ghost use Rattle.model_guests.specs.Guests.{lone_of};
-ghost use Rattle.model_images.specs.Images.{image_of_guest, image_of_lone};
-ghost use Rattle.model_images.specs.ImageBytes.{image_bytes};
-ghost use Rattle.model_images.specs.LoadedLaws.{IsTakenByAll};
-ghost use Rattle.model_images.specs.LoadedBytes.{after_image, after_slot, after_slots, load_fault};
-ghost use Rattle.images.specs.Faults.{number_of};
-ghost use Rattle.images.specs.Puts.{put};
-ghost use Rattle.images.specs.Shown.{seen};
-ghost use Rattle.monitor.specs.ByIndex.{name_nth};
-ghost use Rattle.monitor.specs.Views.{slot_shown};
-ghost use Rattle.monitor.specs.ShownImages.{HasPlaces, HavePlaces, lone_shown, slot_image, slots_image};
+ghost use Rattle.model_images.specs.{Images.{image_of_guest, image_of_lone}, ImageBytes.image_bytes, LoadedLaws.IsTakenByAll, LoadedBytes.{after_image, after_slot, after_slots, load_fault}};
+ghost use Rattle.images.specs.{Faults.number_of, Puts.put, Shown.seen};
+ghost use Rattle.monitor.specs.{ByIndex.name_nth, Views.slot_shown, ShownImages.{HasPlaces, HavePlaces, lone_shown, slot_image, slots_image}};
 
 use crate::engine::Engine;
 use crate::guest::{Guest, Held};

@@ -1,7 +1,6 @@
 //! The guest and the slot that hold a function.
 ghost use Rattle.std.specs.Prelude.{◌≡◌, ◌+◌, ◌<◌, ◌^◌, length, option_map, position};
-ghost use Rattle.monitor.specs.FunctionsTold.{seat_named, seat_kept};
-ghost use Rattle.monitor.specs.InSlots.{is_at};
+ghost use Rattle.monitor.specs.{FunctionsTold.{seat_named, seat_kept}, InSlots.is_at};
 
 use crate::guest::{Guest, Held};
 

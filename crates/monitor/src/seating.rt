@@ -1,12 +1,8 @@
 //! Functions of the board that come to a guest from none, and leave it for none.
 ghost use Rattle.std.specs.Prelude.{◌≡◌, ◌<◌, length, IfErr};
-ghost use Rattle.model_handoff.specs.Giving.{give_fault, take_reply};
-ghost use Rattle.model_handoff.specs.Actions.{gives, takes};
-ghost use Rattle.model_handoff.specs.Changes.{after_on_machine};
-ghost use Rattle.accesses.specs.Accesses.{reply_of};
-ghost use Rattle.accesses.specs.Replies.{IsRefusal, IsShown};
-ghost use Rattle.monitor.specs.ByIndex.{name_nth};
-ghost use Rattle.monitor.specs.Seatings.{fault_told, gift_nth};
+ghost use Rattle.model_handoff.specs.{Giving.{give_fault, take_reply}, Actions.{gives, takes}, Changes.after_on_machine};
+ghost use Rattle.accesses.specs.{Accesses.reply_of, Replies.{IsRefusal, IsShown}};
+ghost use Rattle.monitor.specs.{ByIndex.name_nth, Seatings.{fault_told, gift_nth}};
 
 use crate::config::function_in;
 use crate::engine::Engine;
@@ -18,8 +14,7 @@ use host_bridge::Route;
 use paths::Path;
 
 impl<R: Route> Engine<R> {
-    ghost use Rattle.monitor.specs.Views.{texts, machine_shown};
-    ghost use Rattle.monitor.specs.Keeping.{IsSound};
+    ghost use Rattle.monitor.specs.{Views.{texts, machine_shown}, Keeping.IsSound};
 
     /// Gives the function at a path, which no guest has, to a guest, into an empty slot: there and on the board
     /// it is at reset, on the board but for what guests have copies of. Or refuses it and changes nothing: 303

@@ -1,14 +1,9 @@
 //! The board on which guests' functions stand, to be read, and who has which of its functions.
 ghost use Rattle.std.specs.Prelude.{◌≡◌, ◌<◌, None, Some, length, slice_get, unwrap_or};
-ghost use Rattle.model_board.specs.AtReset.{board_at};
-ghost use Rattle.model_board.specs.State.{BoardFunction};
-ghost use Rattle.model_guests.specs.World.{declared};
-ghost use Rattle.model_guests.specs.WorldNow.{board_state};
-ghost use Rattle.model_handoff.specs.Handoffs.{IsHandoff};
-ghost use Rattle.model_handoff.specs.ViewLaws.{sits};
-ghost use Rattle.model_images.specs.MachineByteLaws.{IsWritableWorld};
-ghost use Rattle.model_images.specs.MachineLaws.{IsSavableWorld};
-ghost use Rattle.model_images.specs.LoadedMachines.{is_open_there};
+ghost use Rattle.model_board.specs.{AtReset.board_at, State.BoardFunction};
+ghost use Rattle.model_guests.specs.{World.declared, WorldNow.board_state};
+ghost use Rattle.model_handoff.specs.{Handoffs.IsHandoff, ViewLaws.sits};
+ghost use Rattle.model_images.specs.{MachineByteLaws.IsWritableWorld, MachineLaws.IsSavableWorld, LoadedMachines.is_open_there};
 ghost use Rattle.monitor.specs.ByIndex.{guest_nth};
 
 use crate::config::held_in;

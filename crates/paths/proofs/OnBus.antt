@@ -1,9 +1,7 @@
 -- Path order on one bus: one part tells it.
-use Rattle.std.proofs.Common.{◌≡◌, ℕ, ◌+◌, ◌<◌, ◌≤◌, Bool, true, false, ◌&&◌, ◌||◌, [], ◌∷◌, ◌++◌, length, get_or, ap, sym, ◌∙◌, arith, inl, inr, ◌⊎◌, subst}
-use Rattle.std.proofs.lemmas.Bool.Decides.{nat_tests}
+use Rattle.std.proofs.{Common.{◌≡◌, ℕ, ◌+◌, ◌<◌, ◌≤◌, Bool, true, false, ◌&&◌, ◌||◌, [], ◌∷◌, ◌++◌, length, get_or, ap, sym, ◌∙◌, arith, inl, inr, ◌⊎◌, subst}, lemmas.Bool.Decides.nat_tests}
 use Rattle.lists.proofs.Tests.{left_true, right_true, and_true, and_false}
-use Rattle.model_board.specs.Paths.{Part, Path, part_eq, part_before, path_eq, path_before, leads_to}
-use Rattle.model_board.proofs.PlacesLaw.{part_turn}
+use Rattle.model_board.{specs.Paths.{Part, Path, part_eq, part_before, path_eq, path_before, leads_to}, proofs.PlacesLaw.part_turn}
 
 or_false : (a b : Bool) → (a || (b && false)) ≡ a
 or_false a b = grind arith

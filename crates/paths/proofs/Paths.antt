@@ -1,6 +1,5 @@
 -- The last part of a path, by its index.
-use Rattle.std.proofs.Common.{◌≡◌, ℕ, ◌-◌, ◌<◌, suc, [], ◌∷◌, ◌++◌, length, take, get_or, refl, ap, ◌∙◌, sym, ◌≤◌, arith}
-use Rattle.std.proofs.lemmas.Grind.{common_steps}
+use Rattle.std.proofs.{Common.{◌≡◌, ℕ, ◌-◌, ◌<◌, suc, [], ◌∷◌, ◌++◌, length, take, get_or, refl, ap, ◌∙◌, sym, ◌≤◌, arith}, lemmas.Grind.common_steps}
 use Rattle.model_board.specs.Paths.{Part, Path, last_part, parent, function_zero, IsPath}
 
 last_at : (ps : Path) (p : Part) (d : Part) → get_or (p ∷ ps) (length ps) d ≡ last_part (p ∷ ps)

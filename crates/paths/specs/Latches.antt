@@ -10,8 +10,7 @@ use Rattle.model_registers.specs.ConfigAddress.{
   is_data_port,
   selected_offset,
 }
-use Rattle.paths.specs.declared.latch.Select.{Select}
-use Rattle.paths.specs.declared.latch.Select.TheVariants.{Ordinary, Nowhere, Slot}
+use Rattle.paths.specs.declared.latch.Select.{Select, TheVariants.{Ordinary, Nowhere, Slot}}
 
 -- a guest sees its slots as the devices of bus 0, each with function 0 alone
 abbrev pub select_at : ℕ → ℕ → Select

@@ -3,16 +3,9 @@
 --     paths_ordered      path_cmp is a total order
 --     paths_tied      path_eq holds exactly where path_cmp answers Equal
 --     paths_before      path_before, where it answers Less
-use Rattle.std.proofs.Common.{◌≡◌, Ordering, Less, Equal, Greater, true, ◌&&◌, ◌||◌, [], ◌∷◌, refl, sym, ap, ap₂, ◌∙◌, arith, rules}
-use Rattle.std.proofs.lemmas.Bool.Decides.{nat_tests}
-use Rattle.std.specs.Ordering.{is_lt, is_eq, ordering_then}
-use Rattle.std.specs.Cmp.{IsEquivalence, IsTotalOrder}
-use Rattle.std.specs.Cmp.Lexicographic.{lists_total}
-use Rattle.std.specs.Cmp.Rules.{comparing}
-use Rattle.model_board.specs.Paths.{Part, Path, part_eq, part_before, path_eq, path_before}
-use Rattle.model_board.proofs.PathOrder.{path_same}
-use Rattle.model_board.proofs.PathEnds.{path_eq-sym}
 use Rattle.paths.specs.PathOrders.{part_cmp, path_cmp}
+use Rattle.std.{proofs.{Common.{◌≡◌, Ordering, Less, Equal, Greater, true, ◌&&◌, ◌||◌, [], ◌∷◌, refl, sym, ap, ap₂, ◌∙◌, arith, rules}, lemmas.Bool.Decides.nat_tests}, specs.{Ordering.{is_lt, is_eq, ordering_then}, Cmp.{IsEquivalence, IsTotalOrder, Lexicographic.lists_total, Rules.comparing}}}
+use Rattle.model_board.{specs.Paths.{Part, Path, part_eq, part_before, path_eq, path_before}, proofs.{PathOrder.path_same, PathEnds.path_eq-sym}}
 
 part_itself : (p : Part) → part_eq p p ≡ true
 part_itself p = grind (arith, nat_tests)

@@ -1,9 +1,7 @@
 -- Path order as an ordering, as sorting and searching by halving take it.
 --     part_cmp      by device, then by function
 --     path_cmp      part by part, and a path before its extensions
-use Rattle.std.specs.declared.cmp.Ordering.{Ordering}
-use Rattle.std.specs.Ordering.{on, nat_cmp, then_cmp}
-use Rattle.std.specs.Cmp.Lexicographic.{slice_cmp}
+use Rattle.std.specs.{declared.cmp.Ordering.Ordering, Ordering.{on, nat_cmp, then_cmp}, Cmp.Lexicographic.slice_cmp}
 use Rattle.model_board.specs.Paths.{Part, Path}
 
 abbrev pub part_cmp : Part → Part → Ordering

@@ -3,8 +3,7 @@
 ghost use Rattle.std.specs.Prelude.{◌≡◌, ◌%◌, ◌&&◌};
 ghost use Rattle.model_registers.specs.ConfigAddress.{latched, is_enabled, selected_register, is_address_port, is_data_port};
 ghost use Rattle.model_board.specs.Ports.{selected};
-ghost use Rattle.paths.specs.BusAddresses.{bus_address_of};
-ghost use Rattle.paths.specs.Latches.{select_at, IsSelectAt};
+ghost use Rattle.paths.specs.{BusAddresses.bus_address_of, Latches.{select_at, IsSelectAt}};
 
 use crate::bdf::Bdf;
 use std::marker::Model;

@@ -1,10 +1,7 @@
 //! Where a function stands.
-ghost use Rattle.std.specs.Prelude.{◌≡◌, ◌&&◌, not, IsTrue, ◌+◌, ◌<◌, [], ◌∷◌, ◌++◌, length, refl};
-ghost use Rattle.std.specs.Ordering.{is_lt, is_eq, as_partial_cmp};
+ghost use Rattle.std.specs.{Prelude.{◌≡◌, ◌&&◌, not, IsTrue, ◌+◌, ◌<◌, [], ◌∷◌, ◌++◌, length, refl}, Ordering.{is_lt, is_eq, as_partial_cmp}, Cmp.{po, partial_equiv_from_equiv}};
 ghost use Rattle.model_board.specs.Paths.{part_eq, part_before, path_eq, path_before, leads_to, parent, same_device, function_zero, last_part, IsPath};
-ghost use Rattle.std.specs.Cmp.{po, partial_equiv_from_equiv};
-ghost use Rattle.paths.specs.PathOrders.{path_cmp};
-ghost use Rattle.paths.specs.PathLaws.{paths_equal, paths_ordered, paths_tied};
+ghost use Rattle.paths.specs.{PathOrders.path_cmp, PathLaws.{paths_equal, paths_ordered, paths_tied}};
 
 use arrayvec::ArrayVec;
 use std::cmp::Ordering;

@@ -1,9 +1,7 @@
 -- How large a number some bytes hold.
 --     one_more      one byte more, which is the lowest
 --     eight      up to eight bytes
-use Rattle.std.proofs.Common.{◌≡◌, ℕ, ◌+◌, ◌*◌, ◌^◌, ◌<◌, ◌≤◌, sym, ap, ◌∙◌, arith}
-use Rattle.std.proofs.Math.Nat.{pow-le-pow_right}
-use Rattle.std.proofs.lemmas.Grind.{pow_more}
+use Rattle.std.proofs.{Common.{◌≡◌, ℕ, ◌+◌, ◌*◌, ◌^◌, ◌<◌, ◌≤◌, sym, ap, ◌∙◌, arith}, Math.Nat.pow-le-pow_right, lemmas.Grind.pow_more}
 
 pub one_more : (n k byte above : ℕ) → k + 1 ≡ n → byte < 256 → above < 256 ^ k → byte + 256 * above < 256 ^ n
 one_more n k byte above is low small =

@@ -1,16 +1,9 @@
 -- Registers of a function that is found by its path.
 --     number_found      the number of some bytes, by the index at which it is found
 --     own_value      Command among a guest's own copies
-use Rattle.std.proofs.Common.{◌≡◌, ℕ, [], None, Some, Option, slice_get, refl, sym, ap, ◌∙◌}
-use Rattle.std.specs.Prelude.{find, option_and_then, option_map, unwrap_or}
-use Rattle.std.specs.Option.{option_map_or}
-use Rattle.model_registers.specs.Registers.{config, number, all_bytes}
-use Rattle.model_registers.proofs.Parts.{read_none}
-use Rattle.model_registers.specs.OwnCopies.{OwnCopies}
-use Rattle.model_registers.specs.Decoding.{Function, command_word}
-use Rattle.model_board.specs.Paths.{Path, path_eq}
-use Rattle.model_board.specs.Ports.{file_at}
-use Rattle.model_board.specs.State.{BoardFunction, State}
+use Rattle.std.{proofs.Common.{◌≡◌, ℕ, [], None, Some, Option, slice_get, refl, sym, ap, ◌∙◌}, specs.{Prelude.{find, option_and_then, option_map, unwrap_or}, Option.option_map_or}}
+use Rattle.model_registers.{specs.{Registers.{config, number, all_bytes}, OwnCopies.OwnCopies, Decoding.{Function, command_word}}, proofs.Parts.read_none}
+use Rattle.model_board.specs.{Paths.{Path, path_eq}, Ports.file_at, State.{BoardFunction, State}}
 use Rattle.monitor.specs.OwnTold.{own_now}
 
 module _ (s t : State) (p : Path) (i : Option ℕ) (off w : ℕ) where

@@ -2,15 +2,10 @@
 --     slot_row      what C is told of a register, from the program's word
 --     row_told      that it is what the definitions tell of the register
 --     six_alike      six such rows
-use Rattle.std.proofs.Common.{◌≡◌, ℕ, zero, suc, ◌+◌, ◌<◌, List, [], ◌∷◌, Option, Some, None, length, get_or, refl, sym, ◌∙◌, arith}
-use Rattle.std.proofs.lemmas.Bool.{eq-eqb, ne_eqb}
-use Rattle.std.specs.Prelude.{find, ◌==◌}
-use Rattle.std.specs.Option.{option_map_or}
+use Rattle.std.{proofs.{Common.{◌≡◌, ℕ, zero, suc, ◌+◌, ◌<◌, List, [], ◌∷◌, Option, Some, None, length, get_or, refl, sym, ◌∙◌, arith}, lemmas.Bool.{eq-eqb, ne_eqb}}, specs.{Prelude.{find, ◌==◌}, Option.option_map_or}}
 use Rattle.model_registers.specs.EndpointTable.{BaseAddress}
-use Rattle.bars.specs.declared.region.BasedRegion.{BasedRegion}
-use Rattle.bars.specs.Slots.{placed, bases_from}
-use Rattle.pciguest_c.specs.declared.function_row.RegionRow.{RegionRow}
-use Rattle.pciguest_c.specs.FunctionsTold.{region_row, no_region, region_row_at}
+use Rattle.bars.specs.{declared.region.BasedRegion.BasedRegion, Slots.{placed, bases_from}}
+use Rattle.pciguest_c.specs.{declared.function_row.RegionRow.RegionRow, FunctionsTold.{region_row, no_region, region_row_at}}
 
 abbrev pub slot_row : Option BasedRegion → RegionRow
 slot_row slot = option_map_or (λ (r : BasedRegion). region_row (placed 0 r)) slot no_region

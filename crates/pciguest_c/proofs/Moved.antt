@@ -16,12 +16,12 @@ use denote.Param.Send.{IsSend}
 use denote.RattleType.{RattleType}
 use denote.RawPtr.{Ptr}
 use Rattle.std.specs.Prelude.{◌≡◌, Option, Some, None, IsSome, true, false}
-use Rattle.std.proofs.Crossing as crossing
 use Rattle.std_alloc.proofs.SendSync.{lies}
-use Rattle.std_heap.specs.contracts.Global as Heap
 use Rattle.std_heap.proofs.Handle.{handle}
-use Rattle.session.specs.contracts.session.Session as Session
 use Rattle.pciguest_c.specs.Owning.{owner_owns}
+use Rattle.std.proofs.Crossing as crossing
+use Rattle.std_heap.specs.contracts.Global as Heap
+use Rattle.session.specs.contracts.session.Session as Session
 
 abbrev pub Passed : RattleType → RattleType
 Passed R = arg (raw (layout R)) no R

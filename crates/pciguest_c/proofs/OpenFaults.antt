@@ -4,22 +4,18 @@
 --     refused, broken      what is said of a refusal, by its number
 --     known      the fault of which a check tells is none of memory
 --     out_of_memory      one of memory is 199 or 299
-use Rattle.std.proofs.Common.{◌≡◌, ◌≤◌, ◌<◌, ◌⊎◌, ℕ, Option, Some, None, refl, ap, inl, inr, lit<, lit≤, arith}
-use Rattle.std.specs.Prelude.{◌≢◌}
-use Rattle.std.specs.Option.{option_map_or}
+use Rattle.std.{proofs.Common.{◌≡◌, ◌≤◌, ◌<◌, ◌⊎◌, ℕ, Option, Some, None, refl, ap, inl, inr, lit<, lit≤, arith}, specs.{Prelude.◌≢◌, Option.option_map_or}}
 use Rattle.model_guests.specs.Text.{Text}
 use Rattle.board_file.specs.declared.fault.BoardFault.{BoardFault}
-use Rattle.board_file.specs.declared.fault.BoardFault.TheVariants as file
-use Rattle.board_file.specs.Faults as board_file
 use Rattle.bus_scan.specs.declared.fault.Fault.{Fault as SetUpFault}
-use Rattle.bus_scan.specs.declared.fault.Fault.TheVariants as set_up
-use Rattle.bus_scan.specs.Faults as bus_scan
 use Rattle.diagnostics.specs.declared.style.Style.{Style}
 use Rattle.board_fit.specs.declared.warned.Warned.{Warned}
-use Rattle.session.specs.declared.opening.OpenFault.{OpenFault}
-use Rattle.session.specs.declared.opening.OpenFault.TheVariants.{File, SetUp}
-use Rattle.session.specs.Faults.{number_of, OnFile, OnSetUp}
+use Rattle.session.specs.{declared.opening.OpenFault.{OpenFault, TheVariants.{File, SetUp}}, Faults.{number_of, OnFile, OnSetUp}}
 use Rattle.board_told.specs.Checking.{IsCheckText, IsOutOfMemory}
+use Rattle.board_file.specs.declared.fault.BoardFault.TheVariants as file
+use Rattle.board_file.specs.Faults as board_file
+use Rattle.bus_scan.specs.declared.fault.Fault.TheVariants as set_up
+use Rattle.bus_scan.specs.Faults as bus_scan
 
 pub file_is_small : (b : BoardFault) → (101 ≤ board_file.number_of b) × (board_file.number_of b ≤ 199)
 file_is_small file.NotToml = (lit≤ tt, lit≤ tt)

@@ -1,11 +1,8 @@
 -- Rows of places that are told anew, one after the other.
 --     put_next      one more row is told
-use Rattle.std.proofs.Common.{◌≡◌, ℕ, zero, suc, ◌+◌, ◌<◌, List, [], ◌∷◌, ◌++◌, length, take, drop, get_or, refl, sym, ap, ◌∙◌, arith, add-one}
-use Rattle.std.specs.Prelude.{slice_set}
+use Rattle.std.{proofs.Common.{◌≡◌, ℕ, zero, suc, ◌+◌, ◌<◌, List, [], ◌∷◌, ◌++◌, length, take, drop, get_or, refl, sym, ap, ◌∙◌, arith, add-one}, specs.Prelude.slice_set}
 use Rattle.model_guests.specs.WorldNow.{WorldNow}
-use Rattle.pciguest_c.specs.declared.querying.RegionTold.{RegionTold}
-use Rattle.pciguest_c.specs.declared.moves.PlaceRow.{PlaceRow}
-use Rattle.pciguest_c.specs.MovesTold.{place_now, place_row, places_from}
+use Rattle.pciguest_c.specs.{declared.{querying.RegionTold.RegionTold, moves.PlaceRow.PlaceRow}, MovesTold.{place_now, place_row, places_from}}
 
 module _ (w : WorldNow) (guest : ℕ) where
   abbrev told : ℕ → PlaceRow → PlaceRow

@@ -18,49 +18,16 @@
 --         than a reply, and has no less room than a reply may take
 --     AnswersLoad told R before after n      a load, after which the machine is one that R relates, or else by the number that is told of it
 use Rattle.std.specs.Prelude.{◌≡◌, ◌≢◌, ◌==◌, ℕ, List, map, IfNone, IfSome, slice_get, Bool, true, false, unwrap_or, if◌then◌else◌, nat_lt, nat_le, length, Option, None, Some, option_and_then, option_map, Result, Ok, Err}
-use Rattle.model_guests.specs.Accesses.{Op, RaisePlace, Reply, Target, answered, done, refused}
-use Rattle.model_guests.specs.Accesses.{Event, access, raises, reads, writes}
-use Rattle.model_guests.specs.DeviceEvents.{DeviceByte, DeviceEvent, resets, device_reads, device_writes}
-use Rattle.model_guests.specs.Text.{Text}
-use Rattle.model_guests.specs.Grammar.{HostTarget}
-use Rattle.model_guests.specs.Lines.{host_move}
-use Rattle.model_guests.specs.WorldNow.{move_reply, host_reply, board_state, line_output}
-use Rattle.model_guests.specs.Calls.{asks}
-use Rattle.model_findings.specs.Problems.{problems}
-use Rattle.model_findings.specs.Lacks.{lacks}
-use Rattle.model_handoff.specs.Actions.{calls}
-use Rattle.model_handoff.specs.Changes.{MachineNow, after_on_machine, after_line_on_machine}
-use Rattle.model_handoff.specs.Functions.{function_nth}
-use Rattle.model_handoff.specs.DrivenFunctions.{driven_function_nth}
-use Rattle.model_lines.specs.HostAccesses.{HostAccess}
-use Rattle.model_lines.specs.HostAccesses as board
-use Rattle.model_lines.specs.Sessions.{DrivenNow, SessionNow, driven, given, after_board_access, session_output, after_session_line}
+use Rattle.model_guests.specs.{Accesses.{Op, RaisePlace, Reply, Target, answered, done, refused, Event, access, raises, reads, writes}, DeviceEvents.{DeviceByte, DeviceEvent, resets, device_reads, device_writes}, Text.Text, Grammar.HostTarget, Lines.host_move, WorldNow.{move_reply, host_reply, board_state, line_output}, Calls.asks}
+use Rattle.model_findings.specs.{Problems.problems, Lacks.lacks}
+use Rattle.model_handoff.specs.{Actions.calls, Changes.{MachineNow, after_on_machine, after_line_on_machine}, Functions.function_nth, DrivenFunctions.driven_function_nth}
+use Rattle.model_lines.specs.{HostAccesses.HostAccess, Sessions.{DrivenNow, SessionNow, driven, given, after_board_access, session_output, after_session_line}}
 use Rattle.session.specs.Stages.{asks_for_more, board_in, machine_in}
-use Rattle.board_told.specs.Telling.{told_by, counted_by}
-use Rattle.board_told.specs.declared.telling.Question.{Question}
-use Rattle.monitor.specs.ByIndex.{name_nth}
-use Rattle.monitor.specs.Moves.{move_nth}
+use Rattle.board_told.specs.{Telling.{told_by, counted_by}, declared.telling.Question.Question}
+use Rattle.monitor.specs.{ByIndex.name_nth, Moves.move_nth}
 use Rattle.machine_images.specs.SavedParts.{capped}
-use Rattle.pciguest_c.specs.Told.{target_told, part_told, at_bus, host_target_told, reply_asked, after_asked, index_asked}
-use Rattle.pciguest_c.specs.DevicesTold.{reply_at_device, after_at_device, wide_read, after_wide}
-use Rattle.pciguest_c.specs.SeatingsTold.{gift_reply, after_gift, taking_reply, after_taking}
-use Rattle.pciguest_c.specs.ImagesTold.{image_asked, fault_asked, after_restart, machine_image}
-use Rattle.pciguest_c.specs.QueriesTold.{region_asked, region_told, hit_asked, hit_told}
-use Rattle.pciguest_c.specs.MovesTold.{places_from, moved_count}
-use Rattle.pciguest_c.specs.FunctionsTold.{function_told, slot_asked}
-use Rattle.pciguest_c.specs.DrivenTold.{driven_row}
-use Rattle.pciguest_c.specs.WhyTold.{why_asked}
-use Rattle.pciguest_c.specs.ProblemsTold.{problem_row, lack_row}
-use Rattle.pciguest_c.specs.TextsTold.{at_front}
-use Rattle.pciguest_c.specs.Handles.{session_of, machine_of, board_of}
-use Rattle.pciguest_c.specs.declared.asking.Side.{Side}
-use Rattle.pciguest_c.specs.declared.handle.Handle.{Handle}
-use Rattle.pciguest_c.specs.declared.querying.RegionTold.{RegionTold}
-use Rattle.pciguest_c.specs.declared.querying.HitTold.{HitTold}
-use Rattle.pciguest_c.specs.declared.function_row.FunctionTold.{FunctionTold}
-use Rattle.pciguest_c.specs.declared.driven_calls.DrivenRow.{DrivenRow}
-use Rattle.pciguest_c.specs.declared.problem_rows.ProblemRow.{ProblemRow}
-use Rattle.pciguest_c.specs.declared.moves.PlaceRow.{PlaceRow}
+use Rattle.pciguest_c.specs.{Told.{target_told, part_told, at_bus, host_target_told, reply_asked, after_asked, index_asked}, DevicesTold.{reply_at_device, after_at_device, wide_read, after_wide}, SeatingsTold.{gift_reply, after_gift, taking_reply, after_taking}, ImagesTold.{image_asked, fault_asked, after_restart, machine_image}, QueriesTold.{region_asked, region_told, hit_asked, hit_told}, MovesTold.{places_from, moved_count}, FunctionsTold.{function_told, slot_asked}, DrivenTold.driven_row, WhyTold.why_asked, ProblemsTold.{problem_row, lack_row}, TextsTold.at_front, Handles.{session_of, machine_of, board_of}, declared.{asking.Side.Side, handle.Handle.Handle, querying.{RegionTold.RegionTold, HitTold.HitTold}, function_row.FunctionTold.FunctionTold, driven_calls.DrivenRow.DrivenRow, problem_rows.ProblemRow.ProblemRow, moves.PlaceRow.PlaceRow}}
+use Rattle.model_lines.specs.HostAccesses as board
 
 pub data Call : Type 0 where
   read : (guest space slot place width : ℕ) → Call

@@ -3,18 +3,12 @@
 --         or n is the number of why not
 --     board_name      what the board is called in what is told
 --     IsCheckOf board n text      what is told of a board, and the number that refuses it, or 0
-use Rattle.std.specs.Prelude.{◌≡◌, ◌≢◌, ◌<◌, ◌≤◌, ◌⊎◌, ℕ, codes, length, Option}
-use Rattle.std.specs.Option.{option_map_or}
-use Rattle.model_guests.specs.Text.{Text}
-use Rattle.model_guests.specs.World.{World}
-use Rattle.session.specs.Files.{Refuses, Breaks, IsSetUp}
-use Rattle.session.specs.declared.opening.OpenFault.{OpenFault}
-use Rattle.session.specs.Faults.{number_of}
+use Rattle.std.specs.{Prelude.{◌≡◌, ◌≢◌, ◌<◌, ◌≤◌, ◌⊎◌, ℕ, codes, length, Option}, Option.option_map_or}
+use Rattle.model_guests.specs.{Text.Text, World.World}
+use Rattle.session.specs.{Files.{Refuses, Breaks, IsSetUp}, declared.opening.OpenFault.OpenFault, Faults.number_of}
 use Rattle.diagnostics.specs.declared.style.Style.TheVariants.{Plain}
 use Rattle.board_fit.specs.declared.warned.Warned.TheVariants.{Likely}
-use Rattle.board_told.specs.Checking.{IsCheckText}
-use Rattle.board_told.specs.Listing.{report_in}
-use Rattle.board_told.specs.declared.listing.ReportForm.{ReportForm}
+use Rattle.board_told.specs.{Checking.IsCheckText, Listing.report_in, declared.listing.ReportForm.ReportForm}
 use Rattle.pciguest_c.specs.TextsTold.{at_front}
 
 pub record IsReportIn (form : ReportForm) (board before after : Text) (old new n : ℕ) : Type 0 where

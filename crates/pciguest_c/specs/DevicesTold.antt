@@ -9,23 +9,11 @@
 --     width_fault off n      what is no width, or ends past what 64 bits number
 --     wide_read side w guest d n      what is read of n bytes, or the number of the first of these refusals
 --     after_wide side m guest d n v      the machine after a number was written there, if they can be read
-use Rattle.std.specs.Prelude.{ℕ, zero, suc, ◌+◌, ◌*◌, ◌/◌, ◌%◌, ◌^◌, ◌==◌, ◌||◌, nat_lt, nat_le, List, [], ◌∷◌}
-use Rattle.std.specs.Prelude.{if◌then◌else◌, is_ok, Option, None, Some, Result, Ok, Err}
-use Rattle.std.specs.Option.{option_map_or}
-use Rattle.model_guests.specs.Accesses.{Reply, answered, done, refused, reads, writes}
-use Rattle.model_guests.specs.Guests.{lone_of}
-use Rattle.model_guests.specs.WorldNow.{WorldNow}
-use Rattle.model_guests.specs.Calls.{at_device}
-use Rattle.model_guests.specs.DeviceEvents.{DeviceByte, DeviceEvent, device_reads, device_writes, device_answer}
-use Rattle.model_handoff.specs.Actions.{calls}
-use Rattle.model_handoff.specs.Changes.{MachineNow, after_on_machine}
-use Rattle.model_handoff.specs.RegionBytes.{byte_reply}
-use Rattle.monitor.specs.ByIndex.{name_nth, lone_nth}
-use Rattle.monitor.specs.Counts.{after_byte_nth}
-use Rattle.monitor.specs.DeviceBytes.{device_byte}
-use Rattle.pciguest_c.specs.declared.asking.Byte.{Byte}
-use Rattle.pciguest_c.specs.declared.asking.Side.{Side}
-use Rattle.pciguest_c.specs.declared.asking.Side.TheVariants.{Device, Guest}
+use Rattle.std.specs.{Prelude.{ℕ, zero, suc, ◌+◌, ◌*◌, ◌/◌, ◌%◌, ◌^◌, ◌==◌, ◌||◌, nat_lt, nat_le, List, [], ◌∷◌, if◌then◌else◌, is_ok, Option, None, Some, Result, Ok, Err}, Option.option_map_or}
+use Rattle.model_guests.specs.{Accesses.{Reply, answered, done, refused, reads, writes}, Guests.lone_of, WorldNow.WorldNow, Calls.at_device, DeviceEvents.{DeviceByte, DeviceEvent, device_reads, device_writes, device_answer}}
+use Rattle.model_handoff.specs.{Actions.calls, Changes.{MachineNow, after_on_machine}, RegionBytes.byte_reply}
+use Rattle.monitor.specs.{ByIndex.{name_nth, lone_nth}, Counts.after_byte_nth, DeviceBytes.device_byte}
+use Rattle.pciguest_c.specs.declared.asking.{Byte.Byte, Side.{Side, TheVariants.{Device, Guest}}}
 
 abbrev pub reply_at_device : WorldNow → ℕ → DeviceEvent → Reply
 reply_at_device w guest e = device_answer (lone_of w.guests (name_nth w guest)) e

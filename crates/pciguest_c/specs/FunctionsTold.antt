@@ -5,26 +5,13 @@
 --     text_room, text_row t      a text at the front of the bytes that are there for it, the others 0
 --     function_row f i, function_told w f      all that is told of a function, with its interrupt
 --     slot_asked w guest slot      the function in a slot of a guest by its index, or why there is none
-use Rattle.std.specs.Prelude.{◌==◌, ◌-◌, ◌++◌, ℕ, List, [], ◌∷◌, map, length, replicate, find, is_some}
-use Rattle.std.specs.Prelude.{Option, Some, None, Result}
-use Rattle.std.specs.Option.{option_map_or}
-use Rattle.model_registers.specs.Declarations.{registers_of}
-use Rattle.model_registers.specs.Decoding.{space_of}
-use Rattle.model_registers.specs.EndpointTable.{BaseAddress}
-use Rattle.model_board.specs.Windows.{Window}
-use Rattle.model_board.specs.Routing.{Ranges, regions, windows}
-use Rattle.model_guests.specs.Text.{Text}
-use Rattle.model_guests.specs.PathTexts.{path_text}
-use Rattle.model_guests.specs.WorldNow.{WorldNow, board_state}
-use Rattle.model_handoff.specs.GuestRegions.{is_prefetchable}
-use Rattle.model_handoff.specs.Functions.{FunctionNow, Seat, slot_answer}
+use Rattle.std.specs.{Prelude.{◌==◌, ◌-◌, ◌++◌, ℕ, List, [], ◌∷◌, map, length, replicate, find, is_some, Option, Some, None, Result}, Option.option_map_or}
+use Rattle.model_registers.specs.{Declarations.registers_of, Decoding.space_of, EndpointTable.BaseAddress}
+use Rattle.model_board.specs.{Windows.Window, Routing.{Ranges, regions, windows}}
+use Rattle.model_guests.specs.{Text.Text, PathTexts.path_text, WorldNow.{WorldNow, board_state}}
+use Rattle.model_handoff.specs.{GuestRegions.is_prefetchable, Functions.{FunctionNow, Seat, slot_answer}}
 use Rattle.monitor.specs.ByIndex.{name_nth}
-use Rattle.pciguest_c.specs.InterruptsTold.{interrupt_of}
-use Rattle.pciguest_c.specs.QueriesTold.{one_if, space_number}
-use Rattle.pciguest_c.specs.declared.interrupts.Interrupt.{Interrupt}
-use Rattle.pciguest_c.specs.declared.function_row.RegionRow.{RegionRow}
-use Rattle.pciguest_c.specs.declared.function_row.WindowRow.{WindowRow}
-use Rattle.pciguest_c.specs.declared.function_row.FunctionTold.{FunctionTold}
+use Rattle.pciguest_c.specs.{InterruptsTold.interrupt_of, QueriesTold.{one_if, space_number}, declared.{interrupts.Interrupt.Interrupt, function_row.{RegionRow.RegionRow, WindowRow.WindowRow, FunctionTold.FunctionTold}}}
 
 abbrev pub no_region : RegionRow
 no_region = record { first = 0; size = 0; space = 0; prefetchable = 0; is_64_bit = 0 }

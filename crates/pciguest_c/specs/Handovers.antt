@@ -6,11 +6,8 @@
 use Rattle.std.specs.Prelude.{◌≡◌, ◌≢◌, ◌<◌, ◌≤◌, ◌⊎◌, ℕ, true, false, Option, IfNone, IfSome, IsSome, option_and_then}
 use Rattle.model_handoff.specs.Changes.{BeginsIn}
 use Rattle.model_lines.specs.Sessions.{DrivenNow, SessionNow}
-use Rattle.monitor.specs.declared.handover.HandoverFault.{HandoverFault}
-use Rattle.monitor.specs.Handovers.{number_of}
-use Rattle.session.specs.Boards.{IsRefusalOf}
-use Rattle.session.specs.Files.{BreaksRule, IsAtFirst}
-use Rattle.session.specs.Stages.{machine_in}
+use Rattle.monitor.specs.{declared.handover.HandoverFault.HandoverFault, Handovers.number_of}
+use Rattle.session.specs.{Boards.IsRefusalOf, Files.{BreaksRule, IsAtFirst}, Stages.machine_in}
 
 pub record SetsUp (o : Option DrivenNow) (before after : Option SessionNow) (n : ℕ) : Type 0 where
   pub nothing : IfNone o (n ≡ 901)

@@ -7,19 +7,9 @@
 --     machine_image w      the bytes of the image of the whole machine
 --     load_all_number w bytes      0, or the number of why bytes can't be loaded into the machine
 use Rattle.std.specs.Prelude.{ℕ, if◌then◌else◌, length, nat_lt, unwrap_or}
-use Rattle.model_guests.specs.Text.{Text}
-use Rattle.model_guests.specs.Guests.{lone_of}
-use Rattle.model_guests.specs.WorldNow.{WorldNow}
+use Rattle.model_guests.specs.{Text.Text, Guests.lone_of, WorldNow.WorldNow}
 use Rattle.model_handoff.specs.Changes.{MachineNow}
-use Rattle.model_images.specs.Images.{image_of_guest}
-use Rattle.model_images.specs.MachineImages.{image_of_machine}
-use Rattle.model_images.specs.Requests.{restarts}
-use Rattle.model_images.specs.RequestLaws.{after_request_on_machine}
-use Rattle.model_images.specs.ImageBytes.{image_bytes}
-use Rattle.model_images.specs.LoadedBytes.{load_fault}
-use Rattle.model_images.specs.LoadedMachines.{load_all_fault}
-use Rattle.model_images.specs.MachineBytes.{machine_bytes}
-use Rattle.model_images.specs.Differences.{fault_text}
+use Rattle.model_images.specs.{Images.image_of_guest, MachineImages.image_of_machine, Requests.restarts, RequestLaws.after_request_on_machine, ImageBytes.image_bytes, LoadedBytes.load_fault, LoadedMachines.load_all_fault, MachineBytes.machine_bytes, Differences.fault_text}
 use Rattle.monitor.specs.ByIndex.{name_nth}
 
 abbrev pub image_asked : WorldNow → ℕ → Text

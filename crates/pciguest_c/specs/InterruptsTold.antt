@@ -5,16 +5,10 @@
 --     own_command w s      Command of the function in a slot of a guest, as the guest has it
 --     command_now w f      as the guest has it whose function it is, else as the board has it
 --     interrupt_of w f      all that is told of it
-use Rattle.std.specs.Prelude.{ℕ, ◌/◌, ◌%◌, ◌||◌, if◌then◌else◌, length, nat_lt, nat_le}
-use Rattle.std.specs.Option.{option_map_or}
-use Rattle.model_registers.specs.Registers.{config, number}
-use Rattle.model_registers.specs.Decoding.{Function, command_word}
-use Rattle.model_board.specs.Interrupts.{root_device, root_pin}
-use Rattle.model_board.specs.Paths.{Path}
-use Rattle.model_board.specs.Ports.{file_at}
-use Rattle.model_guests.specs.Guests.{lone_of}
-use Rattle.model_guests.specs.Slots.{slot_at}
-use Rattle.model_guests.specs.WorldNow.{WorldNow, board_state}
+use Rattle.std.specs.{Prelude.{ℕ, ◌/◌, ◌%◌, ◌||◌, if◌then◌else◌, length, nat_lt, nat_le}, Option.option_map_or}
+use Rattle.model_registers.specs.{Registers.{config, number}, Decoding.{Function, command_word}}
+use Rattle.model_board.specs.{Interrupts.{root_device, root_pin}, Paths.Path, Ports.file_at}
+use Rattle.model_guests.specs.{Guests.lone_of, Slots.slot_at, WorldNow.{WorldNow, board_state}}
 use Rattle.model_handoff.specs.Functions.{FunctionNow, Seat}
 use Rattle.monitor.specs.ByIndex.{name_nth}
 use Rattle.pciguest_c.specs.declared.interrupts.Interrupt.{Interrupt}

@@ -1,10 +1,8 @@
 -- The words of numbers.
 --     own_words n      those of the numbers that only calls from C answer, or a handover does
 --     words_of_number n      those of a refusal in a reply, of a fault, or of such a call; none of other numbers
-use Rattle.std.specs.Prelude.{ℕ, ◌==◌, if◌then◌else◌, codes}
-use Rattle.std.specs.Option.{option_map_or}
-use Rattle.model_guests.specs.Text.{Text}
-use Rattle.model_guests.specs.Replies.{refusal_words}
+use Rattle.std.specs.{Prelude.{ℕ, ◌==◌, if◌then◌else◌, codes}, Option.option_map_or}
+use Rattle.model_guests.specs.{Text.Text, Replies.refusal_words}
 use Rattle.accesses.specs.Refusals.{number_of, refusal_numbered}
 use Rattle.monitor.specs.Handovers.{handover_words}
 use Rattle.board_told.specs.Faults.{words_of, fault_numbered}

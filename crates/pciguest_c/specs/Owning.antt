@@ -6,8 +6,7 @@ use mir.Syntax.{Ty}
 use base.Fml.{Fml, ftrue}
 use base.Stored.{Coded}
 use denote.RawPtr.{Ptr}
-use Rattle.std.specs.Prelude.{Option, Some, None}
-use Rattle.std.specs.Box.Ownership.{box_owns}
+use Rattle.std.specs.{Prelude.{Option, Some, None}, Box.Ownership.box_owns}
 use Rattle.std_heap.specs.contracts.GlobalAllocator.TheImpl.{ghosts}
 use Rattle.session.specs.contracts.session.Session as Session
 

@@ -5,17 +5,12 @@
 --     named_row kind path other      a kind of problem or lack of a function at a path, with the text of another one
 --     region_row kind q address other      one of a region, at an address
 --     problem_row p, lack_row l      all that is told of a problem, and of a lack
-use Rattle.std.specs.Prelude.{ℕ, [], length, replicate, Option}
-use Rattle.std.specs.Option.{option_map_or}
+use Rattle.std.specs.{Prelude.{ℕ, [], length, replicate, Option}, Option.option_map_or}
 use Rattle.model_board.specs.Paths.{Path}
-use Rattle.model_guests.specs.Text.{Text}
-use Rattle.model_guests.specs.PathTexts.{path_text}
+use Rattle.model_guests.specs.{Text.Text, PathTexts.path_text}
 use Rattle.model_set_up.specs.PlacedRegions.{PlacedRegion}
-use Rattle.model_findings.specs.Problems.{Problem, not_forwarded, contended, not_found}
-use Rattle.model_findings.specs.Lacks.{Lack, not_open, outside_apertures, prefetched_by, other_primary}
-use Rattle.pciguest_c.specs.QueriesTold.{space_number}
-use Rattle.pciguest_c.specs.FunctionsTold.{text_row}
-use Rattle.pciguest_c.specs.declared.problem_rows.ProblemRow.{ProblemRow}
+use Rattle.model_findings.specs.{Problems.{Problem, not_forwarded, contended, not_found}, Lacks.{Lack, not_open, outside_apertures, prefetched_by, other_primary}}
+use Rattle.pciguest_c.specs.{QueriesTold.space_number, FunctionsTold.text_row, declared.problem_rows.ProblemRow.ProblemRow}
 
 abbrev pub no_register : ℕ
 no_register = 6

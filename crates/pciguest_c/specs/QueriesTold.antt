@@ -4,18 +4,12 @@
 --     part_number      the part of a function in which a byte stands: a region by its register, or 6
 --     region_told, hit_told      the answers for C
 use Rattle.std.specs.Prelude.{ℕ, Bool, if◌then◌else◌, Option, Some, None, Result}
-use Rattle.model_registers.specs.Registers.{Place, config, block, offset_of}
-use Rattle.model_registers.specs.Decoding.{Space, io, memory}
-use Rattle.model_guests.specs.Accesses.{Target}
-use Rattle.model_guests.specs.Slots.{Landing}
-use Rattle.model_guests.specs.Guests.{lone_of}
-use Rattle.model_guests.specs.WorldNow.{WorldNow}
-use Rattle.model_handoff.specs.GuestRegions.{region_answer}
-use Rattle.model_handoff.specs.GuestRegions as model
-use Rattle.model_handoff.specs.Located.{location}
+use Rattle.model_registers.specs.{Registers.{Place, config, block, offset_of}, Decoding.{Space, io, memory}}
+use Rattle.model_guests.specs.{Accesses.Target, Slots.Landing, Guests.lone_of, WorldNow.WorldNow}
+use Rattle.model_handoff.specs.{GuestRegions.region_answer, Located.location}
 use Rattle.monitor.specs.ByIndex.{name_nth}
-use Rattle.pciguest_c.specs.declared.querying.RegionTold.{RegionTold}
-use Rattle.pciguest_c.specs.declared.querying.HitTold.{HitTold}
+use Rattle.pciguest_c.specs.declared.querying.{RegionTold.RegionTold, HitTold.HitTold}
+use Rattle.model_handoff.specs.GuestRegions as model
 
 abbrev pub region_asked : WorldNow → ℕ → ℕ → ℕ → Result model.RegionNow ℕ
 region_asked w guest slot register = region_answer (lone_of w.guests (name_nth w guest)) slot register

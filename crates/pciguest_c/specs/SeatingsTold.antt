@@ -1,17 +1,11 @@
 -- What C is told of a function of the board that comes to a guest from none, or leaves it for no other.
 --     gift_reply, after_gift      a gift by the text of its path: the reply, and the machine after it
 --     taking_reply, after_taking      a function that is taken from a guest by its index: the same
-use Rattle.std.specs.Prelude.{ℕ}
-use Rattle.std.specs.Option.{option_map_or}
-use Rattle.model_guests.specs.Text.{Text}
-use Rattle.model_guests.specs.Accesses.{Reply, refused}
-use Rattle.model_guests.specs.WorldNow.{WorldNow}
-use Rattle.model_handoff.specs.Giving.{give_reply, take_reply}
-use Rattle.model_handoff.specs.Actions.{gives, takes}
-use Rattle.model_handoff.specs.Changes.{MachineNow, after_on_machine}
+use Rattle.std.specs.{Prelude.ℕ, Option.option_map_or}
+use Rattle.model_guests.specs.{Text.Text, Accesses.{Reply, refused}, WorldNow.WorldNow}
+use Rattle.model_handoff.specs.{Giving.{give_reply, take_reply}, Actions.{gives, takes}, Changes.{MachineNow, after_on_machine}}
 use Rattle.board_file.specs.PathTexts.{path_of}
-use Rattle.monitor.specs.ByIndex.{name_nth}
-use Rattle.monitor.specs.Seatings.{gift_nth}
+use Rattle.monitor.specs.{ByIndex.name_nth, Seatings.gift_nth}
 
 -- no endpoint stands at a text that is no path
 abbrev pub gift_reply : WorldNow → Text → ℕ → ℕ → Reply

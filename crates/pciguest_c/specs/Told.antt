@@ -7,20 +7,10 @@
 --     host_target_told space at n      the same of a read by the host
 --     part_told n      where a raise goes: a region by its register, or configuration space
 --     reply_asked, after_asked      a guest's event by its index: the reply, and the machine after it
-use Rattle.std.specs.Prelude.{ℕ, ◌==◌, if◌then◌else◌, nat_lt, Option, Some, None, position}
-use Rattle.std.specs.Str.{bytes_eq}
+use Rattle.std.specs.{Prelude.{ℕ, ◌==◌, if◌then◌else◌, nat_lt, Option, Some, None, position}, Str.bytes_eq}
 use Rattle.model_board.specs.Cycles.{BusAddress}
-use Rattle.model_guests.specs.Accesses.{Target, configuration, port, address, RaisePlace, in_config, in_region}
-use Rattle.model_guests.specs.Accesses.{Event, Reply, answered, done, refused}
-use Rattle.model_guests.specs.Grammar.{HostTarget, host_configuration, host_port, host_address}
-use Rattle.model_guests.specs.Lone.{answer}
-use Rattle.model_guests.specs.Text.{Text}
-use Rattle.model_guests.specs.Guests.{lone_of}
-use Rattle.model_guests.specs.Lines.{guest_event}
-use Rattle.model_guests.specs.Calls.{asks}
-use Rattle.model_guests.specs.WorldNow.{WorldNow, names_now}
-use Rattle.model_handoff.specs.Actions.{calls}
-use Rattle.model_handoff.specs.Changes.{MachineNow, after_on_machine}
+use Rattle.model_guests.specs.{Accesses.{Target, configuration, port, address, RaisePlace, in_config, in_region, Event, Reply, answered, done, refused}, Grammar.{HostTarget, host_configuration, host_port, host_address}, Lone.answer, Text.Text, Guests.lone_of, Lines.guest_event, Calls.asks, WorldNow.{WorldNow, names_now}}
+use Rattle.model_handoff.specs.{Actions.calls, Changes.{MachineNow, after_on_machine}}
 use Rattle.monitor.specs.ByIndex.{name_nth}
 
 abbrev pub number_told : Reply → ℕ

@@ -1,10 +1,7 @@
 -- What C is told of why an access of a guest finds what it finds.
 --     why_asked w guest t      the text, or the number by which it isn't told, as that of a read
-use Rattle.std.specs.Prelude.{ℕ, Result, Ok, Err}
-use Rattle.std.specs.Option.{option_map_or}
-use Rattle.model_guests.specs.Accesses.{Target}
-use Rattle.model_guests.specs.Text.{Text}
-use Rattle.model_guests.specs.WorldNow.{WorldNow}
+use Rattle.std.specs.{Prelude.{ℕ, Result, Ok, Err}, Option.option_map_or}
+use Rattle.model_guests.specs.{Accesses.Target, Text.Text, WorldNow.WorldNow}
 use Rattle.model_lines.specs.WhyGuests.{guest_why_text}
 use Rattle.board_told.specs.GuestFindings.{lone_asked, fault_at}
 

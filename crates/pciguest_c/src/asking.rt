@@ -1,9 +1,7 @@
 //! What is asked of a machine, from what C says of it.
-ghost use Rattle.std.specs.Prelude.{◌≡◌, ◌<◌, ◌≤◌, Some, None, IfOk, IfErr, length, position};
-ghost use Rattle.std.specs.Str.{bytes_eq};
+ghost use Rattle.std.specs.{Prelude.{◌≡◌, ◌<◌, ◌≤◌, Some, None, IfOk, IfErr, length, position}, Str.bytes_eq};
 ghost use Rattle.accesses.specs.Accesses.{target_of, part_of};
-ghost use Rattle.pciguest_c.specs.Calls.{where_guest};
-ghost use Rattle.pciguest_c.specs.Told.{index_asked, target_told, part_told};
+ghost use Rattle.pciguest_c.specs.{Calls.where_guest, Told.{index_asked, target_told, part_told}};
 
 use crate::numbers::ARGUMENT;
 use accesses::{At, Names, Place};

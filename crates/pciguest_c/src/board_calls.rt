@@ -1,10 +1,7 @@
 //! What C asks of a board as firmware does. Each call answers 0, or the number of a refusal.
 ghost use Rattle.std.specs.Prelude.{◌≡◌, None, Some, IfErr, IfOk};
-ghost use Rattle.accesses.specs.Accesses.{op_of, reply_of};
-ghost use Rattle.accesses.specs.Replies.{IsRefusal};
-ghost use Rattle.pciguest_c.specs.Told.{at_bus, host_target_told};
-ghost use Rattle.pciguest_c.specs.Calls.{AnswersBoard, board_read, board_write, board_asked};
-ghost use Rattle.pciguest_c.specs.Calls.{nothing, number};
+ghost use Rattle.accesses.specs.{Accesses.{op_of, reply_of}, Replies.IsRefusal};
+ghost use Rattle.pciguest_c.specs.{Told.{at_bus, host_target_told}, Calls.{AnswersBoard, board_read, board_write, board_asked, nothing, number}};
 
 use crate::handle::Handle;
 use crate::host_calls::host_at;

@@ -1,9 +1,7 @@
 //! The board of a handle, as firmware left it, given to the guests of its file.
 ghost use Rattle.std.specs.Prelude.{◌≡◌, ◌≢◌, None, Some, IfNone, IfSome};
-ghost use Rattle.model_lines.specs.GivenLaws.{IsGiven};
-ghost use Rattle.model_lines.specs.Sessions.{handed_over};
-ghost use Rattle.pciguest_c.specs.Handles.{session_of, machine_of, board_of};
-ghost use Rattle.pciguest_c.specs.Handovers.{IsNumberOfRefusal};
+ghost use Rattle.model_lines.specs.{GivenLaws.IsGiven, Sessions.handed_over};
+ghost use Rattle.pciguest_c.specs.{Handles.{session_of, machine_of, board_of}, Handovers.IsNumberOfRefusal};
 
 use crate::handle::Handle;
 use crate::numbers::{IN_USE, NO_MACHINE};

@@ -1,8 +1,7 @@
 //! Our own set-up of a board at reset, for C.
 ghost use Rattle.std.specs.Prelude.{◌≡◌, Some};
 ghost use Rattle.session.specs.Stages.{board_in};
-ghost use Rattle.pciguest_c.specs.Handles.{session_of, board_of};
-ghost use Rattle.pciguest_c.specs.Handovers.{SetsUp};
+ghost use Rattle.pciguest_c.specs.{Handles.{session_of, board_of}, Handovers.SetsUp};
 
 use crate::handle::Handle;
 use crate::numbers::{IN_USE, MEMORY, NO_MACHINE, NOT_AT_RESET};

@@ -2,8 +2,7 @@
 //! lowest first.
 ghost use Rattle.std.specs.Prelude.{◌≡◌, ◌+◌, ◌^◌, ◌<◌, ◌≤◌, IfNone, IfOk, length};
 ghost use Rattle.accesses.specs.Accesses.{reply_of};
-ghost use Rattle.pciguest_c.specs.DevicesTold.{byte_of, byte_read, bytes_from, bytes_read, after_bytes};
-ghost use Rattle.pciguest_c.specs.DevicesTold.{read_reply, after_byte, width_fault, wide_read, after_wide};
+ghost use Rattle.pciguest_c.specs.DevicesTold.{byte_of, byte_read, bytes_from, bytes_read, after_bytes, read_reply, after_byte, width_fault, wide_read, after_wide};
 
 use crate::asking::{Byte, Side};
 use accesses::{Op, Refusal, Reply};

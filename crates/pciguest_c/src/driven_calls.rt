@@ -1,8 +1,7 @@
 //! What is asked of the functions of a board that firmware drives: how many there are, and what is told of each.
 ghost use Rattle.std.specs.Prelude.{◌≡◌};
 ghost use Rattle.session.specs.DrivenFunctions.{driven_function_named};
-ghost use Rattle.pciguest_c.specs.DrivenTold.{driven_row};
-ghost use Rattle.pciguest_c.specs.Calls.{AnswersBoard, board_count, board_function, number, a_driven};
+ghost use Rattle.pciguest_c.specs.{DrivenTold.driven_row, Calls.{AnswersBoard, board_count, board_function, number, a_driven}};
 
 use crate::function_row::{FunctionTold, function_row};
 use crate::handle::Handle;

@@ -1,9 +1,7 @@
 //! What C is told of why an access of a guest finds what it finds.
 ghost use Rattle.std.specs.Prelude.{◌≡◌, IfOk, IfErr, string_bytes};
 ghost use Rattle.model_lines.specs.Sessions.{given};
-ghost use Rattle.pciguest_c.specs.Told.{target_told};
-ghost use Rattle.pciguest_c.specs.Calls.{AnswersOrRunsOut, why, telling_why, text, buffer};
-ghost use Rattle.pciguest_c.specs.Calls.{refusal, tells, unless_out};
+ghost use Rattle.pciguest_c.specs.{Told.target_told, Calls.{AnswersOrRunsOut, why, telling_why, text, buffer, refusal, tells, unless_out}};
 
 use crate::asking::target_for;
 use crate::handle::Handle;

@@ -1,10 +1,8 @@
 //! What is asked of the functions of the board: how many there are, and what is told of each.
 ghost use Rattle.std.specs.Prelude.{◌≡◌, IfErr, IfOk};
 ghost use Rattle.model_lines.specs.Sessions.{given};
-ghost use Rattle.pciguest_c.specs.Calls.{Answers, function_count, function_at, function_in, number, a_function};
-ghost use Rattle.pciguest_c.specs.Calls.{telling_slot, tells, refusal};
+ghost use Rattle.pciguest_c.specs.{Calls.{Answers, function_count, function_at, function_in, number, a_function, telling_slot, tells, refusal}, FunctionsTold.function_told};
 ghost use Rattle.monitor.specs.FunctionsTold.{function_named};
-ghost use Rattle.pciguest_c.specs.FunctionsTold.{function_told};
 
 use crate::asking::check_guest;
 use crate::function_row::{FunctionTold, function_row};

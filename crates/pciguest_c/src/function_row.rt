@@ -1,17 +1,12 @@
 //! What C is told of a function of the board, as one struct without pointers.
-ghost use Rattle.std.specs.Prelude.{◌≡◌, ◌≤◌, length, option_map};
-ghost use Rattle.std.specs.Option.{option_map_or};
+ghost use Rattle.std.specs.{Prelude.{◌≡◌, ◌≤◌, length, option_map}, Option.option_map_or};
 ghost use Rattle.model_board.specs.Routing.{regions};
 ghost use Rattle.model_guests.specs.PathTexts.{path_text};
 ghost use Rattle.model_handoff.specs.GuestRegions.{is_prefetchable};
-ghost use Rattle.bars.specs.Kinds.{kind_of};
-ghost use Rattle.bars.specs.Slots.{placed, bases_from};
-ghost use Rattle.bridge_forward.specs.RoutingRows.{window_of};
-ghost use Rattle.bridge_forward.specs.ByIndex.{ranges_told};
+ghost use Rattle.bars.specs.{Kinds.kind_of, Slots.{placed, bases_from}};
+ghost use Rattle.bridge_forward.specs.{RoutingRows.window_of, ByIndex.ranges_told};
 ghost use Rattle.monitor.specs.FunctionsTold.{function_named};
-ghost use Rattle.pciguest_c.specs.QueriesTold.{one_if};
-ghost use Rattle.pciguest_c.specs.FunctionsTold.{no_region, region_row, region_rows, window_row};
-ghost use Rattle.pciguest_c.specs.FunctionsTold.{window_rows, bridge_number, text_row, function_row};
+ghost use Rattle.pciguest_c.specs.{QueriesTold.one_if, FunctionsTold.{no_region, region_row, region_rows, window_row, window_rows, bridge_number, text_row, function_row}};
 
 use crate::interrupts::Interrupt;
 use crate::text_calls::put;

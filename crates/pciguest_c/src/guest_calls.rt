@@ -2,8 +2,7 @@
 ghost use Rattle.std.specs.Prelude.{◌≡◌, ◌<◌, length};
 ghost use Rattle.model_guests.specs.Accesses.{access, reads};
 ghost use Rattle.accesses.specs.Accesses.{reply_of, target_of};
-ghost use Rattle.pciguest_c.specs.Told.{reply_asked};
-ghost use Rattle.pciguest_c.specs.Calls.{Answers, read, write, raise, guest_named, nothing, number};
+ghost use Rattle.pciguest_c.specs.{Told.reply_asked, Calls.{Answers, read, write, raise, guest_named, nothing, number}};
 
 use crate::asking::{index_named, part_for, target_for};
 use crate::handle::Handle;

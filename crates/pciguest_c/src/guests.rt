@@ -1,8 +1,7 @@
 //! Which guests a machine has: how many, and the name of each.
 ghost use Rattle.std.specs.Prelude.{◌≡◌, ◌<◌, ◌≤◌, IfErr, IfOk, IfSome, length};
 ghost use Rattle.monitor.specs.ByIndex.{name_nth};
-ghost use Rattle.pciguest_c.specs.Handles.{machine_of};
-ghost use Rattle.pciguest_c.specs.Calls.{Answers, guest_count, guest_name, buffer, number};
+ghost use Rattle.pciguest_c.specs.{Handles.machine_of, Calls.{Answers, guest_count, guest_name, buffer, number}};
 
 use crate::asking::guest_count;
 use crate::handle::Handle;

@@ -1,7 +1,5 @@
 //! What C holds.
-ghost use Rattle.std.specs.Prelude.{◌≡◌, Some, None, IfSome, IfNone, Err, is_some};
-ghost use Rattle.std.specs.Bool.{OnFalse};
-ghost use Rattle.std.specs.Fn.{FnOnceReturnsAtMut};
+ghost use Rattle.std.specs.{Prelude.{◌≡◌, Some, None, IfSome, IfNone, Err, is_some}, Bool.OnFalse, Fn.FnOnceReturnsAtMut};
 ghost use Rattle.model_handoff.specs.Changes.{MachineNow};
 ghost use Rattle.model_lines.specs.Sessions.{DrivenNow};
 

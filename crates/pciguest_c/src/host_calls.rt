@@ -1,8 +1,7 @@
 //! What C asks as the host. Each call answers 0, or the number of a refusal.
 ghost use Rattle.std.specs.Prelude.{◌≡◌, ◌<◌, None, Some, true, false, IfErr, IfOk, length, option_map};
 ghost use Rattle.accesses.specs.Accesses.{host_target_of, reply_of};
-ghost use Rattle.pciguest_c.specs.Told.{at_bus, host_target_told};
-ghost use Rattle.pciguest_c.specs.Calls.{Answers, host_read, host_asked, move, are_guests, nothing, number};
+ghost use Rattle.pciguest_c.specs.{Told.{at_bus, host_target_told}, Calls.{Answers, host_read, host_asked, move, are_guests, nothing, number}};
 
 use crate::asking::check_guest;
 use crate::handle::Handle;

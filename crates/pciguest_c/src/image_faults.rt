@@ -1,8 +1,7 @@
 //! What C is told of images of other functions than a guest has.
 ghost use Rattle.std.specs.Prelude.{◌≡◌, IfOk, IfErr, string_bytes};
 ghost use Rattle.model_lines.specs.Sessions.{given};
-ghost use Rattle.pciguest_c.specs.Calls.{AnswersOrRunsOut, image_fault, telling_fault, text, buffer};
-ghost use Rattle.pciguest_c.specs.Calls.{refusal, tells, unless_out};
+ghost use Rattle.pciguest_c.specs.Calls.{AnswersOrRunsOut, image_fault, telling_fault, text, buffer, refusal, tells, unless_out};
 
 use crate::asking::check_guest;
 use crate::handle::Handle;

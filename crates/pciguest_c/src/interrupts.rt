@@ -1,7 +1,6 @@
 //! Which interrupt pin a function has, where that reaches bus 0, and whether its Command disables it.
 ghost use Rattle.std.specs.Prelude.{◌≡◌};
-ghost use Rattle.model_registers.specs.ByteEnables.{LiesInWord};
-ghost use Rattle.model_registers.specs.Registers.{config, number};
+ghost use Rattle.model_registers.specs.{ByteEnables.LiesInWord, Registers.{config, number}};
 ghost use Rattle.model_board.specs.Ports.{file_at};
 ghost use Rattle.model_guests.specs.WorldNow.{board_state};
 ghost use Rattle.monitor.specs.FunctionsTold.{function_named, seat_named};

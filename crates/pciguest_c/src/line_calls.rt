@@ -1,8 +1,6 @@
 //! What a line does and writes, for C.
 ghost use Rattle.std.specs.Prelude.{◌≡◌, ◌≤◌, Some, length};
-ghost use Rattle.pciguest_c.specs.Calls.{Answers, AnswersLine, run_line, buffer};
-ghost use Rattle.pciguest_c.specs.Handles.{session_of};
-ghost use Rattle.pciguest_c.specs.TextsTold.{at_front};
+ghost use Rattle.pciguest_c.specs.{Calls.{Answers, AnswersLine, run_line, buffer}, Handles.session_of, TextsTold.at_front};
 
 use crate::handle::Handle;
 use crate::numbers::{ARGUMENT, MEMORY, NO_MACHINE};

@@ -1,9 +1,7 @@
 //! Images that are loaded into guests.
 ghost use Rattle.std.specs.Prelude.{◌≡◌, ◌≢◌, ◌<◌, IfErr, IfOk, length};
-ghost use Rattle.monitor.specs.ByIndex.{name_nth};
-ghost use Rattle.monitor.specs.Loads.{IsLoaded};
-ghost use Rattle.pciguest_c.specs.Calls.{AnswersLoad};
-ghost use Rattle.pciguest_c.specs.ImagesTold.{load_number, load_asked};
+ghost use Rattle.monitor.specs.{ByIndex.name_nth, Loads.IsLoaded};
+ghost use Rattle.pciguest_c.specs.{Calls.AnswersLoad, ImagesTold.{load_number, load_asked}};
 
 use crate::asking::check_guest;
 use crate::handle::Handle;

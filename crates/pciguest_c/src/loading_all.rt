@@ -1,8 +1,7 @@
 //! Images of whole machines that are loaded.
 ghost use Rattle.std.specs.Prelude.{◌≡◌, ◌≢◌, IfErr, IfOk};
 ghost use Rattle.machine_images.specs.Loading.{LoadsAll};
-ghost use Rattle.pciguest_c.specs.Calls.{AnswersLoad};
-ghost use Rattle.pciguest_c.specs.ImagesTold.{load_all_number};
+ghost use Rattle.pciguest_c.specs.{Calls.AnswersLoad, ImagesTold.load_all_number};
 
 use crate::handle::Handle;
 use crate::numbers::number_of_done;

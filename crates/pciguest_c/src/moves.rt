@@ -1,7 +1,6 @@
 //! Which regions of a guest stand elsewhere than they were told before.
 ghost use Rattle.std.specs.Prelude.{◌≡◌, ◌<◌, ◌==◌, Some, count_by, length};
-ghost use Rattle.pciguest_c.specs.Calls.{Answers, IsAnswer, answer, moved, place_buffer};
-ghost use Rattle.pciguest_c.specs.MovesTold.{is_same, place_now, place_row, places_from};
+ghost use Rattle.pciguest_c.specs.{Calls.{Answers, IsAnswer, answer, moved, place_buffer}, MovesTold.{is_same, place_now, place_row, places_from}};
 
 use crate::asking::check_guest;
 use crate::handle::Handle;

@@ -1,7 +1,6 @@
 //! The numbers that calls answer.
 ghost use Rattle.std.specs.Prelude.{◌≡◌, ◌≢◌, IfOk, IfErr};
-ghost use Rattle.accesses.specs.Accesses.{reply_of};
-ghost use Rattle.accesses.specs.Replies.{IsRefusal};
+ghost use Rattle.accesses.specs.{Accesses.reply_of, Replies.IsRefusal};
 ghost use Rattle.pciguest_c.specs.Told.{number_told, value_told};
 
 use accesses::Reply;

@@ -1,6 +1,5 @@
 //! The pointer that C holds.
-ghost use Rattle.std.specs.Prelude.{◌≡◌, Option, Some, None, IsSome};
-ghost use Rattle.std.specs.Coded.{coded_option};
+ghost use Rattle.std.specs.{Prelude.{◌≡◌, Option, Some, None, IsSome}, Coded.coded_option};
 ghost use Rattle.model_lines.specs.Sessions.{SessionNow};
 ghost use Rattle.pciguest_c.specs.Owning.{session_coded, owner_owns};
 

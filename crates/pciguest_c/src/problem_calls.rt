@@ -1,11 +1,8 @@
 //! What C is told of each problem in the registers of a board, and of each lack.
 ghost use Rattle.std.specs.Prelude.{◌≡◌, IfOk, IfErr, true, false, map};
-ghost use Rattle.model_findings.specs.Problems.{problems};
-ghost use Rattle.model_findings.specs.Lacks.{lacks};
+ghost use Rattle.model_findings.specs.{Problems.problems, Lacks.lacks};
 ghost use Rattle.model_lines.specs.Sessions.{driven};
-ghost use Rattle.pciguest_c.specs.ProblemsTold.{problem_row, lack_row};
-ghost use Rattle.pciguest_c.specs.Calls.{AnswersBoardOrRunsOut, board_findings, finding, rows, row_buffer};
-ghost use Rattle.pciguest_c.specs.Calls.{refusal, tells, unless_out};
+ghost use Rattle.pciguest_c.specs.{ProblemsTold.{problem_row, lack_row}, Calls.{AnswersBoardOrRunsOut, board_findings, finding, rows, row_buffer, refusal, tells, unless_out}};
 
 use crate::handle::Handle;
 use crate::numbers::MEMORY;

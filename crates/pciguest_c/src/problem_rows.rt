@@ -1,15 +1,11 @@
 //! What C is told of a problem or a lack in the registers of a board, as one struct without pointers.
-ghost use Rattle.std.specs.Prelude.{◌≡◌, ◌≤◌, IfOk, length, map};
-ghost use Rattle.std.specs.Option.{option_map_or};
-ghost use Rattle.model_findings.specs.Problems.{not_forwarded, contended, not_found};
-ghost use Rattle.model_findings.specs.Lacks.{other_primary};
+ghost use Rattle.std.specs.{Prelude.{◌≡◌, ◌≤◌, IfOk, length, map}, Option.option_map_or};
+ghost use Rattle.model_findings.specs.{Problems.{not_forwarded, contended, not_found}, Lacks.other_primary};
 ghost use Rattle.model_guests.specs.PathTexts.{path_text};
 ghost use Rattle.bars.specs.Kinds.{named_space};
 ghost use Rattle.paths.specs.BusAddresses.{bus_address_of};
 ghost use Rattle.findings.specs.Findings.{problem_of, lack_of};
-ghost use Rattle.pciguest_c.specs.QueriesTold.{space_number};
-ghost use Rattle.pciguest_c.specs.ProblemsTold.{named_row, region_row, no_register};
-ghost use Rattle.pciguest_c.specs.ProblemsTold.{problem_row, lack_row, reached_text};
+ghost use Rattle.pciguest_c.specs.{QueriesTold.space_number, ProblemsTold.{named_row, region_row, no_register, problem_row, lack_row, reached_text}};
 
 use crate::function_row::text_row;
 use bars::Space;

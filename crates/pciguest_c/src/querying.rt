@@ -2,9 +2,7 @@
 //! accesses hit.
 ghost use Rattle.std.specs.Prelude.{◌≡◌, Some, IfSome, option_map, slice_get};
 ghost use Rattle.monitor.specs.Queries.{region_named, hit_named};
-ghost use Rattle.pciguest_c.specs.Handles.{machine_of};
-ghost use Rattle.pciguest_c.specs.Calls.{Answers, region, changed, locate, number, a_region, a_hit};
-ghost use Rattle.pciguest_c.specs.QueriesTold.{region_told, hit_told};
+ghost use Rattle.pciguest_c.specs.{Handles.machine_of, Calls.{Answers, region, changed, locate, number, a_region, a_hit}, QueriesTold.{region_told, hit_told}};
 
 use crate::asking::{check_guest, target_for};
 use crate::handle::Handle;

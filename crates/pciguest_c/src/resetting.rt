@@ -1,7 +1,6 @@
 //! Functions of guests that are reset where they are, one or all of a guest.
 ghost use Rattle.std.specs.Prelude.{◌≡◌, ◌<◌, length};
-ghost use Rattle.pciguest_c.specs.Calls.{Answers, reset, reset_guest, nothing};
-ghost use Rattle.pciguest_c.specs.ImagesTold.{after_restart};
+ghost use Rattle.pciguest_c.specs.{Calls.{Answers, reset, reset_guest, nothing}, ImagesTold.after_restart};
 
 use crate::asking::check_guest;
 use crate::handle::Handle;

@@ -3,10 +3,7 @@ ghost use Rattle.std.specs.Prelude.{◌≡◌, ◌<◌, Some, IfSome, length};
 ghost use Rattle.model_images.specs.LoadedLaws.{IsTakenByAll};
 ghost use Rattle.session.specs.Stages.{machine_in};
 ghost use Rattle.board_told.specs.GuestFindings.{lone_asked};
-ghost use Rattle.pciguest_c.specs.Handles.{machine_of};
-ghost use Rattle.pciguest_c.specs.Calls.{Answers, IsAnswer, answer, image_size, save, buffer, number};
-ghost use Rattle.pciguest_c.specs.ImagesTold.{image_asked};
-ghost use Rattle.pciguest_c.specs.TextsTold.{IsTold};
+ghost use Rattle.pciguest_c.specs.{Handles.machine_of, Calls.{Answers, IsAnswer, answer, image_size, save, buffer, number}, ImagesTold.image_asked, TextsTold.IsTold};
 
 use crate::asking::check_guest;
 use crate::handle::Handle;

@@ -1,9 +1,7 @@
 //! Images of whole machines: how many bytes the image of the machine has, and its bytes.
 ghost use Rattle.std.specs.Prelude.{◌≡◌, Some, length};
 ghost use Rattle.machine_images.specs.SavedParts.{capped};
-ghost use Rattle.pciguest_c.specs.Calls.{Answers, IsAnswer, answer, image_size_all, save_all, buffer, number};
-ghost use Rattle.pciguest_c.specs.ImagesTold.{machine_image};
-ghost use Rattle.pciguest_c.specs.TextsTold.{IsTold};
+ghost use Rattle.pciguest_c.specs.{Calls.{Answers, IsAnswer, answer, image_size_all, save_all, buffer, number}, ImagesTold.machine_image, TextsTold.IsTold};
 
 use crate::handle::Handle;
 use crate::numbers::{ARGUMENT, NO_MACHINE, put_result};

@@ -3,8 +3,7 @@
 ghost use Rattle.std.specs.Prelude.{◌≡◌, IfOk, IfErr, string_bytes};
 ghost use Rattle.model_lines.specs.Sessions.{driven};
 ghost use Rattle.board_told.specs.Telling.{told_by, counted_by};
-ghost use Rattle.pciguest_c.specs.Calls.{AnswersBoardOrRunsOut, board_survey, surveying, counted, counter};
-ghost use Rattle.pciguest_c.specs.Calls.{refusal, tells, unless_out};
+ghost use Rattle.pciguest_c.specs.Calls.{AnswersBoardOrRunsOut, board_survey, surveying, counted, counter, refusal, tells, unless_out};
 
 use crate::handle::Handle;
 use crate::numbers::MEMORY;

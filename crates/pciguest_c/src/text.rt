@@ -1,9 +1,7 @@
 //! The report of a board file, and what a check says of it.
-ghost use Rattle.std.specs.Prelude.{◌≡◌, ◌≢◌, ◌⊎◌, ◌≤◌, ◌<◌, IfOk, IfErr, string_bytes};
-ghost use Rattle.std.specs.Option.{option_map_or};
+ghost use Rattle.std.specs.{Prelude.{◌≡◌, ◌≢◌, ◌⊎◌, ◌≤◌, ◌<◌, IfOk, IfErr, string_bytes}, Option.option_map_or};
 ghost use Rattle.model_guests.specs.World.{World};
-ghost use Rattle.session.specs.Faults.{number_of};
-ghost use Rattle.session.specs.Files.{Refuses, Breaks, IsSetUp};
+ghost use Rattle.session.specs.{Faults.number_of, Files.{Refuses, Breaks, IsSetUp}};
 ghost use Rattle.board_told.specs.Listing.{report_in};
 ghost use Rattle.pciguest_c.specs.Checks.{IsCheckOf};
 

@@ -1,9 +1,7 @@
 //! What C is told as text.
 ghost use Rattle.std.specs.Prelude.{◌≡◌, ◌≢◌, ◌<◌, ◌≤◌, ◌⊎◌, ℕ, length};
 ghost use Rattle.model_guests.specs.Text.{Text};
-ghost use Rattle.pciguest_c.specs.Checks.{IsCheckOf, IsReportIn};
-ghost use Rattle.pciguest_c.specs.TextsTold.{IsTold, at_front};
-ghost use Rattle.pciguest_c.specs.NumberWords.{words_of_number};
+ghost use Rattle.pciguest_c.specs.{Checks.{IsCheckOf, IsReportIn}, TextsTold.{IsTold, at_front}, NumberWords.words_of_number};
 
 use crate::number_words::words_of;
 use crate::numbers::ARGUMENT;

@@ -1,6 +1,5 @@
 //! A box as the pointer to what it holds.
-ghost use Rattle.std.specs.Prelude.{◌≡◌};
-ghost use Rattle.std.specs.Box.Ownership.{box_owns};
+ghost use Rattle.std.specs.{Prelude.◌≡◌, Box.Ownership.box_owns};
 ghost use Rattle.pciguest_c.specs.Owning.{may_free};
 
 use std::marker::Model;

@@ -1,7 +1,6 @@
 //! What a device itself reads and writes of several bytes of a guest's function at once; and the guest of a region that is
 //! named by its slot and its register, as whoever maps the regions hands an access on.
-ghost use Rattle.pciguest_c.specs.Calls.{Answers, read_wide, write_wide, nothing, number};
-ghost use Rattle.pciguest_c.specs.declared.asking.Side.TheVariants.{Device, Guest};
+ghost use Rattle.pciguest_c.specs.{Calls.{Answers, read_wide, write_wide, nothing, number}, declared.asking.Side.TheVariants.{Device, Guest}};
 
 use crate::asking::{Side, byte_at, part_for};
 use crate::device_bytes::{wide_read, wide_write};

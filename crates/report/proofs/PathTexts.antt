@@ -1,9 +1,7 @@
 -- The text of a path, part by part.
-use Rattle.std.proofs.Common.{◌≡◌, [], ◌∷◌, ◌++◌, sym, ap, ◌∙◌, append-nil, codes}
-use Rattle.std.specs.List.{flat_map}
+use Rattle.std.{proofs.Common.{◌≡◌, [], ◌∷◌, ◌++◌, sym, ap, ◌∙◌, append-nil, codes}, specs.List.flat_map}
 use Rattle.model_board.specs.Paths.{Part, Path}
-use Rattle.model_guests.specs.Text.{Text}
-use Rattle.model_guests.specs.PathTexts.{part_text, path_text}
+use Rattle.model_guests.specs.{Text.Text, PathTexts.{part_text, path_text}}
 
 abbrev pub after_slash : Part → Text
 after_slash p = codes "/" ++ part_text p

@@ -1,9 +1,6 @@
 -- The rows of functions are used up where the shorter of two lists ends.
-use Rattle.std.proofs.Common.{◌≡◌, ℕ, List, [], ◌∷◌, length, drop, min, refl, arith}
-use Rattle.std.proofs.lemmas.List.{drop_all}
-use Rattle.std.proofs.lemmas.Bool.{cases_lt}
-use Rattle.model_set_up.specs.FunctionTable.{TableRow}
-use Rattle.model_set_up.specs.SetUpWrites.{Setting}
+use Rattle.std.proofs.{Common.{◌≡◌, ℕ, List, [], ◌∷◌, length, drop, min, refl, arith}, lemmas.{List.drop_all, Bool.cases_lt}}
+use Rattle.model_set_up.specs.{FunctionTable.TableRow, SetUpWrites.Setting}
 use Rattle.model_handoff.specs.Report.{functions_text}
 
 functions_text_nil : (rs : List TableRow) → functions_text rs [] ≡ []

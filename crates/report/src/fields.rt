@@ -1,9 +1,7 @@
 //! How numbers, paths and kinds are shown.
-ghost use Rattle.std.specs.Prelude.{◌≡◌, ◌<◌, Some, false};
-ghost use Rattle.std.specs.Fmt.{digit_glyph};
+ghost use Rattle.std.specs.{Prelude.{◌≡◌, ◌<◌, Some, false}, Fmt.digit_glyph};
 ghost use Rattle.model_handoff.specs.Report.{kind_text, numbers_text};
-ghost use Rattle.model_guests.specs.PathTexts.{part_text, path_text};
-ghost use Rattle.model_guests.specs.Replies.{hex_digits};
+ghost use Rattle.model_guests.specs.{PathTexts.{part_text, path_text}, Replies.hex_digits};
 ghost use Rattle.bars.specs.Kinds.{kind_of};
 
 use bars::Kind;

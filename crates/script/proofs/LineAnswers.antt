@@ -1,22 +1,9 @@
 -- What is answered of what a line means.
 use Rattle.std.proofs.Common.{◌≡◌, ℕ, Bool, true, false, cond, List, [], ◌∷◌, refl, sym, ap, ap₂, ◌∙◌}
-use Rattle.model_guests.specs.Accesses.{Event, Reply}
-use Rattle.model_guests.specs.Text.{Text, words}
-use Rattle.model_guests.specs.Grammar.{guest, host, is_long, nobody}
-use Rattle.model_guests.specs.Guests.{GuestsNow, Move, lone_of}
-use Rattle.model_guests.specs.Lone.{answer}
-use Rattle.model_guests.specs.Replies.{line_text}
-use Rattle.model_guests.specs.Lines.{Meaning, bad, guest_event, host_move, meaning_of_words}
-use Rattle.model_guests.specs.WorldNow.{WorldNow, guests_after, move_reply, names_now, written_by, after_meaning}
-use Rattle.model_guests.specs.Calls.{asks}
-use Rattle.model_handoff.specs.Actions.{calls}
-use Rattle.model_handoff.specs.Changes.{MachineNow, after_line_on_machine, after_on_machine, moves_by_call}
-use Rattle.model_guests.proofs.Along.{names_meaning}
-use Rattle.lines.specs.Lines.{name_of}
-use Rattle.lines.proofs.GuestNames.{name_of-now}
-use Rattle.monitor.specs.ByIndex.{name_nth}
-use Rattle.monitor.specs.Moves.{move_nth}
-use Rattle.monitor.proofs.Counts.{counts_none}
+use Rattle.model_guests.{specs.{Accesses.{Event, Reply}, Text.{Text, words}, Grammar.{guest, host, is_long, nobody}, Guests.{GuestsNow, Move, lone_of}, Lone.answer, Replies.line_text, Lines.{Meaning, bad, guest_event, host_move, meaning_of_words}, WorldNow.{WorldNow, guests_after, move_reply, names_now, written_by, after_meaning}, Calls.asks}, proofs.Along.names_meaning}
+use Rattle.model_handoff.specs.{Actions.calls, Changes.{MachineNow, after_line_on_machine, after_on_machine, moves_by_call}}
+use Rattle.lines.{specs.Lines.name_of, proofs.GuestNames.name_of-now}
+use Rattle.monitor.{specs.{ByIndex.name_nth, Moves.move_nth}, proofs.Counts.counts_none}
 
 -- ---- guests by their places
 

@@ -3,12 +3,7 @@
 --     reply_to w m      what a line of this meaning is replied, if it makes output
 --     refusal_in w line, refusal_on_machine m line      that of a line
 use Rattle.std.specs.Prelude.{ℕ, Option, None, Some, option_and_then}
-use Rattle.model_guests.specs.Accesses.{Reply, answered, done, refused}
-use Rattle.model_guests.specs.Text.{Text}
-use Rattle.model_guests.specs.Lone.{answer}
-use Rattle.model_guests.specs.Guests.{lone_of}
-use Rattle.model_guests.specs.Lines.{Meaning, nothing, guest_event, host_read, host_move, bad, meaning}
-use Rattle.model_guests.specs.WorldNow.{WorldNow, names_now, host_reply, move_reply}
+use Rattle.model_guests.specs.{Accesses.{Reply, answered, done, refused}, Text.Text, Lone.answer, Guests.lone_of, Lines.{Meaning, nothing, guest_event, host_read, host_move, bad, meaning}, WorldNow.{WorldNow, names_now, host_reply, move_reply}}
 use Rattle.model_handoff.specs.Changes.{MachineNow}
 
 abbrev pub refusal_of : Reply → Option ℕ

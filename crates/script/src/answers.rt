@@ -1,16 +1,10 @@
 //! What a line does and writes.
 ghost use Rattle.std.specs.Prelude.{◌≡◌, ◌<◌, ◌++◌, ◌∷◌, [], length, option_map, MatchOption, IfSome};
-ghost use Rattle.model_guests.specs.Text.{Text};
-ghost use Rattle.model_guests.specs.Replies.{line_text};
-ghost use Rattle.model_guests.specs.WorldNow.{names_now, written_by, line_output};
-ghost use Rattle.model_guests.specs.Calls.{asks};
-ghost use Rattle.model_handoff.specs.Actions.{calls};
-ghost use Rattle.model_handoff.specs.Changes.{after_on_machine, after_line_on_machine, machine_protocol};
-ghost use Rattle.accesses.specs.Accesses.{reply_of};
-ghost use Rattle.accesses.specs.Replies.{IsShown};
-ghost use Rattle.lines.specs.Pieces.{IsBefore};
+ghost use Rattle.model_guests.specs.{Text.Text, Replies.line_text, WorldNow.{names_now, written_by, line_output}, Calls.asks};
+ghost use Rattle.model_handoff.specs.{Actions.calls, Changes.{after_on_machine, after_line_on_machine, machine_protocol}};
+ghost use Rattle.accesses.specs.{Accesses.reply_of, Replies.IsShown};
+ghost use Rattle.lines.specs.{Pieces.IsBefore, Lines.{who_of, meaning_of, GuestIs, GuestsAre}};
 ghost use Rattle.script.specs.Refusals.{refusal_of, reply_to, refusal_in, refusal_on_machine};
-ghost use Rattle.lines.specs.Lines.{who_of, meaning_of, GuestIs, GuestsAre};
 
 use lines::{Answer, Answers, LineText, What, Who, line_meaning, push_line};
 use monitor::{Monitor, Refusal, Reply};

@@ -1,8 +1,7 @@
 //! A run of a whole script.
 ghost use Rattle.std.specs.Prelude.{◌≡◌, ◌+◌, ◌-◌, ◌^◌, ◌<◌, IsErrOf};
 ghost use Rattle.model_handoff.specs.Changes.{machine_protocol};
-ghost use Rattle.lines.specs.Faults.{read_failures_of, write_failures_of};
-ghost use Rattle.lines.specs.Runs.{Runs, ends};
+ghost use Rattle.lines.specs.{Faults.{read_failures_of, write_failures_of}, Runs.{Runs, ends}};
 
 use crate::answers::Script;
 use lines::RunFault;

@@ -3,25 +3,18 @@
 --     refused_by, refused_file      a file that is refused, by what reading it answers
 --     same_world      a host with the board and the apertures of another one has its world
 --     opened      what begins with the world of a file is opened of it
-use Rattle.std.proofs.Common.{◌≡◌, Result, Ok, Err, sym, ap, ap₂, subst}
-use Rattle.std.specs.Prelude.{◌≢◌, List, IfErr, IsUtf8}
-use Rattle.std.specs.Result.{IsErrAnd}
+use Rattle.std.{proofs.Common.{◌≡◌, Result, Ok, Err, sym, ap, ap₂, subst}, specs.{Prelude.{◌≢◌, List, IfErr, IsUtf8}, Result.IsErrAnd}}
 use Rattle.toml.specs.Parse.{parse_document}
 use Rattle.model_board.specs.Board.{Board}
-use Rattle.model_guests.specs.Text.{Text}
-use Rattle.model_guests.specs.World.{Guest, World}
+use Rattle.model_guests.specs.{Text.Text, World.{Guest, World}}
 use Rattle.model_handoff.specs.Changes.{MachineNow, BeginsIn}
 use Rattle.host_bridge.specs.HostState.{HostState}
 use Rattle.window_packing.specs.Readies.{board_below}
-use Rattle.board_file.specs.declared.fault.BoardFault.{BoardFault}
+use Rattle.board_file.specs.{declared.fault.BoardFault.BoardFault, Meaning.document_meaning}
+use Rattle.monitor.specs.Beginnings.{world_on}
+use Rattle.session.specs.{declared.opening.OpenFault.{OpenFault, TheVariants.File}, Faults.OnFile, Files.{Declares, Refuses, IsAtFirst, IsOpened}}
 use Rattle.board_file.specs.declared.fault.BoardFault.TheVariants as file
 use Rattle.board_file.specs.Faults as board_file
-use Rattle.board_file.specs.Meaning.{document_meaning}
-use Rattle.monitor.specs.Beginnings.{world_on}
-use Rattle.session.specs.declared.opening.OpenFault.{OpenFault}
-use Rattle.session.specs.declared.opening.OpenFault.TheVariants.{File}
-use Rattle.session.specs.Faults.{OnFile}
-use Rattle.session.specs.Files.{Declares, Refuses, IsAtFirst, IsOpened}
 
 pub declares : {bytes : Text} {w : World} → IsUtf8 bytes × (document_meaning (parse_document bytes) ≡ Ok w) → Declares bytes w
 declares (text, meaning) = record { is_text = text; meaning = meaning }

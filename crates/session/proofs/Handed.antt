@@ -1,24 +1,14 @@
 -- Whatever firmware does, the board stays the one that it was, in a state that may be handed over.
 --     at_first      a board at reset
 --     IsAsked, asked_at      the board after an access, by what the code keeps of it
-use Rattle.std.proofs.Common.{◌≡◌, ◌||◌, ℕ, Bool, true, false, List, Option, None, Some, refl, sym, ap, ap₂, ◌∙◌, subst}
-use Rattle.std.specs.Option.{option_map_or}
-use Rattle.std.proofs.lemmas.Bool.{or_parts}
-use Rattle.model_board.specs.AtReset.{board_at, reset_state}
-use Rattle.model_board.specs.Board.{Board}
-use Rattle.model_board.specs.State.{State}
-use Rattle.model_guests.specs.Accesses.{Reply, reads, refused, answered}
-use Rattle.model_guests.specs.Grammar.{HostTarget}
-use Rattle.model_guests.specs.World.{Guest, World, IsLawfulWorld}
-use Rattle.model_lines.specs.HostAccesses.{HostAccess, fault_of, answer, after_access}
-use Rattle.model_lines.specs.Sessions.{DrivenNow, at_reset, is_done, after_board_access}
-use Rattle.model_lines.proofs.FirmwareLeaves.{access_leaves}
-use Rattle.model_lines.proofs.Written.{accesses_tell_written}
+use Rattle.std.{proofs.{Common.{◌≡◌, ◌||◌, ℕ, Bool, true, false, List, Option, None, Some, refl, sym, ap, ap₂, ◌∙◌, subst}, lemmas.Bool.or_parts}, specs.Option.option_map_or}
+use Rattle.model_board.specs.{AtReset.{board_at, reset_state}, Board.Board, State.State}
+use Rattle.model_guests.specs.{Accesses.{Reply, reads, refused, answered}, Grammar.HostTarget, World.{Guest, World, IsLawfulWorld}}
+use Rattle.model_lines.{specs.{HostAccesses.{HostAccess, fault_of, answer, after_access}, Sessions.{DrivenNow, at_reset, is_done, after_board_access}}, proofs.{FirmwareLeaves.access_leaves, Written.accesses_tell_written}}
 use Rattle.model_handoff.specs.Handoffs.{IsHandoff}
 use Rattle.host_bridge.specs.HostState.{HostState}
 use Rattle.monitor.specs.Beginnings.{world_on}
-use Rattle.session.specs.Boards.{board_now, IsBoardNow}
-use Rattle.session.specs.Hosts.{after_asked}
+use Rattle.session.specs.{Boards.{board_now, IsBoardNow}, Hosts.after_asked}
 
 pub at_first : (h : HostState) (gs : List Guest) → IsLawfulWorld (world_on h gs)
     → IsHandoff h.state → h.state ≡ reset_state (board_at h.state.functions) → IsBoardNow (board_now h gs false)

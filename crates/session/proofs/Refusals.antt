@@ -1,13 +1,10 @@
 -- What is written of a board that isn't handed over: what stands in the way, and the refusal.
 --     refusal      the line of a refusal, with its LF
 --     refusal_written      the two lines are those of the definitions
-use Rattle.std.proofs.Common.{◌≡◌, true, false, [], ◌++◌, sym, ap, ◌∙◌, append-nil}
-use Rattle.std.specs.Prelude.{IfSome, IsSome}
+use Rattle.std.{proofs.Common.{◌≡◌, true, false, [], ◌++◌, sym, ap, ◌∙◌, append-nil}, specs.Prelude.{IfSome, IsSome}}
 use Rattle.model_guests.specs.Text.{Text, ended}
 use Rattle.model_lines.specs.Sessions.{refused_line, handover_output}
-use Rattle.monitor.specs.declared.handover.HandoverFault.{HandoverFault}
-use Rattle.monitor.specs.declared.handover.HandoverFault.TheVariants.{NotInOrder, Closed, Memory}
-use Rattle.monitor.specs.Handovers.{number_of, words_of, handoff_fault}
+use Rattle.monitor.specs.{declared.handover.HandoverFault.{HandoverFault, TheVariants.{NotInOrder, Closed, Memory}}, Handovers.{number_of, words_of, handoff_fault}}
 use Rattle.session.specs.Tellings.{cause_text}
 
 abbrev refusal : HandoverFault → Text

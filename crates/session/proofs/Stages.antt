@@ -2,27 +2,12 @@
 --     handed_over_as      the session that a machine makes, which guests have
 --     IsAnswered, answered      what the line of a handover that is done writes and leaves
 --     told_refusal      the number by which one is refused
-use Rattle.std.proofs.Common.{◌≡◌, ℕ, false, true, None, List, refl, sym, ap, ap₂, ◌∙◌, map}
-use Rattle.std.specs.Prelude.{IfSome, IsSome, Some}
-use Rattle.model_guests.specs.Text.{Text}
-use Rattle.model_guests.specs.Guests.{GuestNow}
-use Rattle.model_guests.specs.WorldNow.{WorldNow}
-use Rattle.model_handoff.specs.Changes.{MachineNow, BeginsIn}
-use Rattle.model_handoff.specs.Regions.{first_fault}
-use Rattle.model_handoff.proofs.Served.{fault_decides}
-use Rattle.model_lines.specs.GivenLaws.{IsGiven}
-use Rattle.model_lines.specs.Requests.{for_guests, request}
-use Rattle.model_lines.specs.Sessions.{DrivenNow, SessionNow, driven, given, handed_over, after_handover, handover_output, told_output}
-use Rattle.model_lines.specs.Sessions.{after_session_line, session_output}
-use Rattle.std.specs.Option.{option_map_or}
-use Rattle.model_lines.specs.FirmwareLines.{line_output, meaning}
-use Rattle.model_lines.proofs.SessionLines.{handover_leaves}
-use Rattle.monitor.specs.declared.handover.HandoverFault.{HandoverFault}
-use Rattle.monitor.specs.declared.handover.HandoverFault.TheVariants.{NotInOrder, Closed, Memory}
-use Rattle.monitor.specs.Handovers.{number_of, handoff_fault}
-use Rattle.session.specs.Boards.{IsHandedOverAs, IsRefusalOf}
-use Rattle.session.specs.Refusals.{handover_refusal, refusal_by, refusal_in, request_refusal}
-use Rattle.session.specs.Stages.{board_in, IsDriven}
+use Rattle.std.{proofs.Common.{◌≡◌, ℕ, false, true, None, List, refl, sym, ap, ap₂, ◌∙◌, map}, specs.{Prelude.{IfSome, IsSome, Some}, Option.option_map_or}}
+use Rattle.model_guests.specs.{Text.Text, Guests.GuestNow, WorldNow.WorldNow}
+use Rattle.model_handoff.{specs.{Changes.{MachineNow, BeginsIn}, Regions.first_fault}, proofs.Served.fault_decides}
+use Rattle.model_lines.{specs.{GivenLaws.IsGiven, Requests.{for_guests, request}, Sessions.{DrivenNow, SessionNow, driven, given, handed_over, after_handover, handover_output, told_output, after_session_line, session_output}, FirmwareLines.{line_output, meaning}}, proofs.SessionLines.handover_leaves}
+use Rattle.monitor.specs.{declared.handover.HandoverFault.{HandoverFault, TheVariants.{NotInOrder, Closed, Memory}}, Handovers.{number_of, handoff_fault}}
+use Rattle.session.specs.{Boards.{IsHandedOverAs, IsRefusalOf}, Refusals.{handover_refusal, refusal_by, refusal_in, request_refusal}, Stages.{board_in, IsDriven}}
 
 machine_is : (m : MachineNow) (w : WorldNow) → m.world ≡ w → m.counts ≡ map (λ (g : GuestNow). 0) m.world.guests
     → m ≡ record { world = w; counts = map (λ (g : GuestNow). 0) w.guests }

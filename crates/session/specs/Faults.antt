@@ -2,12 +2,11 @@
 --     number_of      the number of a fault
 --     OnFile P f, OnSetUp P f      where f refuses the file, or its board, its number has P
 use Rattle.std.specs.Prelude.{◌≢◌, ℕ, ⊤}
+use Rattle.session.specs.declared.opening.OpenFault.{OpenFault, TheVariants.{File, SetUp}}
 use Rattle.board_file.specs.declared.fault.BoardFault.TheVariants as file
 use Rattle.board_file.specs.Faults as board_file
 use Rattle.bus_scan.specs.declared.fault.Fault.TheVariants as set_up
 use Rattle.bus_scan.specs.Faults as bus_scan
-use Rattle.session.specs.declared.opening.OpenFault.{OpenFault}
-use Rattle.session.specs.declared.opening.OpenFault.TheVariants.{File, SetUp}
 
 abbrev pub number_of : OpenFault → ℕ
 number_of (File b) = board_file.number_of b

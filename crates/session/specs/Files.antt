@@ -10,9 +10,7 @@ use Rattle.std.specs.Prelude.{◌≡◌, ℕ, None, Some, Ok, Err, IsUtf8}
 use Rattle.toml.specs.Parse.{parse_document}
 use Rattle.model_registers.specs.DeclarationRules.{first_broken}
 use Rattle.model_set_up.specs.SetUpWrites.{set_up_rules}
-use Rattle.model_guests.specs.Text.{Text}
-use Rattle.model_guests.specs.World.{World, IsLawfulWorld}
-use Rattle.model_guests.specs.WorldNow.{WorldNow}
+use Rattle.model_guests.specs.{Text.Text, World.{World, IsLawfulWorld}, WorldNow.WorldNow}
 use Rattle.model_handoff.specs.AfterSetUp.{world_at_first}
 use Rattle.board_file.specs.Meaning.{document_meaning}
 

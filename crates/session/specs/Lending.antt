@@ -1,8 +1,7 @@
 -- What a session is once its board, or its guests, were lent.
 --     LendsBoard s b      it is driven, with the board that was left behind b
 --     LendsMonitor s m      it is given, with the guests that were left behind m
-use Rattle.std.specs.Prelude.{Option}
-use Rattle.std.specs.Borrow.{LendsIf, MutBor, Fml}
+use Rattle.std.specs.{Prelude.Option, Borrow.{LendsIf, MutBor, Fml}}
 use Rattle.model_handoff.specs.Changes.{MachineNow}
 use Rattle.model_lines.specs.Sessions.{DrivenNow, SessionNow, driven, given}
 use Rattle.claim_table.specs.contracts.table.Table as table

@@ -2,15 +2,11 @@
 --     refusal_by s m      that of a line of firmware of this meaning
 --     handover_refusal f      that of a handover, by what stands in its way
 --     refusal_in x line      that of a line
-use Rattle.std.specs.Prelude.{ℕ, Option, None, Some}
-use Rattle.std.specs.Option.{option_map_or}
+use Rattle.std.specs.{Prelude.{ℕ, Option, None, Some}, Option.option_map_or}
 use Rattle.model_board.specs.State.{State}
 use Rattle.model_guests.specs.Text.{Text}
 use Rattle.model_handoff.specs.Regions.{HandoffFault, in_disorder, closed_region, first_fault}
-use Rattle.model_lines.specs.HostAccesses.{answer}
-use Rattle.model_lines.specs.FirmwareLines.{Meaning, nothing, asked, bad, meaning}
-use Rattle.model_lines.specs.Requests.{Request, for_guests, request}
-use Rattle.model_lines.specs.Sessions.{DrivenNow, SessionNow, driven, given}
+use Rattle.model_lines.specs.{HostAccesses.answer, FirmwareLines.{Meaning, nothing, asked, bad, meaning}, Requests.{Request, for_guests, request}, Sessions.{DrivenNow, SessionNow, driven, given}}
 use Rattle.script.specs.Refusals.{refusal_of}
 use Rattle.script.specs.Refusals as script
 

@@ -7,10 +7,8 @@
 use Rattle.std.specs.Prelude.{Bool, false, [], Option, None, Some, is_some, IsSome, ⊤}
 use Rattle.model_handoff.specs.Changes.{MachineNow}
 use Rattle.model_guests.specs.Text.{Text}
-use Rattle.model_lines.specs.Requests.{request}
-use Rattle.model_lines.specs.Sessions.{DrivenNow, SessionNow, driven, given}
-use Rattle.session.specs.declared.stage.Stage.{Stage}
-use Rattle.session.specs.declared.stage.Stage.TheVariants.{Driven, Given, Between}
+use Rattle.model_lines.specs.{Requests.request, Sessions.{DrivenNow, SessionNow, driven, given}}
+use Rattle.session.specs.declared.stage.Stage.{Stage, TheVariants.{Driven, Given, Between}}
 
 -- within a handover there is no session
 abbrev pub session_now : Stage → SessionNow

@@ -1,14 +1,12 @@
 //! What firmware reads and writes.
 ghost use Rattle.std.specs.Prelude.{◌≡◌, ◌%◌};
-ghost use Rattle.model_registers.specs.Registers.{all_bytes};
-ghost use Rattle.model_registers.specs.ByteEnables.{IsWidth};
+ghost use Rattle.model_registers.specs.{Registers.all_bytes, ByteEnables.IsWidth};
 ghost use Rattle.model_board.specs.Ports.{config_reply, after_config_write};
 ghost use Rattle.model_guests.specs.Accesses.{reads, writes};
 ghost use Rattle.model_lines.specs.HostAccesses.{answer};
 ghost use Rattle.paths.specs.BusAddresses.{bus_address_of};
 ghost use Rattle.host_bridge.specs.HostState.{with_functions, with_latch};
-ghost use Rattle.accesses.specs.Accesses.{reply_of};
-ghost use Rattle.accesses.specs.Replies.{IsRefusal, IsShown};
+ghost use Rattle.accesses.specs.{Accesses.reply_of, Replies.{IsRefusal, IsShown}};
 ghost use Rattle.lines.specs.FirmwareLines.{host_asked};
 ghost use Rattle.session.specs.Hosts.{after_asked};
 

@@ -1,10 +1,8 @@
 //! What a line of a session means.
 ghost use Rattle.std.specs.Prelude.{◌≡◌, ◌++◌};
 ghost use Rattle.model_guests.specs.Text.{Text};
-ghost use Rattle.model_lines.specs.FirmwareLines.{meaning};
-ghost use Rattle.model_lines.specs.Requests.{request};
-ghost use Rattle.lines.specs.FirmwareLines.{firmware_meaning_of, requested};
-ghost use Rattle.lines.specs.Pieces.{IsBefore};
+ghost use Rattle.model_lines.specs.{FirmwareLines.meaning, Requests.request};
+ghost use Rattle.lines.specs.{FirmwareLines.{firmware_meaning_of, requested}, Pieces.IsBefore};
 
 use accesses::Refusal;
 use lines::{FirmwareWhat, firmware_meaning};

@@ -1,11 +1,9 @@
 //! What is told of each function of a board that firmware drives, as its registers stand.
 ghost use Rattle.std.specs.Prelude.{◌≡◌, length, option_map};
 ghost use Rattle.model_registers.specs.Decoding.{opens_space};
-ghost use Rattle.model_board.specs.Cycles.{reached};
-ghost use Rattle.model_board.specs.State.{BoardFunction};
+ghost use Rattle.model_board.specs.{Cycles.reached, State.BoardFunction};
 ghost use Rattle.model_findings.specs.Orderly.{IsStateOfBoard};
-ghost use Rattle.model_handoff.specs.Functions.{is_there};
-ghost use Rattle.model_handoff.specs.DrivenFunctions.{driven_function_nth};
+ghost use Rattle.model_handoff.specs.{Functions.is_there, DrivenFunctions.driven_function_nth};
 ghost use Rattle.paths.specs.BusAddresses.{bus_address_of};
 ghost use Rattle.bars.specs.Kinds.{named_space};
 ghost use Rattle.session.specs.DrivenFunctions.{driven_function_named};

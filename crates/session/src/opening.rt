@@ -3,12 +3,9 @@ ghost use Rattle.std.specs.Prelude.{◌≡◌, ◌≢◌, IfOk, IfErr};
 ghost use Rattle.model_board.specs.AtReset.{IsAtReset};
 ghost use Rattle.model_guests.specs.World.{IsLawfulWorld};
 ghost use Rattle.model_handoff.specs.Changes.{BeginsIn};
-ghost use Rattle.bus_scan.specs.declared.fault.Fault.TheVariants.{Memory};
-ghost use Rattle.bus_scan.specs.Faults.{number_of as set_up_number};
+ghost use Rattle.bus_scan.specs.{declared.fault.Fault.TheVariants.Memory, Faults.number_of as set_up_number};
 ghost use Rattle.monitor.specs.Beginnings.{world_on};
-ghost use Rattle.session.specs.declared.opening.OpenFault.TheVariants.{File, SetUp};
-ghost use Rattle.session.specs.Faults.{number_of, OnFile, OnSetUp};
-ghost use Rattle.session.specs.Files.{Refuses, Breaks, BreaksRule, IsAtFirst, IsOpened};
+ghost use Rattle.session.specs.{declared.opening.OpenFault.TheVariants.{File, SetUp}, Faults.{number_of, OnFile, OnSetUp}, Files.{Refuses, Breaks, BreaksRule, IsAtFirst, IsOpened}};
 
 use accesses::GuestDecl;
 use board_file::{BoardFault, read_board};

@@ -1,7 +1,6 @@
 //! What is wrong and what is lacking on a board that firmware drives, one by one.
 ghost use Rattle.std.specs.Prelude.{◌≡◌, IfOk, map};
-ghost use Rattle.model_findings.specs.Problems.{problems};
-ghost use Rattle.model_findings.specs.Lacks.{lacks};
+ghost use Rattle.model_findings.specs.{Problems.problems, Lacks.lacks};
 ghost use Rattle.findings.specs.Findings.{problem_of, lack_of};
 
 use crate::board::Board;

@@ -1,8 +1,7 @@
 //! A run of a session's lines.
 ghost use Rattle.std.specs.Prelude.{◌≡◌, ◌+◌, ◌-◌, ◌^◌, ◌<◌, ◌⊎◌, IsErrOf};
 ghost use Rattle.model_lines.specs.Sessions.{session_protocol};
-ghost use Rattle.lines.specs.Faults.{read_failures_of, write_failures_of};
-ghost use Rattle.lines.specs.Runs.{Runs, ends};
+ghost use Rattle.lines.specs.{Faults.{read_failures_of, write_failures_of}, Runs.{Runs, ends}};
 
 use crate::session::{Session, SessionLines};
 use lines::RunFault;

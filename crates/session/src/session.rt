@@ -1,24 +1,12 @@
 //! A session over a board.
-ghost use Rattle.std.specs.Prelude.{◌≡◌, ◌≢◌, ◌++◌, [], ⊤, length, map, option_map, string_bytes, is_some};
-ghost use Rattle.std.specs.Prelude.{Ok, None, IsOk, IfOk, IfErr, IfSome, OnOk, OnErr, MatchResult, IsFalse};
-ghost use Rattle.std.specs.Borrow.{sem};
-ghost use Rattle.std.specs.Option.{option_copied_mut};
-ghost use Rattle.model_guests.specs.Text.{Text};
-ghost use Rattle.model_guests.specs.World.{World, IsLawfulWorld};
-ghost use Rattle.model_findings.specs.AuditText.{audit};
-ghost use Rattle.model_findings.specs.Problems.{problems};
+ghost use Rattle.std.specs.{Prelude.{◌≡◌, ◌≢◌, ◌++◌, [], ⊤, length, map, option_map, string_bytes, is_some, Ok, None, IsOk, IfOk, IfErr, IfSome, OnOk, OnErr, MatchResult, IsFalse}, Borrow.sem, Option.option_copied_mut};
+ghost use Rattle.model_guests.specs.{Text.Text, World.{World, IsLawfulWorld}};
+ghost use Rattle.model_findings.specs.{AuditText.audit, Problems.problems, Lacks.{lacks, lack_count}, ReadyText.ready_report};
 ghost use Rattle.findings.specs.Findings.{problem_of, lack_of};
-ghost use Rattle.model_findings.specs.Lacks.{lacks, lack_count};
-ghost use Rattle.model_findings.specs.ReadyText.{ready_report};
-ghost use Rattle.model_lines.specs.Sessions.{driven, given, at_reset, session_functions, session_protocol};
-ghost use Rattle.model_lines.specs.Sessions.{session_output, after_session_line};
+ghost use Rattle.model_lines.specs.Sessions.{driven, given, at_reset, session_functions, session_protocol, session_output, after_session_line};
 ghost use Rattle.lines.specs.Pieces.{IsBefore, with_more};
-ghost use Rattle.board_file.specs.declared.fault.BoardFault.TheVariants.{Memory};
-ghost use Rattle.board_file.specs.Faults.{number_of as file_number};
-ghost use Rattle.session.specs.Files.{Declares, Refuses};
-ghost use Rattle.session.specs.Boards.{IsHandedOverAs, IsRefusalOf};
-ghost use Rattle.session.specs.Refusals.{refusal_in};
-ghost use Rattle.session.specs.Stages.{board_in, machine_in, asks_for_more, IsDriven, IsGiven};
+ghost use Rattle.board_file.specs.{declared.fault.BoardFault.TheVariants.Memory, Faults.number_of as file_number};
+ghost use Rattle.session.specs.{Files.{Declares, Refuses}, Boards.{IsHandedOverAs, IsRefusalOf}, Refusals.refusal_in, Stages.{board_in, machine_in, asks_for_more, IsDriven, IsGiven}};
 
 use crate::asking::meant;
 use crate::board::Board;

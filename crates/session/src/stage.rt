@@ -1,13 +1,9 @@
 //! How far a session came.
-ghost use Rattle.std.specs.Prelude.{◌≡◌, [], Some, option_map, string_bytes};
-ghost use Rattle.std.specs.Prelude.{IfOk, IfErr, OnOk, OnErr, IfSome};
+ghost use Rattle.std.specs.Prelude.{◌≡◌, [], Some, option_map, string_bytes, IfOk, IfErr, OnOk, OnErr, IfSome};
 ghost use Rattle.model_guests.specs.Text.{Text};
-ghost use Rattle.model_lines.specs.Requests.{for_guests, request};
-ghost use Rattle.model_lines.specs.Sessions.{session_output, after_session_line};
+ghost use Rattle.model_lines.specs.{Requests.{for_guests, request}, Sessions.{session_output, after_session_line}};
 ghost use Rattle.lines.specs.Pieces.{with_more};
-ghost use Rattle.session.specs.Boards.{IsHandedOverAs, IsRefusalOf};
-ghost use Rattle.session.specs.Refusals.{refusal_in};
-ghost use Rattle.session.specs.Stages.{session_now, board_in, IsAtLine, IsDriven};
+ghost use Rattle.session.specs.{Boards.{IsHandedOverAs, IsRefusalOf}, Refusals.refusal_in, Stages.{session_now, board_in, IsAtLine, IsDriven}};
 
 use crate::board::Board;
 use crate::telling::handover_refusal;

@@ -1,16 +1,10 @@
 -- What a run of lines says of the board file over whose board it began.
 --     runs_from, is_run      a run from where it begins, as in the world of the file
 use Rattle.std.proofs.Common.{◌≡◌, Result, subst}
-use Rattle.model_guests.specs.Text.{Text}
-use Rattle.model_guests.specs.LineRuns.{Protocol}
-use Rattle.lines.specs.declared.runs.RunFault.{RunFault}
-use Rattle.lines.specs.Runs.{Ends, Runs}
-use Rattle.model_handoff.specs.AfterSetUp.{world_at_first}
-use Rattle.model_guests.specs.WorldNow.{world_protocol}
-use Rattle.model_handoff.specs.Changes.{MachineNow, BeginsIn, machine_protocol}
-use Rattle.model_handoff.proofs.AfterSetUp.{set_up_isolates}
-use Rattle.simulation.specs.Running.{IsRun}
-use Rattle.simulation.proofs.Ran.{runs_aside}
+use Rattle.model_guests.specs.{Text.Text, LineRuns.Protocol, WorldNow.world_protocol}
+use Rattle.lines.specs.{declared.runs.RunFault.RunFault, Runs.{Ends, Runs}}
+use Rattle.model_handoff.{specs.{AfterSetUp.world_at_first, Changes.{MachineNow, BeginsIn, machine_protocol}}, proofs.AfterSetUp.set_up_isolates}
+use Rattle.simulation.{specs.Running.IsRun, proofs.Ran.runs_aside}
 use Rattle.session.specs.Files.{IsOpened}
 
 pub runs_from : {S T : Type 0} (p : Protocol S) (s first end : S) (at : Ends) (result : Result T RunFault) → s ≡ first → Runs p s end at result → Runs p first end at result

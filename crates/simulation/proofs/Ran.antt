@@ -1,19 +1,14 @@
 -- What the parts of a run over a board file say, put together.
-use Rattle.std.proofs.Common.{◌≡◌, ◌+◌, ℕ, Result, Ok, Err, refl, sym, subst}
-use Rattle.std.specs.Result.{IsErrAnd}
+use Rattle.std.{proofs.Common.{◌≡◌, ◌+◌, ℕ, Result, Ok, Err, refl, sym, subst}, specs.Result.IsErrAnd}
 use Rattle.model_guests.specs.WorldNow.{world_protocol}
 use Rattle.model_handoff.specs.Changes.{MachineNow, machine_protocol}
-use Rattle.lines.specs.declared.runs.RunFault.{RunFault}
-use Rattle.lines.specs.declared.runs.RunFault.TheVariants as run
-use Rattle.board_told.specs.declared.fault.Fault.{Fault}
-use Rattle.lines.specs.Faults.{read_failures_of, write_failures_of}
-use Rattle.lines.specs.Runs.{Ends, Runs}
+use Rattle.lines.{specs.{declared.runs.RunFault.RunFault, Faults.{read_failures_of, write_failures_of}, Runs.{Ends, Runs}}, proofs.Parts.{IsPart, runs_of_part}}
+use Rattle.board_told.specs.{declared.fault.Fault.Fault, Faults.{of_open, of_run}}
 use Rattle.session.specs.declared.opening.OpenFault.{OpenFault}
+use Rattle.simulation.specs.Faults.{read_faults, write_faults, OnFile, OnSetUp}
+use Rattle.lines.specs.declared.runs.RunFault.TheVariants as run
 use Rattle.session.specs.declared.opening.OpenFault.TheVariants as opening
 use Rattle.session.specs.Faults as opened
-use Rattle.lines.proofs.Parts.{IsPart, runs_of_part}
-use Rattle.board_told.specs.Faults.{of_open, of_run}
-use Rattle.simulation.specs.Faults.{read_faults, write_faults, OnFile, OnSetUp}
 
 -- the fault that a `?` hands on
 pub on_error : {T : Type 0} (P : Result T Fault → Type 0) (r : Result T Fault) (f : Fault) → IsErrAnd r (λ g. g ≡ f) → P (Err f) → P r

@@ -1,27 +1,16 @@
 -- A run of a script over a board file, where a refused line may be a fault.
 --     none_ran, stopped, has_run      how it ended: before any line, with a fault of the run, and after all lines
 --     plainly, plain_faults      so too where a refused line is none
-use Rattle.std.specs.Prelude.{IfErr}
-use Rattle.std.proofs.Common.{◌≡◌, ◌&&◌, Bool, true, false, Result, Ok, Err, refl, sym, ap, ◌∙◌}
-use Rattle.model_guests.specs.Text.{Text, lines}
-use Rattle.model_guests.specs.WorldNow.{world_protocol}
+use Rattle.std.{specs.Prelude.IfErr, proofs.Common.{◌≡◌, ◌&&◌, Bool, true, false, Result, Ok, Err, refl, sym, ap, ◌∙◌}}
+use Rattle.model_guests.specs.{Text.{Text, lines}, WorldNow.world_protocol}
 use Rattle.model_handoff.specs.Changes.{BeginsIn, MachineNow, machine_protocol}
-use Rattle.lines.specs.Runs.{Ends}
-use Rattle.lines.specs.declared.runs.RunFault.{RunFault}
-use Rattle.lines.specs.declared.runs.RunFault.TheVariants as run
-use Rattle.session.specs.Files.{IsOpened}
-use Rattle.session.specs.declared.opening.OpenFault.{OpenFault}
-use Rattle.session.specs.declared.opening.OpenFault.TheVariants as opening
-use Rattle.board_told.specs.declared.fault.Fault.{Fault}
-use Rattle.board_told.specs.declared.fault.Fault.TheVariants.{Read, Write, RefusedLine}
-use Rattle.board_told.specs.Faults.{of_open, of_run}
-use Rattle.simulation.specs.Faults.{IsOfRun, IsOfRunAs, OnRun}
-use Rattle.lines.specs.Refusals.{refuses, IsWatched}
+use Rattle.lines.{specs.{Runs.Ends, declared.runs.RunFault.RunFault, Refusals.{refuses, IsWatched}}, proofs.Parts.{same_end, same_error, same_refusals}}
+use Rattle.session.specs.{Files.IsOpened, declared.opening.OpenFault.OpenFault}
+use Rattle.board_told.specs.{declared.fault.Fault.{Fault, TheVariants.{Read, Write, RefusedLine}}, Faults.{of_open, of_run}}
+use Rattle.simulation.{specs.{Faults.{IsOfRun, IsOfRunAs, OnRun}, Running.{HasRun, IsRun, RunsAs}}, proofs.{Begun.is_run, Ran.world_part}}
 use Rattle.script.specs.Refusals.{refusal_in, refusal_on_machine}
-use Rattle.simulation.specs.Running.{HasRun, IsRun, RunsAs}
-use Rattle.simulation.proofs.Begun.{is_run}
-use Rattle.lines.proofs.Parts.{same_end, same_error, same_refusals}
-use Rattle.simulation.proofs.Ran.{world_part}
+use Rattle.lines.specs.declared.runs.RunFault.TheVariants as run
+use Rattle.session.specs.declared.opening.OpenFault.TheVariants as opening
 
 pub none_ran : (strict : Bool) (board : Text) (at : Ends) (o : OpenFault) → RunsAs {T = Unit {0}} strict board at (Err (of_open o))
 none_ran strict board at (opening.File b) = tt

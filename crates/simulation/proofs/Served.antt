@@ -5,33 +5,17 @@
 --     is_served      all was told
 --     unanswered      the text after the lines was not told whole
 --     served_fault, of_serving      the fault after all was told is one of these
-use Rattle.std.proofs.Common.{◌≡◌, ◌&&◌, ◌++◌, ℕ, Bool, true, false, Result, Ok, Err, Option, None, Some, is_some, IsTrue, refl, inl, inr, sym, ap, ap₂, subst, ◌∙◌, arith}
-use Rattle.std.specs.Option.{ForSome}
-use Rattle.std.specs.Io.{StartsWith}
-use Rattle.std.specs.Io.KnownBytes.{Appends}
-use Rattle.std.proofs.KnownBytes.{Appends-trans}
+use Rattle.std.{proofs.{Common.{◌≡◌, ◌&&◌, ◌++◌, ℕ, Bool, true, false, Result, Ok, Err, Option, None, Some, is_some, IsTrue, refl, inl, inr, sym, ap, ap₂, subst, ◌∙◌, arith}, KnownBytes.Appends-trans}, specs.{Option.ForSome, Io.{StartsWith, KnownBytes.Appends}}}
 use Rattle.streams.specs.Ends.{AppendsPart}
 use Rattle.model_registers.specs.Apertures.{Apertures}
-use Rattle.model_guests.specs.Text.{Text, lines}
-use Rattle.model_guests.specs.World.{World, IsLawfulWorld}
-use Rattle.model_lines.specs.Sessions.{SessionNow, driven, at_reset, session_functions, session_protocol}
-use Rattle.model_lines.proofs.HandoverLines.{isolated_sessions}
-use Rattle.lines.specs.declared.runs.RunFault.{RunFault}
+use Rattle.model_guests.specs.{Text.{Text, lines}, World.{World, IsLawfulWorld}}
+use Rattle.model_lines.{specs.Sessions.{SessionNow, driven, at_reset, session_functions, session_protocol}, proofs.HandoverLines.isolated_sessions}
+use Rattle.lines.{specs.{declared.runs.RunFault.RunFault, Refusals.{refuses, IsWatched}, Runs.{Ends, ends, Runs}}, proofs.Parts.{same_end, same_error}}
+use Rattle.session.specs.{Files.Declares, Refusals.refusal_in}
+use Rattle.board_told.specs.{declared.{fault.Fault.{Fault, TheVariants.{SetUp, Write, NotInOrder, NotReady, RefusedLine}}, telling.Question.{Question, TheVariants.{Audit, Ready}}}, Faults.of_run}
+use Rattle.simulation.{specs.{Faults.{IsOfFile, IsToldLast, OnFile}, Serving.{at_first, session_text, left_after, told, counted, last_fault, HasEnded, IsSession, IsServed, Serves, IsOfAnswer, IsOfServing}}, proofs.Begun.runs_from}
 use Rattle.lines.specs.declared.runs.RunFault.TheVariants as run
-use Rattle.lines.specs.Refusals.{refuses, IsWatched}
-use Rattle.lines.specs.Runs.{Ends, ends, Runs}
-use Rattle.lines.proofs.Parts.{same_end, same_error}
 use Rattle.bus_scan.specs.declared.fault.Fault.TheVariants as set_up
-use Rattle.session.specs.Files.{Declares}
-use Rattle.session.specs.Refusals.{refusal_in}
-use Rattle.board_told.specs.declared.fault.Fault.{Fault}
-use Rattle.board_told.specs.declared.fault.Fault.TheVariants.{SetUp, Write, NotInOrder, NotReady, RefusedLine}
-use Rattle.board_told.specs.declared.telling.Question.{Question}
-use Rattle.board_told.specs.declared.telling.Question.TheVariants.{Audit, Ready}
-use Rattle.board_told.specs.Faults.{of_run}
-use Rattle.simulation.specs.Faults.{IsOfFile, IsToldLast, OnFile}
-use Rattle.simulation.specs.Serving.{at_first, session_text, left_after, told, counted, last_fault, HasEnded, IsSession, IsServed, Serves, IsOfAnswer, IsOfServing}
-use Rattle.simulation.proofs.Begun.{runs_from}
 
 abbrev pub IsBegun : Text → SessionNow → Type 0
 IsBegun board x = (w : World) × Declares board w × IsLawfulWorld w × (x ≡ driven (at_reset w))

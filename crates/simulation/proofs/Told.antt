@@ -1,15 +1,11 @@
 -- What a check tells, by how it ended.
-use Rattle.std.proofs.Common.{◌≡◌, Result, Ok, Err, refl}
-use Rattle.std.specs.Prelude.{OnOk, IfErr, IsErrOf, None}
+use Rattle.std.{proofs.Common.{◌≡◌, Result, Ok, Err, refl}, specs.Prelude.{OnOk, IfErr, IsErrOf, None}}
 use Rattle.model_guests.specs.Text.{Text}
 use Rattle.lines.specs.Runs.{Ends}
 use Rattle.diagnostics.specs.declared.style.Style.{Style}
 use Rattle.board_fit.specs.declared.warned.Warned.{Warned}
-use Rattle.board_told.specs.declared.fault.Fault.{Fault}
-use Rattle.board_told.specs.declared.fault.Fault.TheVariants.{Write}
-use Rattle.simulation.specs.Checking.{IsChecked, IsCheckedInPart}
-use Rattle.simulation.specs.Choices.{Checks}
-use Rattle.simulation.specs.Faults.{open_fault, IsRefusal}
+use Rattle.board_told.specs.declared.fault.Fault.{Fault, TheVariants.Write}
+use Rattle.simulation.specs.{Checking.{IsChecked, IsCheckedInPart}, Choices.Checks, Faults.{open_fault, IsRefusal}}
 
 pub checks : {T : Type 0} (style : Style) (warned : Warned) (name board : Text) (at : Ends) (r : Result T Fault)
     → OnOk r (IsChecked style warned name board None at.before at.after) → OnOk r (at.flushed ≡ at.after)

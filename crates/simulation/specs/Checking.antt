@@ -1,8 +1,7 @@
 -- What is written of what a check says of a board file.
 --     IsChecked style warned name board fault old new      it was written, after what was written before
 --     IsCheckedInPart style warned name board old new      so was a beginning of it, whatever the fault
-use Rattle.std.specs.Prelude.{Option}
-use Rattle.std.specs.Io.KnownBytes.{Appends}
+use Rattle.std.specs.{Prelude.Option, Io.KnownBytes.Appends}
 use Rattle.model_guests.specs.Text.{Text}
 use Rattle.streams.specs.Ends.{AppendsPart}
 use Rattle.diagnostics.specs.declared.style.Style.{Style}

@@ -8,29 +8,18 @@
 --     IsTelling choice f      the choice tells of the fault
 --     IsLacking choice f      memory is out once lines ran
 --     IsOfChoice choice f      a fault that the choice can end with
-use Rattle.std.specs.Prelude.{◌≡◌, Bool, if◌then◌else◌, None, Some, Result, Ok, Err, string_bytes, ⊤}
-use Rattle.std.specs.Io.KnownBytes.{Appends}
+use Rattle.std.specs.{Prelude.{◌≡◌, Bool, if◌then◌else◌, None, Some, Result, Ok, Err, string_bytes, ⊤}, Io.KnownBytes.Appends}
 use Rattle.model_guests.specs.Text.{Text}
 use Rattle.streams.specs.Ends.{AppendsPart}
 use Rattle.lines.specs.Runs.{Ends}
-use Rattle.command_line.specs.declared.choice.Choice.{Choice}
-use Rattle.command_line.specs.declared.choice.Choice.TheVariants.{Help, Demo, List, Check, Run, Firmware, Audit, Ready}
-use Rattle.bus_scan.specs.declared.fault.Fault.TheVariants as set_up
-use Rattle.diagnostics.specs.declared.style.Style.{Style}
-use Rattle.diagnostics.specs.declared.style.Style.TheVariants.{Plain, WithExcerpts}
+use Rattle.command_line.specs.declared.choice.Choice.{Choice, TheVariants.{Help, Demo, List, Check, Run, Firmware, Audit, Ready}}
+use Rattle.diagnostics.specs.declared.style.Style.{Style, TheVariants.{Plain, WithExcerpts}}
 use Rattle.board_fit.specs.declared.warned.Warned.{Warned}
+use Rattle.board_told.specs.declared.{listing.ReportForm.{ReportForm, TheVariants.{Lines, Json}}, fault.Fault.{Fault, TheVariants.{SetUp, Write}}}
+use Rattle.simulation.specs.{Demo.demo_board, Faults.{open_fault, IsRefusal, IsOfList, IsOfRun, IsOfRunAs, OnRun}, Listing.{IsListed, IsListedInPart}, Checking.{IsChecked, IsCheckedInPart}, Running.{IsRun, RunsAs}, Serving.{IsOfServing, Serves}}
+use Rattle.bus_scan.specs.declared.fault.Fault.TheVariants as set_up
 use Rattle.board_fit.specs.declared.warned.Warned.TheVariants as of
-use Rattle.board_told.specs.declared.listing.ReportForm.{ReportForm}
-use Rattle.board_told.specs.declared.listing.ReportForm.TheVariants.{Lines, Json}
-use Rattle.simulation.specs.Demo.{demo_board}
-use Rattle.simulation.specs.Faults.{open_fault, IsRefusal, IsOfList, IsOfRun, IsOfRunAs, OnRun}
-use Rattle.simulation.specs.Listing.{IsListed, IsListedInPart}
-use Rattle.simulation.specs.Checking.{IsChecked, IsCheckedInPart}
-use Rattle.simulation.specs.Running.{IsRun, RunsAs}
-use Rattle.simulation.specs.Serving.{IsOfServing, Serves}
 use Rattle.board_told.specs.declared.telling.Question.TheVariants as question
-use Rattle.board_told.specs.declared.fault.Fault.{Fault}
-use Rattle.board_told.specs.declared.fault.Fault.TheVariants.{SetUp, Write}
 
 abbrev pub Prints : {T : Type 0} → Text → Ends → Result T Fault → Type 0
 Prints text at (Ok x) = Appends at.before at.after text × (at.flushed ≡ at.after)

@@ -12,17 +12,15 @@
 --     IsOfSession      a fault of a session over a board at reset
 --     IsOfRunAs strict      a fault of a run, or a line was refused, where that is a fault
 use Rattle.std.specs.Prelude.{◌≡◌, ◌≢◌, ℕ, Bool, true, ◌++◌, List, Option, None, Some, Result, Ok, Err, codes, decimal, ⊤}
+use Rattle.lines.specs.declared.runs.RunFault.{RunFault}
+use Rattle.session.specs.declared.opening.OpenFault.{OpenFault}
+use Rattle.board_told.specs.{Faults.{number_of, words_of}, declared.fault.Fault.{Fault, TheVariants.{File, SetUp, NotInOrder, NotReady, RefusedLine, Read, Write}}}
 use Rattle.board_file.specs.declared.fault.BoardFault.TheVariants as file
 use Rattle.board_file.specs.Faults as board_file
 use Rattle.bus_scan.specs.declared.fault.Fault.TheVariants as set_up
 use Rattle.bus_scan.specs.Faults as bus_scan
 use Rattle.lines.specs.declared.runs.RunFault.TheVariants as run
-use Rattle.lines.specs.declared.runs.RunFault.{RunFault}
 use Rattle.session.specs.declared.opening.OpenFault.TheVariants as opening
-use Rattle.session.specs.declared.opening.OpenFault.{OpenFault}
-use Rattle.board_told.specs.Faults.{number_of, words_of}
-use Rattle.board_told.specs.declared.fault.Fault.{Fault}
-use Rattle.board_told.specs.declared.fault.Fault.TheVariants.{File, SetUp, NotInOrder, NotReady, RefusedLine, Read, Write}
 
 -- pciguest: fault N WORDS
 abbrev pub line_of : Fault → List ℕ

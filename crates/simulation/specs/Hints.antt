@@ -4,19 +4,14 @@
 --     reason_words kind, file_hint path kind      why a board file is not read
 --     hinted_path choice      the file of which more may be told
 --     check_hint choice f      of a file or board that is refused: what tells all that is wrong, unless that was asked for
-use Rattle.std.specs.Prelude.{◌++◌, Bool, true, false, List, [], Option, None, Some, codes, map, option_map, if◌then◌else◌}
-use Rattle.std.specs.declared.io.ErrorKind.{ErrorKind}
-use Rattle.std.specs.declared.io.ErrorKind.TheVariants as kind
+use Rattle.std.specs.{Prelude.{◌++◌, Bool, true, false, List, [], Option, None, Some, codes, map, option_map, if◌then◌else◌}, declared.io.ErrorKind.ErrorKind}
 use Rattle.model_guests.specs.Text.{Text}
+use Rattle.diagnostics.specs.Shown.{shown_byte}
+use Rattle.command_line.specs.{Choices.board_path, Usage.{refused_word, words_taken}, declared.choice.Choice.{Choice, TheVariants.Check}}
+use Rattle.board_told.specs.declared.fault.Fault.{Fault, TheVariants.{File, SetUp}}
+use Rattle.std.specs.declared.io.ErrorKind.TheVariants as kind
 use Rattle.board_file.specs.declared.fault.BoardFault.TheVariants as file
 use Rattle.bus_scan.specs.declared.fault.Fault.TheVariants as set_up
-use Rattle.diagnostics.specs.Shown.{shown_byte}
-use Rattle.command_line.specs.Choices.{board_path}
-use Rattle.command_line.specs.Usage.{refused_word, words_taken}
-use Rattle.command_line.specs.declared.choice.Choice.{Choice}
-use Rattle.command_line.specs.declared.choice.Choice.TheVariants.{Check}
-use Rattle.board_told.specs.declared.fault.Fault.{Fault}
-use Rattle.board_told.specs.declared.fault.Fault.TheVariants.{File, SetUp}
 
 abbrev pub shown : Text → Text
 shown text = map shown_byte text

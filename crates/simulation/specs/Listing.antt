@@ -2,14 +2,11 @@
 --     IsListed form board old new      the report of the board that some bytes declare, once it is set up, was written, after
 --         what was written before
 --     IsListedInPart form board old new      so was a beginning of it
-use Rattle.std.specs.Prelude.{Option}
-use Rattle.std.specs.Io.KnownBytes.{Appends}
+use Rattle.std.specs.{Prelude.Option, Io.KnownBytes.Appends}
 use Rattle.streams.specs.Ends.{AppendsPart}
-use Rattle.model_guests.specs.Text.{Text}
-use Rattle.model_guests.specs.World.{World}
+use Rattle.model_guests.specs.{Text.Text, World.World}
 use Rattle.session.specs.Files.{IsSetUp}
-use Rattle.board_told.specs.Listing.{report_in}
-use Rattle.board_told.specs.declared.listing.ReportForm.{ReportForm}
+use Rattle.board_told.specs.{Listing.report_in, declared.listing.ReportForm.ReportForm}
 
 pub record IsListed (form : ReportForm) (board : Text) (old new : Option Text) : Type 0 where
   pub world : World

@@ -3,21 +3,13 @@
 --     HasRun strict refused board at      all lines were read, and what they write was written and flushed; if `strict`, this
 --         is whether one was refused
 --     RunsAs strict board at result      what was done, by how it ended: if `strict`, a refused line is a fault
-use Rattle.std.specs.Prelude.{◌≡◌, ◌&&◌, Bool, true, false, Result, Ok, Err, IsTrue}
-use Rattle.std.specs.Option.{ForSome}
-use Rattle.model_guests.specs.Text.{Text, lines}
-use Rattle.model_guests.specs.Grammar.{has_name}
-use Rattle.model_guests.specs.World.{World, names}
-use Rattle.model_guests.specs.WorldNow.{WorldNow, world_protocol}
-use Rattle.model_handoff.specs.AfterSetUp.{world_at_first}
-use Rattle.model_handoff.specs.AfterSetUp.{IsIsolated}
-use Rattle.lines.specs.declared.runs.RunFault.{RunFault}
-use Rattle.lines.specs.Runs.{Ends, Runs}
+use Rattle.std.specs.{Prelude.{◌≡◌, ◌&&◌, Bool, true, false, Result, Ok, Err, IsTrue}, Option.ForSome}
+use Rattle.model_guests.specs.{Text.{Text, lines}, Grammar.has_name, World.{World, names}, WorldNow.{WorldNow, world_protocol}}
+use Rattle.model_handoff.specs.AfterSetUp.{world_at_first, IsIsolated}
+use Rattle.lines.specs.{declared.runs.RunFault.RunFault, Runs.{Ends, Runs}, Refusals.refuses}
 use Rattle.session.specs.Files.{IsSetUp}
-use Rattle.board_told.specs.declared.fault.Fault.{Fault}
-use Rattle.board_told.specs.declared.fault.Fault.TheVariants.{RefusedLine}
+use Rattle.board_told.specs.declared.fault.Fault.{Fault, TheVariants.RefusedLine}
 use Rattle.simulation.specs.Faults.{OnRun}
-use Rattle.lines.specs.Refusals.{refuses}
 use Rattle.script.specs.Refusals.{refusal_in}
 
 -- the replies to each guest are those of its own functions, as lone register files, to its own lines and the moves that

@@ -16,30 +16,17 @@
 --     Serves q strict board at result      what was done, by how it ended
 --     IsOfAnswer f      memory is out for the text, or it isn't written whole
 --     IsOfServing q strict f      a fault by which it can end
-use Rattle.std.specs.Prelude.{◌≡◌, ◌⊎◌, ◌++◌, ◌&&◌, ℕ, Bool, true, List, [], if◌then◌else◌, Option, None, Some, Result, Ok, Err, is_some, nat_lt, IsTrue, ⊤}
-use Rattle.std.specs.Option.{ForSome}
-use Rattle.std.specs.Io.{StartsWith}
-use Rattle.std.specs.Io.KnownBytes.{Appends, IsAtEnd}
+use Rattle.std.specs.{Prelude.{◌≡◌, ◌⊎◌, ◌++◌, ◌&&◌, ℕ, Bool, true, List, [], if◌then◌else◌, Option, None, Some, Result, Ok, Err, is_some, nat_lt, IsTrue, ⊤}, Option.ForSome, Io.{StartsWith, KnownBytes.{Appends, IsAtEnd}}}
 use Rattle.model_registers.specs.Apertures.{Apertures}
 use Rattle.model_board.specs.State.{BoardFunction}
-use Rattle.model_guests.specs.Text.{Text, lines}
-use Rattle.model_guests.specs.World.{World}
-use Rattle.model_guests.specs.LineRuns.{output, after_lines}
-use Rattle.model_lines.specs.Sessions.{SessionNow, driven, at_reset, session_protocol, session_functions}
-use Rattle.model_lines.specs.SessionLaws.{IsolatedFrom}
-use Rattle.lines.specs.declared.runs.RunFault.{RunFault}
-use Rattle.lines.specs.declared.runs.RunFault.TheVariants as run
-use Rattle.lines.specs.Refusals.{refuses}
-use Rattle.lines.specs.Runs.{Ends, Runs}
-use Rattle.bus_scan.specs.declared.fault.Fault.TheVariants as set_up
-use Rattle.session.specs.Files.{Declares}
-use Rattle.session.specs.Refusals.{refusal_in}
-use Rattle.board_told.specs.Telling.{told_by, counted_by}
+use Rattle.model_guests.specs.{Text.{Text, lines}, World.World, LineRuns.{output, after_lines}}
+use Rattle.model_lines.specs.{Sessions.{SessionNow, driven, at_reset, session_protocol, session_functions}, SessionLaws.IsolatedFrom}
+use Rattle.lines.specs.{declared.runs.RunFault.RunFault, Refusals.refuses, Runs.{Ends, Runs}}
+use Rattle.session.specs.{Files.Declares, Refusals.refusal_in}
+use Rattle.board_told.specs.{Telling.{told_by, counted_by}, declared.{fault.Fault.{Fault, TheVariants.{SetUp, Read, Write, NotInOrder, NotReady, RefusedLine}}, telling.Question.{Question, TheVariants.{Audit, Ready}}}}
 use Rattle.simulation.specs.Faults.{IsOfSession}
-use Rattle.board_told.specs.declared.fault.Fault.{Fault}
-use Rattle.board_told.specs.declared.fault.Fault.TheVariants.{SetUp, Read, Write, NotInOrder, NotReady, RefusedLine}
-use Rattle.board_told.specs.declared.telling.Question.{Question}
-use Rattle.board_told.specs.declared.telling.Question.TheVariants.{Audit, Ready}
+use Rattle.lines.specs.declared.runs.RunFault.TheVariants as run
+use Rattle.bus_scan.specs.declared.fault.Fault.TheVariants as set_up
 
 -- ---- the lines
 

@@ -1,7 +1,6 @@
 //! What is wrong with a board file, or that nothing is, written.
 ghost use Rattle.std.specs.Prelude.{◌≡◌, ◌≢◌, ◌+◌, ◌-◌, ◌^◌, ◌<◌, None, OnOk, IfErr, IsErrOf};
-ghost use Rattle.simulation.specs.Faults.{write_faults, open_fault, IsOfList, IsRefusal};
-ghost use Rattle.simulation.specs.Checking.{IsChecked, IsCheckedInPart};
+ghost use Rattle.simulation.specs.{Faults.{write_faults, open_fault, IsOfList, IsRefusal}, Checking.{IsChecked, IsCheckedInPart}};
 
 use crate::choice::print;
 use board_fit::Warned;

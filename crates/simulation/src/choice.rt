@@ -1,10 +1,8 @@
 //! Doing what the program is asked to do.
-ghost use Rattle.std.specs.Prelude.{◌≡◌, ◌≢◌, ◌+◌, ◌-◌, ◌^◌, ◌<◌, ◌⊎◌, OnOk, OnErr, IfErr};
-ghost use Rattle.std.specs.Io.KnownBytes.{Appends};
+ghost use Rattle.std.specs.{Prelude.{◌≡◌, ◌≢◌, ◌+◌, ◌-◌, ◌^◌, ◌<◌, ◌⊎◌, OnOk, OnErr, IfErr}, Io.KnownBytes.Appends};
 ghost use Rattle.streams.specs.Ends.{AppendsPart};
 ghost use Rattle.lines.specs.Runs.{ends};
-ghost use Rattle.simulation.specs.Choices.{form_of, style_of, warned_of, Does, IsTelling, IsLacking, IsOfChoice};
-ghost use Rattle.simulation.specs.Faults.{read_faults, write_faults, IsToldLast};
+ghost use Rattle.simulation.specs.{Choices.{form_of, style_of, warned_of, Does, IsTelling, IsLacking, IsOfChoice}, Faults.{read_faults, write_faults, IsToldLast}};
 
 use crate::checking::check;
 use crate::demonstration::demo;

@@ -1,10 +1,8 @@
 //! A script over the demo board.
 ghost use Rattle.std.specs.Prelude.{◌≡◌, ◌+◌, ◌-◌, ◌^◌, ◌<◌, IfErr};
 ghost use Rattle.lines.specs.Runs.{ends};
-ghost use Rattle.simulation.specs.Demo.{demo_board};
-ghost use Rattle.simulation.specs.Faults.{read_faults, write_faults, OnFile, OnSetUp, OnRun, IsOfBoard, IsOfRun};
+ghost use Rattle.simulation.specs.{Demo.demo_board, Faults.{read_faults, write_faults, OnFile, OnSetUp, OnRun, IsOfBoard, IsOfRun}, Running.IsRun};
 ghost use Rattle.session.specs.Files.{Refuses, Breaks};
-ghost use Rattle.simulation.specs.Running.{IsRun};
 
 use crate::running::whole;
 use board_told::Fault;

@@ -1,6 +1,5 @@
 //! Board files.
-ghost use Rattle.std.specs.Prelude.{◌≡◌, IfErr, IfSome, string_bytes};
-ghost use Rattle.std.specs.declared.io.ErrorKind.{ErrorKind};
+ghost use Rattle.std.specs.{Prelude.{◌≡◌, IfErr, IfSome, string_bytes}, declared.io.ErrorKind.ErrorKind};
 ghost use Rattle.simulation.specs.Hints.{file_hint};
 
 use crate::hints::file_hint;

@@ -1,8 +1,7 @@
 //! The report of a board file, written.
 ghost use Rattle.std.specs.Prelude.{◌≡◌, ◌≢◌, ◌+◌, ◌-◌, ◌^◌, ◌<◌, OnOk, IfErr, IsErrOf};
 ghost use Rattle.session.specs.Files.{Refuses, Breaks};
-ghost use Rattle.simulation.specs.Faults.{write_faults, OnFile, OnSetUp, IsOfList};
-ghost use Rattle.simulation.specs.Listing.{IsListed, IsListedInPart};
+ghost use Rattle.simulation.specs.{Faults.{write_faults, OnFile, OnSetUp, IsOfList}, Listing.{IsListed, IsListedInPart}};
 
 use crate::choice::print;
 use board_told::{Fault, ReportForm, list_in};

@@ -1,9 +1,8 @@
 //! A script over the board of a board file.
 ghost use Rattle.std.specs.Prelude.{◌≡◌, ◌+◌, ◌-◌, ◌^◌, ◌<◌, IfErr};
 ghost use Rattle.lines.specs.Runs.{ends};
-ghost use Rattle.simulation.specs.Faults.{read_faults, write_faults, OnFile, OnSetUp, OnRun, IsOfBoard, IsOfRun, IsOfRunAs};
+ghost use Rattle.simulation.specs.{Faults.{read_faults, write_faults, OnFile, OnSetUp, OnRun, IsOfBoard, IsOfRun, IsOfRunAs}, Running.{IsRun, RunsAs}};
 ghost use Rattle.session.specs.Files.{Refuses, Breaks};
-ghost use Rattle.simulation.specs.Running.{IsRun, RunsAs};
 
 use board_told::Fault;
 use lines::run_watched;

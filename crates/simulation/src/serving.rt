@@ -1,14 +1,12 @@
 //! A session over the board of a board file, and what is told of the board once its lines ran.
-ghost use Rattle.std.specs.Prelude.{◌≡◌, ◌+◌, ◌-◌, ◌^◌, ◌<◌, ◌⊎◌, string_bytes, is_some, IfOk, IfErr, IsErrOf, IsTrue, OnOk};
-ghost use Rattle.std.specs.Io.KnownBytes.{Appends};
+ghost use Rattle.std.specs.{Prelude.{◌≡◌, ◌+◌, ◌-◌, ◌^◌, ◌<◌, ◌⊎◌, string_bytes, is_some, IfOk, IfErr, IsErrOf, IsTrue, OnOk}, Io.KnownBytes.Appends};
 ghost use Rattle.model_lines.specs.Sessions.{session_functions};
 ghost use Rattle.streams.specs.Ends.{AppendsPart};
 ghost use Rattle.lines.specs.Runs.{ends};
 ghost use Rattle.bus_scan.specs.declared.fault.Fault.TheVariants.{Memory};
 ghost use Rattle.session.specs.Files.{Refuses};
 ghost use Rattle.board_told.specs.Telling.{told_by, counted_by};
-ghost use Rattle.simulation.specs.Faults.{read_faults, write_faults, OnFile, IsOfFile};
-ghost use Rattle.simulation.specs.Serving.{told, counted, last_fault, IsOfAnswer, IsOfServing, Serves};
+ghost use Rattle.simulation.specs.{Faults.{read_faults, write_faults, OnFile, IsOfFile}, Serving.{told, counted, last_fault, IsOfAnswer, IsOfServing, Serves}};
 
 use crate::choice::print;
 use board_told::{Fault, Question, audit_in, ready_in};

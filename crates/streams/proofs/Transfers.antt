@@ -1,7 +1,5 @@
 -- Bytes that were read or written in parts.
-use Rattle.std.proofs.Common.{◌≡◌, ◌≢◌, ℕ, ◌-◌, cond, eqb, List, length, take, drop, arith, rules}
-use Rattle.std.proofs.lemmas.Bool.Decides.{nat_tests}
-use Rattle.std.proofs.lemmas.Grind.{common_steps}
+use Rattle.std.proofs.{Common.{◌≡◌, ◌≢◌, ℕ, ◌-◌, cond, eqb, List, length, take, drop, arith, rules}, lemmas.{Bool.Decides.nat_tests, Grind.common_steps}}
 
 -- `&xs[n..]`
 pub rest_is : (xs : List ℕ) (n : ℕ) → take (length xs - n) (drop n xs) ≡ drop n xs

@@ -2,9 +2,7 @@
 --     failures_of      an error is one failure
 --     write_failures_of      so is a write that takes no byte
 --     AppendsPart old new text      a beginning of the text was written, after what was written before
-use Rattle.std.specs.Prelude.{◌==◌, ℕ, List, if◌then◌else◌, Option, Result, Ok, Err}
-use Rattle.std.specs.Io.{StartsWith}
-use Rattle.std.specs.Io.KnownBytes.{Appends}
+use Rattle.std.specs.{Prelude.{◌==◌, ℕ, List, if◌then◌else◌, Option, Result, Ok, Err}, Io.{StartsWith, KnownBytes.Appends}}
 
 abbrev pub failures_of : {T E : Type 0} → Result T E → ℕ
 failures_of (Ok x) = 0

@@ -1,10 +1,6 @@
 //! A writer that keeps bytes back.
-ghost use Rattle.std.specs.Prelude.{◌≡◌, ◌+◌, ◌-◌, ◌^◌, ◌<◌, [], false, true, length};
-ghost use Rattle.std.specs.Prelude.{IfOk, OnOk, OnErr, IsErr, IsTrue};
-ghost use Rattle.std.specs.Io.{WritesAtMost};
-ghost use Rattle.std.specs.Io.KnownBytes.{WriteAppends, Keeps, append_known};
-ghost use Rattle.streams.specs.Ends.{failures_of, write_failures_of};
-ghost use Rattle.streams.specs.Kept.{writer_behind, kept_back, is_stopped, refusals};
+ghost use Rattle.std.specs.{Prelude.{◌≡◌, ◌+◌, ◌-◌, ◌^◌, ◌<◌, [], false, true, length, IfOk, OnOk, OnErr, IsErr, IsTrue}, Io.{WritesAtMost, KnownBytes.{WriteAppends, Keeps, append_known}}};
+ghost use Rattle.streams.specs.{Ends.{failures_of, write_failures_of}, Kept.{writer_behind, kept_back, is_stopped, refusals}};
 
 use crate::ends::{Failed, Writer};
 use crate::kept::Kept;

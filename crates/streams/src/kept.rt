@@ -1,6 +1,5 @@
 //! Bytes that are kept back.
-ghost use Rattle.std.specs.Prelude.{◌≡◌, ◌≤◌, ◌-◌, ◌++◌, [], length, drop};
-ghost use Rattle.std.specs.Prelude.{IfOk};
+ghost use Rattle.std.specs.Prelude.{◌≡◌, ◌≤◌, ◌-◌, ◌++◌, [], length, drop, IfOk};
 
 use std::alloc::{AllocError, Global};
 use std::marker::Model;

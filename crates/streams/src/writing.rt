@@ -1,6 +1,5 @@
 //! Texts that are written whole.
-ghost use Rattle.std.specs.Prelude.{◌≡◌, ◌+◌, ◌-◌, ◌^◌, ◌<◌, OnOk, OnErr};
-ghost use Rattle.std.specs.Io.KnownBytes.{Appends};
+ghost use Rattle.std.specs.{Prelude.{◌≡◌, ◌+◌, ◌-◌, ◌^◌, ◌<◌, OnOk, OnErr}, Io.KnownBytes.Appends};
 ghost use Rattle.streams.specs.Ends.{failures_of, AppendsPart};
 
 use crate::ends::{Failed, Writer};

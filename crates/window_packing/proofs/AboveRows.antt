@@ -1,24 +1,10 @@
 -- What stands above all functions of a board, one row after the other.
-use Rattle.std.proofs.Common.{◌≡◌, ℕ, zero, suc, ◌+◌, ◌-◌, ◌≤◌, ◌<◌, ◌⊎◌, inl, inr, true, ◌&&◌, List, [], ◌∷◌, ◌++◌, map, length, Some, refl, sym, ap, ap₂, ◌∙◌, subst, arith, get_or, ◌≢◌, length-append, get_or-set_other, get_or-set_same}
-use Rattle.std.proofs.lemmas.List.{length-map}
-use Rattle.std.proofs.lemmas.Option.{slice_get_within}
+use Rattle.std.{proofs.{Common.{◌≡◌, ℕ, zero, suc, ◌+◌, ◌-◌, ◌≤◌, ◌<◌, ◌⊎◌, inl, inr, true, ◌&&◌, List, [], ◌∷◌, ◌++◌, map, length, Some, refl, sym, ap, ap₂, ◌∙◌, subst, arith, get_or, ◌≢◌, length-append, get_or-set_other, get_or-set_same}, lemmas.{List.length-map, Option.slice_get_within, Bool.{and_parts, cases_eq, cases_lt}}, Math.ListN.length-set}, specs.{Prelude.IsTrue, List.{list_all, slice_get, slice_set}}}
 use Rattle.lists.proofs.Indices.{same_at, at_below, each_at, pair_at, any_at, map_at, at_map, each_by_index}
-use Rattle.window_packing.proofs.BusIndex.{row_in}
-use Rattle.window_packing.proofs.PoolSteps.{maps_at}
-use Rattle.std.specs.Prelude.{IsTrue}
-use Rattle.std.specs.List.{list_all, slice_get, slice_set}
-use Rattle.std.proofs.lemmas.Bool.{and_parts, cases_eq, cases_lt}
-use Rattle.std.proofs.Math.ListN.{length-set}
-use Rattle.model_board.specs.Paths.{Path, path_eq, path_before, leads_to, parent, last_part, IsPath}
-use Rattle.model_board.specs.Board.{is_bridge, is_bridge_at, Row, Board, IsBoard}
-use Rattle.model_set_up.specs.Pools.{bridges_above, has_io, has_pref, has_pref64}
-use Rattle.model_set_up.specs.FunctionTable.{TableRow, board_in}
-use Rattle.model_board.proofs.PathOrder.{path_same, leads_before}
-use Rattle.model_board.proofs.PathEnds.{snoc, length_snoc, leads_self, not_before_itself, no_turn, leads_longer}
+use Rattle.window_packing.{proofs.{BusIndex.row_in, PoolSteps.maps_at, BridgesAbove.{Tells, tells_root, tells_behind}}, specs.{declared.bridges_above.Above.Above, Buses.{bus_path, nothing_above, behind, AreAbove}}}
+use Rattle.model_board.{specs.{Paths.{Path, path_eq, path_before, leads_to, parent, last_part, IsPath}, Board.{is_bridge, is_bridge_at, Row, Board, IsBoard}}, proofs.{PathOrder.{path_same, leads_before}, PathEnds.{snoc, length_snoc, leads_self, not_before_itself, no_turn, leads_longer}}}
+use Rattle.model_set_up.specs.{Pools.{bridges_above, has_io, has_pref, has_pref64}, FunctionTable.{TableRow, board_in}}
 use Rattle.bridge_forward.proofs.Extents.{between}
-use Rattle.window_packing.specs.declared.bridges_above.Above.{Above}
-use Rattle.window_packing.specs.Buses.{bus_path, nothing_above, behind, AreAbove}
-use Rattle.window_packing.proofs.BridgesAbove.{Tells, tells_root, tells_behind}
 
 pub maps_same : {A B C : Type 0} (f : A → C) (g : B → C) (xs : List A) (ys : List B) → length xs ≡ length ys → ((k : ℕ) (x : A) (y : B) → slice_get xs k ≡ Some x → slice_get ys k ≡ Some y → f x ≡ g y) → map f xs ≡ map g ys
 maps_same f g [] [] n h = refl

@@ -1,17 +1,10 @@
 -- The regions of base address registers, register by register.
-use Rattle.std.proofs.Common.{◌≡◌, ℕ, zero, suc, ◌+◌, ◌||◌, List, [], ◌∷◌, ◌++◌, length, map, take, Option, Some, None, refl, sym, ap, ◌∙◌, subst, arith, inr, ◌<◌, ap₂}
-use Rattle.std.proofs.lemmas.Option.{get_or_from_slice_get, slice_get_within}
-use Rattle.std.proofs.lemmas.List.{take_more, length-take-le, take_more_set, map-append}
-use Rattle.std.specs.List.{list_any, slice_get, slice_set}
-use Rattle.model_registers.specs.Declarations.{Bar, Region}
-use Rattle.model_registers.specs.Decoding.{Space, same_space, space_of}
+use Rattle.std.{proofs.{Common.{◌≡◌, ℕ, zero, suc, ◌+◌, ◌||◌, List, [], ◌∷◌, ◌++◌, length, map, take, Option, Some, None, refl, sym, ap, ◌∙◌, subst, arith, inr, ◌<◌, ap₂}, lemmas.{Option.{get_or_from_slice_get, slice_get_within}, List.{take_more, length-take-le, take_more_set, map-append}}}, specs.List.{list_any, slice_get, slice_set}}
+use Rattle.model_registers.specs.{Declarations.{Bar, Region}, Decoding.{Space, same_space, space_of}, EndpointTable.BaseAddress}
 use Rattle.lists.specs.Elements.{IsIn}
 use Rattle.model_set_up.specs.Pools.{is_io}
-use Rattle.model_registers.specs.EndpointTable.{BaseAddress}
-use Rattle.bars.specs.declared.region.BasedRegion.{BasedRegion}
-use Rattle.bars.specs.Slots.{bases_from}
-use Rattle.window_packing.specs.Packs.{regions_from}
-use Rattle.window_packing.specs.Placed.{is_bar_in, is_port}
+use Rattle.bars.specs.{declared.region.BasedRegion.BasedRegion, Slots.bases_from}
+use Rattle.window_packing.specs.{Packs.regions_from, Placed.{is_bar_in, is_port}}
 
 pub any_in_space : (space : Space) (n : ℕ) (bars : List (Option Bar)) → list_any (is_bar_in space) bars ≡ list_any (λ (r : Region). same_space (space_of r.kind) space) (regions_from n bars)
 any_in_space space n [] = refl

@@ -1,21 +1,11 @@
 -- Settings in path order set the functions of a board up, one after the other.
-use Rattle.std.proofs.Common.{◌≡◌, false, List, [], ◌∷◌, ◌++◌, refl, sym, ap, ◌∙◌, arith}
-use Rattle.std.specs.Prelude.{map, IsTrue}
-use Rattle.std.proofs.lemmas.List.{map-append}
-use Rattle.lists.specs.Elements.{Each}
-use Rattle.lists.proofs.EachLemmas.{each_append}
+use Rattle.std.{proofs.{Common.{◌≡◌, false, List, [], ◌∷◌, ◌++◌, refl, sym, ap, ◌∙◌, arith}, lemmas.List.map-append}, specs.Prelude.{map, IsTrue}}
+use Rattle.lists.{specs.Elements.Each, proofs.EachLemmas.each_append}
 use Rattle.host_bridge.proofs.Lent.{with_file-none}
 use Rattle.model_registers.specs.Registers.{File}
-use Rattle.model_board.specs.Paths.{Path, path_eq}
-use Rattle.model_board.specs.Board.{Board, Decl, is_bridge, stands_at, IsBoard}
-use Rattle.model_board.specs.BusNumbers.{secondary, subordinate}
-use Rattle.model_board.specs.State.{BoardFunction, with_file, row_at}
-use Rattle.model_board.specs.Cycles.{secondary_register, subordinate_register}
-use Rattle.model_set_up.specs.Reach.{HasNumbers, address_of}
-use Rattle.model_board.proofs.PathEnds.{path_self}
-use Rattle.model_set_up.proofs.Routes.{reached_by_numbers}
-use Rattle.window_packing.specs.WordWrites.{WordWrite, after_word, after_words}
-use Rattle.window_packing.proofs.FileWrites.{written_file, file_after}
+use Rattle.model_board.{specs.{Paths.{Path, path_eq}, Board.{Board, Decl, is_bridge, stands_at, IsBoard}, BusNumbers.{secondary, subordinate}, State.{BoardFunction, with_file, row_at}, Cycles.{secondary_register, subordinate_register}}, proofs.PathEnds.path_self}
+use Rattle.model_set_up.{specs.Reach.{HasNumbers, address_of}, proofs.Routes.reached_by_numbers}
+use Rattle.window_packing.{specs.WordWrites.{WordWrite, after_word, after_words}, proofs.FileWrites.{written_file, file_after}}
 
 -- ---- a word at the number of a function changes that function alone
 

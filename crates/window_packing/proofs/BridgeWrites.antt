@@ -1,17 +1,8 @@
 -- The words of a bridge, written over its bus numbers, leave its windows and Command 3: whatever the spans are.
-use Rattle.std.proofs.Common.{◌≡◌, ℕ, ◌+◌, ◌-◌, ◌*◌, ◌/◌, ◌%◌, ◌^◌, ◌<◌, Bool, [], ◌∷◌, ◌++◌, refl, sym, ap, ap₂, ◌∙◌, zero-add, arith}
-use Rattle.std.specs.Prelude.{bit_and, bit_or}
-use Rattle.std.specs.Int.Bits.{or_zero_l, or_zero_r, and_zero_l, and_zero_r}
-use Rattle.std.proofs.lemmas.Nat.{and_mask, and_block, or_block}
-use Rattle.std.proofs.Math.Nat.{mod-eq_of_lt, add-zero}
-use Rattle.model_registers.specs.Cell.{Cell, written}
-use Rattle.model_registers.specs.Registers.{config, PlacedCell, File}
-use Rattle.model_registers.specs.Declarations.{IoDecode, no_io, io16, io32, PrefDecode, no_pref, pref32, pref64, Bridge}
-use Rattle.model_registers.specs.BridgeTable.{Window, no_window, BridgeValues, address_bits, io_cells, mem_cells, pref_cells, bridge_header, bridge_file}
-use Rattle.model_set_up.specs.Scanning.{BusNumbers, with_numbers}
-use Rattle.model_set_up.specs.SetUpWrites.{Windows}
-use Rattle.window_packing.specs.WordWrites.{bridge_words, window_word, io_word, io_upper_word}
-use Rattle.window_packing.proofs.FileWrites.{file_after, joined_after}
+use Rattle.std.{proofs.{Common.{◌≡◌, ℕ, ◌+◌, ◌-◌, ◌*◌, ◌/◌, ◌%◌, ◌^◌, ◌<◌, Bool, [], ◌∷◌, ◌++◌, refl, sym, ap, ap₂, ◌∙◌, zero-add, arith}, lemmas.Nat.{and_mask, and_block, or_block}, Math.Nat.{mod-eq_of_lt, add-zero}}, specs.{Prelude.{bit_and, bit_or}, Int.Bits.{or_zero_l, or_zero_r, and_zero_l, and_zero_r}}}
+use Rattle.model_registers.specs.{Cell.{Cell, written}, Registers.{config, PlacedCell, File}, Declarations.{IoDecode, no_io, io16, io32, PrefDecode, no_pref, pref32, pref64, Bridge}, BridgeTable.{Window, no_window, BridgeValues, address_bits, io_cells, mem_cells, pref_cells, bridge_header, bridge_file}}
+use Rattle.model_set_up.specs.{Scanning.{BusNumbers, with_numbers}, SetUpWrites.Windows}
+use Rattle.window_packing.{specs.WordWrites.{bridge_words, window_word, io_word, io_upper_word}, proofs.FileWrites.{file_after, joined_after}}
 
 -- ---- one byte
 

@@ -1,21 +1,10 @@
 -- What stands above each function of a board, row by row.
-use Rattle.std.proofs.Common.{◌≡◌, ℕ, suc, ◌≤◌, ◌<◌, ◌⊎◌, inl, inr, Bool, true, ◌&&◌, [], ◌∷◌, ◌++◌, length, Some, refl, sym, ap, ◌∙◌, subst, arith}
-use Rattle.lists.proofs.Tests.{and_true, same_test}
-use Rattle.std.specs.Prelude.{filter}
-use Rattle.std.specs.List.{list_all, slice_get}
-use Rattle.std.proofs.lemmas.Option.{slice_get_within}
-use Rattle.std.proofs.lemmas.Bool.{and_parts}
+use Rattle.std.{proofs.{Common.{◌≡◌, ℕ, suc, ◌≤◌, ◌<◌, ◌⊎◌, inl, inr, Bool, true, ◌&&◌, [], ◌∷◌, ◌++◌, length, Some, refl, sym, ap, ◌∙◌, subst, arith}, lemmas.{Option.slice_get_within, Bool.and_parts}}, specs.{Prelude.filter, List.{list_all, slice_get}}}
+use Rattle.lists.{proofs.{Tests.{and_true, same_test}, Members.{each_in, from_flat_map, in_flat_map, from_filter, in_filter, all_in, all_from, pair_in}, Indices.index_in}, specs.Elements.IsIn}
 use Rattle.model_registers.specs.Declarations.{Bridge}
-use Rattle.lists.specs.Elements.{IsIn}
-use Rattle.model_board.specs.Paths.{Path, leads_to, parent, last_part, IsPath}
-use Rattle.model_board.specs.Board.{Decl, Row, Board, IsBoard}
+use Rattle.model_board.{specs.{Paths.{Path, leads_to, parent, last_part, IsPath}, Board.{Decl, Row, Board, IsBoard}}, proofs.PathEnds.{snoc, leads_up, leads_self, leads_trans, not_before_itself}}
 use Rattle.model_set_up.specs.Pools.{bridge_of, bridges_above, has_io, has_pref, has_pref64}
-use Rattle.model_board.proofs.PathEnds.{snoc, leads_up, leads_self, leads_trans, not_before_itself}
-use Rattle.lists.proofs.Members.{each_in, from_flat_map, in_flat_map, from_filter, in_filter, all_in, all_from}
-use Rattle.lists.proofs.Indices.{index_in}
-use Rattle.lists.proofs.Members.{pair_in}
-use Rattle.window_packing.specs.declared.bridges_above.Above.{Above}
-use Rattle.window_packing.specs.Buses.{bus_path, nothing_above, behind}
+use Rattle.window_packing.specs.{declared.bridges_above.Above.Above, Buses.{bus_path, nothing_above, behind}}
 
 -- ---- one row
 

@@ -1,13 +1,9 @@
 -- Buses by index.
-use Rattle.std.proofs.Common.{◌≡◌, ℕ, zero, suc, ◌≤◌, map, length, Some, refl, ap, arith, sym, ◌∙◌}
-use Rattle.std.proofs.lemmas.List.{length-map}
+use Rattle.std.{proofs.{Common.{◌≡◌, ℕ, zero, suc, ◌≤◌, map, length, Some, refl, ap, arith, sym, ◌∙◌}, lemmas.List.length-map}, specs.List.slice_get}
 use Rattle.lists.proofs.Indices.{at_below, map_at}
-use Rattle.std.specs.List.{slice_get}
-use Rattle.model_board.specs.Paths.{Path}
-use Rattle.model_board.specs.Board.{Row, Board}
+use Rattle.model_board.specs.{Paths.Path, Board.{Row, Board}}
 use Rattle.model_set_up.specs.FunctionTable.{TableRow}
-use Rattle.window_packing.specs.Buses.{bus_path}
-use Rattle.window_packing.specs.Placed.{bus_paths}
+use Rattle.window_packing.specs.{Buses.bus_path, Placed.bus_paths}
 
 abbrev pub row_in : TableRow → Row
 row_in t = record { path = t.path; decl = t.decl }

@@ -1,16 +1,9 @@
 -- The buses of a board by index: the functions of a bus stand after its bridge, and no two buses are one.
-use Rattle.std.proofs.Common.{◌≡◌, ℕ, zero, suc, ◌+◌, ◌<◌, ◌≤◌, ◌⊎◌, inl, inr, Bool, true, false, Some, List, [], ◌∷◌, length, drop, refl, sym, ap, ◌∙◌, subst, arith}
-use Rattle.window_packing.proofs.BusIndex.{bus_behind}
-use Rattle.std.specs.Prelude.{filter, slice_get, IsTrue}
-use Rattle.std.proofs.lemmas.Bool.{cases_lt}
-use Rattle.model_board.specs.Paths.{Path, path_eq, path_before, leads_to, parent, IsPath}
-use Rattle.model_board.specs.Board.{Row, Board, rows_on, IsBoard}
-use Rattle.model_board.proofs.PathOrder.{leads_before, path_same}
-use Rattle.model_board.proofs.PathEnds.{not_before_itself}
+use Rattle.std.{proofs.{Common.{◌≡◌, ℕ, zero, suc, ◌+◌, ◌<◌, ◌≤◌, ◌⊎◌, inl, inr, Bool, true, false, Some, List, [], ◌∷◌, length, drop, refl, sym, ap, ◌∙◌, subst, arith}, lemmas.Bool.cases_lt}, specs.Prelude.{filter, slice_get, IsTrue}}
+use Rattle.window_packing.{proofs.BusIndex.bus_behind, specs.Buses.bus_path}
+use Rattle.model_board.{specs.{Paths.{Path, path_eq, path_before, leads_to, parent, IsPath}, Board.{Row, Board, rows_on, IsBoard}}, proofs.{PathOrder.{leads_before, path_same}, PathEnds.not_before_itself}}
 use Rattle.lists.proofs.Indices.{at_below, each_at, pair_at, same_at}
-use Rattle.bridge_forward.proofs.Nodes.{parent_leads}
-use Rattle.bridge_forward.proofs.BoardOrder.{weak_order}
-use Rattle.window_packing.specs.Buses.{bus_path}
+use Rattle.bridge_forward.proofs.{Nodes.parent_leads, BoardOrder.weak_order}
 
 pub filter-drop : {A : Type 0} (t : A → Bool) (n : ℕ) (xs : List A) → ((j : ℕ) (x : A) → j < n → slice_get xs j ≡ Some x → t x ≡ false) → filter t (drop n xs) ≡ filter t xs
 filter-drop t zero xs h = refl

@@ -1,23 +1,10 @@
 -- What stands on a bus of a board can be packed, in any order, and what a function adds is what it has there.
-use Rattle.std.proofs.Common.{◌≡◌, ℕ, zero, suc, ◌<◌, ◌≤◌, ◌^◌, List, [], ◌∷◌, refl, sym, ap, ◌∙◌, arith}
-use Rattle.std.specs.List.Sorted.{IsPermutation}
-use Rattle.std.proofs.lemmas.List.Sorted.{IsPermutation-trans}
-use Rattle.lists.specs.Elements.{Each, IsIn}
-use Rattle.model_registers.specs.Declarations.{Kind, greatest_size}
-use Rattle.lists.proofs.EachLemmas.{each_permutation}
-use Rattle.model_board.specs.Paths.{Part, Path, path_eq, parent}
-use Rattle.model_board.specs.Board.{Row, Decl, Board, rows_on, IsBoard}
-use Rattle.model_set_up.specs.Pools.{Pool, unit_of, bridges_above}
-use Rattle.model_registers.specs.Apertures.{Apertures}
-use Rattle.model_set_up.specs.Placement.{Item, inserted, in_order, end_from, spots_from, alignment, window_items, items_of, items_within, items_on}
-use Rattle.model_board.specs.Lawful.{IsLawfulDecl, HasLawfulDecls}
-use Rattle.model_set_up.specs.OrderLaws.{IsOrderOf}
-use Rattle.lists.proofs.Members.{each_in, each_from, from_flat_map, from_filter}
-use Rattle.model_set_up.proofs.Packing.{power_positive}
-use Rattle.model_set_up.proofs.Items.{region_of_item, unit_below}
-use Rattle.model_set_up.proofs.ItemOrder.{order_is_sorted, one_order}
-use Rattle.window_packing.specs.Packs.{BusPack, pack_items, pack_of, HasLawfulAlign, IsPackable, window_of, own_items}
-use Rattle.window_packing.proofs.ItemRanks.{alignment-in_order}
+use Rattle.std.{proofs.{Common.{◌≡◌, ℕ, zero, suc, ◌<◌, ◌≤◌, ◌^◌, List, [], ◌∷◌, refl, sym, ap, ◌∙◌, arith}, lemmas.List.Sorted.IsPermutation-trans}, specs.List.Sorted.IsPermutation}
+use Rattle.lists.{specs.Elements.{Each, IsIn}, proofs.{EachLemmas.each_permutation, Members.{each_in, each_from, from_flat_map, from_filter}}}
+use Rattle.model_registers.specs.{Declarations.{Kind, greatest_size}, Apertures.Apertures}
+use Rattle.model_board.specs.{Paths.{Part, Path, path_eq, parent}, Board.{Row, Decl, Board, rows_on, IsBoard}, Lawful.{IsLawfulDecl, HasLawfulDecls}}
+use Rattle.model_set_up.{specs.{Pools.{Pool, unit_of, bridges_above}, Placement.{Item, inserted, in_order, end_from, spots_from, alignment, window_items, items_of, items_within, items_on}, OrderLaws.IsOrderOf}, proofs.{Packing.power_positive, Items.{region_of_item, unit_below}, ItemOrder.{order_is_sorted, one_order}}}
+use Rattle.window_packing.{specs.Packs.{BusPack, pack_items, pack_of, HasLawfulAlign, IsPackable, window_of, own_items}, proofs.ItemRanks.alignment-in_order}
 
 -- ---- alignments
 

@@ -1,25 +1,9 @@
 -- The words of an endpoint, written over its cells at reset, leave its bases and its Command.
-use Rattle.std.proofs.Common.{◌≡◌, ℕ, zero, suc, ◌+◌, ◌-◌, ◌*◌, ◌/◌, ◌%◌, ◌^◌, ◌<◌, ◌≤◌, ◌⊎◌, inl, inr, Bool, true, false, ◌||◌, cond, List, [], ◌∷◌, ◌++◌, length, refl, sym, ap, ap₂, ◌∙◌, subst, arith, eqb}
-use Rattle.std.specs.Prelude.{map, flat_map, bit_and}
-use Rattle.std.proofs.lemmas.Nat.{and_mask, pow_pos, shr_split, shr_below}
-use Rattle.std.proofs.lemmas.Nat.Bits.{and_high}
-use Rattle.std.proofs.lemmas.Bool.{ne_eqb, or_parts}
-use Rattle.std.proofs.Math.Nat.{mod-eq_of_lt}
-use Rattle.lists.specs.Elements.{Each, EachPair}
-use Rattle.model_registers.specs.Cell.{Cell}
-use Rattle.model_registers.specs.Registers.{config, block, place_eq, File, write, cells_from}
-use Rattle.model_registers.specs.FileLaws.{has_place, HasNone}
-use Rattle.model_registers.specs.Declarations.{Kind, io_kind, mem32, mem64, Region, registers_of, IsLawfulRegion, HasLawfulRegions, ConfigBlock, Endpoint}
-use Rattle.model_registers.specs.Decoding.{io, memory}
+use Rattle.std.{proofs.{Common.{◌≡◌, ℕ, zero, suc, ◌+◌, ◌-◌, ◌*◌, ◌/◌, ◌%◌, ◌^◌, ◌<◌, ◌≤◌, ◌⊎◌, inl, inr, Bool, true, false, ◌||◌, cond, List, [], ◌∷◌, ◌++◌, length, refl, sym, ap, ap₂, ◌∙◌, subst, arith, eqb}, lemmas.{Nat.{and_mask, pow_pos, shr_split, shr_below, Bits.and_high}, Bool.{ne_eqb, or_parts}}, Math.Nat.mod-eq_of_lt}, specs.Prelude.{map, flat_map, bit_and}}
+use Rattle.lists.{specs.Elements.{Each, EachPair}, proofs.EachLemmas.each_map}
+use Rattle.model_registers.{specs.{Cell.Cell, Registers.{config, block, place_eq, File, write, cells_from}, FileLaws.{has_place, HasNone}, Declarations.{Kind, io_kind, mem32, mem64, Region, registers_of, IsLawfulRegion, HasLawfulRegions, ConfigBlock, Endpoint}, Decoding.{io, memory}, EndpointTable.{base_register, type_bits, base_width, base_cells, BaseAddress, register_cells, IsLawfulBase, region_cells, block_cells, header_cells, config_cells, endpoint_file, endpoint_reset}, BaseLaws.rebased}, proofs.{Bases.{size_limits, four, write_whole, exponent_below}, Files.{write_none, joined_write}, Parts.{IsApart, write_apart}}}
 use Rattle.model_set_up.specs.SetUp.{opens, command_of}
-use Rattle.lists.proofs.EachLemmas.{each_map}
-use Rattle.model_registers.specs.EndpointTable.{base_register, type_bits, base_width, base_cells, BaseAddress, register_cells, IsLawfulBase, region_cells, block_cells, header_cells, config_cells, endpoint_file, endpoint_reset}
-use Rattle.model_registers.specs.BaseLaws.{rebased}
-use Rattle.model_registers.proofs.Bases.{size_limits, four, write_whole, exponent_below}
-use Rattle.model_registers.proofs.Files.{write_none, joined_write}
-use Rattle.model_registers.proofs.Parts.{IsApart, write_apart}
-use Rattle.window_packing.specs.WordWrites.{word, base_words, endpoint_words}
-use Rattle.window_packing.proofs.FileWrites.{written_file, file_after, joined_after, after_joined}
+use Rattle.window_packing.{specs.WordWrites.{word, base_words, endpoint_words}, proofs.FileWrites.{written_file, file_after, joined_after, after_joined}}
 
 -- ---- one base
 

@@ -1,8 +1,6 @@
 -- Writes of words to the cells of one function: each of joined parts takes its own.
 use Rattle.std.proofs.Common.{◌≡◌, List, [], ◌∷◌, ◌++◌, refl, ap, ◌∙◌}
-use Rattle.model_registers.specs.Registers.{config, File, write}
-use Rattle.model_registers.specs.ByteEnables.{lanes}
-use Rattle.model_registers.proofs.Files.{joined_write}
+use Rattle.model_registers.{specs.{Registers.{config, File, write}, ByteEnables.lanes}, proofs.Files.joined_write}
 use Rattle.window_packing.specs.WordWrites.{WordWrite}
 
 abbrev pub written_file : WordWrite → File → File

@@ -1,28 +1,10 @@
 -- The first addresses of buses, one after the other.
-use Rattle.std.proofs.Common.{◌≡◌, ℕ, suc, ◌+◌, ◌≤◌, ◌<◌, ◌⊎◌, inl, inr, List, [], ◌∷◌, ◌++◌, map, length, Some, refl, sym, ap, ◌∙◌, subst, arith, length-append}
-use Rattle.std.proofs.lemmas.Option.{get_or_from_slice_get, slice_get_within}
-use Rattle.std.proofs.lemmas.List.{same_lists}
-use Rattle.std.specs.Prelude.{IsTrue}
-use Rattle.std.specs.List.{slice_get}
-use Rattle.std.proofs.lemmas.Bool.{cases_lt}
+use Rattle.std.{proofs.{Common.{◌≡◌, ℕ, suc, ◌+◌, ◌≤◌, ◌<◌, ◌⊎◌, inl, inr, List, [], ◌∷◌, ◌++◌, map, length, Some, refl, sym, ap, ◌∙◌, subst, arith, length-append}, lemmas.{Option.{get_or_from_slice_get, slice_get_within}, List.same_lists, Bool.cases_lt}}, specs.{Prelude.IsTrue, List.slice_get}}
 use Rattle.model_registers.specs.Apertures.{Apertures, IsLawfulApertures}
-use Rattle.lists.specs.Elements.{Each, IsIn}
-use Rattle.model_board.specs.Paths.{Part, parent, last_part}
-use Rattle.model_board.specs.Board.{Row, Board, IsBoard}
-use Rattle.model_board.specs.Lawful.{HasLawfulDecls}
-use Rattle.model_set_up.specs.Pools.{Pool}
-use Rattle.model_set_up.specs.Placement.{a_window, is_item, spots, offset_in, items_on, fits, bus_first}
-use Rattle.lists.proofs.Indices.{same_at, index_in}
-use Rattle.window_packing.specs.declared.bridges_above.Above.{Above}
-use Rattle.window_packing.specs.Buses.{bus_path, AreAbove}
-use Rattle.window_packing.specs.Packs.{BusPack, pack_of, packs_of}
-use Rattle.window_packing.specs.Placed.{bus_paths}
-use Rattle.window_packing.proofs.SpotSearch.{AreStrict}
-use Rattle.window_packing.proofs.BusIndex.{by_bus, count_buses, bus_behind}
-use Rattle.window_packing.proofs.BusIndices.{bus_before}
-use Rattle.window_packing.proofs.PoolSteps.{above_row}
-use Rattle.window_packing.proofs.Gathering.{front_at, last_at}
-use Rattle.window_packing.proofs.PlacedBuses.{highest, spots_strict, window_align, next_first, first_bound}
+use Rattle.lists.{specs.Elements.{Each, IsIn}, proofs.Indices.{same_at, index_in}}
+use Rattle.model_board.specs.{Paths.{Part, parent, last_part}, Board.{Row, Board, IsBoard}, Lawful.HasLawfulDecls}
+use Rattle.model_set_up.specs.{Pools.Pool, Placement.{a_window, is_item, spots, offset_in, items_on, fits, bus_first}}
+use Rattle.window_packing.{specs.{declared.bridges_above.Above.Above, Buses.{bus_path, AreAbove}, Packs.{BusPack, pack_of, packs_of}, Placed.bus_paths}, proofs.{SpotSearch.AreStrict, BusIndex.{by_bus, count_buses, bus_behind}, BusIndices.bus_before, PoolSteps.above_row, Gathering.{front_at, last_at}, PlacedBuses.{highest, spots_strict, window_align, next_first, first_bound}}}
 
 -- those of the buses up to an index
 pub record AreFirsts (b : Board) (a : Apertures) (pool : Pool) (i : ℕ) (xs : List ℕ) : Type 0 where

@@ -1,25 +1,10 @@
 -- Buses packed from the last row to the first: what is gathered of the items of the buses that are left.
-use Rattle.std.proofs.Common.{◌≡◌, ℕ, suc, ◌+◌, ◌≤◌, ◌^◌, Bool, true, false, cond, Some, List, [], ◌∷◌, ◌++◌, length, drop, refl, sym, ap, ◌∙◌, subst, arith, length-append, get_or-set_other, get_or-set_same}
-use Rattle.std.proofs.lemmas.Option.{slice_get_within, get_or_from_slice_get}
-use Rattle.std.proofs.lemmas.List.{drop_more, get_or_append_left, drop_all, reverse-append}
-use Rattle.std.proofs.Math.ListN.{length-set}
-use Rattle.lists.proofs.Indices.{read_at}
-use Rattle.std.specs.Prelude.{map, flat_map, reverse, slice_get, slice_set, All}
-use Rattle.std.specs.List.Sorted.{IsPermutation}
-use Rattle.std.proofs.lemmas.List.Sorted.{IsPermutation-refl, IsPermutation-trans, IsPermutation-append_comm, IsPermutation-append_left}
-use Rattle.std.proofs.lemmas.Bool.{cases_lt}
-use Rattle.lists.specs.Elements.{Each}
-use Rattle.model_board.specs.Paths.{Path, path_eq, parent}
-use Rattle.model_board.specs.Board.{Row, Board, rows_on, IsBoard}
-use Rattle.model_set_up.specs.Pools.{Pool}
+use Rattle.std.{proofs.{Common.{◌≡◌, ℕ, suc, ◌+◌, ◌≤◌, ◌^◌, Bool, true, false, cond, Some, List, [], ◌∷◌, ◌++◌, length, drop, refl, sym, ap, ◌∙◌, subst, arith, length-append, get_or-set_other, get_or-set_same}, lemmas.{Option.{slice_get_within, get_or_from_slice_get}, List.{drop_more, get_or_append_left, drop_all, reverse-append, Sorted.{IsPermutation-refl, IsPermutation-trans, IsPermutation-append_comm, IsPermutation-append_left}}, Bool.cases_lt}, Math.ListN.length-set}, specs.{Prelude.{map, flat_map, reverse, slice_get, slice_set, All}, List.Sorted.IsPermutation}}
+use Rattle.lists.{proofs.Indices.read_at, specs.Elements.Each}
+use Rattle.model_board.{specs.{Paths.{Path, path_eq, parent}, Board.{Row, Board, rows_on, IsBoard}}, proofs.{PathOrder.path_same, PathEnds.path_self}}
+use Rattle.model_set_up.{specs.{Pools.Pool, Placement.{Item, items_of, items_on}}, proofs.Levels.items_by_bus}
 use Rattle.model_registers.specs.Apertures.{Apertures}
-use Rattle.model_set_up.specs.Placement.{Item, items_of, items_on}
-use Rattle.model_set_up.proofs.Levels.{items_by_bus}
-use Rattle.model_board.proofs.PathOrder.{path_same}
-use Rattle.model_board.proofs.PathEnds.{path_self}
-use Rattle.window_packing.specs.Buses.{bus_path}
-use Rattle.window_packing.specs.Packs.{BusPack, pack_of}
-use Rattle.window_packing.proofs.BusIndices.{rows_behind, bus_index}
+use Rattle.window_packing.{specs.{Buses.bus_path, Packs.{BusPack, pack_of}}, proofs.BusIndices.{rows_behind, bus_index}}
 
 -- ---- lists by index
 

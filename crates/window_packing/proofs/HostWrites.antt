@@ -1,11 +1,7 @@
 -- Writes of words in a row.
-use Rattle.std.proofs.Common.{◌≡◌, ℕ, ◌≤◌, List, [], ◌∷◌, ◌++◌, length, drop, Option, refl, sym, ap, ◌∙◌}
-use Rattle.std.specs.Prelude.{flat_map}
-use Rattle.std.proofs.lemmas.List.{drop_all}
-use Rattle.bars.specs.declared.region.BasedRegion.{BasedRegion}
-use Rattle.bars.specs.Slots.{bases_from}
-use Rattle.model_board.specs.State.{BoardFunction}
-use Rattle.model_board.specs.Cycles.{BusAddress}
+use Rattle.std.{proofs.{Common.{◌≡◌, ℕ, ◌≤◌, List, [], ◌∷◌, ◌++◌, length, drop, Option, refl, sym, ap, ◌∙◌}, lemmas.List.drop_all}, specs.Prelude.flat_map}
+use Rattle.bars.specs.{declared.region.BasedRegion.BasedRegion, Slots.bases_from}
+use Rattle.model_board.specs.{State.BoardFunction, Cycles.BusAddress}
 use Rattle.host_bridge.specs.HostState.{HostState}
 use Rattle.window_packing.specs.WordWrites.{WordWrite, after_word, after_words, base_words, host_after}
 

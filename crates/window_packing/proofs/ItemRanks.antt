@@ -1,7 +1,5 @@
 -- The order of items is one that a sort keeps, and items in order have the alignment of the bus.
-use Rattle.std.proofs.Common.{◌≡◌, ℕ, max, Bool, cond, List, [], ◌∷◌, refl, ap, ◌∙◌, arith}
-use Rattle.std.specs.Cmp.{IsStrictWeakOrder}
-use Rattle.std.proofs.lemmas.Bool.Decides.{nat_tests}
+use Rattle.std.{proofs.{Common.{◌≡◌, ℕ, max, Bool, cond, List, [], ◌∷◌, refl, ap, ◌∙◌, arith}, lemmas.Bool.Decides.nat_tests}, specs.Cmp.IsStrictWeakOrder}
 use Rattle.model_set_up.specs.Placement.{Item, stands_before, inserted, in_order, alignment}
 
 pub weak_order : IsStrictWeakOrder stands_before

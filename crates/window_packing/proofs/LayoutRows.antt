@@ -1,26 +1,10 @@
 -- The rows of a placement are those of the layout.
-use Rattle.std.proofs.Common.{◌≡◌, ℕ, zero, suc, ◌+◌, ◌-◌, ◌≤◌, ◌<◌, List, [], ◌∷◌, ◌++◌, length, map, take, Some, refl, sym, ap, ap₂, ◌∙◌, subst, arith, append-nil, append_assoc}
-use Rattle.std.proofs.lemmas.Option.{slice_get-get_or, unwrap_or-slice_get, slice_get_within}
-use Rattle.std.proofs.lemmas.List.{length-map, map-id}
-use Rattle.std.proofs.lemmas.Simd.{map-map}
-use Rattle.window_packing.proofs.BusIndex.{row_in, by_bus}
-use Rattle.std.specs.Prelude.{flat_map}
-use Rattle.std.specs.List.{slice_get}
+use Rattle.std.{proofs.{Common.{◌≡◌, ℕ, zero, suc, ◌+◌, ◌-◌, ◌≤◌, ◌<◌, List, [], ◌∷◌, ◌++◌, length, map, take, Some, refl, sym, ap, ap₂, ◌∙◌, subst, arith, append-nil, append_assoc}, lemmas.{Option.{slice_get-get_or, unwrap_or-slice_get, slice_get_within}, List.{length-map, map-id}, Simd.map-map}}, specs.{Prelude.flat_map, List.slice_get}}
+use Rattle.window_packing.{proofs.{BusIndex.{row_in, by_bus}, PlacedBuses.rows_by_bus, PlacedFunctions.{count_pl, count_firsts, first_is, bus_depth, bus_room}}, specs.{Buses.bus_path, Packs.{BusPack, pack_of}, Placed.{bus_paths, PlacedPool, IsPlaced, Placement, IsPlacement}, LayoutRows.{bus_at, rows_along, rows_in, rows_of, IsListable, AreListable}}}
 use Rattle.lists.specs.Elements.{Each}
 use Rattle.model_registers.specs.Apertures.{Apertures}
-use Rattle.model_board.specs.Paths.{Path}
-use Rattle.model_board.specs.Board.{Row, Board, IsBoard}
-use Rattle.model_board.specs.Lawful.{HasLawfulDecls}
-use Rattle.model_set_up.specs.Pools.{Pool, io_pool, mem_pool, pref_pool}
-use Rattle.model_set_up.specs.Placement.{bus_first}
-use Rattle.model_set_up.specs.Layout.{LayoutRow, row_of, bus_rows, pool_rows, layout}
-use Rattle.model_set_up.specs.FunctionTable.{TableRow, board_in}
-use Rattle.window_packing.specs.Buses.{bus_path}
-use Rattle.window_packing.specs.Packs.{BusPack, pack_of}
-use Rattle.window_packing.specs.Placed.{bus_paths, PlacedPool, IsPlaced, Placement, IsPlacement}
-use Rattle.window_packing.specs.LayoutRows.{bus_at, rows_along, rows_in, rows_of, IsListable, AreListable}
-use Rattle.window_packing.proofs.PlacedBuses.{rows_by_bus}
-use Rattle.window_packing.proofs.PlacedFunctions.{count_pl, count_firsts, first_is, bus_depth, bus_room}
+use Rattle.model_board.specs.{Paths.Path, Board.{Row, Board, IsBoard}, Lawful.HasLawfulDecls}
+use Rattle.model_set_up.specs.{Pools.{Pool, io_pool, mem_pool, pref_pool}, Placement.bus_first, Layout.{LayoutRow, row_of, bus_rows, pool_rows, layout}, FunctionTable.{TableRow, board_in}}
 
 -- ---- bus by bus
 

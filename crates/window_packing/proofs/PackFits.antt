@@ -1,10 +1,8 @@
 -- Whether a pool fits, by the pack of bus 0.
 use Rattle.std.proofs.Common.{◌≡◌, inl, true, List, [], ◌∷◌, refl, ap, subst}
 use Rattle.lists.specs.Elements.{IsIn}
-use Rattle.model_set_up.specs.Pools.{Pool}
+use Rattle.model_set_up.{specs.{Pools.Pool, Placement.{Item, spots, fits_items}}, proofs.Items.spot_of}
 use Rattle.model_registers.specs.Apertures.{Apertures}
-use Rattle.model_set_up.specs.Placement.{Item, spots, fits_items}
-use Rattle.model_set_up.proofs.Items.{spot_of}
 
 -- a bus has spots where it has items
 pub no_items : (is : List Item) → spots is ≡ [] → is ≡ []

@@ -1,23 +1,9 @@
 -- The bases that placement gives fit their registers.
 use Rattle.std.proofs.Common.{◌≡◌, ◌%◌, ◌<◌, refl, subst}
-use Rattle.lists.specs.Elements.{Each, IsIn}
-use Rattle.model_registers.specs.Declarations.{Region, IsLawfulRegion, HasLawfulRegions, Endpoint}
-use Rattle.model_registers.specs.EndpointTable.{IsLawfulBase}
-use Rattle.model_registers.proofs.Bases.{whole_bound}
+use Rattle.lists.{specs.Elements.{Each, IsIn}, proofs.Members.{each_in, each_from}}
+use Rattle.model_registers.{specs.{Declarations.{Region, IsLawfulRegion, HasLawfulRegions, Endpoint}, EndpointTable.IsLawfulBase, Apertures.Apertures}, proofs.Bases.whole_bound}
 use Rattle.model_board.specs.Board.{Board, Row, endpoint}
-use Rattle.model_registers.specs.Apertures.{Apertures}
-use Rattle.model_set_up.specs.Pools.{bridges_above}
-use Rattle.model_set_up.specs.Layout.{LayoutRow, IsAligned, IsLawful, layout}
-use Rattle.model_set_up.specs.PlacementLaws.{HasRows, region_row}
-use Rattle.model_set_up.specs.SetUp.{first_of}
-use Rattle.model_set_up.specs.SetUpWrites.{placed_base}
-use Rattle.model_set_up.specs.UniqueClaimant.{CanBePlaced}
-use Rattle.lists.proofs.Members.{each_in, each_from}
-use Rattle.model_set_up.proofs.LawfulPlacement.{layout_is_lawful}
-use Rattle.model_set_up.proofs.DeclaredRows.{rows_are_declared}
-use Rattle.model_set_up.proofs.PlacedRegions.{region_there, lawful_regions}
-use Rattle.model_set_up.proofs.PlacedReads.{InAperture, fits_register}
-use Rattle.model_set_up.proofs.SetUpRegisters.{FitsRegister}
+use Rattle.model_set_up.{specs.{Pools.bridges_above, Layout.{LayoutRow, IsAligned, IsLawful, layout}, PlacementLaws.{HasRows, region_row}, SetUp.first_of, SetUpWrites.placed_base, UniqueClaimant.CanBePlaced}, proofs.{LawfulPlacement.layout_is_lawful, DeclaredRows.rows_are_declared, PlacedRegions.{region_there, lawful_regions}, PlacedReads.{InAperture, fits_register}, SetUpRegisters.FitsRegister}}
 
 module _ (b : Board) (a : Apertures) (can : CanBePlaced b a) where
   lawful : IsLawful b a (layout b a)

@@ -1,33 +1,10 @@
 -- Where the buses, the regions and the windows of a placed pool stand: all within 2^63, and each found by its alignment.
-use Rattle.std.proofs.Common.{◌≡◌, ℕ, zero, suc, ◌+◌, ◌-◌, ◌^◌, ◌≤◌, ◌<◌, ◌⊎◌, inl, inr, Bool, true, false, cond, List, [], ◌∷◌, ◌++◌, map, length, Option, MatchOption, refl, sym, ap, ◌∙◌, subst, arith}
-use Rattle.std.specs.Prelude.{filter, flat_map, IsTrue}
-use Rattle.std.proofs.lemmas.Bool.{and_parts}
-use Rattle.std.proofs.lemmas.Bool.Decides.{nat_tests}
-use Rattle.std.proofs.Math.Nat.{div-mul-le_self}
-use Rattle.lists.specs.Elements.{Each, EachPair, IsIn}
-use Rattle.model_registers.specs.Apertures.{Aperture, IsLawfulApertures, Apertures}
-use Rattle.model_registers.specs.Declarations.{Endpoint, Region}
-use Rattle.model_board.specs.Paths.{Part, Path, part_eq, parent, last_part, IsPath}
-use Rattle.model_board.specs.Board.{endpoint, is_bridge, Row, Board, IsBoard}
-use Rattle.model_set_up.specs.Pools.{Pool, unit_of, aperture_of}
-use Rattle.model_set_up.specs.Placement.{Placed, a_region, a_window, same_placed, Item, Spot, is_item, stands_before, in_order, round_up, need, alignment, spots_from, spots, offset_in, items_on, fits, offset_on, bus_first}
-use Rattle.model_set_up.specs.Layout.{LayoutRow, bus_rows, pool_rows}
-use Rattle.model_set_up.specs.Extents.{IsInside}
-use Rattle.model_set_up.specs.PlacementLaws.{window_row}
-use Rattle.model_board.specs.Lawful.{IsLawfulDecl, HasLawfulDecls}
-use Rattle.lists.proofs.Members.{each_in, each_from}
-use Rattle.model_board.proofs.PathOrder.{part_same}
-use Rattle.model_board.proofs.PathEnds.{snoc, length_snoc}
-use Rattle.lists.proofs.Members.{pair_in}
-use Rattle.model_set_up.proofs.Packing.{unit_positive}
-use Rattle.model_set_up.proofs.Items.{item_of, some_end, end_below_need, items_placeable, region_of_item, Origin, origin}
-use Rattle.model_set_up.proofs.ItemOrder.{Strictly, items_strict}
-use Rattle.model_set_up.proofs.Nesting.{HasItems, bus_first-snoc, window_of, bridge_of_bus}
-use Rattle.model_set_up.proofs.LawfulPlacement.{row_in, pool_lawful}
-use Rattle.model_set_up.proofs.DeclaredRows.{has_window_row}
-use Rattle.window_packing.proofs.BridgesAbove.{same_row, some_path}
-use Rattle.window_packing.proofs.BusItems.{items_align, alignment_bounds}
-use Rattle.window_packing.proofs.SpotSearch.{AreStrict}
+use Rattle.std.{proofs.{Common.{◌≡◌, ℕ, zero, suc, ◌+◌, ◌-◌, ◌^◌, ◌≤◌, ◌<◌, ◌⊎◌, inl, inr, Bool, true, false, cond, List, [], ◌∷◌, ◌++◌, map, length, Option, MatchOption, refl, sym, ap, ◌∙◌, subst, arith}, lemmas.Bool.{and_parts, Decides.nat_tests}, Math.Nat.div-mul-le_self}, specs.Prelude.{filter, flat_map, IsTrue}}
+use Rattle.lists.{specs.Elements.{Each, EachPair, IsIn}, proofs.Members.{each_in, each_from, pair_in}}
+use Rattle.model_registers.specs.{Apertures.{Aperture, IsLawfulApertures, Apertures}, Declarations.{Endpoint, Region}}
+use Rattle.model_board.{specs.{Paths.{Part, Path, part_eq, parent, last_part, IsPath}, Board.{endpoint, is_bridge, Row, Board, IsBoard}, Lawful.{IsLawfulDecl, HasLawfulDecls}}, proofs.{PathOrder.part_same, PathEnds.{snoc, length_snoc}}}
+use Rattle.model_set_up.{specs.{Pools.{Pool, unit_of, aperture_of}, Placement.{Placed, a_region, a_window, same_placed, Item, Spot, is_item, stands_before, in_order, round_up, need, alignment, spots_from, spots, offset_in, items_on, fits, offset_on, bus_first}, Layout.{LayoutRow, bus_rows, pool_rows}, Extents.IsInside, PlacementLaws.window_row}, proofs.{Packing.unit_positive, Items.{item_of, some_end, end_below_need, items_placeable, region_of_item, Origin, origin}, ItemOrder.{Strictly, items_strict}, Nesting.{HasItems, bus_first-snoc, window_of, bridge_of_bus}, LawfulPlacement.{row_in, pool_lawful}, DeclaredRows.has_window_row}}
+use Rattle.window_packing.proofs.{BridgesAbove.{same_row, some_path}, BusItems.{items_align, alignment_bounds}, SpotSearch.AreStrict}
 
 -- ---- spots in strict order
 

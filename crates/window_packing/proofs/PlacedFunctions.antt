@@ -1,30 +1,10 @@
 -- Where the regions and the windows of one function of a placed board stand.
-use Rattle.std.proofs.Common.{◌≡◌, ℕ, suc, ◌+◌, ◌*◌, ◌^◌, ◌≤◌, ◌<◌, List, [], ◌∷◌, length, map, Some, refl, sym, ap, ap₂, ◌∙◌, subst, arith}
-use Rattle.std.specs.Prelude.{IsTrue}
-use Rattle.std.specs.List.{slice_get}
-use Rattle.std.proofs.lemmas.Option.{slice_get_within}
-use Rattle.lists.specs.Elements.{Each, IsIn}
-use Rattle.model_registers.specs.Declarations.{Region}
-use Rattle.model_registers.specs.Apertures.{Apertures}
-use Rattle.model_board.specs.Paths.{Part, parent, last_part, IsPath}
-use Rattle.model_board.specs.Board.{endpoint, Row, Board, IsBoard}
-use Rattle.model_board.specs.Lawful.{HasLawfulDecls}
-use Rattle.model_set_up.specs.Pools.{Pool, io_pool, mem_pool, pref_pool, unit_of, bridges_above, pool_of}
-use Rattle.model_set_up.specs.Placement.{Placed, a_region, Item, Spot, is_item, round_up, need, spots, offset_in, items_on, offset_on, bus_first, region_first}
-use Rattle.model_set_up.specs.SetUp.{first_of, window_of}
-use Rattle.lists.proofs.Members.{each_in, each_from}
-use Rattle.model_set_up.proofs.Items.{item_of}
-use Rattle.lists.proofs.Indices.{same_at, index_in}
-use Rattle.window_packing.specs.declared.bridges_above.Above.{Above}
-use Rattle.window_packing.specs.Buses.{bus_path}
-use Rattle.window_packing.specs.Packs.{BusPack, pack_of}
-use Rattle.window_packing.specs.Placed.{bus_paths, PlacedPool, IsPlaced, Placement, IsPlacement, pool_in, IsAboveAt, IsRegionAt}
-use Rattle.window_packing.proofs.SpotSearch.{AreStrict}
-use Rattle.window_packing.proofs.BusIndex.{by_bus, count_buses, bus_behind}
-use Rattle.window_packing.proofs.PackFits.{no_items}
-use Rattle.window_packing.proofs.PoolSteps.{IsAboveRow, above_row}
-use Rattle.window_packing.proofs.FirstsSoFar.{pack_is, count_packs}
-use Rattle.window_packing.proofs.PlacedBuses.{spots_strict, region_align, spot_bound, window_bound, found_bound, first_bound, depth}
+use Rattle.std.{proofs.{Common.{◌≡◌, ℕ, suc, ◌+◌, ◌*◌, ◌^◌, ◌≤◌, ◌<◌, List, [], ◌∷◌, length, map, Some, refl, sym, ap, ap₂, ◌∙◌, subst, arith}, lemmas.Option.slice_get_within}, specs.{Prelude.IsTrue, List.slice_get}}
+use Rattle.lists.{specs.Elements.{Each, IsIn}, proofs.{Members.{each_in, each_from}, Indices.{same_at, index_in}}}
+use Rattle.model_registers.specs.{Declarations.Region, Apertures.Apertures}
+use Rattle.model_board.specs.{Paths.{Part, parent, last_part, IsPath}, Board.{endpoint, Row, Board, IsBoard}, Lawful.HasLawfulDecls}
+use Rattle.model_set_up.{specs.{Pools.{Pool, io_pool, mem_pool, pref_pool, unit_of, bridges_above, pool_of}, Placement.{Placed, a_region, Item, Spot, is_item, round_up, need, spots, offset_in, items_on, offset_on, bus_first, region_first}, SetUp.{first_of, window_of}}, proofs.Items.item_of}
+use Rattle.window_packing.{specs.{declared.bridges_above.Above.Above, Buses.bus_path, Packs.{BusPack, pack_of}, Placed.{bus_paths, PlacedPool, IsPlaced, Placement, IsPlacement, pool_in, IsAboveAt, IsRegionAt}}, proofs.{SpotSearch.AreStrict, BusIndex.{by_bus, count_buses, bus_behind}, PackFits.no_items, PoolSteps.{IsAboveRow, above_row}, FirstsSoFar.{pack_is, count_packs}, PlacedBuses.{spots_strict, region_align, spot_bound, window_bound, found_bound, first_bound, depth}}}
 
 pub placed_in : (b : Board) (a : Apertures) (p : Placement) → IsPlacement b a p → (pool : Pool) → IsPlaced b a pool (pool_in p pool)
 placed_in b a p h io_pool = h.io

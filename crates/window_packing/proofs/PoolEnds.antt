@@ -1,15 +1,9 @@
 -- Where a pool fits, none of its buses ends above 2 ^ 63; where one does, bus 0 does.
-use Rattle.std.proofs.Common.{ℕ, ◌≡◌, ◌<◌, ◌≤◌, ◌^◌, ◌⊎◌, inl, true, List, [], ◌∷◌, refl, arith}
-use Rattle.std.specs.Prelude.{IsFalse}
-use Rattle.std.proofs.lemmas.Bool.{leb-true}
+use Rattle.std.{proofs.{Common.{ℕ, ◌≡◌, ◌<◌, ◌≤◌, ◌^◌, ◌⊎◌, inl, true, List, [], ◌∷◌, refl, arith}, lemmas.Bool.leb-true}, specs.Prelude.IsFalse}
 use Rattle.model_registers.specs.Apertures.{IsLawfulApertures, Apertures}
 use Rattle.lists.specs.Elements.{IsIn}
-use Rattle.model_board.specs.Paths.{Path, leads_to}
-use Rattle.model_board.specs.Board.{Board, IsBoard}
-use Rattle.model_set_up.specs.Pools.{Pool}
-use Rattle.model_set_up.specs.Placement.{Item, in_order, end_from, aperture_end, fits_items, fits, items_on}
-use Rattle.model_board.specs.Lawful.{HasLawfulDecls}
-use Rattle.model_set_up.proofs.Nesting.{HasItems, nested, IsWithin, root_has}
+use Rattle.model_board.specs.{Paths.{Path, leads_to}, Board.{Board, IsBoard}, Lawful.HasLawfulDecls}
+use Rattle.model_set_up.{specs.{Pools.Pool, Placement.{Item, in_order, end_from, aperture_end, fits_items, fits, items_on}}, proofs.Nesting.{HasItems, nested, IsWithin, root_has}}
 
 ends_below : (a : Apertures) → IsLawfulApertures a → (pool : Pool) → aperture_end a pool ≤ 2 ^ 63
 ends_below a h pool = grind arith

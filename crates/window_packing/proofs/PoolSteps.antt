@@ -1,24 +1,10 @@
 -- The steps by which the buses of a pool are packed.
-use Rattle.std.proofs.Common.{◌≡◌, ℕ, zero, suc, ◌+◌, ◌-◌, ◌<◌, ◌≤◌, ◌^◌, Option, Some, List, [], ◌∷◌, ◌++◌, length, length-append, sym, ap, ◌∙◌, subst, arith}
-use Rattle.std.proofs.lemmas.List.{length-map, reverse-append}
-use Rattle.std.proofs.lemmas.Simd.{map-map}
-use Rattle.std.specs.Prelude.{map, reverse, slice_get, slice_set, option_to_list}
-use Rattle.std.specs.List.Sorted.{IsPermutation}
-use Rattle.lists.specs.Elements.{Each}
-use Rattle.lists.proofs.EachLemmas.{each_map, each_both}
-use Rattle.model_board.specs.Paths.{Path, parent}
-use Rattle.model_board.specs.Board.{Row, Board, IsBoard}
-use Rattle.model_board.specs.Lawful.{HasLawfulDecls}
-use Rattle.model_set_up.specs.Pools.{Pool, bridges_above}
+use Rattle.std.{proofs.{Common.{◌≡◌, ℕ, zero, suc, ◌+◌, ◌-◌, ◌<◌, ◌≤◌, ◌^◌, Option, Some, List, [], ◌∷◌, ◌++◌, length, length-append, sym, ap, ◌∙◌, subst, arith}, lemmas.{List.{length-map, reverse-append}, Simd.map-map}}, specs.{Prelude.{map, reverse, slice_get, slice_set, option_to_list}, List.Sorted.IsPermutation}}
+use Rattle.lists.{specs.Elements.Each, proofs.{EachLemmas.{each_map, each_both}, Indices.{map_at, each_at}}}
+use Rattle.model_board.specs.{Paths.{Path, parent}, Board.{Row, Board, IsBoard}, Lawful.HasLawfulDecls}
+use Rattle.model_set_up.specs.{Pools.{Pool, bridges_above}, Placement.{Item, items_of, items_on}}
 use Rattle.model_registers.specs.Apertures.{Apertures}
-use Rattle.model_set_up.specs.Placement.{Item, items_of, items_on}
-use Rattle.lists.proofs.Indices.{map_at, each_at}
-use Rattle.window_packing.specs.declared.bridges_above.Above.{Above}
-use Rattle.window_packing.specs.Buses.{bus_path, AreAbove}
-use Rattle.window_packing.specs.Packs.{BusPack, pack_of, IsBounded, IsOver}
-use Rattle.window_packing.proofs.BusIndices.{bus_before}
-use Rattle.window_packing.proofs.BusItems.{alignment_bounds, items_align}
-use Rattle.window_packing.proofs.Gathering.{IsGathered, last_gathered, root_gathered, more_gathered}
+use Rattle.window_packing.{specs.{declared.bridges_above.Above.Above, Buses.{bus_path, AreAbove}, Packs.{BusPack, pack_of, IsBounded, IsOver}}, proofs.{BusIndices.bus_before, BusItems.{alignment_bounds, items_align}, Gathering.{IsGathered, last_gathered, root_gathered, more_gathered}}}
 
 -- ---- what is said of the bridges above a row
 

@@ -1,9 +1,5 @@
 -- Tests of all rows of a board, row by row.
-use Rattle.std.proofs.Common.{◌≡◌, ℕ, ◌+◌, ◌≤◌, Bool, true, List, length, take, Some, ◌∙◌, subst}
-use Rattle.std.proofs.lemmas.Option.{slice_get_within, get_or_from_slice_get}
-use Rattle.std.proofs.lemmas.List.{take_all}
-use Rattle.std.proofs.lemmas.List.Folds.{list_all_more}
-use Rattle.std.specs.List.{slice_get, list_all}
+use Rattle.std.{proofs.{Common.{◌≡◌, ℕ, ◌+◌, ◌≤◌, Bool, true, List, length, take, Some, ◌∙◌, subst}, lemmas.{Option.{slice_get_within, get_or_from_slice_get}, List.{take_all, Folds.list_all_more}}}, specs.List.{slice_get, list_all}}
 
 pub all_more : {A : Type 0} (t : A → Bool) (xs : List A) (i : ℕ) (x : A) → slice_get xs i ≡ Some x → list_all t (take i xs) ≡ true → t x ≡ true → list_all t (take (i + 1) xs) ≡ true
 all_more t xs i x e h k = list_all_more t xs i x (slice_get_within xs i x e) ∙ (let g = get_or_from_slice_get xs i x x e in rw (h, g) k)

@@ -1,42 +1,11 @@
 -- All settings of a numbered board, written in path order, leave the state of set-up.
-use Rattle.std.proofs.Common.{◌≡◌, ◌+◌, ◌<◌, ◌≤◌, inl, inr, Bool, true, false, ◌&&◌, cond, List, [], ◌∷◌, ◌++◌, refl, sym, ap, ap₂, ◌∙◌, subst, arith, append_assoc, append-nil}
-use Rattle.std.specs.Prelude.{map, count_by}
-use Rattle.std.proofs.lemmas.List.{map-append}
-use Rattle.std.proofs.lemmas.Bool.{ne_eqb}
-use Rattle.lists.specs.Elements.{Each, EachPair, IsIn}
-use Rattle.model_registers.specs.Cell.{Cell, written}
-use Rattle.model_registers.specs.Registers.{Place, place_eq, File, cell_at, changed}
-use Rattle.model_registers.specs.Declarations.{Bridge, Endpoint}
-use Rattle.model_registers.specs.DeclarationRules.{IsConfigBlock}
-use Rattle.model_registers.specs.BridgeTable.{BridgeValues, bridge_file}
-use Rattle.model_registers.proofs.RegisterFiles.{place_same}
-use Rattle.model_board.specs.Paths.{Path, path_eq, path_before, leads_to}
-use Rattle.model_board.specs.Board.{Board, Row, Decl, endpoint, bridge, is_bridge, is_bridge_at, is_multifunction}
-use Rattle.model_board.specs.BusNumbers.{secondary, subordinate, Enumerates}
-use Rattle.model_board.specs.State.{BoardFunction, State, row_at}
-use Rattle.model_set_up.specs.Reach.{address_of}
-use Rattle.model_registers.specs.Apertures.{Apertures}
-use Rattle.model_set_up.specs.SetUp.{first_of, set_up_file, set_up_state}
-use Rattle.model_set_up.specs.SetUpWrites.{Setting, windows_of, writes_of, Plan, planned}
-use Rattle.model_set_up.specs.Scanning.{board_numbers, numbered_file, numbered_state, IsNumbered}
-use Rattle.model_set_up.specs.UniqueClaimant.{CanBePlaced}
-use Rattle.lists.proofs.Members.{each_in, each_from, any_in, in_front, in_back}
-use Rattle.lists.proofs.EachLemmas.{each_of_map, pairs_after}
-use Rattle.lists.proofs.Tests.{and_true}
-use Rattle.model_board.proofs.StateRows.{rows_of}
-use Rattle.model_board.proofs.PlacesLaw.{before_apart}
-use Rattle.model_board.proofs.PathOrder.{exclusive}
-use Rattle.model_board.proofs.PathEnds.{path_self, path_eq-sym}
-use Rattle.model_board.proofs.BusNumbers.{bridges, at, count_three, counted}
-use Rattle.model_set_up.proofs.PlacedRegions.{lawful_decl}
-use Rattle.model_board.specs.AtReset.{board_at}
+use Rattle.std.{proofs.{Common.{◌≡◌, ◌+◌, ◌<◌, ◌≤◌, inl, inr, Bool, true, false, ◌&&◌, cond, List, [], ◌∷◌, ◌++◌, refl, sym, ap, ap₂, ◌∙◌, subst, arith, append_assoc, append-nil}, lemmas.{List.map-append, Bool.ne_eqb}}, specs.Prelude.{map, count_by}}
+use Rattle.lists.{specs.Elements.{Each, EachPair, IsIn}, proofs.{Members.{each_in, each_from, any_in, in_front, in_back}, EachLemmas.{each_of_map, pairs_after}, Tests.and_true}}
+use Rattle.model_registers.{specs.{Cell.{Cell, written}, Registers.{Place, place_eq, File, cell_at, changed}, Declarations.{Bridge, Endpoint}, DeclarationRules.IsConfigBlock, BridgeTable.{BridgeValues, bridge_file}, Apertures.Apertures}, proofs.RegisterFiles.place_same}
+use Rattle.model_board.{specs.{Paths.{Path, path_eq, path_before, leads_to}, Board.{Board, Row, Decl, endpoint, bridge, is_bridge, is_bridge_at, is_multifunction}, BusNumbers.{secondary, subordinate, Enumerates}, State.{BoardFunction, State, row_at}, AtReset.board_at}, proofs.{StateRows.rows_of, PlacesLaw.before_apart, PathOrder.exclusive, PathEnds.{path_self, path_eq-sym}, BusNumbers.{bridges, at, count_three, counted}}}
+use Rattle.model_set_up.{specs.{Reach.address_of, SetUp.{first_of, set_up_file, set_up_state}, SetUpWrites.{Setting, windows_of, writes_of, Plan, planned}, Scanning.{board_numbers, numbered_file, numbered_state, IsNumbered}, UniqueClaimant.CanBePlaced}, proofs.PlacedRegions.lawful_decl}
 use Rattle.host_bridge.specs.HostState.{HostState, with_functions}
-use Rattle.window_packing.specs.WordWrites.{WordWrite, after_words, after_settings, words_of}
-use Rattle.window_packing.proofs.FileWrites.{file_after}
-use Rattle.window_packing.proofs.BridgeWrites.{bridge_written}
-use Rattle.window_packing.proofs.EndpointWrites.{endpoint_written}
-use Rattle.window_packing.proofs.PlacedBases.{bases_fit}
-use Rattle.window_packing.proofs.BoardWrites.{HoldsNumbers, KeepsNumbers, words_at}
+use Rattle.window_packing.{specs.WordWrites.{WordWrite, after_words, after_settings, words_of}, proofs.{FileWrites.file_after, BridgeWrites.bridge_written, EndpointWrites.endpoint_written, PlacedBases.bases_fit, BoardWrites.{HoldsNumbers, KeepsNumbers, words_at}}}
 
 -- ---- cells that a write leaves
 

@@ -1,33 +1,12 @@
 -- Set-up end to end, over the definitions: what scan, sizing, placement and programming leave is a board that is ready, and a refusal
 -- is the first broken rule.
-use Rattle.std.proofs.Common.{◌≡◌, ◌⊎◌, inl, inr, ℕ, Bool, true, List, [], ◌∷◌, Some, None, refl, sym, ap, ◌∙◌, subst, arith, rules}
-use Rattle.std.specs.Prelude.{nat_le, count_by, IsTrue}
-use Rattle.std.proofs.lemmas.Bool.{le-leb}
-use Rattle.model_registers.specs.DeclarationRules.{first_broken}
-use Rattle.model_registers.specs.Apertures.{IsLawfulApertures, Apertures}
-use Rattle.model_board.specs.Board.{Board, Row, is_bridge, IsBoard}
-use Rattle.model_board.specs.BusNumbers.{Enumerates}
-use Rattle.model_board.specs.Lawful.{HasLawfulDecls}
-use Rattle.model_set_up.specs.Pools.{Pool, io_pool, mem_pool, pref_pool, has_io_paths}
-use Rattle.model_set_up.specs.Placement.{fits}
-use Rattle.model_set_up.specs.Layout.{IsLawful, layout}
-use Rattle.model_board.specs.State.{State}
-use Rattle.model_board.specs.Routing.{routing}
-use Rattle.model_set_up.specs.SetUp.{set_up_file, set_up_state}
-use Rattle.model_set_up.specs.SetUpWrites.{Plan, planned, placement_rules, set_up_rules}
-use Rattle.model_set_up.specs.FunctionTable.{TableRow, sized_table}
-use Rattle.model_board.specs.AtReset.{board_at}
-use Rattle.model_set_up.specs.UniqueClaimant.{CanBePlaced}
-use Rattle.model_board.proofs.StateRows.{state_rows}
-use Rattle.model_set_up.proofs.LawfulPlacement.{layout_is_lawful}
-use Rattle.model_set_up.proofs.UniqueClaimant.{unique_claimant}
+use Rattle.std.{proofs.{Common.{◌≡◌, ◌⊎◌, inl, inr, ℕ, Bool, true, List, [], ◌∷◌, Some, None, refl, sym, ap, ◌∙◌, subst, arith, rules}, lemmas.Bool.le-leb}, specs.Prelude.{nat_le, count_by, IsTrue}}
+use Rattle.model_registers.specs.{DeclarationRules.first_broken, Apertures.{IsLawfulApertures, Apertures}}
+use Rattle.model_board.{specs.{Board.{Board, Row, is_bridge, IsBoard}, BusNumbers.Enumerates, Lawful.HasLawfulDecls, State.State, Routing.routing, AtReset.board_at}, proofs.StateRows.state_rows}
+use Rattle.model_set_up.{specs.{Pools.{Pool, io_pool, mem_pool, pref_pool, has_io_paths}, Placement.fits, Layout.{IsLawful, layout}, SetUp.{set_up_file, set_up_state}, SetUpWrites.{Plan, planned, placement_rules, set_up_rules}, FunctionTable.{TableRow, sized_table}, UniqueClaimant.CanBePlaced}, proofs.{LawfulPlacement.layout_is_lawful, UniqueClaimant.unique_claimant}}
 use Rattle.host_bridge.specs.HostState.{HostState}
-use Rattle.bus_scan.specs.declared.fault.Fault.{Fault}
-use Rattle.bus_scan.specs.declared.fault.Fault.TheVariants.{Memory}
-use Rattle.bus_scan.specs.Faults.{number_of}
-use Rattle.bus_scan.specs.SizedTables.{IsTableOf}
-use Rattle.window_packing.specs.Plans.{IsRefusal}
-use Rattle.window_packing.specs.Readies.{ReadyBoard, board_below, IsEnumerated, IsReady, OwnClaims}
+use Rattle.bus_scan.specs.{declared.fault.Fault.{Fault, TheVariants.Memory}, Faults.number_of, SizedTables.IsTableOf}
+use Rattle.window_packing.specs.{Plans.IsRefusal, Readies.{ReadyBoard, board_below, IsEnumerated, IsReady, OwnClaims}}
 
 -- ---- rules
 

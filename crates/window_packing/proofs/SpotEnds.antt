@@ -1,11 +1,7 @@
 -- Where items that follow one another end.
-use Rattle.std.proofs.Common.{ℕ, ◌+◌, ◌<◌, ◌≤◌, List, [], ◌∷◌, drop, length, get_or, arith}
-use Rattle.std.proofs.lemmas.List.{drop_more}
-use Rattle.lists.specs.Elements.{Each}
-use Rattle.lists.proofs.EachLemmas.{all-each, each-all}
-use Rattle.std.proofs.lemmas.List.Elements.{All-drop}
-use Rattle.model_set_up.specs.Placement.{Item, round_up, end_from}
-use Rattle.model_set_up.proofs.Packing.{round_up_not_before}
+use Rattle.std.proofs.{Common.{ℕ, ◌+◌, ◌<◌, ◌≤◌, List, [], ◌∷◌, drop, length, get_or, arith}, lemmas.List.{drop_more, Elements.All-drop}}
+use Rattle.lists.{specs.Elements.Each, proofs.EachLemmas.{all-each, each-all}}
+use Rattle.model_set_up.{specs.Placement.{Item, round_up, end_from}, proofs.Packing.round_up_not_before}
 use Rattle.window_packing.specs.Packs.{HasLawfulAlign}
 
 -- the end is not before the beginning

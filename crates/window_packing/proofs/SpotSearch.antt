@@ -1,17 +1,8 @@
 -- The search for an item among the spots of a bus, which stand in strict order.
-use Rattle.std.proofs.Common.{◌≡◌, ℕ, zero, suc, ◌≤◌, ◌<◌, ◌⊎◌, inl, inr, Bool, true, false, ◌&&◌, List, [], ◌∷◌, length, Some, refl, sym, ap, ◌∙◌, subst, arith, get_or}
-use Rattle.std.proofs.lemmas.Option.{get_or_from_slice_get, slice_get_within}
-use Rattle.std.specs.Prelude.{IsTrue, nat_lt, ◌==◌, ◌||◌}
-use Rattle.std.specs.List.{slice_get}
-use Rattle.std.specs.List.Sorted.{IsPartitionedBy, IsPartitionPoint}
-use Rattle.std.proofs.lemmas.Bool.{and_parts, cases_lt, false_from_ne_true}
-use Rattle.std.proofs.lemmas.Bool.Decides.{nat_tests}
-use Rattle.lists.specs.Elements.{Each, EachPair}
-use Rattle.model_board.specs.Paths.{Part, part_eq}
-use Rattle.model_set_up.specs.Placement.{Placed, same_placed, register_of, Item, Spot, stands_before, is_item, offset_in}
-use Rattle.model_board.proofs.PathOrder.{part_same}
-use Rattle.lists.proofs.Indices.{at_below, each_at, pair_at}
-use Rattle.model_set_up.proofs.InOrder.{one_way}
+use Rattle.std.{proofs.{Common.{◌≡◌, ℕ, zero, suc, ◌≤◌, ◌<◌, ◌⊎◌, inl, inr, Bool, true, false, ◌&&◌, List, [], ◌∷◌, length, Some, refl, sym, ap, ◌∙◌, subst, arith, get_or}, lemmas.{Option.{get_or_from_slice_get, slice_get_within}, Bool.{and_parts, cases_lt, false_from_ne_true, Decides.nat_tests}}}, specs.{Prelude.{IsTrue, nat_lt, ◌==◌, ◌||◌}, List.{slice_get, Sorted.{IsPartitionedBy, IsPartitionPoint}}}}
+use Rattle.lists.{specs.Elements.{Each, EachPair}, proofs.Indices.{at_below, each_at, pair_at}}
+use Rattle.model_board.{specs.Paths.{Part, part_eq}, proofs.PathOrder.part_same}
+use Rattle.model_set_up.{specs.Placement.{Placed, same_placed, register_of, Item, Spot, stands_before, is_item, offset_in}, proofs.InOrder.one_way}
 use Rattle.window_packing.specs.Searching.{IsFirstFrom}
 
 chain : (i j k : Item) → stands_before i j ≡ false → stands_before j k ≡ false → stands_before i k ≡ false

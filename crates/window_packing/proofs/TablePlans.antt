@@ -1,25 +1,10 @@
 -- A plan that was made for what a table tells is the plan of every board with that table.
 use Rattle.std.proofs.Common.{◌≡◌, List, [], None, map, sym, ap, ◌∙◌, subst, arith}
-use Rattle.model_registers.specs.DeclarationRules.{first_broken}
-use Rattle.model_registers.specs.Apertures.{IsLawfulApertures, Apertures}
-use Rattle.model_board.specs.Paths.{Path}
-use Rattle.model_board.specs.Board.{Board, IsBoard}
-use Rattle.model_board.specs.Lawful.{HasLawfulDecls}
-use Rattle.model_set_up.specs.Layout.{IsLawful}
-use Rattle.model_set_up.specs.SetUpWrites.{Plan, Setting, planned, placement_rules, settings}
-use Rattle.model_set_up.specs.FunctionTable.{TableRow, board_in}
-use Rattle.model_set_up.specs.UniqueClaimant.{CanBePlaced}
-use Rattle.model_set_up.specs.Pools.{Pool}
-use Rattle.model_set_up.specs.Placement.{items_on}
-use Rattle.model_set_up.proofs.FoundBoards.{board_in_table, on_bus, placed_as_found}
-use Rattle.bus_scan.specs.declared.fault.Fault.{Fault}
-use Rattle.bus_scan.specs.SizedTables.{IsTableOf}
-use Rattle.window_packing.specs.LayoutRows.{rows_of, AreListable}
-use Rattle.window_packing.specs.Placed.{Placement, IsPlacement}
-use Rattle.window_packing.specs.Plans.{IsRefusal}
-use Rattle.window_packing.specs.Uses.{told_by, told_use}
-use Rattle.window_packing.proofs.LayoutRows.{layout_rows, are_listable, table_paths}
-use Rattle.window_packing.proofs.SetUps.{placeable, rows_lawful}
+use Rattle.model_registers.specs.{DeclarationRules.first_broken, Apertures.{IsLawfulApertures, Apertures}}
+use Rattle.model_board.specs.{Paths.Path, Board.{Board, IsBoard}, Lawful.HasLawfulDecls}
+use Rattle.model_set_up.{specs.{Layout.IsLawful, SetUpWrites.{Plan, Setting, planned, placement_rules, settings}, FunctionTable.{TableRow, board_in}, UniqueClaimant.CanBePlaced, Pools.Pool, Placement.items_on}, proofs.FoundBoards.{board_in_table, on_bus, placed_as_found}}
+use Rattle.bus_scan.specs.{declared.fault.Fault.Fault, SizedTables.IsTableOf}
+use Rattle.window_packing.{specs.{LayoutRows.{rows_of, AreListable}, Placed.{Placement, IsPlacement}, Plans.IsRefusal, Uses.{told_by, told_use}}, proofs.{LayoutRows.{layout_rows, are_listable, table_paths}, SetUps.{placeable, rows_lawful}}}
 
 -- ---- the plan of what was found
 

@@ -1,17 +1,10 @@
 -- A pool fits where it takes no more than its aperture has for it.
-use Rattle.std.proofs.Common.{◌≡◌, ◌+◌, ◌-◌, ◌<◌, ◌^◌, inl, Bool, List, [], ◌∷◌, Some, None, refl, sym, ap, ◌∙◌, arith, ℕ}
-use Rattle.std.specs.Prelude.{ℕ, nat_le, if◌then◌else◌}
-use Rattle.std.proofs.lemmas.Bool.{le-leb}
-use Rattle.std.proofs.lemmas.Bool.Decides.{nat_tests}
+use Rattle.std.{proofs.{Common.{◌≡◌, ◌+◌, ◌-◌, ◌<◌, ◌^◌, inl, Bool, List, [], ◌∷◌, Some, None, refl, sym, ap, ◌∙◌, arith, ℕ}, lemmas.Bool.{le-leb, Decides.nat_tests}}, specs.Prelude.{ℕ, nat_le, if◌then◌else◌}}
 use Rattle.lists.specs.Elements.{Each}
-use Rattle.model_board.specs.Board.{Board}
-use Rattle.model_board.specs.Lawful.{HasLawfulDecls}
-use Rattle.model_set_up.specs.Pools.{Pool, unit_of}
+use Rattle.model_board.specs.{Board.Board, Lawful.HasLawfulDecls}
+use Rattle.model_set_up.{specs.{Pools.{Pool, unit_of}, Placement.{Item, in_order, end_from, root_first, aperture_end, fits_items, fits, items_on}}, proofs.Items.{IsPlaceable, some_end, items_placeable}}
 use Rattle.model_registers.specs.Apertures.{Apertures}
-use Rattle.model_set_up.specs.Placement.{Item, in_order, end_from, root_first, aperture_end, fits_items, fits, items_on}
-use Rattle.model_set_up.proofs.Items.{IsPlaceable, some_end, items_placeable}
-use Rattle.window_packing.specs.declared.pool_uses.PoolUse.{PoolUse}
-use Rattle.window_packing.specs.Uses.{use_by, told_use}
+use Rattle.window_packing.specs.{declared.pool_uses.PoolUse.PoolUse, Uses.{use_by, told_use}}
 
 room : (first end limit : ℕ) → 0 < end → nat_le (first + end) limit ≡ nat_le end (limit - first)
 room first end limit some = grind (arith, nat_tests)

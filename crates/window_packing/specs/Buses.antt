@@ -2,12 +2,9 @@
 --     bus_path      the path of the bus with an index: 0 is bus 0, and 1 + n the bus behind the function of row n
 --     nothing_above, behind      what a function has above it, on bus 0 and behind a bridge
 --     AreAbove      for each row: the index of its bus, and what all bridges above it have
-use Rattle.std.specs.Prelude.{List, [], ◌≡◌, ℕ, zero, suc, ◌≤◌, true, ◌&&◌, length, map, slice_get}
-use Rattle.std.specs.Option.{option_map_or}
-use Rattle.std.specs.List.{list_all}
+use Rattle.std.specs.{Prelude.{List, [], ◌≡◌, ℕ, zero, suc, ◌≤◌, true, ◌&&◌, length, map, slice_get}, Option.option_map_or, List.list_all}
 use Rattle.lists.specs.Elements.{Each}
-use Rattle.model_board.specs.Paths.{Path, parent}
-use Rattle.model_board.specs.Board.{Decl, endpoint, bridge, Row, Board}
+use Rattle.model_board.specs.{Paths.{Path, parent}, Board.{Decl, endpoint, bridge, Row, Board}}
 use Rattle.model_set_up.specs.Pools.{bridges_above, has_io, has_pref, has_pref64}
 use Rattle.window_packing.specs.declared.bridges_above.Above.{Above}
 

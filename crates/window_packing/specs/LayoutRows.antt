@@ -5,10 +5,8 @@
 use Rattle.std.specs.Prelude.{List, [], ◌∷◌, ◌++◌, ◌≡◌, ℕ, suc, ◌+◌, ◌<◌, ◌^◌, Some, map, length, slice_get, unwrap_or}
 use Rattle.lists.specs.Elements.{Each}
 use Rattle.model_board.specs.Paths.{Path}
-use Rattle.model_set_up.specs.Pools.{Pool, io_pool, mem_pool, pref_pool}
-use Rattle.model_set_up.specs.Layout.{LayoutRow, row_of}
-use Rattle.window_packing.specs.Packs.{BusPack}
-use Rattle.window_packing.specs.Placed.{PlacedPool, Placement}
+use Rattle.model_set_up.specs.{Pools.{Pool, io_pool, mem_pool, pref_pool}, Layout.{LayoutRow, row_of}}
+use Rattle.window_packing.specs.{Packs.BusPack, Placed.{PlacedPool, Placement}}
 
 abbrev pub bus_at : List Path → ℕ → Path
 bus_at paths bus = unwrap_or (slice_get ([] ∷ paths) bus) []

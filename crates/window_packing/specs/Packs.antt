@@ -7,17 +7,11 @@
 --     IsOver      what is said of all bridges above a function is so of a list of bridges
 --     pool_items, regions_from      the regions of a pool as items; the regions of base address registers
 --     window_of, own_items      the window of a bus; what a function has on its own bus
-use Rattle.std.specs.Prelude.{List, [], ◌∷◌, ◌≡◌, ℕ, ◌<◌, ◌≤◌, ◌^◌, Option, map, filter}
-use Rattle.std.specs.List.{list_all}
+use Rattle.std.specs.{Prelude.{List, [], ◌∷◌, ◌≡◌, ℕ, ◌<◌, ◌≤◌, ◌^◌, Option, map, filter}, List.list_all}
 use Rattle.lists.specs.Elements.{Each}
-use Rattle.model_registers.specs.Declarations.{Bar, Bridge, Region}
-use Rattle.model_registers.specs.EndpointTable.{opened}
-use Rattle.model_board.specs.Paths.{Part, Path, last_part}
-use Rattle.model_board.specs.Board.{Board, Decl, endpoint, bridge}
-use Rattle.model_set_up.specs.Pools.{Pool, same_pool, unit_of, pool_of, has_pref, has_pref64}
-use Rattle.model_registers.specs.Apertures.{Apertures}
-use Rattle.model_set_up.specs.Placement.{a_window, Item, region_item, in_order, end_from, Spot, spots, alignment, round_up, items_on}
-use Rattle.model_set_up.specs.OrderLaws.{IsOrderOf}
+use Rattle.model_registers.specs.{Declarations.{Bar, Bridge, Region}, EndpointTable.opened, Apertures.Apertures}
+use Rattle.model_board.specs.{Paths.{Part, Path, last_part}, Board.{Board, Decl, endpoint, bridge}}
+use Rattle.model_set_up.specs.{Pools.{Pool, same_pool, unit_of, pool_of, has_pref, has_pref64}, Placement.{a_window, Item, region_item, in_order, end_from, Spot, spots, alignment, round_up, items_on}, OrderLaws.IsOrderOf}
 use Rattle.bars.specs.Resets.{reset_from}
 use Rattle.window_packing.specs.declared.bridges_above.Above.{Above}
 

@@ -7,17 +7,11 @@
 --     IsRegionAt      a region of the endpoint of a row
 --     is_bar_in, is_port      a register's region lies in a space; it is of I/O
 use Rattle.std.specs.Prelude.{List, [], ◌∷◌, ◌≡◌, ℕ, Bool, false, Option, Some, None, map, slice_get, IsTrue}
-use Rattle.model_registers.specs.Apertures.{IsLawfulApertures, Apertures}
-use Rattle.model_board.specs.Paths.{Path}
-use Rattle.model_registers.specs.Declarations.{Bar, Region, Endpoint}
-use Rattle.model_registers.specs.Decoding.{Space, same_space, space_of}
+use Rattle.model_registers.specs.{Apertures.{IsLawfulApertures, Apertures}, Declarations.{Bar, Region, Endpoint}, Decoding.{Space, same_space, space_of}}
+use Rattle.model_board.specs.{Paths.Path, Board.{endpoint, Row, Board}}
 use Rattle.lists.specs.Elements.{IsIn}
-use Rattle.model_board.specs.Board.{endpoint, Row, Board}
-use Rattle.model_set_up.specs.Pools.{Pool, io_pool, mem_pool, pref_pool, is_io}
-use Rattle.model_set_up.specs.Placement.{fits, bus_first}
-use Rattle.window_packing.specs.declared.bridges_above.Above.{Above}
-use Rattle.window_packing.specs.Buses.{AreAbove}
-use Rattle.window_packing.specs.Packs.{BusPack, packs_of}
+use Rattle.model_set_up.specs.{Pools.{Pool, io_pool, mem_pool, pref_pool, is_io}, Placement.{fits, bus_first}}
+use Rattle.window_packing.specs.{declared.bridges_above.Above.Above, Buses.AreAbove, Packs.{BusPack, packs_of}}
 
 abbrev pub bus_paths : Board → List Path
 bus_paths b = [] ∷ map (λ (r : Row). r.path) b

@@ -7,21 +7,15 @@
 use Rattle.std.specs.Prelude.{◌≡◌, ◌⊎◌, Some}
 use Rattle.model_registers.specs.DeclarationRules.{first_broken}
 use Rattle.model_board.specs.Board.{Board}
-use Rattle.model_set_up.specs.Pools.{io_pool, mem_pool, pref_pool}
-use Rattle.model_set_up.specs.Pools as pools
-use Rattle.model_set_up.specs.Placement.{a_region, a_window}
-use Rattle.model_set_up.specs.Placement as placement
-use Rattle.model_set_up.specs.SetUpWrites.{to_endpoint, to_bridge, placement_rules}
-use Rattle.model_set_up.specs.SetUpWrites as set_up
+use Rattle.model_set_up.specs.{Pools.{io_pool, mem_pool, pref_pool}, Placement.{a_region, a_window}, SetUpWrites.{to_endpoint, to_bridge, placement_rules}}
 use Rattle.bars.specs.Slots.{bases_from}
-use Rattle.bus_scan.specs.declared.fault.Fault.{Fault}
-use Rattle.bus_scan.specs.declared.fault.Fault.TheVariants.{IoPool, MemoryPool, PrefetchablePool, Memory}
-use Rattle.bus_scan.specs.Faults.{number_of}
-use Rattle.window_packing.specs.declared.pool.Pool.{Pool}
+use Rattle.bus_scan.specs.{declared.fault.Fault.{Fault, TheVariants.{IoPool, MemoryPool, PrefetchablePool, Memory}}, Faults.number_of}
+use Rattle.window_packing.specs.declared.{pool.Pool.Pool, layout_row.Placed.Placed, setting.Writes.Writes}
+use Rattle.model_set_up.specs.Pools as pools
+use Rattle.model_set_up.specs.Placement as placement
+use Rattle.model_set_up.specs.SetUpWrites as set_up
 use Rattle.window_packing.specs.declared.pool.Pool.TheVariants as pool
-use Rattle.window_packing.specs.declared.layout_row.Placed.{Placed}
 use Rattle.window_packing.specs.declared.layout_row.Placed.TheVariants as placed
-use Rattle.window_packing.specs.declared.setting.Writes.{Writes}
 use Rattle.window_packing.specs.declared.setting.Writes.TheVariants as writes
 
 abbrev pub named_pool : Pool → pools.Pool

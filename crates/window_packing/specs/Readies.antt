@@ -8,17 +8,8 @@
 --     OwnClaims      in every state with these routing registers each byte of a placed region has its own claim, and no
 --         other address any
 use Rattle.std.specs.Prelude.{List, ◌≡◌}
-use Rattle.model_board.specs.Board.{Board}
-use Rattle.model_board.specs.BusNumbers.{Enumerates}
-use Rattle.model_board.specs.State.{BoardFunction}
-use Rattle.model_board.specs.AtReset.{board_at}
-use Rattle.model_set_up.specs.Scanning.{IsNumbered, numbered_state}
-use Rattle.model_set_up.specs.FunctionTable.{TableRow, sized_table, board_in}
-use Rattle.model_set_up.specs.Layout.{IsLawful}
-use Rattle.model_board.specs.Routing.{routing}
-use Rattle.model_set_up.specs.SetUp.{set_up_state}
-use Rattle.model_set_up.specs.SetUpWrites.{Plan, planned}
-use Rattle.model_set_up.specs.UniqueClaimant.{CanBePlaced, HasUniqueClaims}
+use Rattle.model_board.specs.{Board.Board, BusNumbers.Enumerates, State.BoardFunction, AtReset.board_at, Routing.routing}
+use Rattle.model_set_up.specs.{Scanning.{IsNumbered, numbered_state}, FunctionTable.{TableRow, sized_table, board_in}, Layout.IsLawful, SetUp.set_up_state, SetUpWrites.{Plan, planned}, UniqueClaimant.{CanBePlaced, HasUniqueClaims}}
 use Rattle.host_bridge.specs.HostState.{HostState}
 use Rattle.bus_scan.specs.SizedTables.{IsTableOf}
 

@@ -3,9 +3,8 @@
 --     told_use      the same, where they extend over 2 ^ 63 bytes at most
 use Rattle.std.specs.Prelude.{List, [], ◌-◌, ◌^◌, if◌then◌else◌, nat_le, Option, Some, None}
 use Rattle.model_board.specs.Board.{Board}
-use Rattle.model_set_up.specs.Pools.{Pool}
+use Rattle.model_set_up.specs.{Pools.Pool, Placement.{Item, in_order, end_from, items_on, root_first, aperture_end}}
 use Rattle.model_registers.specs.Apertures.{Apertures}
-use Rattle.model_set_up.specs.Placement.{Item, in_order, end_from, items_on, root_first, aperture_end}
 use Rattle.window_packing.specs.declared.pool_uses.PoolUse.{PoolUse}
 
 -- by the items of bus 0

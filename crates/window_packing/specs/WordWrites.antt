@@ -5,13 +5,8 @@
 --     words_of, after_settings      the writes of a setting, and the functions after settings in order
 --     host_after      the host with such functions and the address latch clear
 use Rattle.std.specs.Prelude.{List, [], ◌∷◌, ◌++◌, ℕ, ◌+◌, ◌*◌, ◌/◌, ◌%◌, ◌^◌, ◌==◌, if◌then◌else◌, flat_map}
-use Rattle.model_registers.specs.ByteEnables.{lanes}
-use Rattle.model_registers.specs.Declarations.{registers_of}
-use Rattle.model_registers.specs.EndpointTable.{BaseAddress}
-use Rattle.model_registers.specs.BridgeTable.{Window, address_bits}
-use Rattle.model_board.specs.State.{BoardFunction}
-use Rattle.model_board.specs.Cycles.{BusAddress}
-use Rattle.model_board.specs.Ports.{after_config_write}
+use Rattle.model_registers.specs.{ByteEnables.lanes, Declarations.registers_of, EndpointTable.BaseAddress, BridgeTable.{Window, address_bits}}
+use Rattle.model_board.specs.{State.BoardFunction, Cycles.BusAddress, Ports.after_config_write}
 use Rattle.model_set_up.specs.SetUpWrites.{Windows, Writes, to_endpoint, to_bridge, Setting}
 use Rattle.host_bridge.specs.HostState.{HostState, with_functions, with_latch}
 

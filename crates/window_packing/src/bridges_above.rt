@@ -2,8 +2,7 @@
 ghost use Rattle.std.specs.Prelude.{◌≡◌, ℕ, suc, ◌≤◌, length, slice_get, IfOk};
 ghost use Rattle.model_board.specs.Board.{IsBoard};
 ghost use Rattle.model_set_up.specs.FunctionTable.{TableRow, board_in};
-ghost use Rattle.window_packing.specs.Buses.{behind, nothing_above, AreAbove};
-ghost use Rattle.window_packing.specs.declared.bridges_above.Above.{Above as AboveValue};
+ghost use Rattle.window_packing.specs.{Buses.{behind, nothing_above, AreAbove}, declared.bridges_above.Above.Above as AboveValue};
 
 use bus_scan::{Found, FunctionRow};
 use headers::{IoDecode, PrefDecode};

@@ -2,8 +2,7 @@
 ghost use Rattle.std.specs.Prelude.{◌≡◌, ◌++◌, ◌≤◌, ◌^◌, List, [], ◌∷◌, IfOk};
 ghost use Rattle.lists.specs.Texts.{Adds};
 ghost use Rattle.model_registers.specs.Declarations.{Bridge};
-ghost use Rattle.window_packing.specs.Plans.{named_pool};
-ghost use Rattle.window_packing.specs.Packs.{IsOver, pool_items, regions_from, window_of, own_items};
+ghost use Rattle.window_packing.specs.{Plans.named_pool, Packs.{IsOver, pool_items, regions_from, window_of, own_items}};
 ghost use Rattle.model_set_up.specs.Pools.{unit_of};
 
 use crate::bridges_above::Above;

@@ -2,13 +2,9 @@
 ghost use Rattle.std.specs.Prelude.{◌≡◌, ◌+◌, ◌<◌, ◌^◌, [], All, IfOk, IfSome, IsNone, IsFalse, MatchOption, length};
 ghost use Rattle.model_registers.specs.Apertures.{IsLawfulApertures};
 ghost use Rattle.lists.specs.Elements.{Each};
-ghost use Rattle.model_board.specs.Board.{IsBoard};
-ghost use Rattle.model_board.specs.Lawful.{HasLawfulDecls};
-ghost use Rattle.model_set_up.specs.FunctionTable.{board_in};
-ghost use Rattle.model_set_up.specs.Placement.{fits};
-ghost use Rattle.window_packing.specs.Plans.{named_pool};
-ghost use Rattle.window_packing.specs.Buses.{AreAbove};
-ghost use Rattle.window_packing.specs.Packs.{pack_of, packs_of, IsBounded};
+ghost use Rattle.model_board.specs.{Board.IsBoard, Lawful.HasLawfulDecls};
+ghost use Rattle.model_set_up.specs.{FunctionTable.board_in, Placement.fits};
+ghost use Rattle.window_packing.specs.{Plans.named_pool, Buses.AreAbove, Packs.{pack_of, packs_of, IsBounded}};
 
 use crate::bridges_above::Above;
 use crate::bus_items::push_own;

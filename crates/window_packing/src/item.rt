@@ -1,6 +1,5 @@
 //! What is placed on a bus.
-ghost use Rattle.std.specs.Ordering.{is_lt};
-ghost use Rattle.std.specs.Prelude.{◌≡◌};
+ghost use Rattle.std.specs.{Ordering.is_lt, Prelude.◌≡◌};
 ghost use Rattle.model_set_up.specs.Placement.{register_of, stands_before};
 
 use crate::layout_row::Placed;

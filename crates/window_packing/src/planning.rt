@@ -1,18 +1,10 @@
 //! The plan of a board.
-ghost use Rattle.std.specs.Prelude.{◌≡◌, ◌||◌, not, None, IfOk, IfErr};
-ghost use Rattle.std.specs.List.{list_any};
+ghost use Rattle.std.specs.{Prelude.{◌≡◌, ◌||◌, not, None, IfOk, IfErr}, List.list_any};
 ghost use Rattle.model_registers.specs.DeclarationRules.{first_broken};
-ghost use Rattle.model_board.specs.Board.{Board, IsBoard};
-ghost use Rattle.model_board.specs.Lawful.{HasLawfulDecls};
-ghost use Rattle.model_set_up.specs.Pools.{opens_io, has_io_paths};
-ghost use Rattle.model_set_up.specs.FunctionTable.{board_in};
-ghost use Rattle.model_set_up.specs.Layout.{IsLawful};
-ghost use Rattle.model_set_up.specs.SetUpWrites.{planned, placement_rules};
-ghost use Rattle.model_set_up.specs.UniqueClaimant.{CanBePlaced};
+ghost use Rattle.model_board.specs.{Board.{Board, IsBoard}, Lawful.HasLawfulDecls};
+ghost use Rattle.model_set_up.specs.{Pools.{opens_io, has_io_paths}, FunctionTable.board_in, Layout.IsLawful, SetUpWrites.{planned, placement_rules}, UniqueClaimant.CanBePlaced};
 ghost use Rattle.bus_scan.specs.SizedTables.{IsTableOf};
-ghost use Rattle.window_packing.specs.Buses.{AreAbove};
-ghost use Rattle.window_packing.specs.Placed.{IsPlacement, is_port};
-ghost use Rattle.window_packing.specs.Plans.{IsRefusal};
+ghost use Rattle.window_packing.specs.{Buses.AreAbove, Placed.{IsPlacement, is_port}, Plans.IsRefusal};
 
 use crate::board_plan::Plan;
 use crate::bridges_above::{Above, all_above};

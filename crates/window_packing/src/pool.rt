@@ -3,8 +3,7 @@ ghost use Rattle.std.specs.Prelude.{◌≡◌, List};
 ghost use Rattle.model_registers.specs.Declarations.{Bridge};
 ghost use Rattle.model_set_up.specs.Pools.{unit_of, pool_of, pref_or_mem, pref_reaches};
 ghost use Rattle.bars.specs.Kinds.{kind_of};
-ghost use Rattle.window_packing.specs.Plans.{named_pool};
-ghost use Rattle.window_packing.specs.Packs.{IsOver};
+ghost use Rattle.window_packing.specs.{Plans.named_pool, Packs.IsOver};
 
 use crate::bridges_above::Above;
 use bars::Kind;

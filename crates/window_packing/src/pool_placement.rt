@@ -1,19 +1,11 @@
 //! One pool of a board, placed in its aperture.
-ghost use Rattle.std.specs.Prelude.{◌≡◌, ◌<◌, ◌≤◌, ◌^◌, ◌⊎◌, [], IfSome, IfOk, IfErr, IsTrue, IsFalse, map};
-ghost use Rattle.std.specs.Option.{option_map_or};
+ghost use Rattle.std.specs.{Prelude.{◌≡◌, ◌<◌, ◌≤◌, ◌^◌, ◌⊎◌, [], IfSome, IfOk, IfErr, IsTrue, IsFalse, map}, Option.option_map_or};
 ghost use Rattle.model_registers.specs.Apertures.{Aperture as ApertureValue, IsLawfulApertures};
 ghost use Rattle.lists.specs.Elements.{Each, EachPair};
-ghost use Rattle.model_board.specs.Board.{Board, IsBoard};
-ghost use Rattle.model_board.specs.Lawful.{HasLawfulDecls};
-ghost use Rattle.model_set_up.specs.FunctionTable.{board_in};
-ghost use Rattle.model_set_up.specs.Pools.{aperture_of};
-ghost use Rattle.model_set_up.specs.Placement.{a_window, stands_before, is_item, offset_in, round_up, aperture_end, fits, bus_first};
-ghost use Rattle.bus_scan.specs.declared.fault.Fault.TheVariants.{Memory};
-ghost use Rattle.bus_scan.specs.declared.fault.Fault.{Fault as FaultValue};
-ghost use Rattle.window_packing.specs.Plans.{named_pool, fault_of};
-ghost use Rattle.window_packing.specs.Buses.{AreAbove};
-ghost use Rattle.window_packing.specs.Packs.{pack_of, packs_of, IsBounded};
-ghost use Rattle.window_packing.specs.Placed.{bus_paths, IsPlaced, pool_in};
+ghost use Rattle.model_board.specs.{Board.{Board, IsBoard}, Lawful.HasLawfulDecls};
+ghost use Rattle.model_set_up.specs.{FunctionTable.board_in, Pools.aperture_of, Placement.{a_window, stands_before, is_item, offset_in, round_up, aperture_end, fits, bus_first}};
+ghost use Rattle.bus_scan.specs.declared.fault.Fault.{TheVariants.Memory, Fault as FaultValue};
+ghost use Rattle.window_packing.specs.{Plans.{named_pool, fault_of}, Buses.AreAbove, Packs.{pack_of, packs_of, IsBounded}, Placed.{bus_paths, IsPlaced, pool_in}};
 
 use crate::bridges_above::Above;
 use crate::bus_packs::pack_pool;

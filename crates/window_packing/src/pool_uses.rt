@@ -1,14 +1,9 @@
 //! How much of its aperture a pool takes.
 ghost use Rattle.std.specs.Prelude.{◌≡◌, ◌-◌, [], IfOk, IfSome, nat_le};
-ghost use Rattle.model_board.specs.Board.{Board, IsBoard};
-ghost use Rattle.model_board.specs.Lawful.{HasLawfulDecls};
-ghost use Rattle.model_set_up.specs.FunctionTable.{board_in};
-ghost use Rattle.model_set_up.specs.Placement.{aperture_end, fits};
+ghost use Rattle.model_board.specs.{Board.{Board, IsBoard}, Lawful.HasLawfulDecls};
+ghost use Rattle.model_set_up.specs.{FunctionTable.board_in, Placement.{aperture_end, fits}};
 ghost use Rattle.bus_scan.specs.SizedTables.{IsTableOf};
-ghost use Rattle.window_packing.specs.Buses.{AreAbove};
-ghost use Rattle.window_packing.specs.Packs.{pack_of, IsBounded};
-ghost use Rattle.window_packing.specs.Plans.{named_pool};
-ghost use Rattle.window_packing.specs.Uses.{pool_use, told_use};
+ghost use Rattle.window_packing.specs.{Buses.AreAbove, Packs.{pack_of, IsBounded}, Plans.named_pool, Uses.{pool_use, told_use}};
 
 use crate::bridges_above::{Above, all_above};
 use crate::bus_packs::pack_pool;

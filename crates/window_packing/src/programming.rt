@@ -1,10 +1,7 @@
 //! The writes of set-up, by configuration cycles alone.
 ghost use Rattle.std.specs.Prelude.{◌≡◌, ◌/◌, ◌%◌, ◌^◌, ◌<◌};
-ghost use Rattle.model_set_up.specs.SetUp.{set_up_state};
+ghost use Rattle.model_set_up.specs.{SetUp.set_up_state, Scanning.IsNumbered, SetUpWrites.planned, UniqueClaimant.CanBePlaced};
 ghost use Rattle.model_board.specs.AtReset.{board_at};
-ghost use Rattle.model_set_up.specs.Scanning.{IsNumbered};
-ghost use Rattle.model_set_up.specs.SetUpWrites.{planned};
-ghost use Rattle.model_set_up.specs.UniqueClaimant.{CanBePlaced};
 ghost use Rattle.bars.specs.Slots.{placed, bases_from};
 ghost use Rattle.paths.specs.BusAddresses.{bus_address_of};
 ghost use Rattle.window_packing.specs.WordWrites.{word, after_word, after_words, base_words, endpoint_words, bridge_words, window_word, io_word, io_upper_word, words_of, host_after};

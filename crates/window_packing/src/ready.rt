@@ -2,10 +2,8 @@
 ghost use Rattle.std.specs.Prelude.{◌≡◌, ◌⊎◌, IfOk, IfErr, None, Some};
 ghost use Rattle.model_registers.specs.DeclarationRules.{first_broken};
 ghost use Rattle.model_board.specs.AtReset.{IsAtReset};
-ghost use Rattle.model_set_up.specs.SetUp.{set_up_state};
-ghost use Rattle.model_set_up.specs.SetUpWrites.{set_up_rules};
-ghost use Rattle.bus_scan.specs.Faults.{number_of};
-ghost use Rattle.bus_scan.specs.declared.fault.Fault.TheVariants.{Buses, Memory};
+ghost use Rattle.model_set_up.specs.{SetUp.set_up_state, SetUpWrites.set_up_rules};
+ghost use Rattle.bus_scan.specs.{Faults.number_of, declared.fault.Fault.TheVariants.{Buses, Memory}};
 
 use crate::board_plan::Plan;
 use crate::planning::plan;

@@ -1,10 +1,8 @@
 //! The rows of a layout, bus by bus.
 ghost use Rattle.std.specs.Prelude.{◌≡◌, ◌<◌, ◌≤◌, ◌+◌, ◌^◌, ◌++◌, [], ◌∷◌, IfOk, map, length};
 ghost use Rattle.lists.specs.Elements.{Each};
-ghost use Rattle.model_set_up.specs.Layout.{row_of};
-ghost use Rattle.model_set_up.specs.FunctionTable.{TableRow};
-ghost use Rattle.window_packing.specs.Plans.{named_pool};
-ghost use Rattle.window_packing.specs.LayoutRows.{bus_at, rows_in, IsListable};
+ghost use Rattle.model_set_up.specs.{Layout.row_of, FunctionTable.TableRow};
+ghost use Rattle.window_packing.specs.{Plans.named_pool, LayoutRows.{bus_at, rows_in, IsListable}};
 
 use crate::layout_row::PlanRow;
 use crate::pack::BusPack;

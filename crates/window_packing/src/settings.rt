@@ -1,22 +1,12 @@
 //! What is written into each function.
-ghost use Rattle.std.specs.Prelude.{◌≡◌, ◌<◌, ◌≤◌, ◌+◌, ◌^◌, List, [], ◌∷◌, Some, if◌then◌else◌, slice_get, IfOk, IsTrue, map, length};
-ghost use Rattle.std.specs.List.{list_any};
+ghost use Rattle.std.specs.{Prelude.{◌≡◌, ◌<◌, ◌≤◌, ◌+◌, ◌^◌, List, [], ◌∷◌, Some, if◌then◌else◌, slice_get, IfOk, IsTrue, map, length}, List.list_any};
 ghost use Rattle.lists.specs.Elements.{Each, EachPair};
 ghost use Rattle.model_registers.specs.Declarations.{Endpoint as EndpointValue};
-ghost use Rattle.model_board.specs.Board.{Row, IsBoard};
-ghost use Rattle.model_board.specs.Lawful.{HasLawfulDecls};
-ghost use Rattle.model_set_up.specs.FunctionTable.{board_in, sized_table};
-ghost use Rattle.model_set_up.specs.Pools.{unit_of};
-ghost use Rattle.model_set_up.specs.Placement.{a_region, is_item, Item as ItemValue, stands_before, offset_in, round_up};
-ghost use Rattle.model_set_up.specs.SetUp.{command_of, window_of, set_up_window};
-ghost use Rattle.model_set_up.specs.SetUpWrites.{placed_base, writes_of, settings};
-ghost use Rattle.bars.specs.Kinds.{named_space};
-ghost use Rattle.bars.specs.Slots.{bases_from};
+ghost use Rattle.model_board.specs.{Board.{Row, IsBoard}, Lawful.HasLawfulDecls};
+ghost use Rattle.model_set_up.specs.{FunctionTable.{board_in, sized_table}, Pools.unit_of, Placement.{a_region, is_item, Item as ItemValue, stands_before, offset_in, round_up}, SetUp.{command_of, window_of, set_up_window}, SetUpWrites.{placed_base, writes_of, settings}};
+ghost use Rattle.bars.specs.{Kinds.named_space, Slots.bases_from};
 ghost use Rattle.bus_scan.specs.Rows.{regions_of};
-ghost use Rattle.window_packing.specs.Plans.{named_pool, writes_of as named_writes};
-ghost use Rattle.window_packing.specs.Buses.{AreAbove};
-ghost use Rattle.window_packing.specs.Packs.{pack_items, regions_from};
-ghost use Rattle.window_packing.specs.Placed.{IsPlaced, IsPlacement, IsAboveAt, IsRegionAt, is_bar_in};
+ghost use Rattle.window_packing.specs.{Plans.{named_pool, writes_of as named_writes}, Buses.AreAbove, Packs.{pack_items, regions_from}, Placed.{IsPlaced, IsPlacement, IsAboveAt, IsRegionAt, is_bar_in}};
 
 use crate::bridges_above::Above;
 use crate::item::Item;

@@ -1,6 +1,5 @@
 use Rattle.std.proofs.Common.{arith}
-use Rattle.model_board.proofs.ClaimLanes.{claims_keep_lanes}
-use Rattle.model_board.proofs.ConfigAccesses.{config_read_by_lanes, config_write_by_lanes, ports_while_not_enabled}
+use Rattle.model_board.proofs.{ClaimLanes.claims_keep_lanes, ConfigAccesses.{config_read_by_lanes, config_write_by_lanes, ports_while_not_enabled}}
 use Rattle.model_board.proofs.port_accesses.Goals as goal
 
 pub returns : goal.returns

@@ -1,7 +1,5 @@
 use Rattle.std.proofs.Common.{arith}
-use Rattle.model_findings.proofs.Found.{numbering_decides}
-use Rattle.model_findings.proofs.Problems.{routing_decides}
-use Rattle.model_findings.proofs.Witnesses.{problems_are_real, problems_decide}
+use Rattle.model_findings.proofs.{Found.numbering_decides, Problems.routing_decides, Witnesses.{problems_are_real, problems_decide}}
 use Rattle.model_findings.proofs.problems_decide.Goals as goal
 
 pub returns : goal.returns

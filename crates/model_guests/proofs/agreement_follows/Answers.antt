@@ -1,7 +1,4 @@
-use Rattle.model_guests.proofs.AgreedFiles.{writes_alike, raises_alike}
-use Rattle.model_guests.proofs.Changes.{one_file, changes_one_function, latch_keeps_board, resets_alike}
-use Rattle.model_guests.proofs.MovedFunctions.{move_resets_one_function}
-use Rattle.model_guests.proofs.Events.{event_reaches_board}
+use Rattle.model_guests.proofs.{AgreedFiles.{writes_alike, raises_alike}, Changes.{one_file, changes_one_function, latch_keeps_board, resets_alike}, MovedFunctions.move_resets_one_function, Events.event_reaches_board}
 use Rattle.model_guests.proofs.agreement_follows.Goals as goal
 
 pub returns : goal.returns

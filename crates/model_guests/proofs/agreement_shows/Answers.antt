@@ -1,5 +1,4 @@
-use Rattle.model_guests.proofs.AgreedFiles.{shows_file}
-use Rattle.model_guests.proofs.KeptCopies.{copies_never_rise, file_of_seat}
+use Rattle.model_guests.proofs.{AgreedFiles.shows_file, KeptCopies.{copies_never_rise, file_of_seat}}
 use Rattle.model_guests.proofs.agreement_shows.Goals as goal
 
 pub returns : goal.returns

@@ -1,7 +1,4 @@
-use Rattle.model_guests.proofs.SeatedFirst.{seated_at_first}
-use Rattle.model_guests.proofs.Seats.{seated_after_events}
-use Rattle.model_guests.proofs.SeatedMoves.{seated_after_moves}
-use Rattle.model_guests.proofs.Along.{seated_along, handoff_stays, names_stay, names_along, by_index}
+use Rattle.model_guests.proofs.{SeatedFirst.seated_at_first, Seats.seated_after_events, SeatedMoves.seated_after_moves, Along.{seated_along, handoff_stays, names_stay, names_along, by_index}}
 use Rattle.model_guests.proofs.guests_stay_seated.Goals as goal
 
 pub returns : goal.returns

@@ -1,5 +1,4 @@
-use Rattle.model_guests.specs.WorldNow.{world_protocol}
-use Rattle.model_guests.proofs.RunLines.{after_along, output_along, lines_of_pieces, long_lines_alike, stopped_is_beginning, cut_is_beginning}
+use Rattle.model_guests.{specs.WorldNow.world_protocol, proofs.RunLines.{after_along, output_along, lines_of_pieces, long_lines_alike, stopped_is_beginning, cut_is_beginning}}
 use Rattle.model_guests.proofs.runs_in_pieces.Goals as goal
 
 pub returns : goal.returns

@@ -1,5 +1,4 @@
-use Rattle.model_handoff.proofs.Agreement.{state_agrees, state_is_only}
-use Rattle.model_handoff.proofs.First.{first_is_reset, first_is_handoff}
+use Rattle.model_handoff.proofs.{Agreement.{state_agrees, state_is_only}, First.{first_is_reset, first_is_handoff}}
 use Rattle.model_handoff.proofs.agreement_is_one.Goals as goal
 
 pub returns : goal.returns

@@ -1,5 +1,4 @@
-use Rattle.model_images.proofs.LoadedBytes.{images_decided, taken_by_all}
-use Rattle.model_images.proofs.TakenBytes.{accepted_is_image, loads_image, refused_stays, keeps_saved_bytes}
+use Rattle.model_images.proofs.{LoadedBytes.{images_decided, taken_by_all}, TakenBytes.{accepted_is_image, loads_image, refused_stays, keeps_saved_bytes}}
 use Rattle.model_images.proofs.fitting_bytes_are_taken.Goals as goal
 
 pub returns : goal.returns

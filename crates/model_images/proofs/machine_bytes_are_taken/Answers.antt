@@ -1,7 +1,4 @@
-use Rattle.model_images.proofs.TakenMachines.{read_fits, accepted_is_machine, read_stands_there, refused_keeps}
-use Rattle.model_images.proofs.FittingMachines.{fitting_is_accepted, fitting_is_loaded}
-use Rattle.model_images.proofs.DecidedMachines.{machines_decided, no_machine_is_refused}
-use Rattle.model_images.proofs.SavedMachines.{takes_saved_machine, takes_its_own}
+use Rattle.model_images.proofs.{TakenMachines.{read_fits, accepted_is_machine, read_stands_there, refused_keeps}, FittingMachines.{fitting_is_accepted, fitting_is_loaded}, DecidedMachines.{machines_decided, no_machine_is_refused}, SavedMachines.{takes_saved_machine, takes_its_own}}
 use Rattle.model_images.proofs.machine_bytes_are_taken.Goals as goal
 
 pub returns-clause-fits : goal.returns-clause-fits

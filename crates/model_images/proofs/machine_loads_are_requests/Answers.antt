@@ -1,5 +1,4 @@
-use Rattle.model_images.proofs.Machines.{shown_after_load_all}
-use Rattle.model_images.proofs.MachineLoads.{fitting_after_load_all, lawful_after_load_all, loads_all_by_requests, loads_all_on_machine, savable_after_load_all}
+use Rattle.model_images.proofs.{Machines.shown_after_load_all, MachineLoads.{fitting_after_load_all, lawful_after_load_all, loads_all_by_requests, loads_all_on_machine, savable_after_load_all}}
 use Rattle.model_images.proofs.machine_loads_are_requests.Goals as goal
 
 pub returns : goal.returns

@@ -1,6 +1,4 @@
-use Rattle.model_images.proofs.FewFunctions.{few_functions}
-use Rattle.model_images.proofs.SavableMachines.{machines_have_bytes}
-use Rattle.model_images.proofs.WritableWorlds.{writable_along, writable_at_first}
+use Rattle.model_images.proofs.{FewFunctions.few_functions, SavableMachines.machines_have_bytes, WritableWorlds.{writable_along, writable_at_first}}
 use Rattle.model_images.proofs.machines_have_bytes.Goals as goal
 
 pub returns : goal.returns

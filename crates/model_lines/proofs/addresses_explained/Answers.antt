@@ -1,5 +1,4 @@
-use Rattle.model_lines.proofs.Why.{addresses_explained}
-use Rattle.model_lines.proofs.Answers.{orderly_answers_alone, ready_tells_nothing}
+use Rattle.model_lines.proofs.{Why.addresses_explained, Answers.{orderly_answers_alone, ready_tells_nothing}}
 use Rattle.model_lines.proofs.addresses_explained.Goals as goal
 
 pub returns : goal.returns

@@ -1,6 +1,5 @@
 use Rattle.model_guests.proofs.RunLines.{after_along, output_along, stopped_is_beginning, cut_is_beginning}
-use Rattle.model_lines.specs.FirmwareLines.{board_protocol}
-use Rattle.model_lines.proofs.HostLaws.{long_lines_alike}
+use Rattle.model_lines.{specs.FirmwareLines.board_protocol, proofs.HostLaws.long_lines_alike}
 use Rattle.model_lines.proofs.lines_in_pieces.Goals as goal
 
 pub returns : goal.returns

@@ -1,5 +1,4 @@
-use Rattle.model_lines.proofs.Requests.{host_words_are_no_form, requests_are_no_form}
-use Rattle.model_lines.proofs.SessionLines.{questions_change_nothing, refused_stays}
+use Rattle.model_lines.proofs.{Requests.{host_words_are_no_form, requests_are_no_form}, SessionLines.{questions_change_nothing, refused_stays}}
 use Rattle.model_lines.proofs.questions_and_handovers.Goals as goal
 
 pub returns : goal.returns

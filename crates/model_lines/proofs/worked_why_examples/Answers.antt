@@ -1,6 +1,4 @@
-use Rattle.model_lines.proofs.WhyExamples.{why_examples}
-use Rattle.model_lines.proofs.Guests.{guest_examples}
-use Rattle.model_lines.proofs.Ports.{port_examples}
+use Rattle.model_lines.proofs.{WhyExamples.why_examples, Guests.guest_examples, Ports.port_examples}
 use Rattle.model_lines.proofs.worked_why_examples.Goals as goal
 
 pub returns : goal.returns

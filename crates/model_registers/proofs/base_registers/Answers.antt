@@ -1,5 +1,4 @@
-use Rattle.model_registers.proofs.Bases.{reads_of_bases, writes_of_bases}
-use Rattle.model_registers.proofs.Sizes.{sizes_read}
+use Rattle.model_registers.proofs.{Bases.{reads_of_bases, writes_of_bases}, Sizes.sizes_read}
 use Rattle.model_registers.proofs.base_registers.Goals as goal
 
 pub returns : goal.returns

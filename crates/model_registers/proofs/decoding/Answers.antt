@@ -1,5 +1,4 @@
-use Rattle.model_registers.proofs.HitRegions.{hit_is_of_region}
-use Rattle.model_registers.proofs.Hits.{hits_by_bases, hits_of_registers}
+use Rattle.model_registers.proofs.{HitRegions.hit_is_of_region, Hits.{hits_by_bases, hits_of_registers}}
 use Rattle.model_registers.proofs.decoding.Goals as goal
 
 pub returns : goal.returns

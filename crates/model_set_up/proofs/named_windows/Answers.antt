@@ -1,5 +1,4 @@
-use Rattle.model_set_up.proofs.WindowReads.{windows_named}
-use Rattle.model_set_up.proofs.BoardWindows.{set_up_windows}
+use Rattle.model_set_up.proofs.{WindowReads.windows_named, BoardWindows.set_up_windows}
 use Rattle.model_set_up.proofs.named_windows.Goals as goal
 
 pub returns : goal.returns

@@ -1,7 +1,6 @@
-use Rattle.model_set_up.proofs.Routes.{only_named, one_route, reached_by_numbers}
-use Rattle.model_set_up.proofs.SetUpNumbers.{set_up_has_numbers}
-use Rattle.model_set_up.proofs.reached_by_numbers.Goals as goal
+use Rattle.model_set_up.proofs.{Routes.{only_named, one_route, reached_by_numbers}, SetUpNumbers.set_up_has_numbers}
 use Rattle.std.proofs.Common.{[]}
+use Rattle.model_set_up.proofs.reached_by_numbers.Goals as goal
 
 pub returns : goal.returns
 returns c = record {

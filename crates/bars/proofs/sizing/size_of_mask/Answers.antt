@@ -1,8 +1,6 @@
-use Rattle.std.proofs.Common.{ap, sym, subst, ◌∙◌, refl}
-use Rattle.std.specs.Prelude.{Some}
+use Rattle.std.{proofs.Common.{ap, sym, subst, ◌∙◌, refl}, specs.Prelude.Some}
 use Rattle.model_registers.specs.Declarations.{Kind, Bar, IsLawfulSize}
-use Rattle.bars.specs.Kinds.{kind_of}
-use Rattle.bars.proofs.Masks.{size_is, told_shows, same_bar, shown_types}
+use Rattle.bars.{specs.Kinds.kind_of, proofs.Masks.{size_is, told_shows, same_bar, shown_types}}
 use Rattle.bars.proofs.sizing.size_of_mask.Goals as goal
 
 pub returns-in_err-kind-clause-found : goal.returns-in_err-kind-clause-found

@@ -1,10 +1,6 @@
 use Rattle.std.proofs.Common.{◌∙◌, subst, arith}
-use Rattle.bars.specs.Kinds.{named_space}
-use Rattle.bars.specs.Extents.{IsOutside}
-use Rattle.bars.specs.declared.extent.Extent.{Extent}
-use Rattle.bars.proofs.Passed.{passed_unused, passed_region}
+use Rattle.bars.{specs.{Kinds.named_space, Extents.IsOutside, declared.extent.Extent.Extent}, proofs.{Passed.{passed_unused, passed_region}, slots.extent_in.Goals.{in-Some, in_default}}}
 use Rattle.bars.proofs.slots.extent_in.Goals as goal
-use Rattle.bars.proofs.slots.extent_in.Goals.{in-Some, in_default}
 
 pub loop-reg-preserved : goal.loop-reg-preserved
 loop-reg-preserved c = λ a from to out.

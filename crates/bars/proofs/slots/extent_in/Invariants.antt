@@ -1,7 +1,5 @@
 use Rattle.std.proofs.Common.{◌≡◌, ℕ, ◌≤◌, drop}
-use Rattle.bars.specs.Kinds.{named_space}
-use Rattle.bars.specs.Hits.{hit_from}
-use Rattle.bars.specs.Extents.{IsOutside}
+use Rattle.bars.specs.{Kinds.named_space, Hits.hit_from, Extents.IsOutside}
 use Rattle.bars.proofs.slots.extent_in.Given as goal
 
 abbrev pub invariant-loop-reg : goal.invariant-loop-reg

@@ -1,6 +1,5 @@
 use Rattle.std.proofs.Common.{◌≡◌, drop}
-use Rattle.bars.specs.Kinds.{named_space}
-use Rattle.bars.specs.Hits.{hit_from}
+use Rattle.bars.specs.{Kinds.named_space, Hits.hit_from}
 use Rattle.bars.proofs.slots.first_hit.Given as goal
 
 abbrev pub invariant-loop-reg : goal.invariant-loop-reg

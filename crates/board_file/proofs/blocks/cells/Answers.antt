@@ -1,7 +1,5 @@
-use Rattle.std.proofs.Common.{◌≡◌, true, false, bit_and, eq-eqb, refl}
-use Rattle.std.proofs.lemmas.Bool.{ne_eqb}
-use Rattle.board_file.specs.Blocks.{is_apart, cell}
-use Rattle.board_file.proofs.RepeatedBytes.{more_pass, one_fails, more_cells}
+use Rattle.std.proofs.{Common.{◌≡◌, true, false, bit_and, eq-eqb, refl}, lemmas.Bool.ne_eqb}
+use Rattle.board_file.{specs.Blocks.{is_apart, cell}, proofs.RepeatedBytes.{more_pass, one_fails, more_cells}}
 use Rattle.board_file.proofs.blocks.cells.Goals as goal
 
 pub returns-in-Err : goal.returns-in-Err

@@ -1,5 +1,4 @@
-use Rattle.std.proofs.Common.{◌≡◌, ◌++◌, ◌-◌, map}
-use Rattle.std.specs.List.{list_all, range_with_len}
+use Rattle.std.{proofs.Common.{◌≡◌, ◌++◌, ◌-◌, map}, specs.List.{list_all, range_with_len}}
 use Rattle.board_file.specs.Blocks.{is_apart, are_apart, cell, cells}
 use Rattle.board_file.proofs.blocks.cells.Given as goal
 

@@ -1,6 +1,5 @@
 use Rattle.std.proofs.Common.{arith}
-use Rattle.board_file.proofs.Asked.{apertures_of}
-use Rattle.board_file.proofs.LawfulWorld.{is_board, short_guests, lawful_world, board_at_reset, is_at_reset, lawful_rows}
+use Rattle.board_file.proofs.{Asked.apertures_of, LawfulWorld.{is_board, short_guests, lawful_world, board_at_reset, is_at_reset, lawful_rows}}
 use Rattle.board_file.proofs.board.build.Goals as goal
 
 pub unwrap-apertures-requires : goal.unwrap-apertures-requires

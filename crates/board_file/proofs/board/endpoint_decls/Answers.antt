@@ -1,7 +1,5 @@
-use Rattle.std.proofs.lemmas.Grind.{common_steps}
-use Rattle.std.proofs.Common.{arith}
-use Rattle.board_file.specs.Judged.{is_declarable}
-use Rattle.board_file.proofs.NextEntry.{next_passes, rest_passes, rest_same, rest_map, each_push}
+use Rattle.std.proofs.{lemmas.Grind.common_steps, Common.arith}
+use Rattle.board_file.{specs.Judged.is_declarable, proofs.NextEntry.{next_passes, rest_passes, rest_same, rest_map, each_push}}
 use Rattle.board_file.proofs.board.endpoint_decls.Goals as goal
 
 pub endpoint-requires : goal.endpoint-requires

@@ -1,7 +1,6 @@
 use Rattle.std.proofs.Common.{◌≡◌, ◌++◌, map, drop}
 use Rattle.lists.specs.Elements.{Each}
-use Rattle.board_file.specs.Functions.{guest}
-use Rattle.board_file.specs.Judged.{IsShortGuest}
+use Rattle.board_file.specs.{Functions.guest, Judged.IsShortGuest}
 use Rattle.board_file.proofs.board.guests.Given as goal
 
 abbrev pub invariant-entries : goal.invariant-entries

@@ -1,8 +1,6 @@
-use Rattle.std.proofs.Common.{◌≡◌, ◌++◌, map, drop, IsTrue}
-use Rattle.std.specs.List.{list_all}
+use Rattle.std.{proofs.Common.{◌≡◌, ◌++◌, map, drop, IsTrue}, specs.List.list_all}
 use Rattle.model_board.specs.Lawful.{HasLawfulDecls}
-use Rattle.board_file.specs.Functions.{bridge_row}
-use Rattle.board_file.specs.Judged.{is_lawful_bridge}
+use Rattle.board_file.specs.{Functions.bridge_row, Judged.is_lawful_bridge}
 use Rattle.board_file.proofs.board.with_bridges.Given as goal
 
 abbrev pub invariant-entries : goal.invariant-entries

@@ -1,5 +1,4 @@
-use Rattle.std.proofs.Common.{arith}
-use Rattle.std.proofs.Math.Facts.{to_z-of_z}
+use Rattle.std.proofs.{Common.arith, Math.Facts.to_z-of_z}
 use Rattle.board_file.proofs.ListTests.{lawful_size}
 use Rattle.board_file.proofs.building.bar_decl.Goals as goal
 

@@ -1,6 +1,4 @@
-use Rattle.board_file.specs.Judged.{is_config_block}
-use Rattle.board_file.proofs.Declaring.{config_off}
-use Rattle.board_file.proofs.NextEntry.{next_passes}
+use Rattle.board_file.{specs.Judged.is_config_block, proofs.{Declaring.config_off, NextEntry.next_passes}}
 use Rattle.board_file.proofs.building.config_blocks.Goals as goal
 
 pub config_block-requires : goal.config_block-requires

@@ -1,8 +1,5 @@
-use Rattle.std.proofs.Common.{◌≡◌, ◌++◌, map, drop, IsTrue}
-use Rattle.std.specs.List.{list_all}
-use Rattle.board_file.specs.Functions.{config_block}
-use Rattle.board_file.specs.Judged.{is_config_block}
-use Rattle.board_file.specs.Rules.{config_holds}
+use Rattle.std.{proofs.Common.{◌≡◌, ◌++◌, map, drop, IsTrue}, specs.List.list_all}
+use Rattle.board_file.specs.{Functions.config_block, Judged.is_config_block, Rules.config_holds}
 use Rattle.board_file.proofs.building.config_blocks.Given as goal
 
 abbrev pub invariant-configs : goal.invariant-configs

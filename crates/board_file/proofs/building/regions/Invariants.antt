@@ -1,8 +1,5 @@
-use Rattle.std.proofs.Common.{◌≡◌, ◌++◌, map, drop, IsTrue}
-use Rattle.std.specs.List.{list_all}
-use Rattle.board_file.specs.Functions.{region}
-use Rattle.board_file.specs.Judged.{is_region}
-use Rattle.board_file.specs.Rules.{bar_holds}
+use Rattle.std.{proofs.Common.{◌≡◌, ◌++◌, map, drop, IsTrue}, specs.List.list_all}
+use Rattle.board_file.specs.{Functions.region, Judged.is_region, Rules.bar_holds}
 use Rattle.board_file.proofs.building.regions.Given as goal
 
 abbrev pub invariant-bars : goal.invariant-bars

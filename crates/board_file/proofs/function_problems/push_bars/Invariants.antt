@@ -1,5 +1,4 @@
-use Rattle.board_file.specs.Problems.{of_bar}
-use Rattle.board_file.proofs.Walks.{GoesOn}
+use Rattle.board_file.{specs.Problems.of_bar, proofs.Walks.GoesOn}
 use Rattle.board_file.proofs.function_problems.push_bars.Given as goal
 
 abbrev pub invariant-bars : goal.invariant-bars

@@ -1,5 +1,4 @@
-use Rattle.board_file.specs.Problems.{of_bridge}
-use Rattle.board_file.proofs.Walks.{GoesOn}
+use Rattle.board_file.{specs.Problems.of_bridge, proofs.Walks.GoesOn}
 use Rattle.board_file.proofs.function_problems.push_bridges.Given as goal
 
 abbrev pub invariant-bridges : goal.invariant-bridges

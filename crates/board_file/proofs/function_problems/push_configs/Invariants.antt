@@ -1,5 +1,4 @@
-use Rattle.board_file.specs.Problems.{of_config}
-use Rattle.board_file.proofs.Walks.{GoesOn}
+use Rattle.board_file.{specs.Problems.of_config, proofs.Walks.GoesOn}
 use Rattle.board_file.proofs.function_problems.push_configs.Given as goal
 
 abbrev pub invariant-configs : goal.invariant-configs

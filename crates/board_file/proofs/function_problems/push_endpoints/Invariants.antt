@@ -1,5 +1,4 @@
-use Rattle.board_file.specs.Problems.{of_endpoint}
-use Rattle.board_file.proofs.Walks.{GoesOn}
+use Rattle.board_file.{specs.Problems.of_endpoint, proofs.Walks.GoesOn}
 use Rattle.board_file.proofs.function_problems.push_endpoints.Given as goal
 
 abbrev pub invariant-endpoints : goal.invariant-endpoints

@@ -1,5 +1,4 @@
-use Rattle.board_file.specs.Problems.{of_guest}
-use Rattle.board_file.proofs.Walks.{GoesOn}
+use Rattle.board_file.{specs.Problems.of_guest, proofs.Walks.GoesOn}
 use Rattle.board_file.proofs.guest_problems.push_guests.Given as goal
 
 abbrev pub invariant-guests : goal.invariant-guests

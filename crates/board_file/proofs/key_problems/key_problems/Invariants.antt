@@ -1,8 +1,6 @@
-use Rattle.std.proofs.Common.{◌≡◌, ◌++◌, map, drop}
-use Rattle.std.specs.List.{flat_map}
+use Rattle.std.{proofs.Common.{◌≡◌, ◌++◌, map, drop}, specs.List.flat_map}
 use Rattle.toml.specs.View.{table_view}
-use Rattle.board_file.specs.KeyProblems.{of_entry}
-use Rattle.board_file.specs.Problems.{found_of}
+use Rattle.board_file.specs.{KeyProblems.of_entry, Problems.found_of}
 use Rattle.board_file.proofs.key_problems.key_problems.Given as goal
 
 abbrev pub invariant-tables : goal.invariant-tables

@@ -1,9 +1,6 @@
-use Rattle.std.proofs.Common.{◌≡◌, ◌++◌, map, drop}
-use Rattle.std.specs.List.{flat_map}
+use Rattle.std.{proofs.Common.{◌≡◌, ◌++◌, map, drop}, specs.List.flat_map}
 use Rattle.toml.specs.View.{table_view}
-use Rattle.board_file.specs.KeyProblems.{of_field}
-use Rattle.board_file.specs.Problems.{found_of}
-use Rattle.board_file.specs.Schema.{field_of}
+use Rattle.board_file.specs.{KeyProblems.of_field, Problems.found_of, Schema.field_of}
 use Rattle.board_file.proofs.key_problems.push_fields.Given as goal
 
 abbrev pub invariant-fields : goal.invariant-fields

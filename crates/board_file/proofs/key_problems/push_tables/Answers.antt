@@ -1,5 +1,4 @@
-use Rattle.std.proofs.Common.{◌≡◌, ◌∙◌, length, arith}
-use Rattle.std.proofs.lemmas.Grind.{common_steps}
+use Rattle.std.proofs.{Common.{◌≡◌, ◌∙◌, length, arith}, lemmas.Grind.common_steps}
 use Rattle.board_file.proofs.Walks.{range_more, joined}
 use Rattle.board_file.proofs.key_problems.push_tables.Goals as goal
 

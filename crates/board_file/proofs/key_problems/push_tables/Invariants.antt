@@ -1,5 +1,4 @@
-use Rattle.std.proofs.Common.{◌≡◌, ◌++◌, map}
-use Rattle.std.specs.List.{range_with_len}
+use Rattle.std.{proofs.Common.{◌≡◌, ◌++◌, map}, specs.List.range_with_len}
 use Rattle.board_file.specs.declared.entry.Entry.TheVariants as entry
 use Rattle.board_file.proofs.key_problems.push_tables.Given as goal
 

@@ -1,8 +1,6 @@
-use Rattle.std.proofs.Common.{◌≡◌, ◌++◌, map}
-use Rattle.std.specs.List.{flat_map}
+use Rattle.std.{proofs.Common.{◌≡◌, ◌++◌, map}, specs.List.flat_map}
 use Rattle.toml.specs.View.{members_view}
-use Rattle.board_file.specs.KeyProblems.{of_member, keys_in}
-use Rattle.board_file.specs.Problems.{found_of}
+use Rattle.board_file.specs.{KeyProblems.{of_member, keys_in}, Problems.found_of}
 use Rattle.board_file.proofs.key_problems.push_unknown.Given as goal
 
 abbrev pub invariant-members : goal.invariant-members

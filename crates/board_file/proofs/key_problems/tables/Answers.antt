@@ -1,5 +1,4 @@
-use Rattle.std.proofs.Common.{arith}
-use Rattle.std.proofs.lemmas.Grind.{common_steps}
+use Rattle.std.proofs.{Common.arith, lemmas.Grind.common_steps}
 use Rattle.board_file.proofs.Walks.{range_more}
 use Rattle.board_file.proofs.key_problems.tables.Goals as goal
 

@@ -1,7 +1,6 @@
-use Rattle.std.proofs.Common.{◌≡◌, ◌++◌, map, drop}
-use Rattle.std.specs.List.{range_with_len, enumerate_from, flat_map}
-use Rattle.board_file.specs.declared.entry.Entry.TheVariants as entry
+use Rattle.std.{proofs.Common.{◌≡◌, ◌++◌, map, drop}, specs.List.{range_with_len, enumerate_from, flat_map}}
 use Rattle.board_file.specs.KeyProblems.{with_endpoint}
+use Rattle.board_file.specs.declared.entry.Entry.TheVariants as entry
 use Rattle.board_file.proofs.key_problems.tables.Given as goal
 
 abbrev pub invariant-endpoints : goal.invariant-endpoints

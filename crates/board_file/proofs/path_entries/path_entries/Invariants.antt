@@ -1,7 +1,5 @@
-use Rattle.std.proofs.Common.{◌≡◌, ◌++◌, map, drop, take}
-use Rattle.std.specs.List.{enumerate_from}
-use Rattle.board_file.specs.PathEntries.{path_entry, path_entries}
-use Rattle.board_file.proofs.Taken.{AreTaken}
+use Rattle.std.{proofs.Common.{◌≡◌, ◌++◌, map, drop, take}, specs.List.enumerate_from}
+use Rattle.board_file.{specs.PathEntries.{path_entry, path_entries}, proofs.Taken.AreTaken}
 use Rattle.board_file.proofs.path_entries.path_entries.Given as goal
 
 abbrev pub invariant-texts : goal.invariant-texts

@@ -1,5 +1,4 @@
-use Rattle.std.proofs.Common.{◌≡◌, ◌++◌, map, drop}
-use Rattle.std.specs.List.{enumerate_from}
+use Rattle.std.{proofs.Common.{◌≡◌, ◌++◌, map, drop}, specs.List.enumerate_from}
 use Rattle.board_file.specs.PathEntries.{endpoint_text, bridge_text}
 use Rattle.board_file.proofs.path_entries.place_texts.Given as goal
 

@@ -1,5 +1,4 @@
-use Rattle.std.proofs.Common.{◌≡◌, ◌++◌, map, drop}
-use Rattle.std.specs.List.{enumerate_from}
+use Rattle.std.{proofs.Common.{◌≡◌, ◌++◌, map, drop}, specs.List.enumerate_from}
 use Rattle.board_file.specs.PathEntries.{slot_text}
 use Rattle.board_file.proofs.path_entries.push_slots.Given as goal
 

@@ -1,5 +1,4 @@
-use Rattle.std.proofs.Common.{◌≡◌, ◌++◌, map, drop}
-use Rattle.std.specs.List.{enumerate_from, flat_map}
+use Rattle.std.{proofs.Common.{◌≡◌, ◌++◌, map, drop}, specs.List.{enumerate_from, flat_map}}
 use Rattle.board_file.specs.PathEntries.{guest_texts}
 use Rattle.board_file.proofs.path_entries.slot_texts.Given as goal
 

@@ -1,5 +1,4 @@
-use Rattle.std.proofs.Common.{arith}
-use Rattle.std.proofs.lemmas.Grind.{common_steps}
+use Rattle.std.proofs.{Common.arith, lemmas.Grind.common_steps}
 use Rattle.paths.specs.PathLaws.{paths_tied}
 use Rattle.board_file.proofs.path_entries.take.Goals as goal
 

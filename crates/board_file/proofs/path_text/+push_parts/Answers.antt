@@ -1,8 +1,5 @@
-use Rattle.std.proofs.lemmas.Grind.{common_steps}
-use Rattle.std.proofs.Common.{◌≡◌, suc, ◌-◌, sym, is_some, Some, drop, arith}
-use Rattle.std.proofs.lemmas.List.{take_rest}
-use Rattle.board_file.specs.PathTexts.{part_at_front}
-use Rattle.board_file.proofs.PathSteps.{one_more, some_map, pushed_after}
+use Rattle.std.proofs.{lemmas.{Grind.common_steps, List.take_rest}, Common.{◌≡◌, suc, ◌-◌, sym, is_some, Some, drop, arith}}
+use Rattle.board_file.{specs.PathTexts.part_at_front, proofs.PathSteps.{one_more, some_map, pushed_after}}
 use Rattle.board_file.proofs.path_text.+push_parts.Goals as goal
 
 pub returns-in-Some-clause-all : goal.returns-in-Some-clause-all

@@ -1,7 +1,5 @@
-use Rattle.std.proofs.Common.{◌≡◌, ◌++◌, map, drop}
-use Rattle.std.specs.List.{filter_map}
-use Rattle.toml.specs.Data.{as_table}
-use Rattle.toml.specs.View.{items_view}
+use Rattle.std.{proofs.Common.{◌≡◌, ◌++◌, map, drop}, specs.List.filter_map}
+use Rattle.toml.specs.{Data.as_table, View.items_view}
 use Rattle.board_file.specs.Schema.{list_of}
 use Rattle.board_file.proofs.reading.entries_of.Given as goal
 

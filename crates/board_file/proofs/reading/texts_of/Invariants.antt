@@ -1,7 +1,5 @@
-use Rattle.std.proofs.Common.{◌≡◌, ◌++◌, drop}
-use Rattle.std.specs.List.{filter_map}
-use Rattle.toml.specs.Data.{as_str}
-use Rattle.toml.specs.View.{items_view}
+use Rattle.std.{proofs.Common.{◌≡◌, ◌++◌, drop}, specs.List.filter_map}
+use Rattle.toml.specs.{Data.as_str, View.items_view}
 use Rattle.board_file.specs.Schema.{list_of}
 use Rattle.board_file.proofs.reading.texts_of.Given as goal
 

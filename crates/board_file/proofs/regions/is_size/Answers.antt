@@ -1,5 +1,4 @@
-use Rattle.std.proofs.Common.{sym, ◌∙◌, w64}
-use Rattle.std.proofs.Math.Facts.{to_z-of_z}
+use Rattle.std.proofs.{Common.{sym, ◌∙◌, w64}, Math.Facts.to_z-of_z}
 use Rattle.board_file.proofs.ListTests.{size_test}
 use Rattle.board_file.proofs.regions.is_size.Goals as goal
 

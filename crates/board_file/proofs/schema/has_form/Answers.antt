@@ -1,8 +1,5 @@
-use Rattle.std.proofs.Common.{is_some, arith}
-use Rattle.std.proofs.lemmas.Grind.{common_steps}
-use Rattle.std.proofs.lemmas.Bool.Decides.{nat_tests}
-use Rattle.toml.specs.Data.{as_integer, as_str, as_table}
-use Rattle.toml.proofs.Views.{view-Array}
+use Rattle.std.proofs.{Common.{is_some, arith}, lemmas.{Grind.common_steps, Bool.Decides.nat_tests}}
+use Rattle.toml.{specs.Data.{as_integer, as_str, as_table}, proofs.Views.view-Array}
 use Rattle.board_file.proofs.Walk.{all_view, length_view}
 use Rattle.board_file.proofs.schema.has_form.Goals as goal
 

@@ -1,9 +1,6 @@
-use Rattle.std.proofs.Common.{◌≡◌, ◌≢◌, Err, subst}
-use Rattle.std.specs.Prelude.{IfErr}
+use Rattle.std.{proofs.Common.{◌≡◌, ◌≢◌, Err, subst}, specs.Prelude.IfErr}
 use Rattle.toml.specs.View.{table_view}
-use Rattle.board_file.specs.declared.fault.BoardFault.TheVariants.{Memory}
-use Rattle.board_file.specs.Faults.{number_of}
-use Rattle.board_file.specs.Meaning.{meaning}
+use Rattle.board_file.specs.{declared.fault.BoardFault.TheVariants.Memory, Faults.number_of, Meaning.meaning}
 use Rattle.board_file.proofs.source.read_document.Goals as goal
 
 pub returns-clause-refused : goal.returns-clause-refused

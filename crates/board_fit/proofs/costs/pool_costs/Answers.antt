@@ -1,10 +1,7 @@
-use Rattle.std.proofs.Common.{List, ap, subst, string_bytes, ◌∙◌}
-use Rattle.std.proofs.lemmas.Result.{IfOk-weaker}
+use Rattle.std.proofs.{Common.{List, ap, subst, string_bytes, ◌∙◌}, lemmas.Result.IfOk-weaker}
 use Rattle.toml.specs.View.{table_view}
 use Rattle.board_file.specs.Entries.{File}
-use Rattle.board_fit.specs.declared.pool_region.PoolRegion.{PoolRegion}
-use Rattle.board_fit.specs.PoolRegions.{pool_regions}
-use Rattle.board_fit.specs.Costs.{AreCostsBy}
+use Rattle.board_fit.specs.{declared.pool_region.PoolRegion.PoolRegion, PoolRegions.pool_regions, Costs.AreCostsBy}
 use Rattle.board_fit.proofs.costs.pool_costs.Goals as goal
 
 pub returns : goal.returns

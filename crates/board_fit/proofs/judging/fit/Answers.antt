@@ -1,5 +1,4 @@
-use Rattle.std.proofs.Common.{Option, Result, Ok, Err, sym, subst, string_bytes}
-use Rattle.std.specs.Prelude.{IfOk}
+use Rattle.std.{proofs.Common.{Option, Result, Ok, Err, sym, subst, string_bytes}, specs.Prelude.IfOk}
 use Rattle.bus_scan.specs.declared.fault.Fault.{Fault}
 use Rattle.board_fit.specs.Verdicts.{IsVerdict}
 use Rattle.board_fit.proofs.judging.fit.Goals as goal

@@ -1,10 +1,9 @@
-use Rattle.std.proofs.Common.{subst, string_bytes}
+use Rattle.std.proofs.{Common.{subst, string_bytes}, lemmas.Result.IfOk-weaker}
 use Rattle.model_registers.specs.Apertures.{Apertures}
 use Rattle.model_board.specs.Board.{Board}
 use Rattle.bus_scan.specs.SizedTables.{IsTableOf}
 use Rattle.window_packing.specs.Readies.{board_below}
 use Rattle.board_fit.specs.Verdicts.{IsVerdict}
-use Rattle.std.proofs.lemmas.Result.{IfOk-weaker}
 use Rattle.board_fit.proofs.judging.judge.Goals as goal
 
 pub returns-in-Ok-clause-verdict : goal.returns-in-Ok-clause-verdict

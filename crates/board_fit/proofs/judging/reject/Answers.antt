@@ -1,9 +1,5 @@
-use Rattle.std.proofs.Common.{subst, sym, Option, string_bytes}
-use Rattle.board_fit.specs.declared.shortage.Shortage.{Shortage}
-use Rattle.board_fit.specs.Shortages.{IsNeedOf}
-use Rattle.board_fit.specs.Verdicts.{IsMisfit}
-use Rattle.std.proofs.lemmas.Result.{IfOk-weaker}
-use Rattle.board_fit.proofs.Needs.{need_of}
+use Rattle.std.proofs.{Common.{subst, sym, Option, string_bytes}, lemmas.Result.IfOk-weaker}
+use Rattle.board_fit.{specs.{declared.shortage.Shortage.Shortage, Shortages.IsNeedOf, Verdicts.IsMisfit}, proofs.Needs.need_of}
 use Rattle.board_fit.proofs.judging.reject.Goals as goal
 
 pub returns-clause-text : goal.returns-clause-text

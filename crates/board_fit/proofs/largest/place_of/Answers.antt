@@ -1,6 +1,5 @@
 use Rattle.std.proofs.Common.{arith}
-use Rattle.board_fit.specs.PoolRegions.{is_smaller}
-use Rattle.board_fit.proofs.BySize.{at_some, at_none, place_within}
+use Rattle.board_fit.{specs.PoolRegions.is_smaller, proofs.BySize.{at_some, at_none, place_within}}
 use Rattle.board_fit.proofs.largest.place_of.Goals as goal
 
 pub returns-in-Some-clause-place : goal.returns-in-Some-clause-place

@@ -1,5 +1,4 @@
-use Rattle.std.proofs.Common.{◌≡◌, ◌++◌, drop}
-use Rattle.std.specs.List.{enumerate_from, flat_map}
+use Rattle.std.{proofs.Common.{◌≡◌, ◌++◌, drop}, specs.List.{enumerate_from, flat_map}}
 use Rattle.board_fit.specs.Misfits.{closed_in}
 use Rattle.board_fit.proofs.misfit.push_closed_regions.Given as goal
 

@@ -1,5 +1,4 @@
-use Rattle.std.proofs.Common.{◌∙◌}
-use Rattle.std.proofs.lemmas.Result.{IfOk-weaker}
+use Rattle.std.proofs.{Common.◌∙◌, lemmas.Result.IfOk-weaker}
 use Rattle.board_fit.proofs.PoolsOfRegions.{all_regions}
 use Rattle.board_fit.proofs.pool_regions.pool_regions.Goals as goal
 

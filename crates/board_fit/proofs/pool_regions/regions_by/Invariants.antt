@@ -1,5 +1,4 @@
-use Rattle.std.proofs.Common.{◌≡◌, ◌++◌, drop}
-use Rattle.std.specs.List.{enumerate_from, flat_map}
+use Rattle.std.{proofs.Common.{◌≡◌, ◌++◌, drop}, specs.List.{enumerate_from, flat_map}}
 use Rattle.window_packing.specs.Plans.{named_pool}
 use Rattle.board_fit.specs.Reaches.{endpoint_by}
 use Rattle.board_fit.proofs.pool_regions.regions_by.Given as goal

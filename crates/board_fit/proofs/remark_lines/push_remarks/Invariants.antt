@@ -1,5 +1,4 @@
-use Rattle.std.proofs.Common.{◌≡◌, ◌++◌, drop, string_bytes}
-use Rattle.std.specs.List.{flat_map}
+use Rattle.std.{proofs.Common.{◌≡◌, ◌++◌, drop, string_bytes}, specs.List.flat_map}
 use Rattle.toml.specs.View.{table_view}
 use Rattle.board_fit.specs.RemarkTexts.{told_text}
 use Rattle.board_fit.proofs.remark_lines.push_remarks.Given as goal

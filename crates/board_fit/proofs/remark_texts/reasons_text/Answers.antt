@@ -1,10 +1,7 @@
-use Rattle.std.proofs.Common.{List, ap, subst, string_bytes, ◌∙◌}
-use Rattle.std.proofs.lemmas.Result.{IfOk-weaker}
+use Rattle.std.proofs.{Common.{List, ap, subst, string_bytes, ◌∙◌}, lemmas.Result.IfOk-weaker}
 use Rattle.toml.specs.View.{table_view}
 use Rattle.board_file.specs.Entries.{File}
-use Rattle.board_fit.specs.declared.remark.Remark.{Remark}
-use Rattle.board_fit.specs.Misfits.{reasons}
-use Rattle.board_fit.specs.RemarkTexts.{AreTold}
+use Rattle.board_fit.specs.{declared.remark.Remark.Remark, Misfits.reasons, RemarkTexts.AreTold}
 use Rattle.board_fit.proofs.remark_texts.reasons_text.Goals as goal
 
 pub returns : goal.returns

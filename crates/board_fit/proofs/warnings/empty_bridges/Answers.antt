@@ -1,14 +1,9 @@
-use Rattle.std.proofs.Common.{◌≡◌, List, map, ap, subst, ◌∙◌}
-use Rattle.std.proofs.lemmas.Result.{IfOk-weaker}
-use Rattle.std.specs.List.{filter_map}
-use Rattle.std.specs.BTreeSet.{IsFromIterResult}
+use Rattle.std.{proofs.{Common.{◌≡◌, List, map, ap, subst, ◌∙◌}, lemmas.Result.IfOk-weaker}, specs.{List.filter_map, BTreeSet.IsFromIterResult}}
 use Rattle.model_board.specs.Paths.{Path}
 use Rattle.paths.specs.PathOrders.{path_cmp}
 use Rattle.board_file.specs.Entries.{File}
+use Rattle.board_fit.{specs.{PathSets.{bridge_above, bridges_outside}, Warnings.{all_paths, empty_bridges, with_index}}, proofs.PathSets.empty}
 use Rattle.board_fit.specs.declared.remark.Remark.TheVariants as remark
-use Rattle.board_fit.specs.PathSets.{bridge_above, bridges_outside}
-use Rattle.board_fit.specs.Warnings.{all_paths, empty_bridges, with_index}
-use Rattle.board_fit.proofs.PathSets.{empty}
 use Rattle.board_fit.proofs.warnings.empty_bridges.Goals as goal
 
 pub returns : goal.returns

@@ -1,13 +1,8 @@
-use Rattle.std.proofs.Common.{◌≡◌, ◌==◌, ℕ, false, List, length, map, ap, sym, subst, ◌∙◌, arith}
-use Rattle.std.specs.Prelude.{◌≢◌}
-use Rattle.std.proofs.lemmas.Result.{IfOk-weaker}
-use Rattle.std.specs.BTreeSet.{IsFromIterResult}
+use Rattle.std.{proofs.{Common.{◌≡◌, ◌==◌, ℕ, false, List, length, map, ap, sym, subst, ◌∙◌, arith}, lemmas.Result.IfOk-weaker}, specs.{Prelude.◌≢◌, BTreeSet.IsFromIterResult}}
 use Rattle.paths.specs.PathOrders.{path_cmp}
 use Rattle.board_file.specs.Entries.{Guest}
+use Rattle.board_fit.{specs.{PathSets.{endpoints_outside, given_paths}, Warnings.with_index}, proofs.PathSets.of_none}
 use Rattle.board_fit.specs.declared.remark.Remark.TheVariants as remark
-use Rattle.board_fit.specs.PathSets.{endpoints_outside, given_paths}
-use Rattle.board_fit.specs.Warnings.{with_index}
-use Rattle.board_fit.proofs.PathSets.{of_none}
 use Rattle.board_fit.proofs.warnings.endpoints_of_none.Goals as goal
 
 none_of : (n : ℕ) → n ≢ 0 → (n == 0) ≡ false

@@ -1,7 +1,6 @@
 use Rattle.std.proofs.Common.{◌≡◌, map, drop}
 use Rattle.toml.specs.View.{table_view}
-use Rattle.board_file.specs.Problems.{found_of}
-use Rattle.board_file.specs.KeyProblems.{problems_of}
+use Rattle.board_file.specs.{Problems.found_of, KeyProblems.problems_of}
 use Rattle.board_refusal.specs.AllProblems.{all_from}
 use Rattle.board_refusal.proofs.every_check.all_problems.Given as goal
 

@@ -1,8 +1,6 @@
-use Rattle.std.proofs.Common.{rules, map, ap, ◌∙◌}
-use Rattle.std.proofs.lemmas.Fn.{filter_same}
+use Rattle.std.proofs.{Common.{rules, map, ap, ◌∙◌}, lemmas.Fn.filter_same}
 use Rattle.board_file.specs.Problems.{found_of}
-use Rattle.board_refusal.specs.Spoiling.{is_clear}
-use Rattle.board_refusal.proofs.Added.{filter-map}
+use Rattle.board_refusal.{specs.Spoiling.is_clear, proofs.Added.filter-map}
 use Rattle.board_refusal.proofs.every_check.keep_clear.Goals as goal
 
 pub returns : goal.returns

@@ -1,5 +1,4 @@
-use Rattle.std.proofs.Common.{◌≡◌, drop}
-use Rattle.std.specs.List.{enumerate_from}
+use Rattle.std.{proofs.Common.{◌≡◌, drop}, specs.List.enumerate_from}
 use Rattle.lists.specs.Elements.{first_some}
 use Rattle.board_refusal.specs.Others.{slot_in}
 use Rattle.board_refusal.proofs.others.guest_before.Given as goal

@@ -1,6 +1,4 @@
-use Rattle.std.proofs.Common.{◌++◌, List, ℕ, map, ap, string_bytes}
-use Rattle.std.specs.Prelude.{codes}
-use Rattle.std.proofs.lemmas.Result.{IfOk-equal}
+use Rattle.std.{proofs.{Common.{◌++◌, List, ℕ, map, ap, string_bytes}, lemmas.Result.IfOk-equal}, specs.Prelude.codes}
 use Rattle.diagnostics.specs.Shown.{shown_byte}
 use Rattle.board_refusal.proofs.path_causes.push_gap.Goals as goal
 

@@ -1,7 +1,4 @@
-use Rattle.std.proofs.Common.{◌≡◌, ◌++◌, ◌-◌, List, ℕ, length, map, take, ap, arith, string_bytes}
-use Rattle.std.specs.Prelude.{codes}
-use Rattle.std.proofs.lemmas.Grind.{common_steps}
-use Rattle.std.proofs.lemmas.Result.{IfOk-equal}
+use Rattle.std.{proofs.{Common.{◌≡◌, ◌++◌, ◌-◌, List, ℕ, length, map, take, ap, arith, string_bytes}, lemmas.{Grind.common_steps, Result.IfOk-equal}}, specs.Prelude.codes}
 use Rattle.diagnostics.specs.Shown.{shown_byte}
 use Rattle.board_refusal.proofs.path_causes.push_zero.Goals as goal
 

@@ -1,5 +1,4 @@
-use Rattle.std.proofs.Common.{◌≡◌, ◌++◌, drop, string_bytes}
-use Rattle.std.specs.List.{flat_map}
+use Rattle.std.{proofs.Common.{◌≡◌, ◌++◌, drop, string_bytes}, specs.List.flat_map}
 use Rattle.toml.specs.View.{table_view}
 use Rattle.board_refusal.specs.ProblemLines.{told_text}
 use Rattle.board_refusal.proofs.problem_lines.push_problems.Given as goal

@@ -1,5 +1,4 @@
-use Rattle.std.proofs.Common.{append_assoc, arith}
-use Rattle.std.proofs.lemmas.Result.{IfOk-equal}
+use Rattle.std.proofs.{Common.{append_assoc, arith}, lemmas.Result.IfOk-equal}
 use Rattle.board_refusal.proofs.problem_lines.push_reasoned.Goals as goal
 
 pub returns : goal.returns

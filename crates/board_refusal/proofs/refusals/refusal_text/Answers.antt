@@ -2,9 +2,7 @@ use Rattle.std.proofs.Common.{◌≡◌, List, [], ◌∷◌, ◌++◌, map, ref
 use Rattle.toml.specs.View.{table_view}
 use Rattle.lists.specs.Elements.{Each}
 use Rattle.board_file.specs.Problems.{found_of}
-use Rattle.board_refusal.specs.declared.placed_breach.PlacedBreach.{PlacedBreach}
-use Rattle.board_refusal.specs.Telling.{problem_of, found_in, IsTold}
-use Rattle.board_refusal.specs.ProblemLines.{lines_text}
+use Rattle.board_refusal.specs.{declared.placed_breach.PlacedBreach.PlacedBreach, Telling.{problem_of, found_in, IsTold}, ProblemLines.lines_text}
 use Rattle.board_refusal.proofs.refusals.refusal_text.Goals as goal
 
 -- the problems that are told, as what was found

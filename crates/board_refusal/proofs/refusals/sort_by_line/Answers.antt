@@ -1,5 +1,4 @@
-use Rattle.std.proofs.Common.{rules}
-use Rattle.std.proofs.lemmas.List.Sorted.{answers_always, IsNonDecreasingBy-from_sort_by_key}
+use Rattle.std.proofs.{Common.rules, lemmas.List.Sorted.{answers_always, IsNonDecreasingBy-from_sort_by_key}}
 use Rattle.board_refusal.specs.Telling.{line_or_zero}
 use Rattle.board_refusal.proofs.refusals.sort_by_line.Goals as goal
 

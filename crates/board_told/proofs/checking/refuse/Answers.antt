@@ -1,6 +1,5 @@
 use Rattle.std.proofs.Common.{◌≡◌, ◌≢◌, inr, true, false, sym, ap, ◌∙◌}
-use Rattle.board_file.specs.declared.fault.BoardFault.TheVariants.{Memory}
-use Rattle.board_file.specs.Meaning.{document_meaning}
+use Rattle.board_file.specs.{declared.fault.BoardFault.TheVariants.Memory, Meaning.document_meaning}
 use Rattle.board_told.proofs.checking.refuse.Goals as goal
 
 pub returns-in-Ok-clause-told : goal.returns-in-Ok-clause-told

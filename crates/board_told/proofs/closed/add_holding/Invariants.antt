@@ -1,6 +1,5 @@
 use Rattle.std.proofs.Common.{◌≡◌, ◌++◌, map, drop}
-use Rattle.bars.specs.Kinds.{named_space}
-use Rattle.bars.specs.Slots.{bases_from}
+use Rattle.bars.specs.{Kinds.named_space, Slots.bases_from}
 use Rattle.board_told.specs.GuestFindings.{closed_at, closed_told}
 use Rattle.board_told.proofs.closed.add_holding.Given as goal
 

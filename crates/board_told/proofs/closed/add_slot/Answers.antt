@@ -1,11 +1,9 @@
-use Rattle.std.proofs.Common.{List, map, sym, ap, ◌++◌, ◌∙◌}
-use Rattle.std.proofs.lemmas.Result.{IfOk-equal}
+use Rattle.std.proofs.{Common.{List, map, sym, ap, ◌++◌, ◌∙◌}, lemmas.Result.IfOk-equal}
 use Rattle.model_guests.specs.Slots.{slot_at}
 use Rattle.model_lines.specs.WhyGuests.{ClosedRegion}
 use Rattle.bars.specs.Kinds.{named_space}
 use Rattle.monitor.specs.OwnTold.{own_told}
-use Rattle.board_told.specs.GuestFindings.{lone_asked, closed_told}
-use Rattle.board_told.proofs.ClosedSlots.{slot_holds}
+use Rattle.board_told.{specs.GuestFindings.{lone_asked, closed_told}, proofs.ClosedSlots.slot_holds}
 use Rattle.board_told.proofs.closed.add_slot.Goals as goal
 
 pub returns : goal.returns

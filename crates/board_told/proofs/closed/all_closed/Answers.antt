@@ -1,7 +1,6 @@
 use Rattle.std.proofs.Common.{◌<◌, length, map, arith}
 use Rattle.bars.specs.Kinds.{named_space}
-use Rattle.board_told.specs.GuestFindings.{lone_asked, closed_told}
-use Rattle.board_told.proofs.ClosedSlots.{step}
+use Rattle.board_told.{specs.GuestFindings.{lone_asked, closed_told}, proofs.ClosedSlots.step}
 use Rattle.board_told.proofs.closed.all_closed.Goals as goal
 
 pub loop-slot-preserved : goal.loop-slot-preserved

@@ -1,8 +1,6 @@
-use Rattle.std.proofs.Common.{ℕ, List, [], ◌∷◌, ◌++◌, take, sym, ap, ◌∙◌, subst, arith}
-use Rattle.std.proofs.lemmas.List.{take_all}
+use Rattle.std.proofs.{Common.{ℕ, List, [], ◌∷◌, ◌++◌, take, sym, ap, ◌∙◌, subst, arith}, lemmas.List.take_all}
 use Rattle.model_registers.specs.Cell.{Cell}
-use Rattle.config_bytes.specs.CellFile.{HasDistinctOffsets}
-use Rattle.config_bytes.proofs.Offsets.{file_of-offsets_from, HasDistinctOffsets-offsets_from}
+use Rattle.config_bytes.{specs.CellFile.HasDistinctOffsets, proofs.Offsets.{file_of-offsets_from, HasDistinctOffsets-offsets_from}}
 use Rattle.lists.proofs.Indices.{read_at}
 use Rattle.bridge_forward.proofs.EndpointReset.{offsets_next}
 use Rattle.bridge_forward.proofs.blocks.block_file.Goals as goal

@@ -1,5 +1,4 @@
-use Rattle.std.proofs.Common.{◌≡◌, ◌<◌, ℕ, Some, length}
-use Rattle.std.specs.List.{slice_get}
+use Rattle.std.{proofs.Common.{◌≡◌, ◌<◌, ℕ, Some, length}, specs.List.slice_get}
 use Rattle.bridge_forward.specs.EndpointParts.{declared_block, as_made}
 use Rattle.bridge_forward.proofs.blocks.block_files.Given as goal
 

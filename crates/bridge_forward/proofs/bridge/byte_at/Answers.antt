@@ -1,8 +1,6 @@
 -- A word read by the enables of a byte holds that byte in its lane.
 use Rattle.std.proofs.Common.{◌≡◌, ◌*◌, ◌/◌, arith, ◌∙◌}
-use Rattle.model_registers.specs.Registers.{config, read}
-use Rattle.model_registers.specs.ByteEnables.{lanes, enables_of, enabled_bytes, from_lanes}
-use Rattle.model_registers.proofs.ByteAccesses.{number_from_word}
+use Rattle.model_registers.{specs.{Registers.{config, read}, ByteEnables.{lanes, enables_of, enabled_bytes, from_lanes}}, proofs.ByteAccesses.number_from_word}
 use Rattle.bridge_forward.proofs.bridge.byte_at.Goals as goal
 
 pub returns : goal.returns

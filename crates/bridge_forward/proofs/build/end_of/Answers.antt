@@ -1,10 +1,6 @@
-use Rattle.std.proofs.Common.{arith, sym, ◌∙◌, get_or}
-use Rattle.std.proofs.lemmas.List.{length-map}
-use Rattle.std.proofs.lemmas.Option.{slice_get-get_or}
-use Rattle.bridge_forward.specs.declared.bus.Node.{Node}
-use Rattle.bridge_forward.specs.Layout.{paths_of}
+use Rattle.std.proofs.{Common.{arith, sym, ◌∙◌, get_or}, lemmas.{List.length-map, Option.slice_get-get_or}}
+use Rattle.bridge_forward.{specs.{declared.bus.Node.Node, Layout.paths_of}, proofs.Extents.{behind_more, stops, stops_past}}
 use Rattle.lists.proofs.Indices.{map_at}
-use Rattle.bridge_forward.proofs.Extents.{behind_more, stops, stops_past}
 use Rattle.bridge_forward.proofs.build.end_of.Goals as goal
 
 pub loop-end-preserved : goal.loop-end-preserved

@@ -1,6 +1,5 @@
 use Rattle.std.proofs.Common.{◌-◌, length}
-use Rattle.bridge_forward.specs.Layout.{paths_of}
-use Rattle.bridge_forward.proofs.Extents.{Behind}
+use Rattle.bridge_forward.{specs.Layout.paths_of, proofs.Extents.Behind}
 use Rattle.bridge_forward.proofs.build.end_of.Given as goal
 
 abbrev pub invariant-loop-end : goal.invariant-loop-end

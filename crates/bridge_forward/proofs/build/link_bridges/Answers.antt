@@ -1,5 +1,4 @@
-use Rattle.std.proofs.Common.{◌≡◌, ◌+◌, ◌-◌, ◌<◌, length, get_or, arith, subst}
-use Rattle.std.proofs.lemmas.Option.{slice_get-get_or}
+use Rattle.std.proofs.{Common.{◌≡◌, ◌+◌, ◌-◌, ◌<◌, length, get_or, arith, subst}, lemmas.Option.slice_get-get_or}
 use Rattle.bridge_forward.proofs.Skipping.{Linked, linked_none, linked_more, all_linked}
 use Rattle.bridge_forward.proofs.build.link_bridges.Goals as goal
 

@@ -1,9 +1,5 @@
-use Rattle.std.proofs.Common.{◌≡◌, IfOk, List, Bool, rules, subst}
-use Rattle.std.specs.BTreeSet.{contains}
-use Rattle.std.proofs.lemmas.Iterator.{YieldsList-from_slice, YieldsList-from_map, items_from_collect}
-use Rattle.std.proofs.lemmas.Iterator.Consumers.{YieldsList-at}
-use Rattle.model_board.specs.Board.{Row}
-use Rattle.model_board.specs.Paths.{function_zero}
+use Rattle.std.{proofs.{Common.{◌≡◌, IfOk, List, Bool, rules, subst}, lemmas.Iterator.{YieldsList-from_slice, YieldsList-from_map, items_from_collect, Consumers.YieldsList-at}}, specs.BTreeSet.contains}
+use Rattle.model_board.specs.{Board.Row, Paths.function_zero}
 use Rattle.paths.specs.PathOrders.{path_cmp}
 use Rattle.bridge_forward.proofs.Devices.{shared_are}
 use Rattle.bridge_forward.proofs.build.multifunction_devices.Goals as goal

@@ -1,10 +1,7 @@
 use Rattle.std.proofs.Common.{◌≡◌, map}
 use Rattle.lists.specs.Elements.{Each}
-use Rattle.model_board.specs.Board.{is_multifunction}
-use Rattle.model_board.specs.Lawful.{IsLawfulDecl}
-use Rattle.model_board.specs.Places.{board_of}
-use Rattle.bridge_forward.specs.Layout.{functions_of}
-use Rattle.bridge_forward.specs.Resets.{reset_function}
+use Rattle.model_board.specs.{Board.is_multifunction, Lawful.IsLawfulDecl, Places.board_of}
+use Rattle.bridge_forward.specs.{Layout.functions_of, Resets.reset_function}
 use Rattle.bridge_forward.proofs.build.nodes_at_reset.Given as goal
 
 abbrev pub invariant-loop-decl : goal.invariant-loop-decl

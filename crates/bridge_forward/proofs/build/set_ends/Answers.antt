@@ -1,5 +1,4 @@
-use Rattle.std.proofs.Common.{◌<◌, length, arith}
-use Rattle.std.proofs.lemmas.Option.{slice_get-get_or}
+use Rattle.std.proofs.{Common.{◌<◌, length, arith}, lemmas.Option.slice_get-get_or}
 use Rattle.bridge_forward.proofs.Extents.{done_more, all_done}
 use Rattle.bridge_forward.proofs.build.set_ends.Goals as goal
 

@@ -1,10 +1,5 @@
-use Rattle.std.proofs.Common.{rules}
-use Rattle.std.specs.BTreeSet.{IsFromIterResult}
-use Rattle.std.proofs.lemmas.Iterator.{YieldsList-from_slice, YieldsList-from_map}
-use Rattle.std.proofs.lemmas.Iterator.Adapters.{fact_from_collect}
-use Rattle.std.proofs.lemmas.Iterator.Consumers.{YieldsList-at, YieldsList-from_filter}
-use Rattle.model_board.specs.Board.{Row}
-use Rattle.model_board.specs.Paths.{function_zero}
+use Rattle.std.{proofs.{Common.rules, lemmas.Iterator.{YieldsList-from_slice, YieldsList-from_map, Adapters.fact_from_collect, Consumers.{YieldsList-at, YieldsList-from_filter}}}, specs.BTreeSet.IsFromIterResult}
+use Rattle.model_board.specs.{Board.Row, Paths.function_zero}
 use Rattle.paths.specs.PathOrders.{path_cmp}
 use Rattle.bridge_forward.specs.Devices.{is_further}
 use Rattle.bridge_forward.proofs.build.shared_devices.Goals as goal

@@ -1,5 +1,4 @@
-use Rattle.std.proofs.Common.{rules}
-use Rattle.std.proofs.lemmas.Fn.{always_returns_same}
+use Rattle.std.proofs.{Common.rules, lemmas.Fn.always_returns_same}
 use Rattle.bridge_forward.proofs.BoardOrder.{weak_order, before, sorted_is_board}
 use Rattle.bridge_forward.proofs.build.sort.Goals as goal
 

@@ -2,8 +2,7 @@ use Rattle.std.proofs.Common.{◌≡◌, ◌∷◌, List, sym, subst, arith}
 use Rattle.lists.specs.Elements.{Each}
 use Rattle.model_registers.specs.AccessLaws.{HoldsBytes}
 use Rattle.model_board.specs.State.{BoardFunction}
-use Rattle.bridge_forward.specs.declared.bus.Node.{Node}
-use Rattle.bridge_forward.specs.Layout.{functions_of}
+use Rattle.bridge_forward.specs.{declared.bus.Node.Node, Layout.functions_of}
 use Rattle.bridge_forward.proofs.bus.hold_bytes.Goals as goal
 
 pub loop-node-preserved : goal.loop-node-preserved

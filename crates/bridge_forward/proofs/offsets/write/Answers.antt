@@ -1,6 +1,5 @@
 use Rattle.std.proofs.Common.{sym, ap, arith}
-use Rattle.model_registers.specs.Registers.{File}
-use Rattle.model_registers.specs.ByteEnables.{lanes}
+use Rattle.model_registers.specs.{Registers.File, ByteEnables.lanes}
 use Rattle.bridge_forward.proofs.EndpointAccess.{write_past}
 use Rattle.bridge_forward.proofs.offsets.write.Goals as goal
 

@@ -1,5 +1,4 @@
-use Rattle.std.proofs.Common.{arith}
-use Rattle.std.proofs.lemmas.List.{take_rest}
+use Rattle.std.proofs.{Common.arith, lemmas.List.take_rest}
 use Rattle.bridge_forward.proofs.Halving.{apart_from_here, not_apart_here}
 use Rattle.bridge_forward.proofs.places.are_apart.Goals as goal
 

@@ -1,10 +1,6 @@
-use Rattle.std.proofs.Common.{[], ◌∷◌, Some, None, ap, ap₂, sym, refl, ◌∙◌, arith}
-use Rattle.std.specs.Prelude.{map}
-use Rattle.std.proofs.lemmas.List.{append-nil}
-use Rattle.bridge_forward.specs.RoutingRows.{base_of}
-use Rattle.bridge_forward.proofs.RoutingRows.{slot_there, register_push, HasRoom, has_room}
+use Rattle.std.{proofs.{Common.{[], ◌∷◌, Some, None, ap, ap₂, sym, refl, ◌∙◌, arith}, lemmas.List.append-nil}, specs.Prelude.map}
+use Rattle.bridge_forward.{specs.RoutingRows.base_of, proofs.{RoutingRows.{slot_there, register_push, HasRoom, has_room}, routing.regions_of.Goals.{in-Some+in_ok-push, in_default}}}
 use Rattle.bridge_forward.proofs.routing.regions_of.Goals as goal
-use Rattle.bridge_forward.proofs.routing.regions_of.Goals.{in-Some+in_ok-push, in_default}
 
 pub invariant_of-push : goal.invariant_of-push
 invariant_of-push c =

@@ -1,8 +1,6 @@
 use Rattle.std.proofs.Common.{arith, sym, ◌∙◌}
 use Rattle.lists.proofs.Indices.{read_at}
-use Rattle.bridge_forward.proofs.Nodes.{inside}
-use Rattle.bridge_forward.proofs.Reached.{passed_none, passed_next, first_here, none_on_bus}
-use Rattle.bridge_forward.proofs.Skipping.{passed_at, passed_whole}
+use Rattle.bridge_forward.proofs.{Nodes.inside, Reached.{passed_none, passed_next, first_here, none_on_bus}, Skipping.{passed_at, passed_whole}}
 use Rattle.bridge_forward.proofs.walk.bridge_on_bus.Goals as goal
 
 pub loop-i-init : goal.loop-i-init

@@ -1,8 +1,6 @@
 use Rattle.std.proofs.Common.{◌-◌, ◌≤◌}
 use Rattle.model_board.specs.Paths.{Path}
-use Rattle.bridge_forward.specs.Layout.{IsLaidOut}
-use Rattle.bridge_forward.specs.Search.{IsSide}
-use Rattle.bridge_forward.proofs.Reached.{Passed}
+use Rattle.bridge_forward.{specs.{Layout.IsLaidOut, Search.IsSide}, proofs.Reached.Passed}
 use Rattle.bridge_forward.proofs.walk.bridge_on_bus.Given as goal
 
 abbrev pub invariant-loop-i : goal.invariant-loop-i

@@ -1,14 +1,9 @@
-use Rattle.std.proofs.Common.{◌≡◌, Some, arith, sym, ap, ◌∙◌}
-use Rattle.std.specs.Prelude.{option_map}
+use Rattle.std.{proofs.Common.{◌≡◌, Some, arith, sym, ap, ◌∙◌}, specs.Prelude.option_map}
 use Rattle.model_registers.specs.Decoding.{Hit}
-use Rattle.model_board.specs.State.{BoardFunction}
-use Rattle.model_board.specs.Claims.{claim_at, endpoint_hit}
+use Rattle.model_board.specs.{State.BoardFunction, Claims.{claim_at, endpoint_hit}}
 use Rattle.bars.specs.Kinds.{named_space}
-use Rattle.bridge_forward.specs.Layout.{function_of}
+use Rattle.bridge_forward.{specs.Layout.function_of, proofs.{Nodes.inside, Changes.nth_is, Claiming.{passed_into, passed_over, claim_here, claim_nowhere, hit_of_endpoint, endpoint_forwards_nothing, bridge_claims_nothing, bridge_forwards}}}
 use Rattle.lists.proofs.Indices.{read_at, map_at}
-use Rattle.bridge_forward.proofs.Nodes.{inside}
-use Rattle.bridge_forward.proofs.Changes.{nth_is}
-use Rattle.bridge_forward.proofs.Claiming.{passed_into, passed_over, claim_here, claim_nowhere, hit_of_endpoint, endpoint_forwards_nothing, bridge_claims_nothing, bridge_forwards}
 use Rattle.bridge_forward.proofs.walk.locate.Goals as goal
 
 pub returns-in-Some-clause-claim : goal.returns-in-Some-clause-claim

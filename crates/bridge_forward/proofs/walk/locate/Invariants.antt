@@ -1,7 +1,6 @@
 use Rattle.std.proofs.Common.{◌-◌, length}
 use Rattle.bars.specs.Kinds.{named_space}
-use Rattle.bridge_forward.specs.Layout.{IsLaidOut}
-use Rattle.bridge_forward.proofs.Claiming.{Passed}
+use Rattle.bridge_forward.{specs.Layout.IsLaidOut, proofs.Claiming.Passed}
 use Rattle.bridge_forward.proofs.walk.locate.Given as goal
 
 abbrev pub invariant-loop-i : goal.invariant-loop-i

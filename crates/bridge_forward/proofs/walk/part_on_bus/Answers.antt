@@ -1,8 +1,7 @@
 use Rattle.std.proofs.Common.{◌++◌, ◌∷◌, [], arith, sym}
 use Rattle.model_board.specs.Paths.{Part, Path}
 use Rattle.lists.proofs.Indices.{read_at}
-use Rattle.bridge_forward.proofs.Nodes.{behind_bus}
-use Rattle.bridge_forward.proofs.Halving.{halved_side, here, below_here, above_here, nowhere}
+use Rattle.bridge_forward.proofs.{Nodes.behind_bus, Halving.{halved_side, here, below_here, above_here, nowhere}}
 use Rattle.bridge_forward.proofs.walk.part_on_bus.Goals as goal
 
 abbrev named : Path → Part → Path

@@ -1,12 +1,7 @@
-use Rattle.std.proofs.Common.{subst, arith}
-use Rattle.std.proofs.lemmas.Option.{slice_get_within}
-use Rattle.std.specs.Prelude.{IfSome, find}
+use Rattle.std.{proofs.{Common.{subst, arith}, lemmas.Option.slice_get_within}, specs.Prelude.{IfSome, find}}
 use Rattle.model_board.specs.Paths.{Path}
-use Rattle.bridge_forward.specs.Layout.{functions_of}
-use Rattle.bridge_forward.specs.Search.{is_named, IsAt}
+use Rattle.bridge_forward.{specs.{Layout.functions_of, Search.{is_named, IsAt}}, proofs.{Nodes.{side_root, side_behind}, Reached.{type1_found, type1_missed}}}
 use Rattle.lists.proofs.Indices.{read_at}
-use Rattle.bridge_forward.proofs.Nodes.{side_root, side_behind}
-use Rattle.bridge_forward.proofs.Reached.{type1_found, type1_missed}
 use Rattle.bridge_forward.proofs.walk.reach.Goals as goal
 
 pub part_on_bus-requires-clause-side : goal.part_on_bus-requires-clause-side

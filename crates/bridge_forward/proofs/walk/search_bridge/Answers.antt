@@ -1,9 +1,6 @@
 use Rattle.std.proofs.Common.{arith, sym, ◌∙◌}
-use Rattle.lists.proofs.Tests.{right_true}
-use Rattle.lists.proofs.Indices.{read_at}
-use Rattle.bridge_forward.proofs.Nodes.{side_root, side_behind}
-use Rattle.bridge_forward.proofs.Reaching.{passing_root}
-use Rattle.bridge_forward.proofs.Reached.{no_taker, next, leads_elsewhere, leads_here}
+use Rattle.lists.proofs.{Tests.right_true, Indices.read_at}
+use Rattle.bridge_forward.proofs.{Nodes.{side_root, side_behind}, Reaching.passing_root, Reached.{no_taker, next, leads_elsewhere, leads_here}}
 use Rattle.bridge_forward.proofs.walk.search_bridge.Goals as goal
 
 pub loop-at-init : goal.loop-at-init

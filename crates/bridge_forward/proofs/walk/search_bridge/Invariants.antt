@@ -1,8 +1,6 @@
 use Rattle.std.proofs.Common.{◌-◌, length}
 use Rattle.model_board.specs.Paths.{Path}
-use Rattle.bridge_forward.specs.Layout.{IsLaidOut}
-use Rattle.bridge_forward.specs.Search.{IsSide}
-use Rattle.bridge_forward.proofs.Reaching.{Passing}
+use Rattle.bridge_forward.{specs.{Layout.IsLaidOut, Search.IsSide}, proofs.Reaching.Passing}
 use Rattle.bridge_forward.proofs.walk.search_bridge.Given as goal
 
 abbrev pub invariant-loop-at : goal.invariant-loop-at

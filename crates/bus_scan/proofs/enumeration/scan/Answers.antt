@@ -1,13 +1,7 @@
-use Rattle.std.proofs.Common.{◌≡◌, List, [], sym, ap, subst, refl, inl, ◌∙◌, arith}
-use Rattle.std.proofs.lemmas.Result.{err_from_is_err_and}
-use Rattle.model_set_up.specs.FunctionTable.{TableRow, scanned_table}
-use Rattle.model_set_up.specs.ScanOrder.{on}
-use Rattle.model_set_up.specs.Scanning.{board_numbers}
-use Rattle.model_board.specs.AtReset.{board_at, IsAtReset}
-use Rattle.model_board.specs.State.{State}
-use Rattle.bus_scan.specs.Scans.{IsAt, OnBus}
-use Rattle.bus_scan.proofs.FoundBoards.{same_board, numbered_board}
-use Rattle.bus_scan.proofs.ScanSteps.{started, ended}
+use Rattle.std.proofs.{Common.{◌≡◌, List, [], sym, ap, subst, refl, inl, ◌∙◌, arith}, lemmas.Result.err_from_is_err_and}
+use Rattle.model_set_up.specs.{FunctionTable.{TableRow, scanned_table}, ScanOrder.on, Scanning.board_numbers}
+use Rattle.model_board.specs.{AtReset.{board_at, IsAtReset}, State.State}
+use Rattle.bus_scan.{specs.Scans.{IsAt, OnBus}, proofs.{FoundBoards.{same_board, numbered_board}, ScanSteps.{started, ended}}}
 use Rattle.bus_scan.proofs.enumeration.scan.Goals as goal
 
 whole : (s : State) → IsAtReset s → OnBus (board_at s.functions) [] 0

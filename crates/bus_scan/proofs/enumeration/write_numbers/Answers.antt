@@ -1,12 +1,10 @@
 use Rattle.std.proofs.Common.{◌≡◌, ap, ◌∙◌, arith}
-use Rattle.model_board.specs.State.{State}
+use Rattle.model_board.specs.{State.State, Ports.after_config_write}
 use Rattle.model_set_up.specs.Scanning.{BusNumbers}
 use Rattle.model_registers.specs.ByteEnables.{lanes}
-use Rattle.model_board.specs.Ports.{after_config_write}
 use Rattle.host_bridge.specs.HostState.{HostState}
 use Rattle.paths.specs.BusAddresses.{bus_address_of}
-use Rattle.bus_scan.proofs.BridgeNumbers.{numbers_word, FitBytes}
-use Rattle.bus_scan.proofs.States.{numbers_written}
+use Rattle.bus_scan.proofs.{BridgeNumbers.{numbers_word, FitBytes}, States.numbers_written}
 use Rattle.bus_scan.proofs.enumeration.write_numbers.Goals as goal
 
 pub returns-clause-written : goal.returns-clause-written

@@ -1,5 +1,4 @@
-use Rattle.std.proofs.Common.{◌*◌, ◌/◌, ◌%◌, ◌^◌, ap, ◌∙◌}
-use Rattle.std.proofs.lemmas.Nat.{and_mask}
+use Rattle.std.proofs.{Common.{◌*◌, ◌/◌, ◌%◌, ◌^◌, ap, ◌∙◌}, lemmas.Nat.and_mask}
 use Rattle.config_bytes.proofs.Shifts.{byte_power}
 use Rattle.bus_scan.proofs.seen.byte_of.Goals as goal
 

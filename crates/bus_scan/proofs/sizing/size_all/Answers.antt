@@ -1,9 +1,7 @@
-use Rattle.std.proofs.Common.{◌≡◌, ◌++◌, drop, take, length, ap, ◌∙◌, arith}
-use Rattle.std.proofs.lemmas.List.{length-map}
+use Rattle.std.proofs.{Common.{◌≡◌, ◌++◌, drop, take, length, ap, ◌∙◌, arith}, lemmas.List.length-map}
 use Rattle.model_board.specs.AtReset.{board_at}
 use Rattle.model_set_up.specs.FunctionTable.{table_row, met_decl, sized_table}
-use Rattle.bus_scan.proofs.TableSteps.{none_sized, next_scanned, next_sized, whole_sized, came_back}
-use Rattle.bus_scan.proofs.FoundBoards.{table_of, table_left, table_of_found}
+use Rattle.bus_scan.proofs.{TableSteps.{none_sized, next_scanned, next_sized, whole_sized, came_back}, FoundBoards.{table_of, table_left, table_of_found}}
 use Rattle.bus_scan.proofs.sizing.size_all.Goals as goal
 
 pub loop-row-init : goal.loop-row-init

@@ -1,14 +1,9 @@
-use Rattle.std.proofs.Common.{◌≡◌, ◌+◌, ◌*◌, ◌≤◌, ◌⊎◌, inl, inr, sym, ap, ◌∙◌, subst, arith}
-use Rattle.std.specs.Prelude.{bit_and}
+use Rattle.std.{proofs.Common.{◌≡◌, ◌+◌, ◌*◌, ◌≤◌, ◌⊎◌, inl, inr, sym, ap, ◌∙◌, subst, arith}, specs.Prelude.bit_and}
 use Rattle.model_registers.specs.ByteEnables.{lanes}
 use Rattle.paths.specs.BusAddresses.{bus_address_of}
 use Rattle.host_bridge.specs.HostState.{HostState}
-use Rattle.bus_scan.specs.Probes.{mask_shown, TakesBack, regions_reached}
-use Rattle.bus_scan.proofs.ProbedEndpoints.{mask_at}
-use Rattle.bus_scan.proofs.SizedBars.{begins, region_told}
-use Rattle.bus_scan.proofs.SizedFunctions.{bar_taken, bar_shown, lawful_regions}
+use Rattle.bus_scan.{specs.Probes.{mask_shown, TakesBack, regions_reached}, proofs.{ProbedEndpoints.mask_at, SizedBars.{begins, region_told}, SizedFunctions.{bar_taken, bar_shown, lawful_regions}, sizing.size_bar.Goals.{then-reg-lt5+then-low-eq4, else-reg-lt5, else-reg-lt5-via-then-reg-lt5+else-low-eq4, else-reg-lt5-via-else-reg-lt5}}}
 use Rattle.bus_scan.proofs.sizing.size_bar.Goals as goal
-use Rattle.bus_scan.proofs.sizing.size_bar.Goals.{then-reg-lt5+then-low-eq4, else-reg-lt5, else-reg-lt5-via-then-reg-lt5+else-low-eq4, else-reg-lt5-via-else-reg-lt5}
 
 pub probe-low-requires-clause-taken : goal.probe-low-requires-clause-taken
 probe-low-requires-clause-taken c = bar_taken c.args.host.now.state c.requires.registers (bus_address_of c.args.at) c.requires.endpoint c.args.reg c.requires.register

@@ -1,12 +1,8 @@
 use Rattle.std.proofs.Common.{◌≡◌, sym, ap, ◌∙◌, arith}
 use Rattle.paths.specs.BusAddresses.{bus_address_of}
 use Rattle.host_bridge.specs.HostState.{HostState}
-use Rattle.bus_scan.specs.Probes.{regions_reached}
-use Rattle.bus_scan.specs.SizedRows.{bar_at, is_upper_half}
-use Rattle.bus_scan.proofs.SizedFunctions.{lawful_regions}
-use Rattle.bus_scan.proofs.SizedBars.{next_slot, all_told, upper_by_slots, none_at_upper}
+use Rattle.bus_scan.{specs.{Probes.regions_reached, SizedRows.{bar_at, is_upper_half}}, proofs.{SizedFunctions.lawful_regions, SizedBars.{next_slot, all_told, upper_by_slots, none_at_upper}, sizing.size_bars.Goals.{then-is_upper_half, else-is_upper_half}}}
 use Rattle.bus_scan.proofs.sizing.size_bars.Goals as goal
-use Rattle.bus_scan.proofs.sizing.size_bars.Goals.{then-is_upper_half, else-is_upper_half}
 
 pub size_bar-requires-clause-begins : goal.size_bar-requires-clause-begins
 size_bar-requires-clause-begins c =

@@ -1,7 +1,6 @@
 use Rattle.std.proofs.Common.{◌∙◌}
 use Rattle.paths.specs.BusAddresses.{bus_address_of}
-use Rattle.bus_scan.specs.Probes.{io_reached}
-use Rattle.bus_scan.proofs.SizedFunctions.{io_taken, io_shown, io_told}
+use Rattle.bus_scan.{specs.Probes.io_reached, proofs.SizedFunctions.{io_taken, io_shown, io_told}}
 use Rattle.bus_scan.proofs.sizing.size_io_window.Goals as goal
 
 pub probe-mask-requires-clause-taken : goal.probe-mask-requires-clause-taken

@@ -1,7 +1,6 @@
 use Rattle.std.proofs.Common.{◌∙◌}
 use Rattle.paths.specs.BusAddresses.{bus_address_of}
-use Rattle.bus_scan.specs.Probes.{pref_reached}
-use Rattle.bus_scan.proofs.SizedFunctions.{pref_taken, pref_shown, pref_told}
+use Rattle.bus_scan.{specs.Probes.pref_reached, proofs.SizedFunctions.{pref_taken, pref_shown, pref_told}}
 use Rattle.bus_scan.proofs.sizing.size_pref_window.Goals as goal
 
 pub probe-mask-requires-clause-taken : goal.probe-mask-requires-clause-taken

@@ -1,5 +1,4 @@
-use Rattle.std.proofs.Common.{rules, sym}
-use Rattle.std.proofs.lemmas.List.Sorted.{IsPartitionPoint-from_clause}
+use Rattle.std.proofs.{Common.{rules, sym}, lemmas.List.Sorted.IsPartitionPoint-from_clause}
 use Rattle.claim_table.proofs.Searching.{begins_by, parted, none_begins, begins_here, holds_here, ends_here}
 use Rattle.claim_table.proofs.search.entry_at.Goals as goal
 

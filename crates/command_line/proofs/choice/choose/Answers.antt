@@ -1,11 +1,6 @@
 use Rattle.std.proofs.Common.{◌≡◌, ℕ, List, true, map, Bor, ap, subst, refl, [], ◌∙◌}
-use Rattle.clap.specs.Simple.{App, app_of, is_simple, subcommand_of, subcommand_rows_of}
-use Rattle.clap.specs.Matches.{found_of}
-use Rattle.clap.specs.Takes.{takes}
-use Rattle.clap.specs.Faults.{fault_of, is_simple_and_free}
-use Rattle.clap.proofs.OnLiterals.{clap_on_literals}
-use Rattle.command_line.specs.Words.{pciguest_app}
-use Rattle.command_line.proofs.Values.{asked, asked_alike, no_other, simple}
+use Rattle.clap.{specs.{Simple.{App, app_of, is_simple, subcommand_of, subcommand_rows_of}, Matches.found_of, Takes.takes, Faults.{fault_of, is_simple_and_free}}, proofs.OnLiterals.clap_on_literals}
+use Rattle.command_line.{specs.Words.pciguest_app, proofs.Values.{asked, asked_alike, no_other, simple}}
 use Rattle.command_line.proofs.choice.choose.Goals as goal
 
 is_one : is_simple pciguest_app ≡ true

@@ -1,9 +1,5 @@
-use Rattle.std.proofs.Common.{◌≡◌, ◌≤◌, ◌<◌, ℕ, Bool, true, false, List, [], ◌∷◌, length, map, codes, Bor, slice_index_or, arith}
-use Rattle.std.specs.Bool.{OnTrue}
-use Rattle.std.specs.Str.{bytes_eq}
-use Rattle.std.specs.Cmp.Lexicographic.{same_text}
-use Rattle.command_line.specs.Words.{is_taken}
-use Rattle.command_line.proofs.Values.{no_help}
+use Rattle.std.{proofs.Common.{◌≡◌, ◌≤◌, ◌<◌, ℕ, Bool, true, false, List, [], ◌∷◌, length, map, codes, Bor, slice_index_or, arith}, specs.{Bool.OnTrue, Str.bytes_eq, Cmp.Lexicographic.same_text}}
+use Rattle.command_line.{specs.Words.is_taken, proofs.Values.no_help}
 use Rattle.command_line.proofs.choice.is_help.Goals as goal
 
 by_words : (words : List (Bor (List ℕ))) (d : Bor (List ℕ)) (b : Bool) → 2 ≤ length words → length words < 3

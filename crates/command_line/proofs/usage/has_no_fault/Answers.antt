@@ -1,11 +1,6 @@
 use Rattle.std.proofs.Common.{◌≡◌, ℕ, List, [], map, Bor, ap, sym, subst, ◌∙◌}
-use Rattle.clap.specs.Simple.{App, app_of}
-use Rattle.clap.specs.Kinds.{HasKind}
-use Rattle.clap.specs.Faults.{fault_of, is_simple_and_free}
-use Rattle.command_line.specs.Words.{pciguest_app}
-use Rattle.command_line.specs.Usage.{has_no_fault, is_free}
-use Rattle.command_line.proofs.Refused.{told_fault}
-use Rattle.command_line.proofs.Values.{simple}
+use Rattle.clap.specs.{Simple.{App, app_of}, Kinds.HasKind, Faults.{fault_of, is_simple_and_free}}
+use Rattle.command_line.{specs.{Words.pciguest_app, Usage.{has_no_fault, is_free}}, proofs.{Refused.told_fault, Values.simple}}
 use Rattle.command_line.proofs.usage.has_no_fault.Goals as goal
 
 pub returns-in-Ok-try_get_matches_from-clause-taken : goal.returns-in-Ok-try_get_matches_from-clause-taken

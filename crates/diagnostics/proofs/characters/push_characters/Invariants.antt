@@ -1,5 +1,4 @@
-use Rattle.std.proofs.Common.{◌≡◌, ◌++◌, drop, string_bytes}
-use Rattle.std.specs.List.{flat_map}
+use Rattle.std.{proofs.Common.{◌≡◌, ◌++◌, drop, string_bytes}, specs.List.flat_map}
 use Rattle.diagnostics.specs.Characters.{character}
 use Rattle.diagnostics.proofs.characters.push_characters.Given as goal
 

@@ -1,5 +1,4 @@
-use Rattle.std.proofs.Common.{◌≡◌, ◌++◌, drop, string_bytes}
-use Rattle.std.specs.List.{flat_map}
+use Rattle.std.{proofs.Common.{◌≡◌, ◌++◌, drop, string_bytes}, specs.List.flat_map}
 use Rattle.diagnostics.specs.Characters.{mark}
 use Rattle.diagnostics.proofs.characters.push_each_mark.Given as goal
 

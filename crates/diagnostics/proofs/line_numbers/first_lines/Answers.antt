@@ -1,7 +1,5 @@
-use Rattle.std.proofs.Common.{arith}
-use Rattle.std.proofs.lemmas.Grind.{common_steps}
-use Rattle.diagnostics.proofs.InOrder.{front_at, from_earlier}
-use Rattle.diagnostics.proofs.LaterLines.{later_line, one_more_line}
+use Rattle.std.proofs.{Common.arith, lemmas.Grind.common_steps}
+use Rattle.diagnostics.proofs.{InOrder.{front_at, from_earlier}, LaterLines.{later_line, one_more_line}}
 use Rattle.diagnostics.proofs.line_numbers.first_lines.Goals as goal
 
 pub slice_bounds-line_feeds-end : goal.slice_bounds-line_feeds-end

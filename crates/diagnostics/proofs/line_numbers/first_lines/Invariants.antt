@@ -1,6 +1,5 @@
 use Rattle.std.proofs.Common.{◌≡◌, ◌≤◌, drop, take, map, length, true}
-use Rattle.diagnostics.specs.LineNumbers.{line_of, first_line}
-use Rattle.diagnostics.specs.Marks.{are_in_order}
+use Rattle.diagnostics.specs.{LineNumbers.{line_of, first_line}, Marks.are_in_order}
 use Rattle.diagnostics.proofs.line_numbers.first_lines.Given as goal
 
 abbrev pub invariant-places : goal.invariant-places

@@ -1,6 +1,4 @@
-use Rattle.std.proofs.Common.{◌≡◌, Ok, arith}
-use Rattle.std.proofs.lemmas.Grind.{common_steps}
-use Rattle.std.proofs.lemmas.Str.Pattern.{strip_prefix_char}
+use Rattle.std.proofs.{Common.{◌≡◌, Ok, arith}, lemmas.{Grind.common_steps, Str.Pattern.strip_prefix_char}}
 use Rattle.diagnostics.proofs.MarkTexts.{begins, read_back}
 use Rattle.diagnostics.proofs.marking.start_of.Goals as goal
 

@@ -1,6 +1,4 @@
-use Rattle.std.proofs.Common.{arith}
-use Rattle.std.proofs.lemmas.Grind.{common_steps}
-use Rattle.std.proofs.lemmas.List.{drop_more}
+use Rattle.std.proofs.{Common.arith, lemmas.{Grind.common_steps, List.drop_more}}
 use Rattle.diagnostics.proofs.InOrder.{front_at, one_more}
 use Rattle.diagnostics.proofs.marking.with_marks.Goals as goal
 

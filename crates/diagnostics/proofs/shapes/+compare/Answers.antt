@@ -1,5 +1,4 @@
-use Rattle.std.proofs.Common.{arith}
-use Rattle.std.proofs.lemmas.Grind.{common_steps}
+use Rattle.std.proofs.{Common.arith, lemmas.Grind.common_steps}
 use Rattle.diagnostics.proofs.Items.{other_lengths, from_item}
 use Rattle.diagnostics.proofs.shapes.+compare.Goals as goal
 

@@ -1,7 +1,6 @@
 use Rattle.std.proofs.Common.{◌≡◌, ◌++◌, map, drop}
 use Rattle.bars.specs.Kinds.{named_space}
-use Rattle.findings.specs.WhyByRows.{told_from}
-use Rattle.findings.specs.WhyTold.{region_told}
+use Rattle.findings.specs.{WhyByRows.told_from, WhyTold.region_told}
 use Rattle.findings.proofs.address_why.all_told.Given as goal
 
 abbrev pub invariant-loop-one : goal.invariant-loop-one

@@ -1,12 +1,9 @@
-use Rattle.std.proofs.Common.{◌≡◌, ◌++◌, List, map, ap, sym, subst, ◌∙◌}
-use Rattle.std.specs.Prelude.{OnOk}
+use Rattle.std.{proofs.Common.{◌≡◌, ◌++◌, List, map, ap, sym, subst, ◌∙◌}, specs.Prelude.OnOk}
 use Rattle.model_board.specs.Routing.{RoutingRow, regions}
 use Rattle.model_set_up.specs.PlacedRegions.{PlacedRegion}
 use Rattle.model_findings.specs.Agents.{Agent, region_agent}
 use Rattle.bridge_forward.specs.RoutingRows.{base_of, named_ranges}
-use Rattle.findings.specs.Regions.{regions_of}
-use Rattle.findings.specs.declared.regions.Sort.TheVariants.{Open}
-use Rattle.findings.proofs.Sorts.{agents_are}
+use Rattle.findings.{specs.{Regions.regions_of, declared.regions.Sort.TheVariants.Open}, proofs.Sorts.agents_are}
 use Rattle.findings.proofs.agents.add_agents.Goals as goal
 
 pub returns-in_ok-add_regions-in-Regions : goal.returns-in_ok-add_regions-in-Regions

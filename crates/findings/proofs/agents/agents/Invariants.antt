@@ -1,5 +1,4 @@
-use Rattle.std.proofs.Common.{◌≡◌, ◌++◌, drop}
-use Rattle.std.specs.Prelude.{flat_map}
+use Rattle.std.{proofs.Common.{◌≡◌, ◌++◌, drop}, specs.Prelude.flat_map}
 use Rattle.model_findings.specs.Agents.{agents_of}
 use Rattle.findings.proofs.agents.agents.Given as goal
 

@@ -1,5 +1,4 @@
-use Rattle.std.proofs.Common.{arith}
-use Rattle.std.proofs.lemmas.Grind.{common_steps}
+use Rattle.std.proofs.{Common.arith, lemmas.Grind.common_steps}
 use Rattle.findings.proofs.Blames.{forwarding}
 use Rattle.findings.proofs.audit.routing_problems.Goals as goal
 

@@ -1,13 +1,7 @@
-use Rattle.std.proofs.Common.{◌≡◌, ◌++◌, List, map, ap, subst, ◌∙◌}
-use Rattle.std.specs.Prelude.{OnOk, filter, flat_map}
-use Rattle.model_board.specs.Paths.{leads_to}
-use Rattle.model_board.specs.Routing.{RoutingRow}
+use Rattle.std.{proofs.Common.{◌≡◌, ◌++◌, List, map, ap, subst, ◌∙◌}, specs.Prelude.{OnOk, filter, flat_map}}
+use Rattle.model_board.specs.{Paths.leads_to, Routing.RoutingRow}
 use Rattle.model_set_up.specs.PlacedRegions.{PlacedRegion}
-use Rattle.findings.specs.Regions.{regions_of}
-use Rattle.findings.specs.Blames.{blames_of}
-use Rattle.findings.specs.declared.regions.Sort.{Sort}
-use Rattle.findings.specs.declared.blame.Blame.{Blame}
-use Rattle.findings.proofs.Above.{function_blames}
+use Rattle.findings.{specs.{Regions.regions_of, Blames.blames_of, declared.{regions.Sort.Sort, blame.Blame.Blame}}, proofs.Above.function_blames}
 use Rattle.findings.proofs.blame.add_function.Goals as goal
 
 pub returns : goal.returns

@@ -1,10 +1,7 @@
-use Rattle.std.proofs.Common.{◌++◌, ap, sym, ◌∙◌}
-use Rattle.std.specs.Prelude.{flat_map}
-use Rattle.std.proofs.lemmas.List.{append-nil, at_drop_all}
+use Rattle.std.{proofs.{Common.{◌++◌, ap, sym, ◌∙◌}, lemmas.List.{append-nil, at_drop_all}}, specs.Prelude.flat_map}
 use Rattle.lists.proofs.Members.{flat_map_flat}
 use Rattle.model_board.specs.Routing.{RoutingRow}
-use Rattle.findings.specs.Regions.{regions_of}
-use Rattle.findings.specs.Blames.{sort_blamed, blames_of}
+use Rattle.findings.specs.{Regions.regions_of, Blames.{sort_blamed, blames_of}}
 use Rattle.findings.proofs.blame.all_blames.Goals as goal
 
 pub returns : goal.returns

@@ -1,7 +1,5 @@
-use Rattle.std.proofs.Common.{◌≡◌, ◌++◌, drop}
-use Rattle.std.specs.Prelude.{flat_map}
-use Rattle.findings.specs.Regions.{regions_of}
-use Rattle.findings.specs.Blames.{sort_blamed, blames_of}
+use Rattle.std.{proofs.Common.{◌≡◌, ◌++◌, drop}, specs.Prelude.flat_map}
+use Rattle.findings.specs.{Regions.regions_of, Blames.{sort_blamed, blames_of}}
 use Rattle.findings.proofs.blame.all_blames.Given as goal
 
 abbrev pub invariant-loop-row : goal.invariant-loop-row

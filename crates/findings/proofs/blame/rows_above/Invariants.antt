@@ -1,5 +1,4 @@
-use Rattle.std.proofs.Common.{◌≡◌, ◌++◌, map, drop}
-use Rattle.std.specs.Prelude.{filter}
+use Rattle.std.{proofs.Common.{◌≡◌, ◌++◌, map, drop}, specs.Prelude.filter}
 use Rattle.model_board.specs.Paths.{leads_to}
 use Rattle.findings.proofs.blame.rows_above.Given as goal
 

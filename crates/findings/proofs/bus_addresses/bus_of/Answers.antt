@@ -1,7 +1,5 @@
-use Rattle.std.proofs.Common.{ap, sym, ◌∙◌}
-use Rattle.std.specs.Prelude.{find, unwrap_or}
-use Rattle.model_board.specs.Paths.{Path, path_eq}
-use Rattle.model_board.specs.State.{BoardFunction}
+use Rattle.std.{proofs.Common.{ap, sym, ◌∙◌}, specs.Prelude.{find, unwrap_or}}
+use Rattle.model_board.specs.{Paths.{Path, path_eq}, State.BoardFunction}
 use Rattle.findings.proofs.AddressBuses.{number_by_index, number_of_none}
 use Rattle.findings.proofs.bus_addresses.bus_of.Goals as goal
 

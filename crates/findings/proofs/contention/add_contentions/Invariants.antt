@@ -1,5 +1,4 @@
-use Rattle.std.proofs.Common.{◌≡◌, ◌++◌, map, drop}
-use Rattle.std.specs.Prelude.{flat_map}
+use Rattle.std.{proofs.Common.{◌≡◌, ◌++◌, map, drop}, specs.Prelude.flat_map}
 use Rattle.model_findings.specs.Problems.{contention}
 use Rattle.findings.specs.Findings.{problem_of}
 use Rattle.findings.proofs.contention.add_contentions.Given as goal

@@ -1,11 +1,7 @@
-use Rattle.std.proofs.Common.{◌≡◌, ◌≤◌, ◌++◌, cond, [], ◌∷◌, length, unwrap_or, sym, ap, ◌∙◌, append-nil, arith}
-use Rattle.std.proofs.lemmas.List.{at_drop_all}
-use Rattle.std.specs.Option.{option_to_list}
+use Rattle.std.{proofs.{Common.{◌≡◌, ◌≤◌, ◌++◌, cond, [], ◌∷◌, length, unwrap_or, sym, ap, ◌∙◌, append-nil, arith}, lemmas.List.at_drop_all}, specs.Option.option_to_list}
 use Rattle.model_board.specs.State.{BoardFunction}
-use Rattle.findings.specs.WhyOnWay.{is_taker, paths_taking}
-use Rattle.findings.proofs.StoppedFrom.{next_one, selected_is}
+use Rattle.findings.{specs.WhyOnWay.{is_taker, paths_taking}, proofs.{StoppedFrom.{next_one, selected_is}, cycle_way.add_takers.Goals.{in-Some+in_ok-push, in_default}}}
 use Rattle.findings.proofs.cycle_way.add_takers.Goals as goal
-use Rattle.findings.proofs.cycle_way.add_takers.Goals.{in-Some+in_ok-push, in_default}
 
 pub loop-index-preserved : goal.loop-index-preserved
 loop-index-preserved c =

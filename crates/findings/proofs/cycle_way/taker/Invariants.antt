@@ -1,5 +1,4 @@
-use Rattle.std.proofs.Common.{◌≡◌, drop, [], unwrap_or}
-use Rattle.std.specs.Prelude.{find}
+use Rattle.std.{proofs.Common.{◌≡◌, drop, [], unwrap_or}, specs.Prelude.find}
 use Rattle.findings.specs.WhyOnWay.{is_taker}
 use Rattle.findings.proofs.cycle_way.taker.Given as goal
 

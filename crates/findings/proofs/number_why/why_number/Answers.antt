@@ -1,8 +1,7 @@
 use Rattle.std.proofs.Common.{ap, ◌∙◌}
 use Rattle.model_board.specs.Routing.{routing}
 use Rattle.paths.specs.BusAddresses.{bus_address_of}
-use Rattle.findings.specs.WhyOnWay.{missing_by, unfound}
-use Rattle.findings.proofs.BridgesOnWay.{number_is}
+use Rattle.findings.{specs.WhyOnWay.{missing_by, unfound}, proofs.BridgesOnWay.number_is}
 use Rattle.findings.proofs.number_why.why_number.Goals as goal
 
 pub returns-clause-told : goal.returns-clause-told

@@ -1,10 +1,6 @@
-use Rattle.std.proofs.Common.{◌++◌, map, ap, sym, ◌∙◌}
-use Rattle.std.specs.Prelude.{flat_map}
-use Rattle.std.proofs.lemmas.List.{append-nil, at_drop_all}
+use Rattle.std.{proofs.{Common.{◌++◌, map, ap, sym, ◌∙◌}, lemmas.List.{append-nil, at_drop_all}}, specs.Prelude.flat_map}
 use Rattle.model_board.specs.Routing.{RoutingRow}
-use Rattle.findings.specs.Bridges.{lost_function}
-use Rattle.findings.specs.Findings.{problem_of}
-use Rattle.findings.proofs.Numbers.{numbers_of_rows}
+use Rattle.findings.{specs.{Bridges.lost_function, Findings.problem_of}, proofs.Numbers.numbers_of_rows}
 use Rattle.findings.proofs.numbering.add_numbering.Goals as goal
 
 pub returns-clause-told : goal.returns-clause-told

@@ -1,8 +1,6 @@
-use Rattle.std.proofs.Common.{◌≡◌, ◌++◌, map, drop}
-use Rattle.std.specs.Prelude.{flat_map}
+use Rattle.std.{proofs.Common.{◌≡◌, ◌++◌, map, drop}, specs.Prelude.flat_map}
 use Rattle.model_board.specs.Routing.{RoutingRow}
-use Rattle.findings.specs.Bridges.{lost_function}
-use Rattle.findings.specs.Findings.{problem_of}
+use Rattle.findings.specs.{Bridges.lost_function, Findings.problem_of}
 use Rattle.findings.proofs.numbering.add_numbering.Given as goal
 
 abbrev pub invariant-loop-row : goal.invariant-loop-row

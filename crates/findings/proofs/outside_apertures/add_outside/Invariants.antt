@@ -1,5 +1,4 @@
-use Rattle.std.proofs.Common.{◌≡◌, ◌++◌, map, drop}
-use Rattle.std.specs.Prelude.{flat_map}
+use Rattle.std.{proofs.Common.{◌≡◌, ◌++◌, map, drop}, specs.Prelude.flat_map}
 use Rattle.model_findings.specs.Lacks.{outside_lack}
 use Rattle.findings.specs.Findings.{lack_of}
 use Rattle.findings.proofs.outside_apertures.add_outside.Given as goal

@@ -1,7 +1,5 @@
 -- Each text is that of its number: the digits compute.
-use Rattle.std.proofs.Common.{◌≡◌, refl, rules}
-use Rattle.std.proofs.lemmas.Bool.Decides.{nat_tests}
-use Rattle.std.specs.Fmt.{digits}
+use Rattle.std.{proofs.{Common.{◌≡◌, refl, rules}, lemmas.Bool.Decides.nat_tests}, specs.Fmt.digits}
 use Rattle.findings.proofs.path_texts.number_text.Goals as goal
 
 pub returns-in-0-clause-text : goal.returns-in-0-clause-text

@@ -1,6 +1,5 @@
 use Rattle.std.proofs.Common.{◌≡◌, ◌++◌, map, drop}
-use Rattle.findings.specs.Blames.{prefetched_lack}
-use Rattle.findings.specs.Findings.{lack_of}
+use Rattle.findings.specs.{Blames.prefetched_lack, Findings.lack_of}
 use Rattle.findings.proofs.prefetching.add_prefetched.Given as goal
 
 abbrev pub invariant-loop-blame : goal.invariant-loop-blame

@@ -1,7 +1,6 @@
 use Rattle.std.proofs.Common.{ap, ◌∙◌, arith}
-use Rattle.findings.proofs.Indexed.{told_step, none_step}
+use Rattle.findings.proofs.{Indexed.{told_step, none_step}, primaries.add_primaries.Goals.{in-Some+in_ok-push, in_default}}
 use Rattle.findings.proofs.primaries.add_primaries.Goals as goal
-use Rattle.findings.proofs.primaries.add_primaries.Goals.{in-Some+in_ok-push, in_default}
 
 pub loop-index-preserved : goal.loop-index-preserved
 loop-index-preserved c =

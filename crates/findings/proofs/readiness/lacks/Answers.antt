@@ -1,7 +1,5 @@
-use Rattle.std.proofs.Common.{arith}
-use Rattle.std.proofs.lemmas.Grind.{common_steps}
-use Rattle.findings.proofs.Blames.{prefetching}
-use Rattle.findings.proofs.Sorts.{all_open, all_closed}
+use Rattle.std.proofs.{Common.arith, lemmas.Grind.common_steps}
+use Rattle.findings.proofs.{Blames.prefetching, Sorts.{all_open, all_closed}}
 use Rattle.findings.proofs.readiness.lacks.Goals as goal
 
 pub returns : goal.returns

@@ -1,5 +1,4 @@
-use Rattle.std.proofs.Common.{◌≡◌, ◌++◌, drop}
-use Rattle.std.specs.Prelude.{filter}
+use Rattle.std.{proofs.Common.{◌≡◌, ◌++◌, drop}, specs.Prelude.filter}
 use Rattle.findings.specs.Spans.{is_crowded}
 use Rattle.findings.proofs.span.crowded_agents.Given as goal
 

@@ -1,6 +1,5 @@
 use Rattle.std.proofs.Common.{◌≡◌, ℕ, ◌+◌, ◌<◌, false, get_or}
-use Rattle.findings.specs.declared.span.Span.{Span}
-use Rattle.findings.specs.Spans.{EndsBefore, crowds}
+use Rattle.findings.specs.{declared.span.Span.Span, Spans.{EndsBefore, crowds}}
 use Rattle.findings.proofs.span.crowded_groups.Given as goal
 
 abbrev pub invariant-loop-index : goal.invariant-loop-index

@@ -1,5 +1,4 @@
-use Rattle.std.proofs.Common.{append-nil, arith}
-use Rattle.std.proofs.lemmas.List.{map-append}
+use Rattle.std.proofs.{Common.{append-nil, arith}, lemmas.List.map-append}
 use Rattle.findings.proofs.StoppedFrom.{map_reverse}
 use Rattle.findings.proofs.stopping.causes_of.Goals as goal
 

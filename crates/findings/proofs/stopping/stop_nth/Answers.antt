@@ -1,5 +1,4 @@
-use Rattle.std.proofs.Common.{arith}
-use Rattle.std.proofs.lemmas.Option.{slice_get-get_or}
+use Rattle.std.proofs.{Common.arith, lemmas.Option.slice_get-get_or}
 use Rattle.findings.proofs.WhyRows.{stop_at}
 use Rattle.findings.proofs.stopping.stop_nth.Goals as goal
 

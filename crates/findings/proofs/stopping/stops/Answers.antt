@@ -1,14 +1,9 @@
-use Rattle.std.proofs.Common.{◌≡◌, ◌++◌, map, append-nil, arith}
-use Rattle.std.specs.Prelude.{option_map}
-use Rattle.std.specs.Option.{option_to_list}
-use Rattle.std.proofs.lemmas.List.{map-append}
+use Rattle.std.{proofs.{Common.{◌≡◌, ◌++◌, map, append-nil, arith}, lemmas.List.map-append}, specs.{Prelude.option_map, Option.option_to_list}}
 use Rattle.bars.specs.Kinds.{named_space}
 use Rattle.model_board.specs.State.{BoardFunction}
 use Rattle.model_lines.specs.Why.{stop}
-use Rattle.findings.specs.WhyTold.{cause_told}
-use Rattle.findings.proofs.StoppedFrom.{next_one}
+use Rattle.findings.{specs.WhyTold.cause_told, proofs.{StoppedFrom.next_one, stopping.stops.Goals.{in-Some+in_ok-push, in_default}}}
 use Rattle.findings.proofs.stopping.stops.Goals as goal
-use Rattle.findings.proofs.stopping.stops.Goals.{in-Some+in_ok-push, in_default}
 
 pub loop-index-preserved : goal.loop-index-preserved
 loop-index-preserved c =

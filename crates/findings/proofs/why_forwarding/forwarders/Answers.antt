@@ -1,16 +1,9 @@
-use Rattle.std.proofs.Common.{◌≡◌, ◌≤◌, ◌++◌, cond, [], ◌∷◌, length, map, sym, ap, ◌∙◌, append-nil, arith}
-use Rattle.std.specs.Prelude.{option_map}
-use Rattle.std.specs.Option.{option_to_list}
-use Rattle.std.proofs.lemmas.List.{map-append, length-map, at_drop_all}
+use Rattle.std.{proofs.{Common.{◌≡◌, ◌≤◌, ◌++◌, cond, [], ◌∷◌, length, map, sym, ap, ◌∙◌, append-nil, arith}, lemmas.List.{map-append, length-map, at_drop_all}}, specs.{Prelude.option_map, Option.option_to_list}}
 use Rattle.bars.specs.Kinds.{named_space}
-use Rattle.model_board.specs.State.{BoardFunction}
-use Rattle.model_board.specs.Routing.{row_of}
-use Rattle.findings.specs.WhyByRows.{forwarders_among}
+use Rattle.model_board.specs.{State.BoardFunction, Routing.row_of}
+use Rattle.findings.{specs.{WhyByRows.forwarders_among, WhyTold.forwarder_told}, proofs.{StoppedFrom.{next_one, selected_is}, why_forwarding.forwarders.Goals.{in-Some+in_ok-push, in_default}}}
 use Rattle.model_lines.specs.Why.{forwarder, passes_on}
-use Rattle.findings.specs.WhyTold.{forwarder_told}
-use Rattle.findings.proofs.StoppedFrom.{next_one, selected_is}
 use Rattle.findings.proofs.why_forwarding.forwarders.Goals as goal
-use Rattle.findings.proofs.why_forwarding.forwarders.Goals.{in-Some+in_ok-push, in_default}
 
 pub loop-index-preserved : goal.loop-index-preserved
 loop-index-preserved c =

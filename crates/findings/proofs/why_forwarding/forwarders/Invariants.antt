@@ -1,7 +1,6 @@
 use Rattle.std.proofs.Common.{◌≡◌, ◌++◌, map, drop}
 use Rattle.bars.specs.Kinds.{named_space}
-use Rattle.findings.specs.WhyByRows.{forwarders_among}
-use Rattle.findings.specs.WhyTold.{forwarder_told}
+use Rattle.findings.specs.{WhyByRows.forwarders_among, WhyTold.forwarder_told}
 use Rattle.findings.proofs.why_forwarding.forwarders.Given as goal
 
 abbrev pub invariant-loop-index : goal.invariant-loop-index

@@ -1,9 +1,6 @@
-use Rattle.std.proofs.Common.{◌++◌, ◌∙◌, ap, codes, string_bytes}
-use Rattle.std.proofs.lemmas.Result.{IfOk-equal}
-use Rattle.model_guests.specs.PathTexts.{hexadecimal}
-use Rattle.model_guests.specs.Text.{Text}
-use Rattle.model_findings.specs.Agents.{Agent}
-use Rattle.model_findings.specs.AuditText.{agent_text, space_text}
+use Rattle.std.proofs.{Common.{◌++◌, ◌∙◌, ap, codes, string_bytes}, lemmas.Result.IfOk-equal}
+use Rattle.model_guests.specs.{PathTexts.hexadecimal, Text.Text}
+use Rattle.model_findings.specs.{Agents.Agent, AuditText.{agent_text, space_text}}
 use Rattle.findings_told.proofs.Chains.{all_right_to_left}
 use Rattle.findings_told.proofs.problem_lines.push_contended.Goals as goal
 

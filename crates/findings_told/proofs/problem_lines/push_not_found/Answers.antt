@@ -1,8 +1,5 @@
-use Rattle.std.proofs.Common.{◌++◌, ap, codes, string_bytes}
-use Rattle.std.specs.Option.{option_map_or}
-use Rattle.std.proofs.lemmas.Result.{IfOk-equal}
-use Rattle.model_guests.specs.PathTexts.{path_text}
-use Rattle.model_guests.specs.Text.{Text}
+use Rattle.std.{proofs.{Common.{◌++◌, ap, codes, string_bytes}, lemmas.Result.IfOk-equal}, specs.Option.option_map_or}
+use Rattle.model_guests.specs.{PathTexts.path_text, Text.Text}
 use Rattle.model_findings.specs.AuditText.{number_text}
 use Rattle.paths.specs.BusAddresses.{bus_address_of}
 use Rattle.findings_told.proofs.Chains.{right_to_left}

@@ -1,5 +1,4 @@
-use Rattle.std.proofs.Common.{arith}
-use Rattle.std.proofs.lemmas.Nat.{and_le_l}
+use Rattle.std.proofs.{Common.arith, lemmas.Nat.and_le_l}
 use Rattle.guest_functions.proofs.Copies.{written_in_32, command_fits}
 use Rattle.guest_functions.proofs.virtual_function.command_written.Goals as goal
 

@@ -1,7 +1,5 @@
-use Rattle.std.proofs.Common.{◌≡◌, sym, ap, subst, ◌∙◌, arith}
-use Rattle.std.proofs.lemmas.List.{take_all}
-use Rattle.model_registers.proofs.Bases.{registers_positive}
-use Rattle.model_registers.specs.Declarations.{Bar, Region, IsLawfulRegion}
+use Rattle.std.proofs.{Common.{◌≡◌, sym, ap, subst, ◌∙◌, arith}, lemmas.List.take_all}
+use Rattle.model_registers.{proofs.Bases.registers_positive, specs.Declarations.{Bar, Region, IsLawfulRegion}}
 use Rattle.headers.proofs.BaseRegisters.{each_at, next_register, opened_lawful}
 use Rattle.headers.proofs.region.base_registers.Goals as goal
 

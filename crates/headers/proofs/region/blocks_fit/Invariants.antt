@@ -1,5 +1,4 @@
-use Rattle.std.proofs.Common.{◌≡◌, Bool, List, length, leb}
-use Rattle.std.specs.List.{list_all}
+use Rattle.std.{proofs.Common.{◌≡◌, Bool, List, length, leb}, specs.List.list_all}
 use Rattle.lists.specs.Elements.{Each}
 use Rattle.model_registers.specs.Declarations.{Region, IsLawfulSize}
 use Rattle.headers.proofs.region.blocks_fit.Given as goal

@@ -1,9 +1,6 @@
 -- A word read by the enables of a number holds that number in its lanes.
-use Rattle.std.proofs.Common.{◌≡◌, ◌*◌, ◌/◌, arith}
-use Rattle.std.proofs.Math.Nat.{one-le-pow}
-use Rattle.model_registers.specs.Registers.{config, read}
-use Rattle.model_registers.specs.ByteEnables.{lanes, enables_of, enabled_bytes}
-use Rattle.model_registers.proofs.ByteAccesses.{number_from_word}
+use Rattle.std.proofs.{Common.{◌≡◌, ◌*◌, ◌/◌, arith}, Math.Nat.one-le-pow}
+use Rattle.model_registers.{specs.{Registers.{config, read}, ByteEnables.{lanes, enables_of, enabled_bytes}}, proofs.ByteAccesses.number_from_word}
 use Rattle.headers.proofs.register_words.number.Goals as goal
 
 pub returns-clause-value : goal.returns-clause-value

@@ -1,7 +1,5 @@
-use Rattle.std.proofs.Common.{◌≡◌, ◌+◌, ◌*◌, ◌≤◌, ◌++◌, length}
-use Rattle.std.specs.Prelude.{flat_map}
-use Rattle.images.specs.BoardBytes.{path_bytes}
-use Rattle.images.proofs.RowBytes.{part_bytes}
+use Rattle.std.{proofs.Common.{◌≡◌, ◌+◌, ◌*◌, ◌≤◌, ◌++◌, length}, specs.Prelude.flat_map}
+use Rattle.images.{specs.BoardBytes.path_bytes, proofs.RowBytes.part_bytes}
 use Rattle.images.proofs.board_paths.path_bytes.Given as goal
 
 -- what is left finishes what is asked

@@ -1,9 +1,7 @@
 use Rattle.std.proofs.Common.{[], ◌∷◌, ◌∙◌, arith}
 use Rattle.model_images.specs.ImageBytes.{declaration_bytes}
-use Rattle.images.specs.BoardBytes.{decl_bytes}
+use Rattle.images.{specs.BoardBytes.decl_bytes, proofs.{RowBytes.{endpoint_is, refused_as, taken_as}, Steps.{ends, goes_on}}}
 use Rattle.model_board.specs.Board.{endpoint}
-use Rattle.images.proofs.RowBytes.{endpoint_is, refused_as, taken_as}
-use Rattle.images.proofs.Steps.{ends, goes_on}
 use Rattle.images.proofs.board_rows.after_endpoint.Goals as goal
 
 pub returns-in_err-bytes-clause-refused : goal.returns-in_err-bytes-clause-refused

@@ -1,7 +1,5 @@
 use Rattle.std.proofs.Common.{arith}
-use Rattle.images.specs.BoardBytes.{decl_nth, path_bytes, row_nth}
-use Rattle.images.proofs.RowBytes.{row_there}
-use Rattle.images.proofs.Steps.{ends, goes_on}
+use Rattle.images.{specs.BoardBytes.{decl_nth, path_bytes, row_nth}, proofs.{RowBytes.row_there, Steps.{ends, goes_on}}}
 use Rattle.images.proofs.board_rows.after_row.Goals as goal
 
 pub returns-in_err-bytes-in-Some-clause-refused : goal.returns-in_err-bytes-in-Some-clause-refused

@@ -1,6 +1,5 @@
 use Rattle.std.proofs.Common.{List, ℕ, length, ap, arith, length-append}
-use Rattle.images.specs.BoardBytes.{decl_nth, path_bytes}
-use Rattle.images.proofs.RowBytes.{path_length, row_there}
+use Rattle.images.{specs.BoardBytes.{decl_nth, path_bytes}, proofs.RowBytes.{path_length, row_there}}
 use Rattle.images.proofs.board_rows.row_size.Goals as goal
 
 pub returns-in-Some-clause-size : goal.returns-in-Some-clause-size

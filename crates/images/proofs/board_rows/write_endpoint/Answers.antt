@@ -1,9 +1,7 @@
 use Rattle.std.proofs.Common.{[], ◌∷◌, List, ℕ, length, ap, ◌∙◌, arith}
 use Rattle.model_images.specs.ImageBytes.{declaration_bytes}
-use Rattle.images.specs.BoardBytes.{decl_bytes}
+use Rattle.images.{specs.BoardBytes.decl_bytes, proofs.{RowBytes.endpoint_is, Steps.next}}
 use Rattle.model_board.specs.Board.{endpoint}
-use Rattle.images.proofs.RowBytes.{endpoint_is}
-use Rattle.images.proofs.Steps.{next}
 use Rattle.images.proofs.board_rows.write_endpoint.Goals as goal
 
 pub put-next-requires : goal.put-next-requires

@@ -1,7 +1,5 @@
 use Rattle.std.proofs.Common.{List, ℕ, length, ap, ◌∙◌, arith, length-append}
-use Rattle.images.specs.BoardBytes.{decl_nth, path_bytes, row_nth}
-use Rattle.images.proofs.RowBytes.{row_there}
-use Rattle.images.proofs.Steps.{next}
+use Rattle.images.{specs.BoardBytes.{decl_nth, path_bytes, row_nth}, proofs.{RowBytes.row_there, Steps.next}}
 use Rattle.images.proofs.board_rows.write_row.Goals as goal
 
 pub put-next-requires : goal.put-next-requires

@@ -1,11 +1,7 @@
-use Rattle.std.proofs.Common.{◌≡◌, ◌++◌, false, refl, arith}
-use Rattle.std.specs.Prelude.{flat_map}
-use Rattle.model_registers.specs.BridgeTable.{bridge_header, io_cells, mem_cells, no_bridge_values, no_window, pref_cells}
-use Rattle.model_registers.specs.Registers.{File}
-use Rattle.model_registers.specs.Declarations.{Bridge}
-use Rattle.images.specs.Cells.{told}
+use Rattle.std.{proofs.Common.{◌≡◌, ◌++◌, false, refl, arith}, specs.Prelude.flat_map}
+use Rattle.model_registers.specs.{BridgeTable.{bridge_header, io_cells, mem_cells, no_bridge_values, no_window, pref_cells}, Registers.File, Declarations.Bridge}
+use Rattle.images.{specs.Cells.told, proofs.ListedCells.{in_first, in_second, in_third, in_none}}
 use Rattle.headers.specs.Rows.{row_cells}
-use Rattle.images.proofs.ListedCells.{in_first, in_second, in_third, in_none}
 use Rattle.images.proofs.cells.bridge_cell.Goals as goal
 
 abbrev head : Bridge → File

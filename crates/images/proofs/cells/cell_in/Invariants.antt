@@ -1,5 +1,4 @@
-use Rattle.std.proofs.Common.{◌≡◌, ◌+◌, length}
-use Rattle.std.specs.Prelude.{flat_map}
+use Rattle.std.{proofs.Common.{◌≡◌, ◌+◌, length}, specs.Prelude.flat_map}
 use Rattle.lists.specs.Elements.{Each}
 use Rattle.images.specs.Cells.{told_at}
 use Rattle.images.proofs.cells.cell_in.Given as goal

@@ -1,9 +1,6 @@
-use Rattle.std.proofs.Common.{◌≡◌, List, false, refl, ap, arith}
-use Rattle.std.specs.Prelude.{flat_map}
-use Rattle.model_registers.specs.Declarations.{Region, ConfigBlock}
-use Rattle.model_registers.specs.EndpointTable.{block_cells, header_cells, region_cells}
-use Rattle.images.specs.Cells.{told}
-use Rattle.images.proofs.ListedCells.{in_second, in_third, in_none}
+use Rattle.std.{proofs.Common.{◌≡◌, List, false, refl, ap, arith}, specs.Prelude.flat_map}
+use Rattle.model_registers.specs.{Declarations.{Region, ConfigBlock}, EndpointTable.{block_cells, header_cells, region_cells}}
+use Rattle.images.{specs.Cells.told, proofs.ListedCells.{in_second, in_third, in_none}}
 use Rattle.images.proofs.cells.endpoint_cell.Goals as goal
 
 pub returns-in-Ok-cell_in-clause-cell : goal.returns-in-Ok-cell_in-clause-cell

@@ -1,7 +1,5 @@
 use Rattle.std.proofs.Common.{◌∙◌, Err, ap, sym}
-use Rattle.images.specs.Faults.{number_of}
-use Rattle.images.proofs.ComparedBytes.{begins, differs, falls_short}
-use Rattle.images.proofs.comparing.after.Goals.{then-starts_with, else-starts_with}
+use Rattle.images.{specs.Faults.number_of, proofs.{ComparedBytes.{begins, differs, falls_short}, comparing.after.Goals.{then-starts_with, else-starts_with}}}
 use Rattle.images.proofs.comparing.after.Goals as goal
 
 pub returns-in-Some-clause-left : goal.returns-in-Some-clause-left

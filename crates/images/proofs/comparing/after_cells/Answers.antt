@@ -1,7 +1,5 @@
 use Rattle.std.proofs.Common.{◌∙◌, sym, arith}
-use Rattle.images.specs.Faults.{number_of}
-use Rattle.images.specs.Parts.{cell_bytes}
-use Rattle.images.proofs.ComparedBytes.{ends_of, goes_on_of}
+use Rattle.images.{specs.{Faults.number_of, Parts.cell_bytes}, proofs.ComparedBytes.{ends_of, goes_on_of}}
 use Rattle.images.proofs.comparing.after_cells.Goals as goal
 
 pub returns-in_err-bytes-clause-refused : goal.returns-in_err-bytes-clause-refused

@@ -1,5 +1,4 @@
-use Rattle.std.proofs.Common.{◌≡◌, length}
-use Rattle.std.specs.Prelude.{flat_map}
+use Rattle.std.{proofs.Common.{◌≡◌, length}, specs.Prelude.flat_map}
 use Rattle.model_images.specs.LoadedBytes.{after_bytes}
 use Rattle.images.specs.Parts.{cell_bytes}
 use Rattle.images.proofs.comparing.after_cells.Given as goal

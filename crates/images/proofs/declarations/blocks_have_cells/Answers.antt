@@ -1,7 +1,6 @@
 use Rattle.std.proofs.Common.{arith}
 use Rattle.lists.specs.Elements.{Each}
-use Rattle.model_registers.specs.Cell.{IsCell}
-use Rattle.model_registers.specs.Declarations.{ConfigBlock}
+use Rattle.model_registers.specs.{Cell.IsCell, Declarations.ConfigBlock}
 use Rattle.images.proofs.IndexedDeclarations.{each_of}
 use Rattle.images.proofs.declarations.blocks_have_cells.Goals as goal
 

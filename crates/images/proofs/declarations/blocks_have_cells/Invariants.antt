@@ -1,7 +1,6 @@
 use Rattle.std.proofs.Common.{length}
 use Rattle.lists.specs.Elements.{Each}
-use Rattle.model_registers.specs.Cell.{IsCell}
-use Rattle.model_registers.specs.Declarations.{ConfigBlock}
+use Rattle.model_registers.specs.{Cell.IsCell, Declarations.ConfigBlock}
 use Rattle.images.proofs.declarations.blocks_have_cells.Given as goal
 
 abbrev pub invariant-loop-block : goal.invariant-loop-block

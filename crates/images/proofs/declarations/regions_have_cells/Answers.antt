@@ -1,7 +1,6 @@
 use Rattle.std.proofs.Common.{arith}
 use Rattle.lists.specs.Elements.{Each}
-use Rattle.model_registers.specs.Cell.{IsCell}
-use Rattle.model_registers.specs.Declarations.{Region}
+use Rattle.model_registers.specs.{Cell.IsCell, Declarations.Region}
 use Rattle.images.proofs.IndexedDeclarations.{each_of}
 use Rattle.images.proofs.declarations.regions_have_cells.Goals as goal
 

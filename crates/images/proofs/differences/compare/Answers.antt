@@ -1,8 +1,6 @@
 use Rattle.std.proofs.Common.{◌∙◌, List, ℕ, sym, ap, take}
-use Rattle.model_images.specs.LoadedBytes.{after_bytes}
-use Rattle.model_images.specs.Differences.{after_comparison, difference}
-use Rattle.images.specs.Differences.{field_of}
-use Rattle.images.proofs.ComparedFields.{front_of_number}
+use Rattle.model_images.specs.{LoadedBytes.after_bytes, Differences.{after_comparison, difference}}
+use Rattle.images.{specs.Differences.field_of, proofs.ComparedFields.front_of_number}
 use Rattle.images.proofs.differences.compare.Goals as goal
 
 pub returns-in-Ok : goal.returns-in-Ok

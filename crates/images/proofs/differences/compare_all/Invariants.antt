@@ -1,5 +1,4 @@
-use Rattle.std.proofs.Common.{◌≡◌, length}
-use Rattle.std.specs.Prelude.{map}
+use Rattle.std.{proofs.Common.{◌≡◌, length}, specs.Prelude.map}
 use Rattle.lists.specs.Elements.{Each}
 use Rattle.model_images.specs.Differences.{after_fields}
 use Rattle.images.specs.Differences.{IsNarrow, compared_of, field_of}

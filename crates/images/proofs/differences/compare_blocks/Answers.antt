@@ -1,7 +1,6 @@
 use Rattle.std.proofs.Common.{◌∙◌, arith}
 use Rattle.model_images.specs.Differences.{block_fields}
-use Rattle.images.specs.Differences.{compared_of}
-use Rattle.images.proofs.ComparedFields.{goes_on}
+use Rattle.images.{specs.Differences.compared_of, proofs.ComparedFields.goes_on}
 use Rattle.images.proofs.differences.compare_blocks.Goals as goal
 
 pub loop-block-preserved : goal.loop-block-preserved

@@ -1,5 +1,4 @@
-use Rattle.std.proofs.Common.{◌≡◌, length}
-use Rattle.std.specs.Prelude.{flat_map}
+use Rattle.std.{proofs.Common.{◌≡◌, length}, specs.Prelude.flat_map}
 use Rattle.model_images.specs.Differences.{after_fields, block_fields}
 use Rattle.images.specs.Differences.{compared_of}
 use Rattle.images.proofs.differences.compare_blocks.Given as goal

@@ -1,6 +1,5 @@
 use Rattle.std.proofs.Common.{arith}
-use Rattle.images.specs.Differences.{compared_of}
-use Rattle.images.proofs.ComparedFields.{all_fields}
+use Rattle.images.{specs.Differences.compared_of, proofs.ComparedFields.all_fields}
 use Rattle.images.proofs.differences.compare_endpoint.Goals as goal
 
 pub returns : goal.returns

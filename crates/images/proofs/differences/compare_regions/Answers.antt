@@ -1,7 +1,6 @@
 use Rattle.std.proofs.Common.{◌∙◌, arith}
 use Rattle.model_images.specs.Differences.{region_fields}
-use Rattle.images.specs.Differences.{compared_of}
-use Rattle.images.proofs.ComparedFields.{goes_on}
+use Rattle.images.{specs.Differences.compared_of, proofs.ComparedFields.goes_on}
 use Rattle.images.proofs.differences.compare_regions.Goals as goal
 
 pub loop-region-preserved : goal.loop-region-preserved

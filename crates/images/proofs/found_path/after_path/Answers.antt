@@ -1,8 +1,6 @@
-use Rattle.std.proofs.Common.{◌≡◌, ◌*◌, ◌≤◌, ◌∷◌, ◌∙◌, ℕ, List, Some, length, take, drop, sym, ap, arith}
-use Rattle.std.proofs.lemmas.List.{take_rest}
+use Rattle.std.proofs.{Common.{◌≡◌, ◌*◌, ◌≤◌, ◌∷◌, ◌∙◌, ℕ, List, Some, length, take, drop, sym, ap, arith}, lemmas.List.take_rest}
 use Rattle.model_images.specs.Layouts.{parsed}
-use Rattle.images.specs.FoundPaths.{parts_in}
-use Rattle.images.proofs.FoundParts.{are_bytes, path_missing, path_read}
+use Rattle.images.{specs.FoundPaths.parts_in, proofs.FoundParts.{are_bytes, path_missing, path_read}}
 use Rattle.images.proofs.found_path.after_path.Goals as goal
 
 pub returns-then-rest-size-clause-refused : goal.returns-then-rest-size-clause-refused

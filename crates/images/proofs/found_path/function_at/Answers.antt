@@ -1,6 +1,5 @@
 use Rattle.std.proofs.Common.{arith}
-use Rattle.images.specs.FoundPaths.{parts_in}
-use Rattle.images.proofs.FoundParts.{absent}
+use Rattle.images.{specs.FoundPaths.parts_in, proofs.FoundParts.absent}
 use Rattle.images.proofs.found_path.function_at.Goals as goal
 
 pub returns-in_err-path-clause-function : goal.returns-in_err-path-clause-function

@@ -1,6 +1,5 @@
 use Rattle.std.proofs.Common.{arith}
-use Rattle.images.proofs.FoundParts.{parts_at, within}
-use Rattle.images.proofs.found_path.part_at.Goals.{else-device-lt16-via-else-device-lt16}
+use Rattle.images.proofs.{FoundParts.{parts_at, within}, found_path.part_at.Goals.else-device-lt16-via-else-device-lt16}
 use Rattle.images.proofs.found_path.part_at.Goals as goal
 
 pub returns-then-function-lt8-clause-part : goal.returns-then-function-lt8-clause-part

@@ -1,10 +1,6 @@
-use Rattle.std.proofs.Common.{◌∙◌, [], ◌∷◌, ◌++◌, length, ap, arith, length-append}
-use Rattle.std.proofs.lemmas.List.{take_all}
+use Rattle.std.proofs.{Common.{◌∙◌, [], ◌∷◌, ◌++◌, length, ap, arith, length-append}, lemmas.List.take_all}
 use Rattle.model_board.specs.Paths.{Path}
-use Rattle.images.specs.FoundPaths.{parts_in}
-use Rattle.images.proofs.FoundParts.{parts_count}
-use Rattle.images.proofs.IndexedBytes.{take_next}
-use Rattle.images.proofs.found_path.path_of.Goals.{then-count-eq0-via-then-count-eq0}
+use Rattle.images.{specs.FoundPaths.parts_in, proofs.{FoundParts.parts_count, IndexedBytes.take_next, found_path.path_of.Goals.then-count-eq0-via-then-count-eq0}}
 use Rattle.images.proofs.found_path.path_of.Goals as goal
 
 pub returns-then-count-eq0-clause-none : goal.returns-then-count-eq0-clause-none

@@ -1,6 +1,5 @@
 use Rattle.std.proofs.Common.{arith}
-use Rattle.model_registers.specs.Registers.{config}
-use Rattle.model_registers.proofs.ByteAccesses.{number_by_lanes}
+use Rattle.model_registers.{specs.Registers.config, proofs.ByteAccesses.number_by_lanes}
 use Rattle.images.specs.Shown.{shown_byte, source}
 use Rattle.images.proofs.function_bytes.config_byte.Goals as goal
 

@@ -1,11 +1,7 @@
-use Rattle.std.proofs.Common.{◌≡◌, ◌∙◌, Ok, Err, sym, ap, subst, arith, rules}
-use Rattle.std.specs.Prelude.{IfErr, IfOk, false}
-use Rattle.model_registers.specs.Declarations.{Endpoint}
-use Rattle.model_registers.specs.EndpointTable.{endpoint_reset}
-use Rattle.model_images.specs.ImageBytes.{declaration_bytes}
-use Rattle.model_images.specs.LoadedBytes.{Left, after_bytes, after_values}
-use Rattle.images.specs.Faults.{number_of}
-use Rattle.images.proofs.ComparedFunctions.{declaration_ends, tag_ends, values_decide}
+use Rattle.std.{proofs.Common.{◌≡◌, ◌∙◌, Ok, Err, sym, ap, subst, arith, rules}, specs.Prelude.{IfErr, IfOk, false}}
+use Rattle.model_registers.specs.{Declarations.Endpoint, EndpointTable.endpoint_reset}
+use Rattle.model_images.specs.{ImageBytes.declaration_bytes, LoadedBytes.{Left, after_bytes, after_values}}
+use Rattle.images.{specs.Faults.number_of, proofs.ComparedFunctions.{declaration_ends, tag_ends, values_decide}}
 use Rattle.images.proofs.function_comparing.after_function.Goals as goal
 
 pub returns-in_err-bytes-clause-refused : goal.returns-in_err-bytes-clause-refused

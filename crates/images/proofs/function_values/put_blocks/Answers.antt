@@ -1,6 +1,5 @@
 use Rattle.std.proofs.Common.{◌∙◌, refl, arith}
-use Rattle.images.proofs.Puts.{next_of}
-use Rattle.images.specs.Shown.{block_values}
+use Rattle.images.{proofs.Puts.next_of, specs.Shown.block_values}
 use Rattle.images.proofs.function_values.put_blocks.Goals as goal
 
 pub loop-block-preserved : goal.loop-block-preserved

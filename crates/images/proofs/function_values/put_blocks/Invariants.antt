@@ -1,9 +1,7 @@
-use Rattle.std.proofs.Common.{◌≡◌, ◌≤◌, ◌+◌, length}
-use Rattle.std.specs.Prelude.{flat_map}
+use Rattle.std.{proofs.Common.{◌≡◌, ◌≤◌, ◌+◌, length}, specs.Prelude.flat_map}
 use Rattle.lists.specs.Elements.{Each}
 use Rattle.model_registers.specs.DeclarationRules.{IsConfigBlock}
-use Rattle.images.specs.Puts.{put}
-use Rattle.images.specs.Shown.{block_values}
+use Rattle.images.specs.{Puts.put, Shown.block_values}
 use Rattle.images.proofs.function_values.put_blocks.Given as goal
 
 -- what is left finishes what is asked

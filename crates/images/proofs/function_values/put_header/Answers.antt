@@ -1,8 +1,6 @@
 use Rattle.std.proofs.Common.{◌++◌, ◌∙◌, List, ℕ, arith}
 use Rattle.model_registers.specs.Registers.{config}
-use Rattle.images.proofs.Puts.{next}
-use Rattle.images.specs.Shown.{bytes_from}
-use Rattle.images.proofs.Runs.{header_length, run_length}
+use Rattle.images.{proofs.{Puts.next, Runs.{header_length, run_length}}, specs.Shown.bytes_from}
 use Rattle.images.proofs.function_values.put_header.Goals as goal
 
 pub returns-clause-bytes : goal.returns-clause-bytes

@@ -1,12 +1,7 @@
 use Rattle.std.proofs.Common.{◌≡◌, ◌+◌, ◌*◌, ◌∙◌, List, ℕ, length, ap₂, arith}
-use Rattle.model_registers.specs.Registers.{config, block}
-use Rattle.model_registers.specs.Declarations.{registers_of}
-use Rattle.model_registers.specs.EndpointTable.{base_register}
+use Rattle.model_registers.specs.{Registers.{config, block}, Declarations.registers_of, EndpointTable.base_register}
 use Rattle.bars.specs.Kinds.{kind_of}
-use Rattle.images.specs.Puts.{put}
-use Rattle.images.proofs.Puts.{next}
-use Rattle.images.specs.Shown.{bytes_from}
-use Rattle.images.proofs.Runs.{region_length, run_length}
+use Rattle.images.{specs.{Puts.put, Shown.bytes_from}, proofs.{Puts.next, Runs.{region_length, run_length}}}
 use Rattle.images.proofs.function_values.put_region.Goals as goal
 
 pub put_run-next-requires-clause-room : goal.put_run-next-requires-clause-room

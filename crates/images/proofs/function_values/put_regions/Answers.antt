@@ -1,6 +1,5 @@
 use Rattle.std.proofs.Common.{◌∙◌, refl, arith}
-use Rattle.images.proofs.Puts.{next_of}
-use Rattle.images.specs.Shown.{region_values}
+use Rattle.images.{proofs.Puts.next_of, specs.Shown.region_values}
 use Rattle.images.proofs.function_values.put_regions.Goals as goal
 
 pub loop-region-preserved : goal.loop-region-preserved

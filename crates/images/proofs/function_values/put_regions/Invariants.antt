@@ -1,9 +1,7 @@
-use Rattle.std.proofs.Common.{◌≡◌, ◌≤◌, ◌+◌, length}
-use Rattle.std.specs.Prelude.{flat_map}
+use Rattle.std.{proofs.Common.{◌≡◌, ◌≤◌, ◌+◌, length}, specs.Prelude.flat_map}
 use Rattle.lists.specs.Elements.{Each}
 use Rattle.model_registers.specs.Declarations.{IsLawfulRegion}
-use Rattle.images.specs.Puts.{put}
-use Rattle.images.specs.Shown.{region_values}
+use Rattle.images.specs.{Puts.put, Shown.region_values}
 use Rattle.images.proofs.function_values.put_regions.Given as goal
 
 -- what is left finishes what is asked

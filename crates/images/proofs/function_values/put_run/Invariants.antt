@@ -1,8 +1,6 @@
 use Rattle.std.proofs.Common.{◌≡◌, ◌≤◌, ◌<◌, ◌+◌, ◌^◌, length}
-use Rattle.headers.specs.declared.place.Place.TheVariants.{Cfg}
-use Rattle.headers.specs.Places.{place_of}
-use Rattle.images.specs.Puts.{put}
-use Rattle.images.specs.Shown.{bytes_from}
+use Rattle.headers.specs.{declared.place.Place.TheVariants.Cfg, Places.place_of}
+use Rattle.images.specs.{Puts.put, Shown.bytes_from}
 use Rattle.images.proofs.function_values.put_run.Given as goal
 
 -- what is left finishes what is asked

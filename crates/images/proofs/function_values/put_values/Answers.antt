@@ -1,9 +1,5 @@
-use Rattle.std.proofs.Common.{◌≡◌, ◌+◌, ◌++◌, ◌∙◌, List, ℕ, length, arith}
-use Rattle.std.specs.Prelude.{flat_map}
-use Rattle.images.specs.Puts.{put}
-use Rattle.images.proofs.Puts.{next}
-use Rattle.images.specs.Shown.{block_values, header_values, region_values}
-use Rattle.images.proofs.Runs.{header_length, values_length}
+use Rattle.std.{proofs.Common.{◌≡◌, ◌+◌, ◌++◌, ◌∙◌, List, ℕ, length, arith}, specs.Prelude.flat_map}
+use Rattle.images.{specs.{Puts.put, Shown.{block_values, header_values, region_values}}, proofs.{Puts.next, Runs.{header_length, values_length}}}
 use Rattle.images.proofs.function_values.put_values.Goals as goal
 
 pub put_header-next-requires : goal.put_header-next-requires

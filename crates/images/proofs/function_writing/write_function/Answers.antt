@@ -1,10 +1,7 @@
 use Rattle.std.proofs.Common.{◌≡◌, ◌+◌, ◌≤◌, ◌∙◌, List, ℕ, length, ap, sym, subst, arith}
 use Rattle.model_registers.specs.Declarations.{Endpoint}
 use Rattle.model_images.specs.ImageBytes.{declaration_bytes}
-use Rattle.images.specs.Puts.{put}
-use Rattle.images.proofs.Puts.{next}
-use Rattle.images.specs.Shown.{shown_values}
-use Rattle.images.proofs.ShownValues.{function_is, length_is}
+use Rattle.images.{specs.{Puts.put, Shown.shown_values}, proofs.{Puts.next, ShownValues.{function_is, length_is}}}
 use Rattle.images.proofs.function_writing.write_function.Goals as goal
 
 pub write_declaration-next-requires : goal.write_declaration-next-requires

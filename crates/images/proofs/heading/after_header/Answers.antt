@@ -1,10 +1,6 @@
-use Rattle.std.proofs.Common.{◌≡◌, Ok, Err, sym, ap, subst}
-use Rattle.std.specs.Prelude.{IfErr, IfOk}
-use Rattle.model_images.specs.ImageBytes.{magic, version}
-use Rattle.model_images.specs.Layouts.{le_bytes}
-use Rattle.model_images.specs.LoadedBytes.{after_version, then_read}
-use Rattle.images.specs.Faults.{number_of}
-use Rattle.images.proofs.ComparedBytes.{begins, no_beginning}
+use Rattle.std.{proofs.Common.{◌≡◌, Ok, Err, sym, ap, subst}, specs.Prelude.{IfErr, IfOk}}
+use Rattle.model_images.specs.{ImageBytes.{magic, version}, Layouts.le_bytes, LoadedBytes.{after_version, then_read}}
+use Rattle.images.{specs.Faults.number_of, proofs.ComparedBytes.{begins, no_beginning}}
 use Rattle.images.proofs.heading.after_header.Goals as goal
 
 pub returns-in-Some-clause-left : goal.returns-in-Some-clause-left

@@ -1,7 +1,5 @@
-use Rattle.std.proofs.Common.{arith}
-use Rattle.std.proofs.lemmas.List.{drop_all}
-use Rattle.images.proofs.IndexedBytes.{drop_next}
-use Rattle.images.proofs.Steps.{ends, goes_on}
+use Rattle.std.proofs.{Common.arith, lemmas.List.drop_all}
+use Rattle.images.proofs.{IndexedBytes.drop_next, Steps.{ends, goes_on}}
 use Rattle.images.proofs.held_cells.after_held.Goals as goal
 
 pub returns-in_err-bytes-clause-refused : goal.returns-in_err-bytes-clause-refused

@@ -1,8 +1,6 @@
-use Rattle.std.proofs.Common.{◌≡◌, false, true, sym, ap, ◌∙◌, arith}
-use Rattle.std.specs.Prelude.{option_map}
+use Rattle.std.{proofs.Common.{◌≡◌, false, true, sym, ap, ◌∙◌, arith}, specs.Prelude.option_map}
 use Rattle.model_registers.specs.BridgeTable.{bridge_reset}
-use Rattle.images.specs.Cells.{cell_place, told}
-use Rattle.images.proofs.HeldCells.{bridge_held, config_place, is_config, not_past}
+use Rattle.images.{specs.Cells.{cell_place, told}, proofs.HeldCells.{bridge_held, config_place, is_config, not_past}}
 use Rattle.images.proofs.held_cells.bridge_byte.Goals as goal
 
 pub unreachable-requires : goal.unreachable-requires

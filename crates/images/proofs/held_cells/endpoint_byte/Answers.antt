@@ -1,10 +1,6 @@
-use Rattle.std.proofs.Common.{false, Some, sym, ap, ◌∙◌, subst, arith}
-use Rattle.std.specs.Prelude.{option_map}
-use Rattle.model_registers.specs.Declarations.{Endpoint}
-use Rattle.model_registers.specs.DeclarationRules.{IsLawfulEndpoint}
-use Rattle.model_registers.specs.EndpointTable.{endpoint_reset}
-use Rattle.images.specs.Cells.{cell_place, told, told_at}
-use Rattle.images.proofs.HeldCells.{endpoint_held, not_past}
+use Rattle.std.{proofs.Common.{false, Some, sym, ap, ◌∙◌, subst, arith}, specs.Prelude.option_map}
+use Rattle.model_registers.specs.{Declarations.Endpoint, DeclarationRules.IsLawfulEndpoint, EndpointTable.endpoint_reset}
+use Rattle.images.{specs.Cells.{cell_place, told, told_at}, proofs.HeldCells.{endpoint_held, not_past}}
 use Rattle.images.proofs.held_cells.endpoint_byte.Goals as goal
 
 pub unreachable-requires : goal.unreachable-requires

@@ -1,6 +1,5 @@
 use Rattle.std.proofs.Common.{◌≡◌, ◌+◌, take}
-use Rattle.images.specs.BoardBytes.{held_nth}
-use Rattle.images.specs.Puts.{put}
+use Rattle.images.specs.{BoardBytes.held_nth, Puts.put}
 use Rattle.images.proofs.held_cells.write_held.Given as goal
 
 abbrev pub invariant-loop-nth : goal.invariant-loop-nth

@@ -1,8 +1,6 @@
-use Rattle.std.proofs.Common.{◌≡◌, ◌+◌, ◌*◌, ◌≤◌, length}
-use Rattle.std.specs.Prelude.{flat_map}
+use Rattle.std.{proofs.Common.{◌≡◌, ◌+◌, ◌*◌, ◌≤◌, length}, specs.Prelude.flat_map}
 use Rattle.lists.specs.Elements.{Each}
-use Rattle.model_registers.specs.DeclarationRules.{IsConfigBlock}
-use Rattle.model_registers.specs.EndpointTable.{block_cells}
+use Rattle.model_registers.specs.{DeclarationRules.IsConfigBlock, EndpointTable.block_cells}
 use Rattle.images.proofs.sizes.blocks_cells.Given as goal
 
 abbrev pub invariant-loop-block : goal.invariant-loop-block

@@ -1,6 +1,5 @@
 use Rattle.std.proofs.Common.{arith}
-use Rattle.images.specs.Parts.{block_bytes}
-use Rattle.images.proofs.Lengths.{first_length, block_length}
+use Rattle.images.{specs.Parts.block_bytes, proofs.Lengths.{first_length, block_length}}
 use Rattle.images.proofs.sizes.blocks_size.Goals as goal
 
 pub loop-block-preserved : goal.loop-block-preserved

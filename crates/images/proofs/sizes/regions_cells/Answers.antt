@@ -1,6 +1,5 @@
 use Rattle.std.proofs.Common.{◌≡◌, ◌*◌, arith}
-use Rattle.model_registers.specs.Declarations.{registers_of}
-use Rattle.model_registers.specs.EndpointTable.{region_cells}
+use Rattle.model_registers.specs.{Declarations.registers_of, EndpointTable.region_cells}
 use Rattle.bars.specs.Kinds.{kind_of}
 use Rattle.images.proofs.Lengths.{few_registers, first_cells, region_cell_count}
 use Rattle.images.proofs.sizes.regions_cells.Goals as goal

@@ -1,6 +1,5 @@
 use Rattle.std.proofs.Common.{arith}
-use Rattle.images.specs.Parts.{region_bytes}
-use Rattle.images.proofs.Lengths.{first_length, region_length}
+use Rattle.images.{specs.Parts.region_bytes, proofs.Lengths.{first_length, region_length}}
 use Rattle.images.proofs.sizes.regions_size.Goals as goal
 
 pub loop-region-preserved : goal.loop-region-preserved

@@ -1,8 +1,6 @@
-use Rattle.std.proofs.Common.{◌≡◌, length}
-use Rattle.std.specs.Prelude.{flat_map}
+use Rattle.std.{proofs.Common.{◌≡◌, length}, specs.Prelude.flat_map}
 use Rattle.lists.specs.Elements.{Each}
-use Rattle.model_registers.specs.EndpointTable.{block_cells}
-use Rattle.model_registers.specs.DeclarationRules.{IsConfigBlock}
+use Rattle.model_registers.specs.{EndpointTable.block_cells, DeclarationRules.IsConfigBlock}
 use Rattle.model_images.specs.LoadedBytes.{after_values}
 use Rattle.images.proofs.values.after_blocks.Given as goal
 

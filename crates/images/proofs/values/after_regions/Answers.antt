@@ -1,8 +1,7 @@
 use Rattle.std.proofs.Common.{◌∙◌, sym, ap, refl, arith}
 use Rattle.model_registers.specs.EndpointTable.{region_cells}
 use Rattle.model_images.specs.LoadedBytes.{after_values}
-use Rattle.images.specs.Faults.{number_of}
-use Rattle.images.proofs.TakenValues.{base_ends, region_ends, region_goes_on, region_reset, values_end_of, values_go_on_of}
+use Rattle.images.{specs.Faults.number_of, proofs.TakenValues.{base_ends, region_ends, region_goes_on, region_reset, values_end_of, values_go_on_of}}
 use Rattle.images.proofs.values.after_regions.Goals as goal
 
 pub loop-region-preserved : goal.loop-region-preserved

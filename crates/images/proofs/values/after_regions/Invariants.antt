@@ -1,8 +1,6 @@
-use Rattle.std.proofs.Common.{◌≡◌, length}
-use Rattle.std.specs.Prelude.{flat_map}
+use Rattle.std.{proofs.Common.{◌≡◌, length}, specs.Prelude.flat_map}
 use Rattle.lists.specs.Elements.{Each}
-use Rattle.model_registers.specs.Declarations.{IsLawfulRegion}
-use Rattle.model_registers.specs.EndpointTable.{region_cells}
+use Rattle.model_registers.specs.{Declarations.IsLawfulRegion, EndpointTable.region_cells}
 use Rattle.model_images.specs.LoadedBytes.{after_values}
 use Rattle.images.proofs.values.after_regions.Given as goal
 

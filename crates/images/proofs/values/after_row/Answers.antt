@@ -1,7 +1,6 @@
 use Rattle.std.proofs.Common.{◌∙◌, ap, sym, arith}
 use Rattle.model_images.specs.LoadedBytes.{after_values}
-use Rattle.headers.specs.declared.row.Row.{Row}
-use Rattle.headers.specs.Rows.{row_cells}
+use Rattle.headers.specs.{declared.row.Row.Row, Rows.row_cells}
 use Rattle.images.proofs.TakenValues.{all_taken, byte_missing, byte_refused, byte_taken}
 use Rattle.images.proofs.values.after_row.Goals as goal
 

@@ -1,7 +1,6 @@
 use Rattle.std.proofs.Common.{◌∙◌, sym, refl, arith}
 use Rattle.headers.specs.Rows.{row_cells}
-use Rattle.images.specs.Faults.{number_of}
-use Rattle.images.proofs.TakenValues.{values_end_of, values_go_on_of}
+use Rattle.images.{specs.Faults.number_of, proofs.TakenValues.{values_end_of, values_go_on_of}}
 use Rattle.images.proofs.values.after_rows.Goals as goal
 
 pub returns-in_err-bytes-clause-refused : goal.returns-in_err-bytes-clause-refused

@@ -1,7 +1,6 @@
 use Rattle.std.proofs.Common.{◌∙◌, sym, ap, arith}
 use Rattle.model_images.specs.LoadedBytes.{after_values}
-use Rattle.images.specs.Faults.{number_of}
-use Rattle.images.proofs.TakenValues.{blocks_end_of, header_ends_of, regions_decide}
+use Rattle.images.{specs.Faults.number_of, proofs.TakenValues.{blocks_end_of, header_ends_of, regions_decide}}
 use Rattle.images.proofs.values.after_values.Goals as goal
 
 pub returns-in_err-bytes-clause-refused : goal.returns-in_err-bytes-clause-refused

@@ -1,6 +1,5 @@
 use Rattle.std.proofs.Common.{◌∙◌, refl, arith}
-use Rattle.images.specs.Parts.{block_bytes}
-use Rattle.images.proofs.Puts.{next_of}
+use Rattle.images.{specs.Parts.block_bytes, proofs.Puts.next_of}
 use Rattle.images.proofs.writing.put_blocks.Goals as goal
 
 pub loop-block-preserved : goal.loop-block-preserved

@@ -1,9 +1,7 @@
-use Rattle.std.proofs.Common.{◌≡◌, ◌≤◌, ◌+◌, length}
-use Rattle.std.specs.Prelude.{flat_map}
+use Rattle.std.{proofs.Common.{◌≡◌, ◌≤◌, ◌+◌, length}, specs.Prelude.flat_map}
 use Rattle.lists.specs.Elements.{Each}
 use Rattle.model_registers.specs.DeclarationRules.{IsConfigBlock}
-use Rattle.images.specs.Parts.{block_bytes}
-use Rattle.images.specs.Puts.{put}
+use Rattle.images.specs.{Parts.block_bytes, Puts.put}
 use Rattle.images.proofs.writing.put_blocks.Given as goal
 
 -- what is left finishes what is asked

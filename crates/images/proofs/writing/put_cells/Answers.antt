@@ -1,6 +1,5 @@
 use Rattle.std.proofs.Common.{◌∙◌, arith}
-use Rattle.images.specs.Parts.{cell_bytes}
-use Rattle.images.proofs.Puts.{next_of}
+use Rattle.images.{specs.Parts.cell_bytes, proofs.Puts.next_of}
 use Rattle.images.proofs.writing.put_cells.Goals as goal
 
 pub loop-cell-preserved : goal.loop-cell-preserved

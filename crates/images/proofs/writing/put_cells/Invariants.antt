@@ -1,7 +1,5 @@
-use Rattle.std.proofs.Common.{◌≡◌, ◌≤◌, ◌+◌, length}
-use Rattle.std.specs.Prelude.{flat_map}
-use Rattle.images.specs.Parts.{cell_bytes}
-use Rattle.images.specs.Puts.{put}
+use Rattle.std.{proofs.Common.{◌≡◌, ◌≤◌, ◌+◌, length}, specs.Prelude.flat_map}
+use Rattle.images.specs.{Parts.cell_bytes, Puts.put}
 use Rattle.images.proofs.writing.put_cells.Given as goal
 
 -- what is left finishes what is asked

@@ -1,10 +1,6 @@
-use Rattle.std.proofs.Common.{◌≡◌, ◌+◌, ◌%◌, ◌++◌, ◌∙◌, List, [], ◌∷◌, ℕ, length, ap, arith}
-use Rattle.std.specs.Prelude.{flat_map}
-use Rattle.model_images.specs.Layouts.{le_bytes}
-use Rattle.model_images.proofs.Savable.{region_count, block_count}
-use Rattle.images.specs.Parts.{endpoint_head, region_bytes, block_bytes}
-use Rattle.images.specs.Puts.{put}
-use Rattle.images.proofs.Puts.{next}
+use Rattle.std.{proofs.Common.{◌≡◌, ◌+◌, ◌%◌, ◌++◌, ◌∙◌, List, [], ◌∷◌, ℕ, length, ap, arith}, specs.Prelude.flat_map}
+use Rattle.model_images.{specs.Layouts.le_bytes, proofs.Savable.{region_count, block_count}}
+use Rattle.images.{specs.{Parts.{endpoint_head, region_bytes, block_bytes}, Puts.put}, proofs.Puts.next}
 use Rattle.images.proofs.writing.put_declaration.Goals as goal
 
 pub endpoint_head-requires : goal.endpoint_head-requires

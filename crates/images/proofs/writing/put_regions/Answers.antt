@@ -1,6 +1,5 @@
 use Rattle.std.proofs.Common.{◌∙◌, refl, arith}
-use Rattle.images.specs.Parts.{region_bytes}
-use Rattle.images.proofs.Puts.{next_of}
+use Rattle.images.{specs.Parts.region_bytes, proofs.Puts.next_of}
 use Rattle.images.proofs.writing.put_regions.Goals as goal
 
 pub loop-region-preserved : goal.loop-region-preserved

@@ -1,5 +1,4 @@
-use Rattle.std.proofs.Common.{◌++◌, length, map, sym, ap, ◌∙◌, append-nil}
-use Rattle.std.proofs.lemmas.Slice.Zip.{zip_end}
+use Rattle.std.proofs.{Common.{◌++◌, length, map, sym, ap, ◌∙◌, append-nil}, lemmas.Slice.Zip.zip_end}
 use Rattle.serde_json.specs.View.{view}
 use Rattle.json_texts.proofs.RowValues.{function_values_end}
 use Rattle.json_texts.proofs.functions.function_values.Goals as goal

@@ -1,10 +1,6 @@
-use Rattle.std.proofs.Common.{◌≡◌, ℕ, ◌+◌, ◌*◌, ◌<◌, ◌^◌, false, Some, option_map, drop, get_or, ap, sym, subst, ◌∙◌, arith}
-use Rattle.std.proofs.lemmas.List.{at_drop_more}
-use Rattle.model_guests.specs.Text.{Text, is_blank}
-use Rattle.model_guests.specs.Numbers.{below, digit_of, digits_from}
-use Rattle.lines.specs.Cursors.{before_blank, after_blank, IsRead}
-use Rattle.lines.proofs.Splitting.{rest_is}
-use Rattle.lines.proofs.Cursors.{one_longer, no_blank, digits_in-before}
+use Rattle.std.proofs.{Common.{◌≡◌, ℕ, ◌+◌, ◌*◌, ◌<◌, ◌^◌, false, Some, option_map, drop, get_or, ap, sym, subst, ◌∙◌, arith}, lemmas.List.at_drop_more}
+use Rattle.model_guests.specs.{Text.{Text, is_blank}, Numbers.{below, digit_of, digits_from}}
+use Rattle.lines.{specs.Cursors.{before_blank, after_blank, IsRead}, proofs.{Splitting.rest_is, Cursors.{one_longer, no_blank, digits_in-before}}}
 use Rattle.lines.proofs.cursor.eight_digits.Goals as goal
 
 -- the digit at the front is no blank, and the others change nothing

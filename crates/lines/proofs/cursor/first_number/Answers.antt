@@ -1,7 +1,5 @@
 use Rattle.std.proofs.Common.{◌∙◌, ap, sym, arith}
-use Rattle.lines.specs.Cursors.{numbered}
-use Rattle.lines.proofs.Splitting.{rest_is}
-use Rattle.lines.proofs.Cursors.{numbered-hexadecimal, numbered-decimal, numbered-read}
+use Rattle.lines.{specs.Cursors.numbered, proofs.{Splitting.rest_is, Cursors.{numbered-hexadecimal, numbered-decimal, numbered-read}}}
 use Rattle.lines.proofs.cursor.first_number.Goals as goal
 
 pub returns-then-is_hexadecimal : goal.returns-then-is_hexadecimal

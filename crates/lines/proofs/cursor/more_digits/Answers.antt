@@ -1,9 +1,6 @@
-use Rattle.std.proofs.Common.{◌+◌, ◌^◌, drop, get_or, ap, sym, ◌∙◌, arith}
-use Rattle.std.proofs.lemmas.List.{at_drop_more}
-use Rattle.model_guests.specs.Text.{Text}
-use Rattle.model_guests.specs.Numbers.{below, digits_from}
-use Rattle.lines.specs.Cursors.{before_blank, after_blank}
-use Rattle.lines.proofs.Cursors.{no_longer, one_longer}
+use Rattle.std.proofs.{Common.{◌+◌, ◌^◌, drop, get_or, ap, sym, ◌∙◌, arith}, lemmas.List.at_drop_more}
+use Rattle.model_guests.specs.{Text.Text, Numbers.{below, digits_from}}
+use Rattle.lines.{specs.Cursors.{before_blank, after_blank}, proofs.Cursors.{no_longer, one_longer}}
 use Rattle.lines.proofs.cursor.more_digits.Goals as goal
 
 pub returns-in_default : goal.returns-in_default

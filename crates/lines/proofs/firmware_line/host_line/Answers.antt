@@ -1,6 +1,5 @@
 use Rattle.std.proofs.Common.{arith}
-use Rattle.lines.proofs.WriteCounts.{firmware_of_seven}
-use Rattle.lines.proofs.RequestCounts.{request_of_seven}
+use Rattle.lines.proofs.{WriteCounts.firmware_of_seven, RequestCounts.request_of_seven}
 use Rattle.lines.proofs.firmware_line.host_line.Goals as goal
 
 pub returns-clause-means : goal.returns-clause-means

@@ -1,5 +1,4 @@
-use Rattle.std.proofs.Common.{◌≡◌, true, Option, option_map, codes, ap, ◌∙◌, rules}
-use Rattle.std.specs.Str.{bytes_eq}
+use Rattle.std.{proofs.Common.{◌≡◌, true, Option, option_map, codes, ap, ◌∙◌, rules}, specs.Str.bytes_eq}
 use Rattle.model_guests.specs.Grammar.{HostRead}
 use Rattle.model_lines.specs.FirmwareLines.{asked, written_at}
 use Rattle.lines.proofs.WriteForms.{write_of_cw}

@@ -1,8 +1,6 @@
 use Rattle.std.proofs.Common.{ap, sym, ◌∙◌, rules}
-use Rattle.model_guests.specs.Text.{words}
-use Rattle.model_guests.specs.Lines.{event_or_bad, meaning_of_words}
-use Rattle.lines.specs.Lines.{texts, name_of}
-use Rattle.lines.proofs.NameLemmas.{found, meaning-short, meaning_of_guest}
+use Rattle.model_guests.specs.{Text.words, Lines.{event_or_bad, meaning_of_words}}
+use Rattle.lines.{specs.Lines.{texts, name_of}, proofs.NameLemmas.{found, meaning-short, meaning_of_guest}}
 use Rattle.lines.proofs.line.guest_access.Goals as goal
 
 pub returns-clause-meaning : goal.returns-clause-meaning

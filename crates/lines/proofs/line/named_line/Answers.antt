@@ -1,5 +1,4 @@
-use Rattle.lines.specs.Lines.{texts, IsFirst}
-use Rattle.lines.proofs.NameLemmas.{found, guests_are_this}
+use Rattle.lines.{specs.Lines.{texts, IsFirst}, proofs.NameLemmas.{found, guests_are_this}}
 use Rattle.lines.proofs.line.named_line.Goals as goal
 
 pub returns-in-Some-clause-first : goal.returns-in-Some-clause-first

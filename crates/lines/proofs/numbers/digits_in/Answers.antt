@@ -1,6 +1,4 @@
-use Rattle.std.proofs.Common.{◌≡◌, ℕ, ◌≤◌, ◌<◌, ◌+◌, ◌*◌, ◌^◌, None, Some, option_map, length, drop, get_or, arith, ap, sym, ◌∙◌}
-use Rattle.std.proofs.lemmas.Bool.Decides.{nat_tests}
-use Rattle.std.proofs.lemmas.List.{at_drop_more, at_drop_all}
+use Rattle.std.proofs.{Common.{◌≡◌, ℕ, ◌≤◌, ◌<◌, ◌+◌, ◌*◌, ◌^◌, None, Some, option_map, length, drop, get_or, arith, ap, sym, ◌∙◌}, lemmas.{Bool.Decides.nat_tests, List.{at_drop_more, at_drop_all}}}
 use Rattle.model_guests.specs.Numbers.{below, digit_of, digits_from}
 use Rattle.lines.proofs.Digits.{longer-None, digits_in-some}
 use Rattle.lines.proofs.numbers.digits_in.Goals as goal

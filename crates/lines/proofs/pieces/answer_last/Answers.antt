@@ -1,6 +1,5 @@
 use Rattle.std.proofs.Common.{arith}
-use Rattle.lines.proofs.Endings.{last_output, last_after, last_stopped}
-use Rattle.lines.proofs.Results.{same_stop}
+use Rattle.lines.proofs.{Endings.{last_output, last_after, last_stopped}, Results.same_stop}
 use Rattle.lines.proofs.pieces.answer_last.Goals as goal
 
 pub returns-clause-output : goal.returns-clause-output

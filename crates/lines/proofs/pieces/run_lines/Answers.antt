@@ -1,9 +1,6 @@
 use Rattle.std.proofs.Common.{◌≡◌, ◌++◌, ◌∷◌, ◌∙◌, true, false, [], Err, sym, ap, append_assoc, arith}
 use Rattle.model_guests.specs.Text.{Text}
-use Rattle.lines.specs.declared.pieces.Stop.TheVariants.{Failed, Memory}
-use Rattle.lines.proofs.Buffers.{rest_is_last}
-use Rattle.lines.proofs.Reaching.{reaches_first, reaches_line, stops_at, stops_flush, stops_kept, lacks_at}
-use Rattle.lines.proofs.Results.{by_flag}
+use Rattle.lines.{specs.declared.pieces.Stop.TheVariants.{Failed, Memory}, proofs.{Buffers.rest_is_last, Reaching.{reaches_first, reaches_line, stops_at, stops_flush, stops_kept, lacks_at}, Results.by_flag}}
 use Rattle.lines.proofs.pieces.run_lines.Goals as goal
 
 -- a line and its LF are taken off the front

@@ -1,7 +1,5 @@
-use Rattle.std.proofs.Common.{◌≡◌, ◌++◌, ◌<◌, length}
-use Rattle.std.specs.Prelude.{IsTrue, IsFalse}
-use Rattle.model_guests.specs.Text.{Text}
-use Rattle.model_guests.specs.LineRuns.{HasNoEnd}
+use Rattle.std.{proofs.Common.{◌≡◌, ◌++◌, ◌<◌, length}, specs.Prelude.{IsTrue, IsFalse}}
+use Rattle.model_guests.specs.{Text.Text, LineRuns.HasNoEnd}
 use Rattle.lines.specs.Pieces.{IsBefore, Reaches}
 use Rattle.lines.proofs.pieces.run_lines.Given as goal
 

@@ -1,6 +1,5 @@
 use Rattle.std.proofs.Common.{◌∙◌, sym}
-use Rattle.lines.proofs.Reaching.{stops_flush, stops_kept, reaches_kept, reaches_held}
-use Rattle.lines.proofs.Results.{err_part, ok_part, by_flag}
+use Rattle.lines.proofs.{Reaching.{stops_flush, stops_kept, reaches_kept, reaches_held}, Results.{err_part, ok_part, by_flag}}
 use Rattle.lines.proofs.pieces.run_piece.Goals as goal
 
 pub returns-then-is_err-clause-stops : goal.returns-then-is_err-clause-stops

@@ -1,9 +1,5 @@
-use Rattle.std.proofs.Common.{◌++◌, subst}
-use Rattle.std.specs.Io.{StartsWith}
-use Rattle.std.proofs.KnownBytes.{Appends-trans}
-use Rattle.std.proofs.lemmas.Result.{on_err_weaker}
-use Rattle.model_guests.specs.Text.{Text}
-use Rattle.model_guests.proofs.RunLines.{starts_after}
+use Rattle.std.{proofs.{Common.{◌++◌, subst}, KnownBytes.Appends-trans, lemmas.Result.on_err_weaker}, specs.Io.StartsWith}
+use Rattle.model_guests.{specs.Text.Text, proofs.RunLines.starts_after}
 use Rattle.lines.proofs.pieces.write_answer.Goals as goal
 
 pub returns-in-Some-clause-err : goal.returns-in-Some-clause-err

@@ -1,6 +1,5 @@
 use Rattle.std.proofs.Common.{◌/◌, ◌%◌, ap, arith, ◌∙◌}
-use Rattle.lines.proofs.HexDigits.{Written, byte_written, byte_passed, nothing_written, all_written}
-use Rattle.lines.proofs.replies.push_hex.Goals.{then-width-gt3, else-width-gt3, then-width-gt2, else-width-gt2, then-width-gt1, else-width-gt1}
+use Rattle.lines.proofs.{HexDigits.{Written, byte_written, byte_passed, nothing_written, all_written}, replies.push_hex.Goals.{then-width-gt3, else-width-gt3, then-width-gt2, else-width-gt2, then-width-gt1, else-width-gt1}}
 use Rattle.lines.proofs.replies.push_hex.Goals as goal
 
 pub returns-then-width-gt0-clause-items : goal.returns-then-width-gt0-clause-items

@@ -1,7 +1,5 @@
 use Rattle.std.proofs.Common.{Err, ap}
-use Rattle.lines.specs.Runs.{Runs, ends}
-use Rattle.lines.proofs.Endings.{output_on, after_on, stopped_last, lacking_last}
-use Rattle.lines.proofs.Results.{by_stop, by_fault}
+use Rattle.lines.{specs.Runs.{Runs, ends}, proofs.{Endings.{output_on, after_on, stopped_last, lacking_last}, Results.{by_stop, by_fault}}}
 use Rattle.lines.proofs.runs.run.Goals as goal
 
 pub returns-in_err-run_pieces-clause-runs : goal.returns-in_err-run_pieces-clause-runs

@@ -1,14 +1,6 @@
-use Rattle.std.proofs.Common.{◌≡◌, ◌⊎◌, ◌++◌, Bool, Err, sym, ap, subst, arith, Option}
-use Rattle.std.specs.Io.KnownBytes.{Consumes}
-use Rattle.std.proofs.KnownBytes.{Consumes-trans, Consumes-kept}
-use Rattle.model_guests.specs.Text.{Text}
-use Rattle.model_guests.specs.LineRuns.{Protocol}
-use Rattle.lines.specs.Pieces.{Pending, Reaches}
-use Rattle.lines.proofs.Reaching.{reaches_none, reaches_more, reaches_on, stops_on, lacks_on}
-use Rattle.lines.proofs.Endings.{cut_of, stopped_of, lacking_of}
-use Rattle.lines.proofs.Results.{by_stop, lacked}
-use Rattle.lines.specs.Runs.{Runs, ends}
-use Rattle.std.specs.Prelude.{IfErr}
+use Rattle.std.{proofs.{Common.{◌≡◌, ◌⊎◌, ◌++◌, Bool, Err, sym, ap, subst, arith, Option}, KnownBytes.{Consumes-trans, Consumes-kept}}, specs.{Io.KnownBytes.Consumes, Prelude.IfErr}}
+use Rattle.model_guests.specs.{Text.Text, LineRuns.Protocol}
+use Rattle.lines.{specs.{Pieces.{Pending, Reaches}, Runs.{Runs, ends}}, proofs.{Reaching.{reaches_none, reaches_more, reaches_on, stops_on, lacks_on}, Endings.{cut_of, stopped_of, lacking_of}, Results.{by_stop, lacked}}}
 use Rattle.lines.proofs.runs.run_pieces.Goals as goal
 
 -- all is flushed, or nothing was written, also after more of it

@@ -1,7 +1,5 @@
-use Rattle.std.proofs.Common.{◌≡◌, ◌≤◌, ◌⊎◌, length}
-use Rattle.std.specs.Io.KnownBytes.{Consumes}
-use Rattle.model_guests.specs.Text.{Text}
-use Rattle.model_guests.specs.LineRuns.{HasNoEnd}
+use Rattle.std.{proofs.Common.{◌≡◌, ◌≤◌, ◌⊎◌, length}, specs.Io.KnownBytes.Consumes}
+use Rattle.model_guests.specs.{Text.Text, LineRuns.HasNoEnd}
 use Rattle.lines.specs.Pieces.{Reaches}
 use Rattle.lines.proofs.runs.run_pieces.Given as goal
 

@@ -1,5 +1,4 @@
-use Rattle.lines.specs.Runs.{ends}
-use Rattle.lines.proofs.Watched.{plain_early, watched_early, watched_end}
+use Rattle.lines.{specs.Runs.ends, proofs.Watched.{plain_early, watched_early, watched_end}}
 use Rattle.lines.proofs.watching.run_watched.Goals as goal
 
 pub returns-in_err-run-clause-runs : goal.returns-in_err-run-clause-runs

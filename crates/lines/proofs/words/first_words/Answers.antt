@@ -1,6 +1,4 @@
-use Rattle.std.proofs.Common.{◌≡◌, ◌≤◌, ◌++◌, [], length, map, take, filter, sym, ap, ◌∙◌, arith, append-nil}
-use Rattle.std.proofs.lemmas.Bool.Decides.{nat_tests}
-use Rattle.std.proofs.lemmas.List.{length-map, take_all, take_at}
+use Rattle.std.proofs.{Common.{◌≡◌, ◌≤◌, ◌++◌, [], length, map, take, filter, sym, ap, ◌∙◌, arith, append-nil}, lemmas.{Bool.Decides.nat_tests, List.{length-map, take_all, take_at}}}
 use Rattle.model_guests.specs.Text.{words}
 use Rattle.lines.proofs.Splitting.{is_word}
 use Rattle.lines.proofs.words.first_words.Goals as goal

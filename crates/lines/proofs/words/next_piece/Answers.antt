@@ -1,5 +1,4 @@
-use Rattle.std.proofs.Common.{arith}
-use Rattle.std.proofs.lemmas.Bool.Decides.{nat_tests}
+use Rattle.std.proofs.{Common.arith, lemmas.Bool.Decides.nat_tests}
 use Rattle.model_guests.specs.Text.{is_blank}
 use Rattle.lines.proofs.Splitting.{rest_is, pieces-first, pieces-none}
 use Rattle.lines.proofs.words.next_piece.Goals as goal

@@ -1,10 +1,7 @@
-use Rattle.std.proofs.Common.{length, arith}
-use Rattle.std.specs.Prelude.{flat_map}
+use Rattle.std.{proofs.Common.{length, arith}, specs.Prelude.flat_map}
 use Rattle.model_board.specs.AtReset.{board_at}
-use Rattle.model_images.specs.Layouts.{le_bytes}
-use Rattle.model_images.specs.MachineBytes.{board_layout}
-use Rattle.images.specs.BoardBytes.{row_bytes}
-use Rattle.images.proofs.Steps.{ends}
+use Rattle.model_images.specs.{Layouts.le_bytes, MachineBytes.board_layout}
+use Rattle.images.{specs.BoardBytes.row_bytes, proofs.Steps.ends}
 use Rattle.machine_images.proofs.JudgedHandoffs.{board_is}
 use Rattle.machine_images.proofs.judging.after_board.Goals as goal
 

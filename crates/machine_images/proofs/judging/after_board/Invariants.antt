@@ -1,8 +1,6 @@
-use Rattle.std.proofs.Common.{◌≡◌, drop}
-use Rattle.std.specs.Prelude.{flat_map}
+use Rattle.std.{proofs.Common.{◌≡◌, drop}, specs.Prelude.flat_map}
 use Rattle.model_board.specs.AtReset.{board_at}
-use Rattle.model_images.specs.LoadedBytes.{after_bytes}
-use Rattle.model_images.specs.MachineBytes.{board_layout}
+use Rattle.model_images.specs.{LoadedBytes.after_bytes, MachineBytes.board_layout}
 use Rattle.images.specs.BoardBytes.{row_bytes}
 use Rattle.machine_images.proofs.judging.after_board.Given as goal
 

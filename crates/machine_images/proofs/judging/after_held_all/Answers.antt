@@ -1,9 +1,6 @@
-use Rattle.std.proofs.Common.{◌+◌, ◌∙◌, drop, sym, arith}
-use Rattle.std.specs.Prelude.{flat_map}
-use Rattle.images.specs.BoardBytes.{bytes_nth, held_cells}
-use Rattle.images.proofs.Steps.{ends, goes_on}
-use Rattle.machine_images.specs.Judging.{functions_now}
-use Rattle.machine_images.proofs.JudgedHandoffs.{held_next, held_of}
+use Rattle.std.{proofs.Common.{◌+◌, ◌∙◌, drop, sym, arith}, specs.Prelude.flat_map}
+use Rattle.images.{specs.BoardBytes.{bytes_nth, held_cells}, proofs.Steps.{ends, goes_on}}
+use Rattle.machine_images.{specs.Judging.functions_now, proofs.JudgedHandoffs.{held_next, held_of}}
 use Rattle.machine_images.proofs.judging.after_held_all.Goals as goal
 
 pub returns-in_err-bytes-clause-refused : goal.returns-in_err-bytes-clause-refused

@@ -1,8 +1,6 @@
-use Rattle.std.proofs.Common.{◌≡◌, drop}
-use Rattle.std.specs.Prelude.{flat_map}
+use Rattle.std.{proofs.Common.{◌≡◌, drop}, specs.Prelude.flat_map}
 use Rattle.model_images.specs.LoadedBytes.{after_bytes}
-use Rattle.machine_images.specs.Judging.{functions_now, held_under}
-use Rattle.machine_images.proofs.JudgedHandoffs.{held_of}
+use Rattle.machine_images.{specs.Judging.{functions_now, held_under}, proofs.JudgedHandoffs.held_of}
 use Rattle.machine_images.proofs.judging.after_held_all.Given as goal
 
 -- what is left decides as all does

@@ -1,7 +1,6 @@
 use Rattle.std.proofs.Common.{◌∙◌, ℕ, List, ap, arith}
 use Rattle.model_images.specs.LoadedBytes.{after_bytes}
-use Rattle.machine_images.proofs.JudgedHandoffs.{known_is}
-use Rattle.machine_images.proofs.JudgedMachines.{held_refused, known_refused, planned}
+use Rattle.machine_images.proofs.{JudgedHandoffs.known_is, JudgedMachines.{held_refused, known_refused, planned}}
 use Rattle.machine_images.proofs.judging.judge.Goals as goal
 
 pub returns-in_err-bytes-2-clause-refused : goal.returns-in_err-bytes-2-clause-refused

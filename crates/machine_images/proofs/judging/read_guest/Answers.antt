@@ -1,10 +1,8 @@
 use Rattle.std.proofs.Common.{◌≡◌, ◌∙◌, ◌-◌, List, Option, ℕ, Ok, Err, length, take, drop, sym, ap, ap₂, arith}
 use Rattle.model_board.specs.State.{BoardFunction, State}
-use Rattle.model_images.specs.LoadedBytes.{after_bytes, after_image_front}
-use Rattle.model_images.specs.MachineBytes.{name_layout}
+use Rattle.model_images.specs.{LoadedBytes.{after_bytes, after_image_front}, MachineBytes.name_layout}
+use Rattle.machine_images.{specs.Judging.guest_seated, proofs.JudgedGuests.{guest_read, image_refused, own_slots, shorter}}
 use Rattle.images.specs.Faults as image
-use Rattle.machine_images.specs.Judging.{guest_seated}
-use Rattle.machine_images.proofs.JudgedGuests.{guest_read, image_refused, own_slots, shorter}
 use Rattle.machine_images.proofs.judging.read_guest.Goals as goal
 
 pub returns-in-Ok-clause-read : goal.returns-in-Ok-clause-read

@@ -1,5 +1,4 @@
-use Rattle.std.proofs.Common.{◌≡◌, ◌∷◌, ◌∙◌, List, [], map, ap, subst, arith}
-use Rattle.std.proofs.lemmas.List.{map-append}
+use Rattle.std.proofs.{Common.{◌≡◌, ◌∷◌, ◌∙◌, List, [], map, ap, subst, arith}, lemmas.List.map-append}
 use Rattle.arrayvec.specs.ArrayString.{ArrayString}
 use Rattle.machine_images.proofs.JudgedGuests.{IsOnGuests, guest_on, texts_of}
 use Rattle.machine_images.proofs.judging.read_guests.Goals as goal

@@ -1,9 +1,7 @@
-use Rattle.std.proofs.Common.{◌≡◌, ◌<◌, ◌≤◌, ◌++◌, ◌∙◌, length, sym, ap₂, arith}
-use Rattle.std.proofs.lemmas.List.{take-append-drop}
+use Rattle.std.proofs.{Common.{◌≡◌, ◌<◌, ◌≤◌, ◌++◌, ◌∙◌, length, sym, ap₂, arith}, lemmas.List.take-append-drop}
 use Rattle.model_images.specs.MachineLaws.{gifts}
 use Rattle.monitor.specs.ByIndex.{name_nth}
-use Rattle.machine_images.specs.Judging.{functions_now, paths_seated}
-use Rattle.machine_images.proofs.LoadedWalks.{gives_on, none_given, same_along, same_many}
+use Rattle.machine_images.{specs.Judging.{functions_now, paths_seated}, proofs.LoadedWalks.{gives_on, none_given, same_along, same_many}}
 use Rattle.machine_images.proofs.loading.+give_all.Goals as goal
 
 pub returns-then-seats-lt32 : goal.returns-then-seats-lt32

@@ -1,5 +1,4 @@
-use Rattle.std.proofs.Common.{◌≡◌, ◌<◌, ◌≤◌, ◌∷◌, ◌∙◌, length, map, ap, arith}
-use Rattle.std.proofs.lemmas.List.{length-map}
+use Rattle.std.proofs.{Common.{◌≡◌, ◌<◌, ◌≤◌, ◌∷◌, ◌∙◌, length, map, ap, arith}, lemmas.List.length-map}
 use Rattle.monitor.specs.ByIndex.{name_nth}
 use Rattle.machine_images.proofs.LoadedWalks.{accepted, goes_on, loaded_many, none_left}
 use Rattle.machine_images.proofs.loading.+load_all.Goals as goal

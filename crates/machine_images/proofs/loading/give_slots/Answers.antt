@@ -1,8 +1,7 @@
 use Rattle.std.proofs.Common.{◌≡◌, ◌∷◌, ◌∙◌, arith}
 use Rattle.model_images.specs.MachineLaws.{gift}
 use Rattle.monitor.specs.ByIndex.{name_nth}
-use Rattle.machine_images.specs.Judging.{functions_now, path_seated}
-use Rattle.machine_images.proofs.LoadedWalks.{one_given, same_along}
+use Rattle.machine_images.{specs.Judging.{functions_now, path_seated}, proofs.LoadedWalks.{one_given, same_along}}
 use Rattle.machine_images.proofs.loading.give_slots.Goals as goal
 
 pub loop-seat-preserved : goal.loop-seat-preserved

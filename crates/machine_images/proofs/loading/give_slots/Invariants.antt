@@ -1,10 +1,8 @@
 use Rattle.std.proofs.Common.{◌≡◌, ◌+◌, length}
 use Rattle.model_guests.specs.WorldNow.{names_now}
-use Rattle.model_images.specs.MachineLaws.{gifts}
-use Rattle.model_images.specs.RequestLaws.{after_all_requests}
+use Rattle.model_images.specs.{MachineLaws.gifts, RequestLaws.after_all_requests}
 use Rattle.monitor.specs.ByIndex.{name_nth}
-use Rattle.machine_images.specs.Judging.{functions_now, paths_seated}
-use Rattle.machine_images.proofs.Along.{board_of}
+use Rattle.machine_images.{specs.Judging.{functions_now, paths_seated}, proofs.Along.board_of}
 use Rattle.machine_images.proofs.loading.give_slots.Given as goal
 
 abbrev pub invariant-loop-seat : goal.invariant-loop-seat

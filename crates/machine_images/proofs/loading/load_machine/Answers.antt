@@ -1,5 +1,4 @@
-use Rattle.std.proofs.Common.{map, Some, ap, ◌∙◌, arith}
-use Rattle.std.proofs.lemmas.List.{length-map}
+use Rattle.std.proofs.{Common.{map, Some, ap, ◌∙◌, arith}, lemmas.List.length-map}
 use Rattle.images.proofs.FoundParts.{are_bytes}
 use Rattle.machine_images.proofs.LoadedMachine.{gives, loaded, loads, runs_there, seats_there}
 use Rattle.machine_images.proofs.loading.load_machine.Goals as goal

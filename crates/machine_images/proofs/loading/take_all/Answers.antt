@@ -1,11 +1,9 @@
-use Rattle.std.proofs.Common.{◌<◌, ◌∙◌, ap, length, sym, arith}
-use Rattle.std.specs.Prelude.{slice_get}
+use Rattle.std.{proofs.Common.{◌<◌, ◌∙◌, ap, length, sym, arith}, specs.Prelude.slice_get}
 use Rattle.model_guests.specs.WorldNow.{names_now}
 use Rattle.model_handoff.specs.Changes.{MachineNow}
 use Rattle.model_images.specs.MachineLaws.{takings}
 use Rattle.monitor.specs.ByIndex.{name_nth}
-use Rattle.machine_images.proofs.Along.{names_along, then_done}
-use Rattle.machine_images.proofs.LoadedWalks.{name_at, still_there}
+use Rattle.machine_images.proofs.{Along.{names_along, then_done}, LoadedWalks.{name_at, still_there}}
 use Rattle.machine_images.proofs.loading.take_all.Goals as goal
 
 pub loop-guest-preserved : goal.loop-guest-preserved

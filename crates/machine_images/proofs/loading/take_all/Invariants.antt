@@ -1,8 +1,6 @@
-use Rattle.std.proofs.Common.{◌≡◌, drop}
-use Rattle.std.specs.Prelude.{flat_map}
+use Rattle.std.{proofs.Common.{◌≡◌, drop}, specs.Prelude.flat_map}
 use Rattle.model_guests.specs.WorldNow.{names_now}
-use Rattle.model_images.specs.MachineLaws.{takings}
-use Rattle.model_images.specs.RequestLaws.{after_all_requests}
+use Rattle.model_images.specs.{MachineLaws.takings, RequestLaws.after_all_requests}
 use Rattle.machine_images.proofs.loading.take_all.Given as goal
 
 abbrev pub invariant-loop-guest : goal.invariant-loop-guest

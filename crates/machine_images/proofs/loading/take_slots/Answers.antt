@@ -1,13 +1,9 @@
 use Rattle.std.proofs.Common.{◌≡◌, ◌-◌, ◌+◌, ◌∙◌, suc, [], ◌∷◌, ap, arith}
 use Rattle.model_guests.specs.WorldNow.{names_now}
-use Rattle.model_handoff.specs.Actions.{takes}
-use Rattle.model_handoff.specs.Changes.{MachineNow}
-use Rattle.model_images.specs.Requests.{acts}
-use Rattle.model_images.specs.MachineLaws.{takings}
-use Rattle.model_images.specs.RequestLaws.{after_all_requests}
+use Rattle.model_handoff.specs.{Actions.takes, Changes.MachineNow}
+use Rattle.model_images.specs.{Requests.acts, MachineLaws.takings, RequestLaws.after_all_requests}
 use Rattle.monitor.specs.ByIndex.{name_nth}
-use Rattle.machine_images.proofs.Along.{names_along}
-use Rattle.machine_images.proofs.LoadedWalks.{one_taken, same_name}
+use Rattle.machine_images.proofs.{Along.names_along, LoadedWalks.{one_taken, same_name}}
 use Rattle.machine_images.proofs.loading.take_slots.Goals as goal
 
 pub loop-nth-preserved : goal.loop-nth-preserved

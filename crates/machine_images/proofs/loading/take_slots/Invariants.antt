@@ -1,7 +1,6 @@
 use Rattle.std.proofs.Common.{◌≡◌, ◌-◌, ◌≤◌}
 use Rattle.model_guests.specs.WorldNow.{names_now}
-use Rattle.model_images.specs.MachineLaws.{takings}
-use Rattle.model_images.specs.RequestLaws.{after_all_requests}
+use Rattle.model_images.specs.{MachineLaws.takings, RequestLaws.after_all_requests}
 use Rattle.monitor.specs.ByIndex.{name_nth}
 use Rattle.machine_images.proofs.loading.take_slots.Given as goal
 

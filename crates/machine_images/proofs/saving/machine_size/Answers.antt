@@ -1,11 +1,8 @@
-use Rattle.std.proofs.Common.{◌+◌, ◌∙◌, length, ap, sym, arith}
-use Rattle.std.specs.Prelude.{flat_map}
+use Rattle.std.{proofs.Common.{◌+◌, ◌∙◌, length, ap, sym, arith}, specs.Prelude.flat_map}
 use Rattle.model_board.specs.State.{State}
 use Rattle.model_guests.specs.WorldNow.{board_state}
 use Rattle.images.specs.BoardBytes.{row_bytes}
-use Rattle.machine_images.specs.SavedParts.{capped, guest_bytes, held_now}
-use Rattle.machine_images.proofs.PutParts.{capped_sums}
-use Rattle.machine_images.proofs.SavedBytes.{saved_count}
+use Rattle.machine_images.{specs.SavedParts.{capped, guest_bytes, held_now}, proofs.{PutParts.capped_sums, SavedBytes.saved_count}}
 use Rattle.machine_images.proofs.saving.machine_size.Goals as goal
 
 pub returns : goal.returns

@@ -1,5 +1,4 @@
-use Rattle.std.proofs.Common.{◌<◌, length, arith}
-use Rattle.std.proofs.lemmas.Option.{slice_get-get_or}
+use Rattle.std.proofs.{Common.{◌<◌, length, arith}, lemmas.Option.slice_get-get_or}
 use Rattle.machine_images.proofs.SavedGuests.{many_guests, name_there}
 use Rattle.machine_images.proofs.saving.name_of.Goals as goal
 

@@ -1,7 +1,5 @@
 use Rattle.std.proofs.Common.{◌<◌, length, arith}
-use Rattle.machine_images.specs.SavedParts.{guest_bytes}
-use Rattle.machine_images.proofs.PutParts.{next_left}
-use Rattle.machine_images.proofs.SavedGuests.{guest_nth_is, many_guests}
+use Rattle.machine_images.{specs.SavedParts.guest_bytes, proofs.{PutParts.next_left, SavedGuests.{guest_nth_is, many_guests}}}
 use Rattle.machine_images.proofs.saving.put_all.Goals as goal
 
 pub loop-guest-preserved : goal.loop-guest-preserved

@@ -1,7 +1,5 @@
-use Rattle.std.proofs.Common.{drop}
-use Rattle.std.specs.Prelude.{flat_map}
-use Rattle.machine_images.specs.SavedParts.{guest_bytes}
-use Rattle.machine_images.proofs.PutParts.{IsLeft}
+use Rattle.std.{proofs.Common.drop, specs.Prelude.flat_map}
+use Rattle.machine_images.{specs.SavedParts.guest_bytes, proofs.PutParts.IsLeft}
 use Rattle.machine_images.proofs.saving.put_all.Given as goal
 
 abbrev pub invariant-loop-guest : goal.invariant-loop-guest

@@ -1,5 +1,4 @@
-use Rattle.std.proofs.Common.{length, arith}
-use Rattle.std.specs.Prelude.{flat_map}
+use Rattle.std.{proofs.Common.{length, arith}, specs.Prelude.flat_map}
 use Rattle.model_images.specs.Layouts.{le_bytes}
 use Rattle.images.specs.BoardBytes.{row_bytes}
 use Rattle.machine_images.proofs.PutParts.{both_put}

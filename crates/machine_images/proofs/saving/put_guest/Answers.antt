@@ -1,8 +1,6 @@
-use Rattle.std.proofs.Common.{◌++◌, List, ℕ, subst}
-use Rattle.std.specs.Prelude.{flat_map}
+use Rattle.std.{proofs.Common.{◌++◌, List, ℕ, subst}, specs.Prelude.flat_map}
 use Rattle.monitor.specs.ByIndex.{guest_nth}
-use Rattle.machine_images.specs.SavedParts.{IsPut, name_bytes, own_bytes, seat_bytes}
-use Rattle.machine_images.proofs.PutParts.{both_put, rest_fits}
+use Rattle.machine_images.{specs.SavedParts.{IsPut, name_bytes, own_bytes, seat_bytes}, proofs.PutParts.{both_put, rest_fits}}
 use Rattle.machine_images.proofs.saving.put_guest.Goals as goal
 
 pub returns : goal.returns

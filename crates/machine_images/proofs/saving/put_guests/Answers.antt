@@ -1,9 +1,6 @@
-use Rattle.std.proofs.Common.{length, arith}
-use Rattle.std.specs.Prelude.{flat_map}
+use Rattle.std.{proofs.Common.{length, arith}, specs.Prelude.flat_map}
 use Rattle.model_images.specs.Layouts.{le_bytes}
-use Rattle.machine_images.specs.SavedParts.{guest_bytes}
-use Rattle.machine_images.proofs.PutParts.{both_put}
-use Rattle.machine_images.proofs.SavedGuests.{many_guests}
+use Rattle.machine_images.{specs.SavedParts.guest_bytes, proofs.{PutParts.both_put, SavedGuests.many_guests}}
 use Rattle.machine_images.proofs.saving.put_guests.Goals as goal
 
 pub returns : goal.returns

@@ -1,7 +1,6 @@
 use Rattle.std.proofs.Common.{refl, arith}
 use Rattle.model_guests.specs.WorldNow.{board_state}
-use Rattle.machine_images.specs.SavedParts.{held_now}
-use Rattle.machine_images.proofs.PutParts.{next_left}
+use Rattle.machine_images.{specs.SavedParts.held_now, proofs.PutParts.next_left}
 use Rattle.machine_images.proofs.saving.put_held.Goals as goal
 
 pub loop-index-preserved : goal.loop-index-preserved

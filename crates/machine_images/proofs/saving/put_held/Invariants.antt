@@ -1,8 +1,6 @@
-use Rattle.std.proofs.Common.{drop}
-use Rattle.std.specs.Prelude.{flat_map}
+use Rattle.std.{proofs.Common.drop, specs.Prelude.flat_map}
 use Rattle.model_guests.specs.WorldNow.{board_state}
-use Rattle.machine_images.specs.SavedParts.{held_now}
-use Rattle.machine_images.proofs.PutParts.{IsLeft}
+use Rattle.machine_images.{specs.SavedParts.held_now, proofs.PutParts.IsLeft}
 use Rattle.machine_images.proofs.saving.put_held.Given as goal
 
 abbrev pub invariant-loop-index : goal.invariant-loop-index

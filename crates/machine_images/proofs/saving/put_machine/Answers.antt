@@ -1,12 +1,8 @@
-use Rattle.std.proofs.Common.{◌≤◌, ◌+◌, ◌++◌, ◌∙◌, List, ℕ, length, ap, subst, sym}
-use Rattle.std.specs.Prelude.{flat_map}
-use Rattle.std.proofs.Math.Nat.{zero-add}
+use Rattle.std.{proofs.{Common.{◌≤◌, ◌+◌, ◌++◌, ◌∙◌, List, ℕ, length, ap, subst, sym}, Math.Nat.zero-add}, specs.Prelude.flat_map}
 use Rattle.model_board.specs.State.{State}
-use Rattle.model_images.specs.LoadedMachines.{machine_header}
-use Rattle.model_images.specs.Layouts.{le_bytes}
+use Rattle.model_images.specs.{LoadedMachines.machine_header, Layouts.le_bytes}
 use Rattle.images.specs.Puts.{put}
-use Rattle.machine_images.specs.SavedParts.{IsPut, board_bytes, guests_bytes, held_now, saved_bytes}
-use Rattle.machine_images.proofs.PutParts.{both_put, rest_fits}
+use Rattle.machine_images.{specs.SavedParts.{IsPut, board_bytes, guests_bytes, held_now, saved_bytes}, proofs.PutParts.{both_put, rest_fits}}
 use Rattle.machine_images.proofs.saving.put_machine.Goals as goal
 
 pub returns : goal.returns

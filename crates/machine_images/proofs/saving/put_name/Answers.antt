@@ -1,7 +1,5 @@
 use Rattle.std.proofs.Common.{◌≤◌, ◌+◌, ◌%◌, [], ◌∷◌, List, ℕ, length, subst, sym, arith}
-use Rattle.machine_images.specs.SavedParts.{IsPut}
-use Rattle.machine_images.proofs.PutParts.{both_put}
-use Rattle.machine_images.proofs.SavedGuests.{name_is}
+use Rattle.machine_images.{specs.SavedParts.IsPut, proofs.{PutParts.both_put, SavedGuests.name_is}}
 use Rattle.machine_images.proofs.saving.put_name.Goals as goal
 
 pub returns : goal.returns

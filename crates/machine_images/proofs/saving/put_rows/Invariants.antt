@@ -1,5 +1,4 @@
-use Rattle.std.proofs.Common.{drop}
-use Rattle.std.specs.Prelude.{flat_map}
+use Rattle.std.{proofs.Common.drop, specs.Prelude.flat_map}
 use Rattle.images.specs.BoardBytes.{row_bytes}
 use Rattle.machine_images.proofs.PutParts.{IsLeft}
 use Rattle.machine_images.proofs.saving.put_rows.Given as goal

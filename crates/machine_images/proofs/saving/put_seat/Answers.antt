@@ -1,9 +1,7 @@
 use Rattle.std.proofs.Common.{◌≡◌, ◌≤◌, ◌+◌, [], ◌∷◌, ◌++◌, List, Option, Some, ℕ, length, ap, sym, ◌∙◌, subst, arith}
 use Rattle.model_board.specs.Paths.{Path}
 use Rattle.images.specs.BoardBytes.{path_bytes}
-use Rattle.machine_images.specs.SavedParts.{IsPut, seat_bytes}
-use Rattle.machine_images.proofs.PutParts.{both_put, rest_fits}
-use Rattle.machine_images.proofs.SavedGuests.{seat_count, seat_path}
+use Rattle.machine_images.{specs.SavedParts.{IsPut, seat_bytes}, proofs.{PutParts.{both_put, rest_fits}, SavedGuests.{seat_count, seat_path}}}
 use Rattle.machine_images.proofs.saving.put_seat.Goals as goal
 
 pub put-next-requires : goal.put-next-requires

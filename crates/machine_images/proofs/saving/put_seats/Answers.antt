@@ -1,7 +1,5 @@
 use Rattle.monitor.specs.ByIndex.{guest_nth}
-use Rattle.machine_images.specs.SavedParts.{seat_bytes}
-use Rattle.machine_images.proofs.PutParts.{next_fits, next_left}
-use Rattle.machine_images.proofs.SavedGuests.{seat_there}
+use Rattle.machine_images.{specs.SavedParts.seat_bytes, proofs.{PutParts.{next_fits, next_left}, SavedGuests.seat_there}}
 use Rattle.machine_images.proofs.saving.put_seats.Goals as goal
 
 pub put_seat-next-requires : goal.put_seat-next-requires

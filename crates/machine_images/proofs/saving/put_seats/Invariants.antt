@@ -1,8 +1,6 @@
-use Rattle.std.proofs.Common.{drop}
-use Rattle.std.specs.Prelude.{flat_map}
+use Rattle.std.{proofs.Common.drop, specs.Prelude.flat_map}
 use Rattle.monitor.specs.ByIndex.{guest_nth}
-use Rattle.machine_images.specs.SavedParts.{seat_bytes}
-use Rattle.machine_images.proofs.PutParts.{IsLeft}
+use Rattle.machine_images.{specs.SavedParts.seat_bytes, proofs.PutParts.IsLeft}
 use Rattle.machine_images.proofs.saving.put_seats.Given as goal
 
 abbrev pub invariant-loop-slot : goal.invariant-loop-slot

@@ -1,7 +1,6 @@
 use Rattle.std.proofs.Common.{◌≤◌, ◌∙◌, List, ℕ, length, ap, subst, sym}
 use Rattle.model_board.specs.State.{State}
-use Rattle.machine_images.specs.SavedParts.{saved_bytes}
-use Rattle.machine_images.proofs.SavedBytes.{saved_is}
+use Rattle.machine_images.{specs.SavedParts.saved_bytes, proofs.SavedBytes.saved_is}
 use Rattle.machine_images.proofs.saving.save_machine.Goals as goal
 
 pub put_machine-requires-clause-room : goal.put_machine-requires-clause-room

@@ -1,5 +1,4 @@
-use Rattle.machine_images.specs.SavedParts.{guest_bytes}
-use Rattle.machine_images.proofs.PutParts.{IsCounted}
+use Rattle.machine_images.{specs.SavedParts.guest_bytes, proofs.PutParts.IsCounted}
 use Rattle.machine_images.proofs.saving.with_guests.Given as goal
 
 abbrev pub invariant-loop-guest : goal.invariant-loop-guest

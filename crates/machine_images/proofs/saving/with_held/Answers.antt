@@ -2,9 +2,7 @@ use Rattle.std.proofs.Common.{◌+◌, ◌<◌, ◌∙◌, length, ap, arith}
 use Rattle.model_board.specs.State.{State}
 use Rattle.model_guests.specs.WorldNow.{board_state}
 use Rattle.images.specs.BoardBytes.{bytes_nth, held_cells}
-use Rattle.machine_images.specs.SavedParts.{capped, held_now}
-use Rattle.machine_images.proofs.PutParts.{count_next}
-use Rattle.machine_images.proofs.SavedGuests.{held_count}
+use Rattle.machine_images.{specs.SavedParts.{capped, held_now}, proofs.{PutParts.count_next, SavedGuests.held_count}}
 use Rattle.machine_images.proofs.saving.with_held.Goals as goal
 
 pub loop-index-preserved : goal.loop-index-preserved

@@ -1,6 +1,5 @@
 use Rattle.model_guests.specs.WorldNow.{board_state}
-use Rattle.machine_images.specs.SavedParts.{held_now}
-use Rattle.machine_images.proofs.PutParts.{IsCounted}
+use Rattle.machine_images.{specs.SavedParts.held_now, proofs.PutParts.IsCounted}
 use Rattle.machine_images.proofs.saving.with_held.Given as goal
 
 abbrev pub invariant-loop-index : goal.invariant-loop-index

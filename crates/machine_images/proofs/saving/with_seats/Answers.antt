@@ -1,8 +1,6 @@
 use Rattle.std.proofs.Common.{◌+◌, ◌∙◌, List, ℕ, length, ap}
 use Rattle.monitor.specs.ByIndex.{guest_nth}
-use Rattle.machine_images.specs.SavedParts.{capped, seat_bytes}
-use Rattle.machine_images.proofs.PutParts.{count_next}
-use Rattle.machine_images.proofs.SavedGuests.{seat_there}
+use Rattle.machine_images.{specs.SavedParts.{capped, seat_bytes}, proofs.{PutParts.count_next, SavedGuests.seat_there}}
 use Rattle.machine_images.proofs.saving.with_seats.Goals as goal
 
 pub loop-slot-preserved : goal.loop-slot-preserved

@@ -1,6 +1,5 @@
 use Rattle.monitor.specs.ByIndex.{guest_nth}
-use Rattle.machine_images.specs.SavedParts.{seat_bytes}
-use Rattle.machine_images.proofs.PutParts.{IsCounted}
+use Rattle.machine_images.{specs.SavedParts.seat_bytes, proofs.PutParts.IsCounted}
 use Rattle.machine_images.proofs.saving.with_seats.Given as goal
 
 abbrev pub invariant-loop-slot : goal.invariant-loop-slot

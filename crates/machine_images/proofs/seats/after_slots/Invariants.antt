@@ -1,5 +1,4 @@
-use Rattle.std.proofs.Common.{◌≡◌, length}
-use Rattle.std.specs.Prelude.{map}
+use Rattle.std.{proofs.Common.{◌≡◌, length}, specs.Prelude.map}
 use Rattle.model_images.specs.LoadedBytes.{after_slots_front}
 use Rattle.machine_images.specs.Judging.{slot_seated}
 use Rattle.machine_images.proofs.seats.after_slots.Given as goal

@@ -1,6 +1,5 @@
 use Rattle.std.proofs.Common.{arith}
-use Rattle.machine_images.specs.Judging.{functions_now}
-use Rattle.machine_images.proofs.JudgedSeats.{free_is}
+use Rattle.machine_images.{specs.Judging.functions_now, proofs.JudgedSeats.free_is}
 use Rattle.machine_images.proofs.seats.is_free.Goals as goal
 
 pub returns-then-is_open : goal.returns-then-is_open

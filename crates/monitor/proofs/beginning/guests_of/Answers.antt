@@ -1,12 +1,8 @@
-use Rattle.std.proofs.Common.{◌≡◌, ◌+◌, List, take, ap, refl, sym, ◌∙◌, subst}
-use Rattle.std.specs.Prelude.{IsSome}
-use Rattle.lists.specs.Elements.{Each}
+use Rattle.std.{proofs.Common.{◌≡◌, ◌+◌, List, take, ap, refl, sym, ◌∙◌, subst}, specs.Prelude.IsSome}
+use Rattle.lists.{specs.Elements.Each, proofs.Indices.read_at}
 use Rattle.model_board.specs.Paths.{Path}
 use Rattle.model_guests.specs.World.{Guest as Declared, World, declared}
-use Rattle.lists.proofs.Indices.{read_at}
-use Rattle.monitor.specs.declared.guest.Guest.{Guest}
-use Rattle.monitor.specs.Beginnings.{world_on, AreSlotsAtFirst}
-use Rattle.monitor.proofs.FirstGuests.{slots_declared, AreFirst, guest_pushed}
+use Rattle.monitor.{specs.{declared.guest.Guest.Guest, Beginnings.{world_on, AreSlotsAtFirst}}, proofs.FirstGuests.{slots_declared, AreFirst, guest_pushed}}
 use Rattle.monitor.proofs.beginning.guests_of.Goals as goal
 
 pub slots_of-requires-clause-there : goal.slots_of-requires-clause-there

@@ -1,6 +1,5 @@
 use Rattle.std.proofs.Common.{take}
-use Rattle.monitor.specs.Beginnings.{world_on}
-use Rattle.monitor.proofs.FirstGuests.{AreFirst}
+use Rattle.monitor.{specs.Beginnings.world_on, proofs.FirstGuests.AreFirst}
 use Rattle.monitor.proofs.beginning.guests_of.Given as goal
 
 abbrev pub invariant-loop-decl : goal.invariant-loop-decl

@@ -1,7 +1,6 @@
 use Rattle.std.proofs.Common.{◌≡◌, ◌+◌, ◌-◌, ℕ, suc, Option, List, length, sym, subst, arith, rules}
 use Rattle.lists.proofs.Indices.{read_at}
-use Rattle.monitor.specs.declared.guest.Held.{Held}
-use Rattle.monitor.proofs.FirstGuests.{AreSlotsWith, slot_pushed, all_filled, empty_pushed, all_slots}
+use Rattle.monitor.{specs.declared.guest.Held.Held, proofs.FirstGuests.{AreSlotsWith, slot_pushed, all_filled, empty_pushed, all_slots}}
 use Rattle.monitor.proofs.beginning.slots_of.Goals as goal
 
 pub loop-path-preserved : goal.loop-path-preserved

@@ -1,8 +1,5 @@
-use Rattle.std.proofs.Common.{◌≡◌, Bool, cond, None, ap, sym, ◌∙◌}
-use Rattle.std.specs.Prelude.{flat_map, slice_get}
-use Rattle.std.specs.List.{list_any}
-use Rattle.model_board.specs.Paths.{Path, path_eq}
-use Rattle.model_board.specs.Routing.{RoutingRow}
+use Rattle.std.{proofs.Common.{◌≡◌, Bool, cond, None, ap, sym, ◌∙◌}, specs.{Prelude.{flat_map, slice_get}, List.list_any}}
+use Rattle.model_board.specs.{Paths.{Path, path_eq}, Routing.RoutingRow}
 use Rattle.model_findings.specs.OpenRegions.{closed_of}
 use Rattle.model_guests.specs.World.{Guest}
 use Rattle.monitor.proofs.ClosedRows.{among_guests}

@@ -1,5 +1,4 @@
-use Rattle.std.proofs.Common.{◌≡◌, map, drop}
-use Rattle.std.specs.Prelude.{filter, not, slice_get}
+use Rattle.std.{proofs.Common.{◌≡◌, map, drop}, specs.Prelude.{filter, not, slice_get}}
 use Rattle.model_registers.specs.Decoding.{opens_space}
 use Rattle.model_findings.specs.OpenRegions.{region_now}
 use Rattle.bridge_forward.specs.RoutingRows.{base_of}

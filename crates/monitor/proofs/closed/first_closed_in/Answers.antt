@@ -1,9 +1,7 @@
-use Rattle.std.proofs.Common.{◌+◌, drop, ap, sym, ◌∙◌}
-use Rattle.std.specs.Prelude.{flat_map}
+use Rattle.std.{proofs.Common.{◌+◌, drop, ap, sym, ◌∙◌}, specs.Prelude.flat_map}
 use Rattle.lists.specs.Elements.{first_of_two}
 use Rattle.model_guests.specs.World.{Guest}
-use Rattle.monitor.specs.Handovers.{first_closed_at}
-use Rattle.monitor.proofs.ClosedRows.{row_step}
+use Rattle.monitor.{specs.Handovers.first_closed_at, proofs.ClosedRows.row_step}
 use Rattle.monitor.proofs.closed.first_closed_in.Goals as goal
 
 pub returns-in-Some : goal.returns-in-Some

@@ -1,5 +1,4 @@
-use Rattle.std.proofs.Common.{◌≡◌, drop}
-use Rattle.std.specs.Prelude.{flat_map}
+use Rattle.std.{proofs.Common.{◌≡◌, drop}, specs.Prelude.flat_map}
 use Rattle.model_guests.specs.World.{Guest}
 use Rattle.monitor.specs.Handovers.{first_closed_at}
 use Rattle.monitor.proofs.closed.first_closed_in.Given as goal

@@ -1,10 +1,6 @@
-use Rattle.std.proofs.Common.{◌≡◌, ◌∙◌, length, drop, ap, sym, rules}
-use Rattle.std.specs.Prelude.{slice_index_or}
-use Rattle.monitor.specs.declared.guest.Guest.{Guest}
-use Rattle.std.proofs.lemmas.List.{take_at}
+use Rattle.std.{proofs.{Common.{◌≡◌, ◌∙◌, length, drop, ap, sym, rules}, lemmas.List.take_at}, specs.Prelude.slice_index_or}
+use Rattle.monitor.{specs.declared.guest.Guest.Guest, proofs.{ConfigSteps.{guest_written, same_at}, Counts.set_counted}}
 use Rattle.model_handoff.specs.Changes.{after_change}
-use Rattle.monitor.proofs.ConfigSteps.{guest_written, same_at}
-use Rattle.monitor.proofs.Counts.{set_counted}
 use Rattle.monitor.proofs.config.write_in.Goals as goal
 
 pub write_own-requires-clause-holds : goal.write_own-requires-clause-holds

@@ -1,5 +1,4 @@
-use Rattle.std.proofs.Common.{◌≡◌, ◌+◌, length}
-use Rattle.std.specs.Prelude.{map}
+use Rattle.std.{proofs.Common.{◌≡◌, ◌+◌, length}, specs.Prelude.map}
 use Rattle.model_images.specs.Differences.{slots_difference}
 use Rattle.monitor.specs.Views.{slot_shown}
 use Rattle.monitor.proofs.differing.slots_difference.Given as goal

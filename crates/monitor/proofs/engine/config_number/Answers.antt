@@ -1,7 +1,6 @@
 use Rattle.std.proofs.Common.{◌*◌, ◌/◌, ◌%◌, ◌^◌, ap, ap₂, sym, ◌∙◌}
 use Rattle.model_registers.specs.ByteEnables.{lanes, enables_of}
-use Rattle.model_board.specs.Ports.{config_reply}
-use Rattle.model_board.proofs.ConfigAccesses.{config_read_by_lanes}
+use Rattle.model_board.{specs.Ports.config_reply, proofs.ConfigAccesses.config_read_by_lanes}
 use Rattle.paths.specs.BusAddresses.{bus_address_of}
 use Rattle.monitor.proofs.engine.config_number.Goals as goal
 

@@ -1,7 +1,6 @@
 use Rattle.std.proofs.Common.{Some, sym, ap, ◌∙◌, subst}
 use Rattle.bars.specs.Slots.{bases_from}
-use Rattle.bridge_forward.specs.ByIndex.{ranges_told}
-use Rattle.bridge_forward.specs.declared.by_index.RangesNow.{RangesNow}
+use Rattle.bridge_forward.specs.{ByIndex.ranges_told, declared.by_index.RangesNow.RangesNow}
 use Rattle.monitor.proofs.GiftSteps.{AreWindows, not_there, endpoint_there, windows_at, none_at}
 use Rattle.monitor.proofs.gift.endpoint_at.Goals as goal
 

@@ -1,10 +1,6 @@
-use Rattle.std.proofs.Common.{◌≡◌, ◌∙◌, Some, ap, sym, arith}
-use Rattle.std.specs.Prelude.{slice_get}
-use Rattle.std.proofs.lemmas.Bool.{le-leb}
+use Rattle.std.{proofs.{Common.{◌≡◌, ◌∙◌, Some, ap, sym, arith}, lemmas.Bool.le-leb}, specs.Prelude.slice_get}
 use Rattle.lists.proofs.Indices.{read_at}
-use Rattle.monitor.specs.declared.guest.Guest.{Guest}
-use Rattle.monitor.specs.Moves.{is_taken}
-use Rattle.monitor.proofs.GiftSteps.{past_withheld, absent_withheld, had_withheld, full_withheld, closed_withheld, made, lawful_bases}
+use Rattle.monitor.{specs.{declared.guest.Guest.Guest, Moves.is_taken}, proofs.GiftSteps.{past_withheld, absent_withheld, had_withheld, full_withheld, closed_withheld, made, lawful_bases}}
 use Rattle.monitor.proofs.gift.gift.Goals as goal
 
 pub returns-then-slot-gt31 : goal.returns-then-slot-gt31

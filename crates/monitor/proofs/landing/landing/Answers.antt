@@ -1,6 +1,5 @@
 use Rattle.std.proofs.Common.{◌<◌, length, sym, ◌∙◌, arith}
-use Rattle.bars.specs.Kinds.{named_space}
-use Rattle.bars.specs.Hits.{hit_in}
+use Rattle.bars.specs.{Kinds.named_space, Hits.hit_in}
 use Rattle.monitor.proofs.Landed.{passed_empty, passed, landed, nowhere}
 use Rattle.monitor.proofs.landing.landing.Goals as goal
 

@@ -1,6 +1,5 @@
 use Rattle.std.proofs.Common.{◌≡◌, List, Option, drop}
-use Rattle.model_board.specs.Paths.{Path}
-use Rattle.model_board.specs.State.{State}
+use Rattle.model_board.specs.{Paths.Path, State.State}
 use Rattle.model_guests.specs.Slots.{Slots, landing_from}
 use Rattle.bars.specs.Kinds.{named_space}
 use Rattle.monitor.specs.Keeping.{AreSlots}

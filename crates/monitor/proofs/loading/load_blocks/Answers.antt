@@ -1,11 +1,8 @@
-use Rattle.std.proofs.Common.{◌≡◌, ◌<◌, ◌+◌, ℕ, List, ap, length, true, subst, sym, arith}
-use Rattle.std.specs.Prelude.{IsSome}
+use Rattle.std.{proofs.Common.{◌≡◌, ◌<◌, ◌+◌, ℕ, List, ap, length, true, subst, sym, arith}, specs.Prelude.IsSome}
 use Rattle.model_images.specs.StepLaws.{put_run}
-use Rattle.model_registers.specs.DeviceBytes.{is_device_byte}
-use Rattle.model_registers.specs.Registers.{config}
+use Rattle.model_registers.specs.{DeviceBytes.is_device_byte, Registers.config}
 use Rattle.bridge_forward.specs.Lending.{endpoint_nth}
-use Rattle.monitor.proofs.LoadSteps.{IsPut, go_on, its_endpoint}
-use Rattle.monitor.proofs.LoadedParts.{AtBlock, block_fits, block_low, block_own, block_told, first_block, last_block, last_left, next_block, some_block, told_blocks}
+use Rattle.monitor.proofs.{LoadSteps.{IsPut, go_on, its_endpoint}, LoadedParts.{AtBlock, block_fits, block_low, block_own, block_told, first_block, last_block, last_left, next_block, some_block, told_blocks}}
 use Rattle.monitor.proofs.loading.load_blocks.Goals as goal
 
 pub loop-block-init : goal.loop-block-init

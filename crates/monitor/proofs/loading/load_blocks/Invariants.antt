@@ -1,7 +1,6 @@
 use Rattle.std.proofs.Common.{◌≤◌, length}
 use Rattle.model_images.specs.StepLaws.{blocks_size}
-use Rattle.monitor.specs.Loadings.{KeepsFunction}
-use Rattle.monitor.proofs.LoadedParts.{AtBlock}
+use Rattle.monitor.{specs.Loadings.KeepsFunction, proofs.LoadedParts.AtBlock}
 use Rattle.monitor.proofs.loading.load_blocks.Given as goal
 
 -- the blocks so far have their values

@@ -1,9 +1,7 @@
 use Rattle.std.proofs.Common.{◌∙◌, ap, subst}
 use Rattle.model_registers.specs.Registers.{File}
-use Rattle.model_images.specs.StepLaws.{steps}
-use Rattle.model_images.proofs.Steps.{loads_by_steps}
-use Rattle.monitor.specs.Loadings.{Becomes, filled_with}
-use Rattle.monitor.proofs.LoadSteps.{its_lawful}
+use Rattle.model_images.{specs.StepLaws.steps, proofs.Steps.loads_by_steps}
+use Rattle.monitor.{specs.Loadings.{Becomes, filled_with}, proofs.LoadSteps.its_lawful}
 use Rattle.monitor.proofs.loading.load_function.Goals as goal
 
 -- what is loaded a guest and its device could have brought about themselves

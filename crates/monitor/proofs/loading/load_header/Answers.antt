@@ -1,10 +1,8 @@
-use Rattle.std.proofs.Common.{ℕ, drop, subst, sym}
-use Rattle.std.specs.Prelude.{IsSome}
+use Rattle.std.{proofs.Common.{ℕ, drop, subst, sym}, specs.Prelude.IsSome}
 use Rattle.model_images.specs.StepLaws.{header_steps}
 use Rattle.model_registers.specs.Registers.{File}
 use Rattle.bridge_forward.specs.Lending.{endpoint_nth}
-use Rattle.monitor.proofs.LoadSteps.{chained, go_on, its_endpoint}
-use Rattle.monitor.proofs.LoadedParts.{status_put}
+use Rattle.monitor.proofs.{LoadSteps.{chained, go_on, its_endpoint}, LoadedParts.status_put}
 use Rattle.monitor.proofs.loading.load_header.Goals as goal
 
 pub index_in-index-requires : goal.index_in-index-requires

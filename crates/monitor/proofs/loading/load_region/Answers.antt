@@ -1,12 +1,8 @@
-use Rattle.std.proofs.Common.{◌+◌, ◌*◌, ◌∙◌, ℕ, List, ap, ap₂, drop, take, subst, sym, arith}
-use Rattle.std.specs.Prelude.{IsSome}
-use Rattle.std.proofs.lemmas.List.{drop-drop}
+use Rattle.std.{proofs.{Common.{◌+◌, ◌*◌, ◌∙◌, ℕ, List, ap, ap₂, drop, take, subst, sym, arith}, lemmas.List.drop-drop}, specs.Prelude.IsSome}
 use Rattle.model_images.specs.StepLaws.{put_run, written_run}
 use Rattle.model_registers.specs.Registers.{block, config}
 use Rattle.bridge_forward.specs.Lending.{endpoint_nth}
-use Rattle.monitor.specs.Loadings.{Becomes}
-use Rattle.monitor.proofs.LoadSteps.{IsPut, go_on, its_endpoint}
-use Rattle.monitor.proofs.LoadedParts.{low_register, narrow, region_done, region_told, some_region, told_cells, told_width}
+use Rattle.monitor.{specs.Loadings.Becomes, proofs.{LoadSteps.{IsPut, go_on, its_endpoint}, LoadedParts.{low_register, narrow, region_done, region_told, some_region, told_cells, told_width}}}
 use Rattle.monitor.proofs.loading.load_region.Goals as goal
 
 pub region_at-reg-requires : goal.region_at-reg-requires

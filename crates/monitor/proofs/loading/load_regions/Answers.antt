@@ -1,7 +1,6 @@
 use Rattle.std.proofs.Common.{◌+◌, ◌∙◌, List, ℕ, refl, subst, sym, arith}
 use Rattle.lists.proofs.Indices.{at_below}
-use Rattle.monitor.proofs.LoadSteps.{go_on}
-use Rattle.monitor.proofs.LoadedParts.{AtRegion, first_region, last_region, next_region, region_fits, told_regions}
+use Rattle.monitor.proofs.{LoadSteps.go_on, LoadedParts.{AtRegion, first_region, last_region, next_region, region_fits, told_regions}}
 use Rattle.monitor.proofs.loading.load_regions.Goals as goal
 
 pub loop-region-init : goal.loop-region-init

@@ -1,7 +1,5 @@
 use Rattle.std.proofs.Common.{◌≡◌, ◌≤◌, length}
-use Rattle.monitor.specs.Counts.{counts_of}
-use Rattle.monitor.specs.Loadings.{KeepsFunction, regions_size}
-use Rattle.monitor.proofs.LoadedParts.{AtRegion}
+use Rattle.monitor.{specs.{Counts.counts_of, Loadings.{KeepsFunction, regions_size}}, proofs.LoadedParts.AtRegion}
 use Rattle.monitor.proofs.loading.load_regions.Given as goal
 
 -- the regions so far have their values

@@ -1,5 +1,4 @@
-use Rattle.std.proofs.Common.{◌≡◌, ◌<◌, ◌+◌, ◌∙◌, ◌∷◌, ℕ, List, length, subst, sym, arith}
-use Rattle.std.specs.Prelude.{IsSome, IsTrue}
+use Rattle.std.{proofs.Common.{◌≡◌, ◌<◌, ◌+◌, ◌∙◌, ◌∷◌, ℕ, List, length, subst, sym, arith}, specs.Prelude.{IsSome, IsTrue}}
 use Rattle.model_registers.specs.DeviceBytes.{is_device_byte, set_value}
 use Rattle.headers.specs.Places.{place_of}
 use Rattle.bridge_forward.specs.Lending.{endpoint_nth}

@@ -1,11 +1,9 @@
-use Rattle.std.proofs.Common.{◌≡◌, ◌<◌, ◌+◌, ◌^◌, ℕ, length}
-use Rattle.std.specs.Prelude.{IsSome, IsTrue}
+use Rattle.std.{proofs.Common.{◌≡◌, ◌<◌, ◌+◌, ◌^◌, ℕ, length}, specs.Prelude.{IsSome, IsTrue}}
 use Rattle.model_registers.specs.DeviceBytes.{is_device_byte}
 use Rattle.model_images.specs.StepLaws.{put_run}
 use Rattle.headers.specs.Places.{place_of}
 use Rattle.bridge_forward.specs.Lending.{endpoint_nth}
-use Rattle.host_bridge.specs.ByIndex.{with_file_nth}
-use Rattle.host_bridge.specs.HostState.{with_functions}
+use Rattle.host_bridge.specs.{ByIndex.with_file_nth, HostState.with_functions}
 use Rattle.monitor.proofs.loading.put_run.Given as goal
 
 -- what is left finishes what is asked

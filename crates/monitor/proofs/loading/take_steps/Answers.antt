@@ -1,5 +1,4 @@
-use Rattle.monitor.proofs.LoadSteps.{go_on}
-use Rattle.monitor.proofs.LoadedParts.{all_parts, enough_blocks, enough_header, enough_regions}
+use Rattle.monitor.proofs.{LoadSteps.go_on, LoadedParts.{all_parts, enough_blocks, enough_header, enough_regions}}
 use Rattle.monitor.proofs.loading.take_steps.Goals as goal
 
 pub load_header-requires-clause-enough : goal.load_header-requires-clause-enough

@@ -1,10 +1,8 @@
-use Rattle.std.proofs.Common.{◌∙◌, ℕ, ap, subst, sym}
-use Rattle.std.specs.Prelude.{IsSome}
+use Rattle.std.{proofs.Common.{◌∙◌, ℕ, ap, subst, sym}, specs.Prelude.IsSome}
 use Rattle.model_registers.specs.ByteEnables.{enables_of, into_lanes}
 use Rattle.bridge_forward.specs.Lending.{endpoint_nth}
 use Rattle.host_bridge.specs.Landings.{IsReached}
-use Rattle.monitor.proofs.LoadSteps.{its_endpoint, its_guest, its_slot, wrote_one}
-use Rattle.monitor.proofs.Reached.{reached_held}
+use Rattle.monitor.proofs.{LoadSteps.{its_endpoint, its_guest, its_slot, wrote_one}, Reached.reached_held}
 use Rattle.monitor.proofs.loading.write_byte.Goals as goal
 
 pub config_write_nth-requires-clause-there : goal.config_write_nth-requires-clause-there

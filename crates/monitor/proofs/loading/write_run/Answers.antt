@@ -1,8 +1,7 @@
 use Rattle.std.proofs.Common.{◌≡◌, ◌+◌, ◌∙◌, ◌∷◌, ℕ, List, ap, refl, arith}
 use Rattle.model_registers.specs.Registers.{config}
 use Rattle.model_images.specs.StepLaws.{written_run}
-use Rattle.monitor.proofs.LoadSteps.{go_on}
-use Rattle.monitor.proofs.LoadedParts.{begins, passes}
+use Rattle.monitor.proofs.{LoadSteps.go_on, LoadedParts.{begins, passes}}
 use Rattle.monitor.proofs.loading.write_run.Goals as goal
 
 pub loop-byte-init : goal.loop-byte-init

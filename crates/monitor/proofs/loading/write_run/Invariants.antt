@@ -1,9 +1,7 @@
 use Rattle.std.proofs.Common.{◌≡◌, ◌≤◌, ◌+◌, length}
 use Rattle.model_registers.specs.Registers.{config}
 use Rattle.model_images.specs.StepLaws.{written_run}
-use Rattle.monitor.specs.Counts.{counts_of}
-use Rattle.monitor.specs.Loadings.{KeepsFunction}
-use Rattle.monitor.proofs.LoadedParts.{Passed}
+use Rattle.monitor.{specs.{Counts.counts_of, Loadings.KeepsFunction}, proofs.LoadedParts.Passed}
 use Rattle.monitor.proofs.loading.write_run.Given as goal
 
 -- what is left finishes what is asked

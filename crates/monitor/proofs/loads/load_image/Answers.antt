@@ -1,19 +1,9 @@
-use Rattle.std.proofs.Common.{◌<◌, ◌∙◌, false, ap, length, refl, subst, sym}
-use Rattle.std.proofs.lemmas.Option.{slice_get_within}
+use Rattle.std.proofs.{Common.{◌<◌, ◌∙◌, false, ap, length, refl, subst, sym}, lemmas.Option.slice_get_within}
 use Rattle.lists.proofs.Indices.{at_below}
 use Rattle.model_registers.specs.ConfigAddress.{latched}
-use Rattle.model_guests.specs.Lone.{LoneGuest}
-use Rattle.model_guests.specs.WorldNow.{WorldNow}
-use Rattle.model_images.specs.TakenBytes.{taken_image}
-use Rattle.model_images.proofs.TakenBytes.{image_is_taken}
-use Rattle.monitor.specs.declared.guest.Guest.{Guest}
-use Rattle.monitor.specs.ByIndex.{lone_nth}
-use Rattle.monitor.specs.Counts.{counts_of}
-use Rattle.monitor.specs.Keeping.{IsKept}
-use Rattle.monitor.specs.Loads.{KeepsWorld}
-use Rattle.monitor.proofs.Counts.{set_counted}
-use Rattle.monitor.proofs.Steps.{kept_nth}
-use Rattle.monitor.proofs.LoadedWorlds.{all_loaded_is, latch_kept, latch_read, loadable_at_reset, world_at_reset}
+use Rattle.model_guests.specs.{Lone.LoneGuest, WorldNow.WorldNow}
+use Rattle.model_images.{specs.TakenBytes.taken_image, proofs.TakenBytes.image_is_taken}
+use Rattle.monitor.{specs.{declared.guest.Guest.Guest, ByIndex.lone_nth, Counts.counts_of, Keeping.IsKept, Loads.KeepsWorld}, proofs.{Counts.set_counted, Steps.kept_nth, LoadedWorlds.{all_loaded_is, latch_kept, latch_read, loadable_at_reset, world_at_reset}}}
 use Rattle.monitor.proofs.loads.load_image.Goals as goal
 
 pub load_slots-requires-clause-there : goal.load_slots-requires-clause-there

@@ -1,9 +1,6 @@
 use Rattle.std.proofs.Common.{◌≡◌, ◌∙◌, Some, ap, slice_get, sym, take}
 use Rattle.lists.proofs.Indices.{read_at}
-use Rattle.monitor.specs.declared.guest.Guest.{Guest}
-use Rattle.monitor.specs.Loads.{KeepsWorld}
-use Rattle.monitor.proofs.Steps.{kept_nth}
-use Rattle.monitor.proofs.LoadedWorlds.{empty_behind, empty_kept, filled_at, filled_behind, is_loadable, keeps_function, none_of, slot_is, slot_kept}
+use Rattle.monitor.{specs.{declared.guest.Guest.Guest, Loads.KeepsWorld}, proofs.{Steps.kept_nth, LoadedWorlds.{empty_behind, empty_kept, filled_at, filled_behind, is_loadable, keeps_function, none_of, slot_is, slot_kept}}}
 use Rattle.monitor.proofs.loads.load_slot.Goals as goal
 
 pub returns-in_default-clause-kept : goal.returns-in_default-clause-kept

@@ -1,9 +1,7 @@
 use Rattle.std.proofs.Common.{◌+◌, ◌∙◌, refl, subst, sym, arith}
 use Rattle.lists.proofs.Indices.{at_below}
 use Rattle.model_guests.specs.WorldNow.{WorldNow}
-use Rattle.monitor.specs.Keeping.{IsKept}
-use Rattle.monitor.proofs.Steps.{kept_nth}
-use Rattle.monitor.proofs.LoadedWorlds.{can_so_far, ends, goes_on, keeps_so_far, none_loaded, rest_so_far}
+use Rattle.monitor.{specs.Keeping.IsKept, proofs.{Steps.kept_nth, LoadedWorlds.{can_so_far, ends, goes_on, keeps_so_far, none_loaded, rest_so_far}}}
 use Rattle.monitor.proofs.loads.load_slots.Goals as goal
 
 pub loop-slot-init : goal.loop-slot-init

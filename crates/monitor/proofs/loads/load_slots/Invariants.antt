@@ -1,8 +1,5 @@
 use Rattle.std.proofs.Common.{◌≡◌, ◌≤◌, length}
-use Rattle.monitor.specs.ByIndex.{lone_nth}
-use Rattle.monitor.specs.Counts.{counts_of}
-use Rattle.monitor.specs.Loads.{AreLoadable, KeepsWorld}
-use Rattle.monitor.proofs.LoadedWorlds.{SlotsSoFar}
+use Rattle.monitor.{specs.{ByIndex.lone_nth, Counts.counts_of, Loads.{AreLoadable, KeepsWorld}}, proofs.LoadedWorlds.SlotsSoFar}
 use Rattle.monitor.proofs.loads.load_slots.Given as goal
 
 -- the slots so far took their values, and the bytes behind these are left

@@ -1,7 +1,5 @@
-use Rattle.std.proofs.Common.{Option, Some, None, cond, ap, sym, arith}
-use Rattle.std.specs.Prelude.{is_some}
-use Rattle.model_registers.specs.Registers.{config}
-use Rattle.model_registers.specs.Decoding.{Function}
+use Rattle.std.{proofs.Common.{Option, Some, None, cond, ap, sym, arith}, specs.Prelude.is_some}
+use Rattle.model_registers.specs.{Registers.config, Decoding.Function}
 use Rattle.model_guests.specs.Slots.{Landing}
 use Rattle.monitor.proofs.Steps.{slot_there, slot_empty}
 use Rattle.monitor.proofs.locating.config_hit.Goals as goal

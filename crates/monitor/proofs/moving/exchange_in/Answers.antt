@@ -1,11 +1,6 @@
-use Rattle.std.proofs.Common.{List, Option, ap, drop, length, refl, slice_get, slice_set, sym, ◌∙◌, rules}
-use Rattle.std.specs.Prelude.{slice_index_or}
-use Rattle.monitor.specs.declared.guest.Guest.{Guest}
-use Rattle.monitor.specs.declared.guest.Held.{Held}
-use Rattle.std.proofs.lemmas.List.{take_at}
+use Rattle.std.{proofs.{Common.{List, Option, ap, drop, length, refl, slice_get, slice_set, sym, ◌∙◌, rules}, lemmas.List.take_at}, specs.Prelude.slice_index_or}
+use Rattle.monitor.{specs.declared.guest.{Guest.Guest, Held.Held}, proofs.{ConfigSteps.same_at, Counts.set_counted}}
 use Rattle.model_handoff.specs.Changes.{after_change}
-use Rattle.monitor.proofs.ConfigSteps.{same_at}
-use Rattle.monitor.proofs.Counts.{set_counted}
 use Rattle.monitor.proofs.moving.exchange_in.Goals as goal
 
 pub exchange-requires : goal.exchange-requires

@@ -1,6 +1,5 @@
 use Rattle.std.proofs.Common.{◌∙◌, ◌==◌, ap, not, rules}
-use Rattle.monitor.specs.Counts.{counted_nth}
-use Rattle.monitor.proofs.Exchanges.{has_held, has_left}
+use Rattle.monitor.{specs.Counts.counted_nth, proofs.Exchanges.{has_held, has_left}}
 use Rattle.monitor.proofs.moving.hand_over.Goals as goal
 
 pub exchange_in-requires : goal.exchange_in-requires

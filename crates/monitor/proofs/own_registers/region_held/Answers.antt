@@ -1,14 +1,7 @@
-use Rattle.std.proofs.Common.{◌≡◌, ◌≤◌, ◌+◌, ℕ, Option, length, Some, None, slice_get, refl, sym, ap, ◌∙◌, subst}
-use Rattle.std.specs.Prelude.{unwrap_or, option_map}
-use Rattle.std.proofs.lemmas.Bool.{ltb-true, ltb-false}
-use Rattle.std.proofs.lemmas.Option.{slice_get_read, slice_get_past}
-use Rattle.model_registers.specs.Declarations.{Kind, registers_of}
-use Rattle.model_registers.specs.Decoding.{base}
-use Rattle.bars.specs.Kinds.{kind_of}
-use Rattle.bars.specs.Slots.{slot_at}
-use Rattle.bars.specs.declared.region.BasedRegion.{BasedRegion}
-use Rattle.monitor.specs.OwnTold.{standing}
-use Rattle.monitor.proofs.Queries.{a_region}
+use Rattle.std.{proofs.{Common.{◌≡◌, ◌≤◌, ◌+◌, ℕ, Option, length, Some, None, slice_get, refl, sym, ap, ◌∙◌, subst}, lemmas.{Bool.{ltb-true, ltb-false}, Option.{slice_get_read, slice_get_past}}}, specs.Prelude.{unwrap_or, option_map}}
+use Rattle.model_registers.specs.{Declarations.{Kind, registers_of}, Decoding.base}
+use Rattle.bars.specs.{Kinds.kind_of, Slots.slot_at, declared.region.BasedRegion.BasedRegion}
+use Rattle.monitor.{specs.OwnTold.standing, proofs.Queries.a_region}
 use Rattle.monitor.proofs.own_registers.region_held.Goals as goal
 
 pub returns-in-Some-Some-clause-told : goal.returns-in-Some-Some-clause-told

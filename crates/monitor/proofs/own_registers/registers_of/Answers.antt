@@ -1,6 +1,5 @@
 use Rattle.std.proofs.Common.{ℕ, List, ap₂}
-use Rattle.model_registers.specs.EndpointTable.{BaseAddress}
-use Rattle.model_registers.specs.OwnCopies.{OwnCopies}
+use Rattle.model_registers.specs.{EndpointTable.BaseAddress, OwnCopies.OwnCopies}
 use Rattle.model_board.specs.Ports.{file_at}
 use Rattle.monitor.proofs.OwnStanding.{six_standing}
 use Rattle.monitor.proofs.own_registers.registers_of.Goals as goal

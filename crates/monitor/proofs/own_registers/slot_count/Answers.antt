@@ -1,6 +1,5 @@
 use Rattle.std.proofs.Common.{◌≡◌, length, arith}
-use Rattle.monitor.specs.ByIndex.{guest_nth, lone_nth}
-use Rattle.monitor.proofs.Landed.{same_count}
+use Rattle.monitor.{specs.ByIndex.{guest_nth, lone_nth}, proofs.Landed.same_count}
 use Rattle.monitor.proofs.own_registers.slot_count.Goals as goal
 
 pub returns : goal.returns

@@ -1,10 +1,6 @@
-use Rattle.std.proofs.Common.{◌≡◌, Option, length, Some, None, slice_get, refl, sym, ap, ◌∙◌}
-use Rattle.std.specs.Prelude.{is_some, nat_lt, unwrap_or}
-use Rattle.std.proofs.lemmas.Bool.{ltb-true, ltb-false}
-use Rattle.std.proofs.lemmas.Option.{slice_get_read, slice_get_past}
+use Rattle.std.{proofs.{Common.{◌≡◌, Option, length, Some, None, slice_get, refl, sym, ap, ◌∙◌}, lemmas.{Bool.{ltb-true, ltb-false}, Option.{slice_get_read, slice_get_past}}}, specs.Prelude.{is_some, nat_lt, unwrap_or}}
 use Rattle.model_guests.specs.Slots.{raise_place}
-use Rattle.bars.specs.Slots.{slot_at}
-use Rattle.bars.specs.declared.region.BasedRegion.{BasedRegion}
+use Rattle.bars.specs.{Slots.slot_at, declared.region.BasedRegion.BasedRegion}
 use Rattle.headers.specs.declared.place.Place.{Place}
 use Rattle.accesses.specs.Accesses.{part_of}
 use Rattle.monitor.proofs.RaisePlaces.{region_reaches}

@@ -1,13 +1,10 @@
-use Rattle.std.proofs.Common.{◌≡◌, ℕ, Bool, true, false, cond, None, Option, Some, ap, sym, ◌∙◌, arith}
-use Rattle.std.specs.Prelude.{nat_lt}
-use Rattle.std.proofs.lemmas.Bool.Decides.{nat_tests}
+use Rattle.std.{proofs.{Common.{◌≡◌, ℕ, Bool, true, false, cond, None, Option, Some, ap, sym, ◌∙◌, arith}, lemmas.Bool.Decides.nat_tests}, specs.Prelude.nat_lt}
 use Rattle.model_registers.specs.Decoding.{Function}
 use Rattle.model_guests.specs.Accesses.{in_region}
 use Rattle.model_handoff.specs.RegionBytes.{opening}
 use Rattle.headers.specs.declared.place.Place.{Place}
 use Rattle.accesses.specs.Accesses.{part_of}
-use Rattle.monitor.specs.Queries.{region_named}
-use Rattle.monitor.proofs.RegionBytes.{opening_told}
+use Rattle.monitor.{specs.Queries.region_named, proofs.RegionBytes.opening_told}
 use Rattle.monitor.proofs.region_byte.opening.Goals as goal
 
 -- the place is a register's

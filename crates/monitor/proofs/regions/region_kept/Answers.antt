@@ -1,14 +1,8 @@
-use Rattle.std.proofs.Common.{◌≡◌, Option, length, Some, None, slice_get, refl, sym, ap, ◌∙◌}
-use Rattle.std.specs.Prelude.{unwrap_or, option_map}
-use Rattle.std.proofs.lemmas.Bool.{ltb-true, ltb-false}
-use Rattle.std.proofs.lemmas.Option.{slice_get_read, slice_get_past}
+use Rattle.std.{proofs.{Common.{◌≡◌, Option, length, Some, None, slice_get, refl, sym, ap, ◌∙◌}, lemmas.{Bool.{ltb-true, ltb-false}, Option.{slice_get_read, slice_get_past}}}, specs.Prelude.{unwrap_or, option_map}}
 use Rattle.model_registers.specs.Decoding.{is_open}
 use Rattle.model_handoff.specs.GuestRegions.{RegionNow, region_now}
-use Rattle.bars.specs.Kinds.{kind_of}
-use Rattle.bars.specs.Slots.{slot_at}
-use Rattle.bars.specs.declared.region.BasedRegion.{BasedRegion}
-use Rattle.monitor.specs.Queries.{region_named}
-use Rattle.monitor.proofs.Queries.{no_region, a_region, region_told}
+use Rattle.bars.specs.{Kinds.kind_of, Slots.slot_at, declared.region.BasedRegion.BasedRegion}
+use Rattle.monitor.{specs.Queries.region_named, proofs.Queries.{no_region, a_region, region_told}}
 use Rattle.monitor.proofs.regions.region_kept.Goals as goal
 
 pub returns-in-Some-Some : goal.returns-in-Some-Some

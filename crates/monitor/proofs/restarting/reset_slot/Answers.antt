@@ -1,9 +1,5 @@
 use Rattle.std.proofs.Common.{◌∙◌, ap, sym, slice_get, rules}
-use Rattle.monitor.specs.declared.guest.Guest.{Guest}
-use Rattle.monitor.specs.Moves.{HandsOver}
-use Rattle.monitor.proofs.Steps.{kept_nth, slot_nth}
-use Rattle.monitor.proofs.Exchanges.{before_is, has_left}
-use Rattle.monitor.proofs.RestartSteps.{kept_none, kept_one}
+use Rattle.monitor.{specs.{declared.guest.Guest.Guest, Moves.HandsOver}, proofs.{Steps.{kept_nth, slot_nth}, Exchanges.{before_is, has_left}, RestartSteps.{kept_none, kept_one}}}
 use Rattle.monitor.proofs.restarting.reset_slot.Goals as goal
 
 pub exchange_in-empty-requires : goal.exchange_in-empty-requires

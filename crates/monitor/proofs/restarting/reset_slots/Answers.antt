@@ -1,8 +1,6 @@
 use Rattle.std.proofs.Common.{◌+◌, ◌∙◌, refl, subst, sym, arith}
 use Rattle.model_guests.specs.WorldNow.{WorldNow}
-use Rattle.monitor.specs.Keeping.{IsKept}
-use Rattle.monitor.proofs.Steps.{kept_nth}
-use Rattle.monitor.proofs.RestartSteps.{ends, goes_on, none_restarted}
+use Rattle.monitor.{specs.Keeping.IsKept, proofs.{Steps.kept_nth, RestartSteps.{ends, goes_on, none_restarted}}}
 use Rattle.monitor.proofs.restarting.reset_slots.Goals as goal
 
 pub loop-slot-init : goal.loop-slot-init

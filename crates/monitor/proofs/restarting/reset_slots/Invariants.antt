@@ -1,10 +1,6 @@
 use Rattle.std.proofs.Common.{◌≡◌, ◌≤◌, List}
-use Rattle.model_guests.specs.Text.{Text}
-use Rattle.model_guests.specs.WorldNow.{WorldNow}
-use Rattle.monitor.specs.Counts.{counts_of}
-use Rattle.monitor.specs.Keeping.{IsKept}
-use Rattle.monitor.specs.Moves.{HasSlot}
-use Rattle.monitor.proofs.RestartSteps.{slots_restarted}
+use Rattle.model_guests.specs.{Text.Text, WorldNow.WorldNow}
+use Rattle.monitor.{specs.{Counts.counts_of, Keeping.IsKept, Moves.HasSlot}, proofs.RestartSteps.slots_restarted}
 use Rattle.monitor.proofs.restarting.reset_slots.Given as goal
 
 -- the slots so far are at reset

@@ -2,13 +2,7 @@ use Rattle.std.proofs.Common.{◌∙◌, List, true, ap, refl, subst, sym}
 use Rattle.lists.proofs.Indices.{get_set}
 use Rattle.model_guests.specs.WorldNow.{WorldNow}
 use Rattle.model_handoff.specs.Changes.{after_change}
-use Rattle.monitor.specs.declared.guest.Guest.{Guest}
-use Rattle.monitor.specs.Counts.{counts_of}
-use Rattle.monitor.specs.Keeping.{IsKept}
-use Rattle.monitor.specs.Moves.{HasSlot}
-use Rattle.monitor.proofs.Counts.{set_counted}
-use Rattle.monitor.proofs.Steps.{kept_nth}
-use Rattle.monitor.proofs.RestartSteps.{both, kept_clear, latch_cleared}
+use Rattle.monitor.{specs.{declared.guest.Guest.Guest, Counts.counts_of, Keeping.IsKept, Moves.HasSlot}, proofs.{Counts.set_counted, Steps.kept_nth, RestartSteps.{both, kept_clear, latch_cleared}}}
 use Rattle.monitor.proofs.restarting.restart.Goals as goal
 
 pub reset_slots-requires : goal.reset_slots-requires

@@ -1,9 +1,7 @@
-use Rattle.std.proofs.Common.{◌≡◌, Ok, Err, subst}
-use Rattle.std.specs.Prelude.{IfErr, IfOk}
+use Rattle.std.{proofs.Common.{◌≡◌, Ok, Err, subst}, specs.Prelude.{IfErr, IfOk}}
 use Rattle.model_images.specs.LoadedBytes.{Left}
 use Rattle.images.specs.Faults.{number_of}
-use Rattle.monitor.specs.Views.{slot_shown}
-use Rattle.monitor.proofs.SavedImages.{empty_after, filled_after}
+use Rattle.monitor.{specs.Views.slot_shown, proofs.SavedImages.{empty_after, filled_after}}
 use Rattle.monitor.proofs.saving.after_slot.Goals as goal
 
 pub returns-in-Some-clause-left : goal.returns-in-Some-clause-left

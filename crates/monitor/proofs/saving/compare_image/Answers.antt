@@ -1,11 +1,7 @@
-use Rattle.std.proofs.Common.{◌≡◌, ◌∙◌, Ok, Err, List, Option, [], ap, subst, arith}
-use Rattle.std.specs.Prelude.{IfErr, IfOk, map}
+use Rattle.std.{proofs.Common.{◌≡◌, ◌∙◌, Ok, Err, List, Option, [], ap, subst, arith}, specs.Prelude.{IfErr, IfOk, map}}
 use Rattle.model_images.specs.LoadedBytes.{Left, after_slots}
 use Rattle.images.specs.Faults.{number_of}
-use Rattle.monitor.specs.declared.guest.Held.{Held}
-use Rattle.monitor.specs.ShownImages.{lone_shown}
-use Rattle.monitor.specs.Views.{slot_shown}
-use Rattle.monitor.proofs.SavedImages.{header_ends, slots_decide}
+use Rattle.monitor.{specs.{declared.guest.Held.Held, ShownImages.lone_shown, Views.slot_shown}, proofs.SavedImages.{header_ends, slots_decide}}
 use Rattle.monitor.proofs.saving.compare_image.Goals as goal
 
 pub returns-in_err-bytes-clause-refused : goal.returns-in_err-bytes-clause-refused

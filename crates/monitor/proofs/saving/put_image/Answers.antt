@@ -1,9 +1,7 @@
 use Rattle.std.proofs.Common.{◌+◌, ◌∙◌, List, Option, ℕ, length, ap, sym, subst, arith}
 use Rattle.images.specs.Puts.{put}
 use Rattle.model_images.specs.Layouts.{le_bytes}
-use Rattle.monitor.specs.declared.guest.Held.{Held}
-use Rattle.monitor.specs.ShownImages.{HavePlaces, slots_image}
-use Rattle.monitor.proofs.SavedImages.{image_put, size_is}
+use Rattle.monitor.{specs.{declared.guest.Held.Held, ShownImages.{HavePlaces, slots_image}}, proofs.SavedImages.{image_put, size_is}}
 use Rattle.monitor.proofs.saving.put_image.Goals as goal
 
 pub put-next-requires : goal.put-next-requires

@@ -1,10 +1,6 @@
 use Rattle.std.proofs.Common.{◌≤◌, ◌+◌, ◌∙◌, [], ◌∷◌, List, ℕ, length, ap, subst, sym, arith}
-use Rattle.images.specs.Puts.{put}
-use Rattle.images.proofs.Puts.{next}
-use Rattle.images.specs.Shown.{function_bytes, seen}
-use Rattle.monitor.specs.ShownImages.{HasPlaces}
-use Rattle.monitor.specs.Views.{slot_shown}
-use Rattle.monitor.proofs.SavedImages.{empty_bytes, filled_bytes, places_seen}
+use Rattle.images.{specs.{Puts.put, Shown.{function_bytes, seen}}, proofs.Puts.next}
+use Rattle.monitor.{specs.{ShownImages.HasPlaces, Views.slot_shown}, proofs.SavedImages.{empty_bytes, filled_bytes, places_seen}}
 use Rattle.monitor.proofs.saving.put_slot.Goals as goal
 
 pub put-next-requires : goal.put-next-requires

@@ -1,7 +1,5 @@
 use Rattle.std.proofs.Common.{List, ℕ, length, ap, subst, sym}
-use Rattle.monitor.specs.ShownImages.{HasPlaces}
-use Rattle.monitor.specs.Views.{slot_shown}
-use Rattle.monitor.proofs.SavedImages.{empty_bytes, places_seen, slot_size_is}
+use Rattle.monitor.{specs.{ShownImages.HasPlaces, Views.slot_shown}, proofs.SavedImages.{empty_bytes, places_seen, slot_size_is}}
 use Rattle.monitor.proofs.saving.slot_size.Goals as goal
 
 pub function_size-requires : goal.function_size-requires

@@ -1,6 +1,5 @@
-use Rattle.std.proofs.Common.{ap, ◌∙◌, rules}
+use Rattle.std.proofs.{Common.{ap, ◌∙◌, rules}, lemmas.List.take_all}
 use Rattle.lists.proofs.Indices.{read_at}
-use Rattle.std.proofs.lemmas.List.{take_all}
 use Rattle.monitor.proofs.TakenOver.{reset_on, none_reset, path_reset}
 use Rattle.monitor.proofs.taking.reset_all.Goals as goal
 

@@ -1,9 +1,7 @@
-use Rattle.std.proofs.Common.{◌≡◌, List, ap, ◌∙◌}
-use Rattle.std.specs.Prelude.{flat_map}
+use Rattle.std.{proofs.{Common.{◌≡◌, List, ap, ◌∙◌}, lemmas.List.take_all}, specs.Prelude.flat_map}
 use Rattle.lists.proofs.Indices.{read_at}
 use Rattle.model_guests.specs.World.{Guest}
 use Rattle.host_bridge.specs.HostState.{with_latch}
-use Rattle.std.proofs.lemmas.List.{take_all}
 use Rattle.monitor.proofs.TakenOver.{reset_on, none_reset, guest_reset}
 use Rattle.monitor.proofs.taking.take_over.Goals as goal
 

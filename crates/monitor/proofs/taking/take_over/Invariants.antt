@@ -1,5 +1,4 @@
-use Rattle.std.proofs.Common.{◌≡◌, take}
-use Rattle.std.specs.Prelude.{flat_map}
+use Rattle.std.{proofs.Common.{◌≡◌, take}, specs.Prelude.flat_map}
 use Rattle.model_guests.specs.World.{Guest}
 use Rattle.monitor.proofs.TakenOver.{reset_on}
 use Rattle.monitor.proofs.taking.take_over.Given as goal

@@ -1,6 +1,4 @@
-use Rattle.std.proofs.Common.{List, ap, ◌∙◌}
-use Rattle.std.specs.Prelude.{position}
-use Rattle.std.specs.Str.{bytes_eq}
+use Rattle.std.{proofs.Common.{List, ap, ◌∙◌}, specs.{Prelude.position, Str.bytes_eq}}
 use Rattle.model_guests.specs.Text.{Text}
 use Rattle.lines.proofs.NameLemmas.{place_of-names}
 use Rattle.pciguest_c.proofs.asking.index_named.Goals as goal

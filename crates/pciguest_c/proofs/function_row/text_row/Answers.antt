@@ -1,5 +1,4 @@
-use Rattle.std.proofs.Common.{◌++◌, ℕ, List, length, ap, ◌∙◌}
-use Rattle.std.proofs.lemmas.List.{drop-replicate}
+use Rattle.std.proofs.{Common.{◌++◌, ℕ, List, length, ap, ◌∙◌}, lemmas.List.drop-replicate}
 use Rattle.pciguest_c.proofs.function_row.text_row.Goals as goal
 
 pub returns : goal.returns

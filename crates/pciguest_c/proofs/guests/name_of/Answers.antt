@@ -1,10 +1,8 @@
 -- The name at an index among the names is that of the guest at this index.
-use Rattle.std.proofs.Common.{List, slice_get, sym, ap, ◌∙◌}
-use Rattle.std.proofs.lemmas.Bool.{ltb-true}
+use Rattle.std.proofs.{Common.{List, slice_get, sym, ap, ◌∙◌}, lemmas.Bool.ltb-true}
 use Rattle.arrayvec.specs.ArrayString.{ArrayString}
 use Rattle.lists.proofs.Indices.{read_at, map_at, at_map}
-use Rattle.model_guests.specs.Text.{Text}
-use Rattle.model_guests.specs.Guests.{GuestNow}
+use Rattle.model_guests.specs.{Text.Text, Guests.GuestNow}
 use Rattle.monitor.proofs.Steps.{nth_there}
 use Rattle.pciguest_c.proofs.guests.name_of.Goals as goal
 

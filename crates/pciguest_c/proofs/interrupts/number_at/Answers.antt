@@ -1,5 +1,4 @@
-use Rattle.std.proofs.Common.{ℕ, None, Some, Option, ap, ◌∙◌}
-use Rattle.std.specs.Prelude.{unwrap_or}
+use Rattle.std.{proofs.Common.{ℕ, None, Some, Option, ap, ◌∙◌}, specs.Prelude.unwrap_or}
 use Rattle.model_guests.specs.WorldNow.{board_state}
 use Rattle.pciguest_c.proofs.FoundRegisters.{number_found}
 use Rattle.pciguest_c.proofs.interrupts.number_at.Goals as goal

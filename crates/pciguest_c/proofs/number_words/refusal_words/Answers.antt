@@ -1,11 +1,7 @@
 -- The words stand after twelve bytes of the text of each refusal.
-use Rattle.std.proofs.Common.{◌≡◌, ℕ, ◌-◌, List, ◌++◌, length, take, drop, refl, ap, ◌∙◌}
-use Rattle.std.specs.Prelude.{codes, decimal}
-use Rattle.std.specs.Fmt.{digits}
+use Rattle.std.{proofs.Common.{◌≡◌, ℕ, ◌-◌, List, ◌++◌, length, take, drop, refl, ap, ◌∙◌}, specs.{Prelude.{codes, decimal}, Fmt.digits}}
 use Rattle.model_guests.specs.Replies.{refusal_words}
-use Rattle.accesses.specs.Refusals.{number_of}
-use Rattle.accesses.specs.declared.refusal.Refusal.{Refusal}
-use Rattle.accesses.specs.declared.refusal.Refusal.TheVariants.{Misaligned, Width, Range, BadLine, UnknownGuest, LongLine, EmptySlot, SlotTaken}
+use Rattle.accesses.specs.{Refusals.number_of, declared.refusal.Refusal.{Refusal, TheVariants.{Misaligned, Width, Range, BadLine, UnknownGuest, LongLine, EmptySlot, SlotTaken}}}
 use Rattle.pciguest_c.proofs.number_words.refusal_words.Goals as goal
 
 abbrev text_of : ℕ → List ℕ

@@ -1,5 +1,4 @@
-use Rattle.pciguest_c.specs.ImagesTold.{image_asked}
-use Rattle.pciguest_c.proofs.Images.{told_at_front}
+use Rattle.pciguest_c.{specs.ImagesTold.image_asked, proofs.Images.told_at_front}
 use Rattle.pciguest_c.proofs.saving.save.Goals as goal
 
 pub returns-clause-image : goal.returns-clause-image

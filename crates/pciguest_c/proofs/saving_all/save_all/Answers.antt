@@ -1,5 +1,4 @@
-use Rattle.pciguest_c.specs.ImagesTold.{machine_image}
-use Rattle.pciguest_c.proofs.Images.{told_at_front}
+use Rattle.pciguest_c.{specs.ImagesTold.machine_image, proofs.Images.told_at_front}
 use Rattle.pciguest_c.proofs.saving_all.save_all.Goals as goal
 
 pub returns-clause-image : goal.returns-clause-image

@@ -1,8 +1,7 @@
 use Rattle.std.proofs.Common.{string_bytes}
 use Rattle.diagnostics.specs.declared.style.Style.TheVariants.{Plain}
 use Rattle.board_fit.specs.declared.warned.Warned.TheVariants.{Likely}
-use Rattle.pciguest_c.specs.Checks.{board_name}
-use Rattle.pciguest_c.proofs.OpenFaults.{known, out_of_memory}
+use Rattle.pciguest_c.{specs.Checks.board_name, proofs.OpenFaults.{known, out_of_memory}}
 use Rattle.pciguest_c.proofs.text.check_of.Goals as goal
 
 pub returns-in-Ok-clause-told : goal.returns-in-Ok-clause-told

@@ -1,5 +1,4 @@
-use Rattle.std.proofs.Common.{◌++◌, length, string_bytes, sym, ap, ◌∙◌, append-nil}
-use Rattle.std.proofs.lemmas.Slice.Zip.{zip_end}
+use Rattle.std.proofs.{Common.{◌++◌, length, string_bytes, sym, ap, ◌∙◌, append-nil}, lemmas.Slice.Zip.zip_end}
 use Rattle.report.proofs.RowTexts.{functions_text_end}
 use Rattle.report.proofs.board_report.push_functions.Goals as goal
 

@@ -1,20 +1,10 @@
 use Rattle.std.proofs.Common.{◌≡◌, ◌∙◌, [], ◌∷◌, Some, ap, refl, sym, subst}
-use Rattle.model_guests.specs.Accesses.{access, raises}
-use Rattle.model_guests.specs.Grammar.{guest, host}
-use Rattle.model_guests.specs.Replies.{line_text}
-use Rattle.model_guests.specs.Guests.{Move, lone_of}
-use Rattle.model_guests.specs.Lone as lone
-use Rattle.model_guests.specs.Lines.{bad, guest_event, host_move, host_read, nothing}
-use Rattle.model_guests.specs.Text.{Text}
-use Rattle.model_guests.specs.WorldNow.{move_reply, names_now, written_by}
-use Rattle.model_guests.specs.Calls.{asks}
-use Rattle.model_handoff.specs.Actions.{calls}
-use Rattle.model_handoff.specs.Changes.{MachineNow, after_on_machine}
-use Rattle.accesses.specs.Accesses.{access_of, host_access_of, part_of, reply_of}
-use Rattle.accesses.specs.Refusals.{number_of}
-use Rattle.lines.specs.Lines.{name_of, meaning_of, who_of}
-use Rattle.lines.specs.declared.line.What.{What}
+use Rattle.model_guests.specs.{Accesses.{access, raises}, Grammar.{guest, host}, Replies.line_text, Guests.{Move, lone_of}, Lines.{bad, guest_event, host_move, host_read, nothing}, Text.Text, WorldNow.{move_reply, names_now, written_by}, Calls.asks}
+use Rattle.model_handoff.specs.{Actions.calls, Changes.{MachineNow, after_on_machine}}
+use Rattle.accesses.specs.{Accesses.{access_of, host_access_of, part_of, reply_of}, Refusals.number_of}
+use Rattle.lines.specs.{Lines.{name_of, meaning_of, who_of}, declared.line.What.What}
 use Rattle.script.proofs.LineAnswers.{answered, moved, move_there, name_there, nothing_done}
+use Rattle.model_guests.specs.Lone as lone
 use Rattle.script.proofs.answers.answer.Goals as goal
 
 pub returns-in-Nothing-clause-after : goal.returns-in-Nothing-clause-after

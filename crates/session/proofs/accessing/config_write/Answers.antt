@@ -1,9 +1,6 @@
-use Rattle.std.proofs.Common.{◌*◌, ◌/◌, ap, ap₂, sym, ◌∙◌}
-use Rattle.std.specs.Prelude.{List}
+use Rattle.std.{proofs.Common.{◌*◌, ◌/◌, ap, ap₂, sym, ◌∙◌}, specs.Prelude.List}
 use Rattle.model_registers.specs.ByteEnables.{lanes, enables_of, into_lanes}
-use Rattle.model_board.specs.State.{BoardFunction}
-use Rattle.model_board.specs.Ports.{after_config_write}
-use Rattle.model_board.proofs.ConfigAccesses.{config_write_by_lanes}
+use Rattle.model_board.{specs.{State.BoardFunction, Ports.after_config_write}, proofs.ConfigAccesses.config_write_by_lanes}
 use Rattle.paths.specs.BusAddresses.{bus_address_of}
 use Rattle.host_bridge.specs.HostState.{with_functions, with_latch}
 use Rattle.session.proofs.accessing.config_write.Goals as goal

@@ -1,6 +1,5 @@
 use Rattle.std.proofs.Common.{◌∙◌}
-use Rattle.session.specs.Stages.{session_now}
-use Rattle.session.proofs.Stages.{answered, told_refusal}
+use Rattle.session.{specs.Stages.session_now, proofs.Stages.{answered, told_refusal}}
 use Rattle.session.proofs.stage.answer_handover.Goals as goal
 
 pub returns-in-Ok-clause-text : goal.returns-in-Ok-clause-text

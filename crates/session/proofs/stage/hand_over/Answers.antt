@@ -1,11 +1,6 @@
-use Rattle.std.proofs.Common.{◌≡◌, sym, subst}
-use Rattle.std.specs.Prelude.{IfSome}
+use Rattle.std.{proofs.Common.{◌≡◌, sym, subst}, specs.Prelude.IfSome}
 use Rattle.model_lines.specs.Sessions.{given}
-use Rattle.session.specs.Boards.{IsHandedOverAs}
-use Rattle.session.specs.Stages.{session_now, board_in}
-use Rattle.session.specs.declared.stage.Stage.{Stage}
-use Rattle.session.specs.declared.stage.Stage.TheVariants.{Driven}
-use Rattle.session.proofs.Stages.{handed_over_as}
+use Rattle.session.{specs.{Boards.IsHandedOverAs, Stages.{session_now, board_in}, declared.stage.Stage.{Stage, TheVariants.Driven}}, proofs.Stages.handed_over_as}
 use Rattle.session.proofs.stage.hand_over.Goals as goal
 
 pub returns-in-Ok-clause-given : goal.returns-in-Ok-clause-given

@@ -2,8 +2,7 @@ use Rattle.std.proofs.Common.{subst}
 use Rattle.diagnostics.specs.declared.style.Style.{Style}
 use Rattle.board_fit.specs.declared.warned.Warned.{Warned}
 use Rattle.lines.specs.Runs.{ends}
-use Rattle.simulation.specs.Choices.{Checks, warned_of}
-use Rattle.simulation.proofs.Told.{checks}
+use Rattle.simulation.{specs.Choices.{Checks, warned_of}, proofs.Told.checks}
 use Rattle.simulation.proofs.choice.perform.Goals as goal
 
 pub returns-in-Check-clause-does : goal.returns-in-Check-clause-does

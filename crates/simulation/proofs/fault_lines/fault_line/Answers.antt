@@ -1,5 +1,4 @@
-use Rattle.std.proofs.Common.{ap, ◌++◌, ◌∙◌, lit<, arith}
-use Rattle.std.specs.Prelude.{codes}
+use Rattle.std.{proofs.Common.{ap, ◌++◌, ◌∙◌, lit<, arith}, specs.Prelude.codes}
 use Rattle.simulation.proofs.FaultNumbers.{assembled}
 use Rattle.simulation.proofs.fault_lines.fault_line.Goals as goal
 

@@ -1,5 +1,4 @@
-use Rattle.std.proofs.Common.{◌≡◌, subst}
-use Rattle.std.specs.Prelude.{IfOk, string_bytes}
+use Rattle.std.{proofs.Common.{◌≡◌, subst}, specs.Prelude.{IfOk, string_bytes}}
 use Rattle.model_guests.specs.Text.{Text}
 use Rattle.simulation.specs.Hints.{unread_line}
 use Rattle.simulation.proofs.hints.file_hint.Goals as goal

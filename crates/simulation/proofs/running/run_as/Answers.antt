@@ -1,10 +1,7 @@
 use Rattle.std.specs.Prelude.{IfErr}
 use Rattle.lines.specs.Runs.{ends}
 use Rattle.session.specs.Files.{Refuses, Breaks}
-use Rattle.simulation.specs.Faults.{OnFile, OnSetUp}
-use Rattle.simulation.specs.Running.{RunsAs}
-use Rattle.simulation.proofs.Ran.{on_error, opened_file, opened_set_up, read_again, written_again}
-use Rattle.simulation.proofs.Scripts.{has_run, none_ran, stopped}
+use Rattle.simulation.{specs.{Faults.{OnFile, OnSetUp}, Running.RunsAs}, proofs.{Ran.{on_error, opened_file, opened_set_up, read_again, written_again}, Scripts.{has_run, none_ran, stopped}}}
 use Rattle.simulation.proofs.running.run_as.Goals as goal
 
 pub returns-in_err-monitor-clause-file : goal.returns-in_err-monitor-clause-file

@@ -1,12 +1,8 @@
-use Rattle.std.proofs.Common.{Err, ap, ◌∙◌, subst, sym}
-use Rattle.std.specs.Prelude.{IfErr}
+use Rattle.std.{proofs.Common.{Err, ap, ◌∙◌, subst, sym}, specs.Prelude.IfErr}
 use Rattle.model_lines.specs.Sessions.{driven}
 use Rattle.lines.specs.Runs.{ends}
 use Rattle.session.specs.Files.{Refuses}
-use Rattle.simulation.specs.Faults.{OnFile}
-use Rattle.simulation.specs.Serving.{IsServed, Serves}
-use Rattle.simulation.proofs.Ran.{on_error, read_again, written_again}
-use Rattle.simulation.proofs.Served.{is_served, left_by, IsBegun, no_file, of_serving, served_fault, stopped, told_last, unanswered}
+use Rattle.simulation.{specs.{Faults.OnFile, Serving.{IsServed, Serves}}, proofs.{Ran.{on_error, read_again, written_again}, Served.{is_served, left_by, IsBegun, no_file, of_serving, served_fault, stopped, told_last, unanswered}}}
 use Rattle.simulation.proofs.serving.serve.Goals as goal
 
 pub returns-in_err-driven-clause-file : goal.returns-in_err-driven-clause-file

@@ -1,5 +1,4 @@
-use Rattle.std.proofs.Common.{◌++◌, take, sym, ap, ◌∙◌, append_assoc, take-append-drop, arith}
-use Rattle.std.proofs.KnownBytes.{Appends-trans}
+use Rattle.std.proofs.{Common.{◌++◌, take, sym, ap, ◌∙◌, append_assoc, take-append-drop, arith}, KnownBytes.Appends-trans}
 use Rattle.streams.proofs.Transfers.{none_failed, rest_is}
 use Rattle.streams.proofs.writing.write_all.Goals as goal
 

@@ -1,8 +1,6 @@
-use Rattle.std.proofs.Common.{sym, ap, subst}
-use Rattle.std.specs.Prelude.{IsSome}
+use Rattle.std.{proofs.Common.{sym, ap, subst}, specs.Prelude.IsSome}
 use Rattle.model_registers.specs.Decoding.{memory}
-use Rattle.model_board.specs.Paths.{Path}
-use Rattle.model_board.specs.Claims.{Claim}
+use Rattle.model_board.specs.{Paths.Path, Claims.Claim}
 use Rattle.bridge_forward.specs.Lending.{endpoint_at}
 use Rattle.host_bridge.proofs.Lent.{claimed_endpoint, distinct_paths}
 use Rattle.test_streams.proofs.by_path.raised.Goals as goal

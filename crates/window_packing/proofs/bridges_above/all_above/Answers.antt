@@ -1,9 +1,7 @@
-use Rattle.std.proofs.Common.{◌≡◌, ℕ, ◌+◌, ◌-◌, List, length, get_or, slice_set, refl, sym, ap, ◌∙◌, subst, arith}
-use Rattle.std.specs.List.{slice_get}
+use Rattle.std.{proofs.Common.{◌≡◌, ℕ, ◌+◌, ◌-◌, List, length, get_or, slice_set, refl, sym, ap, ◌∙◌, subst, arith}, specs.List.slice_get}
 use Rattle.model_set_up.specs.FunctionTable.{board_in}
 use Rattle.lists.proofs.Indices.{read_at}
-use Rattle.window_packing.specs.declared.bridges_above.Above.{Above}
-use Rattle.window_packing.proofs.AboveRows.{Followed, more_rows, all_told, length_board}
+use Rattle.window_packing.{specs.declared.bridges_above.Above.Above, proofs.AboveRows.{Followed, more_rows, all_told, length_board}}
 use Rattle.window_packing.proofs.bridges_above.all_above.Goals as goal
 
 pub loop-i-preserved : goal.loop-i-preserved

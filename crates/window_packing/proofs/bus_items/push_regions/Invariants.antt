@@ -1,7 +1,6 @@
 use Rattle.std.proofs.Common.{◌≡◌, ◌++◌, List, drop}
 use Rattle.model_registers.specs.Declarations.{Bridge}
-use Rattle.window_packing.specs.Plans.{named_pool}
-use Rattle.window_packing.specs.Packs.{IsOver, pool_items, regions_from}
+use Rattle.window_packing.specs.{Plans.named_pool, Packs.{IsOver, pool_items, regions_from}}
 use Rattle.window_packing.proofs.bus_items.push_regions.Given as goal
 
 abbrev pub invariant-registers : goal.invariant-registers

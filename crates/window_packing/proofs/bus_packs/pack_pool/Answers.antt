@@ -1,20 +1,8 @@
-use Rattle.std.proofs.Common.{◌≡◌, ◌-◌, ◌≤◌, ◌^◌, length, false, List, [], get_or, set, ◌++◌, sym, ap, ◌∙◌, subst, arith, rules}
-use Rattle.std.proofs.lemmas.Option.{slice_get-get_or}
-use Rattle.window_packing.proofs.AboveRows.{length_board}
-use Rattle.std.specs.Prelude.{reverse}
-use Rattle.lists.specs.Elements.{Each}
-use Rattle.lists.proofs.Indices.{at_below, read_at, map_at}
-use Rattle.model_set_up.specs.FunctionTable.{TableRow, board_in}
+use Rattle.std.{proofs.{Common.{◌≡◌, ◌-◌, ◌≤◌, ◌^◌, length, false, List, [], get_or, set, ◌++◌, sym, ap, ◌∙◌, subst, arith, rules}, lemmas.Option.slice_get-get_or}, specs.Prelude.reverse}
+use Rattle.window_packing.{proofs.{AboveRows.length_board, PoolEnds.{no_fit, root_past}, BusItems.{packable, pack_is, end_is, own_is}, Gathering.{none_gathered, IsGathered}, PoolSteps.{above_count, above_row, behind_is, bus_left, row_done, root_is, all_packed, all_bounded}}, specs.{Plans.named_pool, declared.bridges_above.Above.Above, Packs.{BusPack, IsBounded, pack_items, pack_of, own_items}}}
+use Rattle.lists.{specs.Elements.Each, proofs.Indices.{at_below, read_at, map_at}}
+use Rattle.model_set_up.specs.{FunctionTable.{TableRow, board_in}, Pools.bridges_above, Placement.Item}
 use Rattle.model_board.specs.Board.{Row}
-use Rattle.model_set_up.specs.Pools.{bridges_above}
-use Rattle.model_set_up.specs.Placement.{Item}
-use Rattle.window_packing.specs.Plans.{named_pool}
-use Rattle.window_packing.specs.declared.bridges_above.Above.{Above}
-use Rattle.window_packing.specs.Packs.{BusPack, IsBounded, pack_items, pack_of, own_items}
-use Rattle.window_packing.proofs.PoolEnds.{no_fit, root_past}
-use Rattle.window_packing.proofs.BusItems.{packable, pack_is, end_is, own_is}
-use Rattle.window_packing.proofs.Gathering.{none_gathered, IsGathered}
-use Rattle.window_packing.proofs.PoolSteps.{above_count, above_row, behind_is, bus_left, row_done, root_is, all_packed, all_bounded}
 use Rattle.window_packing.proofs.bus_packs.pack_pool.Goals as goal
 
 pub rows-init : goal.rows-init

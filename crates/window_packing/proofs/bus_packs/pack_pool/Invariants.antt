@@ -1,6 +1,5 @@
 use Rattle.model_set_up.specs.FunctionTable.{board_in}
-use Rattle.window_packing.specs.Plans.{named_pool}
-use Rattle.window_packing.proofs.Gathering.{IsGathered}
+use Rattle.window_packing.{specs.Plans.named_pool, proofs.Gathering.IsGathered}
 use Rattle.window_packing.proofs.bus_packs.pack_pool.Given as goal
 
 abbrev pub invariant-rows : goal.invariant-rows

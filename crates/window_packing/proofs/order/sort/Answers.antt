@@ -1,5 +1,4 @@
-use Rattle.std.proofs.Common.{rules}
-use Rattle.std.proofs.lemmas.Fn.{always_returns_same}
+use Rattle.std.proofs.{Common.rules, lemmas.Fn.always_returns_same}
 use Rattle.model_set_up.specs.Placement.{stands_before}
 use Rattle.window_packing.proofs.ItemRanks.{weak_order}
 use Rattle.window_packing.proofs.order.sort.Goals as goal

@@ -1,5 +1,4 @@
-use Rattle.std.proofs.Common.{arith}
-use Rattle.std.proofs.lemmas.List.{drop_all}
+use Rattle.std.proofs.{Common.arith, lemmas.List.drop_all}
 use Rattle.model_set_up.proofs.Items.{unit_below}
 use Rattle.window_packing.proofs.pack.alignment.Goals as goal
 

@@ -1,10 +1,7 @@
 use Rattle.std.proofs.Common.{List, sym, ◌∙◌, subst, arith}
-use Rattle.lists.specs.Elements.{Each}
-use Rattle.lists.proofs.EachLemmas.{each_permutation}
-use Rattle.model_set_up.specs.Placement.{Item, in_order}
-use Rattle.model_set_up.proofs.ItemOrder.{order_is_sorted}
-use Rattle.window_packing.specs.Packs.{HasLawfulAlign}
-use Rattle.window_packing.proofs.ItemRanks.{alignment-in_order}
+use Rattle.lists.{specs.Elements.Each, proofs.EachLemmas.each_permutation}
+use Rattle.model_set_up.{specs.Placement.{Item, in_order}, proofs.ItemOrder.order_is_sorted}
+use Rattle.window_packing.{specs.Packs.HasLawfulAlign, proofs.ItemRanks.alignment-in_order}
 use Rattle.window_packing.proofs.pack.pack_bus.Goals as goal
 
 pub place_all-requires : goal.place_all-requires

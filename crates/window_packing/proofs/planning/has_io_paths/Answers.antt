@@ -1,16 +1,9 @@
-use Rattle.std.proofs.Common.{◌≡◌, ◌||◌, Bool, false, not, Some, get_or, ap, sym, ◌∙◌, arith}
-use Rattle.std.proofs.lemmas.Option.{slice_get-get_or}
-use Rattle.std.specs.List.{slice_get, list_all}
+use Rattle.std.{proofs.{Common.{◌≡◌, ◌||◌, Bool, false, not, Some, get_or, ap, sym, ◌∙◌, arith}, lemmas.Option.slice_get-get_or}, specs.List.{slice_get, list_all}}
 use Rattle.model_registers.specs.Declarations.{Bridge}
 use Rattle.model_board.specs.Board.{Row}
-use Rattle.model_set_up.specs.Pools.{bridges_above, opens_io, has_io}
-use Rattle.model_set_up.specs.FunctionTable.{board_in}
+use Rattle.model_set_up.specs.{Pools.{bridges_above, opens_io, has_io}, FunctionTable.board_in}
 use Rattle.lists.proofs.Indices.{read_at, map_at, fails_at}
-use Rattle.window_packing.specs.declared.bridges_above.Above.{Above}
-use Rattle.window_packing.proofs.AboveRows.{length_board, tells_at}
-use Rattle.window_packing.proofs.BusIndex.{row_in}
-use Rattle.window_packing.proofs.PoolSteps.{above_count}
-use Rattle.window_packing.proofs.RowTests.{all_more, all_rows_pass}
+use Rattle.window_packing.{specs.declared.bridges_above.Above.Above, proofs.{AboveRows.{length_board, tells_at}, BusIndex.row_in, PoolSteps.above_count, RowTests.{all_more, all_rows_pass}}}
 use Rattle.window_packing.proofs.planning.has_io_paths.Goals as goal
 
 abbrev nothing : Above

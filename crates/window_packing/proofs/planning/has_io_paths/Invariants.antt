@@ -1,7 +1,5 @@
-use Rattle.std.proofs.Common.{◌≡◌, ◌||◌, not, take, true}
-use Rattle.std.specs.List.{list_all}
-use Rattle.model_set_up.specs.FunctionTable.{board_in}
-use Rattle.model_set_up.specs.Pools.{bridges_above, opens_io, has_io}
+use Rattle.std.{proofs.Common.{◌≡◌, ◌||◌, not, take, true}, specs.List.list_all}
+use Rattle.model_set_up.specs.{FunctionTable.board_in, Pools.{bridges_above, opens_io, has_io}}
 use Rattle.window_packing.proofs.planning.has_io_paths.Given as goal
 
 abbrev pub invariant-loop-i : goal.invariant-loop-i

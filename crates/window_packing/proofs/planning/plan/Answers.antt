@@ -1,9 +1,6 @@
-use Rattle.std.proofs.Common.{◌≡◌, List, sym, subst, arith}
-use Rattle.std.proofs.lemmas.Result.{err_from_is_err_and}
-use Rattle.model_board.specs.Board.{IsBoard}
-use Rattle.model_board.specs.Lawful.{HasLawfulDecls}
-use Rattle.model_set_up.specs.SetUpWrites.{planned}
-use Rattle.model_set_up.specs.FunctionTable.{TableRow, board_in}
+use Rattle.std.proofs.{Common.{◌≡◌, List, sym, subst, arith}, lemmas.Result.err_from_is_err_and}
+use Rattle.model_board.specs.{Board.IsBoard, Lawful.HasLawfulDecls}
+use Rattle.model_set_up.specs.{SetUpWrites.planned, FunctionTable.{TableRow, board_in}}
 use Rattle.window_packing.proofs.TablePlans.{listable_rows, planned_rows, refusal_of, plan_of, placeable_of, lawful_of}
 use Rattle.window_packing.proofs.planning.plan.Goals as goal
 

@@ -1,5 +1,4 @@
-use Rattle.std.proofs.Common.{◌≤◌, ◌<◌, ◌^◌, Option, sym, subst, arith}
-use Rattle.std.specs.Option.{IfSome}
+use Rattle.std.{proofs.Common.{◌≤◌, ◌<◌, ◌^◌, Option, sym, subst, arith}, specs.Option.IfSome}
 use Rattle.model_registers.specs.Apertures.{Aperture, IsPrefOption}
 use Rattle.window_packing.proofs.pool_placement.aperture_of.Goals as goal
 

@@ -1,17 +1,8 @@
-use Rattle.std.proofs.Common.{◌≡◌, ◌+◌, false, Some, get_or, ap, ◌∙◌, arith}
-use Rattle.std.proofs.lemmas.Option.{slice_get-get_or}
-use Rattle.std.specs.List.{slice_get}
+use Rattle.std.{proofs.{Common.{◌≡◌, ◌+◌, false, Some, get_or, ap, ◌∙◌, arith}, lemmas.Option.slice_get-get_or}, specs.List.slice_get}
 use Rattle.model_board.specs.Paths.{last_part}
-use Rattle.model_set_up.specs.Placement.{bus_first}
-use Rattle.model_set_up.specs.FunctionTable.{TableRow, board_in}
+use Rattle.model_set_up.specs.{Placement.bus_first, FunctionTable.{TableRow, board_in}}
 use Rattle.lists.proofs.Indices.{read_at, same_at, map_at}
-use Rattle.window_packing.specs.declared.bridges_above.Above.{Above}
-use Rattle.window_packing.specs.Buses.{bus_path}
-use Rattle.window_packing.specs.Plans.{named_pool}
-use Rattle.window_packing.proofs.AboveRows.{length_board}
-use Rattle.window_packing.proofs.BusIndex.{row_in}
-use Rattle.window_packing.proofs.PoolSteps.{above_count}
-use Rattle.window_packing.proofs.FirstsSoFar.{one_first, more_firsts, all_firsts, pack_is, count_packs, bus_low, own_strict, own_align, behind_first, behind_bound}
+use Rattle.window_packing.{specs.{declared.bridges_above.Above.Above, Buses.bus_path, Plans.named_pool}, proofs.{AboveRows.length_board, BusIndex.row_in, PoolSteps.above_count, FirstsSoFar.{one_first, more_firsts, all_firsts, pack_is, count_packs, bus_low, own_strict, own_align, behind_first, behind_bound}}}
 use Rattle.window_packing.proofs.pool_placement.bus_firsts.Goals as goal
 
 abbrev none : Above

@@ -1,6 +1,5 @@
 use Rattle.model_set_up.specs.FunctionTable.{board_in}
-use Rattle.window_packing.specs.Plans.{named_pool}
-use Rattle.window_packing.proofs.FirstsSoFar.{AreFirsts}
+use Rattle.window_packing.{specs.Plans.named_pool, proofs.FirstsSoFar.AreFirsts}
 use Rattle.window_packing.proofs.pool_placement.bus_firsts.Given as goal
 
 abbrev pub invariant-loop-i : goal.invariant-loop-i

@@ -1,5 +1,4 @@
-use Rattle.std.proofs.Common.{arith}
-use Rattle.std.proofs.lemmas.List.{nil_from_length}
+use Rattle.std.proofs.{Common.arith, lemmas.List.nil_from_length}
 use Rattle.window_packing.proofs.PackFits.{fits_empty}
 use Rattle.window_packing.proofs.pool_placement.fits.Goals as goal
 

@@ -1,16 +1,9 @@
-use Rattle.std.proofs.Common.{◌≡◌, Option, Result, List, arith}
-use Rattle.std.specs.Prelude.{IfOk, IfSome, nat_le}
+use Rattle.std.{proofs.Common.{◌≡◌, Option, Result, List, arith}, specs.Prelude.{IfOk, IfSome, nat_le}}
 use Rattle.model_registers.specs.Apertures.{Apertures}
 use Rattle.model_board.specs.Board.{Board}
-use Rattle.model_set_up.specs.Pools.{Pool}
-use Rattle.model_set_up.specs.Placement.{fits}
-use Rattle.model_set_up.specs.FunctionTable.{TableRow, board_in}
+use Rattle.model_set_up.specs.{Pools.Pool, Placement.fits, FunctionTable.{TableRow, board_in}}
 use Rattle.bus_scan.specs.SizedTables.{IsTableOf}
-use Rattle.window_packing.specs.declared.pool_uses.PoolUse.{PoolUse}
-use Rattle.window_packing.specs.Plans.{named_pool}
-use Rattle.window_packing.specs.Uses.{told_use}
-use Rattle.window_packing.proofs.TablePlans.{use_of}
-use Rattle.window_packing.proofs.UseFits.{use_fits}
+use Rattle.window_packing.{specs.{declared.pool_uses.PoolUse.PoolUse, Plans.named_pool, Uses.told_use}, proofs.{TablePlans.use_of, UseFits.use_fits}}
 use Rattle.window_packing.proofs.pool_uses.pool_use.Goals as goal
 
 module _ {E : Type 0} (t rows : List TableRow) (same : rows ≡ t) (a : Apertures) (pool : Pool) where

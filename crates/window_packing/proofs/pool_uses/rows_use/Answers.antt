@@ -1,14 +1,9 @@
-use Rattle.std.proofs.Common.{◌≡◌, List, [], get_or, Some, arith}
-use Rattle.std.proofs.lemmas.Bool.{le-leb}
+use Rattle.std.proofs.{Common.{◌≡◌, List, [], get_or, Some, arith}, lemmas.Bool.le-leb}
 use Rattle.lists.specs.Elements.{Each}
 use Rattle.model_board.specs.Board.{Board}
 use Rattle.model_registers.specs.Apertures.{Apertures}
-use Rattle.model_set_up.specs.Pools.{Pool}
-use Rattle.model_set_up.specs.FunctionTable.{board_in}
-use Rattle.window_packing.specs.declared.pool_uses.PoolUse.{PoolUse}
-use Rattle.window_packing.specs.Packs.{BusPack, IsBounded, pack_of, packs_of}
-use Rattle.window_packing.specs.Plans.{named_pool}
-use Rattle.window_packing.specs.Uses.{pool_use, told_use}
+use Rattle.model_set_up.specs.{Pools.Pool, FunctionTable.board_in}
+use Rattle.window_packing.specs.{declared.pool_uses.PoolUse.PoolUse, Packs.{BusPack, IsBounded, pack_of, packs_of}, Plans.named_pool, Uses.{pool_use, told_use}}
 use Rattle.window_packing.proofs.pool_uses.rows_use.Goals as goal
 
 -- the first of the packs is that of bus 0

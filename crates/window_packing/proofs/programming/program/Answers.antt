@@ -1,5 +1,4 @@
-use Rattle.std.proofs.Common.{arith}
-use Rattle.std.proofs.lemmas.List.{drop_all}
+use Rattle.std.proofs.{Common.arith, lemmas.List.drop_all}
 use Rattle.window_packing.proofs.SetUpWrites.{plan_written}
 use Rattle.window_packing.proofs.programming.program.Goals as goal
 

@@ -1,9 +1,7 @@
-use Rattle.std.proofs.Common.{ap, sym, ◌∙◌, arith}
-use Rattle.std.specs.Prelude.{flat_map}
+use Rattle.std.{proofs.Common.{ap, sym, ◌∙◌, arith}, specs.Prelude.flat_map}
 use Rattle.bars.specs.Slots.{bases_from}
 use Rattle.paths.specs.BusAddresses.{bus_address_of}
-use Rattle.window_packing.specs.WordWrites.{word, base_words, after_word, after_words, host_after}
-use Rattle.window_packing.proofs.HostWrites.{last_word, none_left}
+use Rattle.window_packing.{specs.WordWrites.{word, base_words, after_word, after_words, host_after}, proofs.HostWrites.{last_word, none_left}}
 use Rattle.window_packing.proofs.programming.write_endpoint.Goals as goal
 
 pub returns : goal.returns

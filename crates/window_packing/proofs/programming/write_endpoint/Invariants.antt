@@ -1,6 +1,5 @@
 -- What is still to write gives what the writes of all bases give.
-use Rattle.std.proofs.Common.{◌≡◌, drop}
-use Rattle.std.specs.Prelude.{flat_map}
+use Rattle.std.{proofs.Common.{◌≡◌, drop}, specs.Prelude.flat_map}
 use Rattle.bars.specs.Slots.{bases_from}
 use Rattle.paths.specs.BusAddresses.{bus_address_of}
 use Rattle.window_packing.specs.WordWrites.{after_words, base_words, host_after}

@@ -1,6 +1,5 @@
 use Rattle.std.proofs.lemmas.Result.{err_from_is_err_and}
-use Rattle.window_packing.specs.Readies.{ReadyBoard}
-use Rattle.window_packing.proofs.SetUps.{refused_left, kept_left, placeable_left, plan_left, host_left, board_left, ready_left, own_claims}
+use Rattle.window_packing.{specs.Readies.ReadyBoard, proofs.SetUps.{refused_left, kept_left, placeable_left, plan_left, host_left, board_left, ready_left, own_claims}}
 use Rattle.window_packing.proofs.ready.set_up.Goals as goal
 
 pub returns-in_err-plan-clause-refused : goal.returns-in_err-plan-clause-refused

@@ -1,7 +1,6 @@
 use Rattle.std.proofs.Common.{◌≡◌, ◌++◌, map, take}
 use Rattle.model_set_up.specs.Layout.{row_of}
-use Rattle.window_packing.specs.Plans.{named_pool}
-use Rattle.window_packing.specs.LayoutRows.{bus_at}
+use Rattle.window_packing.specs.{Plans.named_pool, LayoutRows.bus_at}
 use Rattle.window_packing.proofs.rows.push_bus.Given as goal
 
 abbrev pub invariant-loop-i : goal.invariant-loop-i

@@ -1,10 +1,6 @@
-use Rattle.std.proofs.Common.{◌≡◌, ℕ, ◌<◌, ◌≤◌, List, length, Some, ap, subst, arith}
-use Rattle.std.specs.List.{slice_get}
+use Rattle.std.{proofs.Common.{◌≡◌, ℕ, ◌<◌, ◌≤◌, List, length, Some, ap, subst, arith}, specs.List.slice_get}
 use Rattle.lists.proofs.Indices.{read_at}
-use Rattle.window_packing.specs.Packs.{BusPack}
-use Rattle.window_packing.specs.Placed.{PlacedPool}
-use Rattle.window_packing.specs.Plans.{named_pool}
-use Rattle.window_packing.proofs.LayoutRows.{rows_more}
+use Rattle.window_packing.{specs.{Packs.BusPack, Placed.PlacedPool, Plans.named_pool}, proofs.LayoutRows.rows_more}
 use Rattle.window_packing.proofs.rows.push_pool.Goals as goal
 
 pub loop-bus-preserved : goal.loop-bus-preserved

@@ -1,6 +1,5 @@
 use Rattle.std.proofs.Common.{◌≡◌, ◌++◌, [], ◌∷◌, take}
-use Rattle.window_packing.specs.Plans.{named_pool}
-use Rattle.window_packing.specs.LayoutRows.{rows_along}
+use Rattle.window_packing.specs.{Plans.named_pool, LayoutRows.rows_along}
 use Rattle.window_packing.proofs.rows.push_pool.Given as goal
 
 abbrev pub invariant-loop-bus : goal.invariant-loop-bus

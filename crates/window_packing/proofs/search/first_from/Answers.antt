@@ -1,5 +1,4 @@
-use Rattle.std.proofs.Common.{rules, of_calls}
-use Rattle.std.proofs.lemmas.Fn.{always_returns_same}
+use Rattle.std.proofs.{Common.{rules, of_calls}, lemmas.Fn.always_returns_same}
 use Rattle.model_set_up.specs.Placement.{Spot, stands_before}
 use Rattle.window_packing.proofs.SpotSearch.{first_of_point, parted}
 use Rattle.window_packing.proofs.search.first_from.Goals as goal

@@ -1,10 +1,7 @@
-use Rattle.std.proofs.Common.{◌≡◌, ◌<◌, List, length, true, false, sym, ap, ◌∙◌, subst, arith, Some}
-use Rattle.std.specs.List.{slice_get}
-use Rattle.std.proofs.lemmas.Option.{slice_get_within}
+use Rattle.std.{proofs.{Common.{◌≡◌, ◌<◌, List, length, true, false, sym, ap, ◌∙◌, subst, arith, Some}, lemmas.Option.slice_get_within}, specs.List.slice_get}
 use Rattle.model_set_up.specs.Placement.{Spot, is_item}
 use Rattle.lists.proofs.Indices.{read_at, same_at}
-use Rattle.window_packing.specs.Searching.{IsFirstFrom}
-use Rattle.window_packing.proofs.SpotSearch.{none_there, there}
+use Rattle.window_packing.{specs.Searching.IsFirstFrom, proofs.SpotSearch.{none_there, there}}
 use Rattle.window_packing.proofs.search.offset_of.Goals as goal
 
 pub returns-then-at-len : goal.returns-then-at-len

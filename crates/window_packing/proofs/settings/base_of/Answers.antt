@@ -1,26 +1,10 @@
-use Rattle.std.proofs.Common.{◌≡◌, ℕ, List, [], ◌∷◌, get_or, map, Option, Some, ap, sym, ◌∙◌, subst, arith}
-use Rattle.std.specs.List.{slice_get}
-use Rattle.lists.specs.Elements.{Each}
-use Rattle.model_registers.specs.Declarations.{Bar, Region}
-use Rattle.model_registers.specs.EndpointTable.{BaseAddress}
-use Rattle.model_board.specs.Paths.{last_part}
-use Rattle.model_board.specs.Board.{Row, IsBoard}
-use Rattle.model_board.specs.Lawful.{HasLawfulDecls}
-use Rattle.model_registers.specs.Apertures.{Apertures}
-use Rattle.model_set_up.specs.Pools.{Pool, bridges_above, pool_of}
-use Rattle.model_set_up.specs.Placement.{a_region}
-use Rattle.model_set_up.specs.SetUpWrites.{placed_base}
-use Rattle.model_set_up.specs.FunctionTable.{TableRow, board_in}
-use Rattle.bars.specs.declared.region.BasedRegion.{BasedRegion}
-use Rattle.bars.specs.Slots.{placed}
-use Rattle.lists.proofs.Indices.{read_at, same_at, map_at}
-use Rattle.window_packing.specs.declared.bridges_above.Above.{Above}
-use Rattle.window_packing.specs.Packs.{BusPack, regions_from}
-use Rattle.window_packing.specs.Placed.{PlacedPool, IsPlaced, Placement, IsPlacement, pool_in, IsAboveAt, IsRegionAt}
-use Rattle.window_packing.specs.Plans.{named_pool}
-use Rattle.window_packing.proofs.BusIndex.{row_in}
-use Rattle.window_packing.proofs.PoolSteps.{above_row}
-use Rattle.window_packing.proofs.PlacedFunctions.{placed_in, in_packs, in_firsts, region_strict, region_aligned, region_room, base_is}
+use Rattle.std.{proofs.Common.{◌≡◌, ℕ, List, [], ◌∷◌, get_or, map, Option, Some, ap, sym, ◌∙◌, subst, arith}, specs.List.slice_get}
+use Rattle.lists.{specs.Elements.Each, proofs.Indices.{read_at, same_at, map_at}}
+use Rattle.model_registers.specs.{Declarations.{Bar, Region}, EndpointTable.BaseAddress, Apertures.Apertures}
+use Rattle.model_board.specs.{Paths.last_part, Board.{Row, IsBoard}, Lawful.HasLawfulDecls}
+use Rattle.model_set_up.specs.{Pools.{Pool, bridges_above, pool_of}, Placement.a_region, SetUpWrites.placed_base, FunctionTable.{TableRow, board_in}}
+use Rattle.bars.specs.{declared.region.BasedRegion.BasedRegion, Slots.placed}
+use Rattle.window_packing.{specs.{declared.bridges_above.Above.Above, Packs.{BusPack, regions_from}, Placed.{PlacedPool, IsPlaced, Placement, IsPlacement, pool_in, IsAboveAt, IsRegionAt}, Plans.named_pool}, proofs.{BusIndex.row_in, PoolSteps.above_row, PlacedFunctions.{placed_in, in_packs, in_firsts, region_strict, region_aligned, region_room, base_is}}}
 use Rattle.window_packing.proofs.settings.base_of.Goals as goal
 
 -- the row of the endpoint, the pool of the region, and the bus that it stands on, as they are read

@@ -1,14 +1,8 @@
-use Rattle.std.proofs.Common.{◌≡◌, ℕ, ◌+◌, [], ◌∷◌, get_or, Some, subst, arith}
-use Rattle.std.specs.List.{slice_get}
-use Rattle.std.proofs.lemmas.List.{length-set}
-use Rattle.lists.specs.Elements.{IsIn}
+use Rattle.std.{proofs.{Common.{◌≡◌, ℕ, ◌+◌, [], ◌∷◌, get_or, Some, subst, arith}, lemmas.{List.length-set, Option.slice_get-get_or}}, specs.List.slice_get}
+use Rattle.lists.{specs.Elements.IsIn, proofs.Members.{each_in, each_from}}
 use Rattle.model_set_up.specs.FunctionTable.{board_in}
-use Rattle.lists.proofs.Members.{each_in, each_from}
 use Rattle.bus_scan.specs.Rows.{regions_of}
-use Rattle.window_packing.specs.Packs.{regions_from}
-use Rattle.window_packing.specs.Placed.{IsRegionAt}
-use Rattle.window_packing.proofs.BarLists.{region_among, push_told}
-use Rattle.std.proofs.lemmas.Option.{slice_get-get_or}
+use Rattle.window_packing.{specs.{Packs.regions_from, Placed.IsRegionAt}, proofs.BarLists.{region_among, push_told}}
 use Rattle.window_packing.proofs.settings.bases_of.Goals as goal
 
 pub base_of-requires-clause-found : goal.base_of-requires-clause-found

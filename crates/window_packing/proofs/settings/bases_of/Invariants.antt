@@ -1,8 +1,6 @@
-use Rattle.std.proofs.Common.{◌≡◌, length, take, map, Some}
-use Rattle.std.specs.List.{slice_get}
+use Rattle.std.{proofs.Common.{◌≡◌, length, take, map, Some}, specs.List.slice_get}
 use Rattle.model_board.specs.Board.{Row}
-use Rattle.model_set_up.specs.FunctionTable.{board_in}
-use Rattle.model_set_up.specs.SetUpWrites.{placed_base}
+use Rattle.model_set_up.specs.{FunctionTable.board_in, SetUpWrites.placed_base}
 use Rattle.bars.specs.Slots.{bases_from}
 use Rattle.window_packing.specs.Packs.{regions_from}
 use Rattle.window_packing.proofs.settings.bases_of.Given as goal

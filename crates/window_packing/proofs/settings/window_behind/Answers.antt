@@ -1,18 +1,9 @@
-use Rattle.std.proofs.Common.{rules, ◌≡◌, ◌+◌, ◌<◌, List, ℕ, get_or, length, Some, ap, ◌∙◌, arith}
-use Rattle.std.specs.List.{slice_get}
+use Rattle.std.{proofs.Common.{rules, ◌≡◌, ◌+◌, ◌<◌, List, ℕ, get_or, length, Some, ap, ◌∙◌, arith}, specs.List.slice_get}
 use Rattle.model_registers.specs.Apertures.{Apertures}
-use Rattle.model_board.specs.Board.{IsBoard}
-use Rattle.model_board.specs.Lawful.{HasLawfulDecls}
-use Rattle.model_set_up.specs.Pools.{Pool, unit_of}
-use Rattle.model_set_up.specs.Placement.{items_on}
-use Rattle.model_set_up.specs.SetUp.{window_of}
-use Rattle.model_set_up.specs.FunctionTable.{TableRow, board_in}
+use Rattle.model_board.specs.{Board.IsBoard, Lawful.HasLawfulDecls}
+use Rattle.model_set_up.specs.{Pools.{Pool, unit_of}, Placement.items_on, SetUp.window_of, FunctionTable.{TableRow, board_in}}
 use Rattle.lists.proofs.Indices.{read_at, at_below}
-use Rattle.window_packing.specs.Packs.{BusPack}
-use Rattle.window_packing.specs.Placed.{PlacedPool, IsPlaced}
-use Rattle.window_packing.specs.Plans.{named_pool}
-use Rattle.window_packing.proofs.AboveRows.{length_board}
-use Rattle.window_packing.proofs.PlacedFunctions.{count_pl, count_firsts, behind_first_is, behind_pack, window_some, window_room}
+use Rattle.window_packing.{specs.{Packs.BusPack, Placed.{PlacedPool, IsPlaced}, Plans.named_pool}, proofs.{AboveRows.length_board, PlacedFunctions.{count_pl, count_firsts, behind_first_is, behind_pack, window_some, window_room}}}
 use Rattle.window_packing.proofs.settings.window_behind.Goals as goal
 
 -- the bus behind the function of a row, as it is read

@@ -1,14 +1,7 @@
-use Rattle.std.proofs.Common.{◌≡◌, ℕ, ◌+◌, ◌^◌, ◌≤◌, ◌<◌, [], length, ap, ap₂, ◌∙◌, arith}
-use Rattle.std.proofs.lemmas.Bool.Decides.{nat_tests}
+use Rattle.std.proofs.{Common.{◌≡◌, ℕ, ◌+◌, ◌^◌, ◌≤◌, ◌<◌, [], length, ap, ap₂, ◌∙◌, arith}, lemmas.{Bool.Decides.nat_tests, List.nil_from_length}}
 use Rattle.lists.specs.Elements.{Each}
-use Rattle.model_set_up.specs.Pools.{unit_of}
-use Rattle.model_set_up.specs.Placement.{round_up}
-use Rattle.model_set_up.proofs.Packing.{round_up_not_before}
-use Rattle.window_packing.specs.Packs.{BusPack}
-use Rattle.window_packing.specs.Plans.{named_pool}
-use Rattle.window_packing.proofs.BusItems.{alignment_bounds}
-use Rattle.std.proofs.lemmas.List.{nil_from_length}
-use Rattle.window_packing.proofs.PlacedFunctions.{holds_of_some, span_none}
+use Rattle.model_set_up.{specs.{Pools.unit_of, Placement.round_up}, proofs.Packing.round_up_not_before}
+use Rattle.window_packing.{specs.{Packs.BusPack, Plans.named_pool}, proofs.{BusItems.alignment_bounds, PlacedFunctions.{holds_of_some, span_none}}}
 use Rattle.window_packing.proofs.settings.window_of.Goals as goal
 
 pub returns-then-is_empty : goal.returns-then-is_empty

@@ -1,8 +1,6 @@
-use Rattle.std.proofs.Common.{◌≡◌, Some, arith}
-use Rattle.std.specs.List.{slice_get}
+use Rattle.std.{proofs.Common.{◌≡◌, Some, arith}, specs.List.slice_get}
 use Rattle.model_set_up.specs.FunctionTable.{board_in}
-use Rattle.lists.proofs.Members.{each_from}
-use Rattle.lists.proofs.Indices.{read_at, same_at, map_at}
+use Rattle.lists.proofs.{Members.each_from, Indices.{read_at, same_at, map_at}}
 use Rattle.window_packing.proofs.BusIndex.{row_in}
 use Rattle.window_packing.proofs.settings.writes_of.Goals as goal
 

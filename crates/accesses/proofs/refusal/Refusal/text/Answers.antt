@@ -1,6 +1,5 @@
 -- Each text is that of its number: the digits compute.
-use Rattle.std.proofs.Common.{refl}
-use Rattle.std.specs.Fmt.{digits}
+use Rattle.std.{proofs.Common.refl, specs.Fmt.digits}
 use Rattle.accesses.proofs.refusal.Refusal.text.Goals as goal
 
 pub returns-in-Misaligned-clause-text : goal.returns-in-Misaligned-clause-text

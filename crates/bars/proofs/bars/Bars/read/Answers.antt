@@ -1,6 +1,5 @@
 use Rattle.std.proofs.Common.{subst, arith}
-use Rattle.model_registers.specs.EndpointTable.{HasLawfulBases}
-use Rattle.model_registers.proofs.Bases.{reads_of_bases}
+use Rattle.model_registers.{specs.EndpointTable.HasLawfulBases, proofs.Bases.reads_of_bases}
 use Rattle.bars.proofs.Splits.{lawful_part, read_part, read_unused}
 use Rattle.bars.proofs.bars.Bars.read.Goals as goal
 

@@ -1,8 +1,6 @@
 use Rattle.std.proofs.Common.{◌≡◌, subst, sym, map, ap, ◌∙◌}
 use Rattle.model_registers.specs.EndpointTable.{HasLawfulBases}
-use Rattle.bars.specs.Resets.{with_no_base}
-use Rattle.bars.specs.Slots.{bases_from}
-use Rattle.bars.proofs.Regions.{no_base_lawful, no_base_from}
+use Rattle.bars.{specs.{Resets.with_no_base, Slots.bases_from}, proofs.Regions.{no_base_lawful, no_base_from}}
 use Rattle.bars.proofs.bars.Bars.reset.Goals as goal
 
 -- the slots after the reset

@@ -1,10 +1,6 @@
 use Rattle.std.proofs.Common.{◌≡◌, map, sym, subst, arith}
-use Rattle.model_registers.specs.ByteEnables.{lanes}
-use Rattle.model_registers.specs.EndpointTable.{HasLawfulBases}
-use Rattle.model_registers.specs.BaseLaws.{rewritten}
-use Rattle.model_registers.proofs.Bases.{writes_of_bases}
-use Rattle.bars.specs.Slots.{bases_from}
-use Rattle.bars.proofs.Splits.{lawful_part, stored_part, still_stored, write_unused, still_lawful, still_opened}
+use Rattle.model_registers.{specs.{ByteEnables.lanes, EndpointTable.HasLawfulBases, BaseLaws.rewritten}, proofs.Bases.writes_of_bases}
+use Rattle.bars.{specs.Slots.bases_from, proofs.Splits.{lawful_part, stored_part, still_stored, write_unused, still_lawful, still_opened}}
 use Rattle.bars.proofs.bars.Bars.write.Goals as goal
 
 pub written-region-requires : goal.written-region-requires

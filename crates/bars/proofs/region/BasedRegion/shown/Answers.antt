@@ -1,7 +1,6 @@
 use Rattle.std.proofs.Common.{arith}
 use Rattle.model_registers.proofs.Bases.{base_room, size_limits}
-use Rattle.bars.specs.Slots.{placed}
-use Rattle.bars.proofs.Regions.{width_limit}
+use Rattle.bars.{specs.Slots.placed, proofs.Regions.width_limit}
 use Rattle.bars.proofs.region.BasedRegion.shown.Goals as goal
 
 pub overflow_add-result : goal.overflow_add-result

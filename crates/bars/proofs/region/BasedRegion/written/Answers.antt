@@ -1,5 +1,4 @@
-use Rattle.std.proofs.Common.{arith}
-use Rattle.std.proofs.lemmas.Nat.{and_le_l}
+use Rattle.std.proofs.{Common.arith, lemmas.Nat.and_le_l}
 use Rattle.model_registers.proofs.Bases.{size_limits}
 use Rattle.bars.proofs.Regions.{written_in_64, size_positive}
 use Rattle.bars.proofs.region.BasedRegion.written.Goals as goal

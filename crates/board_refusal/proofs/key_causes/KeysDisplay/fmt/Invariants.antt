@@ -1,6 +1,4 @@
-use Rattle.std.proofs.Common.{map, take}
-use Rattle.std.specs.Fmt.{HasWritten, IsPlainFormatter}
-use Rattle.std.specs.List.{flat_map}
+use Rattle.std.{proofs.Common.{map, take}, specs.{Fmt.{HasWritten, IsPlainFormatter}, List.flat_map}}
 use Rattle.board_file.specs.Schema.{field_of}
 use Rattle.board_refusal.specs.KeyCauses.{with_comma}
 use Rattle.board_refusal.proofs.key_causes.KeysDisplay.fmt.Given as goal

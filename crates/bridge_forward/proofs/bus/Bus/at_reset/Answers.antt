@@ -1,8 +1,5 @@
 use Rattle.std.proofs.Common.{sym, ap, ◌∙◌, subst}
-use Rattle.model_board.specs.AtReset.{board_at, reset_file}
-use Rattle.model_board.specs.Board.{IsBoard}
-use Rattle.model_board.specs.Places.{board_of}
-use Rattle.model_board.proofs.StateRows.{state_rows}
+use Rattle.model_board.{specs.{AtReset.{board_at, reset_file}, Board.IsBoard, Places.board_of}, proofs.StateRows.state_rows}
 use Rattle.bridge_forward.proofs.BoardOrder.{board_again}
 use Rattle.bridge_forward.proofs.bus.Bus.at_reset.Goals as goal
 

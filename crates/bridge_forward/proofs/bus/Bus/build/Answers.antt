@@ -1,11 +1,6 @@
-use Rattle.std.proofs.Common.{◌≡◌, ap, ◌∙◌, ◌++◌, take, drop, length, arith}
-use Rattle.std.proofs.lemmas.Grind.{common_steps}
-use Rattle.model_board.specs.AtReset.{reset_state}
-use Rattle.model_board.specs.Places.{board_of}
-use Rattle.model_board.proofs.StateRows.{at_reset}
-use Rattle.bridge_forward.specs.Layout.{functions_of}
-use Rattle.bridge_forward.proofs.KnownRoutes.{routes_unknown}
-use Rattle.bridge_forward.proofs.BoardOrder.{nodes_in_order}
+use Rattle.std.proofs.{Common.{◌≡◌, ap, ◌∙◌, ◌++◌, take, drop, length, arith}, lemmas.Grind.common_steps}
+use Rattle.model_board.{specs.{AtReset.reset_state, Places.board_of}, proofs.StateRows.at_reset}
+use Rattle.bridge_forward.{specs.Layout.functions_of, proofs.{KnownRoutes.routes_unknown, BoardOrder.nodes_in_order}}
 use Rattle.bridge_forward.proofs.bus.Bus.build.Goals as goal
 
 pub lay_out-requires : goal.lay_out-requires

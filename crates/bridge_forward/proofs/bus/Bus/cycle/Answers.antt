@@ -1,10 +1,5 @@
 use Rattle.std.proofs.Common.{List, sym, subst, arith}
-use Rattle.bridge_forward.specs.Cycled.{reached_by}
-use Rattle.bridge_forward.proofs.Changes.{laid_set, cells_set, found_there, node_there}
-use Rattle.bridge_forward.specs.declared.bus.Node.{Node}
-use Rattle.bridge_forward.specs.Leading.{AreRoutes}
-use Rattle.bridge_forward.proofs.KnownRoutes.{routes_cycled}
-use Rattle.bridge_forward.proofs.Skipping.{cells_leaf, tree_set}
+use Rattle.bridge_forward.{specs.{Cycled.reached_by, declared.bus.Node.Node, Leading.AreRoutes}, proofs.{Changes.{laid_set, cells_set, found_there, node_there}, KnownRoutes.routes_cycled, Skipping.{cells_leaf, tree_set}}}
 use Rattle.bridge_forward.proofs.bus.Bus.cycle.Goals as goal
 
 pub invariant_of-self : goal.invariant_of-self

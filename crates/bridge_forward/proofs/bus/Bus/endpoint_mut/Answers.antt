@@ -1,15 +1,6 @@
-use Rattle.std.proofs.Common.{refl, ◌≡◌, false, ap, arith, inr, ◌∙◌, sym}
-use Rattle.std.proofs.lemmas.Option.{slice_get_within}
-use Rattle.std.specs.Prelude.{find}
-use Rattle.model_board.specs.Paths.{path_eq}
-use Rattle.bridge_forward.specs.declared.bus.Node.{Node}
-use Rattle.bridge_forward.specs.Lending.{endpoint_at, with_endpoint}
-use Rattle.bridge_forward.proofs.Nodes.{functions_in_order}
-use Rattle.bridge_forward.proofs.Changes.{endpoint_set, endpoint_there, found_there, kept, node_there, same_read, same_order}
-use Rattle.model_board.specs.Board.{is_bridge}
-use Rattle.bridge_forward.specs.Functions.{decl_of}
-use Rattle.bridge_forward.proofs.KnownRoutes.{bus_same, bus_set, none_lent, same_read_at}
-use Rattle.bridge_forward.specs.declared.function.Function.TheVariants.{Endpoint}
+use Rattle.std.{proofs.{Common.{refl, ◌≡◌, false, ap, arith, inr, ◌∙◌, sym}, lemmas.Option.slice_get_within}, specs.Prelude.find}
+use Rattle.model_board.specs.{Paths.path_eq, Board.is_bridge}
+use Rattle.bridge_forward.{specs.{declared.{bus.Node.Node, function.Function.TheVariants.Endpoint}, Lending.{endpoint_at, with_endpoint}, Functions.decl_of}, proofs.{Nodes.functions_in_order, Changes.{endpoint_set, endpoint_there, found_there, kept, node_there, same_read, same_order}, KnownRoutes.{bus_same, bus_set, none_lent, same_read_at}}}
 use Rattle.bridge_forward.proofs.bus.Bus.endpoint_mut.Goals as goal
 
 pub returns-in_err-at : goal.returns-in_err-at

@@ -1,15 +1,7 @@
-use Rattle.std.proofs.Common.{refl, ◌≡◌, false, ap, arith, inr, ◌∙◌, sym}
-use Rattle.std.proofs.lemmas.List.{length-map}
-use Rattle.std.proofs.lemmas.Option.{slice_get_past}
-use Rattle.bridge_forward.specs.Lending.{endpoint_nth}
+use Rattle.std.proofs.{Common.{refl, ◌≡◌, false, ap, arith, inr, ◌∙◌, sym}, lemmas.{List.length-map, Option.slice_get_past}}
+use Rattle.bridge_forward.{specs.{Lending.endpoint_nth, declared.{bus.Node.Node, function.Function.TheVariants.Endpoint}, Functions.decl_of}, proofs.{Nodes.functions_in_order, Changes.{kept, same_read, same_order, nth_set, nth_there}, KnownRoutes.{bus_same, bus_set, none_lent, same_read_at}}}
 use Rattle.lists.proofs.Indices.{read_at}
-use Rattle.bridge_forward.proofs.Nodes.{functions_in_order}
-use Rattle.bridge_forward.proofs.Changes.{kept, same_read, same_order, nth_set, nth_there}
 use Rattle.model_board.specs.Board.{is_bridge}
-use Rattle.bridge_forward.specs.declared.bus.Node.{Node}
-use Rattle.bridge_forward.specs.Functions.{decl_of}
-use Rattle.bridge_forward.proofs.KnownRoutes.{bus_same, bus_set, none_lent, same_read_at}
-use Rattle.bridge_forward.specs.declared.function.Function.TheVariants.{Endpoint}
 use Rattle.bridge_forward.proofs.bus.Bus.endpoint_nth.Goals as goal
 
 pub returns-then-index-len : goal.returns-then-index-len

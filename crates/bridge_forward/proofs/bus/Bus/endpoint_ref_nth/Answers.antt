@@ -1,9 +1,6 @@
-use Rattle.std.proofs.Common.{ap, ◌∙◌, arith}
-use Rattle.std.proofs.lemmas.List.{length-map}
-use Rattle.std.proofs.lemmas.Option.{slice_get_past}
+use Rattle.std.proofs.{Common.{ap, ◌∙◌, arith}, lemmas.{List.length-map, Option.slice_get_past}}
 use Rattle.lists.proofs.Indices.{read_at}
-use Rattle.bridge_forward.specs.Lending.{endpoint_nth}
-use Rattle.bridge_forward.proofs.Changes.{nth_there}
+use Rattle.bridge_forward.{specs.Lending.endpoint_nth, proofs.Changes.nth_there}
 use Rattle.bridge_forward.proofs.bus.Bus.endpoint_ref_nth.Goals as goal
 
 pub returns-then-index-len : goal.returns-then-index-len

@@ -1,8 +1,6 @@
-use Rattle.std.proofs.Common.{arith}
-use Rattle.std.specs.Prelude.{find}
+use Rattle.std.{proofs.Common.arith, specs.Prelude.find}
 use Rattle.model_board.specs.Paths.{path_eq}
-use Rattle.bridge_forward.proofs.Changes.{endpoint_back, found_there, node_there, none_back}
-use Rattle.bridge_forward.proofs.KnownRoutes.{bus_reset}
+use Rattle.bridge_forward.proofs.{Changes.{endpoint_back, found_there, node_there, none_back}, KnownRoutes.bus_reset}
 use Rattle.bridge_forward.proofs.bus.Bus.reset_endpoint.Goals as goal
 
 pub invariant_of-self : goal.invariant_of-self

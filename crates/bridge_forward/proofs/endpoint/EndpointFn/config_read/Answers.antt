@@ -1,10 +1,6 @@
 use Rattle.std.proofs.Common.{ap, sym, ◌∙◌, arith}
-use Rattle.model_registers.specs.Registers.{config, read}
-use Rattle.model_registers.specs.ByteEnables.{lanes}
-use Rattle.model_registers.specs.EndpointTable.{base_file}
-use Rattle.model_registers.specs.Decoding.{Function}
-use Rattle.bridge_forward.specs.EndpointParts.{block_at}
-use Rattle.bridge_forward.proofs.EndpointAccess.{read_base, read_config, word_away}
+use Rattle.model_registers.specs.{Registers.{config, read}, ByteEnables.lanes, EndpointTable.base_file, Decoding.Function}
+use Rattle.bridge_forward.{specs.EndpointParts.block_at, proofs.EndpointAccess.{read_base, read_config, word_away}}
 use Rattle.bridge_forward.proofs.endpoint.EndpointFn.config_read.Goals as goal
 
 pub returns-in-Some : goal.returns-in-Some

@@ -1,15 +1,8 @@
 use Rattle.std.proofs.Common.{◌++◌, ap, refl, sym, ◌∙◌, arith, subst}
 use Rattle.lists.specs.Elements.{Each}
-use Rattle.model_registers.specs.Registers.{File, config, write}
-use Rattle.model_registers.specs.ByteEnables.{lanes}
-use Rattle.model_registers.specs.FileLaws.{has_place}
-use Rattle.model_registers.specs.EndpointTable.{base_file}
-use Rattle.model_registers.specs.Decoding.{Function}
-use Rattle.model_registers.proofs.Files.{places_stay}
+use Rattle.model_registers.{specs.{Registers.{File, config, write}, ByteEnables.lanes, FileLaws.has_place, EndpointTable.base_file, Decoding.Function}, proofs.Files.places_stay}
 use Rattle.config_bytes.specs.CellFile.{CellFile}
-use Rattle.bridge_forward.specs.EndpointParts.{region_parts, block_at, IsHeaderKept}
-use Rattle.bridge_forward.proofs.EndpointAccess.{write_base, write_config, config_kept, word_away}
-use Rattle.bridge_forward.proofs.ResetKept.{header_written, config_invariant}
+use Rattle.bridge_forward.{specs.EndpointParts.{region_parts, block_at, IsHeaderKept}, proofs.{EndpointAccess.{write_base, write_config, config_kept, word_away}, ResetKept.{header_written, config_invariant}}}
 use Rattle.bridge_forward.proofs.endpoint.EndpointFn.config_write.Goals as goal
 
 pub invariant_of-self : goal.invariant_of-self

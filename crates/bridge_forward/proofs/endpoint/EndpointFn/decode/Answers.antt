@@ -1,8 +1,7 @@
 use Rattle.std.proofs.Common.{◌<◌, ◌^◌, arith, ap, ◌∙◌}
 use Rattle.model_registers.specs.Decoding.{Function, lone_claim}
 use Rattle.bars.specs.Kinds.{named_space}
-use Rattle.bridge_forward.specs.EndpointParts.{block_at}
-use Rattle.bridge_forward.proofs.EndpointHits.{hits_same}
+use Rattle.bridge_forward.{specs.EndpointParts.block_at, proofs.EndpointHits.hits_same}
 use Rattle.bridge_forward.proofs.endpoint.EndpointFn.decode.Goals as goal
 
 pub returns : goal.returns

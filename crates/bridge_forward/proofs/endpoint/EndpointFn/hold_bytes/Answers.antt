@@ -1,7 +1,6 @@
 use Rattle.std.proofs.Common.{subst}
 use Rattle.lists.specs.Elements.{Each}
-use Rattle.model_registers.specs.AccessLaws.{HoldsBytes}
-use Rattle.model_registers.specs.Decoding.{Function}
+use Rattle.model_registers.specs.{AccessLaws.HoldsBytes, Decoding.Function}
 use Rattle.config_bytes.specs.CellFile.{CellFile}
 use Rattle.bridge_forward.proofs.HeldBytes.{endpoint_bytes}
 use Rattle.bridge_forward.proofs.endpoint.EndpointFn.hold_bytes.Goals as goal

@@ -1,9 +1,7 @@
 use Rattle.std.proofs.Common.{ap, ◌∙◌, arith}
-use Rattle.model_registers.specs.Registers.{File}
-use Rattle.model_registers.specs.Declarations.{Endpoint}
+use Rattle.model_registers.specs.{Registers.File, Declarations.Endpoint}
 use Rattle.config_bytes.specs.CellFile.{CellFile}
-use Rattle.bridge_forward.proofs.EndpointReset.{bars_declared, opens_lawful, blocks_declared, blocks_filled, parts_new, file_new}
-use Rattle.bridge_forward.proofs.ResetKept.{know_new}
+use Rattle.bridge_forward.proofs.{EndpointReset.{bars_declared, opens_lawful, blocks_declared, blocks_filled, parts_new, file_new}, ResetKept.know_new}
 use Rattle.bridge_forward.proofs.endpoint.EndpointFn.new.Goals as goal
 
 pub new-bars-requires : goal.new-bars-requires

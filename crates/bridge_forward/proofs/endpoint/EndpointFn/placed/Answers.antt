@@ -1,9 +1,7 @@
-use Rattle.std.proofs.Common.{ap, ◌∙◌}
-use Rattle.std.specs.Prelude.{map}
+use Rattle.std.{proofs.Common.{ap, ◌∙◌}, specs.Prelude.map}
 use Rattle.model_registers.specs.Decoding.{Function, base_address}
 use Rattle.bars.specs.Slots.{bases_from}
-use Rattle.bridge_forward.specs.EndpointParts.{block_at}
-use Rattle.bridge_forward.proofs.EndpointHits.{regions_now}
+use Rattle.bridge_forward.{specs.EndpointParts.block_at, proofs.EndpointHits.regions_now}
 use Rattle.bridge_forward.proofs.endpoint.EndpointFn.placed.Goals as goal
 
 pub returns : goal.returns

@@ -1,10 +1,7 @@
 use Rattle.std.proofs.Common.{ap, sym, ◌∙◌, arith}
-use Rattle.model_registers.specs.Cell.{raised}
-use Rattle.model_registers.specs.Registers.{Place, config, block, raise}
-use Rattle.model_registers.specs.Decoding.{Function}
+use Rattle.model_registers.specs.{Cell.raised, Registers.{Place, config, block, raise}, Decoding.Function}
 use Rattle.headers.specs.Places.{place_of}
-use Rattle.bridge_forward.proofs.EndpointAccess.{change_in_block, raise_config}
-use Rattle.bridge_forward.proofs.ResetKept.{header_changed, constant_raised, cell_invariant, short_there, block_invariant, block_shown, nothing_shown}
+use Rattle.bridge_forward.proofs.{EndpointAccess.{change_in_block, raise_config}, ResetKept.{header_changed, constant_raised, cell_invariant, short_there, block_invariant, block_shown, nothing_shown}}
 use Rattle.bridge_forward.proofs.endpoint.EndpointFn.raise.Goals as goal
 
 pub invariant_of-self : goal.invariant_of-self

@@ -1,10 +1,6 @@
-use Rattle.std.proofs.Common.{◌≡◌, [], ap, ap₂, sym, ◌∙◌}
-use Rattle.std.proofs.lemmas.Bool.{ltb-true, ltb-false}
-use Rattle.model_registers.specs.Registers.{File, config, block, read}
-use Rattle.model_registers.specs.ByteEnables.{lanes}
-use Rattle.model_registers.specs.Decoding.{Function}
-use Rattle.bridge_forward.specs.EndpointParts.{block_at}
-use Rattle.bridge_forward.proofs.EndpointAccess.{read_block, block_there, no_block}
+use Rattle.std.proofs.{Common.{◌≡◌, [], ap, ap₂, sym, ◌∙◌}, lemmas.Bool.{ltb-true, ltb-false}}
+use Rattle.model_registers.specs.{Registers.{File, config, block, read}, ByteEnables.lanes, Decoding.Function}
+use Rattle.bridge_forward.{specs.EndpointParts.block_at, proofs.EndpointAccess.{read_block, block_there, no_block}}
 use Rattle.bridge_forward.proofs.endpoint.EndpointFn.read.Goals as goal
 
 pub returns-in-Some : goal.returns-in-Some

@@ -1,10 +1,6 @@
-use Rattle.std.proofs.Common.{◌≡◌, List, ap, subst, ◌∙◌}
-use Rattle.std.specs.Prelude.{IfOk, map}
-use Rattle.model_registers.specs.EndpointTable.{BaseAddress}
-use Rattle.model_registers.specs.Decoding.{Function, base_address}
-use Rattle.bridge_forward.specs.EndpointParts.{block_at}
-use Rattle.bridge_forward.specs.RoutingRows.{base_of}
-use Rattle.bridge_forward.proofs.EndpointHits.{regions_now}
+use Rattle.std.{proofs.Common.{◌≡◌, List, ap, subst, ◌∙◌}, specs.Prelude.{IfOk, map}}
+use Rattle.model_registers.specs.{EndpointTable.BaseAddress, Decoding.{Function, base_address}}
+use Rattle.bridge_forward.{specs.{EndpointParts.block_at, RoutingRows.base_of}, proofs.EndpointHits.regions_now}
 use Rattle.bridge_forward.proofs.endpoint.EndpointFn.regions.Goals as goal
 
 pub returns : goal.returns

@@ -1,11 +1,7 @@
-use Rattle.std.proofs.Common.{◌≡◌, ◌++◌, take, drop, length, ap, ◌∙◌, arith}
-use Rattle.std.proofs.lemmas.Grind.{common_steps}
-use Rattle.model_registers.specs.Registers.{File}
-use Rattle.model_registers.specs.Decoding.{Function}
+use Rattle.std.proofs.{Common.{◌≡◌, ◌++◌, take, drop, length, ap, ◌∙◌, arith}, lemmas.Grind.common_steps}
+use Rattle.model_registers.specs.{Registers.File, Decoding.Function, CopiedFiles.after_reset}
 use Rattle.config_bytes.specs.CellFile.{CellFile}
-use Rattle.bridge_forward.specs.EndpointParts.{blocks_after}
-use Rattle.model_registers.specs.CopiedFiles.{after_reset}
-use Rattle.bridge_forward.proofs.ResetCells.{file_back, parts_back, know_back}
+use Rattle.bridge_forward.{specs.EndpointParts.blocks_after, proofs.ResetCells.{file_back, parts_back, know_back}}
 use Rattle.bridge_forward.proofs.endpoint.EndpointFn.reset.Goals as goal
 
 went_back : (c : goal.After-self-2-1) → take c.self.inside.blocks.len (c.reset_all.new.blocks ++ drop (length c.reset_all.new.blocks) c.self.inside.blocks.items) ≡ blocks_after c.self.inside.blocks.items

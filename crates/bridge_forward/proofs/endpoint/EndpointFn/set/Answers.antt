@@ -1,10 +1,7 @@
 use Rattle.std.proofs.Common.{◌≡◌, true, ◌%◌, ap, sym, ◌∙◌, subst, arith}
-use Rattle.model_registers.specs.DeviceBytes.{is_device_byte, with_value, set_value}
-use Rattle.model_registers.specs.Registers.{Place, block}
-use Rattle.model_registers.specs.Decoding.{Function}
+use Rattle.model_registers.specs.{DeviceBytes.{is_device_byte, with_value, set_value}, Registers.{Place, block}, Decoding.Function}
 use Rattle.headers.specs.Places.{place_of}
-use Rattle.bridge_forward.proofs.EndpointAccess.{change_in_block, set_config, header_set}
-use Rattle.bridge_forward.proofs.ResetKept.{cell_invariant, short_there, block_invariant, block_shown, nothing_shown}
+use Rattle.bridge_forward.proofs.{EndpointAccess.{change_in_block, set_config, header_set}, ResetKept.{cell_invariant, short_there, block_invariant, block_shown, nothing_shown}}
 use Rattle.bridge_forward.proofs.endpoint.EndpointFn.set.Goals as goal
 
 pub invariant_of-self : goal.invariant_of-self

@@ -1,5 +1,4 @@
-use Rattle.std.proofs.Common.{arith}
-use Rattle.std.proofs.lemmas.Bool.{ltb-true, ltb-false}
+use Rattle.std.proofs.{Common.arith, lemmas.Bool.{ltb-true, ltb-false}}
 use Rattle.model_registers.proofs.DeviceBytes.{device_away}
 use Rattle.bridge_forward.proofs.EndpointAccess.{cell_of_block, cell_of_config, block_there, block_short, no_block}
 use Rattle.bridge_forward.proofs.endpoint.EndpointFn.value.Goals as goal

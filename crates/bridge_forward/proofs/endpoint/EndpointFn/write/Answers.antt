@@ -1,9 +1,6 @@
 use Rattle.std.proofs.Common.{ap, ◌∙◌}
-use Rattle.model_registers.specs.Registers.{block, write}
-use Rattle.model_registers.specs.ByteEnables.{lanes}
-use Rattle.model_registers.specs.Decoding.{Function}
-use Rattle.bridge_forward.proofs.EndpointAccess.{write_in_block}
-use Rattle.bridge_forward.proofs.ResetKept.{short_there, block_invariant, block_shown, nothing_shown}
+use Rattle.model_registers.specs.{Registers.{block, write}, ByteEnables.lanes, Decoding.Function}
+use Rattle.bridge_forward.proofs.{EndpointAccess.write_in_block, ResetKept.{short_there, block_invariant, block_shown, nothing_shown}}
 use Rattle.bridge_forward.proofs.endpoint.EndpointFn.write.Goals as goal
 
 pub returns-in_default : goal.returns-in_default

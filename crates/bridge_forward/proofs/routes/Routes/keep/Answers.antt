@@ -1,5 +1,4 @@
-use Rattle.std.proofs.Common.{ℕ, List, Option, ap, ◌∙◌}
-use Rattle.std.specs.List.{slice_set}
+use Rattle.std.{proofs.Common.{ℕ, List, Option, ap, ◌∙◌}, specs.List.slice_set}
 use Rattle.bridge_forward.proofs.Known.{known_with}
 use Rattle.bridge_forward.proofs.routes.Routes.keep.Goals as goal
 

@@ -1,19 +1,10 @@
-use Rattle.std.proofs.Common.{◌≡◌, ℕ, ◌∙◌, List, [], ◌∷◌, ◌++◌, sym, ap, subst, arith, length}
-use Rattle.std.proofs.lemmas.Result.{err_from_is_err_and}
-use Rattle.model_board.specs.Paths.{Path}
-use Rattle.model_board.specs.Board.{Board, is_multifunction}
-use Rattle.model_set_up.specs.FunctionTable.{TableRow}
-use Rattle.model_board.specs.State.{State}
-use Rattle.model_set_up.specs.ScanOrder.{on, next_part}
+use Rattle.std.proofs.{Common.{◌≡◌, ℕ, ◌∙◌, List, [], ◌∷◌, ◌++◌, sym, ap, subst, arith, length}, lemmas.Result.err_from_is_err_and}
+use Rattle.model_board.specs.{Paths.Path, Board.{Board, is_multifunction}, State.State}
+use Rattle.model_set_up.specs.{FunctionTable.TableRow, ScanOrder.{on, next_part}}
 use Rattle.paths.specs.BusAddresses.{bus_address_of}
 use Rattle.host_bridge.specs.HostState.{HostState}
-use Rattle.bus_scan.specs.declared.enumeration.Enumeration.{Enumeration}
-use Rattle.bus_scan.specs.Scans.{IsAt, OnBus}
-use Rattle.bus_scan.specs.Sights.{seen_of}
-use Rattle.bus_scan.proofs.ScanSteps.{side, deepest, rows_length, past_nothing}
-use Rattle.bus_scan.proofs.ScanSights.{sighted, none_seen, finds, after_look, past_function, endpoint_row, bridge_there_of, shows_at}
+use Rattle.bus_scan.{specs.{declared.enumeration.Enumeration.Enumeration, Scans.{IsAt, OnBus}, Sights.seen_of}, proofs.{ScanSteps.{side, deepest, rows_length, past_nothing}, ScanSights.{sighted, none_seen, finds, after_look, past_function, endpoint_row, bridge_there_of, shows_at}, enumeration.Enumeration.+scan.Goals.{scan_bridge-then-parts-lt-DEEPEST+in_ok-scan_bus, scan_bridge-else-parts-lt-DEEPEST, scan_place-in-Endpoint+in_ok-push-in-Endpoint, scan_place-in-Bridge+in_ok-scan_bridge-in-Bridge}}}
 use Rattle.bus_scan.proofs.enumeration.Enumeration.+scan.Goals as goal
-use Rattle.bus_scan.proofs.enumeration.Enumeration.+scan.Goals.{scan_bridge-then-parts-lt-DEEPEST+in_ok-scan_bus, scan_bridge-else-parts-lt-DEEPEST, scan_place-in-Endpoint+in_ok-push-in-Endpoint, scan_place-in-Bridge+in_ok-scan_bridge-in-Bridge}
 
 -- the parts of a path as a bus
 at_parts : (b : Board) (p q : Path) (k : ℕ) → q ≡ p → OnBus b p k → OnBus b q k

@@ -1,9 +1,7 @@
 use Rattle.std.proofs.Common.{inr, refl}
-use Rattle.model_set_up.specs.Scanning.{scan_numbers}
-use Rattle.model_set_up.specs.ScanOrder.{on}
+use Rattle.model_set_up.specs.{Scanning.scan_numbers, ScanOrder.on}
 use Rattle.paths.specs.BusAddresses.{bus_address_of}
-use Rattle.bus_scan.proofs.ScanSteps.{too_many, bridge_opened}
-use Rattle.bus_scan.proofs.ScanSights.{bridge_found}
+use Rattle.bus_scan.proofs.{ScanSteps.{too_many, bridge_opened}, ScanSights.bridge_found}
 use Rattle.bus_scan.proofs.enumeration.Enumeration.open_bridge.Goals as goal
 
 pub returns-then-self-clause-opened : goal.returns-then-self-clause-opened

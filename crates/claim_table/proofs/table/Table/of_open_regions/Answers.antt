@@ -1,10 +1,7 @@
 use Rattle.std.proofs.Common.{◌≡◌, List, map, ap, subst, ◌∙◌, arith}
 use Rattle.model_registers.specs.Decoding.{Space, io, memory}
 use Rattle.model_board.specs.Routing.{RoutingRow}
-use Rattle.claim_table.specs.declared.region_entry.RegionEntry.{RegionEntry}
-use Rattle.claim_table.specs.Entries.{open_entries}
-use Rattle.claim_table.proofs.Listing.{IsSortedOf}
-use Rattle.claim_table.proofs.Gathering.{open_are, fits_open}
+use Rattle.claim_table.{specs.{declared.region_entry.RegionEntry.RegionEntry, Entries.open_entries}, proofs.{Listing.IsSortedOf, Gathering.{open_are, fits_open}}}
 use Rattle.claim_table.proofs.table.Table.of_open_regions.Goals as goal
 
 of_rows : (space : Space) (read rows : List RoutingRow) (es : List RegionEntry) → read ≡ rows → IsSortedOf (open_entries space 0 read) es → IsSortedOf (open_entries space 0 rows) es

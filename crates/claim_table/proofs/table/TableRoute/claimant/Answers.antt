@@ -1,12 +1,8 @@
-use Rattle.std.proofs.Common.{Some, length, ◌-◌, ◌<◌, ap, ap₂, sym, ◌∙◌, arith}
-use Rattle.std.specs.Prelude.{find}
+use Rattle.std.{proofs.Common.{Some, length, ◌-◌, ◌<◌, ap, ap₂, sym, ◌∙◌, arith}, specs.Prelude.find}
 use Rattle.bars.specs.Kinds.{named_space}
-use Rattle.model_board.specs.Paths.{Path}
-use Rattle.model_board.specs.Claims.{Claim}
+use Rattle.model_board.specs.{Paths.Path, Claims.Claim}
 use Rattle.lists.proofs.FirstFound.{each_found}
-use Rattle.claim_table.specs.declared.region_entry.RegionEntry.{RegionEntry}
-use Rattle.claim_table.specs.Entries.{lies_in, by_space}
-use Rattle.claim_table.proofs.Answering.{known_in, none_claimed, from, claimed, path_at}
+use Rattle.claim_table.{specs.{declared.region_entry.RegionEntry.RegionEntry, Entries.{lies_in, by_space}}, proofs.Answering.{known_in, none_claimed, from, claimed, path_at}}
 use Rattle.claim_table.proofs.table.TableRoute.claimant.Goals as goal
 
 pub returns-in_err-entry : goal.returns-in_err-entry

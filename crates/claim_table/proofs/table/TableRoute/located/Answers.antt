@@ -1,8 +1,6 @@
-use Rattle.std.proofs.Common.{ap, ap₂, sym, ◌∙◌, arith}
-use Rattle.std.specs.Prelude.{find}
+use Rattle.std.{proofs.Common.{ap, ap₂, sym, ◌∙◌, arith}, specs.Prelude.find}
 use Rattle.bars.specs.Kinds.{named_space}
-use Rattle.claim_table.specs.Entries.{lies_in, by_space}
-use Rattle.claim_table.proofs.Answering.{none_claimed, from, located}
+use Rattle.claim_table.{specs.Entries.{lies_in, by_space}, proofs.Answering.{none_claimed, from, located}}
 use Rattle.claim_table.proofs.table.TableRoute.located.Goals as goal
 
 pub returns-in_err-entry-clause-claim : goal.returns-in_err-entry-clause-claim

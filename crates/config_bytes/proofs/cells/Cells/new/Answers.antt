@@ -1,9 +1,7 @@
-use Rattle.std.proofs.Common.{◌≡◌, ◌<◌, ℕ, List, length, ◌∙◌, sym, subst, ap, ap₂, arith, rules}
-use Rattle.std.proofs.lemmas.List.Elements.{All-get_or}
+use Rattle.std.proofs.{Common.{◌≡◌, ◌<◌, ℕ, List, length, ◌∙◌, sym, subst, ap, ap₂, arith, rules}, lemmas.List.Elements.All-get_or}
 use Rattle.lists.specs.Elements.{Each}
 use Rattle.model_registers.specs.Cell.{Cell}
-use Rattle.config_bytes.specs.CellFile.{CellFile, HasDistinctOffsets, file_of, placed}
-use Rattle.config_bytes.proofs.Tables.{HasGaps, HasGaps-empty, IsConfigFile-from, KeepsPlaces-from, each_from, IsTable-refilled, view_refilled}
+use Rattle.config_bytes.{specs.CellFile.{CellFile, HasDistinctOffsets, file_of, placed}, proofs.Tables.{HasGaps, HasGaps-empty, IsConfigFile-from, KeepsPlaces-from, each_from, IsTable-refilled, view_refilled}}
 use Rattle.config_bytes.proofs.cells.Cells.new.Goals as goal
 
 stored : (c : goal.After-table-3-1) → c.args.cells.now ≡ c.in_ok-initial.initial.items

@@ -1,8 +1,5 @@
-use Rattle.std.proofs.Common.{◌∙◌, arith}
-use Rattle.std.proofs.Math.ListN.{set}
-use Rattle.std.proofs.lemmas.List.{length-set}
-use Rattle.model_registers.proofs.Owned.{raised_none}
-use Rattle.model_registers.specs.Cell.{raised}
+use Rattle.std.proofs.{Common.{◌∙◌, arith}, Math.ListN.set, lemmas.List.length-set}
+use Rattle.model_registers.{proofs.Owned.raised_none, specs.Cell.raised}
 use Rattle.config_bytes.proofs.Tables.{ChangesAt, put_changes, IsTable-changed, IsConfigFile-from, KeepsPlaces-from, IsConfigFile-view, KeepsPlaces-view, view_changes, view_past}
 use Rattle.config_bytes.proofs.cells.Cells.raise.Goals as goal
 

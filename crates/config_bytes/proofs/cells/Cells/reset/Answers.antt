@@ -1,6 +1,5 @@
 use Rattle.std.proofs.Common.{◌≡◌, ◌∙◌, ap, ap₂, arith, rules}
-use Rattle.config_bytes.specs.CellFile.{CellFile, placed}
-use Rattle.config_bytes.proofs.Tables.{HasGaps-table, IsConfigFile-from, KeepsPlaces-from, IsTable-refilled, view_refilled}
+use Rattle.config_bytes.{specs.CellFile.{CellFile, placed}, proofs.Tables.{HasGaps-table, IsConfigFile-from, KeepsPlaces-from, IsTable-refilled, view_refilled}}
 use Rattle.config_bytes.proofs.cells.Cells.reset.Goals as goal
 
 put : (c : goal.After-self-1) → c.place.new.table ≡ placed c.self.inside.initial.items c.self.inside.table.items

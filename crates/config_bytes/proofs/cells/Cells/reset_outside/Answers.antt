@@ -1,8 +1,6 @@
 use Rattle.std.proofs.Common.{◌≡◌, List, ◌++◌, length, take, drop, arith, rules}
 use Rattle.model_registers.specs.Cell.{Cell}
-use Rattle.config_bytes.specs.CellFile.{placed_outside}
-use Rattle.config_bytes.proofs.Tables.{IsConfigFile-from, KeepsPlaces-from}
-use Rattle.config_bytes.proofs.Outside.{IsTable-outside, file_from-outside, refilled_outside}
+use Rattle.config_bytes.{specs.CellFile.placed_outside, proofs.{Tables.{IsConfigFile-from, KeepsPlaces-from}, Outside.{IsTable-outside, file_from-outside, refilled_outside}}}
 use Rattle.config_bytes.proofs.cells.Cells.reset_outside.Goals as goal
 
 abbrev filled : goal.After-self-1 → List Cell

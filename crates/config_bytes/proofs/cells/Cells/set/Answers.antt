@@ -1,7 +1,5 @@
-use Rattle.std.proofs.Common.{◌∙◌, sym, ap, arith}
-use Rattle.std.proofs.Math.ListN.{set}
-use Rattle.config_bytes.proofs.Tables.{IsConfigFile-from, KeepsPlaces-from, IsConfigFile-view, KeepsPlaces-view}
-use Rattle.config_bytes.proofs.Values.{free, none_set, inside, table_set, view_set}
+use Rattle.std.proofs.{Common.{◌∙◌, sym, ap, arith}, Math.ListN.set}
+use Rattle.config_bytes.proofs.{Tables.{IsConfigFile-from, KeepsPlaces-from, IsConfigFile-view, KeepsPlaces-view}, Values.{free, none_set, inside, table_set, view_set}}
 use Rattle.config_bytes.proofs.cells.Cells.set.Goals as goal
 
 pub returns-then-is_gap-clause-cells : goal.returns-then-is_gap-clause-cells

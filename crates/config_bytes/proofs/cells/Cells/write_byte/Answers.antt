@@ -1,11 +1,7 @@
-use Rattle.std.proofs.Common.{◌≡◌, false, ◌∙◌, refl, arith}
-use Rattle.std.proofs.Math.ListN.{set}
-use Rattle.std.proofs.lemmas.List.{length-set}
-use Rattle.model_registers.proofs.Owned.{no_cell_stays}
-use Rattle.model_registers.specs.Cell.{written}
-use Rattle.config_bytes.proofs.Tables.{ChangesAt, put_changes, IsTable-changed, IsConfigFile-from, KeepsPlaces-from, IsConfigFile-view, KeepsPlaces-view, view_changes, view_past, view_past_if}
+use Rattle.std.proofs.{Common.{◌≡◌, false, ◌∙◌, refl, arith}, Math.ListN.set, lemmas.List.length-set}
+use Rattle.model_registers.{proofs.Owned.no_cell_stays, specs.Cell.written}
+use Rattle.config_bytes.proofs.{Tables.{ChangesAt, put_changes, IsTable-changed, IsConfigFile-from, KeepsPlaces-from, IsConfigFile-view, KeepsPlaces-view, view_changes, view_past, view_past_if}, cells.Cells.write_byte.Goals.{else-at-len-via-then-at-len+else-enabled, else-at-len-via-else-at-len}}
 use Rattle.config_bytes.proofs.cells.Cells.write_byte.Goals as goal
-use Rattle.config_bytes.proofs.cells.Cells.write_byte.Goals.{else-at-len-via-then-at-len+else-enabled, else-at-len-via-else-at-len}
 
 changes : (c : goal.After-self-1) → ChangesAt (written c.args.byte) c.args.off c.self.inside.table.items (set c.self.inside.table.items c.from-at.result c.written.result)
 changes c =

@@ -1,10 +1,6 @@
 use Rattle.std.proofs.Common.{Bor, option_map, map, ap, sym, subst, ◌∙◌}
-use Rattle.toml.specs.View.{view, table_view}
-use Rattle.toml.specs.declared.value.Value.{Value}
-use Rattle.diagnostics.specs.LineNumbers.{first_line}
-use Rattle.diagnostics.specs.Marks.{is_mark}
-use Rattle.diagnostics.specs.Places.{Stands}
-use Rattle.diagnostics.proofs.Confirmed.{is_mark_in}
+use Rattle.toml.specs.{View.{view, table_view}, declared.value.Value.Value}
+use Rattle.diagnostics.{specs.{LineNumbers.first_line, Marks.is_mark, Places.Stands}, proofs.Confirmed.is_mark_in}
 use Rattle.diagnostics.proofs.confirmation.Places.place.Goals as goal
 
 pub returns-then-not-is_mark : goal.returns-then-not-is_mark

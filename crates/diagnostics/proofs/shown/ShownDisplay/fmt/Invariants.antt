@@ -1,5 +1,4 @@
-use Rattle.std.proofs.Common.{map, take}
-use Rattle.std.specs.Fmt.{HasWritten, IsPlainFormatter}
+use Rattle.std.{proofs.Common.{map, take}, specs.Fmt.{HasWritten, IsPlainFormatter}}
 use Rattle.diagnostics.specs.Shown.{shown_byte}
 use Rattle.diagnostics.proofs.shown.ShownDisplay.fmt.Given as goal
 

@@ -1,5 +1,4 @@
-use Rattle.std.proofs.Common.{map, take}
-use Rattle.std.specs.Fmt.{HasWritten, IsPlainFormatter}
+use Rattle.std.{proofs.Common.{map, take}, specs.Fmt.{HasWritten, IsPlainFormatter}}
 use Rattle.bars.specs.Kinds.{named_space}
 use Rattle.model_lines.specs.WhyText.{more_text}
 use Rattle.findings.specs.WhyTold.{cause_told}

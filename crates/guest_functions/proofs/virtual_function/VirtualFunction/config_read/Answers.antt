@@ -1,8 +1,5 @@
 use Rattle.std.proofs.Common.{ℕ, ◌+◌, List, Bool, sym, subst, ap, ap₂, ◌∙◌, arith}
-use Rattle.model_registers.specs.Registers.{config, read}
-use Rattle.model_registers.specs.ByteEnables.{lanes}
-use Rattle.model_registers.specs.OwnCopies.{OwnCopies, own_file, HoldsOwn}
-use Rattle.model_registers.proofs.Owned.{own_reads}
+use Rattle.model_registers.{specs.{Registers.{config, read}, ByteEnables.lanes, OwnCopies.{OwnCopies, own_file, HoldsOwn}}, proofs.Owned.own_reads}
 use Rattle.guest_functions.proofs.Copies.{is_away, at_command, at_base, at_away}
 use Rattle.guest_functions.proofs.virtual_function.VirtualFunction.config_read.Goals as goal
 

@@ -1,8 +1,5 @@
 use Rattle.std.proofs.Common.{List, Bool, cond, sym, subst, ap, ap₂, ◌∙◌, arith}
-use Rattle.model_registers.specs.Registers.{config, File, cell_at, write}
-use Rattle.model_registers.specs.ByteEnables.{lanes}
-use Rattle.model_registers.specs.OwnCopies.{is_own, OwnCopies, own_file, HoldsOwn}
-use Rattle.model_registers.proofs.Owned.{own_writes}
+use Rattle.model_registers.{specs.{Registers.{config, File, cell_at, write}, ByteEnables.lanes, OwnCopies.{is_own, OwnCopies, own_file, HoldsOwn}}, proofs.Owned.own_writes}
 use Rattle.guest_functions.proofs.Copies.{is_away, store_command, store_base, store_away}
 use Rattle.guest_functions.proofs.virtual_function.VirtualFunction.config_write.Goals as goal
 

@@ -1,7 +1,5 @@
 use Rattle.std.proofs.Common.{List, false, subst, sym, ◌∙◌}
-use Rattle.model_registers.specs.EndpointTable.{BaseAddress, endpoint_reset}
-use Rattle.model_registers.specs.OwnCopies.{HoldsOwn}
-use Rattle.model_registers.proofs.Owned.{reset_holds_own}
+use Rattle.model_registers.{specs.{EndpointTable.{BaseAddress, endpoint_reset}, OwnCopies.HoldsOwn}, proofs.Owned.reset_holds_own}
 use Rattle.guest_functions.proofs.virtual_function.VirtualFunction.new.Goals as goal
 
 pub returns-clause-reset : goal.returns-clause-reset

@@ -1,9 +1,6 @@
 use Rattle.std.proofs.Common.{◌≡◌, List, false, map, subst, sym, ap, ◌∙◌}
 use Rattle.bars.proofs.Regions.{no_base_opened}
-use Rattle.model_registers.specs.Declarations.{HasLawfulRegions}
-use Rattle.model_registers.specs.EndpointTable.{BaseAddress, endpoint_reset, opened}
-use Rattle.model_registers.specs.OwnCopies.{OwnCopies, HoldsOwn}
-use Rattle.model_registers.proofs.Owned.{reset_holds_own}
+use Rattle.model_registers.{specs.{Declarations.HasLawfulRegions, EndpointTable.{BaseAddress, endpoint_reset, opened}, OwnCopies.{OwnCopies, HoldsOwn}}, proofs.Owned.reset_holds_own}
 use Rattle.guest_functions.proofs.ResetCopies.{closed_as_opened}
 use Rattle.guest_functions.proofs.virtual_function.VirtualFunction.reset.Goals as goal
 

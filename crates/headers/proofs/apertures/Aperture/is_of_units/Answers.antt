@@ -1,5 +1,4 @@
-use Rattle.std.proofs.Common.{arith}
-use Rattle.std.proofs.lemmas.Grind.{common_steps}
+use Rattle.std.proofs.{Common.arith, lemmas.Grind.common_steps}
 use Rattle.headers.proofs.Units.{ends_unit}
 use Rattle.headers.proofs.apertures.Aperture.is_of_units.Goals as goal
 

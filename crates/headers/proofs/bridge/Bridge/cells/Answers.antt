@@ -2,8 +2,7 @@
 use Rattle.std.proofs.Common.{◌≡◌, arith}
 use Rattle.model_registers.specs.BridgeTable.{bridge_reset}
 use Rattle.config_bytes.specs.CellFile.{file_of}
-use Rattle.headers.proofs.Files.{appended}
-use Rattle.headers.proofs.DistinctOffsets.{bridge_offsets}
+use Rattle.headers.proofs.{Files.appended, DistinctOffsets.bridge_offsets}
 use Rattle.headers.proofs.bridge.Bridge.cells.Goals as goal
 
 pub new-requires : goal.new-requires

@@ -1,7 +1,6 @@
 -- The list is the reset file of a lawful endpoint, so its offsets are distinct.
 use Rattle.std.proofs.Common.{◌≡◌, ap, ◌∙◌, arith}
-use Rattle.model_registers.specs.Declarations.{Endpoint}
-use Rattle.model_registers.specs.EndpointTable.{header_cells, config_reset}
+use Rattle.model_registers.specs.{Declarations.Endpoint, EndpointTable.{header_cells, config_reset}}
 use Rattle.config_bytes.specs.CellFile.{file_of}
 use Rattle.headers.proofs.DistinctOffsets.{endpoint_offsets}
 use Rattle.headers.proofs.endpoint.Endpoint.cells.Goals as goal

@@ -1,12 +1,7 @@
 -- The sort puts the regions into register order, and leaves a lawful declaration.
-use Rattle.std.proofs.Common.{◌≡◌, List, None, Ok, sym, ap, ◌∙◌, subst, rules, arith}
-use Rattle.std.specs.List.Sorted.{IsNonDecreasingBy}
-use Rattle.std.proofs.lemmas.List.Sorted.{IsNonDecreasingBy-from_sort_by_key}
+use Rattle.std.{proofs.{Common.{◌≡◌, List, None, Ok, sym, ap, ◌∙◌, subst, rules, arith}, lemmas.List.Sorted.IsNonDecreasingBy-from_sort_by_key}, specs.List.Sorted.IsNonDecreasingBy}
 use Rattle.lists.specs.Elements.{Each}
-use Rattle.model_registers.specs.Declarations.{Region, Endpoint, IsLawfulSize}
-use Rattle.model_registers.specs.DeclarationRules.{first_broken, endpoint_rules, with_ordered_regions, IsLawfulEndpoint}
-use Rattle.model_registers.proofs.LawfulDeclarations.{own_registers, sorted_is_lawful, lawful_breaks_none}
-use Rattle.model_registers.proofs.RegisterOrder.{sorted_is_in_register_order, lawful_are_in_register_order}
+use Rattle.model_registers.{specs.{Declarations.{Region, Endpoint, IsLawfulSize}, DeclarationRules.{first_broken, endpoint_rules, with_ordered_regions, IsLawfulEndpoint}}, proofs.{LawfulDeclarations.{own_registers, sorted_is_lawful, lawful_breaks_none}, RegisterOrder.{sorted_is_in_register_order, lawful_are_in_register_order}}}
 use Rattle.headers.specs.Values.{endpoint_of}
 use Rattle.headers.proofs.endpoint_decl.EndpointDecl.new.Goals as goal
 

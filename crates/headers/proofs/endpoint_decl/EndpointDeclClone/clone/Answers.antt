@@ -1,5 +1,4 @@
-use Rattle.std.proofs.Common.{rules, ◌≡◌, sym, subst}
-use Rattle.std.proofs.lemmas.List.Elements.{same_from_all_zip}
+use Rattle.std.proofs.{Common.{rules, ◌≡◌, sym, subst}, lemmas.List.Elements.same_from_all_zip}
 use Rattle.model_registers.specs.DeclarationRules.{IsLawfulEndpoint}
 use Rattle.headers.proofs.endpoint_decl.EndpointDeclClone.clone.Goals as goal
 

@@ -1,5 +1,4 @@
-use Rattle.std.proofs.Common.{◌≡◌, ◌+◌, ◌-◌, ◌*◌, ◌^◌, ◌<◌, ◌∙◌, sym, ap, subst, arith}
-use Rattle.std.proofs.lemmas.Nat.{pow_pos}
+use Rattle.std.proofs.{Common.{◌≡◌, ◌+◌, ◌-◌, ◌*◌, ◌^◌, ◌<◌, ◌∙◌, sym, ap, subst, arith}, lemmas.Nat.pow_pos}
 use Rattle.model_registers.specs.EndpointTable.{base_width}
 use Rattle.bars.specs.Kinds.{kind_of}
 use Rattle.headers.proofs.BaseRegisters.{base_is, mask_is}

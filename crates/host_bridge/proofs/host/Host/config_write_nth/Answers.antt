@@ -1,8 +1,6 @@
 use Rattle.std.proofs.Common.{refl, sym}
-use Rattle.model_registers.specs.Registers.{config, write}
-use Rattle.model_registers.specs.ByteEnables.{lanes}
-use Rattle.host_bridge.proofs.Lent.{distinct_paths}
-use Rattle.host_bridge.proofs.ByIndex.{changed_nth}
+use Rattle.model_registers.specs.{Registers.{config, write}, ByteEnables.lanes}
+use Rattle.host_bridge.proofs.{Lent.distinct_paths, ByIndex.changed_nth}
 use Rattle.host_bridge.proofs.host.Host.config_write_nth.Goals as goal
 
 pub returns : goal.returns

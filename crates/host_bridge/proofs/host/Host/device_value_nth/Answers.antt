@@ -1,6 +1,5 @@
 use Rattle.std.proofs.Common.{rules}
-use Rattle.host_bridge.proofs.Lent.{distinct_paths}
-use Rattle.host_bridge.proofs.ByIndex.{file_lent, kept_nth}
+use Rattle.host_bridge.proofs.{Lent.distinct_paths, ByIndex.{file_lent, kept_nth}}
 use Rattle.host_bridge.proofs.host.Host.device_value_nth.Goals as goal
 
 pub returns-clause-value : goal.returns-clause-value

@@ -1,8 +1,7 @@
 use Rattle.std.proofs.Common.{◌∙◌, ap}
 use Rattle.model_registers.specs.Registers.{raise}
 use Rattle.headers.specs.Places.{place_of}
-use Rattle.host_bridge.specs.HostState.{with_functions}
-use Rattle.host_bridge.proofs.ByPath.{change_same}
+use Rattle.host_bridge.{specs.HostState.with_functions, proofs.ByPath.change_same}
 use Rattle.host_bridge.proofs.host.Host.raise.Goals as goal
 
 pub returns : goal.returns

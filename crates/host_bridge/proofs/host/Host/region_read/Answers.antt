@@ -1,10 +1,6 @@
 use Rattle.std.proofs.Common.{◌∙◌, refl, ap, sym, rules}
-use Rattle.model_board.specs.Claims.{first_claim}
-use Rattle.model_board.specs.Ports.{claim_reply}
-use Rattle.host_bridge.specs.HostState.{HostState}
-use Rattle.host_bridge.proofs.Lent.{distinct_paths}
-use Rattle.host_bridge.proofs.ClaimedAccesses.{lies_in_word, number_read}
-use Rattle.host_bridge.proofs.ByIndex.{located, some_nth, endpoint_there_nth, kept_nth}
+use Rattle.model_board.specs.{Claims.first_claim, Ports.claim_reply}
+use Rattle.host_bridge.{specs.HostState.HostState, proofs.{Lent.distinct_paths, ClaimedAccesses.{lies_in_word, number_read}, ByIndex.{located, some_nth, endpoint_there_nth, kept_nth}}}
 use Rattle.host_bridge.proofs.host.Host.region_read.Goals as goal
 
 pub enables_of-enables-requires : goal.enables_of-enables-requires

@@ -1,7 +1,5 @@
 use Rattle.std.proofs.Common.{refl, sym}
-use Rattle.host_bridge.proofs.Lent.{distinct_paths}
-use Rattle.host_bridge.proofs.ClaimedAccesses.{lies_in_word, number_written}
-use Rattle.host_bridge.proofs.ByIndex.{located, some_nth, endpoint_there_nth, with_nth}
+use Rattle.host_bridge.proofs.{Lent.distinct_paths, ClaimedAccesses.{lies_in_word, number_written}, ByIndex.{located, some_nth, endpoint_there_nth, with_nth}}
 use Rattle.host_bridge.proofs.host.Host.region_write.Goals as goal
 
 pub enables_of-enables-requires : goal.enables_of-enables-requires

@@ -1,6 +1,5 @@
 use Rattle.std.proofs.Common.{◌∙◌, ap}
-use Rattle.host_bridge.specs.HostState.{with_functions}
-use Rattle.host_bridge.proofs.ByPath.{reset_same}
+use Rattle.host_bridge.{specs.HostState.with_functions, proofs.ByPath.reset_same}
 use Rattle.host_bridge.proofs.host.Host.reset_endpoint.Goals as goal
 
 pub returns-in-Some : goal.returns-in-Some

@@ -1,6 +1,5 @@
 use Rattle.std.proofs.Common.{rules}
-use Rattle.host_bridge.proofs.Lent.{distinct_paths}
-use Rattle.host_bridge.proofs.ByIndex.{none_reset, reset_nth}
+use Rattle.host_bridge.proofs.{Lent.distinct_paths, ByIndex.{none_reset, reset_nth}}
 use Rattle.host_bridge.proofs.host.Host.reset_nth.Goals as goal
 
 pub returns-in_default : goal.returns-in_default

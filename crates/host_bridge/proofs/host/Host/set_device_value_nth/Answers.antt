@@ -1,8 +1,7 @@
 use Rattle.std.proofs.Common.{refl, sym}
 use Rattle.model_registers.specs.DeviceBytes.{set_value}
 use Rattle.headers.specs.Places.{place_of}
-use Rattle.host_bridge.proofs.Lent.{distinct_paths}
-use Rattle.host_bridge.proofs.ByIndex.{changed_nth}
+use Rattle.host_bridge.proofs.{Lent.distinct_paths, ByIndex.changed_nth}
 use Rattle.host_bridge.proofs.host.Host.set_device_value_nth.Goals as goal
 
 pub returns : goal.returns

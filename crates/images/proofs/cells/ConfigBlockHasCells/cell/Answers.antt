@@ -1,7 +1,6 @@
 use Rattle.std.proofs.Common.{refl, arith}
 use Rattle.model_registers.specs.Registers.{config}
-use Rattle.images.proofs.ListedCells.{told_cells}
-use Rattle.images.proofs.TakenValues.{many_cells}
+use Rattle.images.proofs.{ListedCells.told_cells, TakenValues.many_cells}
 use Rattle.images.proofs.cells.ConfigBlockHasCells.cell.Goals as goal
 
 pub returns-then-index-count-clause-cell : goal.returns-then-index-count-clause-cell

@@ -1,8 +1,6 @@
 use Rattle.std.proofs.Common.{refl, arith, length-append}
-use Rattle.model_registers.specs.Registers.{block, cells_from}
-use Rattle.model_registers.specs.EndpointTable.{base_cells}
-use Rattle.images.proofs.ListedCells.{told_behind, told_cells}
-use Rattle.images.proofs.TakenValues.{many_cells}
+use Rattle.model_registers.specs.{Registers.{block, cells_from}, EndpointTable.base_cells}
+use Rattle.images.proofs.{ListedCells.{told_behind, told_cells}, TakenValues.many_cells}
 use Rattle.images.proofs.cells.RegionHasCells.cell.Goals as goal
 
 pub returns-then-offset-count-clause-cell : goal.returns-then-offset-count-clause-cell

@@ -1,6 +1,5 @@
 use Rattle.std.proofs.Common.{arith}
-use Rattle.images.proofs.Lengths.{field_count}
-use Rattle.images.proofs.ListedCells.{told_field}
+use Rattle.images.proofs.{Lengths.field_count, ListedCells.told_field}
 use Rattle.model_registers.specs.Registers.{config}
 use Rattle.images.proofs.cells.RowHasCells.cell.Goals as goal
 

@@ -1,5 +1,4 @@
-use Rattle.std.proofs.Common.{arith}
-use Rattle.std.proofs.lemmas.Bool.Decides.{nat_tests}
+use Rattle.std.proofs.{Common.arith, lemmas.Bool.Decides.nat_tests}
 use Rattle.lines.proofs.Buffers.{nothing_more}
 use Rattle.lines.proofs.pending.Pending.fill.Goals as goal
 

@@ -1,7 +1,6 @@
 use Rattle.std.proofs.Common.{◌≡◌, ◌+◌, ◌-◌, false, length, take, drop, sym, ap, ◌∙◌, arith, length-drop, length-take-le}
 use lib.Seq.{paste}
-use Rattle.std.proofs.lemmas.List.{drop-take}
-use Rattle.std.proofs.lemmas.List.Edits.{take-paste}
+use Rattle.std.proofs.lemmas.List.{drop-take, Edits.take-paste}
 use Rattle.model_guests.specs.Text.{Text}
 use Rattle.lines.specs.Pieces.{Pending, rest_of}
 use Rattle.lines.proofs.pending.Pending.keep_last.Goals as goal

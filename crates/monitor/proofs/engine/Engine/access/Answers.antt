@@ -1,13 +1,7 @@
-use Rattle.std.proofs.Common.{◌∙◌, sym, ap}
-use Rattle.std.specs.Prelude.{option_map}
+use Rattle.std.{proofs.Common.{◌∙◌, sym, ap}, specs.Prelude.option_map}
 use Rattle.model_guests.specs.Lone.{destination}
-use Rattle.accesses.specs.Accesses.{access_of, op_of, target_of}
-use Rattle.accesses.specs.Refusals.{number_of}
-use Rattle.accesses.specs.declared.access.At.{At}
-use Rattle.monitor.specs.ByIndex.{lone_nth}
-use Rattle.monitor.specs.Counts.{after_access_nth}
-use Rattle.monitor.proofs.Lands.{access_done}
-use Rattle.monitor.proofs.Machines.{access_refused}
+use Rattle.accesses.specs.{Accesses.{access_of, op_of, target_of}, Refusals.number_of, declared.access.At.At}
+use Rattle.monitor.{specs.{ByIndex.lone_nth, Counts.after_access_nth}, proofs.{Lands.access_done, Machines.access_refused}}
 use Rattle.monitor.proofs.engine.Engine.access.Goals as goal
 
 pub returns-in-Some-clause-after : goal.returns-in-Some-clause-after

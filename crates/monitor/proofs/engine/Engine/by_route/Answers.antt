@@ -1,12 +1,9 @@
 use Rattle.std.proofs.Common.{◌≡◌, ◌∙◌, List, ap, sym, subst, rules}
-use Rattle.model_set_up.specs.FunctionTable.{TableRow}
-use Rattle.model_set_up.specs.SetUpWrites.{Plan}
+use Rattle.model_set_up.specs.{FunctionTable.TableRow, SetUpWrites.Plan}
 use Rattle.model_guests.specs.WorldNow.{world_over}
-use Rattle.model_handoff.specs.Handoffs.{taken_over}
-use Rattle.model_handoff.specs.Regions.{CanBeGiven}
+use Rattle.model_handoff.specs.{Handoffs.taken_over, Regions.CanBeGiven}
 use Rattle.host_bridge.specs.HostState.{HostState}
-use Rattle.monitor.specs.Beginnings.{world_on}
-use Rattle.monitor.proofs.FirstWorlds.{ready_handoff, ready_given, ready_world}
+use Rattle.monitor.{specs.Beginnings.world_on, proofs.FirstWorlds.{ready_handoff, ready_given, ready_world}}
 use Rattle.monitor.proofs.engine.Engine.by_route.Goals as goal
 
 pub over_by_route-requires-clause-fits : goal.over_by_route-requires-clause-fits

@@ -1,9 +1,7 @@
-use Rattle.std.proofs.Common.{◌∙◌, sym, ap, arith}
-use Rattle.std.specs.Prelude.{slice_get}
+use Rattle.std.{proofs.Common.{◌∙◌, sym, ap, arith}, specs.Prelude.slice_get}
 use Rattle.lists.proofs.Indices.{map_at}
 use Rattle.model_handoff.specs.Changes.{MachineNow}
-use Rattle.monitor.specs.declared.guest.Guest.{Guest}
-use Rattle.monitor.proofs.Calls.{guest_in, inside_guests}
+use Rattle.monitor.{specs.declared.guest.Guest.Guest, proofs.Calls.{guest_in, inside_guests}}
 use Rattle.monitor.proofs.engine.Engine.changed.Goals as goal
 
 pub index-requires : goal.index-requires

@@ -1,10 +1,8 @@
 use Rattle.std.proofs.Common.{◌∙◌, ap, sym}
-use Rattle.model_guests.specs.Accesses.{configuration}
-use Rattle.model_guests.specs.Lone.{at_target}
+use Rattle.model_guests.specs.{Accesses.configuration, Lone.at_target}
 use Rattle.accesses.specs.Accesses.{op_of}
 use Rattle.config_bytes.specs.declared.op.Op.{Op}
-use Rattle.monitor.specs.Counts.{after_access_nth}
-use Rattle.monitor.proofs.Machines.{same_machine}
+use Rattle.monitor.{specs.Counts.after_access_nth, proofs.Machines.same_machine}
 use Rattle.monitor.proofs.engine.Engine.config_access.Goals as goal
 
 pub returns-in-Read-clause-after : goal.returns-in-Read-clause-after

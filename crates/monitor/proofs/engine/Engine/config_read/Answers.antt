@@ -1,7 +1,5 @@
 use Rattle.std.proofs.Common.{◌∙◌, arith}
-use Rattle.monitor.proofs.Steps.{empty_lent, slot_lent}
-use Rattle.monitor.proofs.ConfigSteps.{seen, config_reads, config_reads_ones}
-use Rattle.monitor.proofs.Calls.{guest_in, inside_guests}
+use Rattle.monitor.proofs.{Steps.{empty_lent, slot_lent}, ConfigSteps.{seen, config_reads, config_reads_ones}, Calls.{guest_in, inside_guests}}
 use Rattle.monitor.proofs.engine.Engine.config_read.Goals as goal
 
 pub index-requires : goal.index-requires

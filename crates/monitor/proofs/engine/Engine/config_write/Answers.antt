@@ -1,22 +1,10 @@
-use Rattle.std.proofs.Common.{◌∙◌, ℕ, List, ap, sym, subst, arith}
-use Rattle.std.specs.Prelude.{IsSome}
-use Rattle.model_registers.specs.ByteEnables.{enables_of, into_lanes}
-use Rattle.model_registers.specs.Registers.{config}
-use Rattle.model_guests.specs.Accesses.{configuration, writes}
-use Rattle.model_guests.specs.Lone.{at_target}
+use Rattle.std.{proofs.Common.{◌∙◌, ℕ, List, ap, sym, subst, arith}, specs.Prelude.IsSome}
+use Rattle.model_registers.specs.{ByteEnables.{enables_of, into_lanes}, Registers.config}
+use Rattle.model_guests.specs.{Accesses.{configuration, writes}, Lone.at_target}
 use Rattle.model_handoff.specs.StayLaws.{any_tells}
 use Rattle.bridge_forward.specs.Lending.{endpoint_nth}
 use Rattle.host_bridge.specs.Landings.{IsReached}
-use Rattle.monitor.specs.declared.guest.Guest.{Guest}
-use Rattle.monitor.specs.Configs.{HoldsAt}
-use Rattle.monitor.specs.Counts.{counted_nth}
-use Rattle.monitor.proofs.ConfigSteps.{config_changes, config_drops, config_quiet, config_written, written_lent}
-use Rattle.monitor.proofs.Machines.{accessed, counts_lent, untouched}
-use Rattle.monitor.proofs.Calls.{back_in, guest_in, inside_guests}
-use Rattle.monitor.proofs.Steps.{empty_lent, slot_lent}
-use Rattle.monitor.proofs.Exchanges.{holds_nth}
-use Rattle.monitor.proofs.Reached.{endpoint_held, reached_held}
-use Rattle.monitor.proofs.Writable.{after_access_sound}
+use Rattle.monitor.{specs.{declared.guest.Guest.Guest, Configs.HoldsAt, Counts.counted_nth}, proofs.{ConfigSteps.{config_changes, config_drops, config_quiet, config_written, written_lent}, Machines.{accessed, counts_lent, untouched}, Calls.{back_in, guest_in, inside_guests}, Steps.{empty_lent, slot_lent}, Exchanges.holds_nth, Reached.{endpoint_held, reached_held}, Writable.after_access_sound}}
 use Rattle.monitor.proofs.engine.Engine.config_write.Goals as goal
 
 pub index-requires : goal.index-requires

@@ -1,12 +1,7 @@
 use Rattle.std.proofs.Common.{◌∙◌, ap, arith}
-use Rattle.monitor.specs.DeviceBytes.{device_byte}
+use Rattle.monitor.{specs.{DeviceBytes.device_byte, Views.{machine_shown, texts}}, proofs.{DeviceSteps.{device_read, endpoint_reached, refused_there}, Machines.read_after, ResetSteps.device_refused, Calls.{guest_in, inside_guests}}}
 use Rattle.model_guests.specs.DeviceEvents.{device_reads}
-use Rattle.monitor.proofs.DeviceSteps.{device_read, endpoint_reached, refused_there}
 use Rattle.host_bridge.specs.HostState.{HostState}
-use Rattle.monitor.specs.Views.{machine_shown, texts}
-use Rattle.monitor.proofs.Machines.{read_after}
-use Rattle.monitor.proofs.ResetSteps.{device_refused}
-use Rattle.monitor.proofs.Calls.{guest_in, inside_guests}
 use Rattle.monitor.proofs.engine.Engine.device_read.Goals as goal
 
 pub index-requires : goal.index-requires

@@ -1,7 +1,5 @@
 use Rattle.std.proofs.Common.{rules}
-use Rattle.monitor.proofs.FunctionsTold.{seats_told, nth_told}
-use Rattle.monitor.proofs.Given.{board_kept}
-use Rattle.monitor.proofs.Calls.{kept_in}
+use Rattle.monitor.proofs.{FunctionsTold.{seats_told, nth_told}, Given.board_kept, Calls.kept_in}
 use Rattle.monitor.proofs.engine.Engine.function.Goals as goal
 
 pub function_nth-requires-clause-board : goal.function_nth-requires-clause-board

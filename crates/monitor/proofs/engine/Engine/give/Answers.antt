@@ -1,15 +1,6 @@
 use Rattle.std.proofs.Common.{◌<◌, ◌∙◌, List, length, true, sym, subst}
-use Rattle.monitor.specs.declared.guest.Guest.{Guest}
+use Rattle.monitor.{specs.{declared.guest.Guest.Guest, ByIndex.name_nth, Counts.counted_nth, Moves.HasSlot, Seatings.gift_nth}, proofs.{Calls.{back_in, guest_at, inside_guests, kept_in}, Given.{board_kept, give_left, has_room, makes_gift, nothing_given}, Machines.{counts_lent, grew, is_counted, not_counted, refused_all}, Exchanges.exchange_lent, Writable.after_action_sound}}
 use Rattle.model_handoff.specs.Actions.{gives}
-use Rattle.monitor.specs.ByIndex.{name_nth}
-use Rattle.monitor.specs.Counts.{counted_nth}
-use Rattle.monitor.specs.Moves.{HasSlot}
-use Rattle.monitor.specs.Seatings.{gift_nth}
-use Rattle.monitor.proofs.Calls.{back_in, guest_at, inside_guests, kept_in}
-use Rattle.monitor.proofs.Given.{board_kept, give_left, has_room, makes_gift, nothing_given}
-use Rattle.monitor.proofs.Machines.{counts_lent, grew, is_counted, not_counted, refused_all}
-use Rattle.monitor.proofs.Exchanges.{exchange_lent}
-use Rattle.monitor.proofs.Writable.{after_action_sound}
 use Rattle.monitor.proofs.engine.Engine.give.Goals as goal
 
 pub gift-requires-clause-board : goal.gift-requires-clause-board

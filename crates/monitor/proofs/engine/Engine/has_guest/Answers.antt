@@ -1,7 +1,5 @@
 use Rattle.std.proofs.Common.{ap, ◌∙◌}
-use Rattle.monitor.specs.Seatings.{has_index}
-use Rattle.monitor.proofs.Calls.{kept_in}
-use Rattle.monitor.proofs.StandingFunctions.{given_is}
+use Rattle.monitor.{specs.Seatings.has_index, proofs.{Calls.kept_in, StandingFunctions.given_is}}
 use Rattle.monitor.proofs.engine.Engine.has_guest.Goals as goal
 
 pub returns : goal.returns

@@ -1,6 +1,5 @@
 use Rattle.std.proofs.Common.{subst, sym}
-use Rattle.model_handoff.specs.Handoffs.{IsHandoff}
-use Rattle.model_handoff.proofs.Alike.{alike_over}
+use Rattle.model_handoff.{specs.Handoffs.IsHandoff, proofs.Alike.alike_over}
 use Rattle.monitor.proofs.Calls.{kept_in, writable_in}
 use Rattle.monitor.proofs.engine.Engine.host.Goals as goal
 

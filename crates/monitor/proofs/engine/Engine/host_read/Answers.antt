@@ -1,11 +1,7 @@
-use Rattle.std.proofs.Common.{◌∙◌, sym, ap}
-use Rattle.std.specs.Prelude.{option_map}
+use Rattle.std.{proofs.Common.{◌∙◌, sym, ap}, specs.Prelude.option_map}
 use Rattle.model_guests.specs.HostReads.{shown}
-use Rattle.accesses.specs.Accesses.{host_target_of, host_access_of}
-use Rattle.accesses.specs.Refusals.{number_of}
-use Rattle.accesses.specs.declared.access.HostAt.{HostAt}
-use Rattle.monitor.proofs.Shown.{host_replied}
-use Rattle.monitor.proofs.Calls.{kept_in}
+use Rattle.accesses.specs.{Accesses.{host_target_of, host_access_of}, Refusals.number_of, declared.access.HostAt.HostAt}
+use Rattle.monitor.proofs.{Shown.host_replied, Calls.kept_in}
 use Rattle.monitor.proofs.engine.Engine.host_read.Goals as goal
 
 pub returns-in-Config-clause-reply : goal.returns-in-Config-clause-reply

@@ -1,8 +1,7 @@
 use Rattle.std.proofs.Common.{◌∙◌, ap, sym, arith}
 use Rattle.model_guests.specs.Lone.{LoneGuest}
 use Rattle.model_images.specs.Differences.{image_difference}
-use Rattle.monitor.proofs.Calls.{guest_in, inside_guests}
-use Rattle.monitor.proofs.SavedImages.{few_slots, lone_by_name_is}
+use Rattle.monitor.proofs.{Calls.{guest_in, inside_guests}, SavedImages.{few_slots, lone_by_name_is}}
 use Rattle.monitor.proofs.engine.Engine.image_difference.Goals as goal
 
 pub index-requires : goal.index-requires

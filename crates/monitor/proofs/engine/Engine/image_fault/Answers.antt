@@ -1,8 +1,6 @@
-use Rattle.std.proofs.Common.{◌∙◌, ap, arith}
-use Rattle.std.specs.Prelude.{option_map}
+use Rattle.std.{proofs.Common.{◌∙◌, ap, arith}, specs.Prelude.option_map}
 use Rattle.images.specs.Faults.{number_of}
-use Rattle.monitor.proofs.Calls.{guest_in, inside_guests}
-use Rattle.monitor.proofs.SavedImages.{fault_now}
+use Rattle.monitor.proofs.{Calls.{guest_in, inside_guests}, SavedImages.fault_now}
 use Rattle.monitor.proofs.engine.Engine.image_fault.Goals as goal
 
 pub index-requires : goal.index-requires

@@ -1,8 +1,5 @@
 use Rattle.std.proofs.Common.{List, Option, length, ap, sym, subst, arith}
-use Rattle.monitor.specs.declared.guest.Held.{Held}
-use Rattle.monitor.specs.ShownImages.{HavePlaces, slots_image}
-use Rattle.monitor.proofs.Calls.{guest_in, inside_guests}
-use Rattle.monitor.proofs.SavedImages.{few_slots, places_kept, size_now}
+use Rattle.monitor.{specs.{declared.guest.Held.Held, ShownImages.{HavePlaces, slots_image}}, proofs.{Calls.{guest_in, inside_guests}, SavedImages.{few_slots, places_kept, size_now}}}
 use Rattle.monitor.proofs.engine.Engine.image_size.Goals as goal
 
 pub index-requires : goal.index-requires

@@ -1,6 +1,5 @@
 use Rattle.std.proofs.Common.{◌∙◌}
-use Rattle.monitor.proofs.Calls.{kept_in}
-use Rattle.monitor.proofs.StandingFunctions.{at_host, open_is}
+use Rattle.monitor.proofs.{Calls.kept_in, StandingFunctions.{at_host, open_is}}
 use Rattle.monitor.proofs.engine.Engine.is_open.Goals as goal
 
 pub returns : goal.returns

@@ -1,20 +1,10 @@
 use Rattle.std.proofs.Common.{◌<◌, ◌∙◌, List, length, false, ap, refl, sym, subst, arith}
 use Rattle.lists.proofs.Indices.{at_below}
 use Rattle.model_registers.specs.ConfigAddress.{latched}
-use Rattle.model_guests.specs.Accesses.{answered, writes}
-use Rattle.model_guests.specs.Lone.{own_latch, reply_at}
+use Rattle.model_guests.specs.{Accesses.{answered, writes}, Lone.{own_latch, reply_at}}
 use Rattle.accesses.specs.Accesses.{op_of}
 use Rattle.config_bytes.specs.declared.op.Op.{Op}
-use Rattle.monitor.specs.declared.guest.Guest.{Guest}
-use Rattle.monitor.specs.ByIndex.{lone_nth}
-use Rattle.monitor.specs.Counts.{after_access_nth, counted_nth, counts_of}
-use Rattle.monitor.proofs.Calls.{back_in, guest_in, inside_guests, kept_in}
-use Rattle.monitor.proofs.Steps.{kept_nth}
-use Rattle.monitor.proofs.PortSteps.{latch_lent, latch_written}
-use Rattle.monitor.proofs.Counts.{set_counted}
-use Rattle.monitor.proofs.Lands.{latch_unchanged}
-use Rattle.monitor.proofs.Machines.{accessed, counts_lent, same_machine}
-use Rattle.monitor.proofs.Writable.{after_access_sound}
+use Rattle.monitor.{specs.{declared.guest.Guest.Guest, ByIndex.lone_nth, Counts.{after_access_nth, counted_nth, counts_of}}, proofs.{Calls.{back_in, guest_in, inside_guests, kept_in}, Steps.kept_nth, PortSteps.{latch_lent, latch_written}, Counts.set_counted, Lands.latch_unchanged, Machines.{accessed, counts_lent, same_machine}, Writable.after_access_sound}}
 use Rattle.monitor.proofs.engine.Engine.latch_access.Goals as goal
 
 pub index-requires : goal.index-requires

@@ -1,16 +1,7 @@
 use Rattle.std.proofs.Common.{◌∙◌, List, true, subst, sym, arith}
-use Rattle.model_images.specs.Images.{Image}
-use Rattle.model_images.specs.TakenBytes.{taken_image}
+use Rattle.model_images.specs.{Images.Image, TakenBytes.taken_image}
 use Rattle.images.proofs.FoundParts.{are_bytes}
-use Rattle.monitor.specs.declared.guest.Guest.{Guest}
-use Rattle.monitor.specs.ByIndex.{lone_nth}
-use Rattle.monitor.specs.Counts.{counted_nth}
-use Rattle.monitor.specs.Moves.{HasSlot}
-use Rattle.monitor.proofs.Calls.{back_in, guest_at}
-use Rattle.monitor.proofs.Exchanges.{has_nth}
-use Rattle.monitor.proofs.Machines.{counts_lent}
-use Rattle.monitor.proofs.LoadedWorlds.{image_fits, is_loaded, keeps_lent, load_left, takes_named}
-use Rattle.monitor.proofs.Writable.{after_load_sound, savable_nth}
+use Rattle.monitor.{specs.{declared.guest.Guest.Guest, ByIndex.lone_nth, Counts.counted_nth, Moves.HasSlot}, proofs.{Calls.{back_in, guest_at}, Exchanges.has_nth, Machines.counts_lent, LoadedWorlds.{image_fits, is_loaded, keeps_lent, load_left, takes_named}, Writable.{after_load_sound, savable_nth}}}
 use Rattle.monitor.proofs.engine.Engine.load_taken.Goals as goal
 
 pub load_image-requires-clause-has : goal.load_image-requires-clause-has

@@ -1,6 +1,5 @@
 use Rattle.std.proofs.Common.{rules}
-use Rattle.monitor.proofs.Shown.{names_kept}
-use Rattle.monitor.proofs.Calls.{kept_in}
+use Rattle.monitor.proofs.{Shown.names_kept, Calls.kept_in}
 use Rattle.monitor.proofs.engine.Engine.names.Goals as goal
 
 pub returns : goal.returns

@@ -1,10 +1,7 @@
 use Rattle.std.proofs.Common.{rules, subst, sym}
-use Rattle.monitor.proofs.Machines.{begins_counted}
+use Rattle.monitor.{proofs.{Machines.begins_counted, FirstWorlds.{routing_on, sound_at_first, shown_at_first, writable_over}}, specs.{Beginnings.world_on, Views.texts}}
 use Rattle.model_handoff.specs.Handoffs.{taken_over}
 use Rattle.model_images.specs.MachineByteLaws.{CanBeSaved}
-use Rattle.monitor.specs.Beginnings.{world_on}
-use Rattle.monitor.specs.Views.{texts}
-use Rattle.monitor.proofs.FirstWorlds.{routing_on, sound_at_first, shown_at_first, writable_over}
 use Rattle.monitor.proofs.engine.Engine.over_by_route.Goals as goal
 
 pub of_parts-requires-clause-fits : goal.of_parts-requires-clause-fits

@@ -1,9 +1,5 @@
-use Rattle.std.proofs.Common.{◌≡◌, List, Option, Some, None, ap, ◌∙◌, sym, arith}
-use Rattle.std.specs.Prelude.{slice_get, unwrap_or}
-use Rattle.monitor.specs.declared.guest.Held.{Held}
-use Rattle.monitor.specs.Views.{path_shown}
-use Rattle.monitor.proofs.Calls.{guest_in, inside_guests}
-use Rattle.monitor.proofs.StandingFunctions.{path_is}
+use Rattle.std.{proofs.Common.{◌≡◌, List, Option, Some, None, ap, ◌∙◌, sym, arith}, specs.Prelude.{slice_get, unwrap_or}}
+use Rattle.monitor.{specs.{declared.guest.Held.Held, Views.path_shown}, proofs.{Calls.{guest_in, inside_guests}, StandingFunctions.path_is}}
 use Rattle.monitor.proofs.engine.Engine.path_in.Goals as goal
 
 pub index-requires : goal.index-requires

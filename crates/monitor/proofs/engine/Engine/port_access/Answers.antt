@@ -1,15 +1,8 @@
 use Rattle.std.proofs.Common.{◌≡◌, ◌∙◌, ap, sym, arith}
-use Rattle.model_guests.specs.Accesses.{port}
-use Rattle.model_guests.specs.Lone.{Destination, LoneGuest, by_select, destination}
+use Rattle.model_guests.specs.{Accesses.port, Lone.{Destination, LoneGuest, by_select, destination}}
 use Rattle.accesses.specs.Accesses.{op_of}
+use Rattle.monitor.{specs.{ByIndex.{lone_nth, with_lone_nth}, Counts.after_access_nth}, proofs.{Lands.nowhere_unchanged, Machines.untouched, PortSteps.{destination_is, named_select, nothing_after, nothing_at}, Calls.{guest_in, inside_guests}, Steps.with_same}}
 use Rattle.paths.specs.declared.latch.Select.TheVariants as select
-use Rattle.monitor.specs.ByIndex.{lone_nth, with_lone_nth}
-use Rattle.monitor.specs.Counts.{after_access_nth}
-use Rattle.monitor.proofs.Lands.{nowhere_unchanged}
-use Rattle.monitor.proofs.Machines.{untouched}
-use Rattle.monitor.proofs.PortSteps.{destination_is, named_select, nothing_after, nothing_at}
-use Rattle.monitor.proofs.Calls.{guest_in, inside_guests}
-use Rattle.monitor.proofs.Steps.{with_same}
 use Rattle.monitor.proofs.engine.Engine.port_access.Goals as goal
 
 pub index-requires : goal.index-requires

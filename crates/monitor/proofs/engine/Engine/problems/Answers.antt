@@ -1,9 +1,7 @@
 use Rattle.std.proofs.Common.{◌≡◌, [], ◌∙◌, subst}
-use Rattle.model_findings.proofs.Witnesses.{problems_decide}
-use Rattle.model_findings.specs.Problems.{problems}
+use Rattle.model_findings.{proofs.Witnesses.problems_decide, specs.Problems.problems}
 use Rattle.model_guests.specs.WorldNow.{board_state}
-use Rattle.model_handoff.proofs.Keeping.{keeps_problems}
-use Rattle.model_handoff.specs.Changes.{MachineNow}
+use Rattle.model_handoff.{proofs.Keeping.keeps_problems, specs.Changes.MachineNow}
 use Rattle.monitor.specs.Views.{texts, machine_shown}
 use Rattle.monitor.proofs.engine.Engine.problems.Goals as goal
 

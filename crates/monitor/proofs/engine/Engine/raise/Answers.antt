@@ -1,10 +1,7 @@
 use Rattle.std.proofs.Common.{◌∙◌, ap}
-use Rattle.model_guests.specs.Accesses as guests
 use Rattle.model_guests.specs.Lone.{LoneGuest, answer}
-use Rattle.monitor.proofs.Machines.{by_name}
-use Rattle.monitor.proofs.Named.{lone_by_name}
-use Rattle.monitor.proofs.RaiseSteps.{raise_of}
-use Rattle.monitor.proofs.Calls.{kept_in}
+use Rattle.monitor.proofs.{Machines.by_name, Named.lone_by_name, RaiseSteps.raise_of, Calls.kept_in}
+use Rattle.model_guests.specs.Accesses as guests
 use Rattle.monitor.proofs.engine.Engine.raise.Goals as goal
 
 pub returns-clause-reply : goal.returns-clause-reply

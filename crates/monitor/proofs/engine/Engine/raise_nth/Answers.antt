@@ -1,11 +1,6 @@
 use Rattle.std.proofs.Common.{◌∙◌, false, refl, sym, arith}
 use Rattle.model_guests.specs.Accesses.{raises}
-use Rattle.monitor.proofs.Machines.{accessed, untouched}
-use Rattle.monitor.proofs.RaiseSteps.{raise_of, no_place, nothing_raised, raise_done, raise_refused, raise_slot_refused, raise_written}
-use Rattle.monitor.proofs.Reached.{endpoint_held}
-use Rattle.monitor.proofs.Calls.{guest_in, inside_guests}
-use Rattle.monitor.proofs.Steps.{slot_lent}
-use Rattle.monitor.proofs.Writable.{after_event_sound}
+use Rattle.monitor.proofs.{Machines.{accessed, untouched}, RaiseSteps.{raise_of, no_place, nothing_raised, raise_done, raise_refused, raise_slot_refused, raise_written}, Reached.endpoint_held, Calls.{guest_in, inside_guests}, Steps.slot_lent, Writable.after_event_sound}
 use Rattle.monitor.proofs.engine.Engine.raise_nth.Goals as goal
 
 pub index-requires : goal.index-requires

@@ -1,19 +1,10 @@
 use Rattle.std.proofs.Common.{◌∙◌, false, ap, refl, sym, arith, rules}
-use Rattle.model_guests.specs.Accesses.{writes}
-use Rattle.model_guests.specs.Lone.{at_target, reply_at}
+use Rattle.model_guests.specs.{Accesses.writes, Lone.{at_target, reply_at}}
 use Rattle.bars.specs.Kinds.{named_space}
 use Rattle.host_bridge.specs.HostState.{HostState}
 use Rattle.accesses.specs.Accesses.{op_of}
 use Rattle.config_bytes.specs.declared.op.Op.{Op}
-use Rattle.monitor.specs.Views.{machine_shown, texts}
-use Rattle.monitor.specs.ByIndex.{lone_nth}
-use Rattle.monitor.specs.Counts.{after_access_nth}
-use Rattle.monitor.specs.Reaches.{target_in}
-use Rattle.monitor.proofs.RegionSteps.{after_nowhere, holds_landed, landing_at, region_written, reply_nowhere, reply_read}
-use Rattle.monitor.proofs.Calls.{guest_in, inside_guests}
-use Rattle.monitor.proofs.Lands.{region_unchanged}
-use Rattle.monitor.proofs.Machines.{accessed, same_machine, untouched}
-use Rattle.monitor.proofs.Writable.{after_access_sound}
+use Rattle.monitor.{specs.{Views.{machine_shown, texts}, ByIndex.lone_nth, Counts.after_access_nth, Reaches.target_in}, proofs.{RegionSteps.{after_nowhere, holds_landed, landing_at, region_written, reply_nowhere, reply_read}, Calls.{guest_in, inside_guests}, Lands.region_unchanged, Machines.{accessed, same_machine, untouched}, Writable.after_access_sound}}
 use Rattle.monitor.proofs.engine.Engine.region_access.Goals as goal
 
 pub index-requires : goal.index-requires

@@ -1,21 +1,11 @@
 use Rattle.std.proofs.Common.{◌∙◌, ap, refl, sym, arith, false, Ok, Some}
 use Rattle.model_registers.specs.Registers.{block}
-use Rattle.model_guests.specs.Accesses.{reads, writes}
-use Rattle.model_guests.specs.Slots.{Landing}
+use Rattle.model_guests.specs.{Accesses.{reads, writes}, Slots.Landing}
 use Rattle.model_handoff.specs.RegionBytes.{byte_reply, reply_there, after_there, register_of}
 use Rattle.config_bytes.specs.declared.op.Op.{Op}
 use Rattle.accesses.specs.Accesses.{op_of, part_of}
 use Rattle.host_bridge.specs.HostState.{HostState}
-use Rattle.monitor.specs.Views.{machine_shown, texts}
-use Rattle.monitor.specs.ByIndex.{lone_nth}
-use Rattle.monitor.specs.Counts.{after_byte_nth, after_nth}
-use Rattle.monitor.specs.DeviceBytes.{device_byte}
-use Rattle.monitor.proofs.Calls.{guest_in, inside_guests}
-use Rattle.monitor.proofs.Machines.{accessed}
-use Rattle.monitor.proofs.RegionBytes.{byte_refused, byte_closed, lands, opening_is, read_stays, slot_refused}
-use Rattle.monitor.proofs.RegionSteps.{read_there, written_there}
-use Rattle.monitor.proofs.Steps.{slot_lent}
-use Rattle.monitor.proofs.Writable.{after_write_sound}
+use Rattle.monitor.{specs.{Views.{machine_shown, texts}, ByIndex.lone_nth, Counts.{after_byte_nth, after_nth}, DeviceBytes.device_byte}, proofs.{Calls.{guest_in, inside_guests}, Machines.accessed, RegionBytes.{byte_refused, byte_closed, lands, opening_is, read_stays, slot_refused}, RegionSteps.{read_there, written_there}, Steps.slot_lent, Writable.after_write_sound}}
 use Rattle.monitor.proofs.engine.Engine.region_byte.Goals as goal
 
 pub index-requires : goal.index-requires

@@ -1,17 +1,6 @@
 use Rattle.std.proofs.Common.{◌∙◌, List, sym, subst, arith}
 use Rattle.model_guests.specs.DeviceEvents.{resets}
-use Rattle.monitor.specs.declared.guest.Guest.{Guest}
-use Rattle.monitor.specs.ByIndex.{name_nth}
-use Rattle.monitor.specs.Configs.{HoldsAt}
-use Rattle.monitor.specs.Counts.{counted_both, counts_of}
-use Rattle.monitor.specs.Moves.{HasSlot}
-use Rattle.monitor.proofs.Calls.{back_in, guest_in, inside_guests}
-use Rattle.monitor.proofs.ResetSteps.{device_refused, nothing_changed, reset_done, reset_left}
-use Rattle.monitor.proofs.Machines.{both_one, counts_lent, grew, happens, is_counted, not_counted, refused_all}
-use Rattle.monitor.proofs.TakingSteps.{fault_named, may_take}
-use Rattle.monitor.proofs.Steps.{fault_lent, slot_lent}
-use Rattle.monitor.proofs.Exchanges.{has_nth, holds_nth, over_lent}
-use Rattle.monitor.proofs.Writable.{after_action_sound}
+use Rattle.monitor.{specs.{declared.guest.Guest.Guest, ByIndex.name_nth, Configs.HoldsAt, Counts.{counted_both, counts_of}, Moves.HasSlot}, proofs.{Calls.{back_in, guest_in, inside_guests}, ResetSteps.{device_refused, nothing_changed, reset_done, reset_left}, Machines.{both_one, counts_lent, grew, happens, is_counted, not_counted, refused_all}, TakingSteps.{fault_named, may_take}, Steps.{fault_lent, slot_lent}, Exchanges.{has_nth, holds_nth, over_lent}, Writable.after_action_sound}}
 use Rattle.monitor.proofs.engine.Engine.reset.Goals as goal
 
 pub index-requires : goal.index-requires

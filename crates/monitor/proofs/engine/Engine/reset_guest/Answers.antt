@@ -1,15 +1,6 @@
 use Rattle.std.proofs.Common.{◌∙◌, List, true, refl, subst, sym, arith}
 use Rattle.model_guests.specs.WorldNow.{WorldNow}
-use Rattle.monitor.specs.declared.guest.Guest.{Guest}
-use Rattle.monitor.specs.Counts.{counted_nth}
-use Rattle.monitor.specs.Keeping.{IsKept}
-use Rattle.monitor.specs.Moves.{HasSlot}
-use Rattle.monitor.specs.Views.{texts}
-use Rattle.monitor.proofs.Calls.{back_in, guest_at, kept_in, leaves}
-use Rattle.monitor.proofs.Exchanges.{has_nth}
-use Rattle.monitor.proofs.Machines.{counts_lent}
-use Rattle.monitor.proofs.RestartSteps.{restarted, restarted_is}
-use Rattle.monitor.proofs.Writable.{after_restart_sound}
+use Rattle.monitor.{specs.{declared.guest.Guest.Guest, Counts.counted_nth, Keeping.IsKept, Moves.HasSlot, Views.texts}, proofs.{Calls.{back_in, guest_at, kept_in, leaves}, Exchanges.has_nth, Machines.counts_lent, RestartSteps.{restarted, restarted_is}, Writable.after_restart_sound}}
 use Rattle.monitor.proofs.engine.Engine.reset_guest.Goals as goal
 
 pub restart-requires : goal.restart-requires

@@ -1,11 +1,7 @@
 use Rattle.std.proofs.Common.{◌≤◌, ◌∙◌, length, ap, sym, subst, arith}
-use Rattle.model_images.specs.Images.{Image}
-use Rattle.model_images.specs.ImageBytes.{image_bytes}
-use Rattle.model_images.proofs.LoadedBytes.{taken_by_all}
+use Rattle.model_images.{specs.{Images.Image, ImageBytes.image_bytes}, proofs.LoadedBytes.taken_by_all}
 use Rattle.images.specs.Puts.{put}
-use Rattle.monitor.proofs.Calls.{guest_in, inside_guests}
-use Rattle.monitor.proofs.SavedImages.{image_is, places_kept}
-use Rattle.monitor.proofs.Writable.{savable_nth}
+use Rattle.monitor.proofs.{Calls.{guest_in, inside_guests}, SavedImages.{image_is, places_kept}, Writable.savable_nth}
 use Rattle.monitor.proofs.engine.Engine.save.Goals as goal
 
 pub index-requires : goal.index-requires

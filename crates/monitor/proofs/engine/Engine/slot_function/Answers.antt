@@ -1,8 +1,5 @@
 use Rattle.std.proofs.Common.{ap, ◌∙◌, arith, Err, ℕ}
-use Rattle.monitor.specs.FunctionsTold.{seat_kept}
-use Rattle.monitor.proofs.FunctionsTold.{seats_told, slot_told, slot_withheld}
-use Rattle.monitor.proofs.Given.{board_kept}
-use Rattle.monitor.proofs.Calls.{guest_in, inside_guests, kept_in}
+use Rattle.monitor.{specs.FunctionsTold.seat_kept, proofs.{FunctionsTold.{seats_told, slot_told, slot_withheld}, Given.board_kept, Calls.{guest_in, inside_guests, kept_in}}}
 use Rattle.monitor.proofs.engine.Engine.slot_function.Goals as goal
 
 pub index-requires : goal.index-requires

@@ -1,15 +1,6 @@
 use Rattle.std.proofs.Common.{◌∙◌, List, true, sym, subst, arith}
 use Rattle.model_handoff.specs.Actions.{takes}
-use Rattle.monitor.specs.declared.guest.Guest.{Guest}
-use Rattle.monitor.specs.ByIndex.{name_nth}
-use Rattle.monitor.specs.Counts.{counted_nth}
-use Rattle.monitor.specs.Moves.{HasSlot}
-use Rattle.monitor.proofs.Machines.{counts_lent, grew, is_counted, not_counted, refused_all}
-use Rattle.monitor.proofs.TakingSteps.{fault_named, may_take, nothing_taken, take_done, take_left, take_refused}
-use Rattle.monitor.proofs.Calls.{back_in, guest_in, inside_guests}
-use Rattle.monitor.proofs.Exchanges.{exchange_lent, has_nth}
-use Rattle.monitor.proofs.Steps.{fault_lent, slot_lent}
-use Rattle.monitor.proofs.Writable.{after_action_sound}
+use Rattle.monitor.{specs.{declared.guest.Guest.Guest, ByIndex.name_nth, Counts.counted_nth, Moves.HasSlot}, proofs.{Machines.{counts_lent, grew, is_counted, not_counted, refused_all}, TakingSteps.{fault_named, may_take, nothing_taken, take_done, take_left, take_refused}, Calls.{back_in, guest_in, inside_guests}, Exchanges.{exchange_lent, has_nth}, Steps.{fault_lent, slot_lent}, Writable.after_action_sound}}
 use Rattle.monitor.proofs.engine.Engine.take.Goals as goal
 
 pub index-requires : goal.index-requires

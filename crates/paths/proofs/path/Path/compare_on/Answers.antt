@@ -1,7 +1,6 @@
 use Rattle.std.proofs.Common.{ℕ, ◌∙◌, ap, sym, length, arith}
-use Rattle.model_board.proofs.PathEnds.{leads_longer}
-use Rattle.model_board.specs.Paths.{Part}
 use Rattle.paths.proofs.OnBus.{less_on, equal_on, longer_on, differs_on}
+use Rattle.model_board.{proofs.PathEnds.leads_longer, specs.Paths.Part}
 use Rattle.paths.proofs.path.Path.compare_on.Goals as goal
 
 abbrev named : (device function : ℕ) → Part

@@ -1,9 +1,7 @@
-use Rattle.std.proofs.Common.{rules, Option, sym, ap, ◌∙◌}
-use Rattle.std.specs.Prelude.{option_and_then}
+use Rattle.std.{proofs.Common.{rules, Option, sym, ap, ◌∙◌}, specs.Prelude.option_and_then}
 use Rattle.model_lines.specs.Sessions.{SessionNow}
 use Rattle.session.specs.Stages.{machine_in}
-use Rattle.pciguest_c.specs.Handles.{machine_of}
-use Rattle.pciguest_c.proofs.Options.{where_some}
+use Rattle.pciguest_c.{specs.Handles.machine_of, proofs.Options.where_some}
 use Rattle.pciguest_c.proofs.handle.Handle.ask_machine.Goals as goal
 
 pub returns-clause-asked : goal.returns-clause-asked

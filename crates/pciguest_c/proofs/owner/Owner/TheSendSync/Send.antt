@@ -4,8 +4,7 @@ use denote.Struct.Owning.{shape, fields, to}
 use denote.Param.Send.{IsSend, AllSend, owning_send, struct_send, sendable}
 use Rattle.std_alloc.proofs.SendSync.{quiet}
 use Rattle.session.proofs.session.Session.TheSendSync.{the_send as session_send}
-use Rattle.pciguest_c.proofs.Moved.{keyless}
-use Rattle.pciguest_c.specs.contracts.owner.Owner.{the_row, the_type}
+use Rattle.pciguest_c.{proofs.Moved.keyless, specs.contracts.owner.Owner.{the_row, the_type}}
 
 pub send : IsSend the_row
 send =

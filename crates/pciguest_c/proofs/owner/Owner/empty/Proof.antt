@@ -14,12 +14,10 @@ use denote.Struct.Struct.{Struct, Struct-Makes}
 use denote.Struct.Owning.{shape, to}
 use denote.Struct.Laws.{RawPtr-plain}
 use denote.Triple.Walked.{walk_of, says, ends_at}
-use Rattle.std.proofs.raw_atomic.Walks.{proved}
+use Rattle.std.{proofs.raw_atomic.Walks.proved, specs.Prelude.None}
+use Rattle.pciguest_c.{specs.contracts.owner.Owner.{the_type, the_row as Owner}, proofs.owner.Owner.empty.Statement.statement}
 use Rattle.pciguest_c.proofs.owner.Owner.TheLaws as owner
-use Rattle.std.specs.Prelude.{None}
 use Rattle.pciguest_c.specs.contracts.owner.Owner.empty as f
-use Rattle.pciguest_c.specs.contracts.owner.Owner.{the_type, the_row as Owner}
-use Rattle.pciguest_c.proofs.owner.Owner.empty.Statement.{statement}
 use Rattle.pciguest_c.proofs.owner.Owner.empty.Code as code
 
 pub empty_spec : {M : Type 1} → statement M

@@ -22,26 +22,20 @@ use denote.Triple.Call.{calls_at_last}
 use denote.Triple.Spec.{triple_of}
 use denote.Triple.Table.{framed}
 use denote.Triple.Walked.{Stays, stay_dropped, walk_of, says, Goes-dropped, ends_at}
-use Rattle.std.proofs.raw_atomic.Walks.{proved}
-use Rattle.std.proofs.VecSteps.Shapes.{after}
-use Rattle.std.specs.Prelude.{Option, Some, IsSome}
+use Rattle.std.{proofs.{raw_atomic.Walks.proved, VecSteps.Shapes.after}, specs.Prelude.{Option, Some, IsSome}}
+use Rattle.std_alloc.proofs.boxed.Box.from_raw.Met.{met}
+use Rattle.std_heap.{specs.contracts.GlobalAllocator.TheImpl.{ghosts, dict}, proofs.GlobalAllocator.TheImpl.Met.passed}
+use Rattle.pciguest_c.{proofs.{Moved.{Passed, passed_laws, drops, some_of}, owner.Owner.into_box.Statement.statement}, specs.contracts.owner.Owner.the_row as Owner}
 use Rattle.std_alloc.specs.contracts.boxed.Box as Box
 use Rattle.std_alloc.proofs.boxed.Box.TheLaws as box
 use Rattle.std_alloc.specs.contracts.boxed.Box.from_raw as g
-use Rattle.std_alloc.proofs.boxed.Box.from_raw.Met.{met}
 use Rattle.std_heap.specs.contracts.Global as Heap
-use Rattle.std_heap.specs.contracts.GlobalAllocator.TheImpl.{ghosts, dict}
 use Rattle.std_heap.proofs.Global.TheLaws as heap
-use Rattle.std_heap.proofs.GlobalAllocator.TheImpl.Met.{passed}
 use Rattle.session.specs.contracts.session.Session as Session
 use Rattle.session.proofs.session.Session.TheLaws as session
-use Rattle.pciguest_c.proofs.Moved.{Passed, passed_laws, drops}
-use Rattle.pciguest_c.proofs.Moved.{some_of}
 use Rattle.pciguest_c.proofs.Destruct++none.drop.Code as none
 use Rattle.pciguest_c.proofs.owner.Owner.TheLaws as owner
 use Rattle.pciguest_c.specs.contracts.owner.Owner.into_box as f
-use Rattle.pciguest_c.specs.contracts.owner.Owner.{the_row as Owner}
-use Rattle.pciguest_c.proofs.owner.Owner.into_box.Statement.{statement}
 use Rattle.pciguest_c.proofs.owner.Owner.into_box.Code as code
 
 abbrev stayed : Stays f.ended.signature.params f.ended.kept

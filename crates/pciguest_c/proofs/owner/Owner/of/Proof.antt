@@ -12,15 +12,13 @@ use denote.Signature.{plain}
 use denote.RawPtr.{rawptr_Lawful}
 use denote.Steps.{nothing}
 use denote.Triple.Walked.{Stays, stay_dropped, walk_of, says, Goes-dropped, ends_at}
-use Rattle.std.proofs.raw_atomic.Walks.{proved}
-use Rattle.std.specs.Prelude.{Some}
+use Rattle.std.{proofs.raw_atomic.Walks.proved, specs.Prelude.Some}
+use Rattle.pciguest_c.{specs.contracts.owner.Owner.the_row as Owner, proofs.owner.Owner.of.Statement.statement}
 use Rattle.session.specs.contracts.session.Session as Session
 use Rattle.session.proofs.session.Session.TheLaws as session
 use Rattle.pciguest_c.specs.contracts.unboxed.Unboxed as Unboxed
 use Rattle.pciguest_c.proofs.unboxed.Unboxed.TheLaws as unboxed
 use Rattle.pciguest_c.specs.contracts.owner.Owner.of as f
-use Rattle.pciguest_c.specs.contracts.owner.Owner.{the_row as Owner}
-use Rattle.pciguest_c.proofs.owner.Owner.of.Statement.{statement}
 use Rattle.pciguest_c.proofs.owner.Owner.of.Code as code
 
 abbrev stayed : Stays f.ended.signature.params f.ended.kept

@@ -28,25 +28,20 @@ use denote.Triple.Call.{calls_at}
 use denote.Triple.Spec.{triple_of}
 use denote.Triple.Table.{framed}
 use denote.Triple.Walked.{Stays, stay_dropped, walk_of, says, ends_at}
-use Rattle.std.proofs.raw_atomic.Walks.{proved}
+use Rattle.std.{proofs.raw_atomic.Walks.proved, specs.Box.Ownership.box_owns}
 use Rattle.core.proofs.alloc.Calls.{Goes-blank}
-use Rattle.std.specs.Box.Ownership.{box_owns}
-use Rattle.std_alloc.proofs.ResultValues.{and_tt}
+use Rattle.std_alloc.proofs.{ResultValues.and_tt, boxed.Box.into_raw.Met.met}
+use Rattle.std_heap.{specs.contracts.GlobalAllocator.TheImpl.{ghosts, dict}, proofs.GlobalAllocator.TheImpl.Met.passed}
 use Rattle.std_alloc.specs.contracts.boxed.Box as Box
 use Rattle.std_alloc.proofs.boxed.Box.TheLaws as box
 use Rattle.std_alloc.specs.contracts.boxed.Box.into_raw as g
-use Rattle.std_alloc.proofs.boxed.Box.into_raw.Met.{met}
 use Rattle.std_heap.specs.contracts.Global as Heap
-use Rattle.std_heap.specs.contracts.GlobalAllocator.TheImpl.{ghosts, dict}
 use Rattle.std_heap.proofs.Global.TheLaws as heap
-use Rattle.std_heap.proofs.GlobalAllocator.TheImpl.Met.{passed}
 use denote.Param.NoDrop.{glues}
-use Rattle.pciguest_c.specs.Owning.{may_free}
-use Rattle.pciguest_c.proofs.Moved.{Passed, passed_laws, drops}
+use Rattle.pciguest_c.{specs.Owning.may_free, proofs.{Moved.{Passed, passed_laws, drops}, unboxed.Unboxed.of.Statement.statement}}
 use Rattle.pciguest_c.proofs.Destruct++none.drop.Code as none
 use Rattle.pciguest_c.specs.contracts.unboxed.Unboxed as Unboxed
 use Rattle.pciguest_c.specs.contracts.unboxed.Unboxed.of as f
-use Rattle.pciguest_c.proofs.unboxed.Unboxed.of.Statement.{statement}
 use Rattle.pciguest_c.proofs.unboxed.Unboxed.of.Code as code
 
 pub of_spec : {M : Type 1} → statement M

@@ -1,5 +1,4 @@
-use Rattle.std.proofs.Common.{arith}
-use Rattle.std.proofs.lemmas.Grind.{common_steps, put_two}
+use Rattle.std.proofs.{Common.arith, lemmas.Grind.{common_steps, put_two}}
 use Rattle.report.proofs.PathTexts.{from_first}
 use Rattle.report.proofs.fields.ShownPathDisplay.fmt.Goals as goal
 

@@ -1,8 +1,6 @@
 use Rattle.std.proofs.Common.{refl, subst}
-use Rattle.model_handoff.proofs.Served.{fault_decides}
-use Rattle.model_handoff.specs.Changes.{BeginsIn}
-use Rattle.model_lines.specs.GivenLaws.{IsGiven}
-use Rattle.model_lines.specs.Sessions.{DrivenNow}
+use Rattle.model_handoff.{proofs.Served.fault_decides, specs.Changes.BeginsIn}
+use Rattle.model_lines.specs.{GivenLaws.IsGiven, Sessions.DrivenNow}
 use Rattle.monitor.specs.Beginnings.{world_on}
 use Rattle.session.specs.Boards.{IsRefusalOf}
 use Rattle.session.proofs.board.Board.hand_over.Goals as goal

@@ -1,13 +1,10 @@
-use Rattle.std.proofs.Common.{sym, ap, ◌∙◌, subst}
-use Rattle.std.specs.Prelude.{◌≢◌, IfOk, IfErr}
-use Rattle.bus_scan.specs.declared.fault.Fault.TheVariants.{Memory}
-use Rattle.bus_scan.specs.Faults.{number_of}
+use Rattle.std.{proofs.Common.{sym, ap, ◌∙◌, subst}, specs.Prelude.{◌≢◌, IfOk, IfErr}}
+use Rattle.bus_scan.specs.{declared.fault.Fault.TheVariants.Memory, Faults.number_of}
 use Rattle.model_guests.specs.World.{World, IsLawfulWorld}
 use Rattle.model_handoff.specs.Changes.{BeginsIn}
 use Rattle.model_lines.specs.Sessions.{DrivenNow}
 use Rattle.monitor.specs.Beginnings.{world_on}
-use Rattle.session.specs.Files.{IsAtFirst, BreaksRule}
-use Rattle.session.proofs.Declared.{same_world}
+use Rattle.session.{specs.Files.{IsAtFirst, BreaksRule}, proofs.Declared.same_world}
 use Rattle.session.proofs.board.Board.set_up.Goals as goal
 
 pub at_reset-requires : goal.at_reset-requires

@@ -1,12 +1,7 @@
-use Rattle.std.proofs.Common.{◌≡◌, sym, subst}
-use Rattle.std.specs.Prelude.{IfOk, string_bytes}
+use Rattle.std.{proofs.Common.{◌≡◌, sym, subst}, specs.Prelude.{IfOk, string_bytes}}
 use Rattle.paths.specs.BusAddresses.{bus_address_of}
-use Rattle.model_lines.specs.WhyText.{why_number_text}
-use Rattle.model_lines.specs.Requests.{why_written}
-use Rattle.model_lines.specs.Sessions.{DrivenNow}
-use Rattle.lines.specs.Requests.{why_asked_of}
-use Rattle.lines.specs.declared.requests.WhyAsked.{WhyAsked}
-use Rattle.lines.specs.declared.requests.WhyAsked.TheVariants.{Config}
+use Rattle.model_lines.specs.{WhyText.why_number_text, Requests.why_written, Sessions.DrivenNow}
+use Rattle.lines.specs.{Requests.why_asked_of, declared.requests.WhyAsked.{WhyAsked, TheVariants.Config}}
 use Rattle.session.proofs.board.Board.why.Goals as goal
 
 pub returns-in-Config-clause-text : goal.returns-in-Config-clause-text

@@ -1,5 +1,4 @@
-use Rattle.std.proofs.Common.{◌≡◌, true, length}
-use Rattle.std.specs.Io.KnownBytes.{Keeps, append_known}
+use Rattle.std.{proofs.Common.{◌≡◌, true, length}, specs.Io.KnownBytes.{Keeps, append_known}}
 use Rattle.streams.proofs.buffered.BufferedWriter.hand_on.Given as goal
 
 abbrev pub invariant-loop-self : goal.invariant-loop-self

@@ -1,6 +1,5 @@
 use Rattle.std.proofs.Common.{subst}
-use Rattle.window_packing.specs.Readies.{IsReady}
-use Rattle.window_packing.proofs.SetUps.{own_claims}
+use Rattle.window_packing.{specs.Readies.IsReady, proofs.SetUps.own_claims}
 use Rattle.window_packing.proofs.ready.Ready.into_parts.Goals as goal
 
 pub returns-clause-claims : goal.returns-clause-claims
