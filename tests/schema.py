@@ -124,8 +124,8 @@ class Tests:
         return None
 
     def examples(self):
-        boards = [*TOP.glob("boards/**/*.toml"), *TOP.glob("examples/**/*.toml")]
-        for path in sorted(boards):
+        boards = files_of("boards", "examples")
+        for path in boards:
             self.holds(path.name, self.differs(path))
 
     def random(self, files, seed):
@@ -141,9 +141,9 @@ class Tests:
 
     def directives(self):
         """Each board of the examples names the schema, and each name leads to it."""
-        for path in sorted(it for it in TOP.glob("examples/**/*.toml") if it.name != "Cargo.toml"):
+        for path in (it for it in files_of("examples") if it.name != "Cargo.toml"):
             self.holds(f"{path.name} names the schema", not path.read_text().startswith("#:schema ") and "it does not")
-        for path in [*TOP.glob("examples/**/*.toml"), *TOP.glob("boards/**/*.toml")]:
+        for path in files_of("examples", "boards"):
             named = re.match(r"#:schema (.*)\n", path.read_text(errors="replace"))
             lost = named and not (path.parent / named[1]).resolve().samefile(TOP / "examples" / "board.schema.json")
             self.holds(f"what {path.name} names", lost and named[1])
@@ -154,6 +154,12 @@ class Tests:
         for name, table in {"top": part, **part["definitions"]}.items():
             found |= {(name, key, key in table["required"]) for key in table.get("properties", {})}
         self.holds("the keys of docs/FORMATS.md", found ^ set(keys_in_formats()))
+
+
+def files_of(*folders):
+    """The files of TOML below these folders, but for those that were made there."""
+    found = [it for folder in folders for it in sorted(TOP.glob(f"{folder}/**/*.toml"))]
+    return [it for it in found if "out" not in it.relative_to(TOP).parts]
 
 
 def keys_in_formats():
