@@ -2,9 +2,10 @@
 --     row_windows, row_hindrance, row_stop      of a bridge, by its row
 --     Held, held_in, held_of, all_held      regions that hold an address and don't answer, each with its function's Command
 --     causes_at, told_from      all that keeps such a region from answering, by its path and Command; what is told of it
+--     is_held_as_at_reset, held_apart      it stands where reset leaves it, by its Command; those that don't
 --     selected t g xs      of the elements that pass a test
 --     row_forwarder, forwarders_among      a bridge that forwards the address, by its row; those among some functions
-use Rattle.std.specs.Prelude.{List, [], ◌∷◌, ◌++◌, ℕ, Bool, ◌&&◌, not, if◌then◌else◌, Option, Some, None, map, filter, flat_map, reverse, unwrap_or}
+use Rattle.std.specs.Prelude.{List, [], ◌∷◌, ◌++◌, ℕ, Bool, ◌&&◌, ◌==◌, not, if◌then◌else◌, Option, Some, None, map, filter, flat_map, reverse, unwrap_or}
 use Rattle.model_registers.specs.{Declarations.Bridge, Decoding.{Space, io, memory, opens_space}}
 use Rattle.model_board.specs.{Paths.{Path, leads_to}, Claims.Claim, State.BoardFunction, Routing.{Ranges, regions, windows, RoutingRow, row_forwards, is_routed}}
 use Rattle.model_set_up.specs.PlacedRegions.{PlacedRegion, holds}
@@ -49,6 +50,12 @@ causes_at fs space n p command =
 
 abbrev pub told_from : List BoardFunction → Space → ℕ → Held → Told
 told_from fs space n h = record { region = h.region; causes = causes_at fs space n h.region.path h.command }
+
+abbrev pub is_held_as_at_reset : Space → Held → Bool
+is_held_as_at_reset space h = h.region.first == 0 && not (opens_space h.command space)
+
+abbrev pub held_apart : Space → List Held → List Held
+held_apart space hs = filter (λ h. not (is_held_as_at_reset space h)) hs
 
 -- ---- one by one
 

@@ -41,6 +41,7 @@ why_told w = record {
   answer = w.answer;
   forwarders = map forwarder_told w.forwarders.items;
   told = map region_told w.told.items;
+  at_reset = w.at_reset;
 }
 
 -- no path names bus 0

@@ -1,12 +1,13 @@
 //! Finding who answers an address, and why no other region does.
-ghost use Rattle.std.specs.Prelude.{◌≡◌, map, IfOk};
+ghost use Rattle.std.specs.Prelude.{◌≡◌, count_by, map, IfOk};
 ghost use Rattle.bars.specs.Kinds.{named_space};
 ghost use Rattle.model_board.specs.Routing.{routing};
 ghost use Rattle.model_lines.specs.Why.{why};
-ghost use Rattle.findings.specs.{WhyByRows.told_from, WhyTold.{region_told, why_told}};
+ghost use Rattle.findings.specs.{WhyByRows.{told_from, is_held_as_at_reset, held_apart}, WhyTold.{region_told, why_told}};
 
 use crate::causes::{Told, Why};
 use crate::holding::{Asked, Held, all_held};
+use crate::row::opens;
 use crate::stopping::causes_of;
 use crate::why_forwarding::forwarders;
 use bars::Space;
@@ -14,7 +15,14 @@ use bridge_forward::RoutingRow;
 use host_bridge::Host;
 use std::alloc::{AllocError, Global};
 
-/// What is told of these regions.
+/// Whether a region stands where reset leaves it, and is closed.
+fn is_as_at_reset(asked: &Asked, held: &Held) -> bool
+    ensures { result ≡ is_held_as_at_reset (named_space asked.now.space) held.now }
+{
+    held.region.region.base == 0 && !opens(held.command, asked.space)
+}
+
+/// What is told of those of these regions that don't stand where reset leaves them.
 fn all_told(
     alloc: Global,
     host: &Host,
@@ -25,20 +33,32 @@ fn all_told(
     requires { rows.now ≡ routing host.now.state.functions }
     ensures { let space = named_space asked.now.space in let fs = host.now.state.functions in
         IfOk result (λ v.
-        map region_told v.items ≡ map (told_from fs space asked.now.addr) held.now) }
+        map region_told v.items
+        ≡ map (told_from fs space asked.now.addr) (held_apart space held.now)) }
 {
     let mut told = Vec::new(alloc);
     for one in held {
-        told.push(Told {
-            region: one.region.copied(),
-            causes: causes_of(alloc, host, rows, asked, one)?,
-        })?;
+        if !is_as_at_reset(asked, one) {
+            told.push(Told {
+                region: one.region.copied(),
+                causes: causes_of(alloc, host, rows, asked, one)?,
+            })?;
+        }
     }
     Ok(told)
 }
 
+/// How many of these regions stand where reset leaves them.
+fn count_at_reset(asked: &Asked, held: &[Held]) -> usize
+    ensures { let left = is_held_as_at_reset (named_space asked.now.space) in
+        result ≡ count_by left held.now }
+{
+    held.iter().filter(|one| is_as_at_reset(asked, one)).count()
+}
+
 /// Who answers an address as the registers stand, each bridge that forwards it, and each other region that holds it, in
-/// path order, then by register, with all that keeps it from answering.
+/// path order, then by register, with all that keeps it from answering. Those that stand where reset leaves them are
+/// counted, and nothing is asked of the bridges above them.
 pub fn why_address(alloc: Global, host: &Host, space: Space, addr: u64) -> Result<Why, AllocError>
     ensures { let fs = host.now.state.functions in
         IfOk result (λ w. why_told w ≡ why fs (named_space space) addr) }
@@ -51,9 +71,11 @@ pub fn why_address(alloc: Global, host: &Host, space: Space, addr: u64) -> Resul
     };
     let held = all_held(alloc, &asked, &rows)?;
     let told = all_told(alloc, host, &rows, &asked, &held)?;
+    let at_reset = count_at_reset(&asked, &held);
     Ok(Why {
         forwarders: forwarders(alloc, host, &rows, &asked)?,
         answer: asked.answer,
         told,
+        at_reset,
     })
 }

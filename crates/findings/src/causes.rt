@@ -55,11 +55,12 @@ pub struct Forwarder {
     pub bus: u8,
 }
 
-/// Who answers an address, each bridge that forwards it, down to where its way ends, and all other regions that hold it,
-/// in path order, then by register.
+/// Who answers an address, each bridge that forwards it, down to where its way ends, all other regions that hold it, in
+/// path order, then by register, and of those that stand where reset leaves them how many they are.
 #[derive(Debug, Drop)]
 pub struct Why {
     pub answer: Option<Claim>,
     pub forwarders: Vec<Forwarder>,
     pub told: Vec<Told>,
+    pub at_reset: usize,
 }

@@ -1,36 +1,16 @@
 //! The lines of an address, of a configuration number and of a port, one by one.
-ghost use Rattle.std.specs.Prelude.{◌≡◌, ◌++◌, map, IfOk, OnOk};
+ghost use Rattle.std.specs.Prelude.{◌≡◌, ◌++◌, map, OnOk};
 ghost use Rattle.bars.specs.Kinds.{named_space};
 ghost use Rattle.paths.specs.BusAddresses.{bus_address_of};
-ghost use Rattle.model_lines.specs.{Why.{is_closed, is_as_at_reset}, WhyText.{forwarder_text, told_text, taker_text, not_found_text, apart, at_reset, why_lines, number_lines}, WhyPorts.use_lines};
-ghost use Rattle.findings.specs.WhyTold.{cause_told, forwarder_told, region_told, why_told, number_told, use_told};
+ghost use Rattle.model_lines.specs.{WhyText.{forwarder_text, told_text, taker_text, not_found_text, why_lines, number_lines}, WhyPorts.use_lines};
+ghost use Rattle.findings.specs.WhyTold.{forwarder_told, region_told, why_told, number_told, use_told};
 ghost use Rattle.findings_told.specs.WhyLines.{line_text};
 
 use crate::why_line::Line;
 use bars::Space;
 use bridge_forward::Path;
-use findings::{Bdf, Cause, Forwarder, PortUse, Told, Why, WhyNumber};
+use findings::{Bdf, Forwarder, PortUse, Told, Why, WhyNumber};
 use std::alloc::AllocError;
-
-/// Whether the nearest cause is Command.
-fn is_closed(causes: &[Cause]) -> bool
-    ensures { result ≡ is_closed (map cause_told causes.now) }
-{
-    match causes {
-        [] => false,
-        [cause, ..] => match cause {
-            Cause::ClosedBy { .. } => true,
-            Cause::StoppedAt { .. } => false,
-        },
-    }
-}
-
-/// Whether a region stands where reset leaves it, and is closed.
-fn is_as_at_reset(told: &Told) -> bool
-    ensures { result ≡ is_as_at_reset (region_told told.now) }
-{
-    told.region.region.base == 0 && is_closed(&told.causes)
-}
 
 /// Adds the bridges that forward an address.
 fn add_forwarders<'a>(lines: &mut Vec<Line<'a>>, all: &'a [Forwarder]) -> Result<(), AllocError>
@@ -43,25 +23,19 @@ fn add_forwarders<'a>(lines: &mut Vec<Line<'a>>, all: &'a [Forwarder]) -> Result
     Ok(())
 }
 
-/// Adds those regions that aren't as at reset, and tells how many are.
-fn add_apart<'a>(
+/// Adds the other regions that hold an address.
+fn add_regions<'a>(
     lines: &mut Vec<Line<'a>>,
     space: Space,
     all: &'a [Told],
-) -> Result<usize, AllocError>
-    ensures apart { OnOk result (map line_text lines.new.items ≡ map line_text lines.old.items
-        ++ map (told_text (named_space space)) (apart (map region_told all.now))) }
-    ensures left { IfOk result (λ n. n ≡ at_reset (map region_told all.now)) }
+) -> Result<(), AllocError>
+    ensures { OnOk result (map line_text lines.new.items ≡ map line_text lines.old.items
+        ++ map (told_text (named_space space)) (map region_told all.now)) }
 {
-    let mut left = 0;
     for told in all {
-        if is_as_at_reset(told) {
-            left += 1;
-        } else {
-            lines.push(Line::Region(space, told))?;
-        }
+        lines.push(Line::Region(space, told))?;
     }
-    Ok(left)
+    Ok(())
 }
 
 /// Adds the lines of an address.
@@ -76,9 +50,9 @@ pub(crate) fn add_address<'a>(
 {
     lines.push(Line::Address(space, addr, why))?;
     add_forwarders(lines, &why.forwarders)?;
-    let left = add_apart(lines, space, &why.told)?;
-    if left > 0 {
-        lines.push(Line::AtReset(left))?;
+    add_regions(lines, space, &why.told)?;
+    if why.at_reset > 0 {
+        lines.push(Line::AtReset(why.at_reset))?;
     }
     Ok(())
 }

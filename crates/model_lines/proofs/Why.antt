@@ -1,5 +1,5 @@
 -- What is told of an address is so, and each region that holds it is told.
-use Rattle.std.{proofs.{Common.{◌≡◌, ℕ, ◌+◌, ◌-◌, ◌==◌, ◌⊎◌, inl, inr, Bool, true, false, ◌&&◌, not, cond, List, [], ◌∷◌, ◌++◌, Option, Some, None, refl, sym, ap, ◌∙◌, subst, arith}, lemmas.{List.{reverse-append, reverse-reverse}, Bool.{Decides.nat_tests, and_from, not-true, not_from_false, or_parts}}}, specs.{Prelude.{map, filter, flat_map, reverse, slice_get, IsFalse}, Option.option_to_list}}
+use Rattle.std.{proofs.{Common.{◌≡◌, ℕ, ◌-◌, ◌==◌, ◌⊎◌, inl, inr, Bool, true, false, ◌&&◌, not, cond, List, [], ◌∷◌, ◌++◌, Option, Some, None, refl, sym, ap, ◌∙◌, subst, arith}, lemmas.{List.{reverse-append, reverse-reverse}, Bool.{Decides.nat_tests, and_from, not-true, not_from_false, or_parts}}}, specs.{Prelude.{map, filter, flat_map, reverse, slice_get, IsFalse}, Option.option_to_list}}
 use Rattle.lists.{specs.Elements.{Each, IsIn}, proofs.{Members.{each_from, in_front, in_back, front_or_back, in_map, from_map, in_filter, from_filter, in_flat_map, from_flat_map, all_from, from_option}, Indices.index_in}}
 use Rattle.model_registers.specs.{Declarations.Bridge, Decoding.{Space, io, memory, opens_space, is_open, command_word, Hit, hit_at}, EndpointTable.BaseAddress, Registers.File}
 use Rattle.model_board.{specs.{Board.{Decl, endpoint, bridge}, Paths.{Path, leads_to}, State.BoardFunction, Windows.{is_in, mem_window, pref_window, is_in_window, forwards}, Claims.{Claim, claim_at, is_forwarded, claims, first_claim}, Routing.{Ranges, regions, windows, RoutingRow, ranges_of, row_of, routing, row_forwards, is_routed, row_claims}}, proofs.Routing.{forwarded_by_routing, claims_by_routing, first_of_claims}}
@@ -58,7 +58,7 @@ in_reverse x [] m = absurd m
 in_reverse x (y ∷ xs) (inl e) = subst (IsIn x) (sym (reverse-append (y ∷ []) xs)) (in_back x (reverse xs) (y ∷ []) (inl e))
 in_reverse x (y ∷ xs) (inr m) = subst (IsIn x) (sym (reverse-append (y ∷ []) xs)) (in_front x (reverse xs) (y ∷ []) (in_reverse x xs m))
 
-from_reverse : {A : Type 0} (x : A) (xs : List A) → IsIn x (reverse xs) → IsIn x xs
+pub from_reverse : {A : Type 0} (x : A) (xs : List A) → IsIn x (reverse xs) → IsIn x xs
 from_reverse x xs m = subst (IsIn x) (reverse-reverse xs) (in_reverse x (reverse xs) m)
 
 stops_if : (c : Cause) (s t : Bool) → s ≡ true → t ≡ false → cond (s && not t) (Some c) None ≡ Some c

@@ -6,9 +6,10 @@
 --     closing, stops, causes_of      its Command, all such bridges, and both: the causes for the regions of a function
 --     Told, told fs space n      each region that holds an address, but for the one that answers, with all its causes
 --     is_as_at_reset      one that was never placed, so far as registers tell
+--     apart, at_reset      those that aren't as at reset, and how many are
 --     Forwarder, forwarders fs space n      each bridge that forwards an address to the bus behind it, down to where its way ends
---     Why, why fs space n      who answers, what forwards it, and what is told
-use Rattle.std.specs.{Prelude.{List, [], ◌∷◌, ◌++◌, ℕ, Bool, true, false, ◌&&◌, ◌==◌, not, if◌then◌else◌, Option, Some, None, map, filter, flat_map, reverse}, Option.option_to_list}
+--     Why, why fs space n      who answers, what forwards it, what is told of regions apart, and how many are as at reset
+use Rattle.std.specs.{Prelude.{List, [], ◌∷◌, ◌++◌, ℕ, Bool, true, false, ◌&&◌, ◌==◌, not, if◌then◌else◌, Option, Some, None, map, filter, count_by, flat_map, reverse}, Option.option_to_list}
 use Rattle.model_registers.specs.{Registers.File, Declarations.{Bridge, IoDecode, no_io, io16, io32, PrefDecode, no_pref, pref32, pref64}, Decoding.{Space, io, memory, command_word, is_open}}
 use Rattle.model_board.specs.{Paths.{Path, path_eq, leads_to}, Board.{endpoint, bridge}, State.BoardFunction, Windows.{Window, io_window, mem_window, pref_window, forwards}, Claims.{Claim, is_forwarded, first_claim}, Cycles.secondary_register, Routing.row_of}
 use Rattle.model_set_up.specs.PlacedRegions.{PlacedRegion, holds}
@@ -113,6 +114,13 @@ is_closed (stopped_at p h ∷ cs) = false
 abbrev pub is_as_at_reset : Told → Bool
 is_as_at_reset t = t.region.first == 0 && is_closed t.causes
 
+-- those as at reset are told by their number alone
+abbrev pub apart : List Told → List Told
+apart ts = filter (λ t. not (is_as_at_reset t)) ts
+
+abbrev pub at_reset : List Told → ℕ
+at_reset ts = count_by is_as_at_reset ts
+
 -- ---- where an address goes
 
 -- a bridge, and the number that it holds for the bus behind it
@@ -135,7 +143,14 @@ pub record Why : Type 0 where
   pub answer : Option Claim
   pub forwarders : List Forwarder
   pub told : List Told
+  pub at_reset : ℕ
 
 abbrev pub why : List BoardFunction → Space → ℕ → Why
 why fs space n =
-    record { answer = first_claim fs space n; forwarders = forwarders fs space n; told = told fs space n }
+    let ts = told fs space n in
+    record {
+      answer = first_claim fs space n;
+      forwarders = forwarders fs space n;
+      told = apart ts;
+      at_reset = at_reset ts;
+    }

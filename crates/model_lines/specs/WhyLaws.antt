@@ -89,7 +89,7 @@ pub record IsExplained (fs : List BoardFunction) (space : Space) (n : ℕ) : Typ
   -- an agent that an audit says answers the address is told where bridges forward it there: 'answers' means one thing
   pub all_forwarding : (f : BoardFunction) → IsIn f fs → IsTrue (answers space n (bridge_agent (row_of f) space))
       → IsTrue (is_forwarded fs f.path space n) → IsIn (forwarder f) (why fs space n).forwarders
-  pub true_each : Each (IsTrueTold fs space n) (why fs space n).told
+  pub true_each : Each (IsTrueTold fs space n) (told fs space n)
   -- a region that holds the address answers, or is told
   pub complete : (f : BoardFunction) → IsIn f fs → (q : PlacedRegion) → IsIn q (regions_of (row_of f))
       → IsTrue (holds space n q)

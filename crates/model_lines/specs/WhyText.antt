@@ -4,12 +4,12 @@
 --     counted, whole_text ls      some lines, with a last one that counts them
 --     why_text      the lines of an address
 --     why_number_text      the lines of a configuration number
-use Rattle.std.specs.{Prelude.{List, [], ◌∷◌, ◌++◌, ℕ, ◌==◌, not, if◌then◌else◌, length, map, filter, flat_map, codes, decimal, Option, Some, None}, Option.option_map_or}
+use Rattle.std.specs.{Prelude.{List, [], ◌∷◌, ◌++◌, ℕ, ◌==◌, if◌then◌else◌, length, map, flat_map, codes, decimal, Option, Some, None}, Option.option_map_or}
 use Rattle.model_registers.specs.Decoding.{Space}
 use Rattle.model_board.specs.{Paths.{Path, parent}, State.BoardFunction, Windows.Window, Claims.Claim, Cycles.BusAddress}
 use Rattle.model_guests.specs.{Text.{Text, text_of_lines}, Replies.hex_digits, PathTexts.{hexadecimal, part_text, path_text}}
 use Rattle.model_findings.specs.AuditText.{register_text, region_text, space_text, number_text}
-use Rattle.model_lines.specs.{Why.{WindowName, for_io, for_memory, for_prefetchable, NamedWindow, Hindrance, closes, misses, Cause, closed_by, stopped_at, Told, is_as_at_reset, Forwarder, Why, why}, Ways.{Missing, no_bridge, no_function, WhyNumber, why_number}}
+use Rattle.model_lines.specs.{Why.{WindowName, for_io, for_memory, for_prefetchable, NamedWindow, Hindrance, closes, misses, Cause, closed_by, stopped_at, Told, Forwarder, Why, why}, Ways.{Missing, no_bridge, no_function, WhyNumber, why_number}}
 
 abbrev pub command_text : ℕ → Text
 command_text command = codes "Command 0x" ++ hex_digits 4 command
@@ -49,13 +49,6 @@ causes_text space (c ∷ cs) = cause_text space c ++ more_text space cs
 abbrev pub told_text : Space → Told → Text
 told_text space t = region_text t.region ++ codes ": " ++ causes_text space t.causes
 
--- those as at reset are told by their number alone
-abbrev pub apart : List Told → List Told
-apart ts = filter (λ t. not (is_as_at_reset t)) ts
-
-abbrev pub at_reset : List Told → ℕ
-at_reset ts = length (filter is_as_at_reset ts)
-
 abbrev pub at_reset_lines : ℕ → List Text
 at_reset_lines n =
     if n == 0 then []
@@ -89,7 +82,7 @@ abbrev pub why_lines : Space → ℕ → Why → List Text
 why_lines space n w =
     (space_text space ++ codes " " ++ hexadecimal n ++ codes ": "
     ++ option_map_or claim_text w.answer (no_claim_text w.forwarders))
-    ∷ map forwarder_text w.forwarders ++ map (told_text space) (apart w.told) ++ at_reset_lines (at_reset w.told)
+    ∷ map forwarder_text w.forwarders ++ map (told_text space) w.told ++ at_reset_lines w.at_reset
 
 abbrev pub why_text : List BoardFunction → Space → ℕ → Text
 why_text fs space n = whole_text (why_lines space n (why fs space n))
